@@ -1,0 +1,289 @@
+-- Laws of frame lines: a line spells at most one frame, none that is refused does, and the canonical text spells its frame.
+use Rattle.std.proofs.Common.{slice_index, ◌≡◌, ℕ, zero, suc, ◌+◌, ◌-◌, ◌<◌, ◌≤◌, ◌^◌, ◌==◌, ◌||◌, true, false, List, [], ◌∷◌, ◌++◌, length, take, drop, get_or, Option, Some, None, Result, Ok, Err, refl, sym, ap, ◌∙◌, inl, inr, arith}
+use Rattle.std.specs.List.{AllPass, All, position, position_or_len}
+use Rattle.std.specs.Int.{w32, to_be_bytes, from_be_bytes}
+use Rattle.std.specs.Prelude.{nat_lt, IfOk, IfErr}
+use Rattle.std.specs.Option.{unwrap_or}
+use Rattle.std.specs.Result.{result_unwrap_or}
+use Rattle.std.proofs.lemmas.Bool.{cases_order, both_ways, true≢false, or_cases, eqb-true, false_from_ne_true, lt-ltb, le-ltb, ne_eqb}
+use Rattle.std.proofs.lemmas.List.{length-append, get_or_append_left, get_or_at, take_all, take_at, drop_at, drop-drop, get_or-append_right}
+use Rattle.std.proofs.lemmas.List.Elements.{All-append, All-cons, All-weaker, AllWithin-from_all, AllWithin-none}
+use Rattle.std.proofs.lemmas.Slice.{between_from_start}
+use Rattle.std.proofs.lemmas.Nat.{from_be_bytes-to_be_bytes_4}
+use Rattle.std.proofs.lemmas.List.Sums.{position_or_len_is}
+use Rattle.hex.specs.Hex.{decode_of, decode_sized, encode_upper, upper_digits, is_hex_digit, IsBytes}
+use Rattle.hex.specs.declared.error.FromHexError.{FromHexError}
+use Rattle.hex.proofs.HexLemmas.{decode_sized-ok, decode_sized-twice, decode_of-ok, decode_of-encode_upper, length-encode_with}
+use Rattle.j39_id.specs.FrameLine.{is_separator, IsLastWordAt, IsLastWord, identifier_of, identifier_of_bytes, WordSpells, LineSpells, Spells, canon_text, is_hash, parts_fault, fault_from, word_fault, HasLineFault}
+use Rattle.j39_id.specs.Ident.{bits}
+use Rattle.j39_id.specs.declared.frame.Frame.{Frame}
+use Rattle.j39_id.specs.declared.line_error.LineError.{LineError}
+use Rattle.j39_id.specs.declared.line_error.LineError.TheVariants.{Empty, NoHash, ShortIdent, BadIdent, TooLong, BadData}
+use Rattle.j39_id.proofs.SameFrame.{same_frame}
+
+-- ---- the last word
+
+-- a later end would have a separator in its word
+end_not_later : (line : List ℕ) (a b c d : ℕ) → IsLastWordAt line a b → IsLastWordAt line c d → b < d → ⊥
+end_not_later line a b c d x y h =
+    both_ways (is_separator (get_or line (d - 1) 0))
+    (y.whole (d - 1) 0 (omega (arith, y.some)) (omega arith))
+    (x.last (d - 1) 0 (omega arith) (omega (arith, y.within)))
+
+-- a later start would have a letter of the word before it
+start_not_later : (line : List ℕ) (a c b : ℕ) → IsLastWordAt line a b → IsLastWordAt line c b → a < c → ⊥
+start_not_later line a c b x y h =
+    both_ways (is_separator (get_or line (c - 1) 0))
+    (x.whole (c - 1) 0 (omega arith) (omega (arith, y.some)))
+    (y.parted (omega arith))
+
+-- a line has one last word
+same_places : (line : List ℕ) (a b c d : ℕ) → IsLastWordAt line a b → IsLastWordAt line c d → (a ≡ c) × (b ≡ d)
+same_places line a b c d x y =
+    elim (cases_order b d) [
+      | inl ends ↦
+          elim (cases_order a c) [
+            | inl starts ↦ (starts, ends)
+            | inr other ↦
+                elim other [
+                  | inl less ↦ absurd (start_not_later line a c d (rw ends at x) y less)
+                  | inr more ↦ absurd (start_not_later line c a d y (rw ends at x) more)
+                ]
+          ]
+      | inr other ↦
+          elim other [
+            | inl less ↦ absurd (end_not_later line a b c d x y less)
+            | inr more ↦ absurd (end_not_later line c d a b y x more)
+          ]
+    ]
+
+pub same_last_word : (line v w : List ℕ) → IsLastWord line v → IsLastWord line w → v ≡ w
+same_last_word line v w x y =
+    let same = same_places line x.0 x.1 y.0 y.1 x.2 y.2 in
+    x.3 ∙ rw (same.0, same.1) (sym y.3)
+
+-- a line with a word isn't separators alone
+pub not_blank : (line w : List ℕ) → IsLastWord line w → AllPass is_separator line → ⊥
+not_blank line w x blank =
+    both_ways (is_separator (get_or line x.0 0))
+    (x.2.whole x.0 0 (omega arith) x.2.some)
+    (blank x.0 0 (omega (arith, x.2.some, x.2.within)))
+
+-- ---- a word
+
+-- four bytes that are an identifier's were read
+identifier_bytes : (r : Result (List ℕ) FromHexError) (n : ℕ) → identifier_of_bytes r ≡ Some n → (bytes : List ℕ) × (r ≡ Ok bytes)
+identifier_bytes (Ok bytes) n h = (bytes, refl)
+identifier_bytes (Err e) n h = cc h
+
+-- an identifier's digits are eight hex digits
+pub identifier_digits : (digits : List ℕ) (n : ℕ) → identifier_of digits ≡ Some n → (length digits ≡ 8) × AllPass is_hex_digit digits
+identifier_digits digits n h =
+    let r = identifier_bytes (decode_sized digits 4) n h in
+    let eight = decode_sized-ok digits 4 r.0 r.1 in
+    (eight, (decode_of-ok digits r.0 (sym (decode_sized-twice digits 4 eight) ∙ r.1)).1)
+
+-- a hex digit parts no words
+separator_not_digit : (c : ℕ) → is_hex_digit c ≡ true → is_separator c ≡ true → ⊥
+separator_not_digit c h s =
+    elim (or_cases (c == 32) (c == 9 || c == 13) s) [
+      | inl e ↦ let k : c ≡ 32 = eqb-true c 32 e in true≢false (sym (rw k at h))
+      | inr o ↦
+          elim (or_cases (c == 9) (c == 13) o) [
+            | inl e ↦ let k : c ≡ 9 = eqb-true c 9 e in true≢false (sym (rw k at h))
+            | inr e ↦ let k : c ≡ 13 = eqb-true c 13 e in true≢false (sym (rw k at h))
+          ]
+    ]
+
+-- a hex digit is no hash
+hash_not_digit : (c : ℕ) → is_hex_digit c ≡ true → is_hash c ≡ true → ⊥
+hash_not_digit c h e = let k : c ≡ 35 = eqb-true c 35 e in true≢false (sym (rw k at h))
+
+digit_is_whole : (c : ℕ) → is_hex_digit c ≡ true → is_separator c ≡ false
+digit_is_whole c h = false_from_ne_true (is_separator c) (separator_not_digit c h)
+
+digit_no_hash : (c : ℕ) → is_hex_digit c ≡ true → is_hash c ≡ false
+digit_no_hash c h = false_from_ne_true (is_hash c) (hash_not_digit c h)
+
+-- where the first hash of a word stands that begins with digits
+pub hash_after : (digits rest : List ℕ) → AllPass is_hex_digit digits → position is_hash (digits ++ 35 ∷ rest) ≡ Some (length digits)
+hash_after digits rest plain =
+    let n : ℕ = length digits in
+    let len : length (digits ++ 35 ∷ rest) ≡ n + suc (length rest) = length-append digits (35 ∷ rest) in
+    let at : position_or_len is_hash (digits ++ 35 ∷ rest) ≡ n =
+    position_or_len_is is_hash (digits ++ 35 ∷ rest) n 0 (omega (arith, len))
+    (λ k below. rw (get_or_append_left digits (35 ∷ rest) 0 k below) (digit_no_hash (get_or digits k 0) (plain k 0 below)))
+    (λ within. rw (get_or_at digits 35 rest 0 n refl) refl) in
+    let fits : nat_lt n (length (digits ++ 35 ∷ rest)) ≡ true = lt-ltb n (length (digits ++ 35 ∷ rest)) (omega (arith, len)) in
+    rw (at, fits) refl
+
+-- a spelled word, cut at its first hash
+pub record IsCut (word : List ℕ) (number : ℕ) (payload : List ℕ) (i : ℕ) : Type 0 where
+  pub hash : position is_hash word ≡ Some i
+  pub identifier : identifier_of (take i word) ≡ Some number
+  pub room : length (drop (i + 1) word) ≤ 16
+  pub bytes : decode_of (drop (i + 1) word) ≡ Ok payload
+
+pub cut_of : (word : List ℕ) (number : ℕ) (payload : List ℕ) → WordSpells word number payload → (i : ℕ) × IsCut word number payload i
+cut_of word number payload s =
+    let n : ℕ = length s.digits in
+    let digits = identifier_digits s.digits number s.identifier in
+    let front : take n word ≡ s.digits = ap (take n) s.parts ∙ take_at s.digits (35 ∷ s.rest) n refl in
+    let back : drop (n + 1) word ≡ s.rest =
+    sym (drop-drop 1 n word) ∙ ap (λ (xs : List ℕ). drop 1 (drop n xs)) s.parts ∙ ap (drop 1) (drop_at s.digits (35 ∷ s.rest) n refl) in (
+      n,
+      record {
+        hash = ap (position is_hash) s.parts ∙ hash_after s.digits s.rest digits.1;
+        identifier = rw front s.identifier;
+        room = rw back s.room;
+        bytes = rw back s.bytes;
+      },
+    )
+
+-- a word spells one number and one payload
+pub same_word : (word : List ℕ) (m n : ℕ) (p q : List ℕ) → WordSpells word m p → WordSpells word n q → (m ≡ n) × (p ≡ q)
+same_word word m n p q s t =
+    let x = cut_of word m p s in
+    let y = cut_of word n q t in
+    let place : x.0 ≡ y.0 = ap (λ (o : Option ℕ). unwrap_or o 0) (sym x.1.hash ∙ y.1.hash) in
+    let identifier : identifier_of (take x.0 word) ≡ Some n = rw place y.1.identifier in
+    let bytes : decode_of (drop (x.0 + 1) word) ≡ Ok q = rw place y.1.bytes in (
+      ap (λ (o : Option ℕ). unwrap_or o 0) (sym x.1.identifier ∙ identifier),
+      ap (λ (r : Result (List ℕ) FromHexError). result_unwrap_or r []) (sym x.1.bytes ∙ bytes),
+    )
+
+-- parts that spell a frame have no fault
+parts_sound : (digits rest payload : List ℕ) (n : ℕ) → identifier_of digits ≡ Some n → length rest ≤ 16 → decode_of rest ≡ Ok payload
+    → parts_fault digits rest ≡ None
+parts_sound digits rest payload n ident room bytes =
+    let eight = identifier_digits digits n ident in
+    let three : (length digits == 3) ≡ false = ne_eqb (length digits) 3 (λ e. absurd (omega (arith, eight.0))) in
+    let short : nat_lt 16 (length rest) ≡ false = le-ltb 16 (length rest) room in
+    rw (three, ident, short, bytes) refl
+
+-- a word that spells a frame has no fault
+pub word_sound : (word : List ℕ) (n : ℕ) (p : List ℕ) → WordSpells word n p → word_fault word ≡ None
+word_sound word n p s =
+    let x = cut_of word n p s in
+    ap (fault_from word) x.1.hash ∙ parts_sound (take x.0 word) (drop (x.0 + 1) word) p n x.1.identifier x.1.room x.1.bytes
+
+-- ---- a line
+
+-- a line spells one number and one payload
+pub one_frame : (line : List ℕ) (m n : ℕ) (p q : List ℕ) → LineSpells line m p → LineSpells line n q → (m ≡ n) × (p ≡ q)
+one_frame line m n p q x y =
+    same_word y.0 m n p q (rw (same_last_word line x.0 y.0 x.1 y.1) at x.2) y.2
+
+-- a fault of a word isn't that of a line that spells a frame
+fault_of_other : (line w : List ℕ) (n : ℕ) (p : List ℕ) (e : LineError) → LineSpells line n p → IsLastWord line w → word_fault w ≡ Some e → ⊥
+fault_of_other line w n p e x last fault =
+    let none : word_fault w ≡ None = ap word_fault (same_last_word line w x.0 last x.1) ∙ word_sound x.0 n p x.2 in
+    cc (sym fault ∙ none)
+
+-- a line that spells a frame has no fault
+pub spelled_not_refused : (line : List ℕ) (n : ℕ) (p : List ℕ) (e : LineError) → LineSpells line n p → HasLineFault line e → ⊥
+spelled_not_refused line n p Empty x h = not_blank line x.0 x.1 h
+spelled_not_refused line n p NoHash x h = fault_of_other line h.0 n p NoHash x h.1 h.2
+spelled_not_refused line n p ShortIdent x h = fault_of_other line h.0 n p ShortIdent x h.1 h.2
+spelled_not_refused line n p BadIdent x h = fault_of_other line h.0 n p BadIdent x h.1 h.2
+spelled_not_refused line n p TooLong x h = fault_of_other line h.0 n p TooLong x h.1 h.2
+spelled_not_refused line n p BadData x h = fault_of_other line h.0 n p BadData x h.1 h.2
+
+-- ---- the canonical text
+
+-- the digits of bytes are hex digits
+digits_of_bytes : (bs : List ℕ) → IsBytes bs → AllPass is_hex_digit (encode_upper bs)
+digits_of_bytes bs h = (decode_of-ok (encode_upper bs) bs (decode_of-encode_upper bs h)).1
+
+-- digits are parted by nothing
+whole_digits : (bs : List ℕ) → IsBytes bs → All (λ c. is_separator c ≡ false) (encode_upper bs)
+whole_digits bs h = All-weaker (λ c. is_hex_digit c ≡ true) (λ c. is_separator c ≡ false) digit_is_whole (encode_upper bs) (digits_of_bytes bs h)
+
+-- the four bytes of a number
+IsBytes-number : (n : ℕ) → IsBytes (to_be_bytes w32 n)
+IsBytes-number n zero = omega arith
+IsBytes-number n (suc zero) = omega arith
+IsBytes-number n (suc (suc zero)) = omega arith
+IsBytes-number n (suc (suc (suc zero))) = omega arith
+IsBytes-number n (suc (suc (suc (suc i)))) = omega arith
+
+-- the eight digits of a number stand for it
+identifier_of-canon : (n : ℕ) → n < 2 ^ 29 → identifier_of (encode_upper (to_be_bytes w32 n)) ≡ Some n
+identifier_of-canon n h =
+    let bs : List ℕ = to_be_bytes w32 n in
+    let len : length (encode_upper bs) ≡ 8 = length-encode_with upper_digits bs in
+    let read : decode_sized (encode_upper bs) 4 ≡ Ok bs =
+    decode_sized-twice (encode_upper bs) 4 len ∙ decode_of-encode_upper bs (IsBytes-number n) in
+    let value : from_be_bytes w32 bs ≡ n = from_be_bytes-to_be_bytes_4 n (omega arith) in
+    let fits : nat_lt n (2 ^ 29) ≡ true = lt-ltb n (2 ^ 29) h in
+    ap identifier_of_bytes read ∙ rw (value, fits) refl
+
+pub canon_spells : (n : ℕ) (p : List ℕ) → n < 2 ^ 29 → length p ≤ 8 → IsBytes p → LineSpells (canon_text n p) n p
+canon_spells n p h room bytes =
+    let text : List ℕ = canon_text n p in
+    let digits : List ℕ = encode_upper (to_be_bytes w32 n) in
+    let len : length text ≡ length digits + suc (length (encode_upper p)) = length-append digits (35 ∷ encode_upper p) in
+    let whole : All (λ c. is_separator c ≡ false) text =
+    All-append (λ c. is_separator c ≡ false) digits (35 ∷ encode_upper p) (whole_digits (to_be_bytes w32 n) (IsBytes-number n))
+    (All-cons (λ c. is_separator c ≡ false) 35 (encode_upper p) refl (whole_digits p bytes)) in (
+      text,
+      (
+        0,
+        length text,
+        record {
+          some = omega (arith, len);
+          within = omega arith;
+          whole = AllWithin-from_all (λ c. is_separator c ≡ false) text whole;
+          parted = λ k. absurd (omega arith);
+          last = AllWithin-none (λ c. is_separator c ≡ true) text (length text);
+        },
+        sym (between_from_start text (length text) ∙ take_all (length text) text (omega arith)),
+      ),
+      record {
+        digits = digits;
+        rest = encode_upper p;
+        parts = refl;
+        identifier = identifier_of-canon n h;
+        room = omega (arith, length-encode_with upper_digits p);
+        bytes = decode_of-encode_upper p bytes;
+      },
+    )
+
+-- what the last word of a line is read as is the frame that the line spells
+pub only_reading : (line w : List ℕ) (r : Result Frame LineError) → IsLastWord line w
+    → IfOk r (λ f. WordSpells w (bits f.ident) f.payload.items) → IfErr r (λ e. word_fault w ≡ Some e)
+    → (f : Frame) → Spells line f → r ≡ Ok f
+only_reading line w (Ok g) last ok err f x =
+    let same = one_frame line (bits g.ident) (bits f.ident) g.payload.items f.payload.items (w, last, ok) x in
+    ap Ok (same_frame g f same.0 same.1)
+only_reading line w (Err e) last ok err f x = absurd (fault_of_other line w (bits f.ident) f.payload.items e x last err)
+
+-- a line spells one frame
+pub one_spelled : (line : List ℕ) (f g : Frame) → Spells line f → Spells line g → f ≡ g
+one_spelled line f g x y =
+    let same = one_frame line (bits f.ident) (bits g.ident) f.payload.items g.payload.items x y in
+    same_frame f g same.0 same.1
+
+-- a line that spells a frame has no fault
+pub not_both : (line : List ℕ) (f : Frame) (e : LineError) → Spells line f → HasLineFault line e → ⊥
+not_both line f e x h = spelled_not_refused line (bits f.ident) f.payload.items e x h
+
+-- ---- a line in three parts
+
+-- a word between a front that ends with a separator, or is empty, and separators is the last word
+pub word_in_a_row : (x w y : List ℕ) → 0 < length w → All (λ c. is_separator c ≡ false) w → All (λ c. is_separator c ≡ true) y
+    → (0 < length x → is_separator (slice_index x (length x - 1)) ≡ true) → IsLastWordAt (x ++ (w ++ y)) (length x) (length x + length w)
+word_in_a_row x w y some whole last parted =
+    let len = length-append x (w ++ y) in
+    let len' = length-append w y in
+    record {
+      some = omega (arith, some);
+      within = omega (arith, len, len');
+      whole = λ k d low high.
+          rw (get_or-append_right x (w ++ y) (length x) k d refl low, get_or_append_left w y d (k - length x) (omega arith))
+          (whole (k - length x) d (omega arith));
+      parted = λ front. rw (get_or_append_left x (w ++ y) 0 (length x - 1) (omega arith)) (parted front);
+      last = λ k d low high.
+          rw (get_or-append_right x (w ++ y) (length x) k d refl (omega arith), get_or-append_right w y (length w) (k - length x) d refl (omega arith))
+          (last (k - length x - length w) d (omega (arith, len, len')));
+    }

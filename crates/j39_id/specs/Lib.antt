@@ -1,0 +1,4 @@
+pub mod FrameLine
+pub mod Ident
+pub mod Name
+pub mod Pgn

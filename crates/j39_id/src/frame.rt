@@ -1,0 +1,10 @@
+//! CAN frames.
+use crate::Ident;
+use arrayvec::ArrayVec;
+
+/// An identifier and at most eight bytes.
+#[derive(Clone, Debug, PartialEq, Eq, Drop)]
+pub struct Frame {
+    pub ident: Ident,
+    pub payload: ArrayVec<u8, 8>,
+}

@@ -1,0 +1,71 @@
+//! The 29-bit identifier of a frame.
+ghost use Rattle.std.specs.Prelude.{◌≡◌, ◌+◌, ◌*◌, ◌^◌, ◌<◌, ◌≤◌, ◌↔◌, IsSome, IfSome};
+
+use crate::Pgn;
+
+/// A 29-bit identifier by its parts.
+#[derive(Clone, Copy, Debug, PartialEq, Eq)]
+pub struct Ident {
+    pub priority: u8,
+    pub edp: u8,
+    pub dp: u8,
+    pub pf: u8,
+    pub ps: u8,
+    pub sa: u8,
+    ghost priority_range: { priority < 8 },
+    ghost edp_range: { edp < 2 },
+    ghost dp_range: { dp < 2 },
+    ghost pf_range: { pf < 256 },
+    ghost ps_range: { ps < 256 },
+    ghost sa_range: { sa < 256 },
+}
+
+impl Ident {
+    ghost use Rattle.j39_id.specs.Ident.{bits, pgn_of};
+
+    /// The identifier that a number stands for.
+    pub fn from_bits(number: u32) -> Option<Self>
+        ensures valid { IsSome result ↔ (number < 2 ^ 29) }
+        ensures value { IfSome result (λ i. bits i ≡ number) }
+    {
+        if number >= 1 << 29 {
+            return None;
+        }
+        Some(Ident {
+            priority: (number >> 26) as u8,
+            edp: (number >> 25 & 1) as u8,
+            dp: (number >> 24 & 1) as u8,
+            pf: (number >> 16 & 0xff) as u8,
+            ps: (number >> 8 & 0xff) as u8,
+            sa: (number & 0xff) as u8,
+        })
+    }
+
+    /// The number that the identifier is sent as.
+    pub fn to_bits(self) -> u32
+        ensures value { result ≡ bits self }
+        ensures range { result < 2 ^ 29 }
+    {
+        let page = (u32::from(self.priority) << 1 | u32::from(self.edp)) << 1 | u32::from(self.dp);
+        ((page << 8 | u32::from(self.pf)) << 8 | u32::from(self.ps)) << 8 | u32::from(self.sa)
+    }
+
+    /// The group that the frame belongs to.
+    pub fn pgn(self) -> Pgn
+        ensures { result ≡ pgn_of self }
+    {
+        let extension = if self.pf >= 240 { self.ps } else { 0 };
+        Pgn {
+            number: ((u32::from(self.edp) << 1 | u32::from(self.dp)) << 8 | u32::from(self.pf)) << 8
+                | u32::from(extension),
+        }
+    }
+
+    /// The one address that the frame goes to, or `None` for a group to all.
+    pub fn destination(self) -> Option<u8>
+        ensures one { self.pf < 240 → result ≡ Some self.ps }
+        ensures all { 240 ≤ self.pf → result ≡ None }
+    {
+        if self.pf < 240 { Some(self.ps) } else { None }
+    }
+}

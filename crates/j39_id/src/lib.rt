@@ -1,0 +1,26 @@
+//! Identifiers, group numbers, addresses, NAMEs and frame lines of SAE J1939.
+#![tactic(auto)]
+
+mod address;
+mod frame;
+mod ident;
+mod label;
+mod laws;
+mod line_error;
+mod name;
+mod name_fields;
+mod pgn;
+mod printing;
+mod reading;
+
+pub use address::Address;
+pub use frame::Frame;
+pub use ident::Ident;
+pub use label::Label;
+pub use laws::{one_reading, printed_spells, reread};
+pub use line_error::LineError;
+pub use name::Name;
+pub use name_fields::{NameError, NameField, NameFields};
+pub use pgn::Pgn;
+pub use printing::print_frame;
+pub use reading::read_frame;

@@ -1,0 +1,103 @@
+//! The 64-bit NAME of a unit.
+ghost use Rattle.std.specs.Prelude.{◌≡◌, ℕ, ◌+◌, ◌*◌, ◌/◌, ◌%◌, ◌^◌, ◌<◌, ◌≤◌, ◌↔◌, Some, None, Err, IsTrue, IsOk, IfOk, IfErr, MatchResult};
+ghost use Rattle.std.specs.Int.{w64, to_le_bytes, from_le_bytes};
+
+use crate::name_fields::first_out_of_range;
+use crate::{NameError, NameField, NameFields};
+use std::marker::Model;
+
+/// A NAME, ordered by its number.
+#[derive(Clone, Copy, Debug, Default, PartialEq, Eq, PartialOrd, Ord)]
+pub struct Name {
+    number: u64,
+}
+
+impl Model for Name {
+    ghost Value = { ℕ };
+
+    ghost view = { λ n. n.number };
+
+    ghost invariant = { λ n. n.number < 2 ^ 64 };
+
+    ghost inverse = { λ n. record { number = n } };
+}
+
+impl Name {
+    ghost use Rattle.j39_id.specs.Name.{name_number, first_out, fields_of};
+    ghost use Rattle.j39_id.specs.declared.name_fields.NameError.TheVariants.{FieldRange};
+
+    /// The NAME of these fields.
+    pub fn from_fields(fields: NameFields) -> Result<Self, NameError>
+        ensures ok { IfOk result (λ n. (first_out fields ≡ None) × (n ≡ name_number fields)) }
+        ensures refused { IfErr result (λ e. (f : NameField) × (e ≡ FieldRange f) × (first_out fields ≡ Some f)) }
+    {
+        if let Some(field) = first_out_of_range(fields) {
+            return Err(NameError::FieldRange(field));
+        }
+        let high = (u64::from(fields.arbitrary) << 3 | u64::from(fields.industry)) << 4
+            | u64::from(fields.system_instance);
+        let middle = ((high << 7 | u64::from(fields.system)) << 1 | u64::from(fields.reserved)) << 8
+            | u64::from(fields.function);
+        let low = ((middle << 5 | u64::from(fields.function_instance)) << 3 | u64::from(fields.ecu))
+            << 11
+            | u64::from(fields.manufacturer);
+        Ok(Name {
+            number: low << 21 | u64::from(fields.identity),
+        })
+    }
+
+    /// The fields of the NAME.
+    pub fn fields(self) -> NameFields
+        ensures fields { result ≡ fields_of self }
+        ensures number { name_number result ≡ self }
+        ensures range { first_out result ≡ None }
+    {
+        let number = self.number;
+        NameFields {
+            identity: (number & 0x1f_ffff) as u32,
+            manufacturer: (number >> 21 & 0x7ff) as u16,
+            ecu: (number >> 32 & 7) as u8,
+            function_instance: (number >> 35 & 31) as u8,
+            function: (number >> 40 & 0xff) as u8,
+            reserved: (number >> 48 & 1) as u8,
+            system: (number >> 49 & 0x7f) as u8,
+            system_instance: (number >> 56 & 15) as u8,
+            industry: (number >> 60 & 7) as u8,
+            arbitrary: (number >> 63) as u8,
+        }
+    }
+
+    pub fn from_bits(number: u64) -> Self
+        ensures { result ≡ number }
+    {
+        Name { number }
+    }
+
+    pub fn to_bits(self) -> u64
+        ensures value { result ≡ self }
+        ensures range { self < 2 ^ 64 }
+    {
+        self.number
+    }
+
+    pub fn to_bytes(self) -> [u8; 8]
+        ensures { result ≡ to_le_bytes w64 self }
+    {
+        self.number.to_le_bytes()
+    }
+
+    pub fn from_bytes(bytes: [u8; 8]) -> Self
+        ensures { result ≡ from_le_bytes w64 bytes }
+    {
+        Name {
+            number: u64::from_le_bytes(bytes),
+        }
+    }
+
+    /// Whether the unit may choose another address.
+    pub fn is_arbitrary(self) -> bool
+        ensures { IsTrue result ↔ (self / 2 ^ 63 % 2 ≡ 1) }
+    {
+        self.number >> 63 == 1
+    }
+}

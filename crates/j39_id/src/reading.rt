@@ -1,0 +1,151 @@
+//! Reading frame lines.
+ghost use Rattle.std.specs.Prelude.{◌≡◌, ℕ, ◌≤◌, ◌↔◌, length, Some, None, Ok, IsOk, IsSome, IfSome, IfNone, IfOk, IfErr};
+ghost use Rattle.std.specs.List.{AllPass, position, list_all};
+ghost use Rattle.hex.specs.Hex.{decode_of, is_hex_digit};
+ghost use Rattle.j39_id.specs.Ident.{bits};
+ghost use Rattle.j39_id.specs.FrameLine.{is_separator as separates, IsLastWord, is_hash, identifier_of, word_fault, WordSpells, Spells, HasLineFault};
+
+use crate::{Frame, Ident, LineError};
+use arrayvec::ArrayVec;
+use hex::FromHex;
+
+fn is_separator(byte: u8) -> bool
+    ensures { result ≡ separates byte }
+{
+    matches!(byte, b' ' | b'\t' | b'\r')
+}
+
+// The last word of a line.
+fn last_word(line: &[u8]) -> Option<&[u8]>
+    ensures found { IfSome result (λ word. IsLastWord line.now word.now) }
+    ensures none { IfNone result (AllPass separates line.now) }
+{
+    let mut stop = line.len();
+    while stop > 0 && is_separator(line[stop - 1]) {
+        stop -= 1;
+    }
+    if stop == 0 {
+        return None;
+    }
+    let mut start = stop - 1;
+    while start > 0 && !is_separator(line[start - 1]) {
+        start -= 1;
+    }
+    Some(&line[start..stop])
+}
+
+// The identifier that eight digits spell.
+fn read_ident(digits: &[u8]) -> Option<Ident>
+    ensures found { IfSome result (λ ident. identifier_of digits.now ≡ Some (bits ident)) }
+    ensures none { IfNone result (identifier_of digits.now ≡ None) }
+{
+    let bytes = <[u8; 4] as FromHex>::from_hex(digits).ok()?;
+    Ident::from_bits(u32::from_be_bytes(bytes))
+}
+
+// The bytes that pairs of digits spell.
+fn read_payload(text: &[u8]) -> Option<ArrayVec<u8, 8>>
+    requires { length text.now ≤ 16 }
+    ensures found { IfSome result (λ payload. decode_of text.now ≡ Ok payload.items) }
+    ensures only { IsSome result ↔ IsOk (decode_of text.now) }
+{
+    let mut bytes = [0; 8];
+    let count = text.len() / 2;
+    hex::decode_to_slice(text, &mut bytes[..count]).ok()?;
+    ArrayVec::try_from(&bytes[..count]).ok()
+}
+
+// Where the first hash stands.
+fn first_hash(word: &[u8]) -> Option<usize>
+    ensures { result ≡ position is_hash word.now }
+{
+    word.iter().position(|b| *b == b'#')
+}
+
+fn are_digits(text: &[u8]) -> bool
+    ensures { result ≡ list_all is_hex_digit text.now }
+{
+    text.iter()
+        .all(|b| matches!(*b, b'0'..=b'9' | b'A'..=b'F' | b'a'..=b'f'))
+}
+
+// The frame that a word spells.
+fn read_word(word: &[u8]) -> Result<Frame, LineError>
+    ensures found { IfOk result (λ f. WordSpells word.now (bits f.ident) f.payload.items) }
+    ensures refused { IfErr result (λ e. word_fault word.now ≡ Some e) }
+{
+    let Some(hash) = first_hash(word) else {
+        return Err(LineError::NoHash);
+    };
+    let digits = &word[..hash];
+    let rest = &word[hash + 1..];
+    if digits.len() == 3 && are_digits(digits) {
+        return Err(LineError::ShortIdent);
+    }
+    let Some(ident) = read_ident(digits) else {
+        return Err(LineError::BadIdent);
+    };
+    if rest.len() > 16 {
+        return Err(LineError::TooLong);
+    }
+    let Some(payload) = read_payload(rest) else {
+        return Err(LineError::BadData);
+    };
+    Ok(Frame { ident, payload })
+}
+
+/// The frame that the last word of the line spells.
+pub fn read_frame(line: &[u8]) -> Result<Frame, LineError>
+    ensures found { IfOk result (λ f. Spells line.now f) }
+    ensures refused { IfErr result (λ e. HasLineFault line.now e) }
+
+    // A line that spells a frame is read as that frame.
+    ensures only { (f : Frame) → Spells line.now f → result ≡ Ok f }
+{
+    let Some(word) = last_word(line) else {
+        return Err(LineError::Empty);
+    };
+    read_word(word)
+}
+
+#[cfg(test)]
+mod tests {
+    use super::*;
+    use std::test::Fail;
+
+    #[test]
+    fn reads_and_prints(rt: HostRuntime) -> Result<(), Fail> {
+        for (line, word) in [
+            ("0CF00400#FFFFFFE02EFFFFFF", "0CF00400#FFFFFFE02EFFFFFF"),
+            (
+                "(1.5) can0 18eeff00#0100800c00000010\t\r",
+                "18EEFF00#0100800C00000010",
+            ),
+            ("1FFFFFFF#", "1FFFFFFF#"),
+        ] {
+            let frame = read_frame(line.as_bytes())?;
+            let text = print_frame(&frame);
+            assert_eq!(rt; text.as_slice(), word.as_bytes(), "at {line}");
+        }
+        Ok(())
+    }
+
+    #[test]
+    fn refuses(rt: HostRuntime) {
+        for (line, error) in [
+            ("", LineError::Empty),
+            (" \t\r", LineError::Empty),
+            ("18EEFF00", LineError::NoHash),
+            ("123#00", LineError::ShortIdent),
+            ("20000000#", LineError::BadIdent),
+            ("18EEFF000#", LineError::BadIdent),
+            ("1G3#", LineError::BadIdent),
+            ("18EEFF00#000000000000000000", LineError::TooLong),
+            ("18EEFF00#1", LineError::BadData),
+            ("18EEFF00#0#", LineError::BadData),
+        ] {
+            let answer = read_frame(line.as_bytes());
+            assert_eq!(rt; answer, Err(error), "at {line:?}");
+        }
+    }
+}
