@@ -1,8 +1,8 @@
 -- Laws of frame lines: a line spells at most one frame, none that is refused does, and the canonical text spells its frame.
-use Rattle.std.proofs.Common.{slice_index, ◌≡◌, ℕ, zero, suc, ◌+◌, ◌-◌, ◌<◌, ◌≤◌, ◌^◌, ◌==◌, ◌||◌, true, false, List, [], ◌∷◌, ◌++◌, length, take, drop, get_or, Option, Some, None, Result, Ok, Err, refl, sym, ap, ◌∙◌, inl, inr, arith}
+use Rattle.std.proofs.Common.{slice_index, ◌≡◌, ℕ, zero, suc, ◌+◌, ◌-◌, ◌<◌, ◌≤◌, ◌^◌, ◌==◌, ◌||◌, true, false, List, [], ◌∷◌, ◌++◌, length, take, drop, get_or, Option, Some, None, Result, Ok, Err, subst, refl, sym, ap, ◌∙◌, inl, inr, arith}
 use Rattle.std.specs.List.{AllPass, All, position, position_or_len}
 use Rattle.std.specs.Int.{w32, to_be_bytes, from_be_bytes}
-use Rattle.std.specs.Prelude.{nat_lt, IfOk, IfErr}
+use Rattle.std.specs.Prelude.{nat_lt, IfOk, IfErr, IsErr}
 use Rattle.std.specs.Option.{unwrap_or}
 use Rattle.std.specs.Result.{result_unwrap_or}
 use Rattle.std.proofs.lemmas.Bool.{cases_order, both_ways, true≢false, or_cases, eqb-true, false_from_ne_true, lt-ltb, le-ltb, ne_eqb}
@@ -14,7 +14,7 @@ use Rattle.std.proofs.lemmas.List.Sums.{position_or_len_is}
 use Rattle.hex.specs.Hex.{decode_of, decode_sized, encode_upper, upper_digits, is_hex_digit, IsBytes}
 use Rattle.hex.specs.declared.error.FromHexError.{FromHexError}
 use Rattle.hex.proofs.HexLemmas.{decode_sized-ok, decode_sized-twice, decode_of-ok, decode_of-encode_upper, length-encode_with}
-use Rattle.j39_id.specs.FrameLine.{is_separator, IsLastWordAt, IsLastWord, identifier_of, identifier_of_bytes, WordSpells, LineSpells, Spells, canon_text, is_hash, parts_fault, fault_from, word_fault, HasLineFault}
+use Rattle.j39_id.specs.FrameLine.{is_separator, IsLastWordAt, IsLastWord, identifier_of, identifier_of_bytes, WordSpells, LineSpells, Spells, canon_text, is_hash, before_hash, after_hash, Refuses, IsFirstFault, HasLineFault}
 use Rattle.j39_id.specs.Ident.{bits}
 use Rattle.j39_id.specs.declared.frame.Frame.{Frame}
 use Rattle.j39_id.specs.declared.line_error.LineError.{LineError}
@@ -105,67 +105,69 @@ digit_is_whole c h = false_from_ne_true (is_separator c) (separator_not_digit c 
 digit_no_hash : (c : ℕ) → is_hex_digit c ≡ true → is_hash c ≡ false
 digit_no_hash c h = false_from_ne_true (is_hash c) (hash_not_digit c h)
 
--- where the first hash of a word stands that begins with digits
-pub hash_after : (digits rest : List ℕ) → AllPass is_hex_digit digits → position is_hash (digits ++ 35 ∷ rest) ≡ Some (length digits)
-hash_after digits rest plain =
+-- the first hash of a word that begins with digits stands behind them
+hash_place : (digits rest : List ℕ) → AllPass is_hex_digit digits → position_or_len is_hash (digits ++ 35 ∷ rest) ≡ length digits
+hash_place digits rest plain =
     let n : ℕ = length digits in
     let len : length (digits ++ 35 ∷ rest) ≡ n + suc (length rest) = length-append digits (35 ∷ rest) in
-    let at : position_or_len is_hash (digits ++ 35 ∷ rest) ≡ n =
     position_or_len_is is_hash (digits ++ 35 ∷ rest) n 0 (omega (arith, len))
     (λ k below. rw (get_or_append_left digits (35 ∷ rest) 0 k below) (digit_no_hash (get_or digits k 0) (plain k 0 below)))
-    (λ within. rw (get_or_at digits 35 rest 0 n refl) refl) in
-    let fits : nat_lt n (length (digits ++ 35 ∷ rest)) ≡ true = lt-ltb n (length (digits ++ 35 ∷ rest)) (omega (arith, len)) in
-    rw (at, fits) refl
+    (λ within. rw (get_or_at digits 35 rest 0 n refl) refl)
+
+-- so there is one
+hash_after : (digits rest : List ℕ) → AllPass is_hex_digit digits → position is_hash (digits ++ 35 ∷ rest) ≡ Some (length digits)
+hash_after digits rest plain =
+    let len : length (digits ++ 35 ∷ rest) ≡ length digits + suc (length rest) = length-append digits (35 ∷ rest) in
+    let fits : nat_lt (length digits) (length (digits ++ 35 ∷ rest)) ≡ true = lt-ltb (length digits) (length (digits ++ 35 ∷ rest)) (omega (arith, len)) in
+    rw (hash_place digits rest plain, fits) refl
 
 -- a spelled word, cut at its first hash
-pub record IsCut (word : List ℕ) (number : ℕ) (payload : List ℕ) (i : ℕ) : Type 0 where
-  pub hash : position is_hash word ≡ Some i
-  pub identifier : identifier_of (take i word) ≡ Some number
-  pub room : length (drop (i + 1) word) ≤ 16
-  pub bytes : decode_of (drop (i + 1) word) ≡ Ok payload
+pub record IsCut (word : List ℕ) (number : ℕ) (payload : List ℕ) : Type 0 where
+  pub place : ℕ
+  pub hash : position is_hash word ≡ Some place
+  pub identifier : identifier_of (before_hash word) ≡ Some number
+  pub room : length (after_hash word) ≤ 16
+  pub bytes : decode_of (after_hash word) ≡ Ok payload
 
-pub cut_of : (word : List ℕ) (number : ℕ) (payload : List ℕ) → WordSpells word number payload → (i : ℕ) × IsCut word number payload i
+pub cut_of : (word : List ℕ) (number : ℕ) (payload : List ℕ) → WordSpells word number payload → IsCut word number payload
 cut_of word number payload s =
     let n : ℕ = length s.digits in
     let digits = identifier_digits s.digits number s.identifier in
-    let front : take n word ≡ s.digits = ap (take n) s.parts ∙ take_at s.digits (35 ∷ s.rest) n refl in
-    let back : drop (n + 1) word ≡ s.rest =
-    sym (drop-drop 1 n word) ∙ ap (λ (xs : List ℕ). drop 1 (drop n xs)) s.parts ∙ ap (drop 1) (drop_at s.digits (35 ∷ s.rest) n refl) in (
-      n,
-      record {
-        hash = ap (position is_hash) s.parts ∙ hash_after s.digits s.rest digits.1;
-        identifier = rw front s.identifier;
-        room = rw back s.room;
-        bytes = rw back s.bytes;
-      },
-    )
+    let place : position_or_len is_hash word ≡ n = ap (position_or_len is_hash) s.parts ∙ hash_place s.digits s.rest digits.1 in
+    let front : before_hash word ≡ s.digits =
+    ap (λ (i : ℕ). take i word) place ∙ ap (take n) s.parts ∙ take_at s.digits (35 ∷ s.rest) n refl in
+    let back : after_hash word ≡ s.rest =
+    ap (λ (i : ℕ). drop (i + 1) word) place ∙ sym (drop-drop 1 n word) ∙ ap (λ (xs : List ℕ). drop 1 (drop n xs)) s.parts
+    ∙ ap (drop 1) (drop_at s.digits (35 ∷ s.rest) n refl) in
+    record {
+      place = n;
+      hash = ap (position is_hash) s.parts ∙ hash_after s.digits s.rest digits.1;
+      identifier = ap identifier_of front ∙ s.identifier;
+      room = rw back s.room;
+      bytes = ap decode_of back ∙ s.bytes;
+    }
 
 -- a word spells one number and one payload
 pub same_word : (word : List ℕ) (m n : ℕ) (p q : List ℕ) → WordSpells word m p → WordSpells word n q → (m ≡ n) × (p ≡ q)
 same_word word m n p q s t =
     let x = cut_of word m p s in
-    let y = cut_of word n q t in
-    let place : x.0 ≡ y.0 = ap (λ (o : Option ℕ). unwrap_or o 0) (sym x.1.hash ∙ y.1.hash) in
-    let identifier : identifier_of (take x.0 word) ≡ Some n = rw place y.1.identifier in
-    let bytes : decode_of (drop (x.0 + 1) word) ≡ Ok q = rw place y.1.bytes in (
-      ap (λ (o : Option ℕ). unwrap_or o 0) (sym x.1.identifier ∙ identifier),
-      ap (λ (r : Result (List ℕ) FromHexError). result_unwrap_or r []) (sym x.1.bytes ∙ bytes),
+    let y = cut_of word n q t in (
+      ap (λ (o : Option ℕ). unwrap_or o 0) (sym x.identifier ∙ y.identifier),
+      ap (λ (r : Result (List ℕ) FromHexError). result_unwrap_or r []) (sym x.bytes ∙ y.bytes),
     )
 
--- parts that spell a frame have no fault
-parts_sound : (digits rest payload : List ℕ) (n : ℕ) → identifier_of digits ≡ Some n → length rest ≤ 16 → decode_of rest ≡ Ok payload
-    → parts_fault digits rest ≡ None
-parts_sound digits rest payload n ident room bytes =
-    let eight = identifier_digits digits n ident in
-    let three : (length digits == 3) ≡ false = ne_eqb (length digits) 3 (λ e. absurd (omega (arith, eight.0))) in
-    let short : nat_lt 16 (length rest) ≡ false = le-ltb 16 (length rest) room in
-    rw (three, ident, short, bytes) refl
-
--- a word that spells a frame has no fault
-pub word_sound : (word : List ℕ) (n : ℕ) (p : List ℕ) → WordSpells word n p → word_fault word ≡ None
-word_sound word n p s =
+-- no refusal holds of a word that spells a frame
+pub word_sound : (word : List ℕ) (n : ℕ) (p : List ℕ) → WordSpells word n p → (e : LineError) → Refuses e word → ⊥
+word_sound word n p s Empty h = h
+word_sound word n p s NoHash h = let x = cut_of word n p s in cc (sym x.hash ∙ h)
+word_sound word n p s ShortIdent h =
     let x = cut_of word n p s in
-    ap (fault_from word) x.1.hash ∙ parts_sound (take x.0 word) (drop (x.0 + 1) word) p n x.1.identifier x.1.room x.1.bytes
+    let eight = identifier_digits (before_hash word) n x.identifier in
+    absurd (omega (arith, eight.0, h.0))
+word_sound word n p s BadIdent h = let x = cut_of word n p s in cc (sym x.identifier ∙ h)
+word_sound word n p s TooLong h = let x = cut_of word n p s in absurd (omega (arith, x.room, h))
+word_sound word n p s BadData h =
+    let x = cut_of word n p s in true≢false (sym (subst (λ (r : Result (List ℕ) FromHexError). IsErr r) x.bytes h))
 
 -- ---- a line
 
@@ -175,10 +177,8 @@ one_frame line m n p q x y =
     same_word y.0 m n p q (rw (same_last_word line x.0 y.0 x.1 y.1) at x.2) y.2
 
 -- a fault of a word isn't that of a line that spells a frame
-fault_of_other : (line w : List ℕ) (n : ℕ) (p : List ℕ) (e : LineError) → LineSpells line n p → IsLastWord line w → word_fault w ≡ Some e → ⊥
-fault_of_other line w n p e x last fault =
-    let none : word_fault w ≡ None = ap word_fault (same_last_word line w x.0 last x.1) ∙ word_sound x.0 n p x.2 in
-    cc (sym fault ∙ none)
+fault_of_other : (line w : List ℕ) (n : ℕ) (p : List ℕ) (e : LineError) → LineSpells line n p → IsLastWord line w → IsFirstFault w e → ⊥
+fault_of_other line w n p e x last fault = word_sound w n p (rw (same_last_word line x.0 w x.1 last) at x.2) e fault.holds
 
 -- a line that spells a frame has no fault
 pub spelled_not_refused : (line : List ℕ) (n : ℕ) (p : List ℕ) (e : LineError) → LineSpells line n p → HasLineFault line e → ⊥
@@ -251,7 +251,7 @@ canon_spells n p h room bytes =
 
 -- what the last word of a line is read as is the frame that the line spells
 pub only_reading : (line w : List ℕ) (r : Result Frame LineError) → IsLastWord line w
-    → IfOk r (λ f. WordSpells w (bits f.ident) f.payload.items) → IfErr r (λ e. word_fault w ≡ Some e)
+    → IfOk r (λ f. WordSpells w (bits f.ident) f.payload.items) → IfErr r (λ e. IsFirstFault w e)
     → (f : Frame) → Spells line f → r ≡ Ok f
 only_reading line w (Ok g) last ok err f x =
     let same = one_frame line (bits g.ident) (bits f.ident) g.payload.items f.payload.items (w, last, ok) x in

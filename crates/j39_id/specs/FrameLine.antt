@@ -1,6 +1,6 @@
 -- Frame lines: what spells a frame, the one canonical text, and why a line is refused.
-use Rattle.std.specs.Prelude.{◌≡◌, ℕ, ◌+◌, ◌-◌, ◌<◌, ◌≤◌, ◌^◌, ◌==◌, ◌||◌, ◌&&◌, not, nat_lt, Bool, true, false, if◌then◌else◌, List, ◌∷◌, ◌++◌, length, slice_index, slice_range, take, drop, Option, Some, None, is_some, Result, Ok, Err, is_ok}
-use Rattle.std.specs.List.{AllWithin, AllPass, list_all, position}
+use Rattle.std.specs.Prelude.{◌≡◌, ℕ, ◌-◌, ◌<◌, ◌≤◌, ◌^◌, ◌==◌, ◌||◌, nat_lt, Bool, true, false, if◌then◌else◌, List, ◌∷◌, ◌++◌, length, slice_index, slice_range, Option, Some, None, Result, Ok, Err, IsErr}
+use Rattle.std.specs.List.{AllWithin, AllPass, position, before_first, after_first}
 use Rattle.std.specs.Int.{w32, to_be_bytes, from_be_bytes}
 use Rattle.hex.specs.Hex.{decode_of, decode_sized, encode_upper, is_hex_digit}
 use Rattle.hex.specs.declared.error.FromHexError.{FromHexError}
@@ -60,25 +60,37 @@ canon f = canon_text (bits f.ident) f.payload.items
 abbrev pub is_hash : ℕ → Bool
 is_hash c = c == 35
 
--- the first fault of the digits before the hash and the text after it
-abbrev pub parts_fault : List ℕ → List ℕ → Option LineError
-parts_fault digits rest =
-    if length digits == 3 && list_all is_hex_digit digits then Some ShortIdent
-    else if not (is_some (identifier_of digits)) then Some BadIdent
-    else if nat_lt 16 (length rest) then Some TooLong
-    else if not (is_ok (decode_of rest)) then Some BadData
-    else None
+-- what stands before the first hash of a word, and what stands after it
+abbrev pub before_hash : List ℕ → List ℕ
+before_hash word = before_first is_hash word
 
--- the first fault of a word whose first hash is at this place
-abbrev pub fault_from : List ℕ → Option ℕ → Option LineError
-fault_from word None = Some NoHash
-fault_from word (Some i) = parts_fault (take i word) (drop (i + 1) word)
+abbrev pub after_hash : List ℕ → List ℕ
+after_hash word = after_first is_hash word
 
--- the first fault of a word
-abbrev pub word_fault : List ℕ → Option LineError
-word_fault word = fault_from word (position is_hash word)
+-- what each refusal says of a word, on its own
+abbrev pub Refuses : LineError → List ℕ → Type 0
+Refuses Empty word = ⊥
+Refuses NoHash word = position is_hash word ≡ None
+Refuses ShortIdent word = (length (before_hash word) ≡ 3) × AllPass is_hex_digit (before_hash word)
+Refuses BadIdent word = identifier_of (before_hash word) ≡ None
+Refuses TooLong word = 16 < length (after_hash word)
+Refuses BadData word = IsErr (decode_of (after_hash word))
+
+-- the order in which the refusals are looked for
+abbrev pub rank : LineError → ℕ
+rank Empty = 0
+rank NoHash = 1
+rank ShortIdent = 2
+rank BadIdent = 3
+rank TooLong = 4
+rank BadData = 5
+
+-- this refusal holds of the word and no earlier one does
+pub record IsFirstFault (word : List ℕ) (e : LineError) : Type 0 where
+  pub holds : Refuses e word
+  pub first : (d : LineError) → rank d < rank e → ¬ Refuses d word
 
 -- the line has no word, or its last word has this fault first
 abbrev pub HasLineFault : List ℕ → LineError → Type 0
 HasLineFault line Empty = AllPass is_separator line
-HasLineFault line e = (word : List ℕ) × IsLastWord line word × (word_fault word ≡ Some e)
+HasLineFault line e = (word : List ℕ) × IsLastWord line word × IsFirstFault word e

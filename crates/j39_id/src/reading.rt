@@ -1,9 +1,9 @@
 //! Reading frame lines.
-ghost use Rattle.std.specs.Prelude.{◌≡◌, ℕ, ◌≤◌, ◌↔◌, length, Some, None, Ok, IsOk, IsSome, IfSome, IfNone, IfOk, IfErr};
-ghost use Rattle.std.specs.List.{AllPass, position, list_all};
+ghost use Rattle.std.specs.Prelude.{◌≡◌, ℕ, ◌≤◌, ◌↔◌, length, Some, None, Ok, IsOk, IsSome, IfSome, IfNone, IfOk, IfErr, IsTrue};
+ghost use Rattle.std.specs.List.{AllPass, position};
 ghost use Rattle.hex.specs.Hex.{decode_of, is_hex_digit};
 ghost use Rattle.j39_id.specs.Ident.{bits};
-ghost use Rattle.j39_id.specs.FrameLine.{is_separator as separates, IsLastWord, is_hash, identifier_of, word_fault, WordSpells, Spells, HasLineFault};
+ghost use Rattle.j39_id.specs.FrameLine.{is_separator as separates, IsLastWord, is_hash, identifier_of, IsFirstFault, WordSpells, Spells, HasLineFault};
 
 use crate::{Frame, Ident, LineError};
 use arrayvec::ArrayVec;
@@ -62,24 +62,27 @@ fn first_hash(word: &[u8]) -> Option<usize>
     word.iter().position(|b| *b == b'#')
 }
 
-fn are_digits(text: &[u8]) -> bool
-    ensures { result ≡ list_all is_hex_digit text.now }
+// Whether these are the three digits of an 11-bit identifier.
+fn is_short(digits: &[u8]) -> bool
+    ensures { IsTrue result ↔ ((length digits.now ≡ 3) × AllPass is_hex_digit digits.now) }
 {
-    text.iter()
-        .all(|b| matches!(*b, b'0'..=b'9' | b'A'..=b'F' | b'a'..=b'f'))
+    digits.len() == 3
+        && digits
+            .iter()
+            .all(|b| matches!(*b, b'0'..=b'9' | b'A'..=b'F' | b'a'..=b'f'))
 }
 
 // The frame that a word spells.
 fn read_word(word: &[u8]) -> Result<Frame, LineError>
     ensures found { IfOk result (λ f. WordSpells word.now (bits f.ident) f.payload.items) }
-    ensures refused { IfErr result (λ e. word_fault word.now ≡ Some e) }
+    ensures refused { IfErr result (λ e. IsFirstFault word.now e) }
 {
     let Some(hash) = first_hash(word) else {
         return Err(LineError::NoHash);
     };
     let digits = &word[..hash];
     let rest = &word[hash + 1..];
-    if digits.len() == 3 && are_digits(digits) {
+    if is_short(digits) {
         return Err(LineError::ShortIdent);
     }
     let Some(ident) = read_ident(digits) else {
