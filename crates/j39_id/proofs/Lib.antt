@@ -1,3 +1,4 @@
 pub mod Digits
+pub mod LastWord
 pub mod LineLaws
 pub mod SameFrame

@@ -1,12 +1,12 @@
 -- Laws of frame lines: a line spells at most one frame, none that is refused does, and the canonical text spells its frame.
-use Rattle.std.proofs.Common.{slice_index, ◌≡◌, ℕ, zero, suc, ◌+◌, ◌-◌, ◌<◌, ◌≤◌, ◌^◌, ◌==◌, ◌||◌, true, false, List, [], ◌∷◌, ◌++◌, length, take, drop, get_or, Option, Some, None, Result, Ok, Err, subst, refl, sym, ap, ◌∙◌, inl, inr, arith}
+use Rattle.std.proofs.Common.{slice_index, slice_range, ◌≡◌, ℕ, zero, suc, ◌+◌, ◌-◌, ◌<◌, ◌≤◌, ◌^◌, ◌==◌, ◌||◌, true, false, List, [], ◌∷◌, ◌++◌, length, take, drop, get_or, Option, Some, None, Result, Ok, Err, subst, refl, sym, ap, ◌∙◌, inl, inr, arith}
 use Rattle.std.specs.List.{AllPass, All, position, position_or_len}
 use Rattle.std.specs.Int.{w32, to_be_bytes, from_be_bytes}
 use Rattle.std.specs.Prelude.{nat_lt, IfOk, IfErr, IsErr}
 use Rattle.std.specs.Option.{unwrap_or}
 use Rattle.std.specs.Result.{result_unwrap_or}
 use Rattle.std.proofs.lemmas.Bool.{cases_order, both_ways, true≢false, or_cases, eqb-true, false_from_ne_true, lt-ltb, le-ltb, ne_eqb}
-use Rattle.std.proofs.lemmas.List.{length-append, get_or_append_left, get_or_at, take_all, take_at, drop_at, drop-drop, get_or-append_right}
+use Rattle.std.proofs.lemmas.List.{length-append, get_or_append_left, get_or_at, take_all, take_at, drop_at, drop-drop, append-nil}
 use Rattle.std.proofs.lemmas.List.Elements.{All-append, All-cons, All-weaker, AllWithin-from_all, AllWithin-none}
 use Rattle.std.proofs.lemmas.Slice.{between_from_start}
 use Rattle.std.proofs.lemmas.Nat.{from_be_bytes-to_be_bytes_4}
@@ -14,11 +14,12 @@ use Rattle.std.proofs.lemmas.List.Sums.{position_or_len_is}
 use Rattle.hex.specs.Hex.{decode_of, decode_sized, encode_upper, upper_digits, is_hex_digit, IsBytes}
 use Rattle.hex.specs.declared.error.FromHexError.{FromHexError}
 use Rattle.hex.proofs.HexLemmas.{decode_sized-ok, decode_sized-twice, decode_of-ok, decode_of-encode_upper, length-encode_with}
-use Rattle.j39_id.specs.FrameLine.{is_separator, IsLastWordAt, IsLastWord, identifier_of, identifier_of_bytes, WordSpells, LineSpells, Spells, canon_text, is_hash, before_hash, after_hash, Refuses, IsFirstFault, HasLineFault}
+use Rattle.j39_id.specs.FrameLine.{is_separator, IsLastWord, identifier_of, identifier_of_bytes, WordSpells, LineSpells, Spells, canon_text, is_hash, before_hash, after_hash, Refuses, IsFirstFault, HasLineFault}
 use Rattle.j39_id.specs.Ident.{bits}
 use Rattle.j39_id.specs.declared.frame.Frame.{Frame}
 use Rattle.j39_id.specs.declared.line_error.LineError.{LineError}
 use Rattle.j39_id.specs.declared.line_error.LineError.TheVariants.{Empty, NoHash, ShortIdent, BadIdent, TooLong, BadData}
+use Rattle.j39_id.proofs.LastWord.{IsLastWordAt, places_of, word_between}
 use Rattle.j39_id.proofs.SameFrame.{same_frame}
 
 -- ---- the last word
@@ -59,15 +60,17 @@ same_places line a b c d x y =
 
 pub same_last_word : (line v w : List ℕ) → IsLastWord line v → IsLastWord line w → v ≡ w
 same_last_word line v w x y =
-    let same = same_places line x.0 x.1 y.0 y.1 x.2 y.2 in
-    x.3 ∙ rw (same.0, same.1) (sym y.3)
+    let same = same_places line _ _ _ _ (places_of line v x) (places_of line w y) in
+    word_between line v x ∙ ap (λ (i : ℕ). slice_range line i (length x.front + length v)) same.0
+    ∙ ap (λ (j : ℕ). slice_range line (length y.front) j) same.1 ∙ sym (word_between line w y)
 
 -- a line with a word isn't separators alone
 pub not_blank : (line w : List ℕ) → IsLastWord line w → AllPass is_separator line → ⊥
 not_blank line w x blank =
-    both_ways (is_separator (get_or line x.0 0))
-    (x.2.whole x.0 0 (omega arith) x.2.some)
-    (blank x.0 0 (omega (arith, x.2.some, x.2.within)))
+    let at = places_of line w x in
+    both_ways (is_separator (get_or line (length x.front) 0))
+    (at.whole (length x.front) 0 (omega arith) at.some)
+    (blank (length x.front) 0 (omega (arith, at.some, at.within)))
 
 -- ---- a word
 
@@ -227,18 +230,15 @@ canon_spells n p h room bytes =
     All-append (λ c. is_separator c ≡ false) digits (35 ∷ encode_upper p) (whole_digits (to_be_bytes w32 n) (IsBytes-number n))
     (All-cons (λ c. is_separator c ≡ false) 35 (encode_upper p) refl (whole_digits p bytes)) in (
       text,
-      (
-        0,
-        length text,
-        record {
-          some = omega (arith, len);
-          within = omega arith;
-          whole = AllWithin-from_all (λ c. is_separator c ≡ false) text whole;
-          parted = λ k. absurd (omega arith);
-          last = AllWithin-none (λ c. is_separator c ≡ true) text (length text);
-        },
-        sym (between_from_start text (length text) ∙ take_all (length text) text (omega arith)),
-      ),
+      record {
+        front = [];
+        back = [];
+        row = sym (append-nil text);
+        some = omega (arith, len);
+        whole = whole;
+        parted = λ front. absurd (omega (arith, front));
+        blank = λ k d below. absurd (omega arith);
+      },
       record {
         digits = digits;
         rest = encode_upper p;
@@ -267,23 +267,3 @@ one_spelled line f g x y =
 -- a line that spells a frame has no fault
 pub not_both : (line : List ℕ) (f : Frame) (e : LineError) → Spells line f → HasLineFault line e → ⊥
 not_both line f e x h = spelled_not_refused line (bits f.ident) f.payload.items e x h
-
--- ---- a line in three parts
-
--- a word between a front that ends with a separator, or is empty, and separators is the last word
-pub word_in_a_row : (x w y : List ℕ) → 0 < length w → All (λ c. is_separator c ≡ false) w → All (λ c. is_separator c ≡ true) y
-    → (0 < length x → is_separator (slice_index x (length x - 1)) ≡ true) → IsLastWordAt (x ++ (w ++ y)) (length x) (length x + length w)
-word_in_a_row x w y some whole last parted =
-    let len = length-append x (w ++ y) in
-    let len' = length-append w y in
-    record {
-      some = omega (arith, some);
-      within = omega (arith, len, len');
-      whole = λ k d low high.
-          rw (get_or-append_right x (w ++ y) (length x) k d refl low, get_or_append_left w y d (k - length x) (omega arith))
-          (whole (k - length x) d (omega arith));
-      parted = λ front. rw (get_or_append_left x (w ++ y) 0 (length x - 1) (omega arith)) (parted front);
-      last = λ k d low high.
-          rw (get_or-append_right x (w ++ y) (length x) k d refl (omega arith), get_or-append_right w y (length w) (k - length x) d refl (omega arith))
-          (last (k - length x - length w) d (omega (arith, len, len')));
-    }

@@ -1,6 +1,6 @@
 -- Frame lines: what spells a frame, the one canonical text, and why a line is refused.
-use Rattle.std.specs.Prelude.{◌≡◌, ℕ, ◌-◌, ◌<◌, ◌≤◌, ◌^◌, ◌==◌, ◌||◌, nat_lt, Bool, true, false, if◌then◌else◌, List, ◌∷◌, ◌++◌, length, slice_index, slice_range, Option, Some, None, Result, Ok, Err, IsErr}
-use Rattle.std.specs.List.{AllWithin, AllPass, position, before_first, after_first}
+use Rattle.std.specs.Prelude.{◌≡◌, ℕ, ◌-◌, ◌<◌, ◌≤◌, ◌^◌, ◌==◌, ◌||◌, nat_lt, Bool, true, false, if◌then◌else◌, List, ◌∷◌, ◌++◌, length, slice_index, Option, Some, None, Result, Ok, Err, IsErr}
+use Rattle.std.specs.List.{All, AllPass, position, before_first, after_first}
 use Rattle.std.specs.Int.{w32, to_be_bytes, from_be_bytes}
 use Rattle.hex.specs.Hex.{decode_of, decode_sized, encode_upper, is_hex_digit}
 use Rattle.hex.specs.declared.error.FromHexError.{FromHexError}
@@ -13,16 +13,16 @@ use Rattle.j39_id.specs.declared.line_error.LineError.TheVariants.{Empty, NoHash
 abbrev pub is_separator : ℕ → Bool
 is_separator c = c == 32 || (c == 9 || c == 13)
 
--- the last word of the line stands from start up to stop
-pub record IsLastWordAt (line : List ℕ) (start stop : ℕ) : Type 0 where
-  pub some : start < stop
-  pub within : stop ≤ length line
-  pub whole : AllWithin (λ c. is_separator c ≡ false) line start stop
-  pub parted : 0 < start → is_separator (slice_index line (start - 1)) ≡ true
-  pub last : AllWithin (λ c. is_separator c ≡ true) line stop (length line)
-
-abbrev pub IsLastWord : List ℕ → List ℕ → Type 0
-IsLastWord line word = (start : ℕ) × (stop : ℕ) × IsLastWordAt line start stop × (word ≡ slice_range line start stop)
+-- the last word of a line: the line is a front, the word and a back in a row; the word has no separator,
+-- the front is empty or ends with one, and the back has nothing else
+pub record IsLastWord (line word : List ℕ) : Type 0 where
+  pub front : List ℕ
+  pub back : List ℕ
+  pub row : line ≡ front ++ (word ++ back)
+  pub some : 0 < length word
+  pub whole : All (λ c. is_separator c ≡ false) word
+  pub parted : 0 < length front → is_separator (slice_index front (length front - 1)) ≡ true
+  pub blank : AllPass is_separator back
 
 -- the number of four bytes, where it is an identifier's
 abbrev pub identifier_of_bytes : Result (List ℕ) FromHexError → Option ℕ
