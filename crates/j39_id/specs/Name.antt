@@ -1,41 +1,57 @@
--- The 64-bit NAME as the sum of its fields.
-use Rattle.std.specs.Prelude.{ℕ, ◌+◌, ◌*◌, ◌/◌, ◌%◌, ◌^◌, nat_lt, if◌then◌else◌, Option, Some, None}
+-- The 64-bit NAME (SAE J1939-81, NAME fields).
+use Rattle.std.specs.Prelude.{ℕ, ◌*◌, ◌/◌, ◌%◌, ◌^◌, nat_le, List, [], ◌∷◌, sum_by, find, Option, option_map}
 use Rattle.j39_id.specs.declared.name_fields.NameFields.{NameFields}
 use Rattle.j39_id.specs.declared.name_fields.NameField.{NameField}
 use Rattle.j39_id.specs.declared.name_fields.NameField.TheVariants.{Identity, Manufacturer, Ecu, FunctionInstance, Function, Reserved, System, SystemInstance, Industry, Arbitrary}
 
--- the number of the fields, each times 2 to its first bit
-abbrev pub name_number : NameFields → ℕ
-name_number f =
-    f.identity + f.manufacturer * 2 ^ 21 + f.ecu * 2 ^ 32 + f.function_instance * 2 ^ 35 + f.function * 2 ^ 40
-    + f.reserved * 2 ^ 48 + f.system * 2 ^ 49 + f.system_instance * 2 ^ 56 + f.industry * 2 ^ 60 + f.arbitrary * 2 ^ 63
+-- a field, its value, the first of its bits and how many they are
+pub record Place : Type 0 where
+  pub field : NameField
+  pub value : ℕ
+  pub first : ℕ
+  pub bits : ℕ
 
--- the first field that is out of its range
+abbrev pub place : NameField → ℕ → ℕ → ℕ → Place
+place field value first bits = record { field = field; value = value; first = first; bits = bits }
+
+-- the layout of a NAME, from its lowest bit up
+abbrev pub layout : NameFields → List Place
+layout f =
+    place Identity f.identity 0 21
+    ∷ place Manufacturer f.manufacturer 21 11
+    ∷ place Ecu f.ecu 32 3
+    ∷ place FunctionInstance f.function_instance 35 5
+    ∷ place Function f.function 40 8
+    ∷ place Reserved f.reserved 48 1
+    ∷ place System f.system 49 7
+    ∷ place SystemInstance f.system_instance 56 4
+    ∷ place Industry f.industry 60 3
+    ∷ place Arbitrary f.arbitrary 63 1
+    ∷ []
+
+-- the number of the fields: the sum of each times 2 to its first bit
+abbrev pub name_number : NameFields → ℕ
+name_number f = sum_by (λ p. p.value * 2 ^ p.first) (layout f)
+
+-- the first field whose value does not fit its bits
 abbrev pub first_out : NameFields → Option NameField
-first_out f =
-    if nat_lt 2097151 f.identity then Some Identity
-    else if nat_lt 2047 f.manufacturer then Some Manufacturer
-    else if nat_lt 7 f.ecu then Some Ecu
-    else if nat_lt 31 f.function_instance then Some FunctionInstance
-    else if nat_lt 255 f.function then Some Function
-    else if nat_lt 1 f.reserved then Some Reserved
-    else if nat_lt 127 f.system then Some System
-    else if nat_lt 15 f.system_instance then Some SystemInstance
-    else if nat_lt 7 f.industry then Some Industry
-    else if nat_lt 1 f.arbitrary then Some Arbitrary
-    else None
+first_out f = option_map (λ p. p.field) (find (λ p. nat_le (2 ^ p.bits) p.value) (layout f))
+
+-- so many bits of a number, from the first on
+abbrev pub bits_of : ℕ → ℕ → ℕ → ℕ
+bits_of n first bits = n / 2 ^ first % 2 ^ bits
 
 -- the fields of a number
 abbrev pub fields_of : ℕ → NameFields
 fields_of n = record {
-  identity = n % 2 ^ 21;
-  manufacturer = n / 2 ^ 21 % 2 ^ 11;
-  ecu = n / 2 ^ 32 % 8;
-  function_instance = n / 2 ^ 35 % 32;
-  function = n / 2 ^ 40 % 256;
-  reserved = n / 2 ^ 48 % 2;
-  system = n / 2 ^ 49 % 128;
-  system_instance = n / 2 ^ 56 % 16;
-  industry = n / 2 ^ 60 % 8;
-  arbitrary = n / 2 ^ 63 % 2;
+  identity = bits_of n 0 21;
+  manufacturer = bits_of n 21 11;
+  ecu = bits_of n 32 3;
+  function_instance = bits_of n 35 5;
+  function = bits_of n 40 8;
+  reserved = bits_of n 48 1;
+  system = bits_of n 49 7;
+  system_instance = bits_of n 56 4;
+  industry = bits_of n 60 3;
+  arbitrary = bits_of n 63 1;
 }
