@@ -1,5 +1,5 @@
 -- Laws of frame lines: a line spells at most one frame, none that is refused does, and the canonical text spells its frame.
-use Rattle.std.proofs.Common.{slice_index, slice_range, ◌≡◌, ℕ, zero, suc, ◌+◌, ◌-◌, ◌<◌, ◌≤◌, ◌^◌, ◌==◌, ◌||◌, true, false, List, [], ◌∷◌, ◌++◌, length, take, drop, get_or, Option, Some, None, Result, Ok, Err, subst, refl, sym, ap, ◌∙◌, inl, inr, arith}
+use Rattle.std.proofs.Common.{slice_index, slice_range, ◌≡◌, ℕ, zero, suc, ◌+◌, ◌-◌, ◌<◌, ◌≤◌, ◌^◌, ◌==◌, ◌||◌, true, false, List, [], ◌∷◌, ◌++◌, length, take, drop, get_or, Option, Some, None, Result, Ok, Err, subst, refl, sym, ap, ◌∙◌, inl, inr, ◌⊎◌, arith}
 use Rattle.std.specs.List.{AllPass, All, position, position_or_len}
 use Rattle.std.specs.Int.{w32, to_be_bytes, from_be_bytes}
 use Rattle.std.specs.Prelude.{nat_lt, IfOk, IfErr, IsErr}
@@ -14,7 +14,7 @@ use Rattle.std.proofs.lemmas.List.Sums.{position_or_len_is}
 use Rattle.hex.specs.Hex.{decode_of, decode_sized, encode_upper, upper_digits, is_hex_digit, IsBytes}
 use Rattle.hex.specs.declared.error.FromHexError.{FromHexError}
 use Rattle.hex.proofs.HexLemmas.{decode_sized-ok, decode_sized-twice, decode_of-ok, decode_of-encode_upper, length-encode_with}
-use Rattle.j39_id.specs.FrameLine.{is_separator, IsLastWord, identifier_of, identifier_of_bytes, WordSpells, LineSpells, Spells, canon_text, is_hash, before_hash, after_hash, Refuses, IsFirstFault, HasLineFault}
+use Rattle.j39_id.specs.FrameLine.{is_separator, IsLastWord, identifier_of, identifier_of_bytes, WordSpells, LineSpells, Spells, canon_text, is_hash, before_hash, after_hash, Refuses, rank, IsFirstFault, HasLineFault}
 use Rattle.j39_id.specs.Ident.{bits}
 use Rattle.j39_id.specs.declared.frame.Frame.{Frame}
 use Rattle.j39_id.specs.declared.line_error.LineError.{LineError}
@@ -191,6 +191,62 @@ spelled_not_refused line n p ShortIdent x h = fault_of_other line h.0 n p ShortI
 spelled_not_refused line n p BadIdent x h = fault_of_other line h.0 n p BadIdent x h.1 h.2
 spelled_not_refused line n p TooLong x h = fault_of_other line h.0 n p TooLong x h.1 h.2
 spelled_not_refused line n p BadData x h = fault_of_other line h.0 n p BadData x h.1 h.2
+
+-- a fault is that of a blank line, or the first of the last word
+fault_cases : (line : List ℕ) (e : LineError) → HasLineFault line e
+    → (AllPass is_separator line × (e ≡ Empty)) ⊎ ((w : List ℕ) × IsLastWord line w × IsFirstFault w e)
+fault_cases line Empty h = inl (h, refl)
+fault_cases line NoHash h = inr h
+fault_cases line ShortIdent h = inr h
+fault_cases line BadIdent h = inr h
+fault_cases line TooLong h = inr h
+fault_cases line BadData h = inr h
+
+-- the refusal at a place of their order
+at_rank : ℕ → LineError
+at_rank zero = Empty
+at_rank (suc zero) = NoHash
+at_rank (suc (suc zero)) = ShortIdent
+at_rank (suc (suc (suc zero))) = BadIdent
+at_rank (suc (suc (suc (suc zero)))) = TooLong
+at_rank (suc (suc (suc (suc (suc n))))) = BadData
+
+at_rank-rank : (e : LineError) → at_rank (rank e) ≡ e
+unfolding at_rank
+at_rank-rank Empty = refl
+at_rank-rank NoHash = refl
+at_rank-rank ShortIdent = refl
+at_rank-rank BadIdent = refl
+at_rank-rank TooLong = refl
+at_rank-rank BadData = refl
+
+-- a word has one first fault
+same_fault : (w : List ℕ) (d e : LineError) → IsFirstFault w d → IsFirstFault w e → d ≡ e
+same_fault w d e x y =
+    elim (cases_order (rank d) (rank e)) [
+      | inl same ↦ sym (at_rank-rank d) ∙ ap at_rank same ∙ at_rank-rank e
+      | inr other ↦
+          elim other [
+            | inl less ↦ absurd (y.first d less x.holds)
+            | inr more ↦ absurd (x.first e more y.holds)
+          ]
+    ]
+
+-- a line has one fault
+pub one_fault : (line : List ℕ) (d e : LineError) → HasLineFault line d → HasLineFault line e → d ≡ e
+one_fault line d e x y =
+    elim (fault_cases line d x) [
+      | inl a ↦
+          elim (fault_cases line e y) [
+            | inl b ↦ a.1 ∙ sym b.1
+            | inr b ↦ absurd (not_blank line b.0 b.1 a.0)
+          ]
+      | inr a ↦
+          elim (fault_cases line e y) [
+            | inl b ↦ absurd (not_blank line a.0 a.1 b.0)
+            | inr b ↦ same_fault a.0 d e a.2 (rw (same_last_word line b.0 a.0 b.1 a.1) at b.2)
+          ]
+    ]
 
 -- ---- the canonical text
 

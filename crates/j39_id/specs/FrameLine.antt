@@ -94,3 +94,17 @@ pub record IsFirstFault (word : List ℕ) (e : LineError) : Type 0 where
 abbrev pub HasLineFault : List ℕ → LineError → Type 0
 HasLineFault line Empty = AllPass is_separator line
 HasLineFault line e = (word : List ℕ) × IsLastWord line word × IsFirstFault word e
+
+-- ---- laws
+
+-- a line spells at most one frame
+abbrev pub SpellsAtMostOne : Type 0
+SpellsAtMostOne = (line : List ℕ) (f g : Frame) → Spells line f → Spells line g → f ≡ g
+
+-- a line that spells a frame has no fault
+abbrev pub SpelledHasNoFault : Type 0
+SpelledHasNoFault = (line : List ℕ) (f : Frame) (e : LineError) → Spells line f → ¬ HasLineFault line e
+
+-- a line has at most one fault
+abbrev pub HasAtMostOneFault : Type 0
+HasAtMostOneFault = (line : List ℕ) (d e : LineError) → HasLineFault line d → HasLineFault line e → d ≡ e

@@ -27,18 +27,30 @@ impl Ident {
     pub fn from_bits(number: u32) -> Option<Self>
         ensures valid { IsSome result ↔ (number < 2 ^ 29) }
         ensures value { IfSome result (λ i. bits i ≡ number) }
+
+        // Only this identifier has this number.
+        ensures only { (i : Ident) → bits i ≡ number → result ≡ Some i }
     {
-        if number >= 1 << 29 {
-            return None;
+        if number < 1 << 29 {
+            Some(Ident::parts_of(number))
+        } else {
+            None
         }
-        Some(Ident {
+    }
+
+    // The parts of a number of 29 bits.
+    fn parts_of(number: u32) -> Self
+        requires { number < 2 ^ 29 }
+        ensures { bits result ≡ number }
+    {
+        Ident {
             priority: (number >> 26) as u8,
             edp: (number >> 25 & 1) as u8,
             dp: (number >> 24 & 1) as u8,
             pf: (number >> 16 & 0xff) as u8,
             ps: (number >> 8 & 0xff) as u8,
             sa: (number & 0xff) as u8,
-        })
+        }
     }
 
     /// The number that the identifier is sent as.

@@ -1,7 +1,7 @@
-//! Laws of frame lines.
-ghost use Rattle.std.specs.Prelude.{◌≡◌, ℕ, List, Ok};
+//! Laws of frame lines: facts about the definitions, each the contract of a function that does nothing.
+ghost use Rattle.std.specs.Prelude.{◌≡◌, Ok};
 ghost use Rattle.hex.specs.Hex.{IsBytes};
-ghost use Rattle.j39_id.specs.FrameLine.{Spells, HasLineFault, canon};
+ghost use Rattle.j39_id.specs.FrameLine.{Spells, canon, SpellsAtMostOne, SpelledHasNoFault, HasAtMostOneFault};
 
 use crate::{Frame, LineError, print_frame, read_frame};
 
@@ -10,25 +10,26 @@ fn known_bytes(bytes: &[u8])
     ensures { IsBytes bytes.now }
 {}
 
-/// The canonical text of a frame spells it, so it is read as that frame.
-pub fn printed_spells(frame: &Frame)
+/// A line spells at most one frame, and has at most one fault and none if it spells a frame.
+pub fn one_reading()
+    ensures frame { SpellsAtMostOne }
+    ensures apart { SpelledHasNoFault }
+    ensures fault { HasAtMostOneFault }
+{}
+
+/// The canonical text of a frame spells it.
+pub fn canonical_text_spells(frame: &Frame)
     ensures { Spells (canon frame.now) frame.now }
 {
     known_bytes(frame.payload.as_slice());
     let _bits = frame.ident.to_bits();
 }
 
-/// What is printed is read again.
-pub fn reread(frame: &Frame) -> Result<Frame, LineError>
+/// What is printed is read back: the answer is the frame itself.
+pub fn printed_reads_back(frame: &Frame) -> Result<Frame, LineError>
     ensures { result ≡ Ok frame.now }
 {
-    printed_spells(frame);
+    canonical_text_spells(frame);
     let text = print_frame(frame);
     read_frame(text.as_slice())
 }
-
-/// A line spells one frame, and none where it is refused.
-pub fn one_reading()
-    ensures same { (line : List ℕ) (f g : Frame) → Spells line f → Spells line g → f ≡ g }
-    ensures apart { (line : List ℕ) (f : Frame) (e : LineError) → Spells line f → HasLineFault line e → ⊥ }
-{}

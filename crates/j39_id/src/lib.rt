@@ -17,7 +17,7 @@ pub use address::Address;
 pub use frame::Frame;
 pub use ident::Ident;
 pub use label::Label;
-pub use laws::{one_reading, printed_spells, reread};
+pub use laws::{canonical_text_spells, one_reading, printed_reads_back};
 pub use line_error::LineError;
 pub use name::Name;
 pub use name_fields::{NameError, NameField, NameFields};

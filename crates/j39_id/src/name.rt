@@ -1,12 +1,14 @@
 //! The 64-bit NAME of a unit.
-ghost use Rattle.std.specs.Prelude.{◌≡◌, ℕ, ◌+◌, ◌*◌, ◌/◌, ◌%◌, ◌^◌, ◌<◌, ◌≤◌, ◌↔◌, Some, None, Err, IsTrue, IsOk, IfOk, IfErr, MatchResult};
+ghost use Rattle.std.specs.Prelude.{◌≡◌, ℕ, ◌^◌, ◌<◌, ◌↔◌, IsTrue, IfOk, IfErr};
 ghost use Rattle.std.specs.Int.{w64, to_le_bytes, from_le_bytes};
 
 use crate::name_fields::first_out_of_range;
 use crate::{NameError, NameField, NameFields};
 use std::marker::Model;
 
-/// A NAME, ordered by its number.
+/// A NAME (SAE J1939-81): 64 bits that tell one unit from every other, ordered by their number.
+///
+/// The unit with the smaller NAME keeps an address that two of them claim. Every 64-bit number is a NAME.
 #[derive(Clone, Copy, Debug, Default, PartialEq, Eq, PartialOrd, Ord)]
 pub struct Name {
     number: u64,
@@ -23,10 +25,10 @@ impl Model for Name {
 }
 
 impl Name {
-    ghost use Rattle.j39_id.specs.Name.{name_number, first_out, fields_of};
+    ghost use Rattle.j39_id.specs.Name.{name_number, first_out, bits_of, fields_of};
     ghost use Rattle.j39_id.specs.declared.name_fields.NameError.TheVariants.{FieldRange};
 
-    /// The NAME of these fields.
+    /// The NAME of these fields, or the first of them, from the lowest bit up, that is out of its range.
     pub fn from_fields(fields: NameFields) -> Result<Self, NameError>
         ensures ok { IfOk result (λ n. (first_out fields ≡ None) × (n ≡ name_number fields)) }
         ensures refused { IfErr result (λ e. (f : NameField) × (e ≡ FieldRange f) × (first_out fields ≡ Some f)) }
@@ -46,11 +48,14 @@ impl Name {
         })
     }
 
-    /// The fields of the NAME.
+    /// The ten fields, each in its range.
     pub fn fields(self) -> NameFields
         ensures fields { result ≡ fields_of self }
         ensures number { name_number result ≡ self }
         ensures range { first_out result ≡ None }
+
+        // Only these fields have this number.
+        ensures only { (f : NameFields) → first_out f ≡ None → name_number f ≡ self → result ≡ f }
     {
         let number = self.number;
         NameFields {
@@ -67,12 +72,14 @@ impl Name {
         }
     }
 
+    /// The NAME with this number.
     pub fn from_bits(number: u64) -> Self
         ensures { result ≡ number }
     {
         Name { number }
     }
 
+    /// The number, by which NAMEs are compared.
     pub fn to_bits(self) -> u64
         ensures value { result ≡ self }
         ensures range { self < 2 ^ 64 }
@@ -80,12 +87,14 @@ impl Name {
         self.number
     }
 
+    /// The eight bytes that are sent, the least significant first.
     pub fn to_bytes(self) -> [u8; 8]
         ensures { result ≡ to_le_bytes w64 self }
     {
         self.number.to_le_bytes()
     }
 
+    /// The NAME that was sent in eight bytes, the least significant first.
     pub fn from_bytes(bytes: [u8; 8]) -> Self
         ensures { result ≡ from_le_bytes w64 bytes }
     {
@@ -94,9 +103,9 @@ impl Name {
         }
     }
 
-    /// Whether the unit may choose another address.
+    /// Whether the unit is arbitrary address capable: it may choose another address.
     pub fn is_arbitrary(self) -> bool
-        ensures { IsTrue result ↔ (self / 2 ^ 63 % 2 ≡ 1) }
+        ensures { IsTrue result ↔ (bits_of self 63 1 ≡ 1) }
     {
         self.number >> 63 == 1
     }

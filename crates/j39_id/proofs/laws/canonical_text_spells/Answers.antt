@@ -1,7 +1,7 @@
 use Rattle.j39_id.specs.Ident.{bits}
 use Rattle.std.proofs.Common.{arith}
 use Rattle.j39_id.proofs.LineLaws.{canon_spells}
-use Rattle.j39_id.proofs.laws.printed_spells.Goals as goal
+use Rattle.j39_id.proofs.laws.canonical_text_spells.Goals as goal
 
 pub returns : goal.returns
 returns c =
