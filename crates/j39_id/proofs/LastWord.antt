@@ -69,8 +69,8 @@ word_between line word w =
     let x : List ℕ = w.front in
     let size : length x + length word - length x ≡ length word = omega arith in
     sym (
-        ap (λ (n : ℕ). take n (drop (length x) line)) size
-        ∙ ap (λ (xs : List ℕ). take (length word) (drop (length x) xs)) w.row
-        ∙ ap (take (length word)) (drop_at x (word ++ w.back) (length x) refl)
-        ∙ take_at word w.back (length word) refl
+    ap (λ (n : ℕ). take n (drop (length x) line)) size
+    ∙ ap (λ (xs : List ℕ). take (length word) (drop (length x) xs)) w.row
+    ∙ ap (take (length word)) (drop_at x (word ++ w.back) (length x) refl)
+    ∙ take_at word w.back (length word) refl
     )

@@ -3,7 +3,7 @@ ghost use Rattle.std.specs.Prelude.{◌≡◌, ℕ, ◌<◌, ◌↔◌, IsSome, 
 
 use std::marker::Model;
 
-/// An address that a unit can hold: 0 to 253.
+/// An address that a unit can hold (SAE J1939-81): 0 to 253. 254 is the null address, 255 the global one.
 #[derive(Clone, Copy, Debug, Default, PartialEq, Eq, PartialOrd, Ord)]
 pub struct Address {
     number: u8,
@@ -20,6 +20,7 @@ impl Model for Address {
 }
 
 impl Address {
+    /// The address, or `None` for 254 and 255.
     pub fn new(number: u8) -> Option<Self>
         ensures valid { IsSome result ↔ (number < 254) }
         ensures value { IfSome result (λ a. a ≡ number) }
@@ -31,6 +32,7 @@ impl Address {
         }
     }
 
+    /// The number, 0 to 253.
     pub fn number(self) -> u8
         ensures value { result ≡ self }
         ensures range { self < 254 }

@@ -2,7 +2,7 @@
 use crate::Ident;
 use arrayvec::ArrayVec;
 
-/// An identifier and at most eight bytes.
+/// A CAN data frame with a 29-bit identifier: the identifier and at most eight bytes.
 #[derive(Clone, Debug, PartialEq, Eq, Drop)]
 pub struct Frame {
     pub ident: Ident,

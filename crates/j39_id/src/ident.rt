@@ -3,7 +3,10 @@ ghost use Rattle.std.specs.Prelude.{◌≡◌, ◌+◌, ◌*◌, ◌^◌, ◌<�
 
 use crate::Pgn;
 
-/// A 29-bit identifier by its parts.
+/// The 29-bit identifier of a frame (SAE J1939-21), by its parts.
+///
+/// `priority` has 3 bits, `edp` (extended data page) and `dp` (data page) one each, and `pf` (PDU format), `ps` (PDU
+/// specific) and `sa` (source address) eight each, from the highest bit down.
 #[derive(Clone, Copy, Debug, PartialEq, Eq)]
 pub struct Ident {
     pub priority: u8,
@@ -23,7 +26,7 @@ pub struct Ident {
 impl Ident {
     ghost use Rattle.j39_id.specs.Ident.{bits, pgn_of};
 
-    /// The identifier that a number stands for.
+    /// The identifier with this number, or `None` from 2^29 on.
     pub fn from_bits(number: u32) -> Option<Self>
         ensures valid { IsSome result ↔ (number < 2 ^ 29) }
         ensures value { IfSome result (λ i. bits i ≡ number) }
@@ -53,7 +56,7 @@ impl Ident {
         }
     }
 
-    /// The number that the identifier is sent as.
+    /// The number that is sent, below 2^29.
     pub fn to_bits(self) -> u32
         ensures value { result ≡ bits self }
         ensures range { result < 2 ^ 29 }
@@ -62,7 +65,7 @@ impl Ident {
         ((page << 8 | u32::from(self.pf)) << 8 | u32::from(self.ps)) << 8 | u32::from(self.sa)
     }
 
-    /// The group that the frame belongs to.
+    /// The group of the frame. Its number leaves out the PS of a PDU1 frame.
     pub fn pgn(self) -> Pgn
         ensures { result ≡ pgn_of self }
     {
@@ -73,7 +76,7 @@ impl Ident {
         }
     }
 
-    /// The one address that the frame goes to, or `None` for a group to all.
+    /// The destination in the PS of a PDU1 frame, 255 for all, or `None` for PDU2: the group goes to all.
     pub fn destination(self) -> Option<u8>
         ensures one { self.pf < 240 → result ≡ Some self.ps }
         ensures all { 240 ≤ self.pf → result ≡ None }

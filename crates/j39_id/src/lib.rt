@@ -24,3 +24,6 @@ pub use name_fields::{NameError, NameField, NameFields};
 pub use pgn::Pgn;
 pub use printing::print_frame;
 pub use reading::read_frame;
+
+#[cfg(test)]
+mod tests;

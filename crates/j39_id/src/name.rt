@@ -91,7 +91,7 @@ impl Name {
     pub fn to_bytes(self) -> [u8; 8]
         ensures { result ≡ to_le_bytes w64 self }
     {
-        self.number.to_le_bytes()
+        self.to_bits().to_le_bytes()
     }
 
     /// The NAME that was sent in eight bytes, the least significant first.
@@ -107,6 +107,6 @@ impl Name {
     pub fn is_arbitrary(self) -> bool
         ensures { IsTrue result ↔ (bits_of self 63 1 ≡ 1) }
     {
-        self.number >> 63 == 1
+        self.to_bits() >> 63 == 1
     }
 }

@@ -4,7 +4,10 @@ ghost use Rattle.j39_id.specs.Name.{first_out};
 
 use thiserror::Error;
 
-/// The fields of a NAME, from the lowest bit up.
+/// The fields of a NAME (SAE J1939-81), from the lowest bit up.
+///
+/// `identity` has 21 bits, `manufacturer` 11, `ecu` 3, `function_instance` 5, `function` 8, `reserved` 1, `system` 7,
+/// `system_instance` 4, `industry` 3 and `arbitrary` 1. A value above that range makes no NAME.
 #[derive(Clone, Copy, Debug, PartialEq, Eq)]
 pub struct NameFields {
     pub identity: u32,

@@ -3,7 +3,10 @@ ghost use Rattle.std.specs.Prelude.{◌≡◌, ℕ, ◌<◌, ◌↔◌, IsTrue, 
 
 use std::marker::Model;
 
-/// A parameter group number: 18 bits, the lowest 8 of them 0 for a group to one.
+/// A parameter group number (SAE J1939-21): EDP, DP, PF and, for a PF of 240 and above, PS.
+///
+/// A number of 18 bits. Where the PF is below 240 (PDU1) the frame names its destination in place of a group
+/// extension, and the low byte is 0.
 #[derive(Clone, Copy, Debug, PartialEq, Eq, PartialOrd, Ord)]
 pub struct Pgn {
     pub(crate) number: u32,
@@ -25,6 +28,7 @@ impl Model for Pgn {
 impl Pgn {
     ghost use Rattle.j39_id.specs.Pgn.{IsGroup, pf_of};
 
+    /// The group number, or `None` from 2^18 on and for a PDU1 number whose low byte is not 0.
     pub fn new(number: u32) -> Option<Self>
         ensures valid { IsSome result ↔ IsGroup number }
         ensures value { IfSome result (λ p. p ≡ number) }
@@ -36,6 +40,7 @@ impl Pgn {
         }
     }
 
+    /// The number, below 2^18.
     pub fn number(self) -> u32
         ensures value { result ≡ self }
         ensures range { IsGroup self }
@@ -43,7 +48,7 @@ impl Pgn {
         self.number
     }
 
-    /// Whether the group's frames name one destination.
+    /// Whether the group's frames name a destination: the PF is below 240.
     pub fn is_pdu1(self) -> bool
         ensures { IsTrue result ↔ (pf_of self < 240) }
     {

@@ -21,7 +21,7 @@ fn push_hex(text: &mut ArrayVec<u8, 25>, bytes: &[u8])
     }
 }
 
-/// The one canonical text of the frame.
+/// The canonical text of the frame: eight hex digits, `#` and two hex digits a byte, in capitals.
 pub fn print_frame(frame: &Frame) -> ArrayVec<u8, 25>
     ensures { result.items ≡ canon frame.now }
 {

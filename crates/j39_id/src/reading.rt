@@ -97,7 +97,10 @@ fn read_word(word: &[u8]) -> Result<Frame, LineError>
     Ok(Frame { ident, payload })
 }
 
-/// The frame that the last word of the line spells.
+/// The frame that the last word of a line spells, as `candump -L` writes it: eight hex digits, `#` and two hex digits a
+/// byte, in either case. Words are parted by spaces, tabs and carriage returns, and those before the last may be any bytes.
+///
+/// A line that spells no frame is refused with the first `LineError` that holds.
 pub fn read_frame(line: &[u8]) -> Result<Frame, LineError>
     ensures found { IfOk result (λ f. Spells line.now f) }
     ensures refused { IfErr result (λ e. HasLineFault line.now e) }
@@ -109,46 +112,4 @@ pub fn read_frame(line: &[u8]) -> Result<Frame, LineError>
         return Err(LineError::Empty);
     };
     read_word(word)
-}
-
-#[cfg(test)]
-mod tests {
-    use super::*;
-    use std::test::Fail;
-
-    #[test]
-    fn reads_and_prints(rt: HostRuntime) -> Result<(), Fail> {
-        for (line, word) in [
-            ("0CF00400#FFFFFFE02EFFFFFF", "0CF00400#FFFFFFE02EFFFFFF"),
-            (
-                "(1.5) can0 18eeff00#0100800c00000010\t\r",
-                "18EEFF00#0100800C00000010",
-            ),
-            ("1FFFFFFF#", "1FFFFFFF#"),
-        ] {
-            let frame = read_frame(line.as_bytes())?;
-            let text = print_frame(&frame);
-            assert_eq!(rt; text.as_slice(), word.as_bytes(), "at {line}");
-        }
-        Ok(())
-    }
-
-    #[test]
-    fn refuses(rt: HostRuntime) {
-        for (line, error) in [
-            ("", LineError::Empty),
-            (" \t\r", LineError::Empty),
-            ("18EEFF00", LineError::NoHash),
-            ("123#00", LineError::ShortIdent),
-            ("20000000#", LineError::BadIdent),
-            ("18EEFF000#", LineError::BadIdent),
-            ("1G3#", LineError::BadIdent),
-            ("18EEFF00#000000000000000000", LineError::TooLong),
-            ("18EEFF00#1", LineError::BadData),
-            ("18EEFF00#0#", LineError::BadData),
-        ] {
-            let answer = read_frame(line.as_bytes());
-            assert_eq!(rt; answer, Err(error), "at {line:?}");
-        }
-    }
 }

@@ -1,0 +1,162 @@
+//! Worked examples of identifiers, NAMEs and frame lines.
+use crate::{
+    Address, Frame, Ident, Label, LineError, Name, NameError, NameField, NameFields, Pgn,
+    canonical_text_spells, one_reading, print_frame, printed_reads_back, read_frame,
+};
+use std::test::Fail;
+
+#[test]
+fn lines_are_read_and_printed_in_capitals(rt: HostRuntime) -> Result<(), Fail> {
+    for (line, word) in [
+        ("0CF00400#FFFFFFE02EFFFFFF", "0CF00400#FFFFFFE02EFFFFFF"),
+        (
+            "(1.5) can0 18eeff00#0100800c00000010",
+            "18EEFF00#0100800C00000010",
+        ),
+        (
+            "(1.5)\tcan0 18eeff00#0100800C00000010 \t\r",
+            "18EEFF00#0100800C00000010",
+        ),
+        ("1FFFFFFF#", "1FFFFFFF#"),
+    ] {
+        let frame = read_frame(line.as_bytes())?;
+        let text = print_frame(&frame);
+        assert_eq!(rt; text.as_slice(), word.as_bytes(), "at {line}");
+    }
+    Ok(())
+}
+
+#[test]
+fn earlier_words_may_be_no_text(rt: HostRuntime) -> Result<(), Fail> {
+    let frame = read_frame(b"\xff\x00# 123 00000001#2A")?;
+    assert_eq!(rt; frame.ident.to_bits(), 1);
+    assert_eq!(rt; frame.payload.as_slice(), [0x2a].as_slice());
+    Ok(())
+}
+
+#[test]
+fn lines_are_refused_by_their_first_fault(rt: HostRuntime) {
+    for (line, error) in [
+        ("", LineError::Empty),
+        (" \t\r", LineError::Empty),
+        ("18EEFF00", LineError::NoHash),
+        ("123#00", LineError::ShortIdent),
+        ("123#zz", LineError::ShortIdent),
+        ("20000000#", LineError::BadIdent),
+        ("18EEFF000#", LineError::BadIdent),
+        ("1G3#", LineError::BadIdent),
+        ("#00", LineError::BadIdent),
+        ("18EEFF00#000000000000000000", LineError::TooLong),
+        ("18EEFF00#1", LineError::BadData),
+        ("18EEFF00#0#", LineError::BadData),
+        ("18EEFF00#00 R", LineError::NoHash),
+    ] {
+        let answer = read_frame(line.as_bytes());
+        assert_eq!(rt; answer, Err(error), "at {line:?}");
+    }
+}
+
+#[test]
+fn a_printed_frame_reads_back(rt: HostRuntime) -> Result<(), Fail> {
+    let frame = read_frame(b"18FEEE00#7D")?;
+    one_reading();
+    canonical_text_spells(&frame);
+    let back: Frame = printed_reads_back(&frame)?;
+    assert_eq!(rt; back, frame);
+    Ok(())
+}
+
+#[test]
+fn an_identifier_has_its_parts(rt: HostRuntime) -> Result<(), Fail> {
+    let ident = Ident::from_bits(0x0CF0_0400).ok_or("29 bits")?;
+    assert_eq!(rt; (ident.priority, ident.edp, ident.dp), (3, 0, 0));
+    assert_eq!(rt; (ident.pf, ident.ps, ident.sa), (240, 4, 0));
+    assert_eq!(rt; ident.to_bits(), 0x0CF0_0400);
+    assert_eq!(rt; ident.pgn().number(), 61444);
+    assert_eq!(rt; ident.destination(), None);
+    let request = Ident::from_bits(0x18EA_FF00).ok_or("29 bits")?;
+    assert_eq!(rt; request.pgn().number(), 59904);
+    assert_eq!(rt; request.destination(), Some(255));
+    assert_eq!(rt; Ident::from_bits(0x2000_0000), None);
+    Ok(())
+}
+
+#[test]
+fn group_numbers_of_pdu1_end_in_0(rt: HostRuntime) -> Result<(), Fail> {
+    let request = Pgn::new(59904).ok_or("a PDU1 group")?;
+    assert!(rt; request.is_pdu1());
+    let engine = Pgn::new(61444).ok_or("a PDU2 group")?;
+    assert!(rt; !engine.is_pdu1());
+    assert_eq!(rt; engine.number(), 61444);
+    assert_eq!(rt; Pgn::new(60929), None, "PF 238 and low byte 1");
+    assert_eq!(rt; Pgn::new(262_144), None);
+    Ok(())
+}
+
+#[test]
+fn units_hold_0_to_253(rt: HostRuntime) -> Result<(), Fail> {
+    let highest = Address::new(253).ok_or("an address")?;
+    assert_eq!(rt; highest.number(), 253);
+    assert_eq!(rt; Address::new(254), None);
+    assert_eq!(rt; Address::new(255), None);
+    Ok(())
+}
+
+// The NAME of identity 1, manufacturer 100 and industry group 1.
+const TRACTOR: NameFields = NameFields {
+    identity: 1,
+    manufacturer: 100,
+    ecu: 0,
+    function_instance: 0,
+    function: 0,
+    reserved: 0,
+    system: 0,
+    system_instance: 0,
+    industry: 1,
+    arbitrary: 0,
+};
+
+#[test]
+fn a_name_is_its_fields(rt: HostRuntime) -> Result<(), Fail> {
+    let name = Name::from_fields(TRACTOR)?;
+    assert_eq!(rt; name.to_bits(), 0x1000_0000_0C80_0001);
+    assert_eq!(rt;
+        name.to_bytes(),
+        [0x01, 0x00, 0x80, 0x0C, 0x00, 0x00, 0x00, 0x10]
+    );
+    assert_eq!(rt; Name::from_bytes(name.to_bytes()), name);
+    assert_eq!(rt; Name::from_bits(0x1000_0000_0C80_0001).fields(), TRACTOR);
+    assert!(rt; !name.is_arbitrary());
+    assert!(rt; Name::from_bits(1 << 63).is_arbitrary());
+    assert!(rt; Name::from_bits(1) < Name::from_bits(1 << 63));
+    Ok(())
+}
+
+#[test]
+fn a_field_out_of_range_is_named(rt: HostRuntime) {
+    let wide = NameFields {
+        manufacturer: 2048,
+        ecu: 8,
+        ..TRACTOR
+    };
+    assert_eq!(rt;
+        Name::from_fields(wide),
+        Err(NameError::FieldRange(NameField::Manufacturer))
+    );
+    let last = NameFields {
+        arbitrary: 2,
+        ..TRACTOR
+    };
+    assert_eq!(rt;
+        Name::from_fields(last),
+        Err(NameError::FieldRange(NameField::Arbitrary))
+    );
+}
+
+#[test]
+fn labels_hold_32_bytes(rt: HostRuntime) -> Result<(), Fail> {
+    let label = Label::from("a_label_of_32_ASCII_letters_wide")?;
+    assert_eq!(rt; label.len(), 32);
+    assert!(rt; Label::from("a_label_of_33_ASCII_letters_wider").is_err());
+    Ok(())
+}
