@@ -1,14 +1,13 @@
 -- Laws of frame lines: a line spells at most one frame, none that is refused does, and the canonical text spells its frame.
-use Rattle.std.proofs.Common.{slice_index, slice_range, ◌≡◌, ℕ, zero, suc, ◌+◌, ◌-◌, ◌<◌, ◌≤◌, ◌^◌, ◌==◌, ◌||◌, true, false, List, [], ◌∷◌, ◌++◌, length, take, drop, get_or, Option, Some, None, Result, Ok, Err, subst, refl, sym, ap, ◌∙◌, inl, inr, ◌⊎◌, arith}
+use Rattle.std.proofs.Common.{slice_range, ◌≡◌, ℕ, zero, suc, ◌+◌, ◌-◌, ◌<◌, ◌≤◌, ◌^◌, ◌==◌, ◌||◌, true, false, List, [], ◌∷◌, ◌++◌, length, take, drop, get_or, Option, Some, Result, Ok, Err, subst, refl, sym, ap, ◌∙◌, inl, inr, ◌⊎◌, arith}
 use Rattle.std.specs.List.{AllPass, All, position, position_or_len}
 use Rattle.std.specs.Int.{w32, to_be_bytes, from_be_bytes}
 use Rattle.std.specs.Prelude.{nat_lt, IfOk, IfErr, IsErr}
 use Rattle.std.specs.Option.{unwrap_or}
 use Rattle.std.specs.Result.{result_unwrap_or}
-use Rattle.std.proofs.lemmas.Bool.{cases_order, both_ways, true≢false, or_cases, eqb-true, false_from_ne_true, lt-ltb, le-ltb, ne_eqb}
-use Rattle.std.proofs.lemmas.List.{length-append, get_or_append_left, get_or_at, take_all, take_at, drop_at, drop-drop, append-nil}
-use Rattle.std.proofs.lemmas.List.Elements.{All-append, All-cons, All-weaker, AllWithin-from_all, AllWithin-none}
-use Rattle.std.proofs.lemmas.Slice.{between_from_start}
+use Rattle.std.proofs.lemmas.Bool.{cases_order, both_ways, true≢false, or_cases, eqb-true, false_from_ne_true, lt-ltb}
+use Rattle.std.proofs.lemmas.List.{length-append, get_or_append_left, get_or_at, take_at, drop_at, drop-drop, append-nil}
+use Rattle.std.proofs.lemmas.List.Elements.{All-append, All-cons, All-weaker}
 use Rattle.std.proofs.lemmas.Nat.{from_be_bytes-to_be_bytes_4}
 use Rattle.std.proofs.lemmas.List.Sums.{position_or_len_is}
 use Rattle.hex.specs.Hex.{decode_of, decode_sized, encode_upper, upper_digits, is_hex_digit, IsBytes}
