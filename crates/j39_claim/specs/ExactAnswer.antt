@@ -1,5 +1,5 @@
 -- What a unit says and is where its new address is picked by a given chooser.
-use Rattle.std.specs.Prelude.{ℕ, ◌<◌, ◌&&◌, nat_lt, Option, Some, None, if◌then◌else◌}
+use Rattle.std.specs.Prelude.{ℕ, ◌<◌, ◌&&◌, nat_lt, Option, Some, None, IfSome, if◌then◌else◌}
 use Rattle.std.specs.Ordering.{nat_cmp}
 use Rattle.std.specs.FinMap.{FinMap, insert, remove, values}
 use Rattle.std.specs.FinSet.{FinSet, from_list}
@@ -22,15 +22,19 @@ abbrev pub noted_addresses : FinMap nat_cmp ℕ → FinSet nat_cmp
 noted_addresses notes = from_list (values notes)
 
 -- where a unit moves that loses an address
-abbrev pub moved_to : Pick → Claimant → ℕ → FinSet nat_cmp → Option ℕ
-moved_to pick c lost taken =
-    if is_arbitrary c.name && nat_lt 0 (free_count taken) then Some (pick c.name lost taken) else None
+abbrev pub moved_to : Pick → ℕ → ℕ → FinSet nat_cmp → Option ℕ
+moved_to pick name lost taken =
+    if is_arbitrary name && nat_lt 0 (free_count taken) then Some (pick name lost taken) else None
+
+-- where it moves, if it does, is free
+abbrev pub IsFreeMove : Pick → ℕ → ℕ → FinSet nat_cmp → Type 0
+IsFreeMove pick name lost taken = IfSome (moved_to pick name lost taken) (IsFreeIn taken)
 
 -- the address that a unit holds once n has claimed a, which it then notes
 abbrev pub address_after : Pick → Claimant → Station → ℕ → ℕ → Option ℕ
 address_after pick c s n a =
     if is_address s.address a && nat_lt n c.name
-    then moved_to pick c a (noted_addresses (insert s.notes n a))
+    then moved_to pick c.name a (noted_addresses (insert s.notes n a))
     else s.address
 
 -- it answers where it held that address

@@ -1,5 +1,6 @@
 pub mod Pool
 pub mod AddressSets
+pub mod Flags
 pub mod ClaimRule
 pub mod Claiming
 pub mod ExactAnswer
