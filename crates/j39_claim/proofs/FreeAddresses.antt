@@ -1,0 +1,76 @@
+-- What a search of the pool finds.
+use Rattle.std.proofs.Common.{◌≡◌, ℕ, zero, suc, ◌+◌, ◌<◌, ◌≤◌, Bool, true, false, cond, not, ◌&&◌, leb, ltb, refl, sym, ap, ◌∙◌, arith, inl, inr, Option, Some, None}
+use Rattle.std.proofs.lemmas.Bool.{true≢false, cases_eq, and_from, and_parts, le-leb, leb-true, not-true}
+use Rattle.std.proofs.lemmas.List.Sums.{sum_by-cons}
+use Rattle.std.specs.Option.{unwrap_or}
+use Rattle.std.specs.List.{find, count_by, range_with_len}
+use Rattle.std.specs.Ordering.{nat_cmp}
+use Rattle.std.specs.FinSet.{FinSet, contains}
+use Rattle.j39_claim.specs.AddressSets.{IsFreeIn, is_free, free_count, lowest_free, free_above, next_free, first_of_two}
+use Rattle.j39_claim.specs.Pool.{in_pool}
+
+-- b is one of the n numbers from k on, and passes
+abbrev Passes : (ℕ → Bool) → ℕ → ℕ → ℕ → Type 0
+Passes p k n b = (k ≤ b) × (b < k + n) × (p b ≡ true)
+
+found : (p : ℕ → Bool) (k n b : ℕ) → find p (range_with_len k n) ≡ Some b → Passes p k n b
+found p k zero b is = absurd (cc)
+found p k (suc n) b is =
+    elim (p k) as (λ e. p k ≡ e → cond e (Some k) (find p (range_with_len (k + 1) n)) ≡ Some b → Passes p k (suc n) b) [
+      | true ↦ λ passes e. let same : k ≡ b = cc in (omega arith, omega arith, ap p (sym same) ∙ passes)
+      | false ↦ λ _ e. let later = found p (k + 1) n b e in (omega arith, omega arith, later.2)
+    ] refl is
+
+count_more : (p : ℕ → Bool) (k n : ℕ) → count_by p (range_with_len k (suc n)) ≡ cond (p k) 1 0 + count_by p (range_with_len (k + 1) n)
+count_more p k n = sum_by-cons (λ x. cond (p x) 1 0) k (range_with_len (k + 1) n)
+
+one_found : (p : ℕ → Bool) (k n : ℕ) → 0 < count_by p (range_with_len k n) → (b : ℕ) × (find p (range_with_len k n) ≡ Some b)
+one_found p k zero some = absurd (omega arith)
+one_found p k (suc n) some =
+    elim (p k) as (λ e. count_by p (range_with_len k (suc n)) ≡ cond e 1 0 + count_by p (range_with_len (k + 1) n) → (b : ℕ) × (cond e (Some k) (find p (range_with_len (k + 1) n)) ≡ Some b)) [
+      | true ↦ λ _. (k, refl)
+      | false ↦ λ more. one_found p (k + 1) n (omega arith)
+    ] (count_more p k n)
+
+pooled : (b : ℕ) → 128 ≤ b → b < 128 + 120 → in_pool b ≡ true
+pooled b low high = and_from (leb 128 b) (leb b 247) (le-leb 128 b low) (le-leb b 247 (omega arith))
+
+pub lowest_free_in : (taken : FinSet nat_cmp) → 0 < free_count taken → IsFreeIn taken (unwrap_or (lowest_free taken) 128)
+unfolding free_count lowest_free
+lowest_free_in taken some =
+    let (b, is) = one_found (is_free taken) 128 120 some in
+    let (low, high, free) = found (is_free taken) 128 120 b is in
+    rw is (record { pool = pooled b low high; free = not-true (contains taken b) free })
+
+pub next_free_in : (before : ℕ) (taken : FinSet nat_cmp) → 0 < free_count taken → IsFreeIn taken (unwrap_or (next_free before taken) 128)
+unfolding free_above
+next_free_in before taken some = by (free_above before taken) refl
+  where
+    by : (o : Option ℕ) → free_above before taken ≡ o → IsFreeIn taken (unwrap_or (first_of_two o (lowest_free taken)) 128)
+    by None is = lowest_free_in taken some
+    by (Some b) is =
+        let (low, high, passes) = found (λ q. ltb before q && is_free taken q) 128 120 b is in
+        let free = (and_parts (ltb before b) (is_free taken b) passes).1 in
+        record { pool = pooled b low high; free = not-true (contains taken b) free }
+
+-- where none is free, each address of the pool is taken
+pub none_free : (taken : FinSet nat_cmp) → free_count taken ≡ 0 → (b : ℕ) → in_pool b ≡ true → contains taken b ≡ true
+unfolding free_count
+none_free taken none b pooled_b =
+    let parts = and_parts (leb 128 b) (leb b 247) pooled_b in
+    taken_if (contains taken b) (go 128 120 none (leb-true 128 b parts.0) (omega (arith, leb-true b 247 parts.1)))
+  where
+    taken_if : (x : Bool) → not x ≡ false → x ≡ true
+    taken_if true e = refl
+    taken_if false e = absurd (true≢false e)
+
+    go : (k n : ℕ) → count_by (is_free taken) (range_with_len k n) ≡ 0 → k ≤ b → b < k + n → is_free taken b ≡ false
+    go k zero e low high = absurd (omega arith)
+    go k (suc n) e low high =
+        elim (is_free taken k) as (λ t. is_free taken k ≡ t → count_by (is_free taken) (range_with_len k (suc n)) ≡ cond t 1 0 + count_by (is_free taken) (range_with_len (k + 1) n) → is_free taken b ≡ false) [
+          | true ↦ λ _ h. absurd (omega arith)
+          | false ↦ λ here h. elim (cases_eq k b) [
+            | inl same ↦ ap (is_free taken) (sym same) ∙ here
+            | inr other ↦ go (k + 1) n (omega arith) (omega arith) (omega arith)
+          ]
+        ] refl (count_more (is_free taken) k n)

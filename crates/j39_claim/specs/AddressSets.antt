@@ -1,0 +1,38 @@
+-- What a set of addresses leaves free of the pool.
+use Rattle.std.specs.Prelude.{◌≡◌, ℕ, Bool, true, false, not, ◌&&◌, nat_lt, List, Option, Some, None, find, count_by}
+use Rattle.std.specs.List.{range_with_len}
+use Rattle.std.specs.Ordering.{nat_cmp}
+use Rattle.std.specs.FinSet.{FinSet, contains}
+use Rattle.j39_claim.specs.Pool.{in_pool}
+
+-- an address of the pool that is not taken
+pub record IsFreeIn (taken : FinSet nat_cmp) (b : ℕ) : Type 0 where
+  pub pool : in_pool b ≡ true
+  pub free : contains taken b ≡ false
+
+-- 128 to 247, rising
+abbrev pub pool : List ℕ
+pool = range_with_len 128 120
+
+abbrev pub is_free : FinSet nat_cmp → ℕ → Bool
+is_free taken b = not (contains taken b)
+
+-- how many addresses of the pool are free
+unfoldable pub free_count : FinSet nat_cmp → ℕ
+free_count taken = count_by (is_free taken) pool
+
+-- the least of them
+unfoldable pub lowest_free : FinSet nat_cmp → Option ℕ
+lowest_free taken = find (is_free taken) pool
+
+-- the least of them above an address
+unfoldable pub free_above : ℕ → FinSet nat_cmp → Option ℕ
+free_above before taken = find (λ b. nat_lt before b && is_free taken b) pool
+
+abbrev pub first_of_two : Option ℕ → Option ℕ → Option ℕ
+first_of_two (Some b) next = Some b
+first_of_two None next = next
+
+-- the first one after an address, counted upwards and from 247 round to 128
+abbrev pub next_free : ℕ → FinSet nat_cmp → Option ℕ
+next_free before taken = first_of_two (free_above before taken) (lowest_free taken)

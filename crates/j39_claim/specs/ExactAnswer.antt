@@ -1,0 +1,48 @@
+-- What a unit says and is where its new address is picked by a given chooser.
+use Rattle.std.specs.Prelude.{ℕ, ◌<◌, ◌&&◌, nat_lt, Option, Some, None, IfSome, if◌then◌else◌}
+use Rattle.std.specs.Ordering.{nat_cmp}
+use Rattle.std.specs.FinMap.{FinMap, insert, remove, values}
+use Rattle.std.specs.FinSet.{FinSet, from_list}
+use Rattle.j39_claim.specs.declared.item.Say.{Say}
+use Rattle.j39_claim.specs.declared.item.Say.TheVariants.{Claim, Cannot}
+use Rattle.j39_claim.specs.Pool.{is_arbitrary}
+use Rattle.j39_claim.specs.AddressSets.{free_count, IsFreeIn}
+use Rattle.j39_claim.specs.ClaimRule.{Claimant, Station, claim_of, is_address}
+
+-- the address that is picked for a NAME that loses an address, where these are taken
+abbrev pub Pick : Type 0
+Pick = ℕ → ℕ → FinSet nat_cmp → ℕ
+
+-- it picks a free address of the pool wherever there is one
+abbrev pub IsLawful : Pick → Type 0
+IsLawful pick = (name lost : ℕ) (taken : FinSet nat_cmp) → 0 < free_count taken → IsFreeIn taken (pick name lost taken)
+
+-- all addresses that are noted
+abbrev pub noted_addresses : FinMap nat_cmp ℕ → FinSet nat_cmp
+noted_addresses notes = from_list (values notes)
+
+-- where a unit moves that loses an address
+abbrev pub moved_to : Pick → ℕ → ℕ → FinSet nat_cmp → Option ℕ
+moved_to pick name lost taken =
+    if is_arbitrary name && nat_lt 0 (free_count taken) then Some (pick name lost taken) else None
+
+-- where it moves, if it does, is free
+abbrev pub IsFreeMove : Pick → ℕ → ℕ → FinSet nat_cmp → Type 0
+IsFreeMove pick name lost taken = IfSome (moved_to pick name lost taken) (IsFreeIn taken)
+
+-- the address that a unit holds once n has claimed a, which it then notes
+abbrev pub address_after : Pick → Claimant → Station → ℕ → ℕ → Option ℕ
+address_after pick c s n a =
+    if is_address s.address a && nat_lt n c.name
+    then moved_to pick c.name a (noted_addresses (insert s.notes n a))
+    else s.address
+
+-- it answers where it held that address
+abbrev pub said_after : Pick → Claimant → Station → ℕ → Say → Option Say
+said_after pick c s n (Claim a) = if is_address s.address a then Some (claim_of (address_after pick c s n a)) else None
+said_after pick c s n Cannot = None
+
+abbrev pub station_after : Pick → Claimant → Station → ℕ → Say → Station
+station_after pick c s n (Claim a) =
+    record { on = s.on; address = address_after pick c s n a; notes = insert s.notes n a }
+station_after pick c s n Cannot = record s { notes = remove s.notes n }

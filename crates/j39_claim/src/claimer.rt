@@ -1,0 +1,143 @@
+//! A unit that claims an address.
+ghost use Rattle.std.specs.Prelude.{◌≡◌, true, false, Some, None, IfSome};
+ghost use Rattle.std.specs.FinMap as map;
+ghost use Rattle.j39_claim.specs.AddressSets.{IsFreeIn};
+ghost use Rattle.j39_claim.specs.ClaimRule.{Hears, started, off, claim_of, say_of};
+ghost use Rattle.j39_claim.specs.Claiming.{can_note};
+ghost use Rattle.j39_claim.specs.ExactAnswer.{said_after, station_after, moved_to, noted_addresses, IsFreeMove};
+
+use crate::notes::Notes;
+use crate::{Choose, Say};
+use j39_id::{Address, Name};
+use std::marker::Model;
+
+/// A unit that claims an address under a NAME (SAE J1939-81, address claim procedures).
+#[derive(Drop)]
+pub struct Claimer {
+    name: Name,
+    preferred: Address,
+    started: bool,
+    address: Option<Address>,
+    notes: Notes,
+}
+
+impl Model for Claimer {
+    ghost use Rattle.std.specs.Prelude.{◌≡◌, false, None};
+    ghost use Rattle.j39_claim.specs.Claiming.{Claiming, coded_claiming};
+
+    ghost Value = { Claiming };
+
+    ghost coded = { coded_claiming };
+
+    ghost view = { λ a. record { claimant = record { name = a.name; preferred = a.preferred }; station = record { on = a.started; address = a.address; notes = a.notes } } };
+
+    ghost invariant = { λ a. a.started ≡ false → a.address ≡ None };
+}
+
+impl Claimer {
+    /// A unit that is not started. It holds no address and has no notes.
+    pub fn new(name: Name, preferred: Address) -> Self
+        ensures { result ≡ record { claimant = record { name = name; preferred = preferred }; station = off } }
+    {
+        Claimer {
+            name,
+            preferred,
+            started: false,
+            address: None,
+            notes: Notes::new(),
+        }
+    }
+
+    /// Begins anew, with no notes and the preferred address, and claims it.
+    pub fn start(&mut self) -> Say
+        ensures said { result ≡ Say.Claim self.old.claimant.preferred }
+        ensures started { self.new ≡ record self.old { station = started self.old.claimant } }
+    {
+        self.started = true;
+        self.address = Some(self.preferred);
+        self.notes = Notes::new();
+        Say::Claim(self.preferred)
+    }
+
+    pub fn name(&self) -> Name
+        ensures { result ≡ self.now.claimant.name }
+    {
+        self.name
+    }
+
+    pub fn is_started(&self) -> bool
+        ensures { result ≡ self.now.station.on }
+    {
+        self.started
+    }
+
+    /// The address that it holds. A unit that is not started holds none.
+    pub fn address(&self) -> Option<Address>
+        ensures address { result ≡ self.now.station.address }
+        ensures unstarted { self.now.station.on ≡ false → result ≡ None }
+    {
+        self.address
+    }
+
+    /// Whether it can note what it hears of the NAME: it has noted it already, or fewer than 128 NAMEs.
+    pub fn can_note(&self, name: Name) -> bool
+        ensures { result ≡ can_note self.now.station.notes name }
+    {
+        self.notes.can_note(name)
+    }
+
+    /// What it answers to a request for Address Claimed: Claim of its address, or Cannot where it holds none.
+    pub fn hear_request(&self) -> Say
+        ensures { result ≡ claim_of self.now.station.address }
+    {
+        claim_of(self.address)
+    }
+
+    /// What it answers to Address Claimed of this address under the NAME. A number above 253 is Cannot Claim.
+    /// The smaller NAME keeps an address, and an arbitrary unit that loses its own moves to what the chooser picks.
+    pub fn hear_claim(&mut self, name: Name, address: u8, chooser: &dyn Choose) -> Option<Say>
+        requires { can_note self.old.station.notes name ≡ true }
+        ensures said { result ≡ said_after (pick chooser.now) self.old.claimant self.old.station name (say_of address) }
+        ensures left { self.new ≡ record self.old { station = station_after (pick chooser.now) self.old.claimant self.old.station name (say_of address) } }
+        ensures rule { Hears self.old.claimant self.old.station name (say_of address) result self.new.station }
+    {
+        let claimed = match Address::new(address) {
+            Some(claimed) => claimed,
+            None => {
+                self.notes.forget(name);
+                return None;
+            }
+        };
+        self.notes.note(name, claimed);
+        if self.address != Some(claimed) {
+            return None;
+        }
+        if name < self.name {
+            self.address = moved_to(self.name, claimed, &self.notes, chooser);
+        }
+        Some(claim_of(self.address))
+    }
+}
+
+/// Claim of the address that is held, or Cannot.
+fn claim_of(address: Option<Address>) -> Say
+    ensures { result ≡ claim_of address }
+{
+    match address {
+        Some(address) => Say::Claim(address),
+        None => Say::Cannot,
+    }
+}
+
+/// Where a unit moves that loses an address: a fixed one holds none from then on, nor does one with no free address left.
+fn moved_to(name: Name, lost: Address, notes: &Notes, chooser: &dyn Choose) -> Option<Address>
+    ensures place { result ≡ moved_to (pick chooser.now) name lost (noted_addresses notes.now) }
+    ensures free { IsFreeMove (pick chooser.now) name lost (noted_addresses notes.now) }
+{
+    let taken = notes.taken();
+    if name.is_arbitrary() && taken.free_count() > 0 {
+        Address::new(chooser.choose(name, lost.number(), &taken))
+    } else {
+        None
+    }
+}

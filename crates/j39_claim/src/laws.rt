@@ -1,0 +1,10 @@
+//! What follows from the definitions alone.
+ghost use Rattle.std.specs.Prelude.{ℕ};
+ghost use Rattle.j39_claim.specs.declared.item.Say.{Say as Saying};
+ghost use Rattle.j39_claim.specs.ClaimRule.{Claimant, Station, Hears};
+ghost use Rattle.j39_claim.specs.ExactAnswer.{Pick, IsLawful, said_after, station_after};
+
+/// Whatever free address a unit picks, what it says and is then follows the claim rule.
+pub fn lawful_picks_follow_the_rule()
+    ensures { (pick : Pick) → IsLawful pick → (c : Claimant) (s : Station) (n : ℕ) (say : Saying) → Hears c s n say (said_after pick c s n say) (station_after pick c s n say) }
+{}
