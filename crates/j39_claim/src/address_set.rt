@@ -26,6 +26,7 @@ impl Model for AddressSet {
 }
 
 impl AddressSet {
+    /// The empty set.
     pub fn new() -> Self
         ensures { result ≡ set.empty }
     {
@@ -34,18 +35,21 @@ impl AddressSet {
         }
     }
 
+    /// Whether the address is in the set.
     pub fn has(&self, address: Address) -> bool
         ensures { result ≡ set.contains self.now address }
     {
-        self.flags[usize::from(address.number())]
+        !self.is_free(address.number())
     }
 
+    /// Adds the address.
     pub fn insert(&mut self, address: Address)
         ensures { self.new ≡ set.insert self.old address }
     {
         self.flags[usize::from(address.number())] = true;
     }
 
+    /// Takes the address out.
     pub fn remove(&mut self, address: Address)
         ensures { self.new ≡ set.remove self.old address }
     {

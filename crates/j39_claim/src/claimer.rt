@@ -59,12 +59,14 @@ impl Claimer {
         Say::Claim(self.preferred)
     }
 
+    /// The NAME that it claims under.
     pub fn name(&self) -> Name
         ensures { result ≡ self.now.claimant.name }
     {
         self.name
     }
 
+    /// Whether it was started.
     pub fn is_started(&self) -> bool
         ensures { result ≡ self.now.station.on }
     {
