@@ -1,0 +1,4 @@
+pub mod CommandLaws
+pub mod Digits
+pub mod FirstLine
+pub mod StreamSteps

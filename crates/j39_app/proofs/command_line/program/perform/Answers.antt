@@ -1,0 +1,4 @@
+use Rattle.j39_app.proofs.command_line.program.perform.Goals as goal
+
+pub returns-in-Frame : goal.returns-in-Frame
+returns-in-Frame g c = rw c.in-Frame.is (rw c.as_bytes.ensures.value at c.frame_text.ensures.written)

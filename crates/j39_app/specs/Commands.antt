@@ -1,0 +1,19 @@
+-- The command line: a subcommand for each word, with the values that it takes.
+use Rattle.std.specs.Prelude.{true, List, [], ◌∷◌, codes}
+use Rattle.clap.specs.Simple.{on_top}
+use Rattle.clap.specs.Words.{App, Rule, Text, new_app, new_rule, with_rule, with_subcommand}
+
+-- a value that has to be given
+abbrev pub value_rule : Text → Rule
+value_rule name = record (new_rule name) { required = true }
+
+-- a subcommand that takes one value
+abbrev pub one_value : Text → Text → App
+one_value name value = with_rule (new_app name) (value_rule value)
+
+-- the words after the program's name, of which the first is a subcommand
+abbrev pub program : App
+program = on_top (λ s. record s { no_binary_name = true; subcommand_required = true; has_version = true }) (new_app (codes "j39plan"))
+
+unfoldable pub commands : App
+commands = with_subcommand program (one_value (codes "frame") (codes "LINE")).top

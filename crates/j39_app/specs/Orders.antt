@@ -1,0 +1,35 @@
+-- What a command line orders.
+use Rattle.std.specs.Prelude.{◌≡◌, ℕ, List, Option, Some, codes, string_bytes, [], ◌∷◌}
+use Rattle.clap.specs.Words.{Row, Text, first_of, subcommand_of}
+use Rattle.j39_app.specs.Commands.{commands}
+use Rattle.j39_app.specs.FrameText.{IsFrameText}
+use Rattle.j39_app.specs.declared.verdict.Verdict.{Verdict}
+use Rattle.j39_app.specs.declared.verdict.Verdict.TheVariants.{Done}
+use Rattle.j39_app.specs.declared.command_line.orders.Order.{Order}
+use Rattle.j39_app.specs.declared.command_line.orders.Order.TheVariants.{Input, Frame, Help}
+
+-- the subcommand that was met has this name, and the value by this name is the text
+abbrev pub Gives : Option (Text × List Row) → Text → Text → Text → Type 0
+Gives met name value text = (rows : List Row) × (met ≡ Some (name, rows)) × (first_of value rows ≡ Some text)
+
+-- the order is the subcommand that was met, with its values, or the words ask for a text of help
+abbrev pub Orders : Option (Text × List Row) → Order → Type 0
+Orders met (Frame line) = Gives met (codes "frame") (codes "LINE") (string_bytes line)
+Orders met Input = ⊥
+Orders met (Help text) = Unit {0}
+
+abbrev pub IsHelp : Order → Type 0
+IsHelp (Help text) = Unit {0}
+IsHelp Input = ⊥
+IsHelp (Frame line) = ⊥
+
+-- what the words order: the input where there are none, and else what they name
+abbrev pub Answers : List Text → Order → Type 0
+Answers [] order = order ≡ Input
+Answers (word ∷ words) order = Orders (subcommand_of commands (word ∷ words)) order
+
+-- what is written for an order, with the verdict: for the input, the text of some line
+abbrev pub IsAnswer : Order → List ℕ → Verdict → Type 0
+IsAnswer Input text verdict = (line : List ℕ) × IsFrameText line text verdict
+IsAnswer (Frame line) text verdict = IsFrameText (string_bytes line) text verdict
+IsAnswer (Help shown) text verdict = (text ≡ string_bytes shown) × (verdict ≡ Done)

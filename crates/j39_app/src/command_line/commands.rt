@@ -1,0 +1,69 @@
+//! The commands, with their help.
+ghost use Rattle.std.specs.Prelude.{◌≡◌, false, IfOk, codes};
+ghost use Rattle.clap.specs.Words.{app_of, with_subcommand};
+ghost use Rattle.clap.specs.declared.builder.command.Command.TheViews.{out-Command as fields_of};
+ghost use Rattle.j39_app.specs.Commands.{commands, one_value, program};
+
+use clap::{Arg, Command};
+use std::alloc::{AllocError, Global};
+
+const ABOUT: &str = "Checks a SAE J1939 network plan before its units meet on the bus";
+
+const USAGE: &str = "j39plan [COMMAND]";
+
+const AFTER: &str = "Without a command, the first line of standard input is read as LINE.
+A value that begins with - (but - alone) needs -- before it, as in: j39plan frame -- -x
+
+Example: j39plan frame 18EEFF00#0100800C00000010
+
+Exit status: 0 done, 2 unreadable input or a bad command line, 3 out of memory, 4 a device fault";
+
+const VERSION: &str = "0.1.0";
+
+fn program<'a>(alloc: Global) -> Result<Command<'a>, AllocError>
+    ensures { IfOk result (λ c. app_of c ≡ program) }
+{
+    Command::new(alloc, "j39plan")
+        .no_binary_name(true)
+        .subcommand_required(true)
+        .version(VERSION)
+        .about(ABOUT)
+        .override_usage(USAGE)
+        .after_help(AFTER)
+        .bin_name("j39plan")
+}
+
+// A command that takes one value.
+fn one_value<'a>(
+    alloc: Global,
+    name: &'a str,
+    about: &'a str,
+    value: &'a str,
+    help: &'a str,
+) -> Result<Command<'a>, AllocError>
+    ensures app { IfOk result (λ c. app_of c ≡ one_value name.entry.now value.entry.now) }
+    ensures local { IfOk result (λ c. (fields_of c).has_globals ≡ false) }
+{
+    let value = Arg::new(alloc, value).required(true).help(help);
+    Command::new(alloc, name).about(about).arg(value)
+}
+
+fn with_frame<'a>(alloc: Global, program: Command<'a>) -> Result<Command<'a>, AllocError>
+    ensures { IfOk result (λ c. app_of c ≡ with_subcommand (app_of program.entry) (one_value (codes "frame") (codes "LINE")).top) }
+{
+    program.subcommand(one_value(
+        alloc,
+        "frame",
+        "Shows what the frame line LINE says",
+        "LINE",
+        "A line of a CAN log; its last word is the frame, as 18EEFF00#0100800C00000010",
+    )?)
+}
+
+/// The commands.
+#[tactic(auto, unfolding(crate::specs::Commands::commands))]
+pub(super) fn commands<'a>(alloc: Global) -> Result<Command<'a>, AllocError>
+    ensures { IfOk result (λ c. app_of c ≡ commands) }
+{
+    with_frame(alloc, program(alloc)?)
+}

@@ -1,0 +1,77 @@
+//! The program.
+ghost use Rattle.std.specs.Prelude.{ℕ, IfOk, List};
+ghost use Rattle.std.specs.Io.KnownBytes.{Appends};
+ghost use Rattle.j39_app.specs.Orders.{IsAnswer};
+
+use super::orders::{Order, WordsFault};
+use crate::{Fault, FromRead, Sink, ToWrite, Verdict, frame_text, input_text, order, put_all, status};
+use std::env;
+use std::env::Env;
+use std::fmt::Display;
+use std::io;
+use std::io::{BufWriter, ErrorKind};
+use std::process::ExitCode;
+
+// The status of a bad command line.
+const BAD: u8 = 2;
+
+// The words after the program's name.
+fn words<R: Env + AllocGlobal>(rt: &R) -> Result<Vec<String>, WordsFault> {
+    match env::args(rt) {
+        Ok(words) => Ok(words.skip(1).collect(rt.alloc())?),
+        Err(error) if error.kind() == ErrorKind::OutOfMemory => Err(WordsFault::Memory),
+        Err(_) => Err(WordsFault::Bad),
+    }
+}
+
+// Does what the words order.
+fn perform<R: Input + AllocGlobal, W: Sink>(
+    rt: &R,
+    order: &Order,
+    sink: &mut W,
+) -> Result<Verdict, Fault>
+    ensures { IfOk result (λ verdict. (text : List ℕ) × IsAnswer order.now text verdict × Appends (W.taken sink.old) (W.taken sink.new) text) }
+{
+    match order {
+        Order::Input => input_text(rt.alloc(), &mut FromRead::new(rt.reader()), sink),
+        Order::Frame(line) => frame_text(rt.alloc(), line.as_bytes(), sink),
+        Order::Help(text) => {
+            put_all(sink, text.as_bytes())?;
+            Ok(Verdict::Done)
+        }
+    }
+}
+
+// Does what the words order, on standard output.
+fn answer<R: Input + Print + AllocGlobal>(rt: &R, order: &Order) -> Result<Verdict, Fault> {
+    let Ok(output) = BufWriter::new(rt.alloc(), io::writer(rt)) else {
+        return Err(Fault::Memory);
+    };
+    let mut sink = ToWrite::new(output);
+    let outcome = perform(rt, order, &mut sink);
+    let flushed = sink.flush();
+    let verdict = outcome?;
+    flushed?;
+    Ok(verdict)
+}
+
+// Says in one line why the program gave up, if it can.
+fn complain<R: Eprint>(rt: &R, fault: impl Display + Drop) {
+    let _ = eprintln!(rt; "j39plan: {fault}");
+}
+
+/// Runs the program: reads the words, does what they order and answers the exit status.
+pub fn run_program<R: Env + Input + Print + Eprint + AllocGlobal>(rt: &R) -> ExitCode {
+    let outcome = match words(rt).and_then(|words| order(rt.alloc(), words)) {
+        Ok(order) => answer(rt, &order),
+        Err(WordsFault::Memory) => Err(Fault::Memory),
+        Err(WordsFault::Bad) => {
+            complain(rt, WordsFault::Bad);
+            return ExitCode::from(BAD);
+        }
+    };
+    if let Err(fault) = &outcome {
+        complain(rt, *fault);
+    }
+    ExitCode::from(status(&outcome))
+}

@@ -1,0 +1,19 @@
+//! The commands of the plan checker, over any source and sink of bytes.
+#![tactic(auto)]
+
+mod command_line;
+mod fault;
+mod pieces;
+mod streams;
+mod texts;
+mod verdict;
+
+pub use command_line::{Order, WordsFault, input_text, order, run_program, status};
+pub use fault::Fault;
+pub use pieces::{Pieces, Stop};
+pub use streams::{Failed, FromRead, Sink, Source, ToWrite, load, put_all};
+pub use texts::frame_text;
+pub use verdict::Verdict;
+
+#[cfg(test)]
+mod tests;

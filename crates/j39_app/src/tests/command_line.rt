@@ -1,0 +1,165 @@
+use super::*;
+
+fn words_of(alloc: Global, texts: &[&str]) -> Result<Vec<String>, AllocError> {
+    let mut words = Vec::new(alloc);
+    for text in texts {
+        words.push(String::from_str(alloc, text)?)?;
+    }
+    Ok(words)
+}
+
+fn ordered(alloc: Global, texts: &[&str]) -> Result<Order, WordsFault> {
+    order(alloc, words_of(alloc, texts)?)
+}
+
+// The line of an order of a frame.
+fn line_of(alloc: Global, texts: &[&str]) -> Result<Option<String>, WordsFault> {
+    match ordered(alloc, texts)? {
+        Order::Frame(line) => Ok(Some(line)),
+        _other => Ok(None),
+    }
+}
+
+#[test]
+fn no_words_order_the_input(rt: HostRuntime) {
+    assert!(rt; matches!(ordered(rt.alloc(), &[]), Ok(Order::Input)));
+}
+
+#[test]
+fn frame_takes_a_whole_line(rt: HostRuntime) -> Result<(), Fail> {
+    for (words, line) in [
+        (["frame", "123#00"].as_slice(), "123#00"),
+        (&["frame", " (1.5) can0 123#00"], " (1.5) can0 123#00"),
+        (&["frame", ""], ""),
+        (&["frame", "-"], "-"),
+        (&["frame", "a=b"], "a=b"),
+        (&["frame", "--", "-x"], "-x"),
+        (&["frame", "--", "--help"], "--help"),
+    ] {
+        let found = line_of(rt.alloc(), words)?;
+        assert_eq!(rt; found.as_deref(), Some(line), "at {words:?}");
+    }
+    Ok(())
+}
+
+#[test]
+fn other_words_are_bad(rt: HostRuntime) {
+    for words in [
+        ["frame"].as_slice(),
+        &["frame", "a", "b"],
+        &["jump"],
+        &["frame", "-x"],
+        &["frame", "-1"],
+        &["fra", "x"],
+        &["check", "plan.toml"],
+        &["run", "plan.toml", "schedule"],
+        &["read", "plan.toml", "log"],
+        &[""],
+        &["--"],
+        &["help", "jump"],
+        &["--jump"],
+    ] {
+        let answer = ordered(rt.alloc(), words);
+        assert!(rt; matches!(answer, Err(WordsFault::Bad)), "at {words:?}");
+    }
+}
+
+const HELP: &str = "Checks a SAE J1939 network plan before its units meet on the bus
+
+Usage: j39plan [COMMAND]
+
+Commands:
+  frame  Shows what the frame line LINE says
+  help   Print this message or the help of the given subcommand(s)
+
+Options:
+  -h, --help     Print help
+  -V, --version  Print version
+
+Without a command, the first line of standard input is read as LINE.
+A value that begins with - (but - alone) needs -- before it, as in: j39plan frame -- -x
+
+Example: j39plan frame 18EEFF00#0100800C00000010
+
+Exit status: 0 done, 2 unreadable input or a bad command line, 3 out of memory, 4 a device fault
+";
+
+const FRAME_HELP: &str = "Shows what the frame line LINE says
+
+Usage: j39plan frame <LINE>
+
+Arguments:
+  <LINE>  A line of a CAN log; its last word is the frame, as 18EEFF00#0100800C00000010
+
+Options:
+  -h, --help  Print help
+";
+
+fn help_of(alloc: Global, words: &[&str]) -> Result<String, WordsFault> {
+    match ordered(alloc, words)? {
+        Order::Help(text) => Ok(text),
+        _other => Err(WordsFault::Bad),
+    }
+}
+
+#[test]
+fn help_names_each_command(rt: HostRuntime) -> Result<(), Fail> {
+    for words in [["--help"].as_slice(), &["-h"], &["help"]] {
+        let text = help_of(rt.alloc(), words)?;
+        assert_eq!(rt; text.as_str(), HELP, "at {words:?}");
+    }
+    Ok(())
+}
+
+#[test]
+fn help_of_a_command_names_its_values(rt: HostRuntime) -> Result<(), Fail> {
+    for words in [["frame", "--help"].as_slice(), &["help", "frame"]] {
+        let text = help_of(rt.alloc(), words)?;
+        assert_eq!(rt; text.as_str(), FRAME_HELP, "at {words:?}");
+    }
+    Ok(())
+}
+
+#[test]
+fn the_version_is_shown(rt: HostRuntime) -> Result<(), Fail> {
+    for words in [["--version"].as_slice(), &["-V"]] {
+        let text = help_of(rt.alloc(), words)?;
+        assert_eq!(rt; text.as_str(), "j39plan 0.1.0\n", "at {words:?}");
+    }
+    Ok(())
+}
+
+#[test]
+fn each_outcome_has_its_status(rt: HostRuntime) {
+    for (outcome, code) in [
+        (Ok(Verdict::Done), 0),
+        (Ok(Verdict::Findings), 1),
+        (Ok(Verdict::Refused), 1),
+        (Ok(Verdict::Unreadable), 2),
+        (Err(Fault::TooLong), 2),
+        (Err(Fault::Memory), 3),
+        (Err(Fault::Device), 4),
+    ] {
+        assert_eq!(rt; status(&outcome), code, "at {outcome:?}");
+    }
+}
+
+#[test]
+fn each_fault_has_its_words(rt: HostRuntime) -> Result<(), Fail> {
+    for (fault, words) in [
+        (Fault::Memory, "out of memory"),
+        (Fault::Device, "device fault"),
+        (Fault::TooLong, "input too long"),
+    ] {
+        let text = format!(in rt.alloc(); "{fault}")?;
+        assert_eq!(rt; text.as_str(), words);
+    }
+    for (fault, words) in [
+        (WordsFault::Bad, "bad command line"),
+        (WordsFault::Memory, "out of memory"),
+    ] {
+        let text = format!(in rt.alloc(); "{fault}")?;
+        assert_eq!(rt; text.as_str(), words);
+    }
+    Ok(())
+}

@@ -1,0 +1,9 @@
+pub mod AtPlace
+pub mod LaidOut
+pub mod Merging
+pub mod Numbers
+pub mod Outside
+pub mod Sharing
+pub mod Steps
+pub mod Windows
+pub mod Writes

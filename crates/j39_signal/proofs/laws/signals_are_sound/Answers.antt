@@ -1,0 +1,11 @@
+use Rattle.j39_signal.proofs.Writes.{keeps_writes, value_read, ones_read}
+use Rattle.j39_signal.proofs.laws.signals_are_sound.Goals as goal
+
+pub returns-clause-kept : goal.returns-clause-kept
+returns-clause-kept c = keeps_writes
+
+pub returns-clause-value : goal.returns-clause-value
+returns-clause-value c = value_read
+
+pub returns-clause-given_up : goal.returns-clause-given_up
+returns-clause-given_up c = ones_read

@@ -1,0 +1,73 @@
+-- Payloads that are written signal after signal, from one in which every bit is 1.
+use Rattle.std.specs.Prelude.{◌≡◌, ℕ, ◌*◌, ◌<◌, ◌⊎◌, ℤ, List, [], ◌∷◌, length, slice_index, slice_set, replicate, map, All}
+use Rattle.std.specs.List.{HoldsAt}
+use Rattle.j39_signal.specs.Bits.{bit, raw_of, all_ones, Put}
+use Rattle.j39_signal.specs.Parts.{SignalParts}
+use Rattle.j39_signal.specs.Places.{Covers, LaysOut, WidthFits}
+use Rattle.j39_signal.specs.State.{IsValue, IsRawOf, state_of, value_of}
+use Rattle.j39_signal.specs.declared.kind.Kind.{Kind}
+use Rattle.j39_signal.specs.declared.kind.Kind.TheVariants.{Measured, Discrete, Raw}
+use Rattle.j39_signal.specs.declared.state.State.{State}
+use Rattle.j39_signal.specs.declared.state.State.TheVariants.{Value, Absent}
+
+-- the payload has this length and one of these raw numbers in each signal, and every bit of no signal is 1
+pub record Laid (bytes : ℕ) (signals : List SignalParts) (raws : List ℕ) (payload : List ℕ) : Type 0 where
+  pub same_length : length payload ≡ bytes
+  pub counted : length raws ≡ length signals
+  pub held : (i : ℕ) → i < length signals → HoldsAt (λ s. raw_of payload s ≡ slice_index raws i) signals i
+  pub free : (j : ℕ) → j < 8 * bytes → All (λ s. ¬ Covers s j) signals → bit payload j ≡ 1
+
+-- a write: the place of its signal, the raw number, and the payload after it
+pub record Write : Type 0 where
+  pub place : ℕ
+  pub raw : ℕ
+  pub payload : List ℕ
+
+-- the raw number stands for a value, or gives the signal up
+abbrev pub CanPut : SignalParts → ℕ → Type 0
+CanPut s raw = IsValue s raw ⊎ (raw ≡ all_ones s)
+
+-- the write leads on from this payload
+abbrev pub Follows : List SignalParts → List ℕ → Write → Type 0
+Follows signals old w = (w.place < length signals) × HoldsAt (λ s. CanPut s w.raw × Put s w.raw old w.payload) signals w.place
+
+-- each write leads on from the payload before it
+abbrev pub Chain : List SignalParts → List ℕ → List Write → Type 0
+Chain signals payload [] = Unit {0}
+Chain signals payload (w ∷ ws) = Follows signals payload w × Chain signals w.payload ws
+
+-- the payload after the last write
+abbrev pub last_payload : List ℕ → List Write → List ℕ
+last_payload payload [] = payload
+last_payload payload (w ∷ ws) = last_payload w.payload ws
+
+-- the raw number last put for each signal
+abbrev pub last_raws : List ℕ → List Write → List ℕ
+last_raws raws [] = raws
+last_raws raws (w ∷ ws) = last_raws (slice_set raws w.place w.raw) ws
+
+-- what a signal reads that was given up: a raw one has no state for that
+abbrev pub given_up : Kind → ℤ → State
+given_up Measured value = Absent
+given_up Discrete value = Absent
+given_up Raw value = Value value
+
+-- ---- laws
+
+-- every chain of writes that begins with all bytes 255 ends in a payload that holds the raw number last put for each
+-- signal, all ones where there was none
+abbrev pub KeepsWrites : ℕ → List SignalParts → Type 0
+KeepsWrites bytes signals = (writes : List Write) → Chain signals (replicate bytes 255) writes
+    → Laid bytes signals (last_raws (map all_ones signals) writes) (last_payload (replicate bytes 255) writes)
+
+-- so do all signals that lay out a payload
+abbrev pub LaidOutKeepWrites : Type 0
+LaidOutKeepWrites = (bytes : ℕ) (signals : List SignalParts) → LaysOut bytes signals → KeepsWrites bytes signals
+
+-- the raw number of a value reads as that value
+abbrev pub ValuesReadBack : Type 0
+ValuesReadBack = (s : SignalParts) (value : ℤ) (raw : ℕ) → IsRawOf s value raw → state_of s raw ≡ Value value
+
+-- all ones read as given up
+abbrev pub AllOnesReadGivenUp : Type 0
+AllOnesReadGivenUp = (s : SignalParts) → WidthFits s → state_of s (all_ones s) ≡ given_up s.kind (value_of s (all_ones s))

@@ -1,0 +1,7 @@
+pub mod Bits
+pub mod LayoutParts
+pub mod Parts
+pub mod Places
+pub mod Refusals
+pub mod State
+pub mod Laid

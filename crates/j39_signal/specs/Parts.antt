@@ -1,0 +1,36 @@
+-- What a contract sees of a signal, and the ranges that every signal keeps.
+use Rattle.std.specs.Prelude.{ℕ, ◌^◌, ◌<◌, ◌≤◌, ℤ, pos, negsuc, ◌≤ℤ◌}
+use Rattle.arrayvec.specs.ArrayString.{ArrayString}
+use Rattle.j39_signal.specs.declared.kind.Kind.{Kind}
+
+-- the parts of a signal; of its label and its unit the bytes count
+pub record SignalParts : Type 0 where
+  pub label : ArrayString
+  pub start : ℕ
+  pub bits : ℕ
+  pub kind : Kind
+  pub step : ℕ
+  pub offset : ℤ
+  pub unit : ArrayString
+
+-- the ranges that every signal keeps
+pub record IsSignal (start bits step : ℕ) (offset : ℤ) : Type 0 where
+  pub start_range : start < 2 ^ 16
+  pub some_bits : 1 ≤ bits
+  pub most_bits : bits ≤ 64
+  pub some_step : 1 ≤ step
+  pub most_step : step ≤ 1000000
+  pub least_offset : negsuc 999999999999 ≤ℤ offset
+  pub greatest_offset : offset ≤ℤ pos 1000000000000
+
+abbrev pub HasRanges : SignalParts → Type 0
+HasRanges s = IsSignal s.start s.bits s.step s.offset
+
+-- the numbers of which a signal can be made
+pub record CanBeSignal (bits : ℕ) (step offset : ℤ) : Type 0 where
+  pub some_bits : 1 ≤ bits
+  pub most_bits : bits ≤ 64
+  pub some_step : pos 1 ≤ℤ step
+  pub most_step : step ≤ℤ pos 1000000
+  pub least_offset : negsuc 999999999999 ≤ℤ offset
+  pub greatest_offset : offset ≤ℤ pos 1000000000000

@@ -1,0 +1,46 @@
+-- The widths and the places of signals (SAE J1939-71, bit and byte order of parameters).
+use Rattle.std.specs.Prelude.{ℕ, ◌+◌, ◌*◌, ◌<◌, ◌≤◌, max, min, Bool, ◌==◌, ◌||◌, ◌&&◌, nat_le, nat_lt, List, All, AllPairs, IsTrue}
+use Rattle.j39_signal.specs.Parts.{SignalParts}
+use Rattle.j39_signal.specs.declared.kind.Kind.{Kind}
+use Rattle.j39_signal.specs.declared.kind.Kind.TheVariants.{Measured, Discrete, Raw}
+
+-- a signal of this kind can have this width
+abbrev pub width_fits : Kind → ℕ → Bool
+width_fits Measured bits = bits == 8 || (bits == 16 || bits == 32)
+width_fits Discrete bits = bits == 2
+width_fits Raw bits = nat_le 1 bits && nat_le bits 32
+
+-- the width of the signal fits its kind
+abbrev pub WidthFits : SignalParts → Type 0
+WidthFits s = IsTrue (width_fits s.kind s.bits)
+
+-- the first place after the signal
+abbrev pub end_of : SignalParts → ℕ
+end_of s = s.start + s.bits
+
+-- the bit at place j belongs to the signal
+abbrev pub Covers : SignalParts → ℕ → Type 0
+Covers s j = (s.start ≤ j) × (j < end_of s)
+
+-- the signal ends within a payload of this length
+abbrev pub IsInside : ℕ → SignalParts → Type 0
+IsInside length s = end_of s ≤ 8 * length
+
+-- some bit belongs to both signals
+abbrev pub SharesBit : SignalParts → SignalParts → Type 0
+SharesBit s t = (j : ℕ) × Covers s j × Covers t j
+
+-- the same as tests on the places
+abbrev pub is_inside : ℕ → SignalParts → Bool
+is_inside length s = nat_le (end_of s) (8 * length)
+
+abbrev pub shares_bit : SignalParts → SignalParts → Bool
+shares_bit s t = nat_lt (max s.start t.start) (min (end_of s) (end_of t))
+
+-- signals lay out a payload of this length: each of them fits its kind and ends within it, and no two share a bit
+pub record LaysOut (length : ℕ) (signals : List SignalParts) : Type 0 where
+  pub some_bytes : 1 ≤ length
+  pub most_bytes : length ≤ 1785
+  pub widths : All WidthFits signals
+  pub inside : All (IsInside length) signals
+  pub apart : AllPairs (λ s t. ¬ SharesBit s t) signals

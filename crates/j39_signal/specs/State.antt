@@ -1,0 +1,66 @@
+-- What a raw number means (SAE J1939-71, transmitted signal ranges).
+use Rattle.std.specs.Prelude.{◌≡◌, ℕ, ◌-◌, ◌*◌, ◌^◌, ◌<◌, ℤ, pos, ◌+ℤ◌, ◌*ℤ◌, nat_lt, if◌then◌else◌, List}
+use Rattle.j39_signal.specs.Bits.{Put}
+use Rattle.j39_signal.specs.Parts.{SignalParts}
+use Rattle.j39_signal.specs.declared.kind.Kind.{Kind}
+use Rattle.j39_signal.specs.declared.kind.Kind.TheVariants.{Measured, Discrete, Raw}
+use Rattle.j39_signal.specs.declared.state.State.{State}
+use Rattle.j39_signal.specs.declared.state.State.TheVariants.{Value, Specific, Reserved, Fault, Absent}
+use Rattle.j39_signal.specs.declared.write_error.WriteError.{WriteError}
+use Rattle.j39_signal.specs.declared.write_error.WriteError.TheVariants.{NotOnStep, OutOfRange}
+
+-- where the ranges of a kind and a width end: the first raw number after the values, after the specific ones,
+-- after the reserved ones and after those of a fault
+pub record Ranges : Type 0 where
+  pub values : ℕ
+  pub specific : ℕ
+  pub reserved : ℕ
+  pub faults : ℕ
+
+-- a measured signal shows its state in its top byte: a value up to FA, FB, FC and FD, FE, FF
+abbrev pub ranges_of : Kind → ℕ → Ranges
+ranges_of Measured bits = record {
+  values = 251 * 2 ^ (bits - 8);
+  specific = 252 * 2 ^ (bits - 8);
+  reserved = 254 * 2 ^ (bits - 8);
+  faults = 255 * 2 ^ (bits - 8);
+}
+ranges_of Discrete bits = record { values = 2; specific = 2; reserved = 2; faults = 3 }
+ranges_of Raw bits = record { values = 2 ^ bits; specific = 2 ^ bits; reserved = 2 ^ bits; faults = 2 ^ bits }
+
+-- the value of a raw number
+abbrev pub value_of : SignalParts → ℕ → ℤ
+value_of s raw = s.offset +ℤ pos (s.step * raw)
+
+-- the state of a raw number, by the range that it lies in
+abbrev pub state_in : Ranges → ℤ → ℕ → State
+state_in ranges value raw =
+    if nat_lt raw ranges.values then Value value
+    else if nat_lt raw ranges.specific then Specific raw
+    else if nat_lt raw ranges.reserved then Reserved raw
+    else if nat_lt raw ranges.faults then Fault raw
+    else Absent
+
+abbrev pub state_of : SignalParts → ℕ → State
+state_of s raw = state_in (ranges_of s.kind s.bits) (value_of s raw) raw
+
+-- the raw number stands for a value
+abbrev pub IsValue : SignalParts → ℕ → Type 0
+IsValue s raw = raw < (ranges_of s.kind s.bits).values
+
+-- the raw number that stands for this value
+abbrev pub IsRawOf : SignalParts → ℤ → ℕ → Type 0
+IsRawOf s value raw = IsValue s raw × (value_of s raw ≡ value)
+
+-- the new payload is the old one with the raw number of this value put into the signal
+abbrev pub WritesValue : SignalParts → ℤ → List ℕ → List ℕ → Type 0
+WritesValue s value old new = (raw : ℕ) × IsRawOf s value raw × Put s raw old new
+
+-- the value lies a whole number of steps from the offset
+abbrev pub IsOnStep : SignalParts → ℤ → Type 0
+IsOnStep s value = (k : ℤ) × (value ≡ s.offset +ℤ pos s.step *ℤ k)
+
+-- the value is refused: it isn't on a step, or it is, and no raw number stands for it
+abbrev pub RefusesValue : SignalParts → ℤ → WriteError → Type 0
+RefusesValue s value NotOnStep = ¬ IsOnStep s value
+RefusesValue s value OutOfRange = IsOnStep s value × ((raw : ℕ) → ¬ IsRawOf s value raw)

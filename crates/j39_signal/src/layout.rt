@@ -1,0 +1,134 @@
+//! Layouts.
+ghost use Rattle.std.specs.Prelude.{◌≡◌, ℕ, ◌<◌, length, replicate, All, IfOk, IfErr, IfSome, IfNone, OnOk, OnErr};
+ghost use Rattle.std.specs.List.{HoldsAt};
+ghost use Rattle.j39_signal.specs.Bits.{Put, raw_of, all_ones};
+ghost use Rattle.j39_signal.specs.Places.{WidthFits, IsInside, SharesBit, LaysOut};
+ghost use Rattle.j39_signal.specs.Refusals.{HasFault, HasLayoutFault};
+ghost use Rattle.j39_signal.specs.State.{state_of, RefusesValue, WritesValue};
+
+use crate::{LayoutError, Signal, State, WriteError};
+use std::alloc::{AllocError, Global};
+use std::marker::Model;
+
+/// Signals that lay out a payload of some length: each fits its kind and ends within it, and no two share a bit.
+#[derive(Drop)]
+pub struct Layout {
+    bytes: u16,
+    signals: Vec<Signal>,
+}
+
+impl Model for Layout {
+    ghost use Rattle.j39_signal.specs.LayoutParts.{LayoutParts};
+    ghost use Rattle.j39_signal.specs.Places.{LaysOut};
+
+    ghost Value = { LayoutParts };
+
+    ghost view = { λ l. record { length = l.bytes; signals = l.signals.items } };
+
+    ghost invariant = { λ l. LaysOut l.bytes l.signals.items };
+}
+
+// Why a signal has no place after these.
+fn fault_after(before: &[Signal], signal: &Signal, length: u16) -> Option<LayoutError>
+    ensures none { IfNone result (WidthFits signal.now × IsInside length signal.now × All (λ t. ¬ SharesBit t signal.now) before.now) }
+    ensures fault { IfSome result (HasFault length before.now signal.now) }
+{
+    if !signal.width_fits() {
+        return Some(LayoutError::Width(before.len()));
+    }
+    if !signal.is_inside(length) {
+        return Some(LayoutError::Outside(before.len()));
+    }
+    let first = before.iter().position(|other| other.shares_bit(signal))?;
+    Some(LayoutError::Overlap(first, before.len()))
+}
+
+impl Layout {
+    /// A layout of a payload of `length` bytes.
+    pub fn new(alloc: Global, length: u16, signals: &[Signal]) -> Result<Self, LayoutError>
+        ensures length { IfOk result (λ l. l.length ≡ length) }
+        ensures signals { IfOk result (λ l. l.signals ≡ signals.now) }
+        ensures lays_out { OnOk result (LaysOut length signals.now) }
+        ensures refused { IfErr result (HasLayoutFault length signals.now) }
+    {
+        if length < 1 || length > 1785 {
+            return Err(LayoutError::Length);
+        }
+        for (i, signal) in signals.iter().enumerate() {
+            if let Some(fault) = fault_after(&signals[..i], signal, length) {
+                return Err(fault);
+            }
+        }
+        let Ok(signals) = Vec::from_slice(alloc, signals) else {
+            return Err(LayoutError::Memory);
+        };
+        Ok(Layout {
+            bytes: length,
+            signals,
+        })
+    }
+
+    /// The length of the payload in bytes.
+    pub fn length(&self) -> u16
+        ensures value { result ≡ self.now.length }
+        ensures lays_out { LaysOut self.now.length self.now.signals }
+    {
+        self.bytes
+    }
+
+    /// How many signals there are.
+    pub fn count(&self) -> usize
+        ensures { result ≡ length self.now.signals }
+    {
+        self.signals.len()
+    }
+
+    /// A payload in which every bit is 1, so that no signal is available.
+    pub fn blank(&self, alloc: Global) -> Result<Vec<u8>, AllocError>
+        ensures { IfOk result (λ payload. payload.items ≡ replicate self.now.length 255) }
+    {
+        vec![in alloc; 255; usize::from(self.bytes)]
+    }
+
+    // The signal at place `i`.
+    fn signal(&self, i: usize) -> &Signal
+        requires { i < length self.now.signals }
+        ensures at { HoldsAt (λ s. s ≡ result.now) self.now.signals i }
+        ensures width { WidthFits result.now }
+        ensures inside { IsInside self.now.length result.now }
+    {
+        &self.signals[i]
+    }
+
+    /// Writes a value of the signal at place `i`.
+    #[tactic(auto, using(crate::proofs::AtPlace::at_place))]
+    pub fn write(&self, payload: &mut [u8], i: usize, value: i64) -> Result<(), WriteError>
+        requires place { i < length self.now.signals }
+        requires bytes { length payload.old ≡ self.now.length }
+        ensures ok { HoldsAt (λ s. OnOk result (WritesValue s value payload.old payload.new)) self.now.signals i }
+        ensures refused { HoldsAt (λ s. IfErr result (RefusesValue s value)) self.now.signals i }
+        ensures unchanged { OnErr result (payload.new ≡ payload.old) }
+    {
+        self.signal(i).write(payload, value)
+    }
+
+    /// Makes the signal at place `i` not available: sets all its bits to 1.
+    #[tactic(auto, using(crate::proofs::AtPlace::at_place))]
+    pub fn write_absent(&self, payload: &mut [u8], i: usize)
+        requires place { i < length self.now.signals }
+        requires bytes { length payload.old ≡ self.now.length }
+        ensures { HoldsAt (λ s. Put s (all_ones s) payload.old payload.new) self.now.signals i }
+    {
+        self.signal(i).write_absent(payload);
+    }
+
+    /// The state of the signal at place `i`.
+    #[tactic(auto, using(crate::proofs::AtPlace::at_place))]
+    pub fn read(&self, payload: &[u8], i: usize) -> State
+        requires place { i < length self.now.signals }
+        requires bytes { length payload.now ≡ self.now.length }
+        ensures { HoldsAt (λ s. result ≡ state_of s (raw_of payload.now s)) self.now.signals i }
+    {
+        self.signal(i).read(payload)
+    }
+}

@@ -1,0 +1,23 @@
+//! Signals of SAE J1939 parameter groups, and the layouts that they make of a payload.
+#![tactic(auto)]
+
+mod bits;
+mod kind;
+mod laws;
+mod layout;
+mod layout_error;
+mod payload;
+mod scaling;
+mod signal;
+mod state;
+#[cfg(test)]
+mod tests;
+mod write_error;
+
+pub use kind::Kind;
+pub use laws::signals_are_sound;
+pub use layout::Layout;
+pub use layout_error::LayoutError;
+pub use signal::Signal;
+pub use state::State;
+pub use write_error::WriteError;

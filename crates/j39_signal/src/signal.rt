@@ -1,0 +1,180 @@
+//! Signals.
+ghost use Rattle.std.specs.Prelude.{◌≡◌, ℕ, ◌↔◌, IsTrue, IsSome, IfSome, pos};
+
+use crate::Kind;
+use j39_id::Label;
+use std::marker::Model;
+
+/// A signal of a parameter group: its label, its place in the payload, and how its raw number is scaled.
+#[derive(Clone, Copy, Debug)]
+pub struct Signal {
+    label: Label,
+    start: u16,
+    bits: u8,
+    kind: Kind,
+    step: u32,
+    offset: i64,
+    unit: Label,
+}
+
+impl Model for Signal {
+    ghost use Rattle.j39_signal.specs.Parts.{SignalParts, IsSignal};
+
+    ghost Value = { SignalParts };
+
+    ghost view = { λ s. record {
+      label = s.label;
+      start = s.start;
+      bits = s.bits;
+      kind = s.kind;
+      step = s.step;
+      offset = s.offset;
+      unit = s.unit;
+    } };
+
+    ghost invariant = { λ s. IsSignal s.start s.bits s.step s.offset };
+
+    ghost inverse = { λ s. record {
+      label = s.label;
+      start = s.start;
+      bits = s.bits;
+      kind = s.kind;
+      step = s.step;
+      offset = s.offset;
+      unit = s.unit;
+    } };
+}
+
+impl Signal {
+    ghost use Rattle.j39_signal.specs.Parts.{HasRanges, CanBeSignal};
+    ghost use Rattle.j39_signal.specs.Places.{width_fits, end_of, IsInside, is_inside, SharesBit, shares_bit};
+
+    /// A signal of `bits` bits from bit `start` of the payload on, both counted from 0.
+    ///
+    /// None unless `bits` is 1..=64, `step` is 1..=1,000,000 and `offset` is within plus or minus 10^12.
+    pub fn new(
+        label: Label,
+        start: u16,
+        bits: u8,
+        kind: Kind,
+        step: i64,
+        offset: i64,
+        unit: Label,
+    ) -> Option<Self>
+        ensures valid { IsSome result ↔ CanBeSignal bits step offset }
+        ensures label { IfSome result (λ s. s.label ≡ label) }
+        ensures start { IfSome result (λ s. s.start ≡ start) }
+        ensures bits { IfSome result (λ s. s.bits ≡ bits) }
+        ensures kind { IfSome result (λ s. s.kind ≡ kind) }
+        ensures step { IfSome result (λ s. pos s.step ≡ step) }
+        ensures offset { IfSome result (λ s. s.offset ≡ offset) }
+        ensures unit { IfSome result (λ s. s.unit ≡ unit) }
+    {
+        let in_range = 1 <= bits
+            && bits <= 64
+            && 1 <= step
+            && step <= 1_000_000
+            && -1_000_000_000_000 <= offset
+            && offset <= 1_000_000_000_000;
+        if in_range {
+            Some(Signal {
+                label,
+                start,
+                bits,
+                kind,
+                step: step as u32,
+                offset,
+                unit,
+            })
+        } else {
+            None
+        }
+    }
+
+    /// The name of the signal.
+    pub fn label(&self) -> &Label
+        ensures { result.now ≡ self.now.label }
+    {
+        &self.label
+    }
+
+    /// The place of the lowest bit, counted from 0.
+    pub fn start(&self) -> u16
+        ensures { result ≡ self.now.start }
+    {
+        self.start
+    }
+
+    /// The width in bits.
+    pub fn bits(&self) -> u8
+        ensures value { result ≡ self.now.bits }
+        ensures ranges { HasRanges self.now }
+    {
+        self.bits
+    }
+
+    /// What the raw numbers mean.
+    pub fn kind(&self) -> Kind
+        ensures { result ≡ self.now.kind }
+    {
+        self.kind
+    }
+
+    /// How much the value rises from one raw number to the next.
+    pub fn step(&self) -> i64
+        ensures value { result ≡ pos self.now.step }
+        ensures ranges { HasRanges self.now }
+    {
+        i64::from(self.step)
+    }
+
+    /// The value of the raw number 0.
+    pub fn offset(&self) -> i64
+        ensures value { result ≡ self.now.offset }
+        ensures ranges { HasRanges self.now }
+    {
+        self.offset
+    }
+
+    /// The unit of the value, empty where it has none.
+    pub fn unit(&self) -> &Label
+        ensures { result.now ≡ self.now.unit }
+    {
+        &self.unit
+    }
+
+    /// Whether the width fits the kind: 8, 16 or 32 bits for a measured signal, 2 for a discrete one, 1..=32 for a raw one.
+    pub fn width_fits(&self) -> bool
+        ensures { result ≡ width_fits self.now.kind self.now.bits }
+    {
+        match self.kind {
+            Kind::Measured => self.bits == 8 || self.bits == 16 || self.bits == 32,
+            Kind::Discrete => self.bits == 2,
+            Kind::Raw => 1 <= self.bits && self.bits <= 32,
+        }
+    }
+
+    // The first place after the signal.
+    fn end(&self) -> u32
+        ensures { result ≡ end_of self.now }
+    {
+        u32::from(self.start) + u32::from(self.bits)
+    }
+
+    /// Whether the signal ends within a payload of `length` bytes.
+    pub fn is_inside(&self, length: u16) -> bool
+        ensures test { result ≡ is_inside length self.now }
+        ensures inside { IsTrue result ↔ IsInside length self.now }
+    {
+        self.end() <= 8 * u32::from(length)
+    }
+
+    /// Whether some bit belongs to both signals.
+    #[tactic(auto, using(crate::proofs::Sharing::shared_by_test))]
+    pub fn shares_bit(&self, other: &Signal) -> bool
+        ensures test { result ≡ shares_bit self.now other.now }
+        ensures shared { IsTrue result ↔ SharesBit self.now other.now }
+    {
+        u32::from(self.start.max(other.start)) < self.end().min(other.end())
+    }
+}

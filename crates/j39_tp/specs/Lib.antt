@@ -1,0 +1,5 @@
+pub mod Chunks
+pub mod Packets
+pub mod Sender
+pub mod Receiver
+pub mod Carried

@@ -1,0 +1,17 @@
+//! What a receiver does with what it hears.
+use crate::Packet;
+
+/// What a receiver does with what it hears.
+#[derive(Clone, Copy, Debug, PartialEq, Eq)]
+pub enum Heard {
+    /// Nothing is sent, and no message is complete.
+    Nothing,
+    /// This is to be sent; an Abort ended the session.
+    Reply(Packet),
+    /// The message is complete.
+    Complete,
+    /// The message is complete, and this is to be sent.
+    CompleteReply(Packet),
+    /// The session ended without a message.
+    Closed,
+}

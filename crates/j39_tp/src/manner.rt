@@ -1,0 +1,8 @@
+//! Whether a receiver answers.
+
+/// Whether a receiver answers, and how many packets it then lets be sent for each CTS.
+#[derive(Clone, Copy, Debug, PartialEq, Eq)]
+pub enum Manner {
+    Answering { window: u8 },
+    Listening,
+}

@@ -1,0 +1,88 @@
+//! Messages.
+ghost use Rattle.std.specs.Prelude.{◌≡◌, ◌-◌, ◌≤◌, ◌++◌, ◌↔◌, length, replicate, IsSome, IfSome};
+ghost use Rattle.j39_tp.specs.Chunks.{IsSize, chunk};
+
+use crate::Size;
+use arrayvec::ArrayVec;
+use j39_id::Pgn;
+use std::marker::Model;
+
+/// A message of 9 to 1785 bytes that belongs to a group.
+#[derive(Drop)]
+pub struct Message {
+    pgn: Pgn,
+    bytes: ArrayVec<u8, 1785>,
+}
+
+impl Model for Message {
+    ghost use Rattle.std.specs.Prelude.{length};
+    ghost use Rattle.j39_tp.specs.Chunks.{IsSize, Letter};
+
+    ghost Value = { Letter };
+
+    ghost view = { λ m. record { group = m.pgn; bytes = m.bytes.items } };
+
+    ghost invariant = { λ m. IsSize (length m.bytes.items) };
+}
+
+impl Message {
+    /// The message of these bytes, `None` where they are fewer than 9 or more than 1785.
+    pub fn new(pgn: Pgn, bytes: &[u8]) -> Option<Self>
+        ensures valid { IsSome result ↔ IsSize (length bytes.now) }
+        ensures value { IfSome result (λ m. m ≡ record { group = pgn; bytes = bytes.now }) }
+    {
+        if bytes.len() < 9 {
+            return None;
+        }
+        let Ok(bytes) = ArrayVec::try_from(bytes) else {
+            return None;
+        };
+        Some(Message { pgn, bytes })
+    }
+
+    /// The group that the message belongs to.
+    pub fn pgn(&self) -> Pgn
+        ensures { result ≡ self.now.group }
+    {
+        self.pgn
+    }
+
+    /// How many bytes it has.
+    pub fn size(&self) -> Size
+        ensures { result ≡ length self.now.bytes }
+    {
+        let Some(size) = Size::new(self.bytes.len() as u16) else {
+            unreachable!()
+        };
+        size
+    }
+
+    /// The seven bytes that a data packet of this number carries, filled with 255.
+    pub fn chunk(&self, number: u8) -> [u8; 7]
+        ensures { result ≡ chunk self.now.bytes number }
+    {
+        let rest = match self.bytes.get(7 * usize::from(number.saturating_sub(1))..) {
+            Some(rest) => rest,
+            None => &[],
+        };
+        filled(&rest[..rest.len().min(7)])
+    }
+
+    /// Its bytes.
+    pub fn bytes(&self) -> &[u8]
+        ensures value { result.now ≡ self.now.bytes }
+        ensures range { IsSize (length self.now.bytes) }
+    {
+        self.bytes.as_slice()
+    }
+}
+
+// At most seven bytes, filled with 255.
+fn filled(part: &[u8]) -> [u8; 7]
+    requires { length part.now ≤ 7 }
+    ensures { result ≡ part.now ++ replicate (7 - length part.now) 255 }
+{
+    let mut chunk = [255; 7];
+    chunk[..part.len()].copy_from_slice(part);
+    chunk
+}

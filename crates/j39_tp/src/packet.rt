@@ -1,0 +1,52 @@
+//! Transport packets.
+ghost use Rattle.std.specs.Prelude.{◌≡◌, length};
+ghost use Rattle.j39_tp.specs.Packets.{InRange};
+
+use crate::Size;
+use j39_id::Pgn;
+
+/// A packet of the transport protocol (SAE J1939-21): five of connection management, and data.
+#[derive(Clone, Copy, Debug, PartialEq, Eq)]
+pub enum Packet {
+    /// Request to send a message to one: at most `limit` packets for each CTS, 255 being no limit.
+    Rts { size: Size, limit: u8, pgn: Pgn },
+    /// Clear to send `count` packets from number `first` on; a count of 0 holds the sender.
+    Cts { count: u8, first: u8, pgn: Pgn },
+    /// The whole message was received.
+    EndAck { size: Size, pgn: Pgn },
+    /// Announcement of a message to all.
+    Bam { size: Size, pgn: Pgn },
+    /// The session is given up.
+    Abort { reason: u8, pgn: Pgn },
+    /// Seven bytes of the message, packets being counted from 1.
+    Dt { number: u8, chunk: [u8; 7] },
+}
+
+// A chunk has seven bytes.
+fn known_length(chunk: [u8; 7])
+    ensures { length chunk ≡ 7 }
+{}
+
+// The parts of a packet are in their ranges.
+pub(crate) fn known_ranges(packet: &Packet)
+    ensures { InRange packet.now }
+{
+    match *packet {
+        Packet::Rts { size, pgn, .. } => {
+            let _ = (size.bytes(), pgn.number());
+        }
+        Packet::Cts { pgn, .. } => {
+            let _ = pgn.number();
+        }
+        Packet::EndAck { size, pgn } => {
+            let _ = (size.bytes(), pgn.number());
+        }
+        Packet::Bam { size, pgn } => {
+            let _ = (size.bytes(), pgn.number());
+        }
+        Packet::Abort { pgn, .. } => {
+            let _ = pgn.number();
+        }
+        Packet::Dt { chunk, .. } => known_length(chunk),
+    }
+}

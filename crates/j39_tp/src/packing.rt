@@ -1,0 +1,45 @@
+//! Packing packets into bytes.
+ghost use Rattle.std.specs.Prelude.{◌≡◌, ◌∷◌, ◌++◌};
+ghost use Rattle.j39_tp.specs.Packets.{data_of, group_bytes, size_bytes};
+
+use crate::{Packet, Size};
+use j39_id::Pgn;
+
+// A connection management packet: its own bytes and the group.
+fn managed(fields: [u8; 5], pgn: Pgn) -> [u8; 8]
+    ensures { result ≡ fields ++ group_bytes pgn }
+{
+    let [control, second, third, fourth, fifth] = fields;
+    let [low, middle, high, _] = pgn.number().to_le_bytes();
+    [control, second, third, fourth, fifth, low, middle, high]
+}
+
+// A connection management packet that gives a size.
+fn sized(control: u8, size: Size, limit: u8, pgn: Pgn) -> [u8; 8]
+    ensures { result ≡ control ∷ size_bytes size (limit ∷ group_bytes pgn) }
+{
+    let [low, high] = size.bytes().to_le_bytes();
+    managed([control, low, high, size.packets(), limit], pgn)
+}
+
+// A data packet: its number and its chunk.
+fn numbered(number: u8, chunk: [u8; 7]) -> [u8; 8]
+    ensures { result ≡ number ∷ chunk }
+{
+    let [first, second, third, fourth, fifth, sixth, seventh] = chunk;
+    [number, first, second, third, fourth, fifth, sixth, seventh]
+}
+
+/// The eight bytes of the packet as SAE J1939-21 lays them out, those without a meaning being 255.
+pub fn to_data(packet: &Packet) -> [u8; 8]
+    ensures { result ≡ data_of packet.now }
+{
+    match *packet {
+        Packet::Rts { size, limit, pgn } => sized(16, size, limit, pgn),
+        Packet::Cts { count, first, pgn } => managed([17, count, first, 255, 255], pgn),
+        Packet::EndAck { size, pgn } => sized(19, size, 255, pgn),
+        Packet::Bam { size, pgn } => sized(32, size, 255, pgn),
+        Packet::Abort { reason, pgn } => managed([255, reason, 255, 255, 255], pgn),
+        Packet::Dt { number, chunk } => numbered(number, chunk),
+    }
+}

@@ -1,0 +1,102 @@
+//! Unpacking bytes into packets.
+ghost use Rattle.std.specs.Prelude.{◌≡◌, ◌+◌, ◌*◌, ◌==◌, not, IfOk, IfErr, if◌then◌else◌};
+ghost use Rattle.j39_tp.specs.Chunks.{packets_of};
+ghost use Rattle.j39_tp.specs.Packets.{is_size, is_group, InRange, ManagementReads, DataReads, first_fault, management_faults, data_faults};
+
+use crate::{Packet, PacketError, Size};
+use j39_id::Pgn;
+
+// The size that two bytes give, whose number of packets must be this.
+fn size_of(low: u8, high: u8, packets: u8) -> Result<Size, PacketError>
+    ensures { result ≡ (if not (is_size (low + 256 * high)) then Err PacketError.Size else if not (packets == packets_of (low + 256 * high)) then Err PacketError.Count else Ok (low + 256 * high)) }
+{
+    let Some(size) = Size::new(u16::from_le_bytes([low, high])) else {
+        return Err(PacketError::Size);
+    };
+    if size.packets() != packets {
+        return Err(PacketError::Count);
+    }
+    Ok(size)
+}
+
+// The group that three bytes give.
+fn group_of(low: u8, middle: u8, high: u8) -> Result<Pgn, PacketError>
+    ensures { result ≡ (if is_group (low + 256 * middle + 65536 * high) then Ok (low + 256 * middle + 65536 * high) else Err PacketError.Group) }
+{
+    let Some(pgn) = Pgn::new(u32::from_le_bytes([low, middle, high, 0])) else {
+        return Err(PacketError::Group);
+    };
+    Ok(pgn)
+}
+
+/// The connection management packet (TP.CM of SAE J1939-21) that the bytes are; a byte without a meaning may be anything.
+/// The refusals are Length, Control, Size, Count, Number and Group, the first that holds.
+pub fn from_cm(bytes: &[u8]) -> Result<Packet, PacketError>
+    ensures found { IfOk result (ManagementReads bytes.now) }
+    ensures range { IfOk result InRange }
+    ensures refused { IfErr result (λ e. first_fault (management_faults bytes.now) ≡ Some e) }
+    ensures only { (p : Packet) → ManagementReads bytes.now p → result ≡ Ok p }
+{
+    let &[control, second, third, fourth, fifth, low, middle, high] = bytes else {
+        return Err(PacketError::Length);
+    };
+    match control {
+        16 => {
+            let size = size_of(second, third, fourth)?;
+            let pgn = group_of(low, middle, high)?;
+            Ok(Packet::Rts {
+                size,
+                limit: fifth,
+                pgn,
+            })
+        }
+        17 => {
+            if second > 0 && third == 0 {
+                return Err(PacketError::Number);
+            }
+            let pgn = group_of(low, middle, high)?;
+            Ok(Packet::Cts {
+                count: second,
+                first: third,
+                pgn,
+            })
+        }
+        19 => {
+            let size = size_of(second, third, fourth)?;
+            let pgn = group_of(low, middle, high)?;
+            Ok(Packet::EndAck { size, pgn })
+        }
+        32 => {
+            let size = size_of(second, third, fourth)?;
+            let pgn = group_of(low, middle, high)?;
+            Ok(Packet::Bam { size, pgn })
+        }
+        255 => {
+            let pgn = group_of(low, middle, high)?;
+            Ok(Packet::Abort {
+                reason: second,
+                pgn,
+            })
+        }
+        _ => Err(PacketError::Control),
+    }
+}
+
+/// The data packet (TP.DT of SAE J1939-21) that the bytes are. The refusals are Length and Number, the first that holds.
+pub fn from_dt(bytes: &[u8]) -> Result<Packet, PacketError>
+    ensures found { IfOk result (DataReads bytes.now) }
+    ensures range { IfOk result InRange }
+    ensures refused { IfErr result (λ e. first_fault (data_faults bytes.now) ≡ Some e) }
+    ensures only { (p : Packet) → DataReads bytes.now p → result ≡ Ok p }
+{
+    let &[number, first, second, third, fourth, fifth, sixth, seventh] = bytes else {
+        return Err(PacketError::Length);
+    };
+    if number == 0 {
+        return Err(PacketError::Number);
+    }
+    Ok(Packet::Dt {
+        number,
+        chunk: [first, second, third, fourth, fifth, sixth, seventh],
+    })
+}
