@@ -4,13 +4,14 @@ ghost use Rattle.std.specs.Io.KnownBytes.{Appends};
 ghost use Rattle.j39_app.specs.Orders.{IsAnswer};
 
 use super::orders::{Order, WordsFault};
-use crate::{Fault, FromRead, Sink, ToWrite, Verdict, frame_text, input_text, order, put_all, status};
-use std::env;
+use crate::{
+    Fault, FromRead, Sink, ToWrite, Verdict, frame_text, input_text, order, put_all, status,
+};
 use std::env::Env;
 use std::fmt::Display;
-use std::io;
 use std::io::{BufWriter, ErrorKind};
 use std::process::ExitCode;
+use std::{env, io};
 
 // The status of a bad command line.
 const BAD: u8 = 2;

@@ -75,7 +75,10 @@ fn names_each_refusal(rt: HostRuntime) -> Result<(), Fail> {
 #[test]
 fn takes_the_first_line_of_the_input(rt: HostRuntime) -> Result<(), Fail> {
     for (input, text) in [
-        ("18EAFF00#00EE00\n123#00\n", "frame 18EAFF00#00EE00\npriority 6 pgn 59904 from 0 to all\nrequest 60928\n"),
+        (
+            "18EAFF00#00EE00\n123#00\n",
+            "frame 18EAFF00#00EE00\npriority 6 pgn 59904 from 0 to all\nrequest 60928\n",
+        ),
         ("123#00", "refused ShortIdent\n"),
         ("\n18EAFF00#00EE00", "refused Empty\n"),
     ] {

@@ -52,7 +52,11 @@ fn a_stopped_write_leaves_a_prefix(rt: HostRuntime) -> Result<(), Fail> {
             let mut sink = sink(rt.alloc(), 100, 10, stop)?;
             let outcome = frame_text(rt.alloc(), LINE.as_bytes(), &mut sink);
             let length = (10 * (call as usize - 1)).min(TEXT.len());
-            let answer = if call < 8 { Err(Fault::Device) } else { Ok(Verdict::Done) };
+            let answer = if call < 8 {
+                Err(Fault::Device)
+            } else {
+                Ok(Verdict::Done)
+            };
             assert_eq!(rt; outcome, answer, "at {stop:?}");
             assert_eq!(rt; sink.written(), &TEXT.as_bytes()[..length], "at {stop:?}");
         }

@@ -1,0 +1,16 @@
+pub mod CleanLaws
+pub mod Counting
+pub mod Deciding
+pub mod EachElement
+pub mod Families
+pub mod FirstFaults
+pub mod FoundLaws
+pub mod Labelled
+pub mod Members
+pub mod NoFaults
+pub mod PlaceLemmas
+pub mod ReadGroups
+pub mod ReadPlans
+pub mod Rising
+pub mod Tables
+pub mod Trees

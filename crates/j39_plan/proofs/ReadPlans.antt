@@ -1,0 +1,74 @@
+-- What is true of the units, the groups and the flows of a plan that was read.
+use Rattle.std.proofs.Common.{◌≡◌, ◌≢◌, ℕ, ◌<◌, Bool, true, false, if◌then◌else◌, List, [], length, map, Option, Some, None, option_map, All, AllPairs, codes}
+use Rattle.std.proofs.lemmas.List.{length-map}
+use Rattle.std.proofs.lemmas.List.Quantifiers.{position-Some}
+use Rattle.std.specs.Option.{option_and_then}
+use Rattle.std.specs.Str.{bytes_eq}
+use Rattle.toml.specs.Data.{Data, Items}
+use Rattle.j39_plan.specs.declared.plan.to.To.{To}
+use Rattle.j39_plan.specs.declared.plan.to.To.TheVariants.{All as ToAll, One}
+use Rattle.j39_plan.specs.declared.plan.unit_plan.UnitPlan.{UnitPlan}
+use Rattle.j39_plan.specs.declared.plan.group_plan.GroupPlan.{GroupPlan}
+use Rattle.j39_plan.specs.declared.reading.place.Table.TheVariants as at
+use Rattle.j39_plan.specs.declared.reading.text_kind.TextKind.TheVariants as texts
+use Rattle.j39_plan.specs.Elements.{each_faults, Each, is_among}
+use Rattle.j39_plan.specs.Units.{IsUnitOf, unit_label, unit_faults}
+use Rattle.j39_plan.specs.Groups.{IsGroupOf, group_label, group_faults}
+use Rattle.j39_plan.specs.declared.plan.flow_plan.FlowPlan.{FlowPlan}
+use Rattle.j39_plan.specs.Flows.{place_of, receivers, IsFlowOf}
+use Rattle.j39_plan.proofs.NoFaults.{none_right, All-from_Each, fresh_label, labels_apart}
+
+fresh_unit : (i : ℕ) (seen : List (List ℕ)) (d : Data) (u : UnitPlan) → IsUnitOf d u → unit_faults i seen d ≡ [] → is_among seen (unit_label d) ≡ false
+unfolding unit_faults
+fresh_unit i seen d u is none = fresh_label (at.Unit i) texts.UnitLabel seen (unit_label d) (rw (← is.has_label) u.label_form) (none_right _ _ none)
+
+pub units_apart : (ds : Items) (xs : List UnitPlan) → Each IsUnitOf ds xs → each_faults unit_faults unit_label 0 [] ds ≡ [] → AllPairs (λ u w. u.label.bytes ≢ w.label.bytes) xs
+units_apart ds xs each none =
+    labels_apart IsUnitOf unit_faults unit_label (λ u. u.label.bytes) (λ d u is. is.has_label) fresh_unit ds xs each none
+
+fresh_group : (i : ℕ) (seen : List (List ℕ)) (d : Data) (g : GroupPlan) → IsGroupOf d g → group_faults i seen d ≡ [] → is_among seen (group_label d) ≡ false
+unfolding group_faults
+fresh_group i seen d g is none = fresh_label (at.Group i) texts.Label seen (group_label d) (rw (← is.has_label) g.label_form) (none_right _ _ none)
+
+pub groups_apart : (ds : Items) (xs : List GroupPlan) → Each IsGroupOf ds xs → each_faults group_faults group_label 0 [] ds ≡ [] → AllPairs (λ g h. g.label.bytes ≢ h.label.bytes) xs
+groups_apart ds xs each none =
+    labels_apart IsGroupOf group_faults group_label (λ g. g.label.bytes) (λ d g is. is.has_label) fresh_group ds xs each none
+
+place_below : (labels : List (List ℕ)) (label : List ℕ) (p : ℕ) → place_of labels label ≡ Some p → p < length labels
+unfolding place_of
+place_below labels label p found = (position-Some (λ l. bytes_eq l label) labels p [] found).0
+
+-- a place that a text names is in range
+pub placed : (labels : List (List ℕ)) (text : Option (List ℕ)) (p : ℕ) → option_and_then (place_of labels) text ≡ Some p → p < length labels
+placed labels None p found = cc
+placed labels (Some label) p found = place_below labels label p found
+
+one_of : (is_all : Bool) (place : Option ℕ) (r : ℕ) → (if is_all then Some ToAll else option_map One place) ≡ Some (One r) → place ≡ Some r
+one_of true place r found = cc
+one_of false None r found = cc
+one_of false (Some p) r found = cc
+
+receiver_below : (units : List (List ℕ)) (word : List ℕ) (r : ℕ) → receivers units word ≡ Some (One r) → r < length units
+unfolding receivers
+receiver_below units word r found = place_below units word r (one_of (bytes_eq word (codes "all")) (place_of units word) r found)
+
+-- a receiver that a text names is in range
+pub received : (units : List (List ℕ)) (text : Option (List ℕ)) (to : To) (r : ℕ) → option_and_then (receivers units) text ≡ Some to → to ≡ One r → r < length units
+received units None to r found is = cc
+received units (Some word) to r found is = receiver_below units word r (rw is at found)
+
+-- the labels of units and of groups
+abbrev pub unit_texts : List UnitPlan → List (List ℕ)
+unit_texts = map (λ u. u.label.bytes)
+
+abbrev pub group_texts : List GroupPlan → List (List ℕ)
+group_texts = map (λ g. g.label.bytes)
+
+pub flow_groups : (gs : List GroupPlan) (us : List UnitPlan) (ds : Items) (fs : List FlowPlan) → Each (IsFlowOf (group_texts gs) (unit_texts us)) ds fs → All (λ f. f.group < length gs) fs
+flow_groups gs us ds fs each = All-from_Each (IsFlowOf (group_texts gs) (unit_texts us)) (λ f. f.group < length gs) (λ d f is. rw length-map at (placed (group_texts gs) _ f.group is.has_group)) ds fs each
+
+pub flow_senders : (gs : List GroupPlan) (us : List UnitPlan) (ds : Items) (fs : List FlowPlan) → Each (IsFlowOf (group_texts gs) (unit_texts us)) ds fs → All (λ f. f.sender < length us) fs
+flow_senders gs us ds fs each = All-from_Each (IsFlowOf (group_texts gs) (unit_texts us)) (λ f. f.sender < length us) (λ d f is. rw length-map at (placed (unit_texts us) _ f.sender is.has_sender)) ds fs each
+
+pub flow_receivers : (gs : List GroupPlan) (us : List UnitPlan) (ds : Items) (fs : List FlowPlan) → Each (IsFlowOf (group_texts gs) (unit_texts us)) ds fs → All (λ f. (r : ℕ) → f.to ≡ One r → r < length us) fs
+flow_receivers gs us ds fs each = All-from_Each (IsFlowOf (group_texts gs) (unit_texts us)) (λ f. (r : ℕ) → f.to ≡ One r → r < length us) (λ d f is r one. rw length-map at (received (unit_texts us) _ f.to r is.has_receivers one)) ds fs each

@@ -1,0 +1,13 @@
+use Rattle.std.proofs.Common.{◌≤◌, length, sym, ◌∙◌, arith}
+use Rattle.j39_plan.proofs.PlaceLemmas.{in_each_more, in_each_all}
+use Rattle.j39_plan.proofs.checking.rules.find_each.Goals as goal
+
+pub loop-place-preserved : goal.loop-place-preserved
+loop-place-preserved g c =
+    rw c.in_ok-find.ensures
+    (in_each_more (g.R.Rule.gives c.args.rule.now) c.index-values-place.result c.loop-place.place c.args.values.now c.loop-place.findings.items c.loop-place-test.true c.index-values-place.is ∙ c.loop-place.invariant)
+
+pub returns : goal.returns
+returns g c =
+    let over : length c.args.values.now ≤ c.loop-place.place = omega arith in
+    sym (in_each_all (g.R.Rule.gives c.args.rule.now) c.loop-place.place c.args.values.now c.loop-place.findings.items over) ∙ c.loop-place.invariant

@@ -1,0 +1,14 @@
+use Rattle.std.proofs.Common.{◌≤◌, length, sym, ◌∙◌, arith}
+use Rattle.j39_plan.proofs.PlaceLemmas.{in_each_more, in_each_all, after, pairs_is}
+use Rattle.j39_plan.proofs.checking.rules.find_pairs.Goals as goal
+
+pub loop-i-preserved : goal.loop-i-preserved
+loop-i-preserved g c =
+    rw c.in_ok-find_against.ensures
+    (in_each_more (after g.R.PairRule.test (g.R.PairRule.make c.args.rule.now) c.args.values.now) c.index-values-i.result c.loop-i.i c.args.values.now c.loop-i.findings.items c.loop-i-test.true c.index-values-i.is ∙ c.loop-i.invariant)
+
+pub returns : goal.returns
+returns g c =
+    let over : length c.args.values.now ≤ c.loop-i.i = omega arith in
+    rw (pairs_is g.R.PairRule.test (g.R.PairRule.make c.args.rule.now) c.args.values.now)
+    (sym (in_each_all (after g.R.PairRule.test (g.R.PairRule.make c.args.rule.now) c.args.values.now) c.loop-i.i c.args.values.now c.loop-i.findings.items over) ∙ c.loop-i.invariant)

@@ -1,0 +1,65 @@
+use Rattle.std.proofs.Common.{◌≡◌, ◌++◌, [], map, refl}
+use Rattle.std.proofs.lemmas.Result.{err_from_is_err_and}
+use Rattle.toml.specs.View.{table_view, items_view}
+use Rattle.j39_plan.specs.declared.reading.key.Key.TheVariants as key
+use Rattle.j39_plan.specs.Schema.{tables_of}
+use Rattle.j39_plan.specs.Elements.{each_faults, Each}
+use Rattle.j39_plan.specs.Outcome.{Fails}
+use Rattle.j39_plan.specs.Units.{IsUnitOf, unit_label, unit_faults}
+use Rattle.j39_plan.specs.Groups.{IsGroupOf, group_label, group_faults}
+use Rattle.j39_plan.specs.Flows.{flow_faults, IsFlowOf}
+use Rattle.j39_plan.specs.Faults.{faults, unit_rule, group_rule, flow_rule, unit_labels, group_labels, no_label}
+use Rattle.j39_plan.proofs.NoFaults.{tables_count, length-Each, labels_told}
+use Rattle.j39_plan.proofs.ReadPlans.{units_apart, groups_apart, unit_texts, group_texts, flow_groups, flow_senders, flow_receivers}
+use Rattle.j39_plan.proofs.reading.read_top.Goals as goal
+
+pub returns-in_err-flows : goal.returns-in_err-flows
+returns-in_err-flows c =
+    let p = err_from_is_err_and c.from_residual-in_err-flows.result c.from_residual-in_err-flows.ensures.1 in
+    let groups = labels_told IsGroupOf group_label (λ g. g.label.bytes) (λ d g is. is.has_label) _ _ c.in_ok-groups.ensures.1 in
+    let units = labels_told IsUnitOf unit_label (λ u. u.label.bytes) (λ d u is. is.has_label) _ _ c.in_ok-units.ensures.1 in
+    let no_units = rw c.in_ok-unit_values.ensures.1 at c.in_ok-units.ensures.0 in
+    let no_groups = rw c.in_ok-group_values.ensures.1 at c.in_ok-groups.ensures.0 in
+    let told : Fails c.in_err-flows.field-0.0 (each_faults (λ i seen. flow_faults (group_texts c.in_ok-groups.groups.items) (unit_texts c.in_ok-units.units.items) i) no_label 0 [] (items_view c.in_ok-flow_values.flow_values.now)) = rw (c.deref.ensures.value, c.deref-2.ensures.value) at c.in_err-flows.ensures in
+    let fails = rw (groups, units, c.in_ok-group_values.ensures.1, c.in_ok-unit_values.ensures.1, c.in_ok-flow_values.ensures.1) at told in
+    rw (p.1, p.2, c.in_ok-only.ensures.0, c.in_ok-number.ensures.gives.0, c.in_ok-unit_values.ensures.0, c.in_ok-group_values.ensures.0, c.in_ok-flow_values.ensures.0, no_units, no_groups) fails
+
+pub invariant_of-result-clause-unit_count : goal.invariant_of-result-clause-unit_count
+invariant_of-result-clause-unit_count c = rw (length-Each _ _ _ c.in_ok-units.ensures.1, c.in_ok-unit_values.ensures.1) (tables_count key.Unit 128 _)
+
+pub invariant_of-result-clause-group_count : goal.invariant_of-result-clause-group_count
+invariant_of-result-clause-group_count c = rw (length-Each _ _ _ c.in_ok-groups.ensures.1, c.in_ok-group_values.ensures.1) (tables_count key.Group 256 _)
+
+pub invariant_of-result-clause-flow_count : goal.invariant_of-result-clause-flow_count
+invariant_of-result-clause-flow_count c = rw (length-Each _ _ _ c.in_ok-flows.ensures.1, c.in_ok-flow_values.ensures.1) (tables_count key.Flow 512 _)
+
+pub invariant_of-result-clause-unit_labels : goal.invariant_of-result-clause-unit_labels
+invariant_of-result-clause-unit_labels c = units_apart _ _ c.in_ok-units.ensures.1 c.in_ok-units.ensures.0
+
+pub invariant_of-result-clause-group_labels : goal.invariant_of-result-clause-group_labels
+invariant_of-result-clause-group_labels c = groups_apart _ _ c.in_ok-groups.ensures.1 c.in_ok-groups.ensures.0
+
+pub invariant_of-result-clause-flow_groups : goal.invariant_of-result-clause-flow_groups
+invariant_of-result-clause-flow_groups c = flow_groups _ _ _ _ (rw (c.deref.ensures.value, c.deref-2.ensures.value) at c.in_ok-flows.ensures.1)
+
+pub invariant_of-result-clause-flow_senders : goal.invariant_of-result-clause-flow_senders
+invariant_of-result-clause-flow_senders c = flow_senders _ _ _ _ (rw (c.deref.ensures.value, c.deref-2.ensures.value) at c.in_ok-flows.ensures.1)
+
+pub invariant_of-result-clause-flow_receivers : goal.invariant_of-result-clause-flow_receivers
+invariant_of-result-clause-flow_receivers c = flow_receivers _ _ _ _ (rw (c.deref.ensures.value, c.deref-2.ensures.value) at c.in_ok-flows.ensures.1)
+
+pub returns : goal.returns
+returns c =
+    let groups = labels_told IsGroupOf group_label (λ g. g.label.bytes) (λ d g is. is.has_label) _ _ c.in_ok-groups.ensures.1 in
+    let units = labels_told IsUnitOf unit_label (λ u. u.label.bytes) (λ d u is. is.has_label) _ _ c.in_ok-units.ensures.1 in
+    let no_units = rw c.in_ok-unit_values.ensures.1 at c.in_ok-units.ensures.0 in
+    let no_groups = rw c.in_ok-group_values.ensures.1 at c.in_ok-groups.ensures.0 in
+    let told : (each_faults (λ i seen. flow_faults (group_texts c.in_ok-groups.groups.items) (unit_texts c.in_ok-units.units.items) i) no_label 0 [] (items_view c.in_ok-flow_values.flow_values.now) ≡ []) × Each (IsFlowOf (group_texts c.in_ok-groups.groups.items) (unit_texts c.in_ok-units.units.items)) (items_view c.in_ok-flow_values.flow_values.now) c.in_ok-flows.flows.items = rw (c.deref.ensures.value, c.deref-2.ensures.value) at c.in_ok-flows.ensures in
+    let flows = rw (groups, units, c.in_ok-group_values.ensures.1, c.in_ok-unit_values.ensures.1, c.in_ok-flow_values.ensures.1) at told in (
+      rw (c.in_ok-only.ensures.0, c.in_ok-number.ensures.gives.0, c.in_ok-unit_values.ensures.0, c.in_ok-group_values.ensures.0, c.in_ok-flow_values.ensures.0, no_units, no_groups) flows.0,
+      record {
+        has_units = rw c.in_ok-unit_values.ensures.1 at c.in_ok-units.ensures.1;
+        has_groups = rw c.in_ok-group_values.ensures.1 at c.in_ok-groups.ensures.1;
+        has_flows = flows.1;
+      },
+    )

@@ -1,0 +1,36 @@
+-- Which plan a file describes, and what reading it answers.
+use Rattle.std.specs.Prelude.{◌≡◌, ℕ, List, [], if◌then◌else◌, Option, Some, None, Result, Ok, Err}
+use Rattle.std.specs.Str.{is_utf8}
+use Rattle.toml.specs.Data.{Members}
+use Rattle.toml.specs.Parse.{parse_document}
+use Rattle.j39_plan.specs.declared.plan.Plan.{Plan}
+use Rattle.j39_plan.specs.declared.reading.plan_error.PlanError.{PlanError}
+use Rattle.j39_plan.specs.declared.reading.plan_error.PlanError.TheVariants as errors
+use Rattle.j39_plan.specs.Schema.{tables_of}
+use Rattle.j39_plan.specs.Elements.{Each}
+use Rattle.j39_plan.specs.Outcome.{first}
+use Rattle.j39_plan.specs.Units.{IsUnitOf}
+use Rattle.j39_plan.specs.Groups.{IsGroupOf}
+use Rattle.j39_plan.specs.Flows.{IsFlowOf}
+use Rattle.j39_plan.specs.Faults.{faults, unit_rule, group_rule, flow_rule, unit_labels, group_labels}
+
+-- the plan's units, groups and flows are those of the tree
+pub record Holds (tree : Members) (p : Plan) : Type 0 where
+  pub has_units : Each IsUnitOf (tables_of unit_rule tree) p.units.items
+  pub has_groups : Each IsGroupOf (tables_of group_rule tree) p.groups.items
+  pub has_flows : Each (IsFlowOf (group_labels tree) (unit_labels tree)) (tables_of flow_rule tree) p.flows.items
+
+-- the tree has no fault, and the plan is what it tells
+abbrev pub Described : Members → Plan → Type 0
+Described tree p = (faults tree ≡ []) × Holds tree p
+
+-- the tree of a text, where the bytes are UTF-8 and TOML
+abbrev pub tree_of : List ℕ → Option Members
+tree_of bytes = if is_utf8 bytes then parse_document bytes else None
+
+-- the plan that the tree describes, or its first fault, or that there is no tree, unless memory ran out
+abbrev pub Reads : Result Plan PlanError → Option Members → Type 0
+Reads (Ok p) tree = (t : Members) × (tree ≡ Some t) × Described t p
+Reads (Err errors.Text) tree = tree ≡ None
+Reads (Err (errors.Fault f)) tree = (t : Members) × (tree ≡ Some t) × (first (faults t) ≡ Some f)
+Reads (Err errors.Memory) tree = Unit {0}

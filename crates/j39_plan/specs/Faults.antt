@@ -1,0 +1,44 @@
+-- Every fault of a plan file's tree, in the order in which they are looked for.
+use Rattle.std.specs.Prelude.{ℕ, List, [], ◌∷◌, ◌++◌, None}
+use Rattle.toml.specs.Data.{Data, Members}
+use Rattle.j39_plan.specs.declared.reading.key.Key.TheVariants as key
+use Rattle.j39_plan.specs.declared.reading.place.Table.TheVariants as at
+use Rattle.j39_plan.specs.declared.reading.fault.Fault.{Fault}
+use Rattle.j39_plan.specs.Schema.{Rule, number, tables, tables_of}
+use Rattle.j39_plan.specs.TableFaults.{table_faults}
+use Rattle.j39_plan.specs.Elements.{each_faults, labels_of}
+use Rattle.j39_plan.specs.Units.{unit_faults, unit_label}
+use Rattle.j39_plan.specs.Groups.{group_faults, group_label}
+use Rattle.j39_plan.specs.Flows.{flow_faults}
+
+abbrev pub version_rule : Rule
+version_rule = number key.Version 1 1 None
+
+abbrev pub unit_rule : Rule
+unit_rule = tables key.Unit 128
+
+abbrev pub group_rule : Rule
+group_rule = tables key.Group 256
+
+abbrev pub flow_rule : Rule
+flow_rule = tables key.Flow 512
+
+abbrev pub top_rules : List Rule
+top_rules = version_rule ∷ unit_rule ∷ group_rule ∷ flow_rule ∷ []
+
+abbrev pub unit_labels : Members → List (List ℕ)
+unit_labels tree = labels_of unit_label (tables_of unit_rule tree)
+
+abbrev pub group_labels : Members → List (List ℕ)
+group_labels tree = labels_of group_label (tables_of group_rule tree)
+
+-- a flow has no label that another may not repeat
+abbrev pub no_label : Data → List ℕ
+no_label d = []
+
+-- the top table's keys, then the units, the groups and the flows, each in order
+abbrev pub faults : Members → List Fault
+faults tree = table_faults at.Top top_rules tree
+    ++ (each_faults unit_faults unit_label 0 [] (tables_of unit_rule tree)
+    ++ (each_faults group_faults group_label 0 [] (tables_of group_rule tree)
+    ++ each_faults (λ i seen. flow_faults (group_labels tree) (unit_labels tree) i) no_label 0 [] (tables_of flow_rule tree)))

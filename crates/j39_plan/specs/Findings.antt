@@ -1,0 +1,149 @@
+-- What can be wrong with a plan: each finding as a plain statement on its units, groups, signals and flows, by their
+-- places from 0 (addresses and NAMEs: SAE J1939-81; groups and their destinations: SAE J1939-21; signals: SAE J1939-71).
+use Rattle.std.specs.Prelude.{◌≡◌, ℕ, ◌+◌, ◌/◌, ◌%◌, ◌^◌, ◌<◌, ◌≤◌, ◌⊎◌, List, [], ◌∷◌, Bool, ◌&&◌, ◌==◌, nat_le, count_by, Contains, AllPairs}
+use Rattle.j39_id.specs.Pgn.{IsGroup, pf_of}
+use Rattle.j39_signal.specs.Places.{WidthFits, IsInside, SharesBit}
+use Rattle.j39_plan.specs.Places.{ValueAt, PairAt}
+use Rattle.j39_plan.specs.declared.plan.Plan.{Plan}
+use Rattle.j39_plan.specs.declared.plan.unit_plan.UnitPlan.{UnitPlan}
+use Rattle.j39_plan.specs.declared.plan.group_plan.GroupPlan.{GroupPlan}
+use Rattle.j39_plan.specs.declared.plan.flow_plan.FlowPlan.{FlowPlan}
+use Rattle.j39_plan.specs.declared.plan.to.To.TheVariants.{One}
+use Rattle.j39_plan.specs.declared.checking.finding.Finding.{Finding}
+use Rattle.j39_plan.specs.declared.checking.finding.Finding.TheVariants.{SameName, SameFixedAddress, TooFewAddresses, BadPgn, SamePgn, SignalWidth, SignalOutside, SignalOverlap, FlowToOne, FlowToSelf, FlowRepeated}
+
+-- ---- units
+
+-- the bit of a NAME that says whether the unit may choose another address
+abbrev pub arbitrary_bit : UnitPlan → ℕ
+arbitrary_bit unit = unit.name / 2 ^ 63 % 2
+
+abbrev pub HaveSameName : UnitPlan → UnitPlan → Type 0
+HaveSameName u v = u.name ≡ v.name
+
+abbrev pub HaveSameFixedAddress : UnitPlan → UnitPlan → Type 0
+HaveSameFixedAddress u v = (arbitrary_bit u ≡ 0) × (arbitrary_bit v ≡ 0) × (u.address ≡ v.address)
+
+abbrev pub is_arbitrary : UnitPlan → Bool
+is_arbitrary unit = arbitrary_bit unit == 1
+
+-- the addresses among which an arbitrary unit chooses
+abbrev pub is_in_pool : ℕ → Bool
+is_in_pool address = nat_le 128 address && nat_le address 247
+
+-- a unit that never gives up an address among which the others choose
+abbrev pub is_fixed_in_pool : UnitPlan → Bool
+is_fixed_in_pool unit = arbitrary_bit unit == 0 && is_in_pool unit.address
+
+-- how many addresses there are to choose
+abbrev pub pool_size : ℕ
+pool_size = 120
+
+-- how many of them the units need
+abbrev pub needed_addresses : List UnitPlan → ℕ
+needed_addresses units = count_by is_arbitrary units + count_by is_fixed_in_pool units
+
+-- ---- groups
+
+-- the groups whose layout is each maker's own
+abbrev pub IsProprietary : ℕ → Type 0
+IsProprietary pgn = (pgn ≡ 61184) ⊎ ((pgn ≡ 126720) ⊎ (((65280 ≤ pgn) × (pgn ≤ 65535)) ⊎ ((130816 ≤ pgn) × (pgn ≤ 131071))))
+
+-- the groups by which the network runs: acknowledgement, request, data and announcements of the transport protocol,
+-- address claim, commanded address
+abbrev pub service_groups : List ℕ
+service_groups = 59392 ∷ 59904 ∷ 60160 ∷ 60416 ∷ 60928 ∷ 65240 ∷ []
+
+-- a number that is no group's, or whose group is not for a plan; from 131072 on the extended data page is set
+abbrev pub CannotBePlanned : ℕ → Type 0
+CannotBePlanned pgn = (¬ IsGroup pgn) ⊎ ((131072 ≤ pgn) ⊎ (IsProprietary pgn ⊎ Contains service_groups pgn))
+
+abbrev pub HasBadPgn : GroupPlan → Type 0
+HasBadPgn group = CannotBePlanned group.pgn
+
+abbrev pub HaveSamePgn : GroupPlan → GroupPlan → Type 0
+HaveSamePgn g h = g.pgn ≡ h.pgn
+
+-- ---- flows
+
+-- a group that is sent in one frame, and whose frames name no destination
+abbrev pub IsOneFrameToAll : GroupPlan → Type 0
+IsOneFrameToAll group = (240 ≤ pf_of group.pgn) × (group.length ≤ 8)
+
+abbrev pub IsToOne : FlowPlan → Type 0
+IsToOne flow = (receiver : ℕ) × (flow.to ≡ One receiver)
+
+abbrev pub CannotGoToOne : List GroupPlan → FlowPlan → Type 0
+CannotGoToOne groups flow = IsToOne flow × ValueAt IsOneFrameToAll groups flow.group
+
+abbrev pub GoesToItsSender : FlowPlan → Type 0
+GoesToItsSender flow = flow.to ≡ One flow.sender
+
+abbrev pub AreOneFlow : FlowPlan → FlowPlan → Type 0
+AreOneFlow f h = (f.group ≡ h.group) × (f.sender ≡ h.sender) × (f.to ≡ h.to)
+
+-- ---- the findings
+
+-- what a finding says of a plan
+abbrev pub Holds : Plan → Finding → Type 0
+Holds plan (SameName i j) = PairAt HaveSameName plan.units.items i j
+Holds plan (SameFixedAddress i j) = PairAt HaveSameFixedAddress plan.units.items i j
+Holds plan (TooFewAddresses n) = (n ≡ needed_addresses plan.units.items) × (pool_size < n)
+Holds plan (BadPgn g) = ValueAt HasBadPgn plan.groups.items g
+Holds plan (SamePgn g h) = PairAt HaveSamePgn plan.groups.items g h
+Holds plan (SignalWidth g s) = ValueAt (λ group. ValueAt (λ signal. ¬ WidthFits signal) group.signals.items s) plan.groups.items g
+Holds plan (SignalOutside g s) = ValueAt (λ group. ValueAt (λ signal. ¬ IsInside group.length signal) group.signals.items s) plan.groups.items g
+Holds plan (SignalOverlap g s t) = ValueAt (λ group. PairAt SharesBit group.signals.items s t) plan.groups.items g
+Holds plan (FlowToOne f) = ValueAt (CannotGoToOne plan.groups.items) plan.flows.items f
+Holds plan (FlowToSelf f) = ValueAt GoesToItsSender plan.flows.items f
+Holds plan (FlowRepeated f h) = PairAt AreOneFlow plan.flows.items f h
+
+-- nothing is wrong with the plan
+abbrev pub Clean : Plan → Type 0
+Clean plan = (finding : Finding) → ¬ Holds plan finding
+
+-- ---- their order
+
+-- the number under which a finding is known
+abbrev pub number_of : Finding → ℕ
+number_of (SameName i j) = 1
+number_of (SameFixedAddress i j) = 2
+number_of (TooFewAddresses n) = 3
+number_of (BadPgn g) = 4
+number_of (SamePgn g h) = 5
+number_of (SignalWidth g s) = 6
+number_of (SignalOutside g s) = 7
+number_of (SignalOverlap g s t) = 8
+number_of (FlowToOne f) = 9
+number_of (FlowToSelf f) = 10
+number_of (FlowRepeated f h) = 11
+
+-- the places that it names
+abbrev pub places_of : Finding → List ℕ
+places_of (SameName i j) = i ∷ j ∷ []
+places_of (SameFixedAddress i j) = i ∷ j ∷ []
+places_of (TooFewAddresses n) = []
+places_of (BadPgn g) = g ∷ []
+places_of (SamePgn g h) = g ∷ h ∷ []
+places_of (SignalWidth g s) = g ∷ s ∷ []
+places_of (SignalOutside g s) = g ∷ s ∷ []
+places_of (SignalOverlap g s t) = g ∷ s ∷ t ∷ []
+places_of (FlowToOne f) = f ∷ []
+places_of (FlowToSelf f) = f ∷ []
+places_of (FlowRepeated f h) = f ∷ h ∷ []
+
+-- the first place in which two lists differ is smaller in the first list
+abbrev pub IsBelow : List ℕ → List ℕ → Type 0
+IsBelow [] ys = ⊥
+IsBelow (x ∷ xs) [] = ⊥
+IsBelow (x ∷ xs) (y ∷ ys) = (x < y) ⊎ ((x ≡ y) × IsBelow xs ys)
+
+-- by the number, then by the places
+abbrev pub IsBefore : Finding → Finding → Type 0
+IsBefore f g = (number_of f < number_of g) ⊎ ((number_of f ≡ number_of g) × IsBelow (places_of f) (places_of g))
+
+-- all that is wrong with the plan and nothing else, in order
+pub record AreFindings (plan : Plan) (findings : List Finding) : Type 0 where
+  pub sound : (finding : Finding) → Contains findings finding → Holds plan finding
+  pub complete : (finding : Finding) → Holds plan finding → Contains findings finding
+  pub in_order : AllPairs IsBefore findings

@@ -1,0 +1,85 @@
+-- What a table asks of its keys: one list of rules, from which both its faults and its values are read.
+use Rattle.std.specs.Prelude.{ℕ, ℤ, pos, negsuc, suc, List, [], Bool, false, if◌then◌else◌, Option, Some, None, option_map, option_and_then, unwrap_or, nat_le}
+use Rattle.std.specs.Option.{option_or}
+use Rattle.toml.specs.Data.{Data, string, integer, boolean, array, Items, no_items, item, Members, get_member, as_integer, as_str, as_bool, as_table, as_array}
+use Rattle.j39_plan.specs.declared.reading.key.Key.{Key}
+use Rattle.j39_plan.specs.declared.reading.text_kind.TextKind.{TextKind}
+use Rattle.j39_plan.specs.Words.{word_of}
+
+-- ---- rules
+
+-- what the value of a key is to be
+pub data Kind : Type 0 where
+  integer_in : ℤ → ℤ → Kind
+  flag_value : Kind
+  text_of_kind : TextKind → Kind
+  one_table : Kind
+  tables_up_to : ℕ → Kind
+
+-- a key, what its value is to be, and what an absent one stands for: nothing where the key is required
+pub record Rule : Type 0 where
+  pub key : Key
+  pub kind : Kind
+  pub default : Option Data
+
+abbrev pub number : Key → ℕ → ℕ → Option ℕ → Rule
+number k low high default = record { key = k; kind = integer_in (pos low) (pos high); default = option_map (λ n. integer (pos n)) default }
+
+abbrev pub signed : Key → ℤ → ℤ → Option ℤ → Rule
+signed k low high default = record { key = k; kind = integer_in low high; default = option_map integer default }
+
+abbrev pub flag : Key → Bool → Rule
+flag k default = record { key = k; kind = flag_value; default = Some (boolean default) }
+
+abbrev pub text : Key → TextKind → Option (List ℕ) → Rule
+text k kind default = record { key = k; kind = text_of_kind kind; default = option_map string default }
+
+abbrev pub inner_table : Key → Rule
+inner_table k = record { key = k; kind = one_table; default = None }
+
+abbrev pub tables : Key → ℕ → Rule
+tables k limit = record { key = k; kind = tables_up_to limit; default = Some (array no_items) }
+
+-- ---- values
+
+-- what stands at a key
+abbrev pub standing : Rule → Members → Option Data
+standing r ms = option_or (get_member (word_of r.key) ms) r.default
+
+abbrev pub natural : ℤ → ℕ
+natural (pos n) = n
+natural (negsuc n) = 0
+
+unfoldable pub integer_of : Rule → Members → ℤ
+integer_of r ms = unwrap_or (option_and_then as_integer (standing r ms)) (pos 0)
+
+unfoldable pub number_of : Rule → Members → ℕ
+number_of r ms = natural (unwrap_or (option_and_then as_integer (standing r ms)) (pos 0))
+
+unfoldable pub flag_of : Rule → Members → Bool
+flag_of r ms = unwrap_or (option_and_then as_bool (standing r ms)) false
+
+unfoldable pub text_of : Rule → Members → List ℕ
+text_of r ms = unwrap_or (option_and_then as_str (standing r ms)) []
+
+-- the text, where one stands there
+unfoldable pub found_text : Rule → Members → Option (List ℕ)
+found_text r ms = option_and_then as_str (standing r ms)
+
+unfoldable pub table_of : Rule → Members → Option Members
+table_of r ms = option_and_then as_table (standing r ms)
+
+abbrev pub items_count : Items → ℕ
+items_count no_items = 0
+items_count (item d ds) = suc (items_count ds)
+
+-- more elements than the limit are none
+abbrev pub up_to : ℕ → Items → Items
+up_to limit ds = if nat_le (items_count ds) limit then ds else no_items
+
+abbrev pub limited : Kind → Items → Items
+limited (tables_up_to limit) ds = up_to limit ds
+limited _ ds = no_items
+
+unfoldable pub tables_of : Rule → Members → Items
+tables_of r ms = limited r.kind (unwrap_or (option_and_then as_array (standing r ms)) no_items)

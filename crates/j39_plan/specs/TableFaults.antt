@@ -1,0 +1,59 @@
+-- Every fault of a table by its rules, in order.
+use Rattle.std.specs.Prelude.{ℕ, List, [], ◌∷◌, ◌++◌, Bool, true, ◌&&◌, ◌||◌, if◌then◌else◌, Option, Some, None, map, nat_le, int_lt}
+use Rattle.std.specs.List.{list_any}
+use Rattle.std.specs.Str.{bytes_eq}
+use Rattle.std.specs.Option.{option_map_or}
+use Rattle.toml.specs.Data.{Data, string, integer, boolean, array, table, Members, no_members, member}
+use Rattle.j39_plan.specs.declared.reading.cause.Cause.{Cause}
+use Rattle.j39_plan.specs.declared.reading.cause.Cause.TheVariants.{UnknownKey, Missing, WrongType, Range, TooMany}
+use Rattle.j39_plan.specs.declared.reading.key.Key.{Key}
+use Rattle.j39_plan.specs.declared.reading.place.Table.{Table}
+use Rattle.j39_plan.specs.declared.reading.fault.Fault.{Fault}
+use Rattle.j39_plan.specs.Texts.{takes}
+use Rattle.j39_plan.specs.Words.{word_of}
+use Rattle.j39_plan.specs.Schema.{Kind, integer_in, flag_value, text_of_kind, one_table, tables_up_to, Rule, standing, items_count}
+
+abbrev pub fault : Cause → Table → Option Key → Fault
+fault cause at key = record { cause = cause; place = record { table = at; key = key } }
+
+-- the first cause for which a value is refused
+abbrev pub cause_of : Kind → Data → Option Cause
+cause_of (integer_in low high) (integer z) = if int_lt z low || int_lt high z then Some Range else None
+cause_of flag_value (boolean b) = None
+cause_of (text_of_kind kind) (string s) = if takes kind s then None else Some Range
+cause_of one_table (table ms) = None
+cause_of (tables_up_to limit) (array ds) = if nat_le (items_count ds) limit then None else Some TooMany
+cause_of _ _ = Some WrongType
+
+-- the cause for which what stands at a key is refused
+abbrev pub refusal : Kind → Option Data → Option Cause
+refusal kind None = Some Missing
+refusal kind (Some d) = cause_of kind d
+
+unfoldable pub key_faults : Table → Members → Rule → List Fault
+key_faults at ms r = option_map_or (λ cause. fault cause at (Some r.key) ∷ []) (refusal r.kind (standing r ms)) []
+
+abbrev pub keys_faults : Table → Members → List Rule → List Fault
+keys_faults at ms [] = []
+keys_faults at ms (r ∷ rules) = key_faults at ms r ++ keys_faults at ms rules
+
+-- one of the keys is spelled so
+abbrev pub is_named : List Key → List ℕ → Bool
+is_named keys name = list_any (λ key. bytes_eq (word_of key) name) keys
+
+-- each key of the table is one of these
+abbrev pub has_only : List Key → Members → Bool
+has_only keys no_members = true
+has_only keys (member k d ms) = is_named keys k && has_only keys ms
+
+unfoldable pub unknown_faults : Table → List Key → Members → List Fault
+unknown_faults at keys ms = if has_only keys ms then [] else fault UnknownKey at None ∷ []
+
+-- a key that no rule names, and then the faults of each key in the order of the rules
+abbrev pub table_faults : Table → List Rule → Members → List Fault
+table_faults at rules ms = unknown_faults at (map (λ r. r.key) rules) ms ++ keys_faults at ms rules
+
+-- a value that is to be a table
+unfoldable pub table_only_faults : Table → Data → List Fault
+table_only_faults at (table ms) = []
+table_only_faults at _ = fault WrongType at None ∷ []

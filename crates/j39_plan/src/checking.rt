@@ -1,0 +1,39 @@
+//! Everything that is wrong with a plan.
+ghost use Rattle.std.specs.Prelude.{◌≡◌, IfOk};
+ghost use Rattle.j39_plan.specs.Findings.{AreFindings};
+ghost use Rattle.j39_plan.specs.Found.{found};
+
+mod checked_plan;
+mod finding;
+mod flows;
+mod groups;
+mod refused;
+mod rules;
+mod signals;
+mod units;
+
+use crate::plan::Plan;
+pub use checked_plan::{CheckedPlan, checked};
+pub use finding::{Finding, Findings};
+use flows::find_in_flows;
+use groups::find_in_groups;
+pub use refused::{Refused, RefusedCause};
+use signals::find_in_signals;
+use std::alloc::{AllocError, Global};
+use units::find_in_units;
+
+/// All that is wrong with the plan, and nothing else, by the findings' numbers and then by their places in rising order.
+pub fn check(alloc: Global, plan: &Plan) -> Result<Findings, AllocError>
+    ensures list { IfOk result (λ findings. findings.items ≡ found plan.now) }
+    ensures exact { IfOk result (λ findings. AreFindings plan.now findings.items) }
+{
+    let mut findings = Vec::new(alloc);
+    find_in_units(&mut findings, &plan.units)?;
+    find_in_groups(&mut findings, &plan.groups)?;
+    find_in_signals(&mut findings, &plan.groups)?;
+    find_in_flows(&mut findings, &plan.groups, &plan.flows)?;
+    Ok(findings)
+}
+
+#[cfg(test)]
+mod tests;

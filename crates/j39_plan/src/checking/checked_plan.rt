@@ -1,0 +1,59 @@
+//! Plans in which nothing is wrong.
+ghost use Rattle.std.specs.Prelude.{◌≡◌, [], IfOk, OnOk, IfErr};
+ghost use Rattle.j39_plan.specs.Found.{found};
+ghost use Rattle.j39_plan.specs.Refused.{IsCauseFor};
+
+use crate::checking::check;
+use crate::checking::refused::{Refused, RefusedCause};
+use crate::plan::Plan;
+use std::alloc::Global;
+use std::marker::Model;
+
+/// A plan in which nothing is wrong.
+#[derive(Drop)]
+pub struct CheckedPlan {
+    plan: Plan,
+}
+
+impl Model for CheckedPlan {
+    ghost use Rattle.j39_plan.specs.declared.plan.Plan.{Plan as Planned};
+    ghost use Rattle.j39_plan.specs.Findings.{Clean};
+
+    ghost Value = { Planned };
+
+    ghost view = { λ c. c.plan };
+
+    ghost invariant = { λ c. Clean c.plan };
+}
+
+impl CheckedPlan {
+    ghost use Rattle.j39_plan.specs.Findings.{Clean};
+
+    /// The plan that was checked.
+    pub fn plan(&self) -> &Plan
+        ensures plan { result.now ≡ self.now }
+        ensures clean { Clean self.now }
+    {
+        &self.plan
+    }
+}
+
+/// The plan as one in which nothing is wrong. Else the plan comes back, with all that is wrong with it or for want of memory.
+pub fn checked(alloc: Global, plan: Plan) -> Result<CheckedPlan, Refused>
+    ensures ok { IfOk result (λ checked. checked ≡ plan) }
+    ensures none_found { OnOk result (found plan ≡ []) }
+    ensures returned { IfErr result (λ refused. refused.plan ≡ plan) }
+    ensures cause { IfErr result (λ refused. IsCauseFor plan refused.cause) }
+{
+    match check(alloc, &plan) {
+        Ok(findings) if findings.is_empty() => Ok(CheckedPlan { plan }),
+        Ok(findings) => Err(Refused {
+            plan,
+            cause: RefusedCause::Findings(findings),
+        }),
+        Err(_) => Err(Refused {
+            plan,
+            cause: RefusedCause::Memory,
+        }),
+    }
+}

@@ -1,0 +1,32 @@
+//! What can be wrong with a plan.
+
+/// One thing that is wrong with a plan, named by places from 0. Findings are in order by their number, then by their
+/// places.
+#[derive(Clone, Copy, Debug, PartialEq, Eq)]
+pub enum Finding {
+    /// F1: two units have one NAME.
+    SameName(usize, usize),
+    /// F2: two fixed units have one address.
+    SameFixedAddress(usize, usize),
+    /// F3: this many units need an address of 128 to 247, and there are fewer.
+    TooFewAddresses(usize),
+    /// F4: the group's PGN is none, or one that may not be planned.
+    BadPgn(usize),
+    /// F5: two groups have one PGN.
+    SamePgn(usize, usize),
+    /// F6: of a group, the signal's width doesn't fit its kind.
+    SignalWidth(usize, usize),
+    /// F7: of a group, the signal ends behind the group's last bit.
+    SignalOutside(usize, usize),
+    /// F8: of a group, two signals share a bit.
+    SignalOverlap(usize, usize, usize),
+    /// F9: the flow sends a frame to one unit that has no destination (SAE J1939-21, PDU2).
+    FlowToOne(usize),
+    /// F10: the flow's sender is its receiver.
+    FlowToSelf(usize),
+    /// F11: two flows have one group, sender and receiver.
+    FlowRepeated(usize, usize),
+}
+
+/// Everything that is wrong with a plan, in order.
+pub type Findings = Vec<Finding>;

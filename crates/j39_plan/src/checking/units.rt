@@ -1,0 +1,83 @@
+//! What is wrong with the units of a plan.
+ghost use Rattle.std.specs.Prelude.{◌≡◌, ◌++◌, OnOk, List};
+ghost use Rattle.j39_plan.specs.Findings.{needed_addresses};
+ghost use Rattle.j39_plan.specs.Found.{have_same_name, have_same_fixed_address, is_fixed, needs_pool_address, unit_findings};
+
+use crate::checking::finding::Finding;
+use crate::checking::rules::{PairRule, find_pairs, push_if};
+use crate::plan::UnitPlan;
+use std::alloc::AllocError;
+
+/// How many addresses there are for arbitrary units: 128 to 247.
+const POOL_SIZE: usize = 120;
+
+#[derive(Clone, Copy)]
+struct SameName;
+
+impl PairRule<UnitPlan> for SameName {
+    ghost use Rattle.j39_plan.specs.declared.checking.finding.Finding.TheVariants.{SameName as SameNames};
+
+    ghost test = { have_same_name };
+
+    ghost make = { λ _ i j. SameNames i j };
+
+    fn holds(&self, first: &UnitPlan, second: &UnitPlan) -> bool {
+        first.name == second.name
+    }
+
+    fn finding(&self, first: usize, second: usize) -> Finding {
+        Finding::SameName(first, second)
+    }
+}
+
+fn is_fixed(unit: &UnitPlan) -> bool
+    ensures { result ≡ is_fixed unit.now }
+{
+    !unit.name.is_arbitrary()
+}
+
+#[derive(Clone, Copy)]
+struct SameFixedAddress;
+
+impl PairRule<UnitPlan> for SameFixedAddress {
+    ghost use Rattle.j39_plan.specs.declared.checking.finding.Finding.TheVariants.{SameFixedAddress as SameAddresses};
+
+    ghost test = { have_same_fixed_address };
+
+    ghost make = { λ _ i j. SameAddresses i j };
+
+    fn holds(&self, first: &UnitPlan, second: &UnitPlan) -> bool {
+        is_fixed(first) && is_fixed(second) && first.address == second.address
+    }
+
+    fn finding(&self, first: usize, second: usize) -> Finding {
+        Finding::SameFixedAddress(first, second)
+    }
+}
+
+// An arbitrary unit needs some address of the pool, and a fixed one keeps its own there.
+fn needs_pool_address(unit: &UnitPlan) -> bool
+    ensures { result ≡ needs_pool_address unit.now }
+{
+    let address = unit.address.number();
+    !is_fixed(unit) || (128 <= address && address <= 247)
+}
+
+fn needed_addresses(units: &[UnitPlan]) -> usize
+    ensures { result ≡ needed_addresses units.now }
+{
+    units.iter().filter(|unit| needs_pool_address(unit)).count()
+}
+
+pub fn find_in_units(findings: &mut Vec<Finding>, units: &[UnitPlan]) -> Result<(), AllocError>
+    ensures { OnOk result (findings.new.items ≡ findings.old.items ++ unit_findings units.now) }
+{
+    find_pairs(findings, &SameName, units)?;
+    find_pairs(findings, &SameFixedAddress, units)?;
+    let needed = needed_addresses(units);
+    push_if(
+        findings,
+        needed > POOL_SIZE,
+        Finding::TooFewAddresses(needed),
+    )
+}

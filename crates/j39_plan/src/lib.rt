@@ -1,0 +1,15 @@
+//! Network plans of SAE J1939: what they hold, how they are read, and what is wrong with them.
+#![tactic(auto)]
+
+mod checking;
+mod laws;
+mod plan;
+mod reading;
+
+pub use checking::{CheckedPlan, Finding, Findings, Refused, RefusedCause, check, checked};
+pub use laws::{clean_parts, clean_where_none, found_exactly, signals_are_sound};
+pub use plan::{FlowPlan, GroupPlan, Plan, To, UnitPlan, Way};
+pub use reading::{Cause, Fault, Key, Place, PlanError, Table, read_plan};
+
+#[cfg(test)]
+mod tests;

@@ -1,0 +1,10 @@
+//! The receivers of a flow.
+
+/// Who receives a flow.
+#[derive(Clone, Copy, Debug, PartialEq, Eq)]
+pub enum To {
+    /// All other units.
+    All,
+    /// The unit at this place, from 0.
+    One(usize),
+}

@@ -1,0 +1,85 @@
+//! Reading a plan file.
+ghost use Rattle.std.specs.Prelude.{◌≡◌};
+ghost use Rattle.toml.specs.View.{table_view};
+ghost use Rattle.j39_plan.specs.Outcome.{Gives};
+ghost use Rattle.j39_plan.specs.Faults.{faults};
+ghost use Rattle.j39_plan.specs.Described.{Holds, tree_of, Reads};
+
+mod cause;
+mod elements;
+mod fault;
+mod flows;
+mod groups;
+mod key;
+mod labels;
+mod names;
+mod place;
+mod plan_error;
+mod signals;
+mod tables;
+mod text_kind;
+mod units;
+mod values;
+
+use crate::Plan;
+pub use cause::Cause;
+use elements::read_each;
+pub use fault::Fault;
+use flows::Flows;
+use groups::Groups;
+pub use key::Key;
+pub use place::{Place, Table};
+pub use plan_error::PlanError;
+use std::alloc::Global;
+use std::str;
+use tables::{array, only};
+use units::Units;
+use values::number;
+
+const TOP_KEYS: [Key; 4] = [Key::Version, Key::Unit, Key::Group, Key::Flow];
+
+#[tactic(auto, using(crate::proofs::FirstFaults::faults_after))]
+fn read_top(alloc: Global, members: &toml::Table) -> Result<Plan, PlanError>
+    ensures { Gives result (faults (table_view members.now)) (Holds (table_view members.now)) }
+{
+    only(members, Table::Top, &TOP_KEYS)?;
+    number(members, Table::Top, Key::Version, 1, 1, None)?;
+    let unit_values = array(members, Table::Top, Key::Unit, 128)?;
+    let group_values = array(members, Table::Top, Key::Group, 256)?;
+    let flow_values = array(members, Table::Top, Key::Flow, 512)?;
+    let units = read_each(alloc, &Units, unit_values)?;
+    let groups = read_each(alloc, &Groups, group_values)?;
+    let flows = read_each(
+        alloc,
+        &Flows {
+            groups: &groups,
+            units: &units,
+        },
+        flow_values,
+    )?;
+    Ok(Plan {
+        units,
+        groups,
+        flows,
+    })
+}
+
+/// The plan that a file describes: TOML of UTF-8 bytes, at most 128 units, 256 groups of 64 signals and 512 flows.
+///
+/// Refuses bytes that are no TOML text, and else the first fault, in the order of the file's tables and keys.
+pub fn read_plan(alloc: Global, bytes: &[u8]) -> Result<Plan, PlanError>
+    ensures { Reads result (tree_of bytes.now) }
+{
+    let text = match str::from_utf8(bytes) {
+        Ok(text) => text,
+        Err(_) => return Err(PlanError::Text),
+    };
+    match toml::table_from_str(alloc, text) {
+        Ok(members) => read_top(alloc, &members),
+        Err(error) => Err(if error.is_memory() {
+            PlanError::Memory
+        } else {
+            PlanError::Text
+        }),
+    }
+}

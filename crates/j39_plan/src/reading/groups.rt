@@ -1,0 +1,75 @@
+//! The groups of a plan.
+ghost use Rattle.std.specs.Prelude.{◌≡◌, map};
+ghost use Rattle.toml.specs.View.{view, table_view};
+ghost use Rattle.j39_plan.specs.Outcome.{Gives};
+ghost use Rattle.j39_plan.specs.Groups.{group_table_faults, TellsGroup};
+
+use super::elements::{ReadElement, read_each};
+use super::labels::untaken;
+use super::signals::Signals;
+use super::tables::{array, only, table_of};
+use super::text_kind::TextKind;
+use super::values::{number, short_text};
+use super::{Key, PlanError, Table};
+use crate::GroupPlan;
+use std::alloc::Global;
+use toml::Value;
+
+const GROUP_KEYS: [Key; 5] = [
+    Key::Label,
+    Key::Pgn,
+    Key::Priority,
+    Key::Length,
+    Key::Signal,
+];
+
+#[tactic(auto, using(crate::proofs::FirstFaults::faults_after))]
+fn group(alloc: Global, index: usize, members: &toml::Table) -> Result<GroupPlan, PlanError>
+    ensures { Gives result (group_table_faults index (table_view members.now)) (TellsGroup (table_view members.now)) }
+{
+    let table = Table::Group(index);
+    only(members, table, &GROUP_KEYS)?;
+    let label = short_text(members, table, Key::Label, TextKind::Label, None)?;
+    let pgn = number(members, table, Key::Pgn, 0, 0xff_ffff, None)?;
+    let priority = number(members, table, Key::Priority, 0, 7, None)?;
+    let length = number(members, table, Key::Length, 1, 1785, None)?;
+    let values = array(members, table, Key::Signal, 64)?;
+    let signals = read_each(alloc, &Signals { group: index }, values)?;
+    Ok(GroupPlan {
+        label,
+        pgn,
+        priority: priority as u8,
+        length: length as u16,
+        signals,
+    })
+}
+
+/// The reader of groups.
+#[derive(Clone, Copy)]
+pub struct Groups;
+
+impl ReadElement<GroupPlan> for Groups {
+    ghost use Rattle.j39_plan.specs.Groups.{group_faults, group_label, IsGroupOf};
+
+    ghost label_bytes = { λ g. g.label.bytes };
+
+    ghost label_of = { group_label };
+
+    ghost faults = { λ _. group_faults };
+
+    ghost Tells = { λ _. IsGroupOf };
+
+    #[tactic(auto, using(crate::proofs::FirstFaults::faults_after), unfolding(crate::specs::Groups::group_faults))]
+    fn read(
+        &self,
+        alloc: Global,
+        index: usize,
+        seen: &[GroupPlan],
+        value: &Value,
+    ) -> Result<GroupPlan, PlanError> {
+        let table = Table::Group(index);
+        let group = group(alloc, index, table_of(value, table)?)?;
+        untaken(seen, group.label.as_str(), TextKind::Label, table)?;
+        Ok(group)
+    }
+}

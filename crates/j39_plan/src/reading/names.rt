@@ -1,0 +1,65 @@
+//! The NAMEs of units.
+ghost use Rattle.std.specs.Prelude.{◌≡◌, ◌<◌, ◌^◌, IfOk};
+ghost use Rattle.toml.specs.View.{table_view};
+ghost use Rattle.j39_id.specs.Name.{name_number, first_out};
+ghost use Rattle.j39_plan.specs.Outcome.{Gives};
+ghost use Rattle.j39_plan.specs.Units.{name_faults, fields_of};
+
+use super::tables::only;
+use super::values::{flag, number};
+use super::{Key, PlanError, Table};
+use j39_id::{Name, NameFields};
+
+const NAME_KEYS: [Key; 9] = [
+    Key::Identity,
+    Key::Manufacturer,
+    Key::Ecu,
+    Key::FunctionInstance,
+    Key::Function,
+    Key::System,
+    Key::SystemInstance,
+    Key::Industry,
+    Key::Arbitrary,
+];
+
+#[tactic(auto, using(crate::proofs::FirstFaults::faults_after))]
+fn name_fields(index: usize, members: &toml::Table) -> Result<NameFields, PlanError>
+    ensures gives { Gives result (name_faults index (table_view members.now)) (λ f. f ≡ fields_of (table_view members.now)) }
+    ensures in_range { IfOk result (λ f. first_out f ≡ None) }
+{
+    let table = Table::UnitName(index);
+    only(members, table, &NAME_KEYS)?;
+    let identity = number(members, table, Key::Identity, 0, 2_097_151, None)?;
+    let manufacturer = number(members, table, Key::Manufacturer, 0, 2047, Some(0))?;
+    let ecu = number(members, table, Key::Ecu, 0, 7, Some(0))?;
+    let function_instance = number(members, table, Key::FunctionInstance, 0, 31, Some(0))?;
+    let function = number(members, table, Key::Function, 0, 255, Some(0))?;
+    let system = number(members, table, Key::System, 0, 127, Some(0))?;
+    let system_instance = number(members, table, Key::SystemInstance, 0, 15, Some(0))?;
+    let industry = number(members, table, Key::Industry, 0, 7, Some(0))?;
+    let is_arbitrary = flag(members, table, Key::Arbitrary, false)?;
+    Ok(NameFields {
+        identity,
+        manufacturer: manufacturer as u16,
+        ecu: ecu as u8,
+        function_instance: function_instance as u8,
+        function: function as u8,
+        reserved: 0,
+        system: system as u8,
+        system_instance: system_instance as u8,
+        industry: industry as u8,
+        arbitrary: u8::from(is_arbitrary),
+    })
+}
+
+/// The NAME that a table tells.
+pub fn name(index: usize, members: &toml::Table) -> Result<Name, PlanError>
+    ensures gives { Gives result (name_faults index (table_view members.now)) (λ n. n ≡ name_number (fields_of (table_view members.now))) }
+    ensures range { IfOk result (λ n. n < 2 ^ 64) }
+{
+    let fields = name_fields(index, members)?;
+    match Name::from_fields(fields) {
+        Ok(name) => Ok(name),
+        Err(_) => unreachable!(),
+    }
+}

@@ -1,0 +1,22 @@
+//! Places in a plan file.
+use super::Key;
+
+/// A table of a plan file, its indices counted from 0.
+#[derive(Clone, Copy, Debug, PartialEq, Eq)]
+pub enum Table {
+    Top,
+    Unit(usize),
+    /// The NAME of a unit.
+    UnitName(usize),
+    Group(usize),
+    /// A signal, behind the index of its group.
+    Signal(usize, usize),
+    Flow(usize),
+}
+
+/// A table, and the key of it that is at fault where there is one.
+#[derive(Clone, Copy, Debug, PartialEq, Eq)]
+pub struct Place {
+    pub table: Table,
+    pub key: Option<Key>,
+}

@@ -1,0 +1,113 @@
+//! The signals of a group.
+ghost use Rattle.std.specs.Prelude.{◌≡◌, map, codes, IsTrue, IfOk};
+ghost use Rattle.toml.specs.View.{view, table_view};
+ghost use Rattle.j39_signal.specs.Parts.{IsSignal};
+ghost use Rattle.j39_plan.specs.Labels.{is_label};
+ghost use Rattle.j39_plan.specs.Schema.{text_of};
+ghost use Rattle.j39_plan.specs.TableFaults.{key_faults, table_faults};
+ghost use Rattle.j39_plan.specs.Outcome.{Gives};
+ghost use Rattle.j39_plan.specs.Signals.{kind_of, kind_rule, signal_rules, TellsSignal};
+
+use super::elements::ReadElement;
+use super::labels::{Labelled, untaken};
+use super::tables::{only, table_of};
+use super::text_kind::TextKind;
+use super::values::{integer, number, short_text, text};
+use super::{Key, PlanError, Table};
+use j39_signal::{Kind, Signal};
+use std::alloc::Global;
+use toml::Value;
+
+const SIGNAL_KEYS: [Key; 8] = [
+    Key::Label,
+    Key::Byte,
+    Key::Bit,
+    Key::Bits,
+    Key::Kind,
+    Key::Step,
+    Key::Offset,
+    Key::Unit,
+];
+
+fn kind(members: &toml::Table, table: Table) -> Result<Kind, PlanError>
+    ensures { Gives result (key_faults table (table_view members.now) kind_rule)
+        (λ k. k ≡ kind_of (text_of kind_rule (table_view members.now))) }
+{
+    let word = text(members, table, Key::Kind, TextKind::SignalKind, None)?;
+    Ok(if word == "measured" {
+        Kind::Measured
+    } else if word == "discrete" {
+        Kind::Discrete
+    } else {
+        Kind::Raw
+    })
+}
+
+#[tactic(auto, using(crate::proofs::FirstFaults::faults_after))]
+fn signal(table: Table, members: &toml::Table) -> Result<Signal, PlanError>
+    ensures gives { Gives result (table_faults table signal_rules (table_view members.now)) (TellsSignal (table_view members.now)) }
+    ensures label_form { IfOk result (λ s. IsTrue (is_label s.label.bytes)) }
+    ensures ranges { IfOk result (λ s. IsSignal s.start s.bits s.step s.offset) }
+{
+    only(members, table, &SIGNAL_KEYS)?;
+    let label = short_text(members, table, Key::Label, TextKind::Label, None)?;
+    let byte = number(members, table, Key::Byte, 1, 1785, None)?;
+    let bit = number(members, table, Key::Bit, 1, 8, Some(1))?;
+    let bits = number(members, table, Key::Bits, 1, 64, None)?;
+    let kind = kind(members, table)?;
+    let step = number(members, table, Key::Step, 1, 1_000_000, Some(1))?;
+    let offset = integer(
+        members,
+        table,
+        Key::Offset,
+        -1_000_000_000_000,
+        1_000_000_000_000,
+        Some(0),
+    )?;
+    let unit = short_text(members, table, Key::Unit, TextKind::SignalUnit, Some(""))?;
+    let start = 8 * (byte - 1) + (bit - 1);
+    match Signal::new(
+        label,
+        start as u16,
+        bits as u8,
+        kind,
+        i64::from(step),
+        offset,
+        unit,
+    ) {
+        Some(signal) => Ok(signal),
+        None => unreachable!(),
+    }
+}
+
+/// The reader of the signals of the group at a place.
+#[derive(Clone, Copy)]
+pub struct Signals {
+    pub group: usize,
+}
+
+impl ReadElement<Signal> for Signals {
+    ghost use Rattle.j39_plan.specs.Signals.{signal_faults, signal_label, IsSignalOf, IsFit};
+
+    ghost label_bytes = { λ s. s.label.bytes };
+
+    ghost label_of = { signal_label };
+
+    ghost faults = { λ r. signal_faults r.group };
+
+    ghost Tells = { λ _ d s. IsSignalOf d s × IsFit s };
+
+    #[tactic(auto, using(crate::proofs::FirstFaults::faults_after), unfolding(crate::specs::Signals::signal_faults))]
+    fn read(
+        &self,
+        _alloc: Global,
+        index: usize,
+        seen: &[Signal],
+        value: &Value,
+    ) -> Result<Signal, PlanError> {
+        let table = Table::Signal(self.group, index);
+        let signal = signal(table, table_of(value, table)?)?;
+        untaken(seen, signal.label_text(), TextKind::Label, table)?;
+        Ok(signal)
+    }
+}

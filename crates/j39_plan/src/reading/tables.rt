@@ -1,0 +1,102 @@
+//! Tables and arrays of tables.
+ghost use Rattle.std.specs.Prelude.{◌≡◌, string_bytes, Some};
+ghost use Rattle.std.specs.List.{list_all};
+ghost use Rattle.std.specs.Map.{keys_of};
+ghost use Rattle.toml.specs.Data.{as_table};
+ghost use Rattle.toml.specs.View.{view, table_view, items_view};
+ghost use Rattle.j39_plan.specs.Schema as schema;
+ghost use Rattle.j39_plan.specs.TableFaults.{is_named, key_faults, table_only_faults, unknown_faults};
+ghost use Rattle.j39_plan.specs.Outcome.{Gives};
+
+use super::values::{refused, value_at};
+use super::{Cause, Fault, Key, Place, PlanError, Table};
+use toml::Value;
+
+/// The table at a key.
+#[tactic(auto, unfolding(crate::specs::TableFaults::key_faults, crate::specs::Schema::table_of))]
+pub fn inner<'a>(
+    members: &'a toml::Table,
+    table: Table,
+    key: Key,
+) -> Result<&'a toml::Table, PlanError>
+    ensures { let rule = schema.inner_table key in
+        Gives result (key_faults table (table_view members.now) rule)
+        (λ t. Some (table_view t.now) ≡ schema.table_of rule (table_view members.now)) }
+{
+    match value_at(members, key) {
+        None => Err(refused(Cause::Missing, table, key)),
+        Some(value) => match value.as_table() {
+            None => Err(refused(Cause::WrongType, table, key)),
+            Some(inner) => Ok(inner),
+        },
+    }
+}
+
+/// The array at a key, of at most so many elements, and an empty one where the key is absent.
+#[tactic(auto, using(crate::proofs::Tables::items_count_view), unfolding(crate::specs::TableFaults::key_faults, crate::specs::Schema::tables_of))]
+pub fn array<'a>(
+    members: &'a toml::Table,
+    table: Table,
+    key: Key,
+    limit: usize,
+) -> Result<&'a [Value], PlanError>
+    ensures { let rule = schema.tables key limit in
+        Gives result (key_faults table (table_view members.now) rule)
+        (λ vs. items_view vs.now ≡ schema.tables_of rule (table_view members.now)) }
+{
+    match value_at(members, key) {
+        None => Ok(&[]),
+        Some(value) => match value.as_array() {
+            None => Err(refused(Cause::WrongType, table, key)),
+            Some(values) => {
+                if values.len() <= limit {
+                    Ok(values.as_slice())
+                } else {
+                    Err(refused(Cause::TooMany, table, key))
+                }
+            }
+        },
+    }
+}
+
+fn is_named(name: &str, keys: &[Key]) -> bool
+    ensures { result ≡ is_named keys.now name.now }
+{
+    keys.iter().any(|key| key.word() == name)
+}
+
+fn has_only(members: &toml::Table, keys: &[Key]) -> bool
+    ensures { result ≡ list_all (λ name. is_named keys.now (string_bytes name)) (keys_of members.now.entries) }
+{
+    members.keys().all(|name| is_named(name.as_str(), keys))
+}
+
+/// Refuses a table with a key that is none of these.
+#[tactic(auto, using(crate::proofs::Tables::has_only_view), unfolding(crate::specs::TableFaults::unknown_faults))]
+pub fn only(members: &toml::Table, table: Table, keys: &[Key]) -> Result<(), PlanError>
+    ensures { Gives result (unknown_faults table keys.now (table_view members.now)) (λ _. Unit {0}) }
+{
+    if has_only(members, keys) {
+        Ok(())
+    } else {
+        Err(PlanError::Fault(Fault {
+            cause: Cause::UnknownKey,
+            place: Place { table, key: None },
+        }))
+    }
+}
+
+/// The members of a value that is to be a table.
+#[tactic(auto, unfolding(crate::specs::TableFaults::table_only_faults))]
+pub fn table_of(value: &Value, table: Table) -> Result<&toml::Table, PlanError>
+    ensures { Gives result (table_only_faults table (view value.now))
+        (λ t. Some (table_view t.now) ≡ as_table (view value.now)) }
+{
+    match value.as_table() {
+        None => Err(PlanError::Fault(Fault {
+            cause: Cause::WrongType,
+            place: Place { table, key: None },
+        })),
+        Some(members) => Ok(members),
+    }
+}

@@ -1,0 +1,58 @@
+//! Kinds of texts.
+ghost use Rattle.std.specs.Prelude.{◌≡◌};
+ghost use Rattle.std.specs.List.{list_all};
+ghost use Rattle.j39_plan.specs.Labels.{is_label_byte, is_label};
+
+/// Which texts a key takes.
+#[derive(Clone, Copy, Debug, PartialEq, Eq)]
+pub enum TextKind {
+    Label,
+    UnitLabel,
+    Chooser,
+    SignalKind,
+    SignalUnit,
+    Any,
+}
+
+fn is_label_byte(byte: u8) -> bool
+    ensures { result ≡ is_label_byte byte }
+{
+    matches!(byte, b'A'..=b'Z' | b'a'..=b'z' | b'0'..=b'9' | b'_')
+}
+
+fn are_label_bytes(bytes: &[u8]) -> bool
+    ensures { result ≡ list_all is_label_byte bytes.now }
+{
+    bytes.iter().all(|byte| is_label_byte(*byte))
+}
+
+fn is_label(text: &str) -> bool
+    ensures { result ≡ is_label text.now }
+{
+    1 <= text.len() && text.len() <= 32 && are_label_bytes(text.as_bytes())
+}
+
+impl TextKind {
+    ghost use Rattle.std.specs.List.{list_all};
+    ghost use Rattle.j39_plan.specs.Texts.{is_printable, takes};
+
+    fn are_printable(bytes: &[u8]) -> bool
+        ensures { result ≡ list_all is_printable bytes.now }
+    {
+        bytes.iter().all(|byte| matches!(*byte, 32..=126))
+    }
+
+    /// Whether a key of this kind takes the text.
+    pub fn takes(self, text: &str) -> bool
+        ensures { result ≡ takes self text.now }
+    {
+        match self {
+            TextKind::Label => is_label(text),
+            TextKind::UnitLabel => is_label(text) && text != "all",
+            TextKind::Chooser => text == "lowest" || text == "upward",
+            TextKind::SignalKind => text == "measured" || text == "discrete" || text == "raw",
+            TextKind::SignalUnit => text.len() <= 32 && Self::are_printable(text.as_bytes()),
+            TextKind::Any => true,
+        }
+    }
+}

@@ -1,0 +1,194 @@
+//! The values of a table's keys.
+ghost use Rattle.std.specs.Prelude.{◌≡◌, ℕ, pos, true, Some, None, List, option_map, IfSome, IfNone, IfOk, ◌≤◌, ◌≤ℤ◌, length};
+ghost use Rattle.std.specs.Option.{option_copied};
+ghost use Rattle.toml.specs.Data.{get_member};
+ghost use Rattle.toml.specs.View.{view, table_view};
+ghost use Rattle.j39_plan.specs.Words.{word_of};
+ghost use Rattle.j39_plan.specs.Texts.{takes};
+ghost use Rattle.j39_plan.specs.Schema as schema;
+ghost use Rattle.j39_plan.specs.TableFaults.{fault, key_faults};
+ghost use Rattle.j39_plan.specs.Outcome.{Gives};
+
+use super::text_kind::TextKind;
+use super::{Cause, Fault, Key, Place, PlanError, Table};
+use arrayvec::ArrayString;
+use j39_id::Label;
+use toml::Value;
+
+/// The refusal of a key's value.
+pub fn refused(cause: Cause, table: Table, key: Key) -> PlanError
+    ensures { result ≡ PlanError.Fault (fault cause table (Some key)) }
+{
+    PlanError::Fault(Fault {
+        cause,
+        place: Place {
+            table,
+            key: Some(key),
+        },
+    })
+}
+
+/// What stands at a key.
+pub fn value_at(members: &toml::Table, key: Key) -> Option<&Value>
+    ensures { option_map (λ v. view v.now) result ≡ get_member (word_of key) (table_view members.now) }
+{
+    members.get(key.word())
+}
+
+/// The integer at a key, within a range, or the default where there is one.
+#[tactic(auto, unfolding(crate::specs::TableFaults::key_faults, crate::specs::Schema::integer_of))]
+pub fn integer(
+    members: &toml::Table,
+    table: Table,
+    key: Key,
+    low: i64,
+    high: i64,
+    default: Option<i64>,
+) -> Result<i64, PlanError>
+    requires { IfSome default (λ n. (low ≤ℤ n) × (n ≤ℤ high)) }
+    ensures gives { let rule = schema.signed key low high default in
+        Gives result (key_faults table (table_view members.now) rule)
+        (λ n. n ≡ schema.integer_of rule (table_view members.now)) }
+    ensures at_least { IfOk result (λ n. low ≤ℤ n) }
+    ensures at_most { IfOk result (λ n. n ≤ℤ high) }
+{
+    match value_at(members, key) {
+        None => match default {
+            Some(default) => Ok(default),
+            None => Err(refused(Cause::Missing, table, key)),
+        },
+        Some(value) => match value.as_integer() {
+            None => Err(refused(Cause::WrongType, table, key)),
+            Some(number) => {
+                if number < low || high < number {
+                    Err(refused(Cause::Range, table, key))
+                } else {
+                    Ok(number)
+                }
+            }
+        },
+    }
+}
+
+/// The number at a key, within a range, or the default where there is one.
+#[tactic(auto, unfolding(crate::specs::TableFaults::key_faults, crate::specs::Schema::number_of))]
+pub fn number(
+    members: &toml::Table,
+    table: Table,
+    key: Key,
+    low: u32,
+    high: u32,
+    default: Option<u32>,
+) -> Result<u32, PlanError>
+    requires { IfSome default (λ n. (low ≤ n) × (n ≤ high)) }
+    ensures gives { let rule = schema.number key low high default in
+        Gives result (key_faults table (table_view members.now) rule)
+        (λ n. n ≡ schema.number_of rule (table_view members.now)) }
+    ensures at_least { IfOk result (λ n. low ≤ n) }
+    ensures at_most { IfOk result (λ n. n ≤ high) }
+{
+    match value_at(members, key) {
+        None => match default {
+            Some(default) => Ok(default),
+            None => Err(refused(Cause::Missing, table, key)),
+        },
+        Some(value) => match value.as_integer() {
+            None => Err(refused(Cause::WrongType, table, key)),
+            Some(number) => {
+                if number < i64::from(low) || i64::from(high) < number {
+                    Err(refused(Cause::Range, table, key))
+                } else {
+                    Ok(number as u32)
+                }
+            }
+        },
+    }
+}
+
+/// The truth value at a key, or the default.
+#[tactic(auto, unfolding(crate::specs::TableFaults::key_faults, crate::specs::Schema::flag_of))]
+pub fn flag(members: &toml::Table, table: Table, key: Key, default: bool) -> Result<bool, PlanError>
+    ensures { let rule = schema.flag key default in
+        Gives result (key_faults table (table_view members.now) rule)
+        (λ b. b ≡ schema.flag_of rule (table_view members.now)) }
+{
+    match value_at(members, key) {
+        None => Ok(default),
+        Some(value) => match value.as_bool() {
+            None => Err(refused(Cause::WrongType, table, key)),
+            Some(flag) => Ok(flag),
+        },
+    }
+}
+
+/// The text at a key, or the default where there is one.
+#[tactic(auto, unfolding(crate::specs::TableFaults::key_faults, crate::specs::Schema::text_of))]
+pub fn text<'a>(
+    members: &'a toml::Table,
+    table: Table,
+    key: Key,
+    kind: TextKind,
+    default: Option<&'static str>,
+) -> Result<&'a str, PlanError>
+    requires { IfSome (option_copied default) (λ t. takes kind t ≡ true) }
+    ensures gives { let rule = schema.text key kind (option_copied default.entry) in
+        Gives result (key_faults table (table_view members.now) rule)
+        (λ t. t.now ≡ schema.text_of rule (table_view members.now)) }
+    ensures taken { IfOk result (λ t. takes kind t.now ≡ true) }
+{
+    match value_at(members, key) {
+        None => match default {
+            Some(default) => Ok(default),
+            None => Err(refused(Cause::Missing, table, key)),
+        },
+        Some(value) => match value.as_str() {
+            None => Err(refused(Cause::WrongType, table, key)),
+            Some(text) => {
+                if kind.takes(text) {
+                    Ok(text)
+                } else {
+                    Err(refused(Cause::Range, table, key))
+                }
+            }
+        },
+    }
+}
+
+/// The text at a key, which must be there and may be any.
+#[tactic(auto, unfolding(crate::specs::TableFaults::key_faults, crate::specs::Schema::found_text))]
+pub fn any_text<'a>(members: &'a toml::Table, table: Table, key: Key) -> Result<&'a str, PlanError>
+    ensures { let rule = schema.text key TextKind.Any None in
+        Gives result (key_faults table (table_view members.now) rule)
+        (λ t. Some t.now ≡ schema.found_text rule (table_view members.now)) }
+{
+    match value_at(members, key) {
+        None => Err(refused(Cause::Missing, table, key)),
+        Some(value) => match value.as_str() {
+            None => Err(refused(Cause::WrongType, table, key)),
+            Some(text) => Ok(text),
+        },
+    }
+}
+
+/// The short text at a key, or the default where there is one.
+#[tactic(auto, unfolding(crate::specs::TableFaults::key_faults, crate::specs::Schema::text_of))]
+pub fn short_text(
+    members: &toml::Table,
+    table: Table,
+    key: Key,
+    kind: TextKind,
+    default: Option<&'static str>,
+) -> Result<Label, PlanError>
+    requires short { (t : List ℕ) → takes kind t ≡ true → length t ≤ 32 }
+    requires default { IfSome (option_copied default) (λ t. takes kind t ≡ true) }
+    ensures gives { let rule = schema.text key kind (option_copied default.entry) in
+        Gives result (key_faults table (table_view members.now) rule)
+        (λ t. t.bytes ≡ schema.text_of rule (table_view members.now)) }
+    ensures taken { IfOk result (λ t. takes kind t.bytes ≡ true) }
+{
+    let text = text(members, table, key, kind, default)?;
+    match ArrayString::from(text) {
+        Ok(label) => Ok(label),
+        Err(_) => Err(refused(Cause::Range, table, key)),
+    }
+}
