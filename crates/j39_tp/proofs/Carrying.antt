@@ -1,26 +1,21 @@
 -- A listener completes each message that the list carries.
-use Rattle.std.proofs.Common.{◌≡◌, ◌≢◌, ℕ, zero, suc, ◌+◌, ◌-◌, ◌*◌, ◌==◌, ◌≤◌, ◌<◌, ◌&&◌, ◌⊎◌, Bool, true, false, if◌then◌else◌, List, [], ◌++◌, length, take, Option, Some, None, refl, sym, ap, ◌∙◌, subst, inl, inr, arith, add-one, eqb-true, eq-eqb}
-use Rattle.std.specs.Prelude.{nat_le, slice_get, ◌↔◌}
+use Rattle.std.proofs.Common.{◌≡◌, ℕ, zero, suc, ◌+◌, ◌-◌, ◌==◌, ◌≤◌, ◌<◌, true, false, List, [], ◌++◌, take, Option, Some, None, refl, sym, ap, ◌∙◌, subst, arith, add-one, eq-eqb}
+use Rattle.std.specs.Prelude.{nat_le, slice_get}
 use Rattle.std.proofs.Math.Seq.{take-nil}
-use Rattle.std.proofs.lemmas.Bool.{cases_order, cases_lt, eqb-false, ne_eqb, leb-true, leb-false, le-leb}
-use Rattle.std.proofs.lemmas.Grind.{common_steps}
-use Rattle.std.proofs.lemmas.List.{take-append-le, take_all}
+use Rattle.std.proofs.lemmas.Bool.{ne_eqb, le-leb}
 use Rattle.j39_tp.specs.Chunks.{IsSize, packets_of}
-use Rattle.j39_tp.specs.Packets.{InRange}
-use Rattle.j39_tp.specs.Receiver.{Receiving, fresh, receives, hears, grown, kept, opened, one_more, going_on, completed, takes, takes_next, takes_later, is_directed}
-use Rattle.j39_tp.specs.Carried.{Announces, MayPass, Awaits, Reaches, Leaves, IsUndisturbed, Carried, receives_any, listened, CompletesAt, AreInRange}
+use Rattle.j39_tp.specs.Receiver.{hears, grown}
+use Rattle.j39_tp.specs.Carried.{Announces, MayPass, Awaits, Reaches, Leaves, IsUndisturbed, Carried, listened, CompletesAt}
 use Rattle.j39_tp.specs.declared.heard.Heard.{Heard}
-use Rattle.j39_tp.specs.declared.heard.Heard.TheVariants as heard
-use Rattle.j39_tp.specs.declared.manner.Manner.{Manner}
-use Rattle.j39_tp.specs.declared.manner.Manner.TheVariants.{Answering, Listening}
+use Rattle.j39_tp.specs.declared.manner.Manner.TheVariants.{Listening}
 use Rattle.j39_tp.specs.declared.packet.Packet.{Packet}
 use Rattle.j39_tp.specs.declared.packet.Packet.TheVariants.{Rts, Cts, EndAck, Bam, Abort, Dt}
 use Rattle.j39_tp.specs.declared.progress.Progress.{Progress}
-use Rattle.j39_tp.specs.declared.progress.Progress.TheVariants.{Closed, Open, Complete}
+use Rattle.j39_tp.specs.declared.progress.Progress.TheVariants.{Open}
 use Rattle.j39_tp.specs.declared.reception.Kind.{Kind}
 use Rattle.j39_tp.specs.declared.reception.Kind.TheVariants.{Broadcast, Directed}
 use Rattle.j39_tp.specs.declared.reception.Reception.{Reception}
-use Rattle.j39_tp.proofs.Hearing.{IsAt, PacketPasses, one_heard, none_heard, if_case, if_cases, take_again, last_heard, last_at}
+use Rattle.j39_tp.proofs.Hearing.{IsAt, PacketPasses, one_heard, none_heard, if_case, take_again, last_heard, last_at}
 
 -- a listener's session with k packets
 abbrev pub session : Kind → ℕ → ℕ → ℕ → ℕ → Reception

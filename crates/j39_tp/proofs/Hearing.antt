@@ -1,24 +1,20 @@
 -- What a listener is after each packet of a list.
-use Rattle.std.proofs.Common.{◌≡◌, ◌≢◌, ℕ, zero, suc, ◌+◌, ◌-◌, ◌*◌, ◌==◌, ◌≤◌, ◌<◌, ◌&&◌, ◌⊎◌, Bool, true, false, if◌then◌else◌, List, [], ◌++◌, length, take, Option, Some, None, refl, sym, ap, ◌∙◌, subst, inl, inr, arith, add-one, eqb-true, eq-eqb}
-use Rattle.std.specs.Prelude.{nat_le, slice_get, ◌↔◌}
-use Rattle.std.proofs.Math.Seq.{take-nil}
-use Rattle.std.proofs.lemmas.Bool.{cases_order, cases_lt, eqb-false, ne_eqb, leb-true, leb-false, le-leb}
+use Rattle.std.proofs.Common.{◌≡◌, ℕ, zero, suc, ◌+◌, ◌==◌, ◌≤◌, Bool, true, false, if◌then◌else◌, List, ◌++◌, length, take, Option, Some, None, refl, sym, ap, ◌∙◌, inl, inr, arith, add-one, eq-eqb}
+use Rattle.std.specs.Prelude.{slice_get}
+use Rattle.std.proofs.lemmas.Bool.{cases_lt}
 use Rattle.std.proofs.lemmas.Grind.{common_steps}
 use Rattle.std.proofs.lemmas.List.{take-append-le, take_all}
-use Rattle.j39_tp.specs.Chunks.{IsSize, packets_of}
-use Rattle.j39_tp.specs.Packets.{InRange}
-use Rattle.j39_tp.specs.Receiver.{Receiving, fresh, receives, hears, grown, kept, opened, one_more, going_on, completed, takes, takes_next, takes_later, is_directed}
-use Rattle.j39_tp.specs.Carried.{Announces, MayPass, Awaits, Reaches, Leaves, IsUndisturbed, Carried, receives_any, listened, CompletesAt, AreInRange}
+use Rattle.j39_tp.specs.Chunks.{packets_of}
+use Rattle.j39_tp.specs.Receiver.{Receiving, hears, grown, kept}
+use Rattle.j39_tp.specs.Carried.{MayPass, receives_any, listened}
 use Rattle.j39_tp.specs.declared.heard.Heard.{Heard}
 use Rattle.j39_tp.specs.declared.heard.Heard.TheVariants as heard
-use Rattle.j39_tp.specs.declared.manner.Manner.{Manner}
-use Rattle.j39_tp.specs.declared.manner.Manner.TheVariants.{Answering, Listening}
+use Rattle.j39_tp.specs.declared.manner.Manner.TheVariants.{Listening}
 use Rattle.j39_tp.specs.declared.packet.Packet.{Packet}
-use Rattle.j39_tp.specs.declared.packet.Packet.TheVariants.{Rts, Cts, EndAck, Bam, Abort, Dt}
+use Rattle.j39_tp.specs.declared.packet.Packet.TheVariants.{Dt}
 use Rattle.j39_tp.specs.declared.progress.Progress.{Progress}
-use Rattle.j39_tp.specs.declared.progress.Progress.TheVariants.{Closed, Open, Complete}
+use Rattle.j39_tp.specs.declared.progress.Progress.TheVariants.{Open, Complete}
 use Rattle.j39_tp.specs.declared.reception.Kind.{Kind}
-use Rattle.j39_tp.specs.declared.reception.Kind.TheVariants.{Broadcast, Directed}
 use Rattle.j39_tp.specs.declared.reception.Reception.{Reception}
 
 same_manner : (s : Receiving) (o : Option Packet) → (receives_any s o).manner ≡ s.manner

@@ -1,11 +1,11 @@
 -- The bytes of a receiver fit its progress after each packet.
-use Rattle.std.proofs.Common.{◌≡◌, ℕ, ◌+◌, ◌*◌, ◌/◌, ◌==◌, ◌≤◌, ◌<◌, ◌&&◌, Bool, true, false, if◌then◌else◌, List, [], ◌∷◌, ◌++◌, length, take, refl, sym, ap, ◌∙◌, eqb-true, eq-eqb, arith, length-append}
+use Rattle.std.proofs.Common.{◌≡◌, ℕ, ◌+◌, ◌*◌, ◌==◌, ◌≤◌, ◌<◌, ◌&&◌, Bool, true, false, if◌then◌else◌, List, [], ◌++◌, length, take, refl, sym, ap, ◌∙◌, eqb-true, eq-eqb, arith, length-append}
 use Rattle.std.proofs.lemmas.Grind.{common_steps}
 use Rattle.std.proofs.lemmas.Bool.{eqb-false, ltb-true}
 use Rattle.std.specs.Prelude.{nat_lt, nat_le}
 use Rattle.j39_tp.specs.Chunks.{packets_of}
 use Rattle.j39_tp.specs.Packets.{InRange}
-use Rattle.j39_tp.specs.Receiver.{Receiving, hears, grown, kept, opened, one_more, is_within, is_held_at, is_directed, going_on, takes, takes_next, takes_later, asks, asking, granted_to}
+use Rattle.j39_tp.specs.Receiver.{Receiving, hears, grown, kept, opened, one_more, is_within, is_held_at, is_directed, going_on, takes, takes_next, takes_later}
 use Rattle.j39_tp.specs.declared.heard.Heard.{Heard}
 use Rattle.j39_tp.specs.declared.heard.Heard.TheVariants as heard
 use Rattle.j39_tp.specs.declared.manner.Manner.{Manner}

@@ -1,8 +1,7 @@
 -- The bytes of a connection management packet are read as that packet.
 use Rattle.std.proofs.Common.{◌≡◌, ℕ, ◌+◌, ◌*◌, ◌/◌, ◌%◌, List, refl, sym, subst, arith}
 use Rattle.j39_id.specs.Pgn.{IsGroup}
-use Rattle.j39_tp.specs.Chunks.{IsSize}
-use Rattle.j39_tp.specs.Packets.{data_of, size_bytes, group_in, GivesSize, InRange, IsReadable, ManagementReads}
+use Rattle.j39_tp.specs.Packets.{data_of, InRange, IsReadable, ManagementReads}
 use Rattle.j39_tp.specs.declared.packet.Packet.{Packet}
 use Rattle.j39_tp.specs.declared.packet.Packet.TheVariants.{Rts, Cts, EndAck, Bam, Abort, Dt}
 

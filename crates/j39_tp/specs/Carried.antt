@@ -1,14 +1,14 @@
 -- Messages that a list of packets of one pair carries, by places in the whole list (SAE J1939-21, transport protocol
 -- functions; that a newer announcement of a pair replaces the older one is a rule of our own).
-use Rattle.std.specs.Prelude.{◌≡◌, ◌≢◌, ℕ, zero, suc, ◌+◌, ◌<◌, List, [], ◌++◌, take, slice_get, Option, Some, None}
+use Rattle.std.specs.Prelude.{◌≡◌, ◌≢◌, ℕ, zero, suc, ◌<◌, List, [], ◌++◌, take, slice_get, Option, Some, None}
 use Rattle.j39_tp.specs.Chunks.{IsSize, packets_of}
 use Rattle.j39_tp.specs.Packets.{InRange}
 use Rattle.j39_tp.specs.Receiver.{Receiving, fresh, receives, hears}
 use Rattle.j39_tp.specs.declared.heard.Heard.TheVariants as heard
 use Rattle.j39_tp.specs.declared.manner.Manner.TheVariants.{Listening}
 use Rattle.j39_tp.specs.declared.packet.Packet.{Packet}
-use Rattle.j39_tp.specs.declared.packet.Packet.TheVariants.{Rts, Cts, EndAck, Bam, Abort, Dt}
-use Rattle.j39_tp.specs.declared.progress.Progress.TheVariants.{Closed, Open, Complete}
+use Rattle.j39_tp.specs.declared.packet.Packet.TheVariants.{Rts, Bam, Abort, Dt}
+use Rattle.j39_tp.specs.declared.progress.Progress.TheVariants.{Complete}
 use Rattle.j39_tp.specs.declared.reception.Kind.{Kind}
 use Rattle.j39_tp.specs.declared.reception.Kind.TheVariants.{Broadcast, Directed}
 

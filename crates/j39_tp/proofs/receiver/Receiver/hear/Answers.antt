@@ -1,6 +1,5 @@
-use Rattle.std.proofs.Common.{◌≡◌, refl, ap, ◌∙◌}
+use Rattle.std.proofs.Common.{refl, ap, ◌∙◌}
 use Rattle.j39_tp.proofs.Holding.{still_standing, both_hold, first_holds, second_holds, same_receiving}
-use Rattle.j39_tp.specs.Receiver.{hears, grown}
 use Rattle.j39_tp.specs.declared.heard.Heard.{Heard}
 use Rattle.j39_tp.specs.declared.progress.Progress.{Progress}
 use Rattle.j39_tp.proofs.receiver.Receiver.hear.Goals as goal
