@@ -12,7 +12,7 @@ pub mod Places
 pub mod Refused
 pub mod Schema
 pub mod Signals
-pub mod SignalsSound
+pub mod SoundSignals
 pub mod TableFaults
 pub mod Texts
 pub mod Units

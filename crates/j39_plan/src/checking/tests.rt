@@ -34,7 +34,9 @@ fn findings(alloc: Global, parts: &[&str]) -> Result<Findings, Fail> {
 fn arbitrary_units(alloc: Global, count: u32) -> Result<String, Fail> {
     let mut text = String::new(alloc);
     for i in 0..count {
-        let unit = format!(in alloc; "[[unit]]\nlabel = \"U{i}\"\naddress = 128\nname = {{ identity = {i}, arbitrary = true }}\n")?;
+        let unit = format!(in alloc;
+            "[[unit]]\nlabel = \"U{i}\"\naddress = 128\nname = {{ identity = {i}, arbitrary = true }}\n"
+        )?;
         text.push_str(unit.as_str())?;
     }
     Ok(text)
@@ -70,14 +72,20 @@ fn units_have_one_name(rt: HostRuntime) -> Result<(), Fail> {
 fn two_fixed_units_share_an_address(rt: HostRuntime) -> Result<(), Fail> {
     let rival = "[[unit]]\nlabel = \"B\"\naddress = 0\nname = { identity = 2 }\n";
     let found = findings(rt.alloc(), &[UNIT_A, rival])?;
-    assert_eq!(rt; found.as_slice(), [Finding::SameFixedAddress(0, 1)].as_slice());
+    assert_eq!(rt;
+        found.as_slice(),
+        [Finding::SameFixedAddress(0, 1)].as_slice()
+    );
     match checked(rt.alloc(), plan(rt.alloc(), &[UNIT_A, rival])?) {
         Ok(_) => assert!(rt; false, "the plan is taken as checked"),
         Err(refused) => {
             assert_eq!(rt; refused.plan.units.len(), 2);
             match refused.cause {
                 RefusedCause::Findings(cause) => {
-                    assert_eq!(rt; cause.as_slice(), [Finding::SameFixedAddress(0, 1)].as_slice());
+                    assert_eq!(rt;
+                        cause.as_slice(),
+                        [Finding::SameFixedAddress(0, 1)].as_slice()
+                    );
                 }
                 RefusedCause::Memory => assert!(rt; false, "memory is there"),
             }
@@ -106,9 +114,18 @@ fn there_are_120_addresses_to_choose(rt: HostRuntime) -> Result<(), Fail> {
     let over = arbitrary_units(alloc, 121)?;
     let too_few = [Finding::TooFewAddresses(121)];
     assert_eq!(rt; findings(alloc, &[full.as_str()])?.len(), 0);
-    assert_eq!(rt; findings(alloc, &[over.as_str()])?.as_slice(), too_few.as_slice());
-    assert_eq!(rt; findings(alloc, &[short.as_str(), at_128, at_247])?.as_slice(), too_few.as_slice());
-    assert_eq!(rt; findings(alloc, &[short.as_str(), at_127, at_247])?.len(), 0);
+    assert_eq!(rt;
+        findings(alloc, &[over.as_str()])?.as_slice(),
+        too_few.as_slice()
+    );
+    assert_eq!(rt;
+        findings(alloc, &[short.as_str(), at_128, at_247])?.as_slice(),
+        too_few.as_slice()
+    );
+    assert_eq!(rt;
+        findings(alloc, &[short.as_str(), at_127, at_247])?.len(),
+        0
+    );
     Ok(())
 }
 
@@ -121,12 +138,16 @@ fn groups_that_may_not_be_planned(rt: HostRuntime) -> Result<(), Fail> {
     ];
     let good = [0, 59_648, 61_440, 61_444, 65_279, 126_976, 130_815];
     for pgn in bad {
-        let group = format!(in alloc; "[[group]]\nlabel = \"G\"\npgn = {pgn}\npriority = 6\nlength = 8\n")?;
+        let group = format!(in alloc;
+            "[[group]]\nlabel = \"G\"\npgn = {pgn}\npriority = 6\nlength = 8\n"
+        )?;
         let found = findings(alloc, &[group.as_str()])?;
         assert_eq!(rt; found.as_slice(), [Finding::BadPgn(0)].as_slice(), "{pgn}");
     }
     for pgn in good {
-        let group = format!(in alloc; "[[group]]\nlabel = \"G\"\npgn = {pgn}\npriority = 6\nlength = 8\n")?;
+        let group = format!(in alloc;
+            "[[group]]\nlabel = \"G\"\npgn = {pgn}\npriority = 6\nlength = 8\n"
+        )?;
         assert_eq!(rt; findings(alloc, &[group.as_str()])?.len(), 0, "{pgn}");
     }
     Ok(())
@@ -145,7 +166,10 @@ fn signals_share_a_bit(rt: HostRuntime) -> Result<(), Fail> {
     let s = "[[group.signal]]\nlabel = \"S\"\nbyte = 1\nbit = 1\nbits = 4\nkind = \"raw\"\n";
     let t = "[[group.signal]]\nlabel = \"T\"\nbyte = 1\nbit = 4\nbits = 2\nkind = \"raw\"\n";
     let found = findings(rt.alloc(), &[G, s, t])?;
-    assert_eq!(rt; found.as_slice(), [Finding::SignalOverlap(0, 0, 1)].as_slice());
+    assert_eq!(rt;
+        found.as_slice(),
+        [Finding::SignalOverlap(0, 0, 1)].as_slice()
+    );
     Ok(())
 }
 
@@ -185,7 +209,10 @@ fn a_unit_sends_to_itself(rt: HostRuntime) -> Result<(), Fail> {
 
 #[test]
 fn a_flow_is_planned_twice(rt: HostRuntime) -> Result<(), Fail> {
-    let found = findings(rt.alloc(), &[UNIT_A, UNIT_B, VI, VI_TO_ALL, VI_TO_B, VI_TO_ALL])?;
+    let found = findings(
+        rt.alloc(),
+        &[UNIT_A, UNIT_B, VI, VI_TO_ALL, VI_TO_B, VI_TO_ALL],
+    )?;
     assert_eq!(rt; found.as_slice(), [Finding::FlowRepeated(0, 2)].as_slice());
     Ok(())
 }

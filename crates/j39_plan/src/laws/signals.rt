@@ -1,8 +1,12 @@
-//! The law of the signals.
-ghost use Rattle.j39_plan.specs.SignalsSound.{CleanSignalsAreSound};
+//! The law of a plan's signals.
+ghost use Rattle.j39_plan.specs.declared.plan.Plan.{Plan};
+ghost use Rattle.j39_plan.specs.Findings.{Clean};
+ghost use Rattle.j39_plan.specs.SoundSignals.{SoundSignals};
 
-/// The signals of a plan without findings are sound: whatever is written to a group's payload, signal after signal, each
-/// signal reads back what was last written to it.
+/// The signals of a clean plan are sound. Each group's payload that begins with all bytes 255 and is written signal after
+/// signal, by raw numbers of values or by all ones, ends with the raw number last put for each signal, all ones where there
+/// was none. So a signal last given a value reads it; one never given, or given up, reads `Absent`, or for the raw kind the
+/// value of all ones.
 pub fn signals_are_sound()
-    ensures { CleanSignalsAreSound }
+    ensures { (plan : Plan) → Clean plan → SoundSignals plan }
 {}
