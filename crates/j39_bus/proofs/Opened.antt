@@ -1,0 +1,66 @@
+-- A new bus stands for the first world.
+use Rattle.std.proofs.Common.{◌≡◌, ℕ, zero, suc, ◌<◌, ◌≤◌, true, List, [], ◌∷◌, length, map, get_or, refl, sym, ap, ◌∙◌, subst, arith, Some}
+use Rattle.std.proofs.lemmas.Bool.{true≢false}
+use Rattle.std.specs.List.{list_all, slice_get}
+use Rattle.std.specs.Option.{is_some}
+use Rattle.std.specs.Ordering.{nat_cmp}
+use Rattle.std.specs.FinMap.{get, get-empty}
+use Rattle.j39_claim.specs.ClaimRule.{Claimant, Station, off}
+use Rattle.j39_claim.specs.Claiming.{Claiming}
+use Rattle.j39_plan.specs.declared.plan.Plan.{Plan}
+use Rattle.j39_plan.specs.declared.plan.unit_plan.UnitPlan.{UnitPlan}
+use Rattle.j39_bus.specs.declared.letter.Letter.{Letter}
+use Rattle.j39_bus.specs.declared.network.Network.{Network}
+use Rattle.j39_bus.specs.Claimants.{claimant_of, unit_at}
+use Rattle.j39_bus.specs.Letters.{unstarted, station_at, between, is_inside}
+use Rattle.j39_bus.specs.Network.{claimants, state_of, world_of, IsNetwork, IsWellFormed}
+use Rattle.j39_bus.specs.Sent.{sent_of}
+use Rattle.j39_bus.specs.Stands.{Stands}
+use Rattle.j39_bus.specs.World.{World, first}
+use Rattle.j39_bus.proofs.Standing.{stands}
+
+station_unstarted : (units : List UnitPlan) (u : ℕ) → station_at (map unstarted units) u ≡ off
+station_unstarted [] u = refl
+station_unstarted (p ∷ units) zero = refl
+station_unstarted (p ∷ units) (suc u) = station_unstarted units u
+
+claimants-unstarted : (units : List UnitPlan) → claimants (map unstarted units) ≡ map claimant_of units
+claimants-unstarted [] = refl
+claimants-unstarted (p ∷ units) = ap (λ (cs : List Claimant). claimant_of p ∷ cs) (claimants-unstarted units)
+
+length-unstarted : (units : List UnitPlan) → length (map unstarted units) ≡ length units
+length-unstarted [] = refl
+length-unstarted (p ∷ units) = omega (arith, length-unstarted units)
+
+pub length_opened : (units : List UnitPlan) (cs : List Claiming) → cs ≡ map unstarted units → length cs ≡ length units
+length_opened units cs is = ap length is ∙ length-unstarted units
+
+-- units that are not started, and no letter
+pub well_opened : (units : List UnitPlan) → length units ≤ 128 → (cs : List Claiming) (ls : List Letter) → cs ≡ map unstarted units → ls ≡ [] → IsWellFormed cs ls
+well_opened units few cs ls cs_is ls_is = record {
+  few = omega (arith, length_opened units cs cs_is, few);
+  inside = ap (list_all (is_inside (length cs))) ls_is;
+  notes = λ v n h. absurd (true≢false (sym h ∙ ap is_some (ap (λ (s : Station). get s.notes n) (ap (λ (l : List Claiming). station_at l v) cs_is ∙ station_unstarted units v) ∙ get-empty nat_cmp n)));
+}
+
+pub stands_first : (plan : Plan) (net : Network) → IsNetwork net → net.claimers.items ≡ map unstarted plan.units.items → net.letters.items ≡ [] → net.frames.items ≡ [] → Stands (state_of net) plan first
+stands_first plan net well cs_is ls_is fs_is = subst (Stands (state_of net) plan) at_first (stands net well plan (ap claimants cs_is ∙ claimants-unstarted plan.units.items))
+  where
+    at_first : world_of net ≡ first
+    at_first = λ i. record {
+      stations = λ u. (ap (λ (l : List Claiming). station_at l u) cs_is ∙ station_unstarted plan.units.items u) i;
+      claims = λ u v. between (ls_is i) u v;
+      frames = map sent_of (fs_is i);
+    }
+
+-- the NAME at a place of the plan
+pub named_at : (units : List UnitPlan) (k : ℕ) (p : UnitPlan) → k < length units → p ≡ get_or units k p → (unit_at (map claimant_of units) k).name ≡ p.name
+named_at [] k p inside is = absurd (omega arith)
+named_at (q ∷ units) zero p inside is = ap (λ (u : UnitPlan). u.name) (sym is)
+named_at (q ∷ units) (suc k) p inside is = named_at units k p (omega arith) is
+
+-- the value at a place
+pub got : {X : Type 0} (xs : List X) (i : ℕ) (x : X) → i < length xs → x ≡ get_or xs i x → slice_get xs i ≡ Some x
+got [] i x inside is = absurd (omega arith)
+got (y ∷ xs) zero x inside is = ap Some (sym is)
+got (y ∷ xs) (suc i) x inside is = got xs i x (omega arith) is

@@ -1,0 +1,92 @@
+-- Each world of a run of a clean plan is sound.
+use Rattle.std.proofs.Common.{◌≡◌, ◌≢◌, ℕ, ◌<◌, Bool, true, false, ltb, List, [], ◌∷◌, length, refl, sym, ap, ◌∙◌, subst, Option, inl, inr}
+use Rattle.std.proofs.lemmas.Bool.{ltb-true, and_parts, true≢false}
+use Rattle.std.specs.Bool.{MatchBool}
+use Rattle.std.specs.FinMap.{get-empty}
+use Rattle.std.specs.Option.{is_some}
+use Rattle.std.specs.Ordering.{nat_cmp}
+use Rattle.std.specs.List.{AllByRecursion}
+use Rattle.j39_claim.specs.declared.item.Item.{Item}
+use Rattle.j39_claim.specs.ClaimRule.{Claimant}
+use Rattle.j39_plan.specs.declared.plan.Plan.{Plan}
+use Rattle.j39_plan.specs.declared.steps.Step.{Step}
+use Rattle.j39_plan.specs.declared.steps.Step.TheVariants.{Up, Give, Ask}
+use Rattle.j39_bus.specs.declared.step_error.StepError.{StepError}
+use Rattle.j39_bus.specs.Claimants.{units_of}
+use Rattle.j39_bus.proofs.CleanUnits.{IsClean}
+use Rattle.j39_bus.specs.World.{World, first}
+use Rattle.j39_bus.specs.ClaimSteps.{GivenFrom}
+use Rattle.j39_bus.specs.Run.{refusal, unless, Leads, Follows, Run}
+use Rattle.j39_bus.specs.Sound.{AreAddressesSound, AreAddressesDifferent, IsQuiet}
+use Rattle.j39_bus.specs.Claimants.{unit_at}
+use Rattle.j39_bus.proofs.Kept.{Kept, IsSaid}
+use Rattle.j39_bus.proofs.Turns.{turn}
+use Rattle.j39_bus.proofs.Steps.{switched_on_keeps, asked_keeps, given_keeps}
+
+-- of a world
+abbrev KeptIn : List Claimant → World → Type 0
+KeptIn units w = Kept units w.stations w.claims
+
+first_kept : (units : List Claimant) → KeptIn units first
+first_kept units = record {
+  holds = λ u on. absurd (true≢false (sym on));
+  apart = λ u v a other on_u on_v. absurd (true≢false (sym on_u));
+  said = λ u v. tt;
+  itself = λ u. refl;
+  notes = λ v n a is. absurd (let e = sym (get-empty {X = ℕ} nat_cmp n) ∙ is in cc);
+}
+
+-- a step that is not refused meets each condition in turn
+met : (b : Bool) (e : StepError) (more : Option StepError) → is_some (unless b e more) ≡ false → (b ≡ true) × (is_some more ≡ false)
+met true e more none = (refl, none)
+met false e more none = absurd (true≢false none)
+
+given_from : (units : List Claimant) → IsClean units → (w : World) → KeptIn units w → (u v : ℕ) → u < length units → v < length units → (w.stations v).on ≡ true
+    → (list : List Item) → w.claims u v ≡ list → (new : World) → GivenFrom units w u v list new → KeptIn units new
+given_from units clean w kept u v in_u in_v on [] is new never = absurd never
+given_from units clean w kept u v in_u in_v on (item ∷ rest) is new leads =
+    let (says, s, answers, e) = leads in
+    let other : u ≢ v = λ same. let none : item ∷ rest ≡ [] = sym is ∙ ap (w.claims u) (sym same) ∙ kept.itself u in cc in
+    let said : AllByRecursion (IsSaid (unit_at units u)) (item ∷ rest) = subst (AllByRecursion (IsSaid (unit_at units u))) is (kept.said u v) in
+    let t = turn units clean u v in_u in_v other (w.stations v) (kept.holds v on) (kept.notes v) item said.0 says s answers in
+    subst (KeptIn units) (sym e) (given_keeps units w.stations w.claims kept u v other on item rest is says s t)
+
+leads_keeps : (plan : Plan) → IsClean (units_of plan) → (w : World) → KeptIn (units_of plan) w → (step : Step) → is_some (refusal plan w step) ≡ false → (new : World) → Leads plan w step new → KeptIn (units_of plan) new
+leads_keeps plan clean w kept (Up u) allowed new e = subst (KeptIn (units_of plan)) (sym e) (switched_on_keeps (units_of plan) w.stations w.claims kept u)
+leads_keeps plan clean w kept (Give u v) allowed new leads =
+    let known = met _ _ _ allowed in
+    let started = met _ _ _ known.1 in
+    let inside = and_parts (ltb u (length (units_of plan))) (ltb v (length (units_of plan))) known.0 in
+    let on = and_parts (w.stations u).on (w.stations v).on started.0 in
+    given_from (units_of plan) clean w kept u v (ltb-true u (length (units_of plan)) inside.0) (ltb-true v (length (units_of plan)) inside.1) on.1 (w.claims u v) refl new leads
+leads_keeps plan clean w kept (Ask u) allowed new e =
+    let known = met _ _ _ allowed in
+    let started = met _ _ _ known.1 in
+    subst (KeptIn (units_of plan)) (sym e) (asked_keeps (units_of plan) w.stations w.claims kept u started.0)
+
+follows_keeps : (plan : Plan) → IsClean (units_of plan) → (w : World) → KeptIn (units_of plan) w → (step : Step) (new : World) → Follows plan w step new → KeptIn (units_of plan) new
+follows_keeps plan clean w kept step new follows =
+    elim (is_some (refusal plan w step)) as (λ b. is_some (refusal plan w step) ≡ b → MatchBool b (new ≡ w) (Leads plan w step new) → KeptIn (units_of plan) new) [
+      | true ↦ λ _ e. subst (KeptIn (units_of plan)) (sym e) kept
+      | false ↦ λ allowed leads. leads_keeps plan clean w kept step allowed new leads
+    ] refl follows
+
+run_keeps : (plan : Plan) → IsClean (units_of plan) → (steps : List Step) (w new : World) → KeptIn (units_of plan) w → Run plan w steps new → KeptIn (units_of plan) new
+run_keeps plan clean [] w new kept e = subst (KeptIn (units_of plan)) (sym e) kept
+run_keeps plan clean (step ∷ steps) w new kept run =
+    let (mid, follows, more) = run in
+    run_keeps plan clean steps mid new (follows_keeps plan clean w kept step mid follows) more
+
+pub run_sound : (plan : Plan) (steps : List Step) (w : World) → IsClean (units_of plan) → Run plan first steps w → AreAddressesSound plan w
+run_sound plan steps w clean run =
+    let kept = run_keeps plan clean steps first w (first_kept (units_of plan)) run in
+    record { holds = kept.holds; apart = kept.apart }
+
+-- where no claim is undelivered, no two hold one address
+pub quiet_apart : (plan : Plan) (w : World) → AreAddressesSound plan w → IsQuiet w.claims → AreAddressesDifferent w
+quiet_apart plan w sound quiet u v other on_u on_v same =
+    let (a, holds, own) = sound.holds u on_u in
+    elim (sound.apart u v a other on_u on_v holds (sym same ∙ holds)) [
+      | inl to_v ↦ (quiet u v).0 a to_v
+      | inr to_u ↦ (quiet v u).0 a to_u
+    ]

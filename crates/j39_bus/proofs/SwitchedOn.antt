@@ -1,0 +1,36 @@
+-- A unit that is switched on.
+use Rattle.std.proofs.Common.{◌≡◌, ℕ, ◌<◌, List, [], ◌∷◌, length, get_or, set, sym, ap, ◌∙◌}
+use Rattle.j39_claim.specs.declared.item.Say.{Say}
+use Rattle.j39_claim.specs.declared.item.Say.TheVariants.{Claim}
+use Rattle.j39_claim.specs.declared.item.Item.TheVariants.{Told}
+use Rattle.j39_claim.specs.ClaimRule.{Claimant, Station, started}
+use Rattle.j39_claim.specs.Claiming.{Claiming}
+use Rattle.j39_bus.specs.declared.letter.Letter.{Letter}
+use Rattle.j39_bus.specs.Claimants.{unit_at}
+use Rattle.j39_bus.specs.Sent.{Sent}
+use Rattle.j39_bus.specs.World.{World, changed}
+use Rattle.j39_bus.specs.ClaimSteps.{tell, switched_on, without_lists_to}
+use Rattle.j39_bus.specs.Letters.{between, without_letters_to, nobody, station_at}
+use Rattle.j39_bus.specs.Network.{claimants}
+use Rattle.j39_bus.proofs.Worlds.{any_default, claimants-set, unit_at-claimants, world, world_on}
+
+module _ (cs : List Claiming) (u : ℕ) (inside : u < length cs) (old new : Claiming) (at : old ≡ get_or cs u old) (starts : new ≡ record old { station = started old.claimant }) where
+  same_claimant : new.claimant ≡ (get_or cs u nobody).claimant
+  same_claimant = ap (λ (c : Claiming). c.claimant) (starts) ∙ ap (λ (c : Claiming). c.claimant) (at ∙ any_default cs u old nobody inside)
+
+  pub claimants_on : claimants (set cs u new) ≡ claimants cs
+  claimants_on = claimants-set cs u new same_claimant
+
+  pub on_claimant : new.claimant ≡ (get_or cs u nobody).claimant
+  on_claimant = same_claimant
+
+  pub switched : (ls left : List Letter) (fs : List Sent) → left ≡ without_letters_to u ls → (say : Say) → say ≡ Claim old.claimant.preferred
+      → (after : World) → after ≡ tell (claimants (set cs u new)) (world (set cs u new) left fs) u (Told say ∷ [])
+      → after ≡ switched_on (claimants cs) (world cs ls fs) u
+  switched ls left fs left_is say said after after_is =
+      let planned : old.claimant ≡ unit_at (claimants cs) u = ap (λ (c : Claiming). c.claimant) (at ∙ any_default cs u old nobody inside) ∙ sym (unit_at-claimants cs u) in
+      let station : new.station ≡ started (unit_at (claimants cs) u) = ap (λ (c : Claiming). c.station) starts ∙ ap started planned in
+      let claims : say ≡ Claim (unit_at (claimants cs) u).preferred = said ∙ ap (λ (c : Claimant). Claim c.preferred) planned in
+      let before : world (set cs u new) left fs ≡ record { stations = changed (station_at cs) u (started (unit_at (claimants cs) u)); claims = without_lists_to u (between ls); frames = fs } =
+      (λ i. world (set cs u new) (left_is i) fs) ∙ world_on cs ls fs u new inside ∙ (λ i. record { stations = changed (station_at cs) u (station i); claims = without_lists_to u (between ls); frames = fs }) in
+      after_is ∙ (λ i. tell (claimants_on i) (before i) u (Told (claims i) ∷ []))

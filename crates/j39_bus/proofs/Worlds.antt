@@ -1,0 +1,112 @@
+-- The world of a network after each change of it.
+use Rattle.std.proofs.Common.{◌≡◌, ℕ, zero, suc, ◌<◌, ◌≤◌, Bool, true, false, cond, not, ◌&&◌, eqb, List, [], ◌∷◌, ◌++◌, length, map, get_or, set, refl, sym, ap, ◌∙◌, subst, arith, inl, inr, Option, Some, None, get_or-set_other, get_or-set_same}
+use Rattle.std.proofs.Math.ListN.{length-set}
+use Rattle.std.proofs.Math.Seq.{set-get_or}
+use Rattle.std.proofs.lemmas.Bool.{cases_eq, eq-eqb, ne_eqb}
+use Rattle.std.specs.List.{remove}
+use Rattle.j39_claim.specs.declared.item.Say.{Say}
+use Rattle.j39_claim.specs.declared.item.Item.{Item}
+use Rattle.j39_claim.specs.declared.item.Item.TheVariants.{Told}
+use Rattle.j39_claim.specs.ClaimRule.{Claimant, Station}
+use Rattle.j39_claim.specs.Claiming.{Claiming}
+use Rattle.j39_bus.specs.declared.letter.Letter.{Letter}
+use Rattle.j39_bus.specs.Claimants.{unit_at}
+use Rattle.j39_bus.specs.Sent.{Sent, frame_of}
+use Rattle.j39_bus.specs.World.{World, changed, changed_pair}
+use Rattle.j39_bus.specs.ClaimSteps.{tell, without_lists_to}
+use Rattle.j39_bus.specs.Letters.{between, letters_to_others, without_letters_to, first_between, nobody, station_at}
+use Rattle.j39_bus.specs.Network.{claimants}
+use Rattle.j39_bus.proofs.Between.{append_nil, between_told, lists_left, lists_after}
+
+pub any_default : {X : Type 0} (xs : List X) (i : ℕ) (d e : X) → i < length xs → get_or xs i d ≡ get_or xs i e
+any_default [] i d e inside = absurd (omega arith)
+any_default (x ∷ xs) zero d e inside = refl
+any_default (x ∷ xs) (suc i) d e inside = any_default xs i d e (omega arith)
+
+pub unit_at-claimants : (cs : List Claiming) (u : ℕ) → unit_at (claimants cs) u ≡ (get_or cs u nobody).claimant
+unit_at-claimants [] u = refl
+unit_at-claimants (c ∷ cs) zero = refl
+unit_at-claimants (c ∷ cs) (suc u) = unit_at-claimants cs u
+
+-- the world of these units, letters and frames
+abbrev pub world : List Claiming → List Letter → List Sent → World
+world cs ls fs = record { stations = station_at cs; claims = between ls; frames = fs }
+
+-- after a unit has told the others
+pub world_told : (cs : List Claiming) (ls : List Letter) (fs : List Sent) (u : ℕ) (item : Item) (name : ℕ) (held : Option ℕ)
+    → name ≡ (get_or cs u nobody).claimant.name → held ≡ (station_at cs u).address
+    → world cs (ls ++ letters_to_others 0 cs u item) (fs ++ frame_of name held item ∷ []) ≡ tell (claimants cs) (world cs ls fs) u (item ∷ [])
+world_told cs ls fs u item name held name_is held_is = λ i. record {
+  stations = station_at cs;
+  claims = λ s t. sym (between_told ls cs u item s t) i;
+  frames = fs ++ frame_of (same_name i) (held_is i) item ∷ [];
+}
+  where
+    same_name : name ≡ (unit_at (claimants cs) u).name
+    same_name = name_is ∙ sym (ap (λ (c : Claimant). c.name) (unit_at-claimants cs u))
+
+-- one unit's station is another
+pub at_set : (cs : List Claiming) (v : ℕ) (c : Claiming) (x : ℕ) → v < length cs → get_or (set cs v c) x nobody ≡ cond (eqb x v) c (get_or cs x nobody)
+at_set cs v c x inside = elim (cases_eq x v) [
+  | inl same ↦ rw (same, eq-eqb v v refl, get_or-set_same)
+  | inr other ↦ rw (ne_eqb x v other, get_or-set_other)
+]
+
+pub station_set : (cs : List Claiming) (v : ℕ) (c : Claiming) (x : ℕ) → v < length cs → station_at (set cs v c) x ≡ changed (station_at cs) v c.station x
+station_set cs v c x inside = ap (λ (e : Claiming). e.station) (at_set cs v c x inside) ∙ out (eqb x v)
+  where
+    out : (b : Bool) → (cond b c (get_or cs x nobody)).station ≡ cond b c.station (get_or cs x nobody).station
+    out true = refl
+    out false = refl
+
+-- a unit that has changed claims as before
+pub claimants-set : (cs : List Claiming) (v : ℕ) (c : Claiming) → c.claimant ≡ (get_or cs v nobody).claimant → claimants (set cs v c) ≡ claimants cs
+claimants-set [] v c same = refl
+claimants-set (d ∷ cs) zero c same = ap (λ (x : Claimant). x ∷ claimants cs) same
+claimants-set (d ∷ cs) (suc v) c same = ap (λ (xs : List Claimant). d.claimant ∷ xs) (claimants-set cs v c same)
+
+-- after a unit was switched on, and has not told yet
+pub world_on : (cs : List Claiming) (ls : List Letter) (fs : List Sent) (u : ℕ) (c : Claiming) → u < length cs
+    → world (set cs u c) (without_letters_to u ls) fs ≡ record { stations = changed (station_at cs) u c.station; claims = without_lists_to u (between ls); frames = fs }
+world_on cs ls fs u c inside = λ i. record {
+  stations = λ x. station_set cs u c x inside i;
+  claims = λ s t. lists_left u ls s t i;
+  frames = fs;
+}
+
+-- after a unit has heard the oldest letter of another, and has not answered yet
+pub world_heard : (cs : List Claiming) (ls : List Letter) (fs : List Sent) (u v : ℕ) (s : Station) → v < length cs → first_between u v ls < length ls
+    → world (set cs v (record (get_or cs v nobody) { station = s })) (remove ls (first_between u v ls)) fs ≡ record { stations = changed (station_at cs) v s; claims = changed_pair (between ls) u v (between (remove ls (first_between u v ls)) u v); frames = fs }
+world_heard cs ls fs u v s inside some = λ i. record {
+  stations = λ x. station_set cs v (record (get_or cs v nobody) { station = s }) x inside i;
+  claims = λ x y. sym (lists_after u v ls some x y) i;
+  frames = fs;
+}
+
+-- to tell nothing changes nothing
+pub told_nothing : (units : List Claimant) (w : World) (u : ℕ) → tell units w u [] ≡ w
+told_nothing units w u = λ i. record {
+  stations = w.stations;
+  claims = λ s t. either (eqb s u && ((w.stations t).on && not (eqb t u))) (w.claims s t) i;
+  frames = append_nil w.frames i;
+}
+  where
+    either : (b : Bool) (xs : List Item) → cond b (xs ++ []) xs ≡ xs
+    either true xs = append_nil xs
+    either false xs = refl
+
+-- to tell two items is to tell one after the other
+pub told_twice : (units : List Claimant) (w : World) (u : ℕ) (x y : Item) → tell units (tell units w u (x ∷ [])) u (y ∷ []) ≡ tell units w u (x ∷ y ∷ [])
+told_twice units w u x y = λ i. record {
+  stations = w.stations;
+  claims = λ s t. both (eqb s u && ((w.stations t).on && not (eqb t u))) (w.claims s t) i;
+  frames = appended w.frames (frame_of (unit_at units u).name (w.stations u).address x) (frame_of (unit_at units u).name (w.stations u).address y) i;
+}
+  where
+    appended : {X : Type 0} (xs : List X) (a b : X) → (xs ++ a ∷ []) ++ b ∷ [] ≡ xs ++ a ∷ b ∷ []
+    appended [] a b = refl
+    appended (z ∷ xs) a b = ap (λ zs. z ∷ zs) (appended xs a b)
+
+    both : (c : Bool) (xs : List Item) → cond c (cond c (xs ++ x ∷ []) xs ++ y ∷ []) (cond c (xs ++ x ∷ []) xs) ≡ cond c (xs ++ x ∷ y ∷ []) xs
+    both true xs = appended xs x y
+    both false xs = refl

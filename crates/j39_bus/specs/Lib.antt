@@ -1,0 +1,11 @@
+pub mod Claimants
+pub mod Sent
+pub mod World
+pub mod ClaimSteps
+pub mod Run
+pub mod Sound
+pub mod Letters
+pub mod BusState
+pub mod Stands
+pub mod Network
+pub mod Opening

@@ -1,0 +1,30 @@
+-- What a bus stands for.
+use Rattle.std.specs.Prelude.{◌≡◌, ◌≢◌, ℕ, List, ◌∷◌, ◌++◌, length, map, Some}
+use Rattle.j39_plan.specs.declared.plan.Plan.{Plan}
+use Rattle.j39_bus.specs.Claimants.{units_of}
+use Rattle.j39_bus.specs.World.{World}
+use Rattle.j39_bus.specs.Letters.{station_at}
+use Rattle.j39_bus.specs.BusState.{BusState, undelivered}
+use Rattle.j39_plan.specs.declared.steps.Step.{Step}
+use Rattle.j39_bus.specs.declared.step_error.StepError.{StepError}
+use Rattle.j39_bus.specs.declared.step_error.StepError.TheVariants.{Memory}
+use Rattle.j39_bus.specs.Run.{refusal, RunsThrough}
+
+-- the bus stands for this world of the plan
+pub record Stands (b : BusState) (plan : Plan) (w : World) : Type 0 where
+  -- its units claim as they are planned
+  pub planned : map (λ c. c.claimant) b.units ≡ units_of plan
+  -- they are what the units of the world are
+  pub stations : w.stations ≡ station_at b.units
+  pub claims : w.claims ≡ undelivered b
+  pub frames : w.frames ≡ b.frames
+
+-- a run of these steps is refused at a place: what stands before it was done, and this step is refused
+pub record IsRefusedAt (old new : BusState) (steps : List Step) (place : ℕ) (error : StepError) : Type 0 where
+  pub done : List Step
+  pub step : Step
+  pub rest : List Step
+  pub parts : steps ≡ done ++ step ∷ rest
+  pub count : length done ≡ place
+  pub ran : (plan : Plan) (w : World) → Stands old plan w
+      → (after : World) × RunsThrough plan w done after × Stands new plan after × (error ≢ Memory → refusal plan after step ≡ Some error)

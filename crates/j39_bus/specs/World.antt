@@ -1,0 +1,35 @@
+-- The worlds of a bus. Units are named by place from 0.
+use Rattle.std.specs.Prelude.{ℕ, Bool, cond, not, ◌&&◌, nat_eq, List, []}
+use Rattle.j39_claim.specs.declared.item.Item.{Item}
+use Rattle.j39_claim.specs.ClaimRule.{Station, off}
+use Rattle.j39_bus.specs.Sent.{Sent}
+
+-- what each unit is
+abbrev pub Stations : Type 0
+Stations = ℕ → Station
+
+-- what the first unit sent and the second has not heard yet, the oldest first
+abbrev pub Undelivered : Type 0
+Undelivered = ℕ → ℕ → List Item
+
+pub record World : Type 0 where
+  pub stations : Stations
+  pub claims : Undelivered
+  -- all frames that were sent, in order
+  pub frames : List Sent
+
+-- at first all are off, and nothing was sent
+abbrev pub first : World
+first = record { stations = λ u. off; claims = λ u v. []; frames = [] }
+
+-- one place of a function changed
+abbrev pub changed : {X : Type 0} → (ℕ → X) → ℕ → X → ℕ → X
+changed f u x v = cond (nat_eq v u) x (f v)
+
+-- one pair of a function of pairs changed
+abbrev pub changed_pair : {X : Type 0} → (ℕ → ℕ → X) → ℕ → ℕ → X → ℕ → ℕ → X
+changed_pair f u v x s t = cond (nat_eq s u && nat_eq t v) x (f s t)
+
+-- v hears what u tells all: it is on, and another
+abbrev pub hears : Stations → ℕ → ℕ → Bool
+hears stations u v = (stations v).on && not (nat_eq v u)

@@ -1,0 +1,70 @@
+//! A simulated bus.
+ghost use Rattle.std.specs.Prelude.{◌≡◌, ◌<◌, ◌↔◌, IsTrue, length, map};
+ghost use Rattle.j39_bus.specs.BusState.{undelivered};
+ghost use Rattle.j39_bus.specs.Letters.{station_at};
+ghost use Rattle.j39_bus.specs.Sent.{sent_of};
+ghost use Rattle.j39_bus.specs.Sound.{IsQuiet};
+
+use crate::letter::are_requests;
+use crate::network::Network;
+use j39_claim::Choose;
+use j39_id::{Address, Frame};
+use std::marker::Model;
+
+/// The units of a plan on one bus, named by their places from 0. What each has still to hear is delivered by steps.
+/// Contracts see what each unit is, what is undelivered from each to each, and the frames that were sent.
+#[derive(Drop)]
+pub struct Bus {
+    pub(crate) network: Network,
+    pub(crate) choosers: Vec<Box<dyn Choose>>,
+}
+
+impl Model for Bus {
+    ghost use Rattle.std.specs.Prelude.{length};
+    ghost use Rattle.j39_bus.specs.BusState.{BusState};
+
+    ghost use Rattle.std.specs.Coded.{codes};
+    ghost use Rattle.j39_claim.specs.Claiming.{coded_claiming};
+
+    ghost Value = { BusState };
+
+    ghost coded = { Prim.hlevel (codes, coded_claiming) };
+
+    ghost use Rattle.j39_bus.specs.Network.{state_of, IsBus};
+
+    ghost view = { λ b. state_of b.network };
+
+    ghost invariant = { λ b. IsBus b.network (length b.choosers.items) };
+}
+
+impl Bus {
+    /// Whether no claim is undelivered. A request may be.
+    pub fn is_settled(&self) -> bool
+        ensures { IsTrue result ↔ IsQuiet (undelivered self.now) }
+    {
+        are_requests(self.network.letters.as_slice())
+    }
+
+    /// Whether the unit is on.
+    pub fn is_started(&self, unit: usize) -> bool
+        requires { unit < length self.now.units }
+        ensures { result ≡ (station_at self.now.units unit).on }
+    {
+        self.network.claimers[unit].is_started()
+    }
+
+    /// The address that the unit holds.
+    pub fn address_of(&self, unit: usize) -> Option<Address>
+        requires { unit < length self.now.units }
+        ensures { result ≡ (station_at self.now.units unit).address }
+    {
+        self.network.claimers[unit].address()
+    }
+
+    /// All frames that were sent so far, in order.
+    pub fn frames(&self) -> &[Frame]
+        ensures { map sent_of result.now ≡ self.now.frames }
+    {
+        self.network.frames.as_slice()
+    }
+}

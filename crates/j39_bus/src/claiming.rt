@@ -1,0 +1,143 @@
+//! The steps of units that claim addresses (SAE J1939-81).
+ghost use Rattle.std.specs.Prelude.{◌≡◌, ◌≢◌, ◌<◌, ◌≤◌, ◌+◌, ◌*◌, Some, length, vec_len, vec_capacity, OnOk, OnErr, IfErr};
+ghost use Rattle.j39_plan.specs.declared.plan.Plan.{Plan};
+ghost use Rattle.j39_plan.specs.declared.steps.Step.TheVariants.{Up, Give, Ask};
+ghost use Rattle.j39_bus.specs.Run.{refusal};
+ghost use Rattle.j39_bus.specs.ClaimSteps.{switched_on, asked, GivenFrom};
+ghost use Rattle.j39_bus.specs.Letters.{between, first_between};
+ghost use Rattle.j39_bus.specs.Network.{IsNetwork, IsOf, IsSameNetwork, StepsTo, claimants, world_of};
+
+use crate::StepError;
+use crate::hearing::hear;
+use crate::letter::{drop_letters_to, first_between};
+use crate::network::Network;
+use j39_claim::{Choose, Item};
+
+impl Network {
+    /// The unit is switched on.
+    pub(crate) fn up(&mut self, unit: usize) -> Result<(), StepError>
+        requires { IsNetwork self.old }
+        ensures network { IsNetwork self.new }
+        ensures claimants { claimants self.new.claimers.items ≡ claimants self.old.claimers.items }
+        ensures ok { OnOk result ((plan : Plan) → IsOf plan self.old → StepsTo plan self.old (Up unit) self.new) }
+        ensures refused { IfErr result (λ e. e ≢ StepError.Memory → (plan : Plan) → IsOf plan self.old → refusal plan (world_of self.old) (Up unit) ≡ Some e) }
+        ensures same { OnErr result (IsSameNetwork self.old self.new) }
+    {
+        if unit >= self.claimers.len() {
+            return Err(StepError::UnknownUnit);
+        }
+        if self.claimers[unit].is_started() {
+            return Err(StepError::AlreadyStarted);
+        }
+        if self.reserve(1).is_err() {
+            return Err(StepError::Memory);
+        }
+        self.switch_on(unit);
+        Ok(())
+    }
+
+    /// The second unit hears the oldest item of the first that it has not heard yet.
+    pub(crate) fn give(
+        &mut self,
+        choosers: &[Box<dyn Choose>],
+        from: usize,
+        to: usize,
+    ) -> Result<(), StepError>
+        requires network { IsNetwork self.old }
+        requires choosers { length choosers.now ≡ length self.old.claimers.items }
+        ensures network { IsNetwork self.new }
+        ensures claimants { claimants self.new.claimers.items ≡ claimants self.old.claimers.items }
+        ensures ok { OnOk result ((plan : Plan) → IsOf plan self.old → StepsTo plan self.old (Give from to) self.new) }
+        ensures refused { IfErr result (λ e. e ≢ StepError.Memory → (plan : Plan) → IsOf plan self.old → refusal plan (world_of self.old) (Give from to) ≡ Some e) }
+        ensures same { OnErr result (IsSameNetwork self.old self.new) }
+    {
+        let count = self.claimers.len();
+        if from >= count || to >= count {
+            return Err(StepError::UnknownUnit);
+        }
+        if !self.claimers[from].is_started() || !self.claimers[to].is_started() {
+            return Err(StepError::NotStarted);
+        }
+        let place = first_between(self.letters.as_slice(), from, to);
+        if place >= self.letters.len() {
+            return Err(StepError::NothingUndelivered);
+        }
+        if self.reserve(1).is_err() {
+            return Err(StepError::Memory);
+        }
+        self.deliver(choosers, from, to);
+        Ok(())
+    }
+
+    /// The unit asks all others for their claims, and sends its own.
+    pub(crate) fn ask(&mut self, unit: usize) -> Result<(), StepError>
+        requires { IsNetwork self.old }
+        ensures network { IsNetwork self.new }
+        ensures claimants { claimants self.new.claimers.items ≡ claimants self.old.claimers.items }
+        ensures ok { OnOk result ((plan : Plan) → IsOf plan self.old → StepsTo plan self.old (Ask unit) self.new) }
+        ensures refused { IfErr result (λ e. e ≢ StepError.Memory → (plan : Plan) → IsOf plan self.old → refusal plan (world_of self.old) (Ask unit) ≡ Some e) }
+        ensures same { OnErr result (IsSameNetwork self.old self.new) }
+    {
+        if unit >= self.claimers.len() {
+            return Err(StepError::UnknownUnit);
+        }
+        if !self.claimers[unit].is_started() {
+            return Err(StepError::NotStarted);
+        }
+        if self.reserve(2).is_err() {
+            return Err(StepError::Memory);
+        }
+        self.request(unit);
+        Ok(())
+    }
+
+    fn switch_on(&mut self, unit: usize)
+        requires network { IsNetwork self.old }
+        requires place { unit < length self.old.claimers.items }
+        requires letters { vec_len self.old.letters + length self.old.claimers.items ≤ vec_capacity self.old.letters }
+        requires frames { vec_len self.old.frames < vec_capacity self.old.frames }
+        ensures network { IsNetwork self.new }
+        ensures claimants { claimants self.new.claimers.items ≡ claimants self.old.claimers.items }
+        ensures world { world_of self.new ≡ switched_on (claimants self.old.claimers.items) (world_of self.old) unit }
+    {
+        drop_letters_to(&mut self.letters, unit);
+        let say = self.claimers[unit].start();
+        self.tell(unit, &Item::Told(say));
+    }
+
+    fn deliver(&mut self, choosers: &[Box<dyn Choose>], from: usize, to: usize)
+        requires network { IsNetwork self.old }
+        requires choosers { length choosers.now ≡ length self.old.claimers.items }
+        requires from { from < length self.old.claimers.items }
+        requires to { to < length self.old.claimers.items }
+        requires some { first_between from to self.old.letters.items < length self.old.letters.items }
+        requires letters { vec_len self.old.letters + length self.old.claimers.items ≤ vec_capacity self.old.letters }
+        requires frames { vec_len self.old.frames < vec_capacity self.old.frames }
+        ensures network { IsNetwork self.new }
+        ensures claimants { claimants self.new.claimers.items ≡ claimants self.old.claimers.items }
+        ensures world { GivenFrom (claimants self.old.claimers.items) (world_of self.old) from to (between self.old.letters.items from to) (world_of self.new) }
+    {
+        let name = self.claimers[from].name();
+        let place = first_between(self.letters.as_slice(), from, to);
+        let letter = self.letters.remove(place);
+        let answer = hear(&mut self.claimers, choosers, to, name, &letter.item);
+        match answer {
+            Some(say) => self.tell(to, &Item::Told(say)),
+            None => {}
+        }
+    }
+
+    fn request(&mut self, unit: usize)
+        requires network { IsNetwork self.old }
+        requires place { unit < length self.old.claimers.items }
+        requires letters { vec_len self.old.letters + 2 * length self.old.claimers.items ≤ vec_capacity self.old.letters }
+        requires frames { vec_len self.old.frames + 2 ≤ vec_capacity self.old.frames }
+        ensures network { IsNetwork self.new }
+        ensures claimants { claimants self.new.claimers.items ≡ claimants self.old.claimers.items }
+        ensures world { world_of self.new ≡ asked (claimants self.old.claimers.items) (world_of self.old) unit }
+    {
+        self.tell(unit, &Item::Request);
+        let say = self.claimers[unit].hear_request();
+        self.tell(unit, &Item::Told(say));
+    }
+}

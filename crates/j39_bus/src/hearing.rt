@@ -1,0 +1,38 @@
+//! What a unit answers to what it hears.
+ghost use Rattle.std.specs.Prelude.{◌≡◌, ◌<◌, true, length};
+ghost use Rattle.j39_claim.specs.ClaimRule.{say_of};
+ghost use Rattle.j39_claim.specs.Claiming.{can_note};
+ghost use Rattle.j39_bus.specs.Letters.{station_at};
+ghost use Rattle.j39_bus.specs.Network.{HasAnswered};
+
+use j39_claim::{Choose, Claimer, Item, Say};
+use j39_id::Name;
+
+/// The number of the address that is claimed, or of none.
+fn number_of(say: &Say) -> u8
+    ensures { say_of result ≡ say.now }
+{
+    match say {
+        Say::Claim(address) => address.number(),
+        Say::Cannot => 254,
+    }
+}
+
+/// A unit hears an item under a NAME.
+pub(crate) fn hear(
+    claimers: &mut Vec<Claimer>,
+    choosers: &[Box<dyn Choose>],
+    unit: usize,
+    name: Name,
+    item: &Item,
+) -> Option<Say>
+    requires inside { unit < length claimers.old.items }
+    requires choosers { length choosers.now ≡ length claimers.old.items }
+    requires room { can_note (station_at claimers.old.items unit).notes name ≡ true }
+    ensures rule { HasAnswered claimers.old.items unit name item.now result claimers.new.items }
+{
+    match item {
+        Item::Told(say) => { claimers[unit].hear_claim(name, number_of(say), &*choosers[unit]) }
+        Item::Request => Some(claimers[unit].hear_request()),
+    }
+}

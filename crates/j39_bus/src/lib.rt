@@ -1,0 +1,20 @@
+//! A simulated bus of a planned network, and what holds in each of its runs.
+#![tactic(auto)]
+
+mod bus;
+mod bus_error;
+mod claim_frames;
+mod claiming;
+mod group_fault;
+mod hearing;
+mod laws;
+mod letter;
+mod network;
+mod opening;
+mod step_error;
+mod stepping;
+
+pub use bus::Bus;
+pub use bus_error::BusError;
+pub use laws::addresses_are_sound;
+pub use step_error::StepError;

@@ -1,0 +1,119 @@
+//! A new bus.
+ghost use Rattle.std.specs.Prelude.{◌≡◌, ◌<◌, ℕ, length, map, take, All, IfOk, IfErr, IfSome, IfNone, OnOk};
+ghost use Rattle.j39_bus.specs.Claimants.{claimant_of};
+ghost use Rattle.j39_bus.specs.Letters.{unstarted};
+ghost use Rattle.j39_bus.specs.Opening.{HaveOneName, AreNamesDistinct, IsFirstOfOneName, IsSendable, IsNotSendable, HasBadGroup, CanOpen, IsNotOpened};
+ghost use Rattle.j39_bus.specs.Stands.{Stands};
+ghost use Rattle.j39_bus.specs.World.{first};
+
+use crate::group_fault::GroupFault;
+use crate::network::Network;
+use crate::{Bus, BusError};
+use j39_claim::{Choose, Claimer};
+use j39_id::Pgn;
+use j39_plan::{GroupPlan, Plan, UnitPlan};
+use j39_signal::{Layout, LayoutError};
+use std::alloc::{AllocError, Global};
+
+/// The least place after the first at which the first's NAME stands again.
+fn same_name_after(units: &[UnitPlan], first: usize) -> Option<usize>
+    requires { first < length units.now }
+    ensures some { IfSome result (λ second. HaveOneName (map claimant_of units.now) first second × ((k : ℕ) → k < second → ¬ HaveOneName (map claimant_of units.now) first k)) }
+    ensures none { IfNone result ((k : ℕ) → ¬ HaveOneName (map claimant_of units.now) first k) }
+{
+    let name = units[first].name;
+    for second in first + 1..units.len() {
+        if units[second].name == name {
+            return Some(second);
+        }
+    }
+    None
+}
+
+/// The first two places of one NAME.
+fn same_name(units: &[UnitPlan]) -> Option<(usize, usize)>
+    ensures some { IfSome result (λ places. IsFirstOfOneName (map claimant_of units.now) places.0 places.1) }
+    ensures none { IfNone result (AreNamesDistinct (map claimant_of units.now)) }
+{
+    for first in 0..units.len() {
+        if let Some(second) = same_name_after(units, first) {
+            return Some((first, second));
+        }
+    }
+    None
+}
+
+/// Whether the group can be sent. An error of memory says that it could be but for that.
+fn try_group(alloc: Global, group: &GroupPlan) -> Result<(), GroupFault>
+    ensures ok { OnOk result (IsSendable group.now) }
+    ensures fault { IfErr result (IsNotSendable group.now) }
+{
+    if Pgn::new(group.pgn).is_none() {
+        return Err(GroupFault::Refused);
+    }
+    match Layout::new(alloc, group.length, group.signals.as_slice()) {
+        Ok(_layout) => Ok(()),
+        Err(LayoutError::Memory) => Err(GroupFault::Memory),
+        Err(_other) => Err(GroupFault::Refused),
+    }
+}
+
+/// Looks at all groups, also at those after a refused growth.
+fn try_groups(alloc: Global, groups: &[GroupPlan]) -> Result<(), BusError>
+    ensures ok { OnOk result (All IsSendable groups.now) }
+    ensures refused { IfErr result (HasBadGroup groups.now) }
+{
+    let mut memory = true;
+    for (place, group) in groups.iter().enumerate() {
+        match try_group(alloc, group) {
+            Ok(()) => {}
+            Err(GroupFault::Memory) => memory = false,
+            Err(GroupFault::Refused) => return Err(BusError::BadGroup(place)),
+        }
+    }
+    if memory { Ok(()) } else { Err(BusError::Memory) }
+}
+
+/// A unit for each that is planned, none of them started.
+fn claimers_of(alloc: Global, units: &[UnitPlan]) -> Result<Vec<Claimer>, AllocError>
+    ensures { IfOk result (λ claimers. claimers.items ≡ map unstarted units.now) }
+{
+    let mut claimers = Vec::with_capacity(alloc, units.len())?;
+    for unit in units {
+        claimers.push(Claimer::new(unit.name, unit.address))?;
+    }
+    Ok(claimers)
+}
+
+impl Bus {
+    /// A bus of the plan, on which no unit is started, with a chooser for each unit by its place. It keeps the allocator.
+    /// On an error the choosers are dropped.
+    pub fn new(
+        alloc: Global,
+        plan: &Plan,
+        choosers: Vec<Box<dyn Choose>>,
+    ) -> Result<Self, BusError>
+        ensures ok { OnOk result (CanOpen (length choosers.items) plan.now) }
+        ensures stands { IfOk result (λ bus. Stands bus plan.now first) }
+        ensures refused { IfErr result (IsNotOpened (length choosers.items) plan.now) }
+    {
+        if choosers.len() != plan.units.len() {
+            return Err(BusError::ChooserCount);
+        }
+        if let Some((first, second)) = same_name(plan.units.as_slice()) {
+            return Err(BusError::SameName(first, second));
+        }
+        try_groups(alloc, plan.groups.as_slice())?;
+        let Ok(claimers) = claimers_of(alloc, plan.units.as_slice()) else {
+            return Err(BusError::Memory);
+        };
+        Ok(Bus {
+            network: Network {
+                claimers,
+                letters: Vec::new(alloc),
+                frames: Vec::new(alloc),
+            },
+            choosers,
+        })
+    }
+}
