@@ -1,5 +1,5 @@
 -- The command line: a subcommand for each word, with the values that it takes.
-use Rattle.std.specs.Prelude.{true, List, [], ◌∷◌, codes}
+use Rattle.std.specs.Prelude.{true, codes}
 use Rattle.clap.specs.Simple.{on_top}
 use Rattle.clap.specs.Words.{App, Rule, Text, new_app, new_rule, with_rule, with_subcommand}
 
@@ -16,4 +16,4 @@ abbrev pub program : App
 program = on_top (λ s. record s { no_binary_name = true; subcommand_required = true; has_version = true }) (new_app (codes "j39plan"))
 
 unfoldable pub commands : App
-commands = with_subcommand program (one_value (codes "frame") (codes "LINE")).top
+commands = with_subcommand (with_subcommand program (one_value (codes "frame") (codes "LINE")).top) (one_value (codes "check") (codes "PLAN")).top

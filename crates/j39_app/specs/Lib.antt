@@ -1,6 +1,9 @@
+pub mod CheckText
 pub mod Commands
+pub mod FindingLines
 pub mod FrameText
 pub mod Orders
+pub mod PlanText
 pub mod Status
 pub mod Streams
 pub mod Tape

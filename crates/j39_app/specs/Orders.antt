@@ -1,12 +1,13 @@
 -- What a command line orders.
 use Rattle.std.specs.Prelude.{◌≡◌, ℕ, List, Option, Some, codes, string_bytes, [], ◌∷◌}
 use Rattle.clap.specs.Words.{Row, Text, first_of, subcommand_of}
+use Rattle.j39_app.specs.CheckText.{IsCheckText}
 use Rattle.j39_app.specs.Commands.{commands}
 use Rattle.j39_app.specs.FrameText.{IsFrameText}
 use Rattle.j39_app.specs.declared.verdict.Verdict.{Verdict}
 use Rattle.j39_app.specs.declared.verdict.Verdict.TheVariants.{Done}
 use Rattle.j39_app.specs.declared.command_line.orders.Order.{Order}
-use Rattle.j39_app.specs.declared.command_line.orders.Order.TheVariants.{Input, Frame, Help}
+use Rattle.j39_app.specs.declared.command_line.orders.Order.TheVariants.{Input, Frame, Check, Help}
 
 -- the subcommand that was met has this name, and the value by this name is the text
 abbrev pub Gives : Option (Text × List Row) → Text → Text → Text → Type 0
@@ -15,6 +16,7 @@ Gives met name value text = (rows : List Row) × (met ≡ Some (name, rows)) × 
 -- the order is the subcommand that was met, with its values, or the words ask for a text of help
 abbrev pub Orders : Option (Text × List Row) → Order → Type 0
 Orders met (Frame line) = Gives met (codes "frame") (codes "LINE") (string_bytes line)
+Orders met (Check plan) = Gives met (codes "check") (codes "PLAN") (string_bytes plan)
 Orders met Input = ⊥
 Orders met (Help text) = Unit {0}
 
@@ -22,14 +24,16 @@ abbrev pub IsHelp : Order → Type 0
 IsHelp (Help text) = Unit {0}
 IsHelp Input = ⊥
 IsHelp (Frame line) = ⊥
+IsHelp (Check plan) = ⊥
 
 -- what the words order: the input where there are none, and else what they name
 abbrev pub Answers : List Text → Order → Type 0
 Answers [] order = order ≡ Input
 Answers (word ∷ words) order = Orders (subcommand_of commands (word ∷ words)) order
 
--- what is written for an order, with the verdict: for the input, the text of some line
+-- what is written for an order, with the verdict: for the input, the text of some line; for a file, that of some bytes
 abbrev pub IsAnswer : Order → List ℕ → Verdict → Type 0
 IsAnswer Input text verdict = (line : List ℕ) × IsFrameText line text verdict
 IsAnswer (Frame line) text verdict = IsFrameText (string_bytes line) text verdict
+IsAnswer (Check plan) text verdict = (bytes : List ℕ) × IsCheckText bytes text verdict
 IsAnswer (Help shown) text verdict = (text ≡ string_bytes shown) × (verdict ≡ Done)

@@ -1,7 +1,7 @@
 -- What calls of a source and a sink do to their counts, and what was written where a call failed.
 use Rattle.std.specs.Prelude.{◌≡◌, ℕ, ◌+◌, ◌-◌, ◌<◌, ◌≤◌, ◌^◌, ◌==◌, ◌⊎◌, ◌&&◌, ◌||◌, nat_lt, min, max, Bool, if◌then◌else◌, List, length, take, Option, Result, is_ok, not}
 use Rattle.std.specs.Result.{result_unwrap_or}
-use Rattle.std.specs.Io.KnownBytes.{Appends, Consumes}
+use Rattle.std.specs.Io.KnownBytes.{Appends}
 use Rattle.j39_app.specs.declared.streams.failed.Failed.{Failed}
 
 -- a count after n more calls: it grows up to the largest number of 64 bits

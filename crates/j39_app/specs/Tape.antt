@@ -1,5 +1,5 @@
 -- Bytes in memory that are read and written in pieces: what a clause sees of them, and what each call does.
-use Rattle.std.specs.Prelude.{◌≡◌, ℕ, ◌-◌, ◌==◌, ◌&&◌, nat_lt, min, Bool, true, false, if◌then◌else◌, List, [], ◌++◌, length, take, drop}
+use Rattle.std.specs.Prelude.{ℕ, ◌-◌, ◌==◌, ◌&&◌, nat_lt, min, Bool, false, if◌then◌else◌, List, [], ◌++◌, length, take, drop}
 use Rattle.j39_app.specs.Streams.{one_more}
 use Rattle.j39_app.specs.declared.pieces.stop.Stop.{Stop}
 use Rattle.j39_app.specs.declared.pieces.stop.Stop.TheVariants.{Never, Fail, Zero}

@@ -12,7 +12,7 @@ pub use command_line::{Order, WordsFault, input_text, order, run_program, status
 pub use fault::Fault;
 pub use pieces::{Pieces, Stop};
 pub use streams::{Failed, FromRead, Sink, Source, ToWrite, load, put_all};
-pub use texts::frame_text;
+pub use texts::{check_text, frame_text, plan_text};
 pub use verdict::Verdict;
 
 #[cfg(test)]

@@ -1,7 +1,11 @@
 //! What the commands write, a command a module.
 
+mod check;
 mod frame;
+mod plan;
 mod text_buffer;
 
+pub use check::check_text;
 pub use frame::frame_text;
+pub use plan::plan_text;
 pub(crate) use text_buffer::TextBuffer;

@@ -63,11 +63,18 @@ clean_units plan clean = record {
   fixed = λ i j below inside fixed_i fixed_j same.
       let (p, p_is, at_i) = placed plan.units.items i (omega arith) in
       let (q, q_is, at_j) = placed plan.units.items j inside in
-      clean (SameFixedAddress i j) (record { first = p; second = q; below = below; first_is = p_is; second_is = q_is; related = (
-        bit_zero (p.name / 2 ^ 63 % 2) (bit_below (p.name / 2 ^ 63)) (sym (ap (λ (c : Claimant). is_arbitrary c.name) at_i) ∙ fixed_i),
-        bit_zero (q.name / 2 ^ 63 % 2) (bit_below (q.name / 2 ^ 63)) (sym (ap (λ (c : Claimant). is_arbitrary c.name) at_j) ∙ fixed_j),
-        sym (ap (λ (c : Claimant). c.preferred) at_i) ∙ same ∙ ap (λ (c : Claimant). c.preferred) at_j,
-      ) });
+      clean (SameFixedAddress i j) (record {
+        first = p;
+        second = q;
+        below = below;
+        first_is = p_is;
+        second_is = q_is;
+        related = (
+          bit_zero (p.name / 2 ^ 63 % 2) (bit_below (p.name / 2 ^ 63)) (sym (ap (λ (c : Claimant). is_arbitrary c.name) at_i) ∙ fixed_i),
+          bit_zero (q.name / 2 ^ 63 % 2) (bit_below (q.name / 2 ^ 63)) (sym (ap (λ (c : Claimant). is_arbitrary c.name) at_j) ∙ fixed_j),
+          sym (ap (λ (c : Claimant). c.preferred) at_i) ∙ same ∙ ap (λ (c : Claimant). c.preferred) at_j,
+        );
+      });
   room = elim (cases_lt 120 (needed_addresses plan.units.items)) [
     | inl too_many ↦ absurd (clean (TooFewAddresses (needed_addresses plan.units.items)) (refl, too_many))
     | inr few ↦ omega (arith, count plan.units.items)

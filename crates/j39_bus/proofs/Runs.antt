@@ -16,7 +16,7 @@ use Rattle.j39_bus.specs.Claimants.{units_of}
 use Rattle.j39_bus.proofs.CleanUnits.{IsClean}
 use Rattle.j39_bus.specs.World.{World, first}
 use Rattle.j39_bus.specs.ClaimSteps.{GivenFrom}
-use Rattle.j39_bus.specs.Run.{refusal, unless, Leads, Follows, Run}
+use Rattle.j39_bus.specs.Run.{refusal, unless, Leads, Follows, Run, RunsThrough}
 use Rattle.j39_bus.specs.Sound.{AreAddressesSound, AreAddressesDifferent, IsQuiet}
 use Rattle.j39_bus.specs.Claimants.{unit_at}
 use Rattle.j39_bus.proofs.Kept.{Kept, IsSaid}
@@ -90,3 +90,9 @@ quiet_apart plan w sound quiet u v other on_u on_v same =
       | inl to_v ↦ (quiet u v).0 a to_v
       | inr to_u ↦ (quiet v u).0 a to_u
     ]
+
+-- a run without a refusal
+pub through : (plan : Plan) (w : World) (steps : List Step) (after : World) → RunsThrough plan w steps after → Run plan w steps after
+through plan w [] after is = is
+through plan w (step ∷ steps) after (mid, allowed, leads, more) =
+    (mid, subst (λ (o : Option StepError). MatchBool (is_some o) (mid ≡ w) (Leads plan w step mid)) (sym allowed) leads, through plan mid steps after more)

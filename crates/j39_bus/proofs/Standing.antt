@@ -61,28 +61,28 @@ module _ {X : Type 0} (old new : Network) (b : BusState) (is_state : state_of ol
   pub step_done : IsNetwork new → OnOk result ((plan : Plan) → IsOf plan old → StepsTo plan old step new)
       → OnOk result ((plan : Plan) (w : World) → Stands b plan w → (refusal plan w given ≡ None) × ((after : World) × Leads plan w given after × Stands (state_of new) plan after))
   step_done well_new h = elim result as (λ (r : Result X StepError). OnOk r ((plan : Plan) → IsOf plan old → StepsTo plan old step new)
-        → OnOk r ((plan : Plan) (w : World) → Stands b plan w → (refusal plan w given ≡ None) × ((after : World) × Leads plan w given after × Stands (state_of new) plan after))) [
-    | Ok x ↦ λ done plan w s.
-        let s' : Stands (state_of old) plan w = subst (λ (v : BusState). Stands v plan w) (sym is_state) s in
-        let is : w ≡ world_of old = world_is old well plan w s' in
-        let t : StepsTo plan old step new = done plan s'.planned in (
-          (λ i. refusal plan (is i) (same i)) ∙ t.allowed,
-          (world_of new, subst (λ (v : World). Leads plan v given (world_of new)) (sym is) (subst (λ (k : Step). Leads plan (world_of old) k (world_of new)) (sym same) t.leads), stands new well_new plan t.planned),
-        )
-    | Err e ↦ λ _. tt
-  ] h
+      → OnOk r ((plan : Plan) (w : World) → Stands b plan w → (refusal plan w given ≡ None) × ((after : World) × Leads plan w given after × Stands (state_of new) plan after))) [
+        | Ok x ↦ λ done plan w s.
+            let s' : Stands (state_of old) plan w = subst (λ (v : BusState). Stands v plan w) (sym is_state) s in
+            let is : w ≡ world_of old = world_is old well plan w s' in
+            let t : StepsTo plan old step new = done plan s'.planned in (
+              (λ i. refusal plan (is i) (same i)) ∙ t.allowed,
+              (world_of new, subst (λ (v : World). Leads plan v given (world_of new)) (sym is) (subst (λ (k : Step). Leads plan (world_of old) k (world_of new)) (sym same) t.leads), stands new well_new plan t.planned),
+            )
+        | Err e ↦ λ _. tt
+      ] h
 
   -- and what it refuses, the bus refuses
   pub step_refused : IfErr result (λ e. e ≢ Memory → (plan : Plan) → IsOf plan old → refusal plan (world_of old) step ≡ Some e)
       → IfErr result (λ e. e ≢ Memory → (plan : Plan) (w : World) → Stands b plan w → refusal plan w given ≡ Some e)
   step_refused h = elim result as (λ (r : Result X StepError). IfErr r (λ e. e ≢ Memory → (plan : Plan) → IsOf plan old → refusal plan (world_of old) step ≡ Some e)
-        → IfErr r (λ e. e ≢ Memory → (plan : Plan) (w : World) → Stands b plan w → refusal plan w given ≡ Some e)) [
-    | Ok x ↦ λ _. tt
-    | Err e ↦ λ refuses other plan w s.
-        let s' : Stands (state_of old) plan w = subst (λ (v : BusState). Stands v plan w) (sym is_state) s in
-        let is : w ≡ world_of old = world_is old well plan w s' in
-        (λ i. refusal plan (is i) (same i)) ∙ refuses other plan s'.planned
-  ] h
+      → IfErr r (λ e. e ≢ Memory → (plan : Plan) (w : World) → Stands b plan w → refusal plan w given ≡ Some e)) [
+        | Ok x ↦ λ _. tt
+        | Err e ↦ λ refuses other plan w s.
+            let s' : Stands (state_of old) plan w = subst (λ (v : BusState). Stands v plan w) (sym is_state) s in
+            let is : w ≡ world_of old = world_is old well plan w s' in
+            (λ i. refusal plan (is i) (same i)) ∙ refuses other plan s'.planned
+      ] h
 
 -- a bus keeps its choosers and its units
 pub still_bus : (old new : Network) (count : ℕ) → IsBus old count → IsNetwork new → claimants new.claimers.items ≡ claimants old.claimers.items → IsBus new count
@@ -90,6 +90,9 @@ still_bus old new count bus well same = record {
   network = well;
   choosers = omega (arith, bus.choosers, ap length same, length-claimants old.claimers.items, length-claimants new.claimers.items);
 }
+
+pub still_units : (old new : Network) (b : BusState) → state_of old ≡ b → claimants new.claimers.items ≡ claimants old.claimers.items → length new.claimers.items ≡ length b.units
+still_units old new b is same = omega (arith, ap length same, length-claimants old.claimers.items, length-claimants new.claimers.items, ap (λ (v : BusState). length v.units) is)
 
 -- one more step of a run
 pub runs_more : (plan : Plan) (w : World) (done : List Step) (mid : World) (step : Step) (after : World) → RunsThrough plan w done mid → refusal plan mid step ≡ None → Leads plan mid step after → RunsThrough plan w (done ++ step ∷ []) after

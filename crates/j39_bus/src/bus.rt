@@ -22,7 +22,6 @@ pub struct Bus {
 impl Model for Bus {
     ghost use Rattle.std.specs.Prelude.{length};
     ghost use Rattle.j39_bus.specs.BusState.{BusState};
-
     ghost use Rattle.std.specs.Coded.{codes};
     ghost use Rattle.j39_claim.specs.Claiming.{coded_claiming};
 

@@ -16,5 +16,8 @@ mod stepping;
 
 pub use bus::Bus;
 pub use bus_error::BusError;
-pub use laws::addresses_are_sound;
+pub use laws::{addresses_are_sound, runs_through_are_runs};
 pub use step_error::StepError;
+
+#[cfg(test)]
+mod tests;

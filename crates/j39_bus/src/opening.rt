@@ -71,7 +71,11 @@ fn try_groups(alloc: Global, groups: &[GroupPlan]) -> Result<(), BusError>
             Err(GroupFault::Refused) => return Err(BusError::BadGroup(place)),
         }
     }
-    if memory { Ok(()) } else { Err(BusError::Memory) }
+    if memory {
+        Ok(())
+    } else {
+        Err(BusError::Memory)
+    }
 }
 
 /// A unit for each that is planned, none of them started.
@@ -88,13 +92,10 @@ fn claimers_of(alloc: Global, units: &[UnitPlan]) -> Result<Vec<Claimer>, AllocE
 impl Bus {
     /// A bus of the plan, on which no unit is started, with a chooser for each unit by its place. It keeps the allocator.
     /// On an error the choosers are dropped.
-    pub fn new(
-        alloc: Global,
-        plan: &Plan,
-        choosers: Vec<Box<dyn Choose>>,
-    ) -> Result<Self, BusError>
+    pub fn new(alloc: Global, plan: &Plan, choosers: Vec<Box<dyn Choose>>) -> Result<Self, BusError>
         ensures ok { OnOk result (CanOpen (length choosers.items) plan.now) }
         ensures stands { IfOk result (λ bus. Stands bus plan.now first) }
+        ensures units { IfOk result (λ bus. length bus.units ≡ length plan.now.units.items) }
         ensures refused { IfErr result (IsNotOpened (length choosers.items) plan.now) }
     {
         if choosers.len() != plan.units.len() {

@@ -1,5 +1,5 @@
 //! The steps of a bus.
-ghost use Rattle.std.specs.Prelude.{◌≡◌, ◌≢◌, None, Some, OnOk, OnErr, IfErr, List};
+ghost use Rattle.std.specs.Prelude.{◌≡◌, ◌≢◌, None, Some, OnOk, OnErr, IfErr, length};
 ghost use Rattle.j39_plan.specs.declared.plan.Plan.{Plan};
 ghost use Rattle.j39_bus.specs.World.{World};
 ghost use Rattle.j39_bus.specs.Run.{refusal, Leads, RunsThrough};
@@ -17,6 +17,7 @@ impl Bus {
         ensures refused { IfErr result (λ e. e ≢ StepError.Memory → (plan : Plan) (w : World) → Stands self.old plan w
             → refusal plan w step.now ≡ Some e) }
         ensures same { OnErr result (self.new ≡ self.old) }
+        ensures units { length self.new.units ≡ length self.old.units }
     {
         match step {
             Step::Up(unit) => self.network.up(*unit),
@@ -30,6 +31,7 @@ impl Bus {
         ensures ok { OnOk result ((plan : Plan) (w : World) → Stands self.old plan w
             → (after : World) × RunsThrough plan w steps.now after × Stands self.new plan after) }
         ensures refused { IfErr result (λ r. IsRefusedAt self.old self.new steps.now r.0 r.1) }
+        ensures units { length self.new.units ≡ length self.old.units }
     {
         for (place, step) in steps.iter().enumerate() {
             if let Err(error) = self.step(step) {

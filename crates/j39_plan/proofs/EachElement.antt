@@ -1,5 +1,5 @@
 -- The loop over the elements of an array.
-use Rattle.std.proofs.Common.{◌≡◌, ℕ, ◌+◌, List, [], ◌∷◌, ◌++◌, map, Option, Some, refl, sym, ap, subst, ◌∙◌, append_assoc, add-one}
+use Rattle.std.proofs.Common.{◌≡◌, ℕ, ◌+◌, List, [], ◌∷◌, ◌++◌, map, Some, refl, subst, ◌∙◌, append_assoc, add-one}
 use Rattle.std.proofs.lemmas.List.{append-nil, map_push}
 use Rattle.toml.specs.Data.{Data, Items, no_items, item}
 use Rattle.j39_plan.specs.declared.reading.fault.Fault.{Fault}

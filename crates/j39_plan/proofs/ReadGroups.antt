@@ -1,5 +1,5 @@
 -- What is true of the signals of a group that was read.
-use Rattle.std.proofs.Common.{◌≡◌, ◌≢◌, ℕ, ◌≤◌, false, List, [], length, All, AllPairs, ◌∙◌, sym}
+use Rattle.std.proofs.Common.{◌≡◌, ◌≢◌, ℕ, false, List, [], AllPairs}
 use Rattle.toml.specs.Data.{Data, Items}
 use Rattle.j39_signal.specs.Parts.{SignalParts}
 use Rattle.j39_plan.specs.declared.reading.place.Table.TheVariants as at

@@ -16,7 +16,7 @@ A value that begins with - (but - alone) needs -- before it, as in: j39plan fram
 
 Example: j39plan frame 18EEFF00#0100800C00000010
 
-Exit status: 0 done, 2 unreadable input or a bad command line, 3 out of memory, 4 a device fault";
+Exit status: 0 done, 1 findings, 2 bad input or command line, 3 out of memory, 4 device fault";
 
 const VERSION: &str = "0.1.0";
 
@@ -60,10 +60,22 @@ fn with_frame<'a>(alloc: Global, program: Command<'a>) -> Result<Command<'a>, Al
     )?)
 }
 
+fn with_check<'a>(alloc: Global, program: Command<'a>) -> Result<Command<'a>, AllocError>
+    ensures { IfOk result (λ c. app_of c ≡ with_subcommand (app_of program.entry) (one_value (codes "check") (codes "PLAN")).top) }
+{
+    program.subcommand(one_value(
+        alloc,
+        "check",
+        "Shows what is wrong with the plan of the file PLAN",
+        "PLAN",
+        "The name of a plan file",
+    )?)
+}
+
 /// The commands.
 #[tactic(auto, unfolding(crate::specs::Commands::commands))]
 pub(super) fn commands<'a>(alloc: Global) -> Result<Command<'a>, AllocError>
     ensures { IfOk result (λ c. app_of c ≡ commands) }
 {
-    with_frame(alloc, program(alloc)?)
+    with_check(alloc, with_frame(alloc, program(alloc)?)?)
 }

@@ -12,6 +12,8 @@ pub enum Order {
     Input,
     /// `frame LINE`: what the line says.
     Frame(String),
+    /// `check PLAN`: what is wrong with the plan of the file of this name.
+    Check(String),
     /// The help of the program or of a command, or the program's version: this text.
     Help(String),
 }

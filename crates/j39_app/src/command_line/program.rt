@@ -5,13 +5,15 @@ ghost use Rattle.j39_app.specs.Orders.{IsAnswer};
 
 use super::orders::{Order, WordsFault};
 use crate::{
-    Fault, FromRead, Sink, ToWrite, Verdict, frame_text, input_text, order, put_all, status,
+    Fault, FromRead, Sink, ToWrite, Verdict, check_text, frame_text, input_text, order, put_all,
+    status,
 };
 use std::env::Env;
 use std::fmt::Display;
 use std::io::{BufWriter, ErrorKind};
 use std::process::ExitCode;
-use std::{env, io};
+use std::rt::Files;
+use std::{env, fs, io};
 
 // The status of a bad command line.
 const BAD: u8 = 2;
@@ -25,8 +27,16 @@ fn words<R: Env + AllocGlobal>(rt: &R) -> Result<Vec<String>, WordsFault> {
     }
 }
 
+// A file to be read. One that can't be opened is a device fault.
+fn opened<R: Files>(rt: &R, name: &str) -> Result<FromRead<R::File>, Fault> {
+    match fs::open(rt, name) {
+        Ok(file) => Ok(FromRead::new(file)),
+        Err(_) => Err(Fault::Device),
+    }
+}
+
 // Does what the words order.
-fn perform<R: Input + AllocGlobal, W: Sink>(
+fn perform<R: Input + Files + AllocGlobal, W: Sink>(
     rt: &R,
     order: &Order,
     sink: &mut W,
@@ -36,6 +46,7 @@ fn perform<R: Input + AllocGlobal, W: Sink>(
     match order {
         Order::Input => input_text(rt.alloc(), &mut FromRead::new(rt.reader()), sink),
         Order::Frame(line) => frame_text(rt.alloc(), line.as_bytes(), sink),
+        Order::Check(plan) => check_text(rt.alloc(), &mut opened(rt, plan)?, sink),
         Order::Help(text) => {
             put_all(sink, text.as_bytes())?;
             Ok(Verdict::Done)
@@ -44,7 +55,7 @@ fn perform<R: Input + AllocGlobal, W: Sink>(
 }
 
 // Does what the words order, on standard output.
-fn answer<R: Input + Print + AllocGlobal>(rt: &R, order: &Order) -> Result<Verdict, Fault> {
+fn answer<R: Input + Print + Files + AllocGlobal>(rt: &R, order: &Order) -> Result<Verdict, Fault> {
     let Ok(output) = BufWriter::new(rt.alloc(), io::writer(rt)) else {
         return Err(Fault::Memory);
     };
@@ -62,7 +73,7 @@ fn complain<R: Eprint>(rt: &R, fault: impl Display + Drop) {
 }
 
 /// Runs the program: reads the words, does what they order and answers the exit status.
-pub fn run_program<R: Env + Input + Print + Eprint + AllocGlobal>(rt: &R) -> ExitCode {
+pub fn run_program<R: Env + Input + Print + Eprint + Files + AllocGlobal>(rt: &R) -> ExitCode {
     let outcome = match words(rt).and_then(|words| order(rt.alloc(), words)) {
         Ok(order) => answer(rt, &order),
         Err(WordsFault::Memory) => Err(Fault::Memory),

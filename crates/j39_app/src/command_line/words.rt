@@ -25,6 +25,7 @@ fn command(alloc: Global, name: &str, values: &ArgMatches) -> Result<Order, Word
 {
     match name {
         "frame" => Ok(Order::Frame(value(alloc, values, "LINE")?)),
+        "check" => Ok(Order::Check(value(alloc, values, "PLAN")?)),
         _ => Err(WordsFault::Bad),
     }
 }

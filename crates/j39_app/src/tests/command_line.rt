@@ -43,6 +43,21 @@ fn frame_takes_a_whole_line(rt: HostRuntime) -> Result<(), Fail> {
 }
 
 #[test]
+fn check_takes_a_file_name(rt: HostRuntime) -> Result<(), Fail> {
+    for (words, name) in [
+        (["check", "plan.toml"].as_slice(), "plan.toml"),
+        (&["check", "--", "-x"], "-x"),
+    ] {
+        let order = ordered(rt.alloc(), words)?;
+        assert!(rt;
+            matches!(&order, Order::Check(plan) if plan.as_str() == name),
+            "at {words:?}"
+        );
+    }
+    Ok(())
+}
+
+#[test]
 fn other_words_are_bad(rt: HostRuntime) {
     for words in [
         ["frame"].as_slice(),
@@ -51,7 +66,8 @@ fn other_words_are_bad(rt: HostRuntime) {
         &["frame", "-x"],
         &["frame", "-1"],
         &["fra", "x"],
-        &["check", "plan.toml"],
+        &["check"],
+        &["check", "plan.toml", "log"],
         &["run", "plan.toml", "schedule"],
         &["read", "plan.toml", "log"],
         &[""],
@@ -70,6 +86,7 @@ Usage: j39plan [COMMAND]
 
 Commands:
   frame  Shows what the frame line LINE says
+  check  Shows what is wrong with the plan of the file PLAN
   help   Print this message or the help of the given subcommand(s)
 
 Options:
@@ -81,7 +98,7 @@ A value that begins with - (but - alone) needs -- before it, as in: j39plan fram
 
 Example: j39plan frame 18EEFF00#0100800C00000010
 
-Exit status: 0 done, 2 unreadable input or a bad command line, 3 out of memory, 4 a device fault
+Exit status: 0 done, 1 findings, 2 bad input or command line, 3 out of memory, 4 device fault
 ";
 
 const FRAME_HELP: &str = "Shows what the frame line LINE says

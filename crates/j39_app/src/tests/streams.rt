@@ -1,14 +1,20 @@
+ghost use Rattle.std.specs.Prelude.{◌<◌};
+
 use super::*;
 
 const LINE: &str = "0CF00400#FFFFFFE02EFFFFFF";
 
 const TEXT: &str = "frame 0CF00400#FFFFFFE02EFFFFFF\npriority 3 pgn 61444 from 0 to all\n";
 
-fn source(alloc: Global, piece: usize, stop: Stop) -> Result<Pieces, AllocError> {
+fn source(alloc: Global, piece: usize, stop: Stop) -> Result<Pieces, AllocError>
+    requires { 0 < piece }
+{
     Pieces::new(alloc, LINE.as_bytes().to_vec(alloc)?, 0, piece, stop)
 }
 
-fn sink(alloc: Global, room: usize, piece: usize, stop: Stop) -> Result<Pieces, AllocError> {
+fn sink(alloc: Global, room: usize, piece: usize, stop: Stop) -> Result<Pieces, AllocError>
+    requires { 0 < piece }
+{
     Pieces::new(alloc, Vec::new(alloc), room, piece, stop)
 }
 

@@ -1,7 +1,7 @@
 //! A text that grows, and the one place where numbers, digits and words are written.
-ghost use Rattle.std.specs.Prelude.{◌≡◌, ℕ, [], ◌∷◌, ◌++◌, OnOk};
+ghost use Rattle.std.specs.Prelude.{◌≡◌, ℕ, ◌+◌, [], ◌∷◌, ◌++◌, OnOk};
 ghost use Rattle.hex.specs.Hex.{encode_upper};
-ghost use Rattle.j39_app.specs.Texts.{field_text};
+ghost use Rattle.j39_app.specs.Texts.{field_text, place_field};
 
 use itoa::{Buffer, Integer};
 use std::alloc::{AllocError, Global};
@@ -65,6 +65,13 @@ impl TextBuffer {
     {
         self.word(word)?;
         self.number(number)
+    }
+
+    /// Adds a word and a place, which is counted from 0 and written as counted from 1.
+    pub fn place(&mut self, word: &str, place: usize) -> Result<(), AllocError>
+        ensures { OnOk result (self.new ≡ self.old ++ place_field word.now place) }
+    {
+        self.field(word, place as u128 + 1)
     }
 
     /// Adds two capital digits for each byte.

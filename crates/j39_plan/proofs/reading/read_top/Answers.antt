@@ -1,14 +1,13 @@
-use Rattle.std.proofs.Common.{◌≡◌, ◌++◌, [], map, refl}
+use Rattle.std.proofs.Common.{◌≡◌, []}
 use Rattle.std.proofs.lemmas.Result.{err_from_is_err_and}
-use Rattle.toml.specs.View.{table_view, items_view}
+use Rattle.toml.specs.View.{items_view}
 use Rattle.j39_plan.specs.declared.reading.key.Key.TheVariants as key
-use Rattle.j39_plan.specs.Schema.{tables_of}
 use Rattle.j39_plan.specs.Elements.{each_faults, Each}
 use Rattle.j39_plan.specs.Outcome.{Fails}
-use Rattle.j39_plan.specs.Units.{IsUnitOf, unit_label, unit_faults}
-use Rattle.j39_plan.specs.Groups.{IsGroupOf, group_label, group_faults}
+use Rattle.j39_plan.specs.Units.{IsUnitOf, unit_label}
+use Rattle.j39_plan.specs.Groups.{IsGroupOf, group_label}
 use Rattle.j39_plan.specs.Flows.{flow_faults, IsFlowOf}
-use Rattle.j39_plan.specs.Faults.{faults, unit_rule, group_rule, flow_rule, unit_labels, group_labels, no_label}
+use Rattle.j39_plan.specs.Faults.{no_label}
 use Rattle.j39_plan.proofs.NoFaults.{tables_count, length-Each, labels_told}
 use Rattle.j39_plan.proofs.ReadPlans.{units_apart, groups_apart, unit_texts, group_texts, flow_groups, flow_senders, flow_receivers}
 use Rattle.j39_plan.proofs.reading.read_top.Goals as goal

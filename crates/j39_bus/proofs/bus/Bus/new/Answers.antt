@@ -19,3 +19,7 @@ returns-clause-stands g c =
     stands_first c.args.plan.now (record { claimers = c.in-Ok.claimers; letters = c.new.result; frames = c.new-2.result })
     (well_opened c.args.plan.now.units.items c.args.plan.now.unit_count c.in-Ok.claimers.items c.new.result.items made c.new.ensures.items)
     made c.new.ensures.items c.new-2.ensures.items
+
+pub returns-clause-units : goal.returns-clause-units
+returns-clause-units g c =
+    length_opened c.args.plan.now.units.items c.in-Ok.claimers.items (c.in-Ok.ensures ∙ ap (map unstarted) c.as_slice-3.ensures.value)

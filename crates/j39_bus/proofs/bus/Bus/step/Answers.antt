@@ -1,5 +1,5 @@
 use Rattle.j39_plan.specs.declared.steps.Step.TheVariants.{Up, Give, Ask}
-use Rattle.j39_bus.proofs.Standing.{step_done, step_refused, still_bus}
+use Rattle.j39_bus.proofs.Standing.{step_done, step_refused, still_bus, still_units}
 use Rattle.j39_bus.proofs.bus.Bus.step.Goals as goal
 
 pub invariant_of-self : goal.invariant_of-self
@@ -26,3 +26,12 @@ returns-in-Give-clause-refused g c =
 pub returns-in-Ask-clause-ok : goal.returns-in-Ask-clause-ok
 returns-in-Ask-clause-ok g c =
     step_done c.self.inside.network c.ask.new.self c.args.self.now c.self.view_is c.args.step.now (Ask c.in-Ask.unit) c.in-Ask.is c.self.invariant.network c.ask.result c.ask.ensures.network c.ask.ensures.ok
+
+pub returns-in-Up-clause-units : goal.returns-in-Up-clause-units
+returns-in-Up-clause-units g c = still_units c.self.inside.network c.up.new.self c.args.self.now c.self.view_is c.up.ensures.claimants
+
+pub returns-in-Give-clause-units : goal.returns-in-Give-clause-units
+returns-in-Give-clause-units g c = still_units c.self.inside.network c.give.new.self c.args.self.now c.self.view_is c.give.ensures.claimants
+
+pub returns-in-Ask-clause-units : goal.returns-in-Ask-clause-units
+returns-in-Ask-clause-units g c = still_units c.self.inside.network c.ask.new.self c.args.self.now c.self.view_is c.ask.ensures.claimants

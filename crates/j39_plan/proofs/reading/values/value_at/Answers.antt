@@ -1,4 +1,3 @@
-use Rattle.std.proofs.Common.{◌≡◌}
 use Rattle.toml.proofs.Views.{table_get}
 use Rattle.j39_plan.proofs.reading.values.value_at.Goals as goal
 

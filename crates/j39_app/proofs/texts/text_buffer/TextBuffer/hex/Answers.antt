@@ -1,7 +1,7 @@
-use Rattle.std.proofs.Common.{◌≡◌, ◌/◌, ◌%◌, ◌++◌, ◌∷◌, [], arith, ap, slice_index, get_or}
+use Rattle.std.proofs.Common.{◌≡◌, ◌/◌, ◌%◌, arith, slice_index}
 use Rattle.std.proofs.lemmas.List.{append-nil, drop_all}
 use Rattle.std.proofs.lemmas.Grind.{common_steps}
-use Rattle.hex.specs.Hex.{upper_digits, encode_upper, encode_with}
+use Rattle.hex.specs.Hex.{upper_digits, encode_with}
 use Rattle.hex.proofs.Pairs.{encode_with-drop}
 use Rattle.j39_app.proofs.Digits.{two_more}
 use Rattle.j39_app.proofs.texts.text_buffer.TextBuffer.hex.Goals as goal

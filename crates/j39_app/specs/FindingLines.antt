@@ -1,0 +1,75 @@
+-- The lines of findings, with the labels of what they name by places.
+use Rattle.std.specs.Prelude.{ℕ, List, [], ◌∷◌, ◌++◌, codes}
+use Rattle.std.specs.List.{slice_get}
+use Rattle.std.specs.Option.{option_map_or}
+use Rattle.j39_signal.specs.Parts.{SignalParts}
+use Rattle.j39_signal.specs.Places.{end_of}
+use Rattle.j39_plan.specs.declared.plan.Plan.{Plan}
+use Rattle.j39_plan.specs.declared.plan.unit_plan.UnitPlan.{UnitPlan}
+use Rattle.j39_plan.specs.declared.plan.group_plan.GroupPlan.{GroupPlan}
+use Rattle.j39_plan.specs.declared.checking.finding.Finding.{Finding}
+use Rattle.j39_plan.specs.declared.checking.finding.Finding.TheVariants.{SameName, SameFixedAddress, TooFewAddresses, BadPgn, SamePgn, SignalWidth, SignalOutside, SignalOverlap, FlowToOne, FlowToSelf, FlowRepeated}
+use Rattle.j39_app.specs.Texts.{field, place_field}
+
+-- ---- what a place names; nothing past the last
+
+unfoldable pub unit_label : Plan → ℕ → List ℕ
+unit_label plan i = option_map_or (λ (unit : UnitPlan). unit.label.bytes) (slice_get plan.units.items i) []
+
+unfoldable pub unit_address : Plan → ℕ → ℕ
+unit_address plan i = option_map_or (λ (unit : UnitPlan). unit.address) (slice_get plan.units.items i) 0
+
+unfoldable pub group_label : Plan → ℕ → List ℕ
+group_label plan g = option_map_or (λ (group : GroupPlan). group.label.bytes) (slice_get plan.groups.items g) []
+
+unfoldable pub group_pgn : Plan → ℕ → ℕ
+group_pgn plan g = option_map_or (λ (group : GroupPlan). group.pgn) (slice_get plan.groups.items g) 0
+
+unfoldable pub signals_of : Plan → ℕ → List SignalParts
+signals_of plan g = option_map_or (λ (group : GroupPlan). group.signals.items) (slice_get plan.groups.items g) []
+
+unfoldable pub signal_label : Plan → ℕ → ℕ → List ℕ
+signal_label plan g s = option_map_or (λ (signal : SignalParts). signal.label.bytes) (slice_get (signals_of plan g) s) []
+
+unfoldable pub signal_bits : Plan → ℕ → ℕ → ℕ
+signal_bits plan g s = option_map_or (λ (signal : SignalParts). signal.bits) (slice_get (signals_of plan g) s) 0
+
+-- the first place after the signal
+unfoldable pub signal_end : Plan → ℕ → ℕ → ℕ
+signal_end plan g s = option_map_or end_of (slice_get (signals_of plan g) s) 0
+
+-- ---- a finding
+
+-- a word, and two units
+unfoldable pub units_text : List ℕ → Plan → ℕ → ℕ → List ℕ
+units_text word plan i j = word ++ (unit_label plan i ++ (codes " " ++ unit_label plan j))
+
+-- a word, and a group
+unfoldable pub group_text : List ℕ → Plan → ℕ → List ℕ
+group_text word plan g = word ++ group_label plan g
+
+-- a word, and a signal behind its group
+unfoldable pub signal_text : List ℕ → Plan → ℕ → ℕ → List ℕ
+signal_text word plan g s = word ++ (group_label plan g ++ (codes " " ++ signal_label plan g s))
+
+unfoldable pub finding_text : Plan → Finding → List ℕ
+finding_text plan (SameName i j) = units_text (codes "F1 SameName ") plan i j
+finding_text plan (SameFixedAddress i j) = units_text (codes "F2 SameFixedAddress ") plan i j ++ field (codes " ") (unit_address plan i)
+finding_text plan (TooFewAddresses n) = field (codes "F3 TooFewAddresses ") n
+finding_text plan (BadPgn g) = group_text (codes "F4 BadPgn ") plan g ++ field (codes " ") (group_pgn plan g)
+finding_text plan (SamePgn g h) = group_text (codes "F5 SamePgn ") plan g ++ (group_text (codes " ") plan h ++ field (codes " ") (group_pgn plan g))
+finding_text plan (SignalWidth g s) = signal_text (codes "F6 SignalWidth ") plan g s ++ field (codes " ") (signal_bits plan g s)
+finding_text plan (SignalOutside g s) = signal_text (codes "F7 SignalOutside ") plan g s ++ field (codes " ") (signal_end plan g s)
+finding_text plan (SignalOverlap g s t) = signal_text (codes "F8 SignalOverlap ") plan g s ++ (codes " " ++ signal_label plan g t)
+finding_text plan (FlowToOne f) = place_field (codes "F9 FlowToOne ") f
+finding_text plan (FlowToSelf f) = place_field (codes "F10 FlowToSelf ") f
+finding_text plan (FlowRepeated f h) = place_field (codes "F11 FlowRepeated ") f ++ place_field (codes " ") h
+
+-- ---- all of them
+
+unfoldable pub finding_line : Plan → Finding → List ℕ
+finding_line plan finding = finding_text plan finding ++ 10 ∷ []
+
+unfoldable pub finding_lines : Plan → List Finding → List ℕ
+finding_lines plan [] = []
+finding_lines plan (finding ∷ findings) = finding_line plan finding ++ finding_lines plan findings
