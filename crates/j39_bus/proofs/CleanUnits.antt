@@ -5,7 +5,6 @@ use Rattle.std.proofs.lemmas.List.Sums.{sum_by-cons}
 use Rattle.std.specs.List.{count_by, slice_get}
 use Rattle.j39_claim.specs.ClaimRule.{Claimant}
 use Rattle.j39_claim.specs.Pool.{is_arbitrary, in_pool}
-use Rattle.j39_plan.specs.Places.{PairAt}
 use Rattle.j39_plan.specs.Findings.{Clean, needed_addresses, arbitrary_bit, is_arbitrary as is_arbitrary_unit, is_in_pool, is_fixed_in_pool}
 use Rattle.j39_plan.specs.declared.checking.finding.Finding.TheVariants.{SameName, SameFixedAddress, TooFewAddresses}
 use Rattle.j39_plan.specs.declared.plan.Plan.{Plan}

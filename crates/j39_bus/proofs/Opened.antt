@@ -1,5 +1,5 @@
 -- A new bus stands for the first world.
-use Rattle.std.proofs.Common.{◌≡◌, ℕ, zero, suc, ◌<◌, ◌≤◌, true, List, [], ◌∷◌, length, map, get_or, refl, sym, ap, ◌∙◌, subst, arith, Some}
+use Rattle.std.proofs.Common.{◌≡◌, ℕ, zero, suc, ◌<◌, ◌≤◌, List, [], ◌∷◌, length, map, get_or, refl, sym, ap, ◌∙◌, subst, arith, Some}
 use Rattle.std.proofs.lemmas.Bool.{true≢false}
 use Rattle.std.specs.List.{list_all, slice_get}
 use Rattle.std.specs.Option.{is_some}
@@ -16,7 +16,7 @@ use Rattle.j39_bus.specs.Letters.{unstarted, station_at, between, is_inside}
 use Rattle.j39_bus.specs.Network.{claimants, state_of, world_of, IsNetwork, IsWellFormed}
 use Rattle.j39_bus.specs.Sent.{sent_of}
 use Rattle.j39_bus.specs.Stands.{Stands}
-use Rattle.j39_bus.specs.World.{World, first}
+use Rattle.j39_bus.specs.World.{first}
 use Rattle.j39_bus.proofs.Standing.{stands}
 
 station_unstarted : (units : List UnitPlan) (u : ℕ) → station_at (map unstarted units) u ≡ off

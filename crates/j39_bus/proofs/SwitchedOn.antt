@@ -3,7 +3,7 @@ use Rattle.std.proofs.Common.{◌≡◌, ℕ, ◌<◌, List, [], ◌∷◌, leng
 use Rattle.j39_claim.specs.declared.item.Say.{Say}
 use Rattle.j39_claim.specs.declared.item.Say.TheVariants.{Claim}
 use Rattle.j39_claim.specs.declared.item.Item.TheVariants.{Told}
-use Rattle.j39_claim.specs.ClaimRule.{Claimant, Station, started}
+use Rattle.j39_claim.specs.ClaimRule.{Claimant, started}
 use Rattle.j39_claim.specs.Claiming.{Claiming}
 use Rattle.j39_bus.specs.declared.letter.Letter.{Letter}
 use Rattle.j39_bus.specs.Claimants.{unit_at}

@@ -1,5 +1,5 @@
 -- What contracts see of a bus.
-use Rattle.std.specs.Prelude.{ℕ, List, [], map, length, slice_index_or}
+use Rattle.std.specs.Prelude.{ℕ, List, [], map, slice_index_or}
 use Rattle.std.specs.List.{range_with_len}
 use Rattle.j39_claim.specs.declared.item.Item.{Item}
 use Rattle.j39_claim.specs.Claiming.{Claiming}

@@ -3,7 +3,7 @@ use Rattle.std.specs.Prelude.{ℕ, suc, ◌+◌, Bool, true, false, cond, not, �
 use Rattle.std.specs.List.{list_all, filter}
 use Rattle.j39_claim.specs.declared.item.Item.{Item}
 use Rattle.j39_claim.specs.declared.item.Item.TheVariants.{Told, Request}
-use Rattle.j39_claim.specs.ClaimRule.{Station, off}
+use Rattle.j39_claim.specs.ClaimRule.{off}
 use Rattle.j39_claim.specs.Claiming.{Claiming}
 use Rattle.j39_plan.specs.declared.plan.unit_plan.UnitPlan.{UnitPlan}
 use Rattle.j39_bus.specs.Claimants.{claimant_of}

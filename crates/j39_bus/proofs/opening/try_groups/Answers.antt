@@ -1,4 +1,4 @@
-use Rattle.std.proofs.Common.{◌<◌, ◌≤◌, ◌+◌, All, length, get_or, take, sym, subst, arith}
+use Rattle.std.proofs.Common.{◌<◌, ◌≤◌, All, length, get_or, take, sym, subst, arith}
 use Rattle.std.proofs.lemmas.List.{take_all, take_more}
 use Rattle.std.proofs.lemmas.List.Elements.{All-push}
 use Rattle.j39_bus.specs.Opening.{IsSendable}

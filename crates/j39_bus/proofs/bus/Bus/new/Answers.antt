@@ -1,5 +1,4 @@
 use Rattle.std.proofs.Common.{arith}
-use Rattle.j39_bus.specs.Network.{IsBus}
 use Rattle.j39_bus.proofs.Opened.{length_opened, well_opened, stands_first}
 use Rattle.j39_bus.proofs.bus.Bus.new.Goals as goal
 use Rattle.std.proofs.Common.{◌≡◌, map, ap, ◌∙◌}

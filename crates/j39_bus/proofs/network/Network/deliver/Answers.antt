@@ -1,7 +1,6 @@
-use Rattle.std.proofs.Common.{◌≡◌, ℕ, true, ◌<◌, ◌++◌, List, [], ◌∷◌, length, map, get_or, refl, ap, sym, ◌∙◌, arith, Some, None, Option}
+use Rattle.std.proofs.Common.{◌≡◌, ℕ, true, ◌<◌, List, length, map, get_or, ap, sym, ◌∙◌, arith, Some, None}
 use Rattle.std.proofs.Math.ListN.{length-set}
 use Rattle.std.specs.List.{remove, list_all}
-use Rattle.j39_claim.specs.declared.item.Say.{Say}
 use Rattle.j39_claim.specs.declared.item.Item.TheVariants.{Told}
 use Rattle.j39_claim.specs.Claiming.{Claiming, can_note}
 use Rattle.j39_bus.specs.declared.letter.Letter.{Letter}

@@ -1,5 +1,4 @@
-use Rattle.std.proofs.Common.{◌≡◌, ◌<◌, List, [], ◌∷◌, length, map, get_or, ap, sym, ◌∙◌, arith, Option}
-use Rattle.j39_claim.specs.declared.item.Say.{Say}
+use Rattle.std.proofs.Common.{◌≡◌, ◌<◌, List, [], ◌∷◌, length, get_or, ap, ◌∙◌, arith}
 use Rattle.j39_claim.specs.declared.item.Item.TheVariants.{Told, Request}
 use Rattle.j39_claim.specs.ClaimRule.{claim_of}
 use Rattle.j39_claim.specs.Claiming.{Claiming}
