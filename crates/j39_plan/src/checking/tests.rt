@@ -30,9 +30,9 @@ fn findings(alloc: Global, parts: &[&str]) -> Result<Findings, Fail> {
     Ok(check(alloc, &plan)?)
 }
 
-// Arbitrary units that all prefer the address 128.
+// A plan of arbitrary units that all prefer the address 128.
 fn arbitrary_units(alloc: Global, count: u32) -> Result<String, Fail> {
-    let mut text = String::new(alloc);
+    let mut text = String::from_str(alloc, VERSION)?;
     for i in 0..count {
         let unit = format!(in alloc;
             "[[unit]]\nlabel = \"U{i}\"\naddress = 128\nname = {{ identity = {i}, arbitrary = true }}\n"
@@ -40,6 +40,24 @@ fn arbitrary_units(alloc: Global, count: u32) -> Result<String, Fail> {
         text.push_str(unit.as_str())?;
     }
     Ok(text)
+}
+
+// What is found of so many arbitrary units beside these fixed ones.
+fn crowded(alloc: Global, count: u32, fixed: &[&str]) -> Result<Findings, Fail> {
+    let mut text = arbitrary_units(alloc, count)?;
+    for unit in fixed {
+        text.push_str(unit)?;
+    }
+    let plan = read_plan(alloc, text.as_bytes())?;
+    Ok(check(alloc, &plan)?)
+}
+
+// What was found, where it is the cause.
+fn found_by(cause: RefusedCause) -> Option<Findings> {
+    match cause {
+        RefusedCause::Findings(findings) => Some(findings),
+        RefusedCause::Memory => None,
+    }
 }
 
 #[test]
@@ -76,21 +94,14 @@ fn two_fixed_units_share_an_address(rt: HostRuntime) -> Result<(), Fail> {
         found.as_slice(),
         [Finding::SameFixedAddress(0, 1)].as_slice()
     );
-    match checked(rt.alloc(), plan(rt.alloc(), &[UNIT_A, rival])?) {
-        Ok(_) => assert!(rt; false, "the plan is taken as checked"),
-        Err(refused) => {
-            assert_eq!(rt; refused.plan.units.len(), 2);
-            match refused.cause {
-                RefusedCause::Findings(cause) => {
-                    assert_eq!(rt;
-                        cause.as_slice(),
-                        [Finding::SameFixedAddress(0, 1)].as_slice()
-                    );
-                }
-                RefusedCause::Memory => assert!(rt; false, "memory is there"),
-            }
-        }
-    }
+    let plan = plan(rt.alloc(), &[UNIT_A, rival])?;
+    let refused = checked(rt.alloc(), plan).err().ok_or("it is refused")?;
+    let Refused { plan, cause } = refused;
+    assert_eq!(rt; plan.units.len(), 2);
+    assert_eq!(rt;
+        found_by(cause).ok_or("memory is there")?.as_slice(),
+        [Finding::SameFixedAddress(0, 1)].as_slice()
+    );
     Ok(())
 }
 
@@ -109,23 +120,14 @@ fn there_are_120_addresses_to_choose(rt: HostRuntime) -> Result<(), Fail> {
     let at_127 = "[[unit]]\nlabel = \"A\"\naddress = 127\nname = { identity = 1001 }\n";
     let at_128 = "[[unit]]\nlabel = \"A\"\naddress = 128\nname = { identity = 1001 }\n";
     let at_247 = "[[unit]]\nlabel = \"B\"\naddress = 247\nname = { identity = 1002 }\n";
-    let short = arbitrary_units(alloc, 119)?;
-    let full = arbitrary_units(alloc, 120)?;
-    let over = arbitrary_units(alloc, 121)?;
     let too_few = [Finding::TooFewAddresses(121)];
-    assert_eq!(rt; findings(alloc, &[full.as_str()])?.len(), 0);
+    assert_eq!(rt; crowded(alloc, 120, &[])?.len(), 0);
+    assert_eq!(rt; crowded(alloc, 121, &[])?.as_slice(), too_few.as_slice());
     assert_eq!(rt;
-        findings(alloc, &[over.as_str()])?.as_slice(),
+        crowded(alloc, 119, &[at_128, at_247])?.as_slice(),
         too_few.as_slice()
     );
-    assert_eq!(rt;
-        findings(alloc, &[short.as_str(), at_128, at_247])?.as_slice(),
-        too_few.as_slice()
-    );
-    assert_eq!(rt;
-        findings(alloc, &[short.as_str(), at_127, at_247])?.len(),
-        0
-    );
+    assert_eq!(rt; crowded(alloc, 119, &[at_127, at_247])?.len(), 0);
     Ok(())
 }
 
