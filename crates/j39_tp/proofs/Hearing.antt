@@ -5,10 +5,10 @@ use Rattle.std.proofs.lemmas.Bool.{cases_lt}
 use Rattle.std.proofs.lemmas.Grind.{common_steps}
 use Rattle.std.proofs.lemmas.List.{take-append-le, take_all}
 use Rattle.j39_tp.specs.Chunks.{packets_of}
-use Rattle.j39_tp.specs.Receiver.{Receiving, hears, grown, kept}
+use Rattle.j39_tp.specs.Receiver.{Receiving, hears, completed, grown, kept}
 use Rattle.j39_tp.specs.Carried.{MayPass, receives_any, listened}
 use Rattle.j39_tp.specs.declared.heard.Heard.{Heard}
-use Rattle.j39_tp.specs.declared.heard.Heard.TheVariants as heard
+use Rattle.j39_tp.specs.declared.manner.Manner.{Manner}
 use Rattle.j39_tp.specs.declared.manner.Manner.TheVariants.{Listening}
 use Rattle.j39_tp.specs.declared.packet.Packet.{Packet}
 use Rattle.j39_tp.specs.declared.packet.Packet.TheVariants.{Dt}
@@ -21,7 +21,7 @@ same_manner : (s : Receiving) (o : Option Packet) → (receives_any s o).manner 
 same_manner s None = refl
 same_manner s (Some p) = refl
 
-listens : (h : List Packet) (q : ℕ) → (listened h q).manner ≡ Listening
+pub listens : (h : List Packet) (q : ℕ) → (listened h q).manner ≡ Listening
 listens h zero = refl
 listens h (suc q) = same_manner (listened h q) (slice_get h q) ∙ listens h q
 
@@ -75,14 +75,15 @@ take_again n front chunk =
       | inr all ↦ let whole : take n front ≡ front = take_all n front all in rw (whole) refl
     ]
 
--- what a listener does with the last packet
-pub last_heard : (r : Reception) (chunk : List ℕ) → suc r.held ≡ packets_of r.size → hears Listening (Open r) (Dt (suc r.held) chunk) ≡ (Complete r.pgn, heard.Complete)
-last_heard r chunk last =
+-- what a receiver does with the last packet
+pub last_heard : (m : Manner) (r : Reception) (chunk : List ℕ) → suc r.held ≡ packets_of r.size
+    → hears m (Open r) (Dt (suc r.held) chunk) ≡ (Complete r.pgn, completed m r.kind r)
+last_heard m r chunk last =
     let same : (suc r.held == r.held + 1) ≡ true = eq-eqb (suc r.held) (r.held + 1) (sym (add-one r.held)) in
     let done : (r.held + 1 == packets_of r.size) ≡ true = eq-eqb (r.held + 1) (packets_of r.size) (add-one r.held ∙ last) in
     rw (same, done) refl
 
-last_grown : (r : Reception) (bytes chunk : List ℕ) → grown (Open r) (Dt (suc r.held) chunk) bytes ≡ take r.size (bytes ++ chunk)
+pub last_grown : (r : Reception) (bytes chunk : List ℕ) → grown (Open r) (Dt (suc r.held) chunk) bytes ≡ take r.size (bytes ++ chunk)
 last_grown r bytes chunk =
     let same : (suc r.held == r.held + 1) ≡ true = eq-eqb (suc r.held) (r.held + 1) (sym (add-one r.held)) in
     rw same refl
@@ -91,4 +92,4 @@ pub last_at : (h : List Packet) (q : ℕ) (r : Reception) (bytes chunk : List �
     → IsAt h q (Open r) bytes → IsAt h (suc q) (Complete r.pgn) (take r.size (bytes ++ chunk))
 last_at h q r bytes chunk e last at =
     let heard_then = one_heard h q (Dt (suc r.held) chunk) (Open r) bytes e at in
-    rw (last_heard r chunk last, last_grown r bytes chunk) at heard_then
+    rw (last_heard Listening r chunk last, last_grown r bytes chunk) at heard_then

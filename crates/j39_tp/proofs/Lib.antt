@@ -1,4 +1,5 @@
 pub mod Carrying
+pub mod Gathering
 pub mod Hearing
 pub mod Holding
 pub mod PacketLaws

@@ -3,3 +3,4 @@ pub mod Packets
 pub mod Sender
 pub mod Receiver
 pub mod Carried
+pub mod Gathered

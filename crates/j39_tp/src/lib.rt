@@ -25,7 +25,10 @@ mod unpacking;
 pub use busy::Busy;
 pub use dest::Dest;
 pub use heard::Heard;
-pub use laws::{listener_completes_what_is_carried, reread};
+pub use laws::{
+    a_place_carries_one_message, listener_completes_what_is_carried,
+    receivers_gather_what_they_hear, reread,
+};
 pub use message::Message;
 pub use outcome::Outcome;
 pub use packet::Packet;

@@ -1,0 +1,44 @@
+-- What a receiver has of the packets that it heard, in any manner: the whole list of them is its history (SAE J1939-21,
+-- transport protocol functions; that a newer announcement replaces the older one is a rule of our own).
+use Rattle.std.specs.Prelude.{◌≡◌, ℕ, suc, List, length, take, slice_get, Some}
+use Rattle.j39_tp.specs.Chunks.{IsSize}
+use Rattle.j39_tp.specs.Receiver.{Receiving, message_of}
+use Rattle.j39_tp.specs.Carried.{Announces, Awaits, Reaches, IsUndisturbed, Carried}
+use Rattle.j39_tp.specs.declared.heard.Heard.{Heard}
+use Rattle.j39_tp.specs.declared.heard.Heard.TheVariants as heard
+use Rattle.j39_tp.specs.declared.packet.Packet.{Packet}
+use Rattle.j39_tp.specs.declared.progress.Progress.{Progress}
+use Rattle.j39_tp.specs.declared.progress.Progress.TheVariants.{Open, Complete}
+use Rattle.j39_tp.specs.declared.reception.Reception.{Reception}
+
+-- the history announces the session, carries its packets in order up to the last that is held, and has nothing since
+-- that is the next or ends the session; the bytes are those of the packets, at most those of the message
+pub record Gathered (h : List Packet) (r : Reception) (bytes : List ℕ) : Type 0 where
+  pub start : ℕ
+  pub place : ℕ
+  pub chunks : List ℕ
+  pub announcement : Packet
+  pub announced : slice_get h start ≡ Some announcement
+  pub announces : Announces announcement r.kind r.pgn r.size
+  pub fits : IsSize r.size
+  pub reaches : Reaches h r.kind start r.held place chunks
+  pub awaits : Awaits h r.kind (suc r.held) place (length h)
+  pub undisturbed : IsUndisturbed h r.kind r.pgn start (length h)
+  pub bytes_are : bytes ≡ take r.size chunks
+
+-- a receiver that stands so has what its history carries of the open session
+abbrev pub Gathers : List Packet → Progress → List ℕ → Type 0
+Gathers h (Open r) bytes = Gathered h r bytes
+Gathers h _ bytes = Unit {0}
+
+-- a message is told as complete
+abbrev pub TellsComplete : Heard → Type 0
+TellsComplete heard.Complete = Unit {0}
+TellsComplete (heard.CompleteReply packet) = Unit {0}
+TellsComplete _ = ⊥
+
+-- a receiver that holds the message that the list carries at this place
+pub record HoldsCarried (h : List Packet) (place : ℕ) (s : Receiving) : Type 0 where
+  pub group : ℕ
+  pub complete : s.progress ≡ Complete group
+  pub carried : Carried h place group (message_of s.progress s.bytes)
