@@ -3,3 +3,7 @@ pub mod Digits
 pub mod FindingLists
 pub mod FirstLine
 pub mod StreamSteps
+pub mod Splits
+pub mod RunLists
+pub mod Continuations
+pub mod Halting

@@ -11,9 +11,18 @@ value_rule name = record (new_rule name) { required = true }
 abbrev pub one_value : Text → Text → App
 one_value name value = with_rule (new_app name) (value_rule value)
 
+-- a subcommand that takes two values
+abbrev pub two_values : Text → Text → Text → App
+two_values name value other = with_rule (one_value name value) (value_rule other)
+
 -- the words after the program's name, of which the first is a subcommand
 abbrev pub program : App
 program = on_top (λ s. record s { no_binary_name = true; subcommand_required = true; has_version = true }) (new_app (codes "j39plan"))
 
 unfoldable pub commands : App
-commands = with_subcommand (with_subcommand program (one_value (codes "frame") (codes "LINE")).top) (one_value (codes "check") (codes "PLAN")).top
+commands =
+    with_subcommand
+    (with_subcommand
+    (with_subcommand program (one_value (codes "frame") (codes "LINE")).top)
+    (one_value (codes "check") (codes "PLAN")).top)
+    (two_values (codes "run") (codes "PLAN") (codes "SCHEDULE")).top

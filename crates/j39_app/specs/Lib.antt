@@ -8,3 +8,6 @@ pub mod Status
 pub mod Streams
 pub mod Tape
 pub mod Texts
+pub mod Schedule
+pub mod RunText
+pub mod Scheduling

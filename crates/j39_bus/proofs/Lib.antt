@@ -17,3 +17,5 @@ pub mod Refused
 pub mod Standing
 pub mod Running
 pub mod Opened
+pub mod Simulated
+pub mod GreatestFree

@@ -9,3 +9,5 @@ pub mod BusState
 pub mod Stands
 pub mod Network
 pub mod Opening
+pub mod Ended
+pub mod Simulating

@@ -1,6 +1,6 @@
-ghost use Rattle.std.specs.Prelude.{◌≡◌, ◌<◌, length, IfOk, unwrap_or, not, if◌then◌else◌};
-ghost use Rattle.std.specs.FinSet as set;
-ghost use Rattle.j39_claim.specs.AddressSets.{lowest_free};
+ghost use Rattle.std.specs.Prelude.{◌≡◌, ◌-◌, ◌<◌, length, unwrap_or, IfOk};
+ghost use Rattle.std.specs.List.{find, range_with_len};
+ghost use Rattle.j39_claim.specs.AddressSets.{is_free};
 
 use crate::{Bus, BusError, StepError};
 use j39_claim::{AddressSet, Choose, Lowest, Upward};
@@ -31,20 +31,32 @@ const ONE_NAME: &str =
 const NO_GROUP: &str =
     "version = 1\n[[group]]\nlabel = \"G\"\npgn = 60929\npriority = 6\nlength = 8\n";
 
-/// Chooses the last address of all where it is free, else the least that is.
+/// Chooses the greatest free address.
 #[derive(Drop)]
-struct Last;
+struct Greatest;
 
-impl Choose for Last {
-    ghost pick = { λ chooser own before taken. if not (set.contains taken 247) then 247 else unwrap_or (lowest_free taken) 128 };
+impl Choose for Greatest {
+    ghost pick = { λ chooser own before taken. 247 - unwrap_or (find (λ k. is_free taken (247 - k)) (range_with_len 0 120)) 119 };
 
     fn choose(&self, _own: Name, _before: u8, taken: &AddressSet) -> u8 {
-        if let Some(last) = Address::new(247) {
-            if !taken.has(last) {
-                return 247;
-            }
-        }
-        taken.lowest_free().unwrap_or(128)
+        247_u8.saturating_sub(taken_above(taken).unwrap_or(119))
+    }
+}
+
+// How many addresses above the greatest free one are taken.
+fn taken_above(taken: &AddressSet) -> Option<u8>
+    ensures { result ≡ find (λ k. is_free taken.now (247 - k)) (range_with_len 0 120) }
+{
+    (0..120).find(|below| is_free(taken, 247 - *below))
+}
+
+fn is_free(taken: &AddressSet, number: u8) -> bool
+    requires { number < 254 }
+    ensures { result ≡ is_free taken.now number }
+{
+    match Address::new(number) {
+        Some(address) => !taken.has(address),
+        None => false,
     }
 }
 
@@ -274,7 +286,7 @@ fn each_unit_moves_by_its_own_chooser(rt: HostRuntime) -> Result<(), Fail> {
         "18EEFF83#0100000000000080",
     )?;
     let mut own: Vec<Box<dyn Choose>> = Vec::new(alloc);
-    own.push(Box::new(alloc, Last)?)?;
+    own.push(Box::new(alloc, Greatest)?)?;
     own.push(Box::new(alloc, Lowest)?)?;
     moves(&rt, alloc, &lowest, own, 247, "18EEFFF7#0100000000000080")
 }

@@ -6,4 +6,6 @@ mod checks;
 #[cfg(test)]
 mod groups;
 #[cfg(test)]
+mod runs;
+#[cfg(test)]
 mod signals;

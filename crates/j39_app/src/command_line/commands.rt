@@ -1,8 +1,8 @@
 //! The commands, with their help.
 ghost use Rattle.std.specs.Prelude.{◌≡◌, false, IfOk, codes};
-ghost use Rattle.clap.specs.Words.{app_of, with_subcommand};
+ghost use Rattle.clap.specs.Words.{app_of, with_rule, with_subcommand};
 ghost use Rattle.clap.specs.declared.builder.command.Command.TheViews.{out-Command as fields_of};
-ghost use Rattle.j39_app.specs.Commands.{commands, one_value, program};
+ghost use Rattle.j39_app.specs.Commands.{commands, one_value, program, two_values, value_rule};
 
 use clap::{Arg, Command};
 use std::alloc::{AllocError, Global};
@@ -16,7 +16,7 @@ A value that begins with - (but - alone) needs -- before it, as in: j39plan fram
 
 Example: j39plan frame 18EEFF00#0100800C00000010
 
-Exit status: 0 done, 1 findings, 2 bad input or command line, 3 out of memory, 4 device fault";
+Exit status: 0 done, 1 findings or a refused step, 2 bad input or command line, 3 out of memory, 4 device fault";
 
 const VERSION: &str = "0.1.0";
 
@@ -48,6 +48,23 @@ fn one_value<'a>(
     Command::new(alloc, name).about(about).arg(value)
 }
 
+// A command that takes two values.
+fn two_values<'a>(
+    alloc: Global,
+    name: &'a str,
+    about: &'a str,
+    first: &'a str,
+    first_help: &'a str,
+    second: &'a str,
+    second_help: &'a str,
+) -> Result<Command<'a>, AllocError>
+    ensures app { IfOk result (λ c. app_of c ≡ two_values name.entry.now first.entry.now second.entry.now) }
+    ensures local { IfOk result (λ c. (fields_of c).has_globals ≡ false) }
+{
+    let value = Arg::new(alloc, second).required(true).help(second_help);
+    one_value(alloc, name, about, first, first_help)?.arg(value)
+}
+
 fn with_frame<'a>(alloc: Global, program: Command<'a>) -> Result<Command<'a>, AllocError>
     ensures { IfOk result (λ c. app_of c ≡ with_subcommand (app_of program.entry) (one_value (codes "frame") (codes "LINE")).top) }
 {
@@ -72,10 +89,27 @@ fn with_check<'a>(alloc: Global, program: Command<'a>) -> Result<Command<'a>, Al
     )?)
 }
 
+fn with_run<'a>(alloc: Global, program: Command<'a>) -> Result<Command<'a>, AllocError>
+    ensures { IfOk result (λ c. app_of c ≡ with_subcommand (app_of program.entry) (two_values (codes "run") (codes "PLAN") (codes "SCHEDULE")).top) }
+{
+    program.subcommand(two_values(
+        alloc,
+        "run",
+        "Shows what happens on the bus of the plan by the schedule",
+        "PLAN",
+        "The name of a plan file",
+        "SCHEDULE",
+        "The name of a schedule file",
+    )?)
+}
+
 /// The commands.
 #[tactic(auto, unfolding(crate::specs::Commands::commands))]
 pub(super) fn commands<'a>(alloc: Global) -> Result<Command<'a>, AllocError>
     ensures { IfOk result (λ c. app_of c ≡ commands) }
 {
-    with_check(alloc, with_frame(alloc, program(alloc)?)?)
+    with_run(
+        alloc,
+        with_check(alloc, with_frame(alloc, program(alloc)?)?)?,
+    )
 }

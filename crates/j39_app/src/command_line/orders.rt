@@ -14,6 +14,8 @@ pub enum Order {
     Frame(String),
     /// `check PLAN`: what is wrong with the plan of the file of this name.
     Check(String),
+    /// `run PLAN SCHEDULE`: what happens on the bus of the plan by the schedule, the files of these names.
+    Run(String, String),
     /// The help of the program or of a command, or the program's version: this text.
     Help(String),
 }

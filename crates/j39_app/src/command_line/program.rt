@@ -1,12 +1,12 @@
 //! The program.
 ghost use Rattle.std.specs.Prelude.{ℕ, IfOk, List};
 ghost use Rattle.std.specs.Io.KnownBytes.{Appends};
-ghost use Rattle.j39_app.specs.Orders.{IsAnswer};
+ghost use Rattle.j39_app.specs.Orders.{IsAnswer, IsAnswerOfTwo, IsPlannedRun};
 
 use super::orders::{Order, WordsFault};
 use crate::{
-    Fault, FromRead, Sink, ToWrite, Verdict, check_text, frame_text, input_text, order, put_all,
-    status,
+    Fault, FromRead, Sink, ToWrite, Verdict, check_text, frame_text, input_text, order, plan_text,
+    put_all, run_planned, status,
 };
 use std::env::Env;
 use std::fmt::Display;
@@ -35,6 +35,21 @@ fn opened<R: Files>(rt: &R, name: &str) -> Result<FromRead<R::File>, Fault> {
     }
 }
 
+// Writes what happens on the bus of a plan by a schedule, whose file is opened once the plan was read.
+fn run_files<R: Files + AllocGlobal, W: Sink>(
+    rt: &R,
+    plan: &str,
+    schedule: &str,
+    sink: &mut W,
+) -> Result<Verdict, Fault>
+    ensures { IfOk result (λ verdict. (text : List ℕ) × IsAnswerOfTwo IsPlannedRun text verdict × Appends (W.taken sink.old) (W.taken sink.new) text) }
+{
+    let Some(plan) = plan_text(rt.alloc(), &mut opened(rt, plan)?, sink)? else {
+        return Ok(Verdict::Unreadable);
+    };
+    run_planned(rt.alloc(), &plan, &mut opened(rt, schedule)?, sink)
+}
+
 // Does what the words order.
 fn perform<R: Input + Files + AllocGlobal, W: Sink>(
     rt: &R,
@@ -47,6 +62,7 @@ fn perform<R: Input + Files + AllocGlobal, W: Sink>(
         Order::Input => input_text(rt.alloc(), &mut FromRead::new(rt.reader()), sink),
         Order::Frame(line) => frame_text(rt.alloc(), line.as_bytes(), sink),
         Order::Check(plan) => check_text(rt.alloc(), &mut opened(rt, plan)?, sink),
+        Order::Run(plan, schedule) => run_files(rt, plan, schedule, sink),
         Order::Help(text) => {
             put_all(sink, text.as_bytes())?;
             Ok(Verdict::Done)

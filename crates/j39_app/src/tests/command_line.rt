@@ -58,6 +58,24 @@ fn check_takes_a_file_name(rt: HostRuntime) -> Result<(), Fail> {
 }
 
 #[test]
+fn run_takes_two_file_names(rt: HostRuntime) -> Result<(), Fail> {
+    for (words, names) in [
+        (
+            ["run", "plan.toml", "schedule"].as_slice(),
+            ("plan.toml", "schedule"),
+        ),
+        (&["run", "--", "-x", "-"], ("-x", "-")),
+    ] {
+        let order = ordered(rt.alloc(), words)?;
+        assert!(rt;
+            matches!(&order, Order::Run(plan, schedule) if (plan.as_str(), schedule.as_str()) == names),
+            "at {words:?}"
+        );
+    }
+    Ok(())
+}
+
+#[test]
 fn other_words_are_bad(rt: HostRuntime) {
     for words in [
         ["frame"].as_slice(),
@@ -68,7 +86,9 @@ fn other_words_are_bad(rt: HostRuntime) {
         &["fra", "x"],
         &["check"],
         &["check", "plan.toml", "log"],
-        &["run", "plan.toml", "schedule"],
+        &["run"],
+        &["run", "plan.toml"],
+        &["run", "plan.toml", "schedule", "log"],
         &["read", "plan.toml", "log"],
         &[""],
         &["--"],
@@ -87,6 +107,7 @@ Usage: j39plan [COMMAND]
 Commands:
   frame  Shows what the frame line LINE says
   check  Shows what is wrong with the plan of the file PLAN
+  run    Shows what happens on the bus of the plan by the schedule
   help   Print this message or the help of the given subcommand(s)
 
 Options:
@@ -98,7 +119,7 @@ A value that begins with - (but - alone) needs -- before it, as in: j39plan fram
 
 Example: j39plan frame 18EEFF00#0100800C00000010
 
-Exit status: 0 done, 1 findings, 2 bad input or command line, 3 out of memory, 4 device fault
+Exit status: 0 done, 1 findings or a refused step, 2 bad input or command line, 3 out of memory, 4 device fault
 ";
 
 const FRAME_HELP: &str = "Shows what the frame line LINE says

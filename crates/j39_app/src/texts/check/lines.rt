@@ -10,8 +10,9 @@ use crate::texts::TextBuffer;
 use j39_plan::{Finding, Plan};
 use std::alloc::AllocError;
 
+/// Writes a word and two units.
 #[tactic(auto, unfolding(crate::specs::FindingLines::units_text))]
-fn write_units(
+pub fn write_units(
     text: &mut TextBuffer,
     word: &str,
     plan: &Plan,
@@ -26,8 +27,9 @@ fn write_units(
     text.word(unit_label(plan, second))
 }
 
+/// Writes a word and a group.
 #[tactic(auto, unfolding(crate::specs::FindingLines::group_text))]
-fn write_group(
+pub fn write_group(
     text: &mut TextBuffer,
     word: &str,
     plan: &Plan,

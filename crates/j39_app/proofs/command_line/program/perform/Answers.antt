@@ -2,3 +2,6 @@ use Rattle.j39_app.proofs.command_line.program.perform.Goals as goal
 
 pub returns-in-Frame : goal.returns-in-Frame
 returns-in-Frame g c = rw c.in-Frame.is (rw c.as_bytes.ensures.value at c.frame_text.ensures.written)
+
+pub returns-in-Run : goal.returns-in-Run
+returns-in-Run g c = rw c.in-Run.is c.run_files.ensures

@@ -1,0 +1,28 @@
+-- What the reader of schedules gives.
+use Rattle.std.specs.Prelude.{◌≡◌, ℕ, List, [], ◌∷◌, ◌++◌, map, Option, Some, None, Ok, Err}
+use Rattle.j39_plan.specs.declared.steps.Step.{Step}
+use Rattle.j39_bus.specs.declared.step_error.StepError.{StepError}
+use Rattle.j39_app.specs.Schedule.{Reading}
+use Rattle.j39_app.specs.declared.texts.run.halt.Halt.{Halt}
+use Rattle.j39_app.specs.declared.texts.run.halt.Halt.TheVariants.{End, Step as AtStep, Line as AtLine}
+use Rattle.j39_app.specs.declared.schedule.line_fault.LineFault.{LineFault}
+use Rattle.j39_app.specs.declared.schedule.values.Values.{Values}
+use Rattle.j39_app.specs.declared.schedule.values.Values.TheVariants as values
+
+-- the values behind a word are these
+abbrev pub AreValues : List (List ℕ) → Values → Type 0
+AreValues words values.None = words ≡ []
+AreValues words (values.One a) = words ≡ a.now ∷ []
+AreValues words (values.Two a b) = words ≡ a.now ∷ b.now ∷ []
+AreValues words values.More = (a b c : List ℕ) × (more : List (List ℕ)) × (words ≡ a ∷ b ∷ c ∷ more)
+
+-- the lines are read as these orders, up to the first that can't be read
+abbrev pub AreReadAs : List Reading → List (Option Step) → Option LineFault → Type 0
+AreReadAs readings orders None = readings ≡ map Ok orders
+AreReadAs readings orders (Some fault) = (more : List Reading) × (readings ≡ map Ok orders ++ Err fault ∷ more)
+
+-- where the run of a schedule ends of which this step was refused, or else this line
+abbrev pub halt_of : Option (ℕ × StepError) → ℕ → Option LineFault → Halt
+halt_of (Some refused) lines fault = AtStep refused.0 refused.1
+halt_of None lines (Some fault) = AtLine lines fault
+halt_of None lines None = End

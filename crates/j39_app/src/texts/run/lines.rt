@@ -1,0 +1,134 @@
+//! The lines of a run.
+ghost use Rattle.std.specs.Prelude.{◌≡◌, ◌++◌, OnOk, map};
+ghost use Rattle.j39_bus.specs.Sent.{sent_of};
+ghost use Rattle.j39_app.specs.RunText.{end_text, halt_lines, line_cause, refused_line, sent_line, sent_lines, settled_line, state_text, step_cause, unit_line, unit_lines};
+
+use super::halt::Halt;
+use crate::LineFault;
+use crate::texts::TextBuffer;
+use crate::texts::check::unit_label;
+use j39_bus::{Ended, StepError, UnitState};
+use j39_id::{Frame, print_frame};
+use j39_plan::Plan;
+use std::alloc::AllocError;
+
+#[tactic(auto, unfolding(crate::specs::RunText::sent_line))]
+fn write_frame(text: &mut TextBuffer, frame: &Frame) -> Result<(), AllocError>
+    ensures { OnOk result (text.new ≡ text.old ++ sent_line (sent_of frame.now)) }
+{
+    text.bytes(print_frame(frame).as_slice())?;
+    text.end_line()
+}
+
+fn write_frames(text: &mut TextBuffer, frames: &[Frame]) -> Result<(), AllocError>
+    ensures { OnOk result (text.new ≡ text.old ++ sent_lines (map sent_of frames.now)) }
+{
+    for frame in frames {
+        write_frame(text, frame)?;
+    }
+    Ok(())
+}
+
+fn step_cause(error: StepError) -> &'static str
+    ensures { result.now ≡ step_cause error }
+{
+    match error {
+        StepError::UnknownUnit => "UnknownUnit",
+        StepError::NotStarted => "NotStarted",
+        StepError::AlreadyStarted => "AlreadyStarted",
+        StepError::NothingUndelivered => "NothingUndelivered",
+        StepError::Memory => "Memory",
+    }
+}
+
+fn line_cause(fault: LineFault) -> &'static str
+    ensures { result.now ≡ line_cause fault }
+{
+    match fault {
+        LineFault::LongLine => "LongLine",
+        LineFault::UnknownWord => "UnknownWord",
+        LineFault::WordCount => "WordCount",
+        LineFault::UnknownLabel => "UnknownLabel",
+    }
+}
+
+#[tactic(auto, unfolding(crate::specs::RunText::refused_line))]
+fn write_refused(text: &mut TextBuffer, place: usize, cause: &str) -> Result<(), AllocError>
+    ensures { OnOk result (text.new ≡ text.old ++ refused_line place cause.now) }
+{
+    text.place("refused line ", place)?;
+    text.word(" ")?;
+    text.word(cause)?;
+    text.end_line()
+}
+
+fn write_halt(text: &mut TextBuffer, halt: Halt) -> Result<(), AllocError>
+    ensures { OnOk result (text.new ≡ text.old ++ halt_lines halt) }
+{
+    match halt {
+        Halt::End => Ok(()),
+        Halt::Step(place, cause) => write_refused(text, place, step_cause(cause)),
+        Halt::Line(place, fault) => write_refused(text, place, line_cause(fault)),
+    }
+}
+
+#[tactic(auto, unfolding(crate::specs::RunText::state_text))]
+fn write_state(text: &mut TextBuffer, state: UnitState) -> Result<(), AllocError>
+    ensures { OnOk result (text.new ≡ text.old ++ state_text state) }
+{
+    match state {
+        UnitState::Off => text.word(" off"),
+        UnitState::NoAddress => text.word(" none"),
+        UnitState::At(address) => text.field(" address ", address.number()),
+    }
+}
+
+#[tactic(auto, unfolding(crate::specs::RunText::unit_line))]
+fn write_unit(
+    text: &mut TextBuffer,
+    plan: &Plan,
+    unit: usize,
+    state: UnitState,
+) -> Result<(), AllocError>
+    ensures { OnOk result (text.new ≡ text.old ++ unit_line plan.now unit state) }
+{
+    text.word("unit ")?;
+    text.word(unit_label(plan, unit))?;
+    write_state(text, state)?;
+    text.end_line()
+}
+
+fn write_units(text: &mut TextBuffer, plan: &Plan, states: &[UnitState]) -> Result<(), AllocError>
+    ensures { OnOk result (text.new ≡ text.old ++ unit_lines plan.now 0 states.now) }
+{
+    for (unit, state) in states.iter().enumerate() {
+        write_unit(text, plan, unit, *state)?;
+    }
+    Ok(())
+}
+
+fn settled_line(settled: bool) -> &'static str
+    ensures { result.now ≡ settled_line settled }
+{
+    if settled {
+        "settled\n"
+    } else {
+        "not settled\n"
+    }
+}
+
+/// Writes what is seen at the end of a run, and where it ended.
+#[tactic(auto, unfolding(crate::specs::RunText::end_text))]
+pub fn write_end(
+    text: &mut TextBuffer,
+    plan: &Plan,
+    ended: &Ended,
+    halt: Halt,
+) -> Result<(), AllocError>
+    ensures { OnOk result (text.new ≡ text.old ++ end_text plan.now ended.now halt) }
+{
+    write_frames(text, ended.frames())?;
+    write_halt(text, halt)?;
+    write_units(text, plan, ended.units())?;
+    text.word(settled_line(ended.is_settled()))
+}
