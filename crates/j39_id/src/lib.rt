@@ -3,6 +3,7 @@
 
 mod address;
 mod frame;
+mod hex_digits;
 mod ident;
 mod label;
 mod laws;

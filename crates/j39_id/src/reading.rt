@@ -5,9 +5,9 @@ ghost use Rattle.hex.specs.Hex.{decode_of, is_hex_digit};
 ghost use Rattle.j39_id.specs.Ident.{bits};
 ghost use Rattle.j39_id.specs.FrameLine.{is_separator as separates, IsLastWord, is_hash, identifier_of, IsFirstFault, WordSpells, Spells, HasLineFault};
 
+use crate::hex_digits::decode_digits;
 use crate::{Frame, Ident, LineError};
 use arrayvec::ArrayVec;
-use hex::FromHex;
 
 fn is_separator(byte: u8) -> bool
     ensures { result ≡ separates byte }
@@ -39,7 +39,8 @@ fn read_ident(digits: &[u8]) -> Option<Ident>
     ensures found { IfSome result (λ ident. identifier_of digits.now ≡ Some (bits ident)) }
     ensures none { IfNone result (identifier_of digits.now ≡ None) }
 {
-    let bytes = <[u8; 4] as FromHex>::from_hex(digits).ok()?;
+    let mut bytes = [0; 4];
+    decode_digits(digits, &mut bytes).ok()?;
     Ident::from_bits(u32::from_be_bytes(bytes))
 }
 
@@ -51,7 +52,7 @@ fn read_payload(text: &[u8]) -> Option<ArrayVec<u8, 8>>
 {
     let mut bytes = [0; 8];
     let count = text.len() / 2;
-    hex::decode_to_slice(text, &mut bytes[..count]).ok()?;
+    decode_digits(text, &mut bytes[..count]).ok()?;
     ArrayVec::try_from(&bytes[..count]).ok()
 }
 
