@@ -1,7 +1,7 @@
 //! Runs the commands on the examples, and says whether what they write is the text that stands beside each.
 #![tactic(auto)]
 
-use j39_app::{FromRead, Pieces, Stop, check_text, plan_text, run_planned};
+use j39_app::{FromRead, Pieces, Stop, check_text, plan_text, read_text, run_planned};
 use std::fs;
 use std::rt::Files;
 
@@ -25,7 +25,7 @@ fn names<R: Files + AllocGlobal + Clone + Drop>(
     Ok(names)
 }
 
-// The name of the plan that a schedule belongs to: its own up to the first dot.
+// The name of the plan that a schedule or a log belongs to: its own up to the first dot.
 fn plan_of(name: &str) -> &str {
     match name.split_once('.') {
         Some((plan, _)) => plan,
@@ -78,6 +78,16 @@ fn run<R: Files + Print + AllocGlobal>(rt: &R, schedule: &str) -> Result<(), any
     compare(rt, schedule, ".run", &sink)
 }
 
+fn read<R: Files + Print + AllocGlobal>(rt: &R, log: &str) -> Result<(), anyhow::Error> {
+    let mut sink = empty_sink(rt)?;
+    let mut source = source_of(rt, plan_of(log), ".toml")?;
+    if let Some(plan) = plan_text(rt.alloc(), &mut source, &mut sink)? {
+        let mut source = source_of(rt, log, ".log")?;
+        let _ = read_text(rt.alloc(), &plan, &mut source, &mut sink)?;
+    }
+    compare(rt, log, ".read", &sink)
+}
+
 fn main(rt: HostRuntime) -> Result<(), anyhow::Error> {
     for folder in ["examples", "examples/findings"] {
         for plan in names(&rt, folder, ".toml")? {
@@ -85,6 +95,9 @@ fn main(rt: HostRuntime) -> Result<(), anyhow::Error> {
         }
         for schedule in names(&rt, folder, ".schedule")? {
             run(&rt, schedule.as_str())?;
+        }
+        for log in names(&rt, folder, ".log")? {
+            read(&rt, log.as_str())?;
         }
     }
     Ok(())

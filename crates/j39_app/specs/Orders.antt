@@ -5,12 +5,13 @@ use Rattle.j39_app.specs.CheckText.{IsCheckText}
 use Rattle.j39_app.specs.Commands.{commands}
 use Rattle.j39_app.specs.FrameText.{IsFrameText}
 use Rattle.j39_app.specs.PlanText.{Describes, IsRefusedText}
+use Rattle.j39_app.specs.ReadText.{IsReadText}
 use Rattle.j39_app.specs.RunText.{IsRunText}
 use Rattle.j39_plan.specs.declared.plan.Plan.{Plan}
 use Rattle.j39_app.specs.declared.verdict.Verdict.{Verdict}
 use Rattle.j39_app.specs.declared.verdict.Verdict.TheVariants.{Done, Unreadable}
 use Rattle.j39_app.specs.declared.command_line.orders.Order.{Order}
-use Rattle.j39_app.specs.declared.command_line.orders.Order.TheVariants.{Input, Frame, Check, Run, Help}
+use Rattle.j39_app.specs.declared.command_line.orders.Order.TheVariants.{Input, Frame, Check, Run, Read, Help}
 
 -- the subcommand that was met has this name, and the value by this name is the text
 abbrev pub Gives : Option (Text × List Row) → Text → Text → Text → Type 0
@@ -22,6 +23,8 @@ Orders met (Frame line) = Gives met (codes "frame") (codes "LINE") (string_bytes
 Orders met (Check plan) = Gives met (codes "check") (codes "PLAN") (string_bytes plan)
 Orders met (Run plan schedule) =
     Gives met (codes "run") (codes "PLAN") (string_bytes plan) × Gives met (codes "run") (codes "SCHEDULE") (string_bytes schedule)
+Orders met (Read plan log) =
+    Gives met (codes "read") (codes "PLAN") (string_bytes plan) × Gives met (codes "read") (codes "LOG") (string_bytes log)
 Orders met Input = ⊥
 Orders met (Help text) = Unit {0}
 
@@ -31,6 +34,7 @@ IsHelp Input = ⊥
 IsHelp (Frame line) = ⊥
 IsHelp (Check plan) = ⊥
 IsHelp (Run plan schedule) = ⊥
+IsHelp (Read plan log) = ⊥
 
 -- what the words order: the input where there are none, and else what they name
 abbrev pub Answers : List Text → Order → Type 0
@@ -54,4 +58,5 @@ IsAnswer Input text verdict = (line : List ℕ) × IsFrameText line text verdict
 IsAnswer (Frame line) text verdict = IsFrameText (string_bytes line) text verdict
 IsAnswer (Check plan) text verdict = (bytes : List ℕ) × IsCheckText bytes text verdict
 IsAnswer (Run plan schedule) text verdict = IsAnswerOfTwo IsPlannedRun text verdict
+IsAnswer (Read plan log) text verdict = IsAnswerOfTwo IsReadText text verdict
 IsAnswer (Help shown) text verdict = (text ≡ string_bytes shown) × (verdict ≡ Done)

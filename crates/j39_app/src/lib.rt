@@ -4,6 +4,7 @@
 mod command_line;
 mod fault;
 mod laws;
+mod line_feed;
 mod pieces;
 mod schedule;
 mod streams;
@@ -16,7 +17,7 @@ pub use laws::refused_lines_end_the_text;
 pub use pieces::{Pieces, Stop};
 pub use schedule::LineFault;
 pub use streams::{Failed, FromRead, Sink, Source, ToWrite, load, put_all};
-pub use texts::{check_text, frame_text, plan_text, run_planned, run_text};
+pub use texts::{check_text, frame_text, plan_text, read_text, run_planned, run_text};
 pub use verdict::Verdict;
 
 #[cfg(test)]

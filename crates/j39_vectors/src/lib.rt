@@ -6,6 +6,8 @@ mod checks;
 #[cfg(test)]
 mod groups;
 #[cfg(test)]
+mod logs;
+#[cfg(test)]
 mod runs;
 #[cfg(test)]
 mod signals;

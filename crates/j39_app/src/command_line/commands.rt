@@ -103,13 +103,25 @@ fn with_run<'a>(alloc: Global, program: Command<'a>) -> Result<Command<'a>, Allo
     )?)
 }
 
+fn with_read<'a>(alloc: Global, program: Command<'a>) -> Result<Command<'a>, AllocError>
+    ensures { IfOk result (λ c. app_of c ≡ with_subcommand (app_of program.entry) (two_values (codes "read") (codes "PLAN") (codes "LOG")).top) }
+{
+    program.subcommand(two_values(
+        alloc,
+        "read",
+        "Shows what the log says of the plan's groups",
+        "PLAN",
+        "The name of a plan file",
+        "LOG",
+        "The name of a file as candump -L writes it",
+    )?)
+}
+
 /// The commands.
 #[tactic(auto, unfolding(crate::specs::Commands::commands))]
 pub(super) fn commands<'a>(alloc: Global) -> Result<Command<'a>, AllocError>
     ensures { IfOk result (λ c. app_of c ≡ commands) }
 {
-    with_run(
-        alloc,
-        with_check(alloc, with_frame(alloc, program(alloc)?)?)?,
-    )
+    let shown = with_check(alloc, with_frame(alloc, program(alloc)?)?)?;
+    with_read(alloc, with_run(alloc, shown)?)
 }

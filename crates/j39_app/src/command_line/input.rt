@@ -1,19 +1,13 @@
 //! The frame command on a whole input.
 ghost use Rattle.std.specs.Prelude.{◌≡◌, ◌⊎◌, ℕ, List, IfOk, IsErrOf};
-ghost use Rattle.std.specs.List.{before_first, position};
+ghost use Rattle.std.specs.List.{before_first};
 ghost use Rattle.std.specs.Io.KnownBytes.{Appends, Consumes, IsAtEnd};
 ghost use Rattle.j39_app.specs.FrameText.{IsFrameText, is_line_feed};
 ghost use Rattle.j39_app.specs.Streams.{AppendsPart, HasFailed};
 
+use crate::line_feed::first_feed;
 use crate::{Fault, Sink, Source, Verdict, frame_text, load};
 use std::alloc::Global;
-
-// Where the first line feed stands.
-fn first_feed(input: &[u8]) -> Option<usize>
-    ensures { result ≡ position is_line_feed input.now }
-{
-    input.iter().position(|byte| *byte == b'\n')
-}
 
 // The bytes before the first line feed, or all of them.
 fn first_line(input: &[u8]) -> &[u8]

@@ -16,6 +16,8 @@ pub enum Order {
     Check(String),
     /// `run PLAN SCHEDULE`: what happens on the bus of the plan by the schedule, the files of these names.
     Run(String, String),
+    /// `read PLAN LOG`: what the log says of the plan's groups, the files of these names.
+    Read(String, String),
     /// The help of the program or of a command, or the program's version: this text.
     Help(String),
 }

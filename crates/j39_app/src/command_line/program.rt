@@ -2,11 +2,12 @@
 ghost use Rattle.std.specs.Prelude.{ℕ, IfOk, List};
 ghost use Rattle.std.specs.Io.KnownBytes.{Appends};
 ghost use Rattle.j39_app.specs.Orders.{IsAnswer, IsAnswerOfTwo, IsPlannedRun};
+ghost use Rattle.j39_app.specs.ReadText.{IsReadText};
 
 use super::orders::{Order, WordsFault};
 use crate::{
     Fault, FromRead, Sink, ToWrite, Verdict, check_text, frame_text, input_text, order, plan_text,
-    put_all, run_planned, status,
+    put_all, read_text, run_planned, status,
 };
 use std::env::Env;
 use std::fmt::Display;
@@ -50,6 +51,21 @@ fn run_files<R: Files + AllocGlobal, W: Sink>(
     run_planned(rt.alloc(), &plan, &mut opened(rt, schedule)?, sink)
 }
 
+// Writes what a log says of the groups of a plan; the log's file is opened once the plan was read.
+fn read_files<R: Files + AllocGlobal, W: Sink>(
+    rt: &R,
+    plan: &str,
+    log: &str,
+    sink: &mut W,
+) -> Result<Verdict, Fault>
+    ensures { IfOk result (λ verdict. (text : List ℕ) × IsAnswerOfTwo IsReadText text verdict × Appends (W.taken sink.old) (W.taken sink.new) text) }
+{
+    let Some(plan) = plan_text(rt.alloc(), &mut opened(rt, plan)?, sink)? else {
+        return Ok(Verdict::Unreadable);
+    };
+    read_text(rt.alloc(), &plan, &mut opened(rt, log)?, sink)
+}
+
 // Does what the words order.
 fn perform<R: Input + Files + AllocGlobal, W: Sink>(
     rt: &R,
@@ -63,6 +79,7 @@ fn perform<R: Input + Files + AllocGlobal, W: Sink>(
         Order::Frame(line) => frame_text(rt.alloc(), line.as_bytes(), sink),
         Order::Check(plan) => check_text(rt.alloc(), &mut opened(rt, plan)?, sink),
         Order::Run(plan, schedule) => run_files(rt, plan, schedule, sink),
+        Order::Read(plan, log) => read_files(rt, plan, log, sink),
         Order::Help(text) => {
             put_all(sink, text.as_bytes())?;
             Ok(Verdict::Done)

@@ -30,6 +30,7 @@ fn command(alloc: Global, name: &str, values: &ArgMatches) -> Result<Order, Word
             value(alloc, values, "PLAN")?,
             value(alloc, values, "SCHEDULE")?,
         )),
+        "read" => Ok(Order::Read(value(alloc, values, "PLAN")?, value(alloc, values, "LOG")?)),
         _ => Err(WordsFault::Bad),
     }
 }

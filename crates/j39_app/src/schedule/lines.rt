@@ -1,13 +1,8 @@
 //! The lines of a text.
-ghost use Rattle.std.specs.Prelude.{◌≡◌, ◌<◌, [], ◌∷◌, length, position, IfSome, IfNone};
-ghost use Rattle.j39_app.specs.FrameText.{is_line_feed};
+ghost use Rattle.std.specs.Prelude.{◌≡◌, ◌<◌, [], ◌∷◌, length, IfSome, IfNone};
 ghost use Rattle.j39_app.specs.Schedule.{lines_of};
 
-fn first_feed(text: &[u8]) -> Option<usize>
-    ensures { result ≡ position is_line_feed text.now }
-{
-    text.iter().position(|byte| *byte == b'\n')
-}
+use crate::line_feed::first_feed;
 
 /// The first line, and what stands behind its line feed.
 pub fn next_line(text: &[u8]) -> Option<(&[u8], &[u8])>

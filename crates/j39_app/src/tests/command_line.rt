@@ -76,6 +76,15 @@ fn run_takes_two_file_names(rt: HostRuntime) -> Result<(), Fail> {
 }
 
 #[test]
+fn read_takes_two_file_names(rt: HostRuntime) -> Result<(), Fail> {
+    let order = ordered(rt.alloc(), &["read", "plan.toml", "start.log"])?;
+    assert!(rt;
+        matches!(&order, Order::Read(plan, log) if (plan.as_str(), log.as_str()) == ("plan.toml", "start.log"))
+    );
+    Ok(())
+}
+
+#[test]
 fn other_words_are_bad(rt: HostRuntime) {
     for words in [
         ["frame"].as_slice(),
@@ -89,7 +98,9 @@ fn other_words_are_bad(rt: HostRuntime) {
         &["run"],
         &["run", "plan.toml"],
         &["run", "plan.toml", "schedule", "log"],
-        &["read", "plan.toml", "log"],
+        &["read"],
+        &["read", "plan.toml"],
+        &["read", "plan.toml", "log", "log"],
         &[""],
         &["--"],
         &["help", "jump"],
@@ -108,6 +119,7 @@ Commands:
   frame  Shows what the frame line LINE says
   check  Shows what is wrong with the plan of the file PLAN
   run    Shows what happens on the bus of the plan by the schedule
+  read   Shows what the log says of the plan's groups
   help   Print this message or the help of the given subcommand(s)
 
 Options:

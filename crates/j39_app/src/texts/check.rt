@@ -10,7 +10,7 @@ mod reports;
 
 use crate::{Fault, Sink, Source, Verdict, plan_text, put_all};
 pub(super) use lines::{write_group, write_units};
-pub(super) use named::unit_label;
+pub(super) use named::{group_label, unit_label};
 use reports::report;
 use std::alloc::Global;
 

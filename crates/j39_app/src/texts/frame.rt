@@ -11,6 +11,7 @@ mod route;
 use crate::texts::TextBuffer;
 use crate::{Fault, Sink, Verdict, put_all};
 use j39_id::{Frame, LineError, print_frame, read_frame};
+pub(super) use route::write_destination;
 use std::alloc::{AllocError, Global};
 
 #[tactic(auto, unfolding(crate::specs::FrameText::head_lines))]

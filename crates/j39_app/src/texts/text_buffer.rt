@@ -1,5 +1,5 @@
 //! A text that grows, and the one place where numbers, digits and words are written.
-ghost use Rattle.std.specs.Prelude.{◌≡◌, ℕ, ◌+◌, [], ◌∷◌, ◌++◌, OnOk};
+ghost use Rattle.std.specs.Prelude.{◌≡◌, ℕ, ◌+◌, [], ◌∷◌, ◌++◌, length, OnOk};
 ghost use Rattle.hex.specs.Hex.{encode_upper};
 ghost use Rattle.j39_app.specs.Texts.{field_text, place_field};
 
@@ -36,6 +36,19 @@ impl TextBuffer {
         ensures { result.now ≡ self.now }
     {
         self.bytes.as_slice()
+    }
+
+    pub fn len(&self) -> usize
+        ensures { result ≡ length self.now }
+    {
+        self.bytes.len()
+    }
+
+    /// Drops the text, and keeps its room for the next one.
+    pub fn clear(&mut self)
+        ensures { self.new ≡ [] }
+    {
+        self.bytes.clear();
     }
 
     pub fn bytes(&mut self, bytes: &[u8]) -> Result<(), AllocError>

@@ -7,7 +7,10 @@ use j39_id::Ident;
 use std::alloc::AllocError;
 
 #[tactic(auto, unfolding(crate::specs::FrameText::destination_text))]
-fn write_destination(text: &mut TextBuffer, ident: Ident) -> Result<(), AllocError>
+pub(in crate::texts) fn write_destination(
+    text: &mut TextBuffer,
+    ident: Ident,
+) -> Result<(), AllocError>
     ensures { OnOk result (text.new ≡ text.old ++ destination_text ident) }
 {
     match ident.destination() {

@@ -5,3 +5,6 @@ returns-in-Frame g c = rw c.in-Frame.is (rw c.as_bytes.ensures.value at c.frame_
 
 pub returns-in-Run : goal.returns-in-Run
 returns-in-Run g c = rw c.in-Run.is c.run_files.ensures
+
+pub returns-in-Read : goal.returns-in-Read
+returns-in-Read g c = rw c.in-Read.is c.read_files.ensures
