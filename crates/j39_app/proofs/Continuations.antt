@@ -1,13 +1,12 @@
 -- What stands behind a refused line makes no difference.
-use Rattle.std.proofs.Common.{◌≡◌, ℕ, ◌<◌, List, [], ◌∷◌, ◌++◌, length, map, sym, ap, ◌∙◌, arith, append_assoc, Option, Some, Ok, Err}
+use Rattle.std.proofs.Common.{◌≡◌, ℕ, ◌<◌, List, [], ◌∷◌, ◌++◌, length, map, sym, ap, ◌∙◌, arith, append_assoc, Some, Err}
 use Rattle.std.proofs.lemmas.List.{length-map, map-append}
 use Rattle.std.specs.List.{slice_split}
 use Rattle.j39_plan.specs.declared.plan.Plan.{Plan}
-use Rattle.j39_plan.specs.declared.steps.Step.{Step}
 use Rattle.j39_bus.specs.World.{World}
 use Rattle.j39_app.specs.FrameText.{is_line_feed}
 use Rattle.j39_app.specs.RunText.{EndsAt, IsWithin, IsSameForContinuations}
-use Rattle.j39_app.specs.Schedule.{Reading, line_order, readings_of}
+use Rattle.j39_app.specs.Schedule.{Reading, line_order, read_as, readings_of}
 use Rattle.j39_app.specs.declared.texts.run.halt.Halt.{Halt}
 use Rattle.j39_app.specs.declared.texts.run.halt.Halt.TheVariants.{End, Step as AtStep, Line as AtLine}
 use Rattle.j39_app.proofs.Splits.{lines-append}
@@ -21,9 +20,6 @@ cut_here (x ∷ ended) xs (z ∷ done) y ys same short =
     let rest : ended ++ xs ≡ done ++ y ∷ ys = cc in
     let (more, is) = cut_here ended xs done y ys rest (omega arith) in
     (more, cc)
-
-abbrev read_as : Option Step → Reading
-read_as order = Ok order
 
 readings-append : (plan : Plan) (front more : List ℕ) → readings_of plan (front ++ 10 ∷ more) ≡ map (line_order plan) (slice_split is_line_feed front) ++ readings_of plan more
 readings-append plan front more = ap (map (line_order plan)) (lines-append front more) ∙ map-append (line_order plan) (slice_split is_line_feed front) _
@@ -40,10 +36,10 @@ module _ (plan : Plan) (front more other : List ℕ) where
   same_end : (halt : Halt) (w : World) → IsWithin (length (slice_split is_line_feed front)) halt → EndsAt plan (readings_of plan (front ++ 10 ∷ more)) w halt → EndsAt plan (readings_of plan (front ++ 10 ∷ other)) w halt
   same_end End w inside ends = absurd inside
   same_end (AtStep place cause) w inside (orders, step, behind, is, count, ran, refused) =
-      let (rest, same) = same_until (map Ok orders) (Ok (Some step)) behind is (omega (arith, length-map orders read_as)) in
+      let (rest, same) = same_until (map read_as orders) (read_as (Some step)) behind is (omega (arith, length-map orders read_as)) in
       (orders, step, rest, same, count, ran, refused)
   same_end (AtLine place fault) w inside (orders, behind, is, count, ran) =
-      let (rest, same) = same_until (map Ok orders) (Err fault) behind is (omega (arith, length-map orders read_as)) in
+      let (rest, same) = same_until (map read_as orders) (Err fault) behind is (omega (arith, length-map orders read_as)) in
       (orders, rest, same, count, ran)
 
 pub same_for_continuations : IsSameForContinuations

@@ -1,5 +1,5 @@
 -- Where a run of a schedule ends, by what was read and what the bus did.
-use Rattle.std.proofs.Common.{◌≡◌, ℕ, zero, suc, List, [], ◌∷◌, ◌++◌, length, map, take, drop, refl, sym, ap, ◌∙◌, subst, arith, append_assoc, inr, Option, Some, None, Ok, Err}
+use Rattle.std.proofs.Common.{◌≡◌, ℕ, zero, suc, List, [], ◌∷◌, ◌++◌, length, map, take, drop, refl, sym, ap, ◌∙◌, subst, arith, append_assoc, inr, Option, Some, None, Err}
 use Rattle.std.proofs.lemmas.List.{append-nil, map-append, take_all}
 use Rattle.std.specs.List.{slice_get}
 use Rattle.j39_plan.specs.declared.plan.Plan.{Plan}
@@ -11,7 +11,7 @@ use Rattle.j39_bus.specs.Opening.{CanOpen}
 use Rattle.j39_bus.specs.Run.{RunsThrough}
 use Rattle.j39_bus.specs.World.{World, first}
 use Rattle.j39_app.specs.RunText.{EndsAt, IsRunText, end_text, verdict_of}
-use Rattle.j39_app.specs.Schedule.{Reading, readings_of}
+use Rattle.j39_app.specs.Schedule.{Reading, read_as, readings_of}
 use Rattle.j39_app.specs.Scheduling.{AreReadAs, halt_of}
 use Rattle.j39_app.specs.declared.schedule.line_fault.LineFault.{LineFault}
 use Rattle.j39_app.specs.declared.texts.run.halt.Halt.{Halt}
@@ -24,8 +24,8 @@ around (y ∷ xs) zero x is = let here : y ≡ x = cc in (ap (λ z. z ∷ xs) he
 around (y ∷ xs) (suc i) x is = let (parts, count) = around xs i x is in (ap (λ zs. y ∷ zs) parts, ap suc count)
 
 -- what was read goes on behind the orders
-read_on : (readings : List Reading) (orders : List (Option Step)) (fault : Option LineFault) → AreReadAs readings orders fault → (rest : List Reading) × (readings ≡ map Ok orders ++ rest)
-read_on readings orders None read = ([], read ∙ sym (append-nil (map Ok orders)))
+read_on : (readings : List Reading) (orders : List (Option Step)) (fault : Option LineFault) → AreReadAs readings orders fault → (rest : List Reading) × (readings ≡ map read_as orders ++ rest)
+read_on readings orders None read = ([], read ∙ sym (append-nil (map read_as orders)))
 read_on readings orders (Some fault) (more, read) = (Err fault ∷ more, read)
 
 all_led : (plan : Plan) (orders : List (Option Step)) (w : World) → bus.LeadsTo plan orders (length orders) w → RunsThrough plan first (steps_of orders) w
@@ -40,8 +40,8 @@ ends plan readings orders w (Some refused) fault read (leads, (step, here, refus
     let (parts, count) = around orders refused.0 (Some step) here in (
       take refused.0 orders,
       step,
-      map Ok (drop (suc refused.0) orders) ++ rest,
-      is ∙ ap (λ (l : List Reading). l ++ rest) (ap (map Ok) parts ∙ map-append Ok (take refused.0 orders) (Some step ∷ drop (suc refused.0) orders)) ∙ append_assoc (map Ok (take refused.0 orders)) (map Ok (Some step ∷ drop (suc refused.0) orders)) rest,
+      map read_as (drop (suc refused.0) orders) ++ rest,
+      is ∙ ap (λ (l : List Reading). l ++ rest) (ap (map read_as) parts ∙ map-append read_as (take refused.0 orders) (Some step ∷ drop (suc refused.0) orders)) ∙ append_assoc (map read_as (take refused.0 orders)) (map read_as (Some step ∷ drop (suc refused.0) orders)) rest,
       count,
       leads,
       refuses,

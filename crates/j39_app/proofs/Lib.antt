@@ -1,6 +1,7 @@
 pub mod CommandLaws
 pub mod Completing
 pub mod Digits
+pub mod Numbers
 pub mod FindingLists
 pub mod FirstLine
 pub mod Indexes

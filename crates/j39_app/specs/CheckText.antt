@@ -4,6 +4,7 @@ use Rattle.j39_plan.specs.declared.plan.Plan.{Plan}
 use Rattle.j39_plan.specs.declared.checking.finding.Finding.{Finding}
 use Rattle.j39_plan.specs.Findings.{Clean}
 use Rattle.j39_plan.specs.Found.{found}
+use Rattle.j39_bus.specs.SoundPlan.{IsSound}
 use Rattle.j39_app.specs.FindingLines.{finding_lines}
 use Rattle.j39_app.specs.PlanText.{Describes, IsRefusedText}
 use Rattle.j39_app.specs.Texts.{field}
@@ -20,9 +21,9 @@ ok_line plan =
 unfoldable pub findings_text : Plan → List Finding → List ℕ
 findings_text plan findings = finding_lines plan findings ++ (field (codes "findings ") (length findings) ++ 10 ∷ [])
 
--- what is written for a plan, with the verdict
+-- what is written for a plan, with the verdict: one in which nothing is wrong is sound
 abbrev pub IsReport : Plan → List ℕ → Verdict → Type 0
-IsReport plan text Done = Clean plan × (text ≡ ok_line plan)
+IsReport plan text Done = Clean plan × IsSound plan × (text ≡ ok_line plan)
 IsReport plan text Findings = (found plan ≢ []) × (text ≡ findings_text plan (found plan))
 IsReport plan text Refused = ⊥
 IsReport plan text Unreadable = ⊥

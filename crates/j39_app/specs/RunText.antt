@@ -1,6 +1,7 @@
 -- The text that the run command writes for a plan and a schedule.
-use Rattle.std.specs.Prelude.{◌≡◌, ◌⊎◌, ℕ, ◌+◌, ◌<◌, Bool, if◌then◌else◌, List, [], ◌∷◌, ◌++◌, length, map, codes, Option, Some, Ok, Err}
+use Rattle.std.specs.Prelude.{◌≡◌, ◌⊎◌, ℕ, ◌+◌, ◌<◌, Bool, if◌then◌else◌, List, [], ◌∷◌, ◌++◌, length, map, codes, Option, Some, Err}
 use Rattle.std.specs.List.{slice_split}
+use Rattle.hex.specs.Hex.{encode_upper}
 use Rattle.j39_id.specs.FrameLine.{canon_text}
 use Rattle.j39_plan.specs.declared.plan.Plan.{Plan}
 use Rattle.j39_plan.specs.declared.steps.Step.{Step}
@@ -14,10 +15,11 @@ use Rattle.j39_bus.specs.Ended.{View, Shows, steps_of}
 use Rattle.j39_bus.specs.Opening.{CanOpen, IsNotOpened}
 use Rattle.j39_bus.specs.Run.{refusal, RunsThrough}
 use Rattle.j39_bus.specs.Sent.{Sent}
+use Rattle.j39_bus.specs.Transfers.{Reported}
 use Rattle.j39_bus.specs.World.{World, first}
 use Rattle.j39_app.specs.FindingLines.{group_text, unit_label, units_text}
 use Rattle.j39_app.specs.FrameText.{is_line_feed}
-use Rattle.j39_app.specs.Schedule.{Reading, readings_of}
+use Rattle.j39_app.specs.Schedule.{Reading, read_as, readings_of}
 use Rattle.j39_app.specs.Texts.{field, place_field}
 use Rattle.j39_app.specs.declared.schedule.line_fault.LineFault.{LineFault}
 use Rattle.j39_app.specs.declared.schedule.line_fault.LineFault.TheVariants as lines
@@ -44,12 +46,12 @@ IsRefusedPlan plan choosers text = (error : BusError) × IsNotOpened choosers pl
 -- them, at a step that is refused, or at a line that can't be read
 abbrev pub EndsAt : Plan → List Reading → World → Halt → Type 0
 EndsAt plan readings w End =
-    (orders : List (Option Step)) × (readings ≡ map Ok orders) × RunsThrough plan first (steps_of orders) w
+    (orders : List (Option Step)) × (readings ≡ map read_as orders) × RunsThrough plan first (steps_of orders) w
 EndsAt plan readings w (AtStep place cause) =
-    (orders : List (Option Step)) × (step : Step) × (more : List Reading) × (readings ≡ map Ok orders ++ Ok (Some step) ∷ more)
+    (orders : List (Option Step)) × (step : Step) × (more : List Reading) × (readings ≡ map read_as orders ++ read_as (Some step) ∷ more)
     × (length orders ≡ place) × RunsThrough plan first (steps_of orders) w × (refusal plan w step ≡ Some cause)
 EndsAt plan readings w (AtLine place fault) =
-    (orders : List (Option Step)) × (more : List Reading) × (readings ≡ map Ok orders ++ Err fault ∷ more)
+    (orders : List (Option Step)) × (more : List Reading) × (readings ≡ map read_as orders ++ Err fault ∷ more)
     × (length orders ≡ place) × RunsThrough plan first (steps_of orders) w
 
 abbrev pub verdict_of : Halt → Verdict
@@ -69,9 +71,18 @@ sent_lines (s ∷ sent) = sent_line s ++ sent_lines sent
 
 abbrev pub step_cause : StepError → List ℕ
 step_cause steps.UnknownUnit = codes "UnknownUnit"
+step_cause steps.NoSuchFlow = codes "NoSuchFlow"
 step_cause steps.NotStarted = codes "NotStarted"
 step_cause steps.AlreadyStarted = codes "AlreadyStarted"
 step_cause steps.NothingUndelivered = codes "NothingUndelivered"
+step_cause steps.TransferOpen = codes "TransferOpen"
+step_cause steps.NotSettled = codes "NotSettled"
+step_cause steps.NoAddress = codes "NoAddress"
+step_cause steps.Busy = codes "Busy"
+step_cause steps.WrongLength = codes "WrongLength"
+step_cause steps.NothingToSend = codes "NothingToSend"
+step_cause steps.NoSession = codes "NoSession"
+step_cause steps.CannotRest = codes "CannotRest"
 step_cause steps.Memory = codes "Memory"
 
 abbrev pub line_cause : LineFault → List ℕ
@@ -79,6 +90,8 @@ line_cause lines.LongLine = codes "LongLine"
 line_cause lines.UnknownWord = codes "UnknownWord"
 line_cause lines.WordCount = codes "WordCount"
 line_cause lines.UnknownLabel = codes "UnknownLabel"
+line_cause lines.BadNumber = codes "BadNumber"
+line_cause lines.BadHex = codes "BadHex"
 
 -- the line that is refused, and why
 unfoldable pub refused_line : ℕ → List ℕ → List ℕ
@@ -105,9 +118,23 @@ unit_lines plan u (state ∷ states) = unit_line plan u state ++ unit_lines plan
 abbrev pub settled_line : Bool → List ℕ
 settled_line settled = if settled then codes "settled\n" else codes "not settled\n"
 
+-- who received a message of whom, and by which flow
+unfoldable pub report_route : Plan → Reported → List ℕ
+report_route plan r =
+    codes "report " ++ (unit_label plan r.receiver ++ (codes " from " ++ (unit_label plan r.sender ++ place_field (codes " flow ") r.flow)))
+
+unfoldable pub report_line : Plan → Reported → List ℕ
+report_line plan r = report_route plan r ++ (codes " bytes " ++ (encode_upper r.bytes ++ 10 ∷ []))
+
+-- a line for each message that was received whole, in order
+unfoldable pub report_lines : Plan → List Reported → List ℕ
+report_lines plan [] = []
+report_lines plan (r ∷ reports) = report_line plan r ++ report_lines plan reports
+
 unfoldable pub end_text : Plan → View → Halt → List ℕ
 end_text plan view halt =
-    sent_lines view.frames ++ (halt_lines halt ++ (unit_lines plan 0 view.units ++ settled_line view.settled))
+    sent_lines view.frames ++ (halt_lines halt ++ (unit_lines plan 0 view.units
+    ++ (settled_line view.settled ++ report_lines plan view.reports)))
 
 -- ---- the text
 

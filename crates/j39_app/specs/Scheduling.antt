@@ -1,11 +1,13 @@
 -- What the reader of schedules gives.
-use Rattle.std.specs.Prelude.{◌≡◌, ℕ, List, [], ◌∷◌, ◌++◌, map, Option, Some, None, Ok, Err}
+use Rattle.std.specs.Prelude.{◌≡◌, ⊤, ℕ, List, [], ◌∷◌, ◌++◌, map, Option, Some, None, Result, Ok, Err}
 use Rattle.j39_plan.specs.declared.steps.Step.{Step}
 use Rattle.j39_bus.specs.declared.step_error.StepError.{StepError}
-use Rattle.j39_app.specs.Schedule.{Reading}
+use Rattle.j39_app.specs.Schedule.{Reading, read_as}
 use Rattle.j39_app.specs.declared.texts.run.halt.Halt.{Halt}
 use Rattle.j39_app.specs.declared.texts.run.halt.Halt.TheVariants.{End, Step as AtStep, Line as AtLine}
 use Rattle.j39_app.specs.declared.schedule.line_fault.LineFault.{LineFault}
+use Rattle.j39_app.specs.declared.schedule.unread.Unread.{Unread}
+use Rattle.j39_app.specs.declared.schedule.unread.Unread.TheVariants as unread
 use Rattle.j39_app.specs.declared.schedule.values.Values.{Values}
 use Rattle.j39_app.specs.declared.schedule.values.Values.TheVariants as values
 
@@ -16,10 +18,16 @@ AreValues words (values.One a) = words ≡ a.now ∷ []
 AreValues words (values.Two a b) = words ≡ a.now ∷ b.now ∷ []
 AreValues words values.More = (a b c : List ℕ) × (more : List (List ℕ)) × (words ≡ a ∷ b ∷ c ∷ more)
 
+-- a line is read so; where memory was refused, nothing is said of it
+abbrev pub IsReadAs : Reading → Result (Option Step) Unread → Type 0
+IsReadAs reading (Ok order) = reading ≡ read_as order
+IsReadAs reading (Err (unread.Fault fault)) = reading ≡ Err fault
+IsReadAs reading (Err unread.Memory) = ⊤
+
 -- the lines are read as these orders, up to the first that can't be read
 abbrev pub AreReadAs : List Reading → List (Option Step) → Option LineFault → Type 0
-AreReadAs readings orders None = readings ≡ map Ok orders
-AreReadAs readings orders (Some fault) = (more : List Reading) × (readings ≡ map Ok orders ++ Err fault ∷ more)
+AreReadAs readings orders None = readings ≡ map read_as orders
+AreReadAs readings orders (Some fault) = (more : List Reading) × (readings ≡ map read_as orders ++ Err fault ∷ more)
 
 -- where the run of a schedule ends of which this step was refused, or else this line
 abbrev pub halt_of : Option (ℕ × StepError) → ℕ → Option LineFault → Halt

@@ -3,10 +3,12 @@ ghost use Rattle.std.specs.Prelude.{IfOk};
 ghost use Rattle.j39_app.specs.Schedule.{readings_of};
 ghost use Rattle.j39_app.specs.Scheduling.{AreReadAs};
 
+mod beginning;
 mod line_fault;
 mod lines;
 mod order_word;
 mod reading;
+mod unread;
 mod values;
 mod words;
 
@@ -15,6 +17,7 @@ pub use line_fault::LineFault;
 use lines::next_line;
 use reading::read_line;
 use std::alloc::{AllocError, Global};
+use unread::Unread;
 
 /// What a schedule orders, line after line, up to the first line that can't be read.
 #[derive(Drop)]
@@ -30,14 +33,15 @@ pub(crate) fn read_schedule(alloc: Global, plan: &Plan, text: &[u8]) -> Result<S
     let mut orders = Vec::new(alloc);
     let mut rest = text;
     while let Some((line, behind)) = next_line(rest) {
-        match read_line(plan, line) {
+        match read_line(alloc, plan, line) {
             Ok(order) => orders.push(order)?,
-            Err(fault) => {
+            Err(Unread::Fault(fault)) => {
                 return Ok(Schedule {
                     orders,
                     fault: Some(fault),
                 });
             }
+            Err(Unread::Memory) => return Err(AllocError),
         }
         rest = behind;
     }

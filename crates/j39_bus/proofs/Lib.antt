@@ -3,6 +3,7 @@ pub mod Kept
 pub mod Pool
 pub mod Runs
 pub mod Steps
+pub mod Unmoved
 pub mod Telling
 pub mod Turns
 pub mod Between
@@ -14,8 +15,39 @@ pub mod WellFormed
 pub mod SwitchedOn
 pub mod Delivered
 pub mod Refused
+pub mod Steady
+pub mod Tables
+pub mod Queues
+pub mod Lost
+pub mod Receivers
+pub mod SentMessages
+pub mod Sendings
+pub mod Cleared
+pub mod HeardMessages
+pub mod AlongMessages
+pub mod Emitting
+pub mod ReceiverTurns
+pub mod Rested
+pub mod Begun
+pub mod Idle
+pub mod BeginRefused
+pub mod Answered
 pub mod Standing
 pub mod Running
 pub mod Opened
+mod Gathering
+mod Subsequences
+mod Hearings
+mod Exchanges
+mod ExchangeSteps
+mod ExchangeTaken
+mod Places
+mod Orderly
+mod Reporting
+mod KeptWorlds
+mod SenderSteps
+mod ReceiverSteps
+mod SoundRuns
+pub mod Certified
 pub mod Simulated
 pub mod GreatestFree

@@ -1,5 +1,5 @@
 -- A new bus stands for the first world.
-use Rattle.std.proofs.Common.{◌≡◌, ℕ, zero, suc, ◌<◌, ◌≤◌, List, [], ◌∷◌, length, map, get_or, refl, sym, ap, ◌∙◌, subst, arith, Some}
+use Rattle.std.proofs.Common.{◌≡◌, ℕ, zero, suc, ◌<◌, ◌≤◌, List, [], ◌∷◌, length, map, get_or, replicate, refl, sym, ap, ◌∙◌, subst, arith, Some, None}
 use Rattle.std.proofs.lemmas.Bool.{true≢false}
 use Rattle.std.specs.List.{list_all, slice_get}
 use Rattle.std.specs.Option.{is_some}
@@ -13,7 +13,13 @@ use Rattle.j39_bus.specs.declared.letter.Letter.{Letter}
 use Rattle.j39_bus.specs.declared.network.Network.{Network}
 use Rattle.j39_bus.specs.Claimants.{claimant_of, unit_at}
 use Rattle.j39_bus.specs.Letters.{unstarted, station_at, between, is_inside}
-use Rattle.j39_bus.specs.Network.{claimants, state_of, world_of, IsNetwork, IsWellFormed}
+use Rattle.j39_bus.specs.declared.traffic.Traffic as kept
+use Rattle.j39_tp.specs.Gathered.{Gathers}
+use Rattle.j39_bus.specs.BusState.{outgoing_of, pair_in, receiver_of, receiving_or}
+use Rattle.j39_bus.specs.Flows.{flows_of, windows_of}
+use Rattle.j39_bus.specs.Traffic.{IsTraffic, lists_of, reported_of, route_of, values_of}
+use Rattle.j39_bus.specs.Transfers.{settled}
+use Rattle.j39_bus.specs.Network.{claimants, state_of, transfers_of, world_of, Histories, HasGathered, IsNetwork, IsWellFormed}
 use Rattle.j39_bus.specs.Sent.{sent_of}
 use Rattle.j39_bus.specs.Stands.{Stands}
 use Rattle.j39_bus.specs.World.{first}
@@ -43,13 +49,48 @@ well_opened units few cs ls cs_is ls_is = record {
   notes = λ v n h. absurd (true≢false (sym h ∙ ap is_some (ap (λ (s : Station). get s.notes n) (ap (λ (l : List Claiming). station_at l v) cs_is ∙ station_unstarted units v) ∙ get-empty nat_cmp n)));
 }
 
-pub stands_first : (plan : Plan) (net : Network) → IsNetwork net → net.claimers.items ≡ map unstarted plan.units.items → net.letters.items ≡ [] → net.frames.items ≡ [] → Stands (state_of net) plan first
-stands_first plan net well cs_is ls_is fs_is = subst (Stands (state_of net) plan) at_first (stands net well plan (ap claimants cs_is ∙ claimants-unstarted plan.units.items))
+-- no unit sends anything
+none_sent : (n u : ℕ) → get_or (values_of (replicate n None)) u None ≡ None
+none_sent zero u = refl
+none_sent (suc n) zero = refl
+none_sent (suc n) (suc u) = none_sent n u
+
+pub record IsFirstTraffic (plan : Plan) (t : kept.Traffic) : Type 0 where
+  pub flows : map route_of t.routes.items ≡ flows_of plan
+  pub windows : t.windows.items ≡ windows_of plan
+  pub transfers : t.transfers.items ≡ replicate (length plan.units.items) None
+  pub wire : (u v : ℕ) → pair_in (lists_of t.wire) u v ≡ []
+  pub reports : t.reports.items ≡ []
+
+abbrev no_histories : Histories
+no_histories = record { taken = λ v u. []; begun = λ u v. [] }
+
+pub network_first : (plan : Plan) (net : Network) → net.claimers.items ≡ map unstarted plan.units.items → net.letters.items ≡ [] → IsTraffic (length plan.units.items) net.traffic.routes.items net.traffic.windows.items net.traffic.transfers.items (lists_of net.traffic.wire) → IsNetwork net
+network_first plan net cs_is ls_is fits = record {
+  claims = well_opened plan.units.items plan.unit_count net.claimers.items net.letters.items cs_is ls_is;
+  traffic = subst (λ n. IsTraffic n net.traffic.routes.items net.traffic.windows.items net.traffic.transfers.items (lists_of net.traffic.wire)) (sym (length_opened plan.units.items net.claimers.items cs_is)) fits;
+}
+
+pub stands_first : (plan : Plan) (net : Network) → IsNetwork net → net.claimers.items ≡ map unstarted plan.units.items → net.letters.items ≡ [] → net.frames.items ≡ [] → IsFirstTraffic plan net.traffic → Stands (state_of net) plan first
+stands_first plan net well cs_is ls_is fs_is t = subst (Stands (state_of net) plan) at_first
+    (stands net well plan (record { units = ap claimants cs_is ∙ claimants-unstarted plan.units.items; flows = t.flows; windows = t.windows }) no_histories gathered)
   where
-    at_first : world_of net ≡ first
+    sent : (u : ℕ) → get_or (transfers_of net) u None ≡ None
+    sent u = ap (λ ts. get_or (values_of ts) u None) t.transfers ∙ none_sent (length plan.units.items) u
+
+    gathered : HasGathered no_histories net
+    gathered v u = subst (λ o. Gathers [] (receiving_or (receiver_of o v)).progress (receiving_or (receiver_of o v)).bytes) (sym (sent u)) tt
+
+    at_first : world_of no_histories net ≡ first
     at_first = λ i. record {
       stations = λ u. (ap (λ (l : List Claiming). station_at l u) cs_is ∙ station_unstarted plan.units.items u) i;
       claims = λ u v. between (ls_is i) u v;
+      sessions = λ u. outgoing_of (sent u i);
+      wire = λ u v. t.wire u v i;
+      receivers = λ v u. settled (receiving_or (receiver_of (sent u i) v)).progress;
+      taken = λ v u. [];
+      begun = λ u v. [];
+      reports = map reported_of (t.reports i);
       frames = map sent_of (fs_is i);
     }
 

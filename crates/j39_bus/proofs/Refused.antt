@@ -9,6 +9,7 @@ use Rattle.j39_bus.specs.declared.letter.Letter.{Letter}
 use Rattle.j39_bus.specs.Claimants.{units_of}
 use Rattle.j39_bus.specs.Sent.{Sent}
 use Rattle.j39_bus.specs.Letters.{first_between, station_at, nobody}
+use Rattle.j39_bus.specs.World.{World}
 use Rattle.j39_bus.specs.Run.{refusal}
 use Rattle.j39_bus.specs.Network.{claimants}
 use Rattle.j39_bus.proofs.Between.{nothing_between}
@@ -22,9 +23,9 @@ pub is_on : (cs : List Claiming) (u : ℕ) (c : Claiming) → u < length cs → 
 is_on cs u c inside at on = ap (λ (x : Claiming). x.station.on) (sym (at ∙ any_default cs u c nobody inside)) ∙ on
 
 -- two units that are on, with nothing undelivered from the first to the second
-pub nothing_to_give : (plan : Plan) (cs : List Claiming) (ls : List Letter) (fs : List Sent) (u v : ℕ) → claimants cs ≡ units_of plan → u < length cs → v < length cs
-    → (station_at cs u).on ≡ true → (station_at cs v).on ≡ true → length ls ≤ first_between u v ls → refusal plan (world cs ls fs) (Give u v) ≡ Some NothingUndelivered
-nothing_to_give plan cs ls fs u v planned in_u in_v on_u on_v past =
+pub nothing_to_give : (plan : Plan) (b : World) (cs : List Claiming) (ls : List Letter) (fs : List Sent) (u v : ℕ) → claimants cs ≡ units_of plan → u < length cs → v < length cs
+    → (station_at cs u).on ≡ true → (station_at cs v).on ≡ true → length ls ≤ first_between u v ls → refusal plan (world b cs ls fs) (Give u v) ≡ Some NothingUndelivered
+nothing_to_give plan b cs ls fs u v planned in_u in_v on_u on_v past =
     let below_u : u < length (units_of plan) = omega (arith, length-claimants cs, ap length planned) in
     let below_v : v < length (units_of plan) = omega (arith, length-claimants cs, ap length planned) in
     rw (lt-ltb u (length (units_of plan)) below_u, lt-ltb v (length (units_of plan)) below_v, on_u, on_v, nothing_between u v ls past) refl

@@ -5,23 +5,25 @@ use Rattle.std.specs.Bool.{MatchBool}
 use Rattle.std.specs.FinMap.{get-empty}
 use Rattle.std.specs.Option.{is_some}
 use Rattle.std.specs.Ordering.{nat_cmp}
-use Rattle.std.specs.List.{AllByRecursion}
+use Rattle.std.specs.List.{AllByRecursion, slice_get}
 use Rattle.j39_claim.specs.declared.item.Item.{Item}
 use Rattle.j39_claim.specs.ClaimRule.{Claimant}
 use Rattle.j39_plan.specs.declared.plan.Plan.{Plan}
 use Rattle.j39_plan.specs.declared.steps.Step.{Step}
-use Rattle.j39_plan.specs.declared.steps.Step.TheVariants.{Up, Give, Ask}
+use Rattle.j39_plan.specs.declared.steps.Step.TheVariants.{Up, Give, Ask, Begin, Emit, Take, Lose, LateSender, LateReceiver, Rest}
 use Rattle.j39_bus.specs.declared.step_error.StepError.{StepError}
 use Rattle.j39_bus.specs.Claimants.{units_of}
 use Rattle.j39_bus.proofs.CleanUnits.{IsClean}
+use Rattle.j39_bus.specs.Flows.{flows_of, windows_of}
 use Rattle.j39_bus.specs.World.{World, first}
 use Rattle.j39_bus.specs.ClaimSteps.{GivenFrom}
-use Rattle.j39_bus.specs.Run.{refusal, unless, Leads, Follows, Run, RunsThrough}
+use Rattle.j39_bus.specs.Run.{count_of, refusal, unless, Leads, Follows, Run, RunsThrough}
 use Rattle.j39_bus.specs.Sound.{AreAddressesSound, AreAddressesDifferent, IsQuiet}
 use Rattle.j39_bus.specs.Claimants.{unit_at}
 use Rattle.j39_bus.proofs.Kept.{Kept, IsSaid}
 use Rattle.j39_bus.proofs.Turns.{turn}
 use Rattle.j39_bus.proofs.Steps.{switched_on_keeps, asked_keeps, given_keeps}
+use Rattle.j39_bus.proofs.Unmoved.{Unmoved, begun_unmoved, emitted_unmoved, taken_unmoved, lost_unmoved, late_sender_unmoved, late_receiver_unmoved, rested_unmoved}
 
 -- of a world
 abbrev KeptIn : List Claimant → World → Type 0
@@ -51,6 +53,11 @@ given_from units clean w kept u v in_u in_v on (item ∷ rest) is new leads =
     let t = turn units clean u v in_u in_v other (w.stations v) (kept.holds v on) (kept.notes v) item said.0 says s answers in
     subst (KeptIn units) (sym e) (given_keeps units w.stations w.claims kept u v other on item rest is says s t)
 
+-- a step that changes neither stations nor claims keeps it
+unmoved_keeps : (units : List Claimant) (w new : World) → KeptIn units w → Unmoved w new → KeptIn units new
+unmoved_keeps units w new kept unmoved =
+    subst (λ stations. Kept units stations new.claims) (sym unmoved.stations) (subst (Kept units w.stations) (sym unmoved.claims) kept)
+
 leads_keeps : (plan : Plan) → IsClean (units_of plan) → (w : World) → KeptIn (units_of plan) w → (step : Step) → is_some (refusal plan w step) ≡ false → (new : World) → Leads plan w step new → KeptIn (units_of plan) new
 leads_keeps plan clean w kept (Up u) allowed new e = subst (KeptIn (units_of plan)) (sym e) (switched_on_keeps (units_of plan) w.stations w.claims kept u)
 leads_keeps plan clean w kept (Give u v) allowed new leads =
@@ -63,6 +70,16 @@ leads_keeps plan clean w kept (Ask u) allowed new e =
     let known = met _ _ _ allowed in
     let started = met _ _ _ known.1 in
     subst (KeptIn (units_of plan)) (sym e) (asked_keeps (units_of plan) w.stations w.claims kept u started.0)
+leads_keeps plan clean w kept (Begin f bytes) allowed new leads =
+    unmoved_keeps (units_of plan) w new kept (begun_unmoved (count_of plan) w f (slice_get (flows_of plan) f) bytes.items new leads)
+leads_keeps plan clean w kept (Emit u) allowed new leads = unmoved_keeps (units_of plan) w new kept (emitted_unmoved w u new leads)
+leads_keeps plan clean w kept (Take u v) allowed new leads =
+    unmoved_keeps (units_of plan) w new kept (taken_unmoved (windows_of plan) w u v (w.wire u v) new leads)
+leads_keeps plan clean w kept (Lose u v) allowed new leads = unmoved_keeps (units_of plan) w new kept (lost_unmoved w u v (w.wire u v) new leads)
+leads_keeps plan clean w kept (LateSender u) allowed new leads = unmoved_keeps (units_of plan) w new kept (late_sender_unmoved w u new leads)
+leads_keeps plan clean w kept (LateReceiver u v) allowed new leads =
+    unmoved_keeps (units_of plan) w new kept (late_receiver_unmoved (windows_of plan) w u v new leads)
+leads_keeps plan clean w kept (Rest u) allowed new leads = unmoved_keeps (units_of plan) w new kept (rested_unmoved w u new leads)
 
 follows_keeps : (plan : Plan) → IsClean (units_of plan) → (w : World) → KeptIn (units_of plan) w → (step : Step) (new : World) → Follows plan w step new → KeptIn (units_of plan) new
 follows_keeps plan clean w kept step new follows =

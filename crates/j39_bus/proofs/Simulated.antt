@@ -67,11 +67,12 @@ refused_here old mid new orders place d e inside ran same refused = record {
 
 -- what is seen of a bus is seen of each world that it stands for
 pub shown : (b : BusState) (view : View) → view.frames ≡ b.frames → view.units ≡ map (λ c. unit_state c.station) b.units → (IsTrue view.settled ↔ IsQuiet (undelivered b))
-    → (plan : Plan) (w : World) → Stands b plan w → Shows plan w view
-shown b view frames units settled plan w s = record {
+    → view.reports ≡ b.traffic.reports → (plan : Plan) (w : World) → Stands b plan w → Shows plan w view
+shown b view frames units settled reports plan w s = record {
   frames = frames ∙ sym s.frames;
   units = units ∙ fill_by_all (λ u. unit_state (w.stations u)) (map (λ c. unit_state c.station) b.units) (length plan.units.items) (unit_state nobody.station) count at;
   settled = subst (λ c. IsTrue view.settled ↔ IsQuiet c) (sym s.claims) settled;
+  reports = reports ∙ sym s.reports;
 }
   where
     count : length (map (λ c. unit_state c.station) b.units) ≡ length plan.units.items

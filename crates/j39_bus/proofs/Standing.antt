@@ -1,5 +1,5 @@
 -- What a bus stands for, by its network.
-use Rattle.std.proofs.Common.{◌≡◌, ◌≢◌, ℕ, true, inl, inr, List, [], ◌∷◌, ◌++◌, length, map, get_or, refl, sym, ap, ◌∙◌, subst, arith, Some, None, Result, Ok, Err, OnOk, IfErr}
+use Rattle.std.proofs.Common.{◌≡◌, ◌≢◌, ℕ, true, inl, inr, List, [], ◌∷◌, ◌++◌, length, map, get_or, refl, sym, ap, ◌∙◌, subst, arith, Some, None, Result, Ok, Err, OnOk, OnErr, IfErr}
 use Rattle.std.proofs.lemmas.Bool.{cases_lt}
 use Rattle.std.proofs.lemmas.List.{get_or_past}
 use Rattle.std.proofs.lemmas.List.FromFn.{get_or-map-range_with_len, length-map-range_with_len}
@@ -16,7 +16,9 @@ use Rattle.j39_bus.specs.Run.{refusal, Leads, RunsThrough}
 use Rattle.j39_bus.specs.Letters.{between, is_inside}
 use Rattle.j39_bus.specs.BusState.{BusState, table_of, undelivered}
 use Rattle.j39_bus.specs.Stands.{Stands}
-use Rattle.j39_bus.specs.Network.{state_of, world_of, claimants, IsNetwork, IsBus, IsOf, StepsTo}
+use Rattle.j39_bus.specs.Network.{state_of, world_of, claimants, Histories, HasGathered, IsNetwork, IsBus, IsOf, IsAllowed, IsRefused, IsSameNetwork, KeepsPlan, LeadsTo}
+use Rattle.j39_bus.specs.Sent.{sent_of}
+use Rattle.j39_bus.specs.Traffic.{route_of, reported_of, values_of}
 use Rattle.j39_bus.proofs.Between.{none_outside}
 use Rattle.j39_bus.proofs.Refused.{length-claimants}
 
@@ -38,61 +40,107 @@ tabled n ls inside u v =
     ]
 
 pub undelivered_is : (net : Network) → IsNetwork net → undelivered (state_of net) ≡ between net.letters.items
-undelivered_is net well = λ i u v. tabled (length net.claimers.items) net.letters.items well.inside u v i
+undelivered_is net well = λ i u v. tabled (length net.claimers.items) net.letters.items well.claims.inside u v i
 
--- a bus stands for the world of its network, and for no other
-pub stands : (net : Network) → IsNetwork net → (plan : Plan) → IsOf plan net → Stands (state_of net) plan (world_of net)
-stands net well plan planned = record {
-  planned = planned;
+-- what contracts see of a network
+pub state_is : (old new : Network) → IsSameNetwork old new → state_of new ≡ state_of old
+state_is old new same = λ i. record {
+  units = same.claimers i;
+  claims = table_of (length (same.claimers i)) (between (same.letters i));
+  traffic = record {
+    flows = map route_of (same.routes i);
+    windows = same.windows i;
+    transfers = values_of (same.transfers i);
+    wire = same.wire i;
+    reports = map reported_of (same.reports i);
+  };
+  frames = map sent_of (same.frames i);
+}
+
+-- a bus stands for each world of its network whose histories are gathered
+pub stands : (net : Network) → IsNetwork net → (plan : Plan) → IsOf plan net → (h : Histories) → HasGathered h net → Stands (state_of net) plan (world_of h net)
+stands net well plan planned h gathered = record {
+  planned = planned.units;
   stations = refl;
   claims = sym (undelivered_is net well);
+  flows = planned.flows;
+  windows = planned.windows;
+  sessions = refl;
+  wire = refl;
+  receivers = refl;
+  gathered = gathered;
+  reports = refl;
   frames = refl;
 }
 
-pub world_is : (net : Network) → IsNetwork net → (plan : Plan) (w : World) → Stands (state_of net) plan w → w ≡ world_of net
+abbrev pub histories : World → Histories
+histories w = record { taken = w.taken; begun = w.begun }
+
+-- and for no other
+pub world_is : (net : Network) → IsNetwork net → (plan : Plan) (w : World) → Stands (state_of net) plan w → w ≡ world_of (histories w) net
 world_is net well plan w s = λ i. record {
   stations = s.stations i;
   claims = (s.claims ∙ undelivered_is net well) i;
+  sessions = s.sessions i;
+  wire = s.wire i;
+  receivers = s.receivers i;
+  taken = w.taken;
+  begun = w.begun;
+  reports = s.reports i;
   frames = s.frames i;
 }
 
+pub plan_is : (net : Network) (plan : Plan) (w : World) → Stands (state_of net) plan w → IsOf plan net
+plan_is net plan w s = record { units = s.planned; flows = s.flows; windows = s.windows }
+
+pub plan_kept : (old new : Network) (plan : Plan) → KeepsPlan old new → IsOf plan old → IsOf plan new
+plan_kept old new plan keeps of = record { units = keeps.claimants ∙ of.units; flows = ap (map route_of) keeps.routes ∙ of.flows; windows = keeps.windows ∙ of.windows }
+
 module _ {X : Type 0} (old new : Network) (b : BusState) (is_state : state_of old ≡ b) (given step : Step) (same : given ≡ step) (well : IsNetwork old) (result : Result X StepError) where
   -- what a step of the network does, the bus does
-  pub step_done : IsNetwork new → OnOk result ((plan : Plan) → IsOf plan old → StepsTo plan old step new)
+  pub step_done : IsNetwork new → KeepsPlan old new → OnOk result ((plan : Plan) → IsOf plan old → IsAllowed plan old step) → OnOk result ((plan : Plan) → IsOf plan old → LeadsTo plan old step new)
       → OnOk result ((plan : Plan) (w : World) → Stands b plan w → (refusal plan w given ≡ None) × ((after : World) × Leads plan w given after × Stands (state_of new) plan after))
-  step_done well_new h = elim result as (λ (r : Result X StepError). OnOk r ((plan : Plan) → IsOf plan old → StepsTo plan old step new)
+  step_done well_new keeps may h = elim result as (λ (r : Result X StepError). OnOk r ((plan : Plan) → IsOf plan old → IsAllowed plan old step) → OnOk r ((plan : Plan) → IsOf plan old → LeadsTo plan old step new)
       → OnOk r ((plan : Plan) (w : World) → Stands b plan w → (refusal plan w given ≡ None) × ((after : World) × Leads plan w given after × Stands (state_of new) plan after))) [
-        | Ok x ↦ λ done plan w s.
+        | Ok x ↦ λ allowed done plan w s.
             let s' : Stands (state_of old) plan w = subst (λ (v : BusState). Stands v plan w) (sym is_state) s in
-            let is : w ≡ world_of old = world_is old well plan w s' in
-            let t : StepsTo plan old step new = done plan s'.planned in (
-              (λ i. refusal plan (is i) (same i)) ∙ t.allowed,
-              (world_of new, subst (λ (v : World). Leads plan v given (world_of new)) (sym is) (subst (λ (k : Step). Leads plan (world_of old) k (world_of new)) (sym same) t.leads), stands new well_new plan t.planned),
+            let is : w ≡ world_of (histories w) old = world_is old well plan w s' in
+            let of : IsOf plan old = plan_is old plan w s' in
+            let (after, leads, gathered) = done plan of (histories w) s'.gathered in (
+              (λ i. refusal plan (is i) (same i)) ∙ allowed plan of (histories w),
+              (world_of after new, subst (λ (v : World). Leads plan v given (world_of after new)) (sym is) (subst (λ (k : Step). Leads plan (world_of (histories w) old) k (world_of after new)) (sym same) leads), stands new well_new plan (plan_kept old new plan keeps of) after gathered),
             )
-        | Err e ↦ λ _. tt
-      ] h
+        | Err e ↦ λ _ _. tt
+      ] may h
 
   -- and what it refuses, the bus refuses
-  pub step_refused : IfErr result (λ e. e ≢ Memory → (plan : Plan) → IsOf plan old → refusal plan (world_of old) step ≡ Some e)
+  pub step_refused : IfErr result (λ e. e ≢ Memory → (plan : Plan) → IsOf plan old → IsRefused plan old step e)
       → IfErr result (λ e. e ≢ Memory → (plan : Plan) (w : World) → Stands b plan w → refusal plan w given ≡ Some e)
-  step_refused h = elim result as (λ (r : Result X StepError). IfErr r (λ e. e ≢ Memory → (plan : Plan) → IsOf plan old → refusal plan (world_of old) step ≡ Some e)
+  step_refused h = elim result as (λ (r : Result X StepError). IfErr r (λ e. e ≢ Memory → (plan : Plan) → IsOf plan old → IsRefused plan old step e)
       → IfErr r (λ e. e ≢ Memory → (plan : Plan) (w : World) → Stands b plan w → refusal plan w given ≡ Some e)) [
         | Ok x ↦ λ _. tt
         | Err e ↦ λ refuses other plan w s.
             let s' : Stands (state_of old) plan w = subst (λ (v : BusState). Stands v plan w) (sym is_state) s in
-            let is : w ≡ world_of old = world_is old well plan w s' in
-            (λ i. refusal plan (is i) (same i)) ∙ refuses other plan s'.planned
+            let is : w ≡ world_of (histories w) old = world_is old well plan w s' in
+            (λ i. refusal plan (is i) (same i)) ∙ refuses other plan (plan_is old plan w s') (histories w)
       ] h
 
+  -- a refused step leaves the bus
+  pub step_same : OnErr result (IsSameNetwork old new) → OnErr result (state_of new ≡ b)
+  step_same h = elim result as (λ (r : Result X StepError). OnErr r (IsSameNetwork old new) → OnErr r (state_of new ≡ b)) [
+    | Ok x ↦ λ _. tt
+    | Err e ↦ λ kept. state_is old new kept ∙ is_state
+  ] h
+
 -- a bus keeps its choosers and its units
-pub still_bus : (old new : Network) (count : ℕ) → IsBus old count → IsNetwork new → claimants new.claimers.items ≡ claimants old.claimers.items → IsBus new count
-still_bus old new count bus well same = record {
+pub still_bus : (old new : Network) (count : ℕ) → IsBus old count → IsNetwork new → KeepsPlan old new → IsBus new count
+still_bus old new count bus well keeps = record {
   network = well;
-  choosers = omega (arith, bus.choosers, ap length same, length-claimants old.claimers.items, length-claimants new.claimers.items);
+  choosers = omega (arith, bus.choosers, ap length keeps.claimants, length-claimants old.claimers.items, length-claimants new.claimers.items);
 }
 
-pub still_units : (old new : Network) (b : BusState) → state_of old ≡ b → claimants new.claimers.items ≡ claimants old.claimers.items → length new.claimers.items ≡ length b.units
-still_units old new b is same = omega (arith, ap length same, length-claimants old.claimers.items, length-claimants new.claimers.items, ap (λ (v : BusState). length v.units) is)
+pub still_units : (old new : Network) (b : BusState) → state_of old ≡ b → KeepsPlan old new → length new.claimers.items ≡ length b.units
+still_units old new b is keeps = omega (arith, ap length keeps.claimants, length-claimants old.claimers.items, length-claimants new.claimers.items, ap (λ (v : BusState). length v.units) is)
 
 -- one more step of a run
 pub runs_more : (plan : Plan) (w : World) (done : List Step) (mid : World) (step : Step) (after : World) → RunsThrough plan w done mid → refusal plan mid step ≡ None → Leads plan mid step after → RunsThrough plan w (done ++ step ∷ []) after

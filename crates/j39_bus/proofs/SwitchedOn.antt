@@ -8,6 +8,7 @@ use Rattle.j39_claim.specs.Claiming.{Claiming}
 use Rattle.j39_bus.specs.declared.letter.Letter.{Letter}
 use Rattle.j39_bus.specs.Claimants.{unit_at}
 use Rattle.j39_bus.specs.Sent.{Sent}
+use Rattle.j39_bus.specs.Transfers.{Wire}
 use Rattle.j39_bus.specs.World.{World, changed}
 use Rattle.j39_bus.specs.ClaimSteps.{tell, switched_on, without_lists_to}
 use Rattle.j39_bus.specs.Letters.{between, without_letters_to, nobody, station_at}
@@ -24,13 +25,13 @@ module _ (cs : List Claiming) (u : ℕ) (inside : u < length cs) (old new : Clai
   pub on_claimant : new.claimant ≡ (get_or cs u nobody).claimant
   on_claimant = same_claimant
 
-  pub switched : (ls left : List Letter) (fs : List Sent) → left ≡ without_letters_to u ls → (say : Say) → say ≡ Claim old.claimant.preferred
-      → (after : World) → after ≡ tell (claimants (set cs u new)) (world (set cs u new) left fs) u (Told say ∷ [])
-      → after ≡ switched_on (claimants cs) (world cs ls fs) u
-  switched ls left fs left_is say said after after_is =
+  pub switched : (b : World) (ls left : List Letter) (fs : List Sent) → left ≡ without_letters_to u ls → (wire : Wire) → wire ≡ without_lists_to u b.wire → (say : Say) → say ≡ Claim old.claimant.preferred
+      → (after : World) → after ≡ tell (claimants (set cs u new)) (record (world b (set cs u new) left fs) { wire = wire }) u (Told say ∷ [])
+      → after ≡ switched_on (claimants cs) (world b cs ls fs) u
+  switched b ls left fs left_is wire wire_is say said after after_is =
       let planned : old.claimant ≡ unit_at (claimants cs) u = ap (λ (c : Claiming). c.claimant) (at ∙ any_default cs u old nobody inside) ∙ sym (unit_at-claimants cs u) in
       let station : new.station ≡ started (unit_at (claimants cs) u) = ap (λ (c : Claiming). c.station) starts ∙ ap started planned in
       let claims : say ≡ Claim (unit_at (claimants cs) u).preferred = said ∙ ap (λ (c : Claimant). Claim c.preferred) planned in
-      let before : world (set cs u new) left fs ≡ record { stations = changed (station_at cs) u (started (unit_at (claimants cs) u)); claims = without_lists_to u (between ls); frames = fs } =
-      (λ i. world (set cs u new) (left_is i) fs) ∙ world_on cs ls fs u new inside ∙ (λ i. record { stations = changed (station_at cs) u (station i); claims = without_lists_to u (between ls); frames = fs }) in
-      after_is ∙ (λ i. tell (claimants_on i) (before i) u (Told (claims i) ∷ []))
+      let before : world b (set cs u new) left fs ≡ record b { stations = changed (station_at cs) u (started (unit_at (claimants cs) u)); claims = without_lists_to u (between ls); frames = fs } =
+      (λ i. world b (set cs u new) (left_is i) fs) ∙ world_on b cs ls fs u new inside ∙ (λ i. record b { stations = changed (station_at cs) u (station i); claims = without_lists_to u (between ls); frames = fs }) in
+      after_is ∙ (λ i. tell (claimants_on i) (record (before i) { wire = wire_is i }) u (Told (claims i) ∷ []))

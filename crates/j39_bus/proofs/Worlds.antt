@@ -24,15 +24,15 @@ unit_at-claimants [] u = refl
 unit_at-claimants (c ∷ cs) zero = refl
 unit_at-claimants (c ∷ cs) (suc u) = unit_at-claimants cs u
 
--- the world of these units, letters and frames
-abbrev pub world : List Claiming → List Letter → List Sent → World
-world cs ls fs = record { stations = station_at cs; claims = between ls; frames = fs }
+-- a world with these units, letters and frames
+abbrev pub world : World → List Claiming → List Letter → List Sent → World
+world b cs ls fs = record b { stations = station_at cs; claims = between ls; frames = fs }
 
 -- after a unit has told the others
-pub world_told : (cs : List Claiming) (ls : List Letter) (fs : List Sent) (u : ℕ) (item : Item) (name : ℕ) (held : Option ℕ)
+pub world_told : (b : World) (cs : List Claiming) (ls : List Letter) (fs : List Sent) (u : ℕ) (item : Item) (name : ℕ) (held : Option ℕ)
     → name ≡ (get_or cs u nobody).claimant.name → held ≡ (station_at cs u).address
-    → world cs (ls ++ letters_to_others 0 cs u item) (fs ++ frame_of name held item ∷ []) ≡ tell (claimants cs) (world cs ls fs) u (item ∷ [])
-world_told cs ls fs u item name held name_is held_is = λ i. record {
+    → world b cs (ls ++ letters_to_others 0 cs u item) (fs ++ frame_of name held item ∷ []) ≡ tell (claimants cs) (world b cs ls fs) u (item ∷ [])
+world_told b cs ls fs u item name held name_is held_is = λ i. record b {
   stations = station_at cs;
   claims = λ s t. sym (between_told ls cs u item s t) i;
   frames = fs ++ frame_of (same_name i) (held_is i) item ∷ [];
@@ -62,18 +62,18 @@ claimants-set (d ∷ cs) zero c same = ap (λ (x : Claimant). x ∷ claimants cs
 claimants-set (d ∷ cs) (suc v) c same = ap (λ (xs : List Claimant). d.claimant ∷ xs) (claimants-set cs v c same)
 
 -- after a unit was switched on, and has not told yet
-pub world_on : (cs : List Claiming) (ls : List Letter) (fs : List Sent) (u : ℕ) (c : Claiming) → u < length cs
-    → world (set cs u c) (without_letters_to u ls) fs ≡ record { stations = changed (station_at cs) u c.station; claims = without_lists_to u (between ls); frames = fs }
-world_on cs ls fs u c inside = λ i. record {
+pub world_on : (b : World) (cs : List Claiming) (ls : List Letter) (fs : List Sent) (u : ℕ) (c : Claiming) → u < length cs
+    → world b (set cs u c) (without_letters_to u ls) fs ≡ record b { stations = changed (station_at cs) u c.station; claims = without_lists_to u (between ls); frames = fs }
+world_on b cs ls fs u c inside = λ i. record b {
   stations = λ x. station_set cs u c x inside i;
   claims = λ s t. lists_left u ls s t i;
   frames = fs;
 }
 
 -- after a unit has heard the oldest letter of another, and has not answered yet
-pub world_heard : (cs : List Claiming) (ls : List Letter) (fs : List Sent) (u v : ℕ) (s : Station) → v < length cs → first_between u v ls < length ls
-    → world (set cs v (record (get_or cs v nobody) { station = s })) (remove ls (first_between u v ls)) fs ≡ record { stations = changed (station_at cs) v s; claims = changed_pair (between ls) u v (between (remove ls (first_between u v ls)) u v); frames = fs }
-world_heard cs ls fs u v s inside some = λ i. record {
+pub world_heard : (b : World) (cs : List Claiming) (ls : List Letter) (fs : List Sent) (u v : ℕ) (s : Station) → v < length cs → first_between u v ls < length ls
+    → world b (set cs v (record (get_or cs v nobody) { station = s })) (remove ls (first_between u v ls)) fs ≡ record b { stations = changed (station_at cs) v s; claims = changed_pair (between ls) u v (between (remove ls (first_between u v ls)) u v); frames = fs }
+world_heard b cs ls fs u v s inside some = λ i. record b {
   stations = λ x. station_set cs v (record (get_or cs v nobody) { station = s }) x inside i;
   claims = λ x y. sym (lists_after u v ls some x y) i;
   frames = fs;
@@ -81,8 +81,7 @@ world_heard cs ls fs u v s inside some = λ i. record {
 
 -- to tell nothing changes nothing
 pub told_nothing : (units : List Claimant) (w : World) (u : ℕ) → tell units w u [] ≡ w
-told_nothing units w u = λ i. record {
-  stations = w.stations;
+told_nothing units w u = λ i. record w {
   claims = λ s t. either (eqb s u && ((w.stations t).on && not (eqb t u))) (w.claims s t) i;
   frames = append_nil w.frames i;
 }
@@ -93,8 +92,7 @@ told_nothing units w u = λ i. record {
 
 -- to tell two items is to tell one after the other
 pub told_twice : (units : List Claimant) (w : World) (u : ℕ) (x y : Item) → tell units (tell units w u (x ∷ [])) u (y ∷ []) ≡ tell units w u (x ∷ y ∷ [])
-told_twice units w u x y = λ i. record {
-  stations = w.stations;
+told_twice units w u x y = λ i. record w {
   claims = λ s t. both (eqb s u && ((w.stations t).on && not (eqb t u))) (w.claims s t) i;
   frames = appended w.frames (frame_of (unit_at units u).name (w.stations u).address x) (frame_of (unit_at units u).name (w.stations u).address y) i;
 }

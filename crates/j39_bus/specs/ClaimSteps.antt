@@ -23,8 +23,8 @@ tell units w u items =
     }
 
 -- what was undelivered to u is gone
-abbrev pub without_lists_to : ℕ → Undelivered → Undelivered
-without_lists_to u claims s t = cond (nat_eq t u) [] (claims s t)
+abbrev pub without_lists_to : {X : Type 0} → ℕ → (ℕ → ℕ → List X) → ℕ → ℕ → List X
+without_lists_to u lists s t = cond (nat_eq t u) [] (lists s t)
 
 -- u is switched on with the address that it prefers, and claims it
 abbrev pub switched_on : List Claimant → World → ℕ → World
@@ -33,6 +33,7 @@ switched_on units w u =
     (record w {
       stations = changed w.stations u (started (unit_at units u));
       claims = without_lists_to u w.claims;
+      wire = without_lists_to u w.wire;
     })
     u (Told (Claim (unit_at units u).preferred) ∷ [])
 

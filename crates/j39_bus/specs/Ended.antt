@@ -8,6 +8,7 @@ use Rattle.j39_bus.specs.declared.step_error.StepError.{StepError}
 use Rattle.j39_bus.specs.declared.ended.UnitState.{UnitState}
 use Rattle.j39_bus.specs.declared.ended.UnitState.TheVariants.{Off, NoAddress, At}
 use Rattle.j39_bus.specs.Sent.{Sent}
+use Rattle.j39_bus.specs.Transfers.{Reported}
 use Rattle.j39_bus.specs.World.{World, first}
 use Rattle.j39_bus.specs.Run.{refusal, RunsThrough}
 use Rattle.j39_bus.specs.Sound.{IsQuiet}
@@ -29,12 +30,15 @@ pub record View : Type 0 where
   pub units : List UnitState
   -- whether no claim is undelivered
   pub settled : Bool
+  -- all messages that were received whole, in order
+  pub reports : List Reported
 
 -- this is seen of this world of the plan
 pub record Shows (plan : Plan) (w : World) (view : View) : Type 0 where
   pub frames : view.frames ≡ w.frames
   pub units : view.units ≡ map (λ u. unit_state (w.stations u)) (range_with_len 0 (length plan.units.items))
   pub settled : IsTrue view.settled ↔ IsQuiet w.claims
+  pub reports : view.reports ≡ w.reports
 
 -- the steps among orders, of which some order nothing
 abbrev pub steps_of : List (Option Step) → List Step

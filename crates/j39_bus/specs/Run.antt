@@ -1,36 +1,138 @@
 -- When a step is refused, where it leads, and runs.
-use Rattle.std.specs.Prelude.{◌≡◌, Bool, not, ◌&&◌, nat_lt, cond, List, [], ◌∷◌, length, Option, Some, None, MatchBool, is_some}
+use Rattle.std.specs.Prelude.{◌≡◌, ℕ, ◌==◌, Bool, true, false, not, ◌&&◌, nat_lt, cond, List, [], ◌∷◌, length, Option, Some, None, MatchBool, is_some}
+use Rattle.std.specs.List.{slice_get, range_with_len, list_all, list_any}
+use Rattle.j39_tp.specs.Receiver.{is_open_at}
+use Rattle.j39_tp.specs.Sender.{next_number}
+use Rattle.j39_tp.specs.declared.stage.Stage.{Stage}
+use Rattle.j39_tp.specs.declared.stage.Stage.TheVariants.{Sending, Waiting, Resting}
 use Rattle.j39_plan.specs.declared.plan.Plan.{Plan}
+use Rattle.j39_plan.specs.declared.plan.to.To.{To}
+use Rattle.j39_plan.specs.declared.plan.to.To.TheVariants.{All, One}
 use Rattle.j39_plan.specs.declared.steps.Step.{Step}
-use Rattle.j39_plan.specs.declared.steps.Step.TheVariants.{Up, Give, Ask}
+use Rattle.j39_plan.specs.declared.steps.Step.TheVariants.{Up, Give, Ask, Begin, Emit, Take, Lose, LateSender, LateReceiver, Rest}
 use Rattle.j39_bus.specs.declared.step_error.StepError.{StepError}
-use Rattle.j39_bus.specs.declared.step_error.StepError.TheVariants.{UnknownUnit, NotStarted, AlreadyStarted, NothingUndelivered}
+use Rattle.j39_bus.specs.declared.step_error.StepError.TheVariants.{UnknownUnit, NoSuchFlow, NotStarted, AlreadyStarted, NothingUndelivered, TransferOpen, NotSettled, NoAddress, Busy, WrongLength, NothingToSend, NoSession, CannotRest}
 use Rattle.j39_bus.specs.Claimants.{units_of, is_place}
-use Rattle.j39_bus.specs.World.{World}
+use Rattle.j39_bus.specs.Flows.{Flow, flows_of, windows_of, can_be_sent}
+use Rattle.j39_bus.specs.Transfers.{Outgoing}
+use Rattle.j39_bus.specs.World.{World, Stations, Undelivered}
 use Rattle.j39_bus.specs.ClaimSteps.{switched_on, asked, GivenFrom}
+use Rattle.j39_bus.specs.Resting.{can_rest}
+use Rattle.j39_bus.specs.TransferSteps.{BeginsAt, Emits, TakenFrom, LostFrom, SenderTimesOut, receiver_timed_out, rested}
+
+-- ---- what refusals ask
+
+abbrev pub count_of : Plan → ℕ
+count_of plan = length plan.units.items
+
+abbrev pub is_unit : Plan → ℕ → Bool
+is_unit plan u = is_place (units_of plan) u
+
+-- this holds of one unit, or of two
+abbrev pub both : (ℕ → Bool) → ℕ → ℕ → Bool
+both test u v = test u && test v
+
+abbrev pub is_on : World → ℕ → Bool
+is_on w u = (w.stations u).on
+
+abbrev pub has_address : World → ℕ → Bool
+has_address w u = is_some (w.stations u).address
+
+-- it holds of the sender of a flow and of its one receiver, if it goes to one
+abbrev pub at_ends : (ℕ → Bool) → ℕ → To → Bool
+at_ends test u All = test u
+at_ends test u (One v) = both test u v
+
+-- no unit is between its Begin and its Rest
+abbrev pub is_no_transfer_open : ℕ → World → Bool
+is_no_transfer_open count w = list_all (λ u. not (is_some (w.sessions u))) (range_with_len 0 count)
+
+-- no claim and no request is undelivered
+abbrev pub is_nothing_undelivered : ℕ → Undelivered → Bool
+is_nothing_undelivered count claims = list_all (λ u. list_all (λ v. length (claims u v) == 0) (range_with_len 0 count)) (range_with_len 0 count)
+
+abbrev pub can_emit : Option Outgoing → Bool
+can_emit None = false
+can_emit (Some s) = is_some (next_number s.stage)
+
+abbrev pub is_waiting_at : Stage → Bool
+is_waiting_at Waiting = true
+is_waiting_at _ = false
+
+abbrev pub is_waiting : Option Outgoing → Bool
+is_waiting None = false
+is_waiting (Some s) = is_waiting_at s.stage
+
+-- ---- refusals
 
 -- this cause where the condition is not met, else what else there is
 abbrev pub unless : Bool → StepError → Option StepError → Option StepError
 unless met e more = cond met more (Some e)
 
+abbrev pub begin_refusal : ℕ → World → Option Flow → List ℕ → Option StepError
+begin_refusal count w None bytes = Some NoSuchFlow
+begin_refusal count w (Some flow) bytes =
+    unless (can_be_sent flow) NoSuchFlow (
+    unless (at_ends (is_on w) flow.sender flow.to) NotStarted (
+    unless (is_nothing_undelivered count w.claims) NotSettled (
+    unless (at_ends (has_address w) flow.sender flow.to) NoAddress (
+    unless (not (is_some (w.sessions flow.sender))) Busy (
+    unless (length bytes == flow.length) WrongLength None)))))
+
 -- the first cause in the numbered order for which the step is refused; want of memory is none of the world's
 abbrev pub refusal : Plan → World → Step → Option StepError
 refusal plan w (Up u) =
-    unless (is_place (units_of plan) u) UnknownUnit (
-    unless (not (w.stations u).on) AlreadyStarted None)
+    unless (is_unit plan u) UnknownUnit (
+    unless (not (is_on w u)) AlreadyStarted (
+    unless (is_no_transfer_open (count_of plan) w) TransferOpen None))
 refusal plan w (Give u v) =
-    unless (is_place (units_of plan) u && is_place (units_of plan) v) UnknownUnit (
-    unless ((w.stations u).on && (w.stations v).on) NotStarted (
+    unless (both (is_unit plan) u v) UnknownUnit (
+    unless (both (is_on w) u v) NotStarted (
     unless (nat_lt 0 (length (w.claims u v))) NothingUndelivered None))
 refusal plan w (Ask u) =
-    unless (is_place (units_of plan) u) UnknownUnit (
-    unless (w.stations u).on NotStarted None)
+    unless (is_unit plan u) UnknownUnit (
+    unless (is_on w u) NotStarted (
+    unless (is_no_transfer_open (count_of plan) w) TransferOpen None))
+refusal plan w (Begin f bytes) = begin_refusal (count_of plan) w (slice_get (flows_of plan) f) bytes.items
+refusal plan w (Emit u) =
+    unless (is_unit plan u) UnknownUnit (
+    unless (is_on w u) NotStarted (
+    unless (can_emit (w.sessions u)) NothingToSend None))
+refusal plan w (Take u v) =
+    unless (both (is_unit plan) u v) UnknownUnit (
+    unless (both (is_on w) u v) NotStarted (
+    unless (nat_lt 0 (length (w.wire u v))) NothingUndelivered None))
+refusal plan w (Lose u v) =
+    unless (both (is_unit plan) u v) UnknownUnit (
+    unless (both (is_on w) u v) NotStarted (
+    unless (nat_lt 0 (length (w.wire u v))) NothingUndelivered None))
+refusal plan w (LateSender u) =
+    unless (is_unit plan u) UnknownUnit (
+    unless (is_on w u) NotStarted (
+    unless (is_waiting (w.sessions u)) NoSession None))
+refusal plan w (LateReceiver u v) =
+    unless (both (is_unit plan) u v) UnknownUnit (
+    unless (both (is_on w) u v) NotStarted (
+    unless (is_open_at (w.receivers v u)) NoSession None))
+refusal plan w (Rest u) =
+    unless (is_unit plan u) UnknownUnit (
+    unless (is_on w u) NotStarted (
+    unless (can_rest (count_of plan) w u) CannotRest None))
+
+-- ---- steps and runs
 
 -- the step leads from one world to another, by some lawful choice
 abbrev pub Leads : Plan → World → Step → World → Type 0
 Leads plan w (Up u) new = new ≡ switched_on (units_of plan) w u
 Leads plan w (Give u v) new = GivenFrom (units_of plan) w u v (w.claims u v) new
 Leads plan w (Ask u) new = new ≡ asked (units_of plan) w u
+Leads plan w (Begin f bytes) new = BeginsAt (count_of plan) w f (slice_get (flows_of plan) f) bytes.items new
+Leads plan w (Emit u) new = Emits w u new
+Leads plan w (Take u v) new = TakenFrom (windows_of plan) w u v (w.wire u v) new
+Leads plan w (Lose u v) new = LostFrom w u v (w.wire u v) new
+Leads plan w (LateSender u) new = SenderTimesOut w u new
+Leads plan w (LateReceiver u v) new = new ≡ receiver_timed_out (windows_of plan) w u v
+Leads plan w (Rest u) new = new ≡ rested w u
 
 -- what follows a world by a step: a refused step leaves it
 abbrev pub Follows : Plan → World → Step → World → Type 0

@@ -1,13 +1,17 @@
 -- What a bus stands for.
 use Rattle.std.specs.Prelude.{◌≡◌, ◌≢◌, ℕ, List, ◌∷◌, ◌++◌, length, map, Some}
+use Rattle.j39_tp.specs.Gathered.{Gathers}
+use Rattle.j39_tp.specs.Receiver.{Receiving}
 use Rattle.j39_plan.specs.declared.plan.Plan.{Plan}
-use Rattle.j39_bus.specs.Claimants.{units_of}
-use Rattle.j39_bus.specs.World.{World}
-use Rattle.j39_bus.specs.Letters.{station_at}
-use Rattle.j39_bus.specs.BusState.{BusState, undelivered}
 use Rattle.j39_plan.specs.declared.steps.Step.{Step}
 use Rattle.j39_bus.specs.declared.step_error.StepError.{StepError}
 use Rattle.j39_bus.specs.declared.step_error.StepError.TheVariants.{Memory}
+use Rattle.j39_bus.specs.Claimants.{units_of}
+use Rattle.j39_bus.specs.World.{World}
+use Rattle.j39_bus.specs.Letters.{station_at}
+use Rattle.j39_bus.specs.BusState.{BusState, undelivered, wire_of, session_at, receiving_at}
+use Rattle.j39_bus.specs.Flows.{flows_of, windows_of}
+use Rattle.j39_bus.specs.Transfers.{settled}
 use Rattle.j39_bus.specs.Run.{refusal, RunsThrough}
 
 -- the bus stands for this world of the plan
@@ -17,6 +21,15 @@ pub record Stands (b : BusState) (plan : Plan) (w : World) : Type 0 where
   -- they are what the units of the world are
   pub stations : w.stations ≡ station_at b.units
   pub claims : w.claims ≡ undelivered b
+  -- its flows and windows are as they are planned
+  pub flows : b.traffic.flows ≡ flows_of plan
+  pub windows : b.traffic.windows ≡ windows_of plan
+  pub sessions : w.sessions ≡ session_at b.traffic.transfers
+  pub wire : w.wire ≡ wire_of b.traffic
+  pub receivers : w.receivers ≡ (λ v u. settled (receiving_at b.traffic.transfers v u).progress)
+  -- what a receiver holds is what it took of the message that is announced last
+  pub gathered : (v u : ℕ) → let r : Receiving = receiving_at b.traffic.transfers v u in Gathers (w.taken v u) r.progress r.bytes
+  pub reports : w.reports ≡ b.traffic.reports
   pub frames : w.frames ≡ b.frames
 
 -- a run of these steps is refused at a place: what stands before it was done, and this step is refused

@@ -1,18 +1,23 @@
 //! A simulated bus.
 ghost use Rattle.std.specs.Prelude.{◌≡◌, ◌<◌, ◌↔◌, IsTrue, length, map};
-ghost use Rattle.j39_bus.specs.BusState.{undelivered};
+ghost use Rattle.j39_bus.specs.BusState.{session_at, undelivered};
 ghost use Rattle.j39_bus.specs.Letters.{station_at};
 ghost use Rattle.j39_bus.specs.Sent.{sent_of};
+ghost use Rattle.j39_bus.specs.Traffic.{reported_of};
+ghost use Rattle.j39_bus.specs.Transfers.{outcome_in};
 ghost use Rattle.j39_bus.specs.Sound.{IsQuiet};
 
 use crate::letter::are_requests;
 use crate::network::Network;
+use crate::{Report, sessions};
 use j39_claim::Choose;
 use j39_id::{Address, Frame};
+use j39_tp::Outcome;
 use std::marker::Model;
 
 /// The units of a plan on one bus, named by their places from 0. What each has still to hear is delivered by steps.
-/// Contracts see what each unit is, what is undelivered from each to each, and the frames that were sent.
+/// Contracts see what each unit is, what is undelivered from each to each, what the units send one another, and the frames that
+/// were sent.
 #[derive(Drop)]
 pub struct Bus {
     pub(crate) network: Network,
@@ -58,6 +63,21 @@ impl Bus {
         ensures { result ≡ (station_at self.now.units unit).address }
     {
         self.network.claimers[unit].address()
+    }
+
+    /// How the message of the unit ended, until the unit rests.
+    pub fn outcome_of(&self, unit: usize) -> Option<Outcome>
+        requires { unit < length self.now.units }
+        ensures { result ≡ outcome_in (session_at self.now.traffic.transfers unit) }
+    {
+        sessions::outcome(self.network.traffic.transfers.as_slice(), unit)
+    }
+
+    /// All messages that were received whole so far, in order.
+    pub fn reports(&self) -> &[Report]
+        ensures { map reported_of result.now ≡ self.now.traffic.reports }
+    {
+        self.network.traffic.reports.as_slice()
     }
 
     /// All frames that were sent so far, in order.

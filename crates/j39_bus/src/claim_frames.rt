@@ -30,7 +30,7 @@ fn to_all(format: u8, source: u8) -> Ident
     }
 }
 
-fn source_of(held: Option<Address>) -> u8
+pub(crate) fn source_of(held: Option<Address>) -> u8
     ensures { result ≡ source_of held }
 {
     match held {
@@ -48,7 +48,7 @@ fn source_of_say(say: &Say) -> u8
     }
 }
 
-fn payload_of(bytes: &[u8]) -> ArrayVec<u8, 8>
+pub(crate) fn payload_of(bytes: &[u8]) -> ArrayVec<u8, 8>
     requires { length bytes.now ≤ 8 }
     ensures { result.items ≡ bytes.now }
 {

@@ -2,15 +2,15 @@
 ghost use Rattle.std.specs.Prelude.{◌≡◌, ◌≢◌, ◌<◌, ◌≤◌, ◌+◌, ◌*◌, Some, length, vec_len, vec_capacity, OnOk, OnErr, IfErr};
 ghost use Rattle.j39_plan.specs.declared.plan.Plan.{Plan};
 ghost use Rattle.j39_plan.specs.declared.steps.Step.TheVariants.{Up, Give, Ask};
-ghost use Rattle.j39_bus.specs.Run.{refusal};
 ghost use Rattle.j39_bus.specs.ClaimSteps.{switched_on, asked, GivenFrom};
 ghost use Rattle.j39_bus.specs.Letters.{between, first_between};
-ghost use Rattle.j39_bus.specs.Network.{IsNetwork, IsOf, IsSameNetwork, StepsTo, claimants, world_of};
+ghost use Rattle.j39_bus.specs.Network.{Histories, IsAllowed, IsNetwork, IsOf, IsRefused, IsSameNetwork, KeepsPlan, LeadsTo, claimants, world_of};
 
 use crate::StepError;
 use crate::hearing::hear;
 use crate::letter::{drop_letters_to, first_between};
 use crate::network::Network;
+use crate::transfer::is_transfer_open;
 use j39_claim::{Choose, Item};
 
 impl Network {
@@ -18,9 +18,10 @@ impl Network {
     pub(crate) fn up(&mut self, unit: usize) -> Result<(), StepError>
         requires { IsNetwork self.old }
         ensures network { IsNetwork self.new }
-        ensures claimants { claimants self.new.claimers.items ≡ claimants self.old.claimers.items }
-        ensures ok { OnOk result ((plan : Plan) → IsOf plan self.old → StepsTo plan self.old (Up unit) self.new) }
-        ensures refused { IfErr result (λ e. e ≢ StepError.Memory → (plan : Plan) → IsOf plan self.old → refusal plan (world_of self.old) (Up unit) ≡ Some e) }
+        ensures plan { KeepsPlan self.old self.new }
+        ensures allowed { OnOk result ((plan : Plan) → IsOf plan self.old → IsAllowed plan self.old (Up unit)) }
+        ensures leads { OnOk result ((plan : Plan) → IsOf plan self.old → LeadsTo plan self.old (Up unit) self.new) }
+        ensures refused { IfErr result (λ e. e ≢ StepError.Memory → (plan : Plan) → IsOf plan self.old → IsRefused plan self.old (Up unit) e) }
         ensures same { OnErr result (IsSameNetwork self.old self.new) }
     {
         if unit >= self.claimers.len() {
@@ -28,6 +29,9 @@ impl Network {
         }
         if self.claimers[unit].is_started() {
             return Err(StepError::AlreadyStarted);
+        }
+        if is_transfer_open(self.traffic.transfers.as_slice()) {
+            return Err(StepError::TransferOpen);
         }
         if self.reserve(1).is_err() {
             return Err(StepError::Memory);
@@ -46,9 +50,10 @@ impl Network {
         requires network { IsNetwork self.old }
         requires choosers { length choosers.now ≡ length self.old.claimers.items }
         ensures network { IsNetwork self.new }
-        ensures claimants { claimants self.new.claimers.items ≡ claimants self.old.claimers.items }
-        ensures ok { OnOk result ((plan : Plan) → IsOf plan self.old → StepsTo plan self.old (Give from to) self.new) }
-        ensures refused { IfErr result (λ e. e ≢ StepError.Memory → (plan : Plan) → IsOf plan self.old → refusal plan (world_of self.old) (Give from to) ≡ Some e) }
+        ensures plan { KeepsPlan self.old self.new }
+        ensures allowed { OnOk result ((plan : Plan) → IsOf plan self.old → IsAllowed plan self.old (Give from to)) }
+        ensures leads { OnOk result ((plan : Plan) → IsOf plan self.old → LeadsTo plan self.old (Give from to) self.new) }
+        ensures refused { IfErr result (λ e. e ≢ StepError.Memory → (plan : Plan) → IsOf plan self.old → IsRefused plan self.old (Give from to) e) }
         ensures same { OnErr result (IsSameNetwork self.old self.new) }
     {
         let count = self.claimers.len();
@@ -73,9 +78,10 @@ impl Network {
     pub(crate) fn ask(&mut self, unit: usize) -> Result<(), StepError>
         requires { IsNetwork self.old }
         ensures network { IsNetwork self.new }
-        ensures claimants { claimants self.new.claimers.items ≡ claimants self.old.claimers.items }
-        ensures ok { OnOk result ((plan : Plan) → IsOf plan self.old → StepsTo plan self.old (Ask unit) self.new) }
-        ensures refused { IfErr result (λ e. e ≢ StepError.Memory → (plan : Plan) → IsOf plan self.old → refusal plan (world_of self.old) (Ask unit) ≡ Some e) }
+        ensures plan { KeepsPlan self.old self.new }
+        ensures allowed { OnOk result ((plan : Plan) → IsOf plan self.old → IsAllowed plan self.old (Ask unit)) }
+        ensures leads { OnOk result ((plan : Plan) → IsOf plan self.old → LeadsTo plan self.old (Ask unit) self.new) }
+        ensures refused { IfErr result (λ e. e ≢ StepError.Memory → (plan : Plan) → IsOf plan self.old → IsRefused plan self.old (Ask unit) e) }
         ensures same { OnErr result (IsSameNetwork self.old self.new) }
     {
         if unit >= self.claimers.len() {
@@ -83,6 +89,9 @@ impl Network {
         }
         if !self.claimers[unit].is_started() {
             return Err(StepError::NotStarted);
+        }
+        if is_transfer_open(self.traffic.transfers.as_slice()) {
+            return Err(StepError::TransferOpen);
         }
         if self.reserve(2).is_err() {
             return Err(StepError::Memory);
@@ -97,10 +106,12 @@ impl Network {
         requires letters { vec_len self.old.letters + length self.old.claimers.items ≤ vec_capacity self.old.letters }
         requires frames { vec_len self.old.frames < vec_capacity self.old.frames }
         ensures network { IsNetwork self.new }
-        ensures claimants { claimants self.new.claimers.items ≡ claimants self.old.claimers.items }
-        ensures world { world_of self.new ≡ switched_on (claimants self.old.claimers.items) (world_of self.old) unit }
+        ensures plan { KeepsPlan self.old self.new }
+        ensures traffic { self.new.traffic ≡ record self.old.traffic { wire = self.new.traffic.wire } }
+        ensures world { (h : Histories) → world_of h self.new ≡ switched_on (claimants self.old.claimers.items) (world_of h self.old) unit }
     {
         drop_letters_to(&mut self.letters, unit);
+        self.traffic.wire.clear_to(unit);
         let say = self.claimers[unit].start();
         self.tell(unit, &Item::Told(say));
     }
@@ -114,8 +125,9 @@ impl Network {
         requires letters { vec_len self.old.letters + length self.old.claimers.items ≤ vec_capacity self.old.letters }
         requires frames { vec_len self.old.frames < vec_capacity self.old.frames }
         ensures network { IsNetwork self.new }
-        ensures claimants { claimants self.new.claimers.items ≡ claimants self.old.claimers.items }
-        ensures world { GivenFrom (claimants self.old.claimers.items) (world_of self.old) from to (between self.old.letters.items from to) (world_of self.new) }
+        ensures plan { KeepsPlan self.old self.new }
+        ensures traffic { self.new.traffic ≡ self.old.traffic }
+        ensures world { (h : Histories) → GivenFrom (claimants self.old.claimers.items) (world_of h self.old) from to (between self.old.letters.items from to) (world_of h self.new) }
     {
         let name = self.claimers[from].name();
         let place = first_between(self.letters.as_slice(), from, to);
@@ -133,8 +145,9 @@ impl Network {
         requires letters { vec_len self.old.letters + 2 * length self.old.claimers.items ≤ vec_capacity self.old.letters }
         requires frames { vec_len self.old.frames + 2 ≤ vec_capacity self.old.frames }
         ensures network { IsNetwork self.new }
-        ensures claimants { claimants self.new.claimers.items ≡ claimants self.old.claimers.items }
-        ensures world { world_of self.new ≡ asked (claimants self.old.claimers.items) (world_of self.old) unit }
+        ensures plan { KeepsPlan self.old self.new }
+        ensures traffic { self.new.traffic ≡ self.old.traffic }
+        ensures world { (h : Histories) → world_of h self.new ≡ asked (claimants self.old.claimers.items) (world_of h self.old) unit }
     {
         self.tell(unit, &Item::Request);
         let say = self.claimers[unit].hear_request();

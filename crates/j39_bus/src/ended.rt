@@ -1,7 +1,9 @@
 //! What is seen of a run that ended.
 ghost use Rattle.std.specs.Prelude.{◌≡◌, map};
 ghost use Rattle.j39_bus.specs.Sent.{sent_of};
+ghost use Rattle.j39_bus.specs.Traffic.{reported_of};
 
+use crate::Report;
 use j39_id::{Address, Frame};
 use std::marker::Model;
 
@@ -22,16 +24,18 @@ pub struct Ended {
     pub(crate) frames: Vec<Frame>,
     pub(crate) units: Vec<UnitState>,
     pub(crate) settled: bool,
+    pub(crate) reports: Vec<Report>,
 }
 
 impl Model for Ended {
     ghost use Rattle.std.specs.Prelude.{map};
     ghost use Rattle.j39_bus.specs.Ended.{View};
     ghost use Rattle.j39_bus.specs.Sent.{sent_of};
+    ghost use Rattle.j39_bus.specs.Traffic.{reported_of};
 
     ghost Value = { View };
 
-    ghost view = { λ e. record { frames = map sent_of e.frames.items; units = e.units.items; settled = e.settled } };
+    ghost view = { λ e. record { frames = map sent_of e.frames.items; units = e.units.items; settled = e.settled; reports = map reported_of e.reports.items } };
 }
 
 impl Ended {
@@ -54,5 +58,12 @@ impl Ended {
         ensures { result ≡ self.now.settled }
     {
         self.settled
+    }
+
+    /// All messages that were received whole, in order.
+    pub fn reports(&self) -> &[Report]
+        ensures { map reported_of result.now ≡ self.now.reports }
+    {
+        self.reports.as_slice()
     }
 }

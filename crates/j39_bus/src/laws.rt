@@ -5,13 +5,24 @@ ghost use Rattle.j39_plan.specs.declared.plan.Plan.{Plan as Plans};
 ghost use Rattle.j39_plan.specs.declared.steps.Step.{Step as Steps};
 ghost use Rattle.j39_bus.specs.World.{World, first};
 ghost use Rattle.j39_bus.specs.Run.{Run, RunsThrough};
-ghost use Rattle.j39_bus.specs.Sound.{AreAddressesSound, AreAddressesDifferent, IsQuiet};
+ghost use Rattle.j39_bus.specs.Sound.{AreAddressesSound, AreAddressesDifferent, IsQuiet, AreReportsSound, IsAcknowledgedReported};
 
 /// In every world of every run of a plan without findings, with all lawful choices, addresses are sound: each unit that is on holds
 /// one, a fixed unit its own, and where no claim is undelivered they are pairwise different.
 pub fn addresses_are_sound()
     ensures sound { (plan : Plans) (steps : List Steps) (w : World) → Clean plan → Run plan first steps w → AreAddressesSound plan w }
     ensures different { (plan : Plans) (steps : List Steps) (w : World) → Clean plan → Run plan first steps w → IsQuiet w.claims → AreAddressesDifferent w }
+{}
+
+/// In every world of every run, with all lawful choices and whatever is lost, reports are sound: what a unit reported of another is a
+/// subsequence of what that one began for it, and while a message is sent no claim and no request is undelivered.
+pub fn reports_are_sound()
+    ensures { (plan : Plans) (steps : List Steps) (w : World) → Run plan first steps w → AreReportsSound w }
+{}
+
+/// In every world of every run, a sender that rests acknowledged sends to one unit, and what this unit reported of it last is the message.
+pub fn acknowledged_messages_were_reported()
+    ensures { (plan : Plans) (steps : List Steps) (w : World) → Run plan first steps w → IsAcknowledgedReported w }
 {}
 
 /// What a bus runs without a refusal is a run, so that what holds in every run holds of it.

@@ -5,6 +5,7 @@ ghost use Rattle.j39_bus.specs.Letters.{letters_to_others};
 
 use crate::claim_frames::frame_of;
 use crate::letter::{Letter, post};
+use crate::traffic::Traffic;
 use j39_claim::{Claimer, Item};
 use j39_id::Frame;
 use std::alloc::AllocError;
@@ -15,10 +16,11 @@ pub(crate) struct Network {
     pub(crate) claimers: Vec<Claimer>,
     pub(crate) letters: Vec<Letter>,
     pub(crate) frames: Vec<Frame>,
+    pub(crate) traffic: Traffic,
 }
 
 impl Network {
-    ghost use Rattle.j39_bus.specs.Network.{IsSameNetwork, claimants, world_of};
+    ghost use Rattle.j39_bus.specs.Network.{Histories, IsSameNetwork, claimants, world_of};
 
     /// Makes room for this many items to every unit.
     pub(crate) fn reserve(&mut self, items: usize) -> Result<(), AllocError>
@@ -39,7 +41,8 @@ impl Network {
         requires letters { vec_len self.old.letters + length self.old.claimers.items ≤ vec_capacity self.old.letters }
         requires frames { vec_len self.old.frames < vec_capacity self.old.frames }
         ensures claimers { self.new.claimers ≡ self.old.claimers }
-        ensures world { world_of self.new ≡ tell (claimants self.old.claimers.items) (world_of self.old) from (item.now ∷ []) }
+        ensures traffic { self.new.traffic ≡ self.old.traffic }
+        ensures world { (h : Histories) → world_of h self.new ≡ tell (claimants self.old.claimers.items) (world_of h self.old) from (item.now ∷ []) }
         ensures letters { self.new.letters.items ≡ self.old.letters.items ++ letters_to_others 0 self.old.claimers.items from item.now }
         ensures letters_len { vec_len self.new.letters ≤ vec_len self.old.letters + length self.old.claimers.items }
         ensures letters_room { vec_capacity self.old.letters ≤ vec_capacity self.new.letters }

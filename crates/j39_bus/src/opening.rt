@@ -8,6 +8,7 @@ ghost use Rattle.j39_bus.specs.World.{first};
 
 use crate::group_fault::GroupFault;
 use crate::network::Network;
+use crate::traffic::Traffic;
 use crate::{Bus, BusError};
 use j39_claim::{Choose, Claimer};
 use j39_id::Pgn;
@@ -108,11 +109,15 @@ impl Bus {
         let Ok(claimers) = claimers_of(alloc, plan.units.as_slice()) else {
             return Err(BusError::Memory);
         };
+        let Ok(traffic) = Traffic::new(alloc, plan) else {
+            return Err(BusError::Memory);
+        };
         Ok(Bus {
             network: Network {
                 claimers,
                 letters: Vec::new(alloc),
                 frames: Vec::new(alloc),
+                traffic,
             },
             choosers,
         })

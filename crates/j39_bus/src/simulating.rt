@@ -73,10 +73,13 @@ impl Bus {
     {
         let settled = self.is_settled();
         let units = states_of(alloc, self.network.claimers.as_slice())?;
+        let network = self.network;
+        let traffic = network.traffic;
         Ok(Ended {
-            frames: self.network.frames,
+            frames: network.frames,
             units,
             settled,
+            reports: traffic.reports,
         })
     }
 }

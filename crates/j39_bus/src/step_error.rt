@@ -4,14 +4,42 @@ use thiserror::Error;
 /// Why a step is refused, in the order of the checks. The text is the cause's name.
 #[derive(Clone, Copy, Debug, PartialEq, Eq, Error)]
 pub enum StepError {
+    /// A unit that the step names is none of the plan.
     #[error("UnknownUnit")]
     UnknownUnit,
+    /// The flow is none of the plan, goes to its own sender, or is one of a group that can't go to one unit.
+    #[error("NoSuchFlow")]
+    NoSuchFlow,
+    /// A unit that the step names, the flow's sender or its one receiver isn't on.
     #[error("NotStarted")]
     NotStarted,
     #[error("AlreadyStarted")]
     AlreadyStarted,
     #[error("NothingUndelivered")]
     NothingUndelivered,
+    /// A unit is between its Begin and its Rest.
+    #[error("TransferOpen")]
+    TransferOpen,
+    /// A claim or a request is undelivered.
+    #[error("NotSettled")]
+    NotSettled,
+    /// The flow's sender or its one receiver holds no address.
+    #[error("NoAddress")]
+    NoAddress,
+    /// The flow's sender is between its Begin and its Rest.
+    #[error("Busy")]
+    Busy,
+    /// The bytes are more or fewer than the group has.
+    #[error("WrongLength")]
+    WrongLength,
+    #[error("NothingToSend")]
+    NothingToSend,
+    /// The sender doesn't wait, or the receiver is closed.
+    #[error("NoSession")]
+    NoSession,
+    /// The unit's message hasn't ended, or something of it is still open or undelivered.
+    #[error("CannotRest")]
+    CannotRest,
     #[error("Memory")]
     Memory,
 }

@@ -23,6 +23,13 @@ impl Bus {
             Step::Up(unit) => self.network.up(*unit),
             Step::Give(from, to) => self.network.give(self.choosers.as_slice(), *from, *to),
             Step::Ask(unit) => self.network.ask(*unit),
+            Step::Begin(flow, bytes) => self.network.begin(*flow, bytes),
+            Step::Emit(unit) => self.network.emit(*unit),
+            Step::Take(from, to) => self.network.take(*from, *to),
+            Step::Lose(from, to) => self.network.lose(*from, *to),
+            Step::LateSender(unit) => self.network.late_sender(*unit),
+            Step::LateReceiver(from, to) => self.network.late_receiver(*from, *to),
+            Step::Rest(unit) => self.network.rest(*unit),
         }
     }
 

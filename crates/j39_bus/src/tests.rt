@@ -10,6 +10,8 @@ use std::alloc::Global;
 use std::process::Abort;
 use std::test::Fail;
 
+mod transfers;
+
 const FIXED: &str =
     "version = 1\n[[unit]]\nlabel = \"A\"\naddress = 0\nname = { identity = 1 }\n[[unit]]\nlabel = \"B\"\naddress = 0\nname = { identity = 2 }\n";
 

@@ -9,4 +9,18 @@ pub enum Step {
     Give(usize, usize),
     /// The unit asks all others for their claims, and sends its own.
     Ask(usize),
+    /// The sender of the flow at this place begins to send these bytes.
+    Begin(usize, Vec<u8>),
+    /// The unit sends the next data packet of its message.
+    Emit(usize),
+    /// The second unit takes the oldest transport frame of the first that it has not taken yet.
+    Take(usize, usize),
+    /// That frame is lost.
+    Lose(usize, usize),
+    /// The unit, which waits for its receiver, hears nothing in time.
+    LateSender(usize),
+    /// The second unit, which receives a message of the first, hears nothing in time.
+    LateReceiver(usize, usize),
+    /// The unit's message has ended, and it may begin another one.
+    Rest(usize),
 }

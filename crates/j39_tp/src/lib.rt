@@ -31,7 +31,7 @@ pub use laws::{
 };
 pub use message::Message;
 pub use outcome::Outcome;
-pub use packet::Packet;
+pub use packet::{Packet, known_ranges};
 pub use packet_error::PacketError;
 pub use packing::to_data;
 pub use phase::Phase;

@@ -27,8 +27,8 @@ fn known_length(chunk: [u8; 7])
     ensures { length chunk ≡ 7 }
 {}
 
-// The parts of a packet are in their ranges.
-pub(crate) fn known_ranges(packet: &Packet)
+/// The parts of a packet are in their ranges.
+pub fn known_ranges(packet: &Packet)
     ensures { InRange packet.now }
 {
     match *packet {

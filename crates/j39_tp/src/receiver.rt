@@ -139,7 +139,8 @@ impl Receiver {
 
     /// The message that was completed last, until the next announcement; else nothing.
     pub fn bytes(&self) -> &[u8]
-        ensures { result.now ≡ message_of self.now.progress self.now.bytes }
+        ensures value { result.now ≡ message_of self.now.progress self.now.bytes }
+        ensures range { length result.now ≤ 1785 }
     {
         match self.progress {
             Progress::Complete(_) => self.bytes.as_slice(),

@@ -5,13 +5,19 @@ ghost use Rattle.j39_claim.specs.AddressSets.{is_free};
 
 mod claims;
 mod refusals;
+mod transfer_refusals;
+mod transfers;
 
 use j39_app::{Pieces, Stop, Verdict, run_planned, run_text};
 use j39_claim::{AddressSet, Choose, Lowest};
 use j39_id::{Address, Name};
 use j39_plan::read_plan;
 use std::alloc::Global;
+use std::process::Abort;
 use std::test::Fail;
+
+// More than is written of any run here.
+const ROOM: usize = 16_384;
 
 // Two fixed units, A at 0 and B at 3.
 const APART: &str =
@@ -20,6 +26,19 @@ const APART: &str =
 // A may move, and C is fixed at its address.
 const MOVING: &str =
     "version = 1\n[[unit]]\nlabel = \"A\"\naddress = 130\nname = { identity = 1, arbitrary = true }\n[[unit]]\nlabel = \"C\"\naddress = 130\nname = { identity = 3 }\n";
+
+// Two fixed units, A at 0 and B at 3, and a group of 17 bytes, which A sends to all by flow 1 and to B by flow 2.
+const SENDING: &str =
+    "version = 1\n[[unit]]\nlabel = \"A\"\naddress = 0\nname = { identity = 1 }\n[[unit]]\nlabel = \"B\"\naddress = 3\nname = { identity = 2 }\n[[group]]\nlabel = \"VI\"\npgn = 65260\npriority = 6\nlength = 17\n[[flow]]\ngroup = \"VI\"\nfrom = \"A\"\nto = \"all\"\n[[flow]]\ngroup = \"VI\"\nfrom = \"A\"\nto = \"B\"\n";
+
+// Both units are on, and nothing is undelivered.
+const START: &str = "up A\nup B\ngive B A\n";
+
+// What they send for that.
+const CLAIMS: &str = "18EEFF00#0100000000000000\n18EEFF03#0200000000000000\n";
+
+// What they are then.
+const SETTLED: &str = "unit A address 0\nunit B address 3\nsettled\n";
 
 /// Chooses the greatest free address.
 #[derive(Drop)]
@@ -55,7 +74,7 @@ fn ran(alloc: Global, plan: &str, schedule: &str) -> Result<(Verdict, Vec<u8>), 
     let plan = read_plan(alloc, plan.as_bytes())?;
     let input = schedule.as_bytes().to_vec(alloc)?;
     let mut source = Pieces::new(alloc, input, 0, 4096, Stop::Never)?;
-    let mut sink = Pieces::new(alloc, Vec::new(alloc), 1000, 4096, Stop::Never)?;
+    let mut sink = Pieces::new(alloc, Vec::new(alloc), ROOM, 4096, Stop::Never)?;
     let verdict = run_planned(alloc, &plan, &mut source, &mut sink)?;
     Ok((verdict, sink.written().to_vec(alloc)?))
 }
@@ -70,7 +89,7 @@ fn ran_with(
     let plan = read_plan(alloc, plan.as_bytes())?;
     let input = schedule.as_bytes().to_vec(alloc)?;
     let mut source = Pieces::new(alloc, input, 0, 4096, Stop::Never)?;
-    let mut sink = Pieces::new(alloc, Vec::new(alloc), 1000, 4096, Stop::Never)?;
+    let mut sink = Pieces::new(alloc, Vec::new(alloc), ROOM, 4096, Stop::Never)?;
     let verdict = run_text(alloc, &plan, choosers, &mut source, &mut sink)?;
     Ok((verdict, sink.written().to_vec(alloc)?))
 }

@@ -16,4 +16,10 @@ pub enum LineFault {
     /// No unit of the plan has this label.
     #[error("UnknownLabel")]
     UnknownLabel,
+    /// The number of the flow isn't 1 to 9 decimal digits.
+    #[error("BadNumber")]
+    BadNumber,
+    /// The bytes aren't spelled by pairs of hex digits.
+    #[error("BadHex")]
+    BadHex,
 }

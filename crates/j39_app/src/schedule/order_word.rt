@@ -10,18 +10,32 @@ pub enum OrderWord {
     Up,
     Give,
     Ask,
+    Begin,
+    Emit,
+    Take,
+    Lose,
+    Late,
+    Rest,
 }
 
-const ORDER_WORDS: [OrderWord; 3] = [OrderWord::Up, OrderWord::Give, OrderWord::Ask];
+const ORDER_WORDS: [OrderWord; 9] = [
+    OrderWord::Up,
+    OrderWord::Give,
+    OrderWord::Ask,
+    OrderWord::Begin,
+    OrderWord::Emit,
+    OrderWord::Take,
+    OrderWord::Lose,
+    OrderWord::Late,
+    OrderWord::Rest,
+];
 
 impl OrderWord {
     /// The order word that is spelled so.
     pub fn spelled(text: &[u8]) -> Option<Self>
         ensures { result ≡ find (λ w. bytes_eq (word_text w) text.now) order_words }
     {
-        ORDER_WORDS
-            .into_iter()
-            .find(|word| word.text().as_bytes() == text)
+        first_spelled(&ORDER_WORDS, text)
     }
 
     fn text(self) -> &'static str
@@ -31,6 +45,22 @@ impl OrderWord {
             OrderWord::Up => "up",
             OrderWord::Give => "give",
             OrderWord::Ask => "ask",
+            OrderWord::Begin => "begin",
+            OrderWord::Emit => "emit",
+            OrderWord::Take => "take",
+            OrderWord::Lose => "lose",
+            OrderWord::Late => "late",
+            OrderWord::Rest => "rest",
         }
     }
+}
+
+/// The first of these words that is spelled so.
+fn first_spelled(words: &[OrderWord], text: &[u8]) -> Option<OrderWord>
+    ensures { result ≡ find (λ w. bytes_eq (word_text w) text.now) words.now }
+{
+    words
+        .iter()
+        .copied()
+        .find(|word| word.text().as_bytes() == text)
 }

@@ -1,18 +1,22 @@
 //! Reading a line of a schedule.
-ghost use Rattle.std.specs.Prelude.{◌≡◌, position};
+ghost use Rattle.std.specs.Prelude.{◌≡◌, None, Some, position, IfOk, IfErr};
 ghost use Rattle.std.specs.Str.{bytes_eq};
-ghost use Rattle.j39_app.specs.Schedule.{line_order, order_of, words_of, with_unit};
+ghost use Rattle.j39_app.specs.Schedule.{line_order, order_of, unit_named, words_of};
+ghost use Rattle.j39_app.specs.Scheduling.{IsReadAs};
 
+use super::beginning::begin;
 use super::line_fault::LineFault;
 use super::order_word::OrderWord;
+use super::unread::Unread;
 use super::values::{Values, values_of};
 use super::words::next_word;
 use j39_plan::{Plan, Step};
+use std::alloc::Global;
 
 /// The most bytes that a line may have.
 const LINE_LIMIT: usize = 8192;
 
-fn unit_named(plan: &Plan, label: &[u8]) -> Option<usize>
+fn unit_place(plan: &Plan, label: &[u8]) -> Option<usize>
     ensures { result ≡ position (λ u. bytes_eq u.label.bytes label.now) plan.now.units.items }
 {
     plan.units
@@ -20,58 +24,61 @@ fn unit_named(plan: &Plan, label: &[u8]) -> Option<usize>
         .position(|unit| unit.label.as_bytes() == label)
 }
 
-#[tactic(auto, unfolding(crate::specs::Schedule::with_unit))]
-fn up(plan: &Plan, label: &[u8]) -> Result<Option<Step>, LineFault>
-    ensures { result ≡ with_unit plan.now label.now (λ u. Ok (Some (Step.Up u))) }
+/// The unit of a label, by its place.
+#[tactic(auto, unfolding(crate::specs::Schedule::unit_named))]
+fn unit(plan: &Plan, label: &[u8]) -> Result<usize, Unread>
+    ensures found { IfOk result (λ u. unit_named plan.now label.now ≡ Some u) }
+    ensures none { IfErr result (λ why. (unit_named plan.now label.now ≡ None) × (why ≡ Unread.Fault LineFault.UnknownLabel)) }
 {
-    match unit_named(plan, label) {
-        Some(unit) => Ok(Some(Step::Up(unit))),
-        None => Err(LineFault::UnknownLabel),
-    }
-}
-
-#[tactic(auto, unfolding(crate::specs::Schedule::with_unit))]
-fn ask(plan: &Plan, label: &[u8]) -> Result<Option<Step>, LineFault>
-    ensures { result ≡ with_unit plan.now label.now (λ u. Ok (Some (Step.Ask u))) }
-{
-    match unit_named(plan, label) {
-        Some(unit) => Ok(Some(Step::Ask(unit))),
-        None => Err(LineFault::UnknownLabel),
-    }
-}
-
-#[tactic(auto, unfolding(crate::specs::Schedule::with_unit))]
-fn give(plan: &Plan, from: &[u8], to: &[u8]) -> Result<Option<Step>, LineFault>
-    ensures { result ≡ with_unit plan.now from.now (λ u. with_unit plan.now to.now (λ v. Ok (Some (Step.Give u v)))) }
-{
-    let Some(from) = unit_named(plan, from) else {
-        return Err(LineFault::UnknownLabel);
-    };
-    match unit_named(plan, to) {
-        Some(to) => Ok(Some(Step::Give(from, to))),
-        None => Err(LineFault::UnknownLabel),
+    match unit_place(plan, label) {
+        Some(place) => Ok(place),
+        None => Err(Unread::Fault(LineFault::UnknownLabel)),
     }
 }
 
 /// What a word orders with these values.
-fn order_of(plan: &Plan, word: OrderWord, values: &[u8]) -> Result<Option<Step>, LineFault>
-    ensures { result ≡ order_of plan.now word (words_of values.now) }
+fn order_of(
+    alloc: Global,
+    plan: &Plan,
+    word: OrderWord,
+    values: &[u8],
+) -> Result<Option<Step>, Unread>
+    ensures { IsReadAs (order_of plan.now word (words_of values.now)) result }
 {
     match (word, values_of(values)) {
-        (OrderWord::Up, Values::One(label)) => up(plan, label),
-        (OrderWord::Give, Values::Two(from, to)) => give(plan, from, to),
-        (OrderWord::Ask, Values::One(label)) => ask(plan, label),
-        _ => Err(LineFault::WordCount),
+        (OrderWord::Up, Values::One(a)) => Ok(Some(Step::Up(unit(plan, a)?))),
+        (OrderWord::Give, Values::Two(a, b)) => Ok(Some(Step::Give(
+            unit(plan, a)?,
+            unit(plan, b)?,
+        ))),
+        (OrderWord::Ask, Values::One(a)) => Ok(Some(Step::Ask(unit(plan, a)?))),
+        (OrderWord::Begin, Values::Two(number, digits)) => begin(alloc, plan, number, digits),
+        (OrderWord::Emit, Values::One(a)) => Ok(Some(Step::Emit(unit(plan, a)?))),
+        (OrderWord::Take, Values::Two(a, b)) => Ok(Some(Step::Take(
+            unit(plan, a)?,
+            unit(plan, b)?,
+        ))),
+        (OrderWord::Lose, Values::Two(a, b)) => Ok(Some(Step::Lose(
+            unit(plan, a)?,
+            unit(plan, b)?,
+        ))),
+        (OrderWord::Late, Values::One(a)) => Ok(Some(Step::LateSender(unit(plan, a)?))),
+        (OrderWord::Late, Values::Two(a, b)) => Ok(Some(Step::LateReceiver(
+            unit(plan, a)?,
+            unit(plan, b)?,
+        ))),
+        (OrderWord::Rest, Values::One(a)) => Ok(Some(Step::Rest(unit(plan, a)?))),
+        _ => Err(Unread::Fault(LineFault::WordCount)),
     }
 }
 
 /// What a line orders: a step, or nothing where it has no words or is a comment.
 #[tactic(auto, unfolding(crate::specs::Schedule::line_order, crate::specs::Schedule::words_order))]
-pub fn read_line(plan: &Plan, line: &[u8]) -> Result<Option<Step>, LineFault>
-    ensures { result ≡ line_order plan.now line.now }
+pub fn read_line(alloc: Global, plan: &Plan, line: &[u8]) -> Result<Option<Step>, Unread>
+    ensures { IsReadAs (line_order plan.now line.now) result }
 {
     if line.len() > LINE_LIMIT {
-        return Err(LineFault::LongLine);
+        return Err(Unread::Fault(LineFault::LongLine));
     }
     let Some((word, values)) = next_word(line) else {
         return Ok(None);
@@ -80,7 +87,7 @@ pub fn read_line(plan: &Plan, line: &[u8]) -> Result<Option<Step>, LineFault>
         return Ok(None);
     }
     match OrderWord::spelled(word) {
-        Some(word) => order_of(plan, word, values),
-        None => Err(LineFault::UnknownWord),
+        Some(word) => order_of(alloc, plan, word, values),
+        None => Err(Unread::Fault(LineFault::UnknownWord)),
     }
 }

@@ -5,6 +5,7 @@ ghost use Rattle.j39_app.specs.CheckText.{IsReport, findings_text, ok_line};
 use super::lines::write_lines;
 use crate::Verdict;
 use crate::texts::TextBuffer;
+use j39_bus::certify;
 use j39_plan::{Finding, Plan, Refused, RefusedCause, checked};
 use std::alloc::{AllocError, Global};
 
@@ -38,6 +39,7 @@ pub(super) fn report(alloc: Global, plan: Plan) -> Result<(TextBuffer, Verdict),
     let mut text = TextBuffer::new(alloc);
     match checked(alloc, plan) {
         Ok(plan) => {
+            certify(&plan);
             write_ok(&mut text, plan.plan())?;
             Ok((text, Verdict::Done))
         }

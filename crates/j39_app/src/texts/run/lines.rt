@@ -1,13 +1,14 @@
 //! The lines of a run.
 ghost use Rattle.std.specs.Prelude.{◌≡◌, ◌++◌, OnOk, map};
 ghost use Rattle.j39_bus.specs.Sent.{sent_of};
-ghost use Rattle.j39_app.specs.RunText.{end_text, halt_lines, line_cause, refused_line, sent_line, sent_lines, settled_line, state_text, step_cause, unit_line, unit_lines};
+ghost use Rattle.j39_bus.specs.Traffic.{reported_of};
+ghost use Rattle.j39_app.specs.RunText.{end_text, halt_lines, line_cause, refused_line, report_line, report_lines, report_route, sent_line, sent_lines, settled_line, state_text, step_cause, unit_line, unit_lines};
 
 use super::halt::Halt;
 use crate::LineFault;
 use crate::texts::TextBuffer;
 use crate::texts::check::unit_label;
-use j39_bus::{Ended, StepError, UnitState};
+use j39_bus::{Ended, Report, StepError, UnitState};
 use j39_id::{Frame, print_frame};
 use j39_plan::Plan;
 use std::alloc::AllocError;
@@ -34,9 +35,18 @@ fn step_cause(error: StepError) -> &'static str
 {
     match error {
         StepError::UnknownUnit => "UnknownUnit",
+        StepError::NoSuchFlow => "NoSuchFlow",
         StepError::NotStarted => "NotStarted",
         StepError::AlreadyStarted => "AlreadyStarted",
         StepError::NothingUndelivered => "NothingUndelivered",
+        StepError::TransferOpen => "TransferOpen",
+        StepError::NotSettled => "NotSettled",
+        StepError::NoAddress => "NoAddress",
+        StepError::Busy => "Busy",
+        StepError::WrongLength => "WrongLength",
+        StepError::NothingToSend => "NothingToSend",
+        StepError::NoSession => "NoSession",
+        StepError::CannotRest => "CannotRest",
         StepError::Memory => "Memory",
     }
 }
@@ -49,6 +59,8 @@ fn line_cause(fault: LineFault) -> &'static str
         LineFault::UnknownWord => "UnknownWord",
         LineFault::WordCount => "WordCount",
         LineFault::UnknownLabel => "UnknownLabel",
+        LineFault::BadNumber => "BadNumber",
+        LineFault::BadHex => "BadHex",
     }
 }
 
@@ -117,6 +129,36 @@ fn settled_line(settled: bool) -> &'static str
     }
 }
 
+#[tactic(auto, unfolding(crate::specs::RunText::report_route))]
+fn write_route(text: &mut TextBuffer, plan: &Plan, report: &Report) -> Result<(), AllocError>
+    ensures { OnOk result (text.new ≡ text.old ++ report_route plan.now (reported_of report.now)) }
+{
+    text.word("report ")?;
+    text.word(unit_label(plan, report.receiver))?;
+    text.word(" from ")?;
+    text.word(unit_label(plan, report.sender))?;
+    text.place(" flow ", report.flow)
+}
+
+#[tactic(auto, unfolding(crate::specs::RunText::report_line))]
+fn write_report(text: &mut TextBuffer, plan: &Plan, report: &Report) -> Result<(), AllocError>
+    ensures { OnOk result (text.new ≡ text.old ++ report_line plan.now (reported_of report.now)) }
+{
+    write_route(text, plan, report)?;
+    text.word(" bytes ")?;
+    text.hex(report.bytes.as_slice())?;
+    text.end_line()
+}
+
+fn write_reports(text: &mut TextBuffer, plan: &Plan, reports: &[Report]) -> Result<(), AllocError>
+    ensures { OnOk result (text.new ≡ text.old ++ report_lines plan.now (map reported_of reports.now)) }
+{
+    for report in reports {
+        write_report(text, plan, report)?;
+    }
+    Ok(())
+}
+
 /// Writes what is seen at the end of a run, and where it ended.
 #[tactic(auto, unfolding(crate::specs::RunText::end_text))]
 pub fn write_end(
@@ -130,5 +172,6 @@ pub fn write_end(
     write_frames(text, ended.frames())?;
     write_halt(text, halt)?;
     write_units(text, plan, ended.units())?;
-    text.word(settled_line(ended.is_settled()))
+    text.word(settled_line(ended.is_settled()))?;
+    write_reports(text, plan, ended.reports())
 }

@@ -9,3 +9,4 @@ returns g c =
     shown c.args.self _ (ap (λ (b : BusState). b.frames) c.self.view_is)
     (c.in_ok-units.ensures ∙ ap (map (λ c. unit_state c.station)) c.as_slice.ensures.value ∙ ap (λ (b : BusState). map (λ c. unit_state c.station) b.units) c.self.view_is)
     c.is_settled-settled.ensures
+    (ap (λ (b : BusState). b.traffic.reports) c.self.view_is)

@@ -5,7 +5,8 @@ use Rattle.j39_bus.proofs.bus.Bus.obey_all.Goals as goal
 pub loop-place-preserved : goal.loop-place-preserved
 loop-place-preserved g c =
     let inside : c.loop-place.place < length c.args.orders.now = omega arith in
-    obeyed_more c.args.self.now c.loop-place.self c.obey.new.self c.args.orders.now c.loop-place.place _ inside c.loop-place.invariant c.in_default.ensures.ok
+    obeyed_more c.args.self.now c.loop-place.self c.obey.new.self c.args.orders.now c.loop-place.place c.index-orders-place.result inside c.loop-place.invariant
+    (rw c.index-orders-place.is at c.in_default.ensures.ok)
 
 pub returns : goal.returns
 returns g c =
@@ -15,5 +16,5 @@ returns g c =
 pub returns-in_default-error : goal.returns-in_default-error
 returns-in_default-error g c =
     let inside : c.loop-place.place < length c.args.orders.now = omega arith in
-    refused_here c.args.self.now c.loop-place.self c.obey.new.self c.args.orders.now c.loop-place.place _ c.in-Err.error inside c.loop-place.invariant c.in-Err.ensures.same
-    (c.in-Err.ensures.refused c.in_default-error.not-Memory)
+    refused_here c.args.self.now c.loop-place.self c.obey.new.self c.args.orders.now c.loop-place.place c.index-orders-place.result c.in-Err.error inside c.loop-place.invariant c.in-Err.ensures.same
+    (rw c.index-orders-place.is at (c.in-Err.ensures.refused c.in_default-error.not-Memory))

@@ -1,17 +1,25 @@
-use Rattle.std.proofs.Common.{◌<◌, ◌≤◌, length, ◌∙◌, arith}
+use Rattle.std.proofs.Common.{◌≡◌, ◌≢◌, ◌<◌, ◌≤◌, length, ◌∙◌, subst, arith, Some, None}
+use Rattle.j39_plan.specs.declared.plan.Plan.{Plan}
+use Rattle.j39_plan.specs.declared.steps.Step.{Step}
+use Rattle.j39_bus.specs.declared.step_error.StepError.TheVariants.{Memory}
+use Rattle.j39_bus.specs.Run.{refusal, Leads}
+use Rattle.j39_bus.specs.Stands.{Stands}
+use Rattle.j39_bus.specs.World.{World}
 use Rattle.j39_bus.proofs.Running.{run_more, run_refused, run_all}
 use Rattle.j39_bus.proofs.bus.Bus.run.Goals as goal
 
 pub returns-in-Err-clause-refused : goal.returns-in-Err-clause-refused
 returns-in-Err-clause-refused g c =
     let inside : c.loop-place.place < length c.args.steps.now = omega arith in
-    run_refused c.args.self.now c.loop-place.self c.step.new.self c.args.steps.now c.loop-place.place _ inside c.loop-place.invariant.ran c.in-Err.ensures.same c.in-Err.error c.in-Err.ensures.refused
+    run_refused c.args.self.now c.loop-place.self c.step.new.self c.args.steps.now c.loop-place.place c.index-steps-place.result inside c.loop-place.invariant.ran c.in-Err.ensures.same c.in-Err.error
+    (subst (λ (d : Step). c.in-Err.error ≢ Memory → (plan : Plan) (w : World) → Stands c.loop-place.self plan w → refusal plan w d ≡ Some c.in-Err.error) c.index-steps-place.is c.in-Err.ensures.refused)
 
 pub loop-place-preserved : goal.loop-place-preserved
 loop-place-preserved g c =
     let inside : c.loop-place.place < length c.args.steps.now = omega arith in
     record {
-      ran = run_more c.args.self.now c.loop-place.self c.step.new.self c.args.steps.now c.loop-place.place _ inside c.loop-place.invariant.ran c.in_default.ensures.ok;
+      ran = run_more c.args.self.now c.loop-place.self c.step.new.self c.args.steps.now c.loop-place.place c.index-steps-place.result inside c.loop-place.invariant.ran
+          (subst (λ (d : Step). (plan : Plan) (w : World) → Stands c.loop-place.self plan w → (refusal plan w d ≡ None) × ((after : World) × Leads plan w d after × Stands c.step.new.self plan after)) c.index-steps-place.is c.in_default.ensures.ok);
       units = c.step.ensures.units ∙ c.loop-place.invariant.units;
     }
 

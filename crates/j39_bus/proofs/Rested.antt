@@ -1,0 +1,83 @@
+-- When a sender may rest.
+use Rattle.std.proofs.Common.{◌≡◌, ℕ, zero, suc, ◌+◌, ◌<◌, ◌≤◌, Bool, true, false, not, ◌&&◌, ◌||◌, List, [], ◌∷◌, refl, sym, ap, ◌∙◌, subst, arith, inl, inr, length, get_or, Option, Some, None, is_some}
+use Rattle.std.proofs.lemmas.Bool.{and_right, cases_eq, lt-ltb}
+use Rattle.std.proofs.lemmas.List.{length-map}
+use Rattle.std.specs.Option.{option_map}
+use Rattle.j39_claim.specs.Claiming.{Claiming}
+use Rattle.j39_plan.specs.declared.plan.Plan.{Plan}
+use Rattle.j39_bus.specs.Claimants.{claimant_of, units_of}
+use Rattle.j39_bus.specs.Run.{count_of, is_unit, is_no_transfer_open}
+use Rattle.j39_bus.specs.declared.transfer.Transfer as made
+use Rattle.j39_bus.proofs.AlongMessages.{session_of}
+use Rattle.std.specs.List.{list_all, list_any, range_with_len}
+use Rattle.j39_tp.specs.Receiver.{Receiving, is_open_at}
+use Rattle.j39_tp.specs.declared.progress.Progress.{Progress}
+use Rattle.j39_tp.specs.declared.progress.Progress.TheVariants.{Closed, Open, Complete}
+use Rattle.j39_bus.specs.declared.network.Network.{Network}
+use Rattle.j39_bus.specs.declared.wired.Wired.{Wired}
+use Rattle.j39_bus.specs.BusState.{outgoing_of, pair_in, receiving_or, session_at}
+use Rattle.j39_bus.specs.Network.{Histories, IsOf, world_of}
+use Rattle.j39_bus.specs.Resting.{is_of_sender, is_of_receiver, is_over_with}
+use Rattle.j39_bus.specs.Traffic.{lists_of, receiver_in, transfer_of, values_of}
+use Rattle.j39_bus.specs.Transfers.{settled}
+
+open_settled : (p : Progress) → is_open_at (settled p) ≡ is_open_at p
+open_settled Closed = refl
+open_settled (Open r) = refl
+open_settled (Complete group) = refl
+
+none_of : {X : Type 0} (test : X → Bool) (xs : List X) → list_all (λ x. not (test x)) xs ≡ not (list_any test xs)
+none_of test [] = refl
+none_of test (x ∷ xs) = elim (test x) as (λ b. (not b && list_all (λ x. not (test x)) xs) ≡ not (b || list_any test xs)) [ true ↦ refl | false ↦ none_of test xs ]
+
+pub over_from : (h : Histories) (net : Network) (u v : ℕ) (a b d : Bool) → is_open_at (receiving_or (receiver_in net.traffic.transfers.items v u)).progress ≡ a
+    → list_any is_of_sender (pair_in (lists_of net.traffic.wire) u v) ≡ b → list_any is_of_receiver (pair_in (lists_of net.traffic.wire) v u) ≡ d
+    → is_over_with (world_of h net) u v ≡ (not a && (not b && not d))
+over_from h net u v a b d open_is sends answers = λ i.
+    not ((open_settled (receiving_or (receiver_in net.traffic.transfers.items v u)).progress ∙ open_is) i)
+    && ((none_of is_of_sender (pair_in (lists_of net.traffic.wire) u v) ∙ ap not sends) i && (none_of is_of_receiver (pair_in (lists_of net.traffic.wire) v u) ∙ ap not answers) i)
+
+all_from : (test : ℕ → Bool) (a n : ℕ) → ((k : ℕ) → a ≤ k → k < a + n → test k ≡ true) → list_all test (range_with_len a n) ≡ true
+all_from test a zero is = refl
+all_from test a (suc n) is = rw (is a (omega arith) (omega arith)) (all_from test (a + 1) n (λ k from to. is k (omega arith) (omega arith)))
+
+pub all_below : (test : ℕ → Bool) (n : ℕ) → ((k : ℕ) → k < n → test k ≡ true) → list_all test (range_with_len 0 n) ≡ true
+all_below test n is = all_from test 0 n (λ k from to. is k (omega arith))
+
+not_from : (test : ℕ → Bool) (a n k : ℕ) → a ≤ k → k < a + n → test k ≡ false → list_all test (range_with_len a n) ≡ false
+not_from test a zero k from to is = absurd (omega arith)
+not_from test a (suc n) k from to is = elim (cases_eq k a) [
+  | inl same ↦ rw (sym (ap test same) ∙ is) refl
+  | inr other ↦ rw (not_from test (a + 1) n k (omega arith) (omega arith) is) (and_right (test a) false refl)
+]
+
+pub not_below : (test : ℕ → Bool) (n k : ℕ) → k < n → test k ≡ false → list_all test (range_with_len 0 n) ≡ false
+not_below test n k inside is = not_from test 0 n k (omega arith) (omega arith) is
+
+-- ---- no unit is sending
+all_idle : {X : Type 0} (a : ℕ) (xs : List (Option X)) (test : ℕ → Bool) → ((j : ℕ) → j < length xs → test (a + j) ≡ not (is_some (get_or xs j None))) → list_all test (range_with_len a (length xs)) ≡ not (list_any (λ x. is_some x) xs)
+all_idle a [] test is = refl
+all_idle a (None ∷ xs) test is =
+    let here : test a ≡ true = ap test (omega arith) ∙ is 0 (omega arith) in
+    rw here (all_idle (a + 1) xs test (λ j inside. ap test (omega arith) ∙ is (suc j) (omega arith)))
+all_idle a (Some x ∷ xs) test is =
+    let here : test a ≡ false = ap test (omega arith) ∙ is 0 (omega arith) in
+    rw here refl
+
+pub some_session : (o : Option made.Transfer) → is_some (outgoing_of (option_map transfer_of o)) ≡ is_some o
+some_session None = refl
+some_session (Some t) = refl
+
+pub units_count : (plan : Plan) (net : Network) → IsOf plan net → count_of plan ≡ length net.claimers.items
+units_count plan net of = sym (length-map plan.units.items claimant_of) ∙ sym (ap length of.units) ∙ length-map net.claimers.items (λ (c : Claiming). c.claimant)
+
+pub unit_known : (plan : Plan) (net : Network) → IsOf plan net → (u : ℕ) → u < length net.claimers.items → is_unit plan u ≡ true
+unit_known plan net of u inside = lt-ltb u (length (units_of plan)) (omega (arith, inside, ap length of.units, length-map net.claimers.items (λ (c : Claiming). c.claimant)))
+
+pub idle_by : (plan : Plan) (net : Network) (h : Histories) → IsOf plan net → length net.traffic.transfers.items ≡ length net.claimers.items
+    → is_no_transfer_open (count_of plan) (world_of h net) ≡ not (list_any (λ t. is_some t) net.traffic.transfers.items)
+idle_by plan net h of count =
+    ap (λ n. is_no_transfer_open n (world_of h net)) (units_count plan net of ∙ sym count)
+    ∙ all_idle 0 net.traffic.transfers.items (λ u. not (is_some (session_at (values_of net.traffic.transfers.items) u)))
+    (λ j inside. ap (λ k. not (is_some (session_at (values_of net.traffic.transfers.items) k))) (omega arith)
+    ∙ ap not (ap is_some (session_of net.traffic.transfers.items j inside) ∙ some_session (get_or net.traffic.transfers.items j None)))

@@ -1,0 +1,24 @@
+use Rattle.std.proofs.Common.{◌≡◌, Bool, false, true, refl, sym, ap, ◌∙◌}
+use Rattle.j39_tp.specs.Receiver.{is_open_at}
+use Rattle.j39_bus.specs.BusState.{receiving_or}
+use Rattle.j39_bus.specs.Traffic.{receiver_in}
+use Rattle.j39_bus.proofs.Rested.{over_from}
+use Rattle.j39_bus.proofs.network.Network.is_over_with.Goals as goal
+
+pub returns-then-is_receiving : goal.returns-then-is_receiving
+returns-then-is_receiving c = λ h.
+    let at : is_open_at (receiving_or (receiver_in c.args.self.now.traffic.transfers.items c.args.other c.args.unit)).progress ≡ true =
+    sym (c.is_receiving.ensures ∙ ap (λ ts. is_open_at (receiving_or (receiver_in ts c.args.other c.args.unit)).progress) c.as_slice.ensures.value) ∙ c.if-is_receiving.true in
+    sym (over_from h c.args.self.now c.args.unit c.args.other true _ _ at refl refl)
+
+pub returns-then-has_of_sender : goal.returns-then-has_of_sender
+returns-then-has_of_sender c = λ h.
+    let at : is_open_at (receiving_or (receiver_in c.args.self.now.traffic.transfers.items c.args.other c.args.unit)).progress ≡ false =
+    sym (c.is_receiving.ensures ∙ ap (λ ts. is_open_at (receiving_or (receiver_in ts c.args.other c.args.unit)).progress) c.as_slice.ensures.value) ∙ c.if-is_receiving.false in
+    sym (over_from h c.args.self.now c.args.unit c.args.other false true _ at (sym c.has_of_sender.ensures ∙ c.if-has_of_sender.true) refl)
+
+pub returns : goal.returns
+returns c = λ h.
+    let at : is_open_at (receiving_or (receiver_in c.args.self.now.traffic.transfers.items c.args.other c.args.unit)).progress ≡ false =
+    sym (c.is_receiving.ensures ∙ ap (λ ts. is_open_at (receiving_or (receiver_in ts c.args.other c.args.unit)).progress) c.as_slice.ensures.value) ∙ c.if-is_receiving.false in
+    sym (over_from h c.args.self.now c.args.unit c.args.other false false c.has_of_receiver.result at (sym c.has_of_sender.ensures ∙ c.if-has_of_sender.false) (sym c.has_of_receiver.ensures))

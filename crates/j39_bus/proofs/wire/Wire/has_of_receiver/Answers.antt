@@ -1,0 +1,13 @@
+use Rattle.std.proofs.Common.{sym, ap, ◌∙◌}
+use Rattle.std.specs.List.{list_any}
+use Rattle.j39_bus.specs.Resting.{is_of_receiver}
+use Rattle.j39_bus.proofs.Queues.{in_row, list_is}
+use Rattle.j39_bus.proofs.wire.Wire.has_of_receiver.Goals as goal
+
+pub index-requires : goal.index-requires
+index-requires c = in_row c.args.self.now c.args.from c.args.to c.index-row.result.now c.requires.table c.requires.from c.index-row.ensures c.requires.to
+
+pub returns : goal.returns
+returns c =
+    c.any_of_receiver.ensures
+    ∙ ap (list_any is_of_receiver) (sym (list_is c.args.self.now c.args.from c.args.to c.index-row.result.now c.requires.table c.requires.from c.index-row.ensures c.requires.to c.index.result.now c.index.ensures))

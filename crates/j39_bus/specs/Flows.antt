@@ -1,0 +1,61 @@
+-- What the transfer steps need of a plan: what each flow sends to whom, and how much each unit lets be sent to it at once.
+use Rattle.std.specs.Prelude.{ℕ, Bool, true, false, ◌&&◌, not, nat_eq, nat_le, List, map, slice_index_or}
+use Rattle.std.specs.List.{slice_get}
+use Rattle.std.specs.Option.{option_map_or}
+use Rattle.j39_id.specs.Pgn.{pf_of}
+use Rattle.j39_tp.specs.declared.dest.Dest.{Dest}
+use Rattle.j39_tp.specs.declared.dest.Dest.TheVariants as dests
+use Rattle.j39_plan.specs.declared.plan.Plan.{Plan}
+use Rattle.j39_plan.specs.declared.plan.flow_plan.FlowPlan.{FlowPlan}
+use Rattle.j39_plan.specs.declared.plan.group_plan.GroupPlan.{GroupPlan}
+use Rattle.j39_plan.specs.declared.plan.to.To.{To}
+use Rattle.j39_plan.specs.declared.plan.to.To.TheVariants.{All, One}
+
+-- a flow, with the number, the priority and the length of its group
+pub record Flow : Type 0 where
+  pub group : ℕ
+  pub priority : ℕ
+  pub length : ℕ
+  pub sender : ℕ
+  pub to : To
+
+-- a planned flow; it names its group by place
+abbrev pub flow_of : List GroupPlan → FlowPlan → Flow
+flow_of groups f = record {
+  group = option_map_or (λ (g : GroupPlan). g.pgn) (slice_get groups f.group) 0;
+  priority = option_map_or (λ (g : GroupPlan). g.priority) (slice_get groups f.group) 0;
+  length = option_map_or (λ (g : GroupPlan). g.length) (slice_get groups f.group) 0;
+  sender = f.sender;
+  to = f.to;
+}
+
+-- the flows in their order in the plan
+abbrev pub flows_of : Plan → List Flow
+flows_of plan = map (flow_of plan.groups.items) plan.flows.items
+
+-- how many packets each unit lets be sent to it for one CTS
+abbrev pub windows_of : Plan → List ℕ
+windows_of plan = map (λ p. p.window) plan.units.items
+
+abbrev pub window_at : List ℕ → ℕ → ℕ
+window_at windows u = slice_index_or windows u 1
+
+abbrev pub dest_of : To → Dest
+dest_of All = dests.All
+dest_of (One v) = dests.One
+
+-- a message of so many bytes is sent in one frame
+abbrev pub is_short : ℕ → Bool
+is_short size = nat_le size 8
+
+-- the frames of a group of this number go to all: it has the place of the destination for itself
+abbrev pub names_no_destination : ℕ → Bool
+names_no_destination group = nat_le 240 (pf_of group)
+
+-- a flow to one unit goes to another one, and its group can be sent to one
+abbrev pub can_go_to : Flow → To → Bool
+can_go_to flow All = true
+can_go_to flow (One v) = not (nat_eq v flow.sender) && not (names_no_destination flow.group && is_short flow.length)
+
+abbrev pub can_be_sent : Flow → Bool
+can_be_sent flow = can_go_to flow flow.to

@@ -1,0 +1,130 @@
+//! The steps of transfers (SAE J1939-21, transport protocol functions), and what they have in common.
+ghost use Rattle.std.specs.Prelude.{◌≡◌, ℕ, ◌+◌, ◌<◌, ◌≤◌, false, Some, None, length, slice_index_or, vec_len, vec_capacity, OnOk};
+ghost use Rattle.j39_bus.specs.BusState.{session_at};
+ghost use Rattle.j39_bus.specs.Letters.{station_at};
+ghost use Rattle.j39_bus.specs.Network.{Histories, IsNetwork, IsSameNetwork, KeepsPlan, transfers_of, world_of};
+ghost use Rattle.j39_bus.specs.SentTransfers.{address_of, destination_of};
+ghost use Rattle.j39_bus.specs.Traffic.{AreAnswers, HasRoomAlong, IsInside, is_announcement, room_at};
+ghost use Rattle.j39_bus.specs.Transfers.{Outgoing};
+ghost use Rattle.j39_bus.specs.TransferSteps.{packets_in, replied, sent_along};
+
+mod beginning;
+mod emitting;
+mod late_receiving;
+mod late_sending;
+mod losing;
+mod resting;
+mod taking;
+
+use crate::along::{post_along, reserve_along};
+use crate::claim_frames::source_of;
+use crate::letter::post;
+use crate::network::Network;
+use crate::sessions;
+use crate::transfer_frames::packet_frame;
+use crate::wired::Wired;
+use j39_plan::To;
+use j39_tp::Packet;
+use std::alloc::AllocError;
+
+/// The global address.
+const GLOBAL: u8 = 255;
+
+impl Network {
+    /// The address that a unit sends from.
+    fn source(&self, unit: usize) -> u8
+        requires { unit < length self.now.claimers.items }
+        ensures { result ≡ address_of (station_at self.now.claimers.items) unit }
+    {
+        source_of(self.claimers[unit].address())
+    }
+
+    /// The address that a message goes to.
+    fn destination(&self, to: To) -> u8
+        requires { IsInside (length self.now.claimers.items) to }
+        ensures { result ≡ destination_of (station_at self.now.claimers.items) to }
+    {
+        match to {
+            To::All => GLOBAL,
+            To::One(unit) => self.source(unit),
+        }
+    }
+
+    /// Makes room for a packet to those that the message of a unit goes to.
+    fn reserve_along(&mut self, unit: usize) -> Result<(), AllocError>
+        requires network { IsNetwork self.old }
+        requires unit { unit < length self.old.claimers.items }
+        ensures same { IsSameNetwork self.old self.new }
+        ensures wire { OnOk result (HasRoomAlong self.new.traffic.wire unit (slice_index_or self.new.traffic.transfers.items unit None)) }
+        ensures frames { OnOk result (vec_len self.new.frames < vec_capacity self.new.frames) }
+    {
+        let transfers = self.traffic.transfers.as_slice();
+        reserve_along(&mut self.traffic.wire, transfers, unit)?;
+        self.frames.reserve(1)?;
+        Ok(())
+    }
+
+    /// A unit sends a packet to those that its message goes to.
+    fn send_along(&mut self, unit: usize, packet: &Packet)
+        requires network { IsNetwork self.old }
+        requires unit { unit < length self.old.claimers.items }
+        requires wire { HasRoomAlong self.old.traffic.wire unit (slice_index_or self.old.traffic.transfers.items unit None) }
+        requires frames { vec_len self.old.frames < vec_capacity self.old.frames }
+        requires data { is_announcement (Wired.Packet packet.now) ≡ false }
+        ensures network { IsNetwork self.new }
+        ensures plan { KeepsPlan self.old self.new }
+        ensures transfers { self.new.traffic.transfers ≡ self.old.traffic.transfers }
+        ensures world { (h : Histories) (s : Outgoing) → session_at (transfers_of self.old) unit ≡ Some s → world_of h self.new ≡ sent_along (world_of h self.old) unit s packet.now }
+    {
+        if let Some(to) = sessions::goes_to(self.traffic.transfers.as_slice(), unit) {
+            let frame = packet_frame(self.source(unit), self.destination(to), packet);
+            let transfers = self.traffic.transfers.as_slice();
+            post_along(
+                &mut self.traffic.wire,
+                transfers,
+                unit,
+                &Wired::Packet(*packet),
+            );
+            post(&mut self.frames, frame);
+        }
+    }
+
+    /// Makes room for so many answers of a unit to another.
+    fn reserve_replies(&mut self, from: usize, to: usize, packets: usize) -> Result<(), AllocError>
+        requires network { IsNetwork self.old }
+        requires from { from < length self.old.claimers.items }
+        requires to { to < length self.old.claimers.items }
+        requires packets { packets ≤ 2 }
+        ensures same { IsSameNetwork self.old self.new }
+        ensures wire { OnOk result (packets ≤ room_at self.new.traffic.wire from to) }
+        ensures frames { OnOk result (vec_len self.new.frames + packets ≤ vec_capacity self.new.frames) }
+        ensures reports { self.new.traffic.reports ≡ self.old.traffic.reports }
+    {
+        self.traffic.wire.reserve(from, to, packets)?;
+        self.frames.reserve(packets)?;
+        Ok(())
+    }
+
+    /// A unit answers another by a packet, if there is one.
+    fn reply(&mut self, from: usize, to: usize, packet: Option<Packet>)
+        requires network { IsNetwork self.old }
+        requires from { from < length self.old.claimers.items }
+        requires to { to < length self.old.claimers.items }
+        requires wire { length (packets_in packet) ≤ room_at self.old.traffic.wire from to }
+        requires frames { vec_len self.old.frames + length (packets_in packet) ≤ vec_capacity self.old.frames }
+        requires answers { AreAnswers (packets_in packet) }
+        ensures network { IsNetwork self.new }
+        ensures plan { KeepsPlan self.old self.new }
+        ensures transfers { self.new.traffic.transfers ≡ self.old.traffic.transfers }
+        ensures wire { room_at self.old.traffic.wire from to ≤ room_at self.new.traffic.wire from to + length (packets_in packet) }
+        ensures frames { vec_capacity self.old.frames ≤ vec_capacity self.new.frames }
+        ensures frames_len { vec_len self.new.frames ≡ vec_len self.old.frames + length (packets_in packet) }
+        ensures world { (h : Histories) → world_of h self.new ≡ replied (world_of h self.old) from to (packets_in packet) }
+    {
+        if let Some(packet) = packet {
+            let frame = packet_frame(self.source(from), self.source(to), &packet);
+            self.traffic.wire.post(from, to, Wired::Packet(packet));
+            post(&mut self.frames, frame);
+        }
+    }
+}
