@@ -1,22 +1,20 @@
 -- Why a message is not begun.
-use Rattle.std.proofs.Common.{◌≡◌, ℕ, suc, ◌<◌, Bool, true, false, not, cond, ◌&&◌, ◌==◌, eqb, ltb, List, [], ◌∷◌, length, map, get_or, refl, sym, ap, ◌∙◌, arith, Option, Some, None, is_some}
+use Rattle.std.proofs.Common.{◌≡◌, ℕ, suc, ◌<◌, Bool, true, not, ◌==◌, ltb, List, [], ◌∷◌, length, map, get_or, refl, sym, ap, ◌∙◌, arith, Option, Some, None, is_some}
 use Rattle.std.proofs.lemmas.List.{get_or-map, length-map}
 use Rattle.std.proofs.lemmas.Bool.{eq-eqb, ne_eqb, and_parts, ltb-true}
 use Rattle.std.specs.List.{list_all, range_with_len, slice_get}
-use Rattle.std.specs.Option.{option_map}
 use Rattle.j39_plan.specs.declared.plan.Plan.{Plan}
 use Rattle.j39_bus.specs.declared.letter.Letter.{Letter}
 use Rattle.j39_bus.specs.declared.network.Network.{Network}
 use Rattle.j39_bus.specs.declared.route.Route.{Route}
-use Rattle.j39_bus.specs.declared.step_error.StepError.{StepError}
 use Rattle.j39_bus.specs.declared.step_error.StepError.TheVariants.{NoSuchFlow, NotStarted, NotSettled, NoAddress, Busy, WrongLength}
 use Rattle.j39_bus.specs.declared.transfer.Transfer as made
-use Rattle.j39_bus.specs.BusState.{outgoing_of, session_at}
+use Rattle.j39_bus.specs.BusState.{session_at}
 use Rattle.j39_bus.specs.Flows.{Flow, flows_of, can_be_sent}
 use Rattle.j39_bus.specs.Letters.{between, is_inside}
-use Rattle.j39_bus.specs.Network.{Histories, IsOf, transfers_of, world_of}
+use Rattle.j39_bus.specs.Network.{IsOf}
 use Rattle.j39_bus.specs.Run.{at_ends, begin_refusal, count_of, has_address, is_nothing_undelivered, is_on, unless}
-use Rattle.j39_bus.specs.Traffic.{route_of, transfer_of, values_of}
+use Rattle.j39_bus.specs.Traffic.{route_of, values_of}
 use Rattle.j39_bus.specs.World.{World}
 use Rattle.j39_bus.proofs.AlongMessages.{session_of}
 use Rattle.j39_bus.proofs.Opened.{got}

@@ -1,11 +1,10 @@
 -- A message that is begun.
-use Rattle.std.proofs.Common.{◌≡◌, ℕ, zero, suc, ◌+◌, ◌<◌, Bool, true, false, cond, not, ◌&&◌, ◌||◌, eqb, List, [], ◌∷◌, ◌++◌, length, map, get_or, set, refl, sym, ap, ◌∙◌, subst, arith, inl, inr, Option, Some, None, is_some, if◌then◌else◌, get_or-set_other, get_or-set_same}
+use Rattle.std.proofs.Common.{◌≡◌, ℕ, ◌+◌, ◌<◌, Bool, true, false, cond, eqb, List, length, get_or, set, refl, sym, ap, ◌∙◌, subst, arith, inl, inr, Option, Some, None, is_some, if◌then◌else◌, get_or-set_other, get_or-set_same}
 use Rattle.std.proofs.Math.ListN.{length-set}
 use Rattle.std.proofs.lemmas.List.{get_or-map, get_or_past, map-set, length-map}
-use Rattle.std.proofs.lemmas.Bool.{cases_eq, cases_lt, cases_Bool, eq-eqb, ne_eqb, cond_both, and_parts, eqb-true, true≢false}
+use Rattle.std.proofs.lemmas.Bool.{cases_eq, cases_lt, eq-eqb, ne_eqb, true≢false}
 use Rattle.std.specs.List.{filter, list_any, range_with_len}
 use Rattle.std.specs.Option.{option_map}
-use Rattle.std.specs.Box.{with_value}
 use Rattle.j39_plan.specs.declared.plan.to.To.{To}
 use Rattle.j39_plan.specs.declared.plan.to.To.TheVariants.{All as ToAll, One as ToOne}
 use Rattle.j39_tp.specs.Gathered.{Gathers}
@@ -18,17 +17,16 @@ use Rattle.j39_bus.specs.declared.wired.Wired.{Wired}
 use Rattle.j39_bus.specs.BusState.{Transfer, outgoing_of, pair_in, places_from, receiver_of, receiving_or, session_at}
 use Rattle.j39_bus.specs.Flows.{Flow, dest_of, is_short, window_at}
 use Rattle.j39_bus.specs.Network.{AreGathered, receivers_of}
-use Rattle.j39_bus.specs.Traffic.{AreOpened, AreTransfers, HasContent, IsInside, IsTable, IsTraffic, IsTransfer, IsTransferOr, bytes_in, is_announcement, is_receiver, is_target, is_target_of, item_frame, lists_of, posted, receiver_in, route_of, stage_in, transfer_of, values_of}
-use Rattle.j39_bus.specs.Transfers.{Outgoing, Receivers, settled}
+use Rattle.j39_bus.specs.Traffic.{AreOpened, AreTransfers, IsInside, IsTable, IsTraffic, IsTransfer, IsTransferOr, is_announcement, is_receiver, is_target, is_target_of, item_frame, posted, transfer_of, values_of}
+use Rattle.j39_bus.specs.Transfers.{settled}
 use Rattle.j39_tp.specs.Sender.{announcement}
 use Rattle.j39_tp.specs.declared.progress.Progress.TheVariants.{Closed}
 use Rattle.j39_bus.specs.declared.wired.Wired.TheVariants as wired
 use Rattle.j39_bus.specs.SentTransfers.{address_of, destination_of, packet_frame, short_frame}
 use Rattle.j39_bus.specs.TransferSteps.{targets_of, first_item, first_frame}
 use Rattle.j39_bus.proofs.Emitting.{receiver_is}
-use Rattle.j39_bus.specs.World.{Stations, changed, hears}
+use Rattle.j39_bus.specs.World.{Stations, changed}
 use Rattle.j39_bus.proofs.Receivers.{Boxed, values, none_some}
-use Rattle.j39_bus.proofs.Sendings.{HasNoMore, places_valued}
 use Rattle.j39_bus.proofs.Tables.{places_tested, one_place}
 
 -- a receiver that was made is one, where the message goes

@@ -1,10 +1,10 @@
 -- A sender goes on, or gives up.
-use Rattle.std.proofs.Common.{◌≡◌, ℕ, zero, suc, ◌<◌, Bool, true, false, eqb, List, [], ◌∷◌, length, get_or, refl, sym, ap, ◌∙◌, subst, Option, Some, None, is_some}
+use Rattle.std.proofs.Common.{◌≡◌, ℕ, zero, suc, ◌<◌, true, false, eqb, List, [], ◌∷◌, length, get_or, refl, sym, ap, ◌∙◌, subst, Option, Some, None, is_some}
 use Rattle.std.proofs.lemmas.Bool.{true≢false, eq-eqb, cond-true}
 use Rattle.std.proofs.lemmas.List.{get_or-map}
 use Rattle.std.specs.Option.{option_map, option_and_then}
 use Rattle.j39_tp.specs.Receiver.{Receiving}
-use Rattle.j39_tp.specs.Sender.{data_next, after_packet, timeout_packet, after_timeout}
+use Rattle.j39_tp.specs.Sender.{data_next, timeout_packet}
 use Rattle.j39_tp.specs.declared.packet.Packet.{Packet}
 use Rattle.j39_tp.specs.Chunks.{chunk}
 use Rattle.j39_tp.specs.declared.packet.Packet.TheVariants.{Dt, Abort}
@@ -15,8 +15,8 @@ use Rattle.j39_bus.specs.declared.wire.Wire as queued
 use Rattle.j39_bus.specs.declared.wired.Wired.{Wired}
 use Rattle.j39_bus.specs.declared.wired.Wired.TheVariants as wired
 use Rattle.j39_bus.specs.declared.route.Route.{Route}
-use Rattle.j39_bus.specs.BusState.{receiver_of, session_at}
-use Rattle.j39_bus.specs.Traffic.{HasRoomAlong, IsTraffic, KeepsReceivers, KeepsTransfers, at_stage, is_announcement, is_receiver, receiver_in, room_at, transfer_of, values_of}
+use Rattle.j39_bus.specs.BusState.{receiver_of}
+use Rattle.j39_bus.specs.Traffic.{HasRoomAlong, IsTraffic, KeepsReceivers, KeepsTransfers, is_announcement, is_receiver, receiver_in, room_at, transfer_of}
 use Rattle.j39_bus.specs.Transfers.{Outgoing, Receivers, Sessions}
 use Rattle.j39_bus.specs.TransferSteps.{sent_along}
 use Rattle.j39_bus.specs.World.{World, changed}

@@ -1,5 +1,5 @@
 -- A message of which a receiver, or the sender, has heard something.
-use Rattle.std.proofs.Common.{◌≡◌, ◌≢◌, ℕ, suc, zero, ◌<◌, Bool, true, false, cond, eqb, List, [], ◌∷◌, length, map, get_or, set, refl, sym, ap, ◌∙◌, subst, arith, inl, inr, Option, Some, None, is_some, if◌then◌else◌, get_or-set_other, get_or-set_same}
+use Rattle.std.proofs.Common.{◌≡◌, ℕ, suc, zero, ◌<◌, true, false, List, [], ◌∷◌, length, get_or, set, refl, sym, ap, ◌∙◌, subst, inl, inr, Option, Some, None, is_some, if◌then◌else◌, get_or-set_other, get_or-set_same}
 use Rattle.std.proofs.Math.ListN.{length-set}
 use Rattle.std.proofs.lemmas.List.{length-map}
 use Rattle.std.proofs.lemmas.Bool.{cases_eq}
@@ -11,14 +11,13 @@ use Rattle.j39_tp.specs.declared.packet.Packet.{Packet}
 use Rattle.j39_tp.specs.declared.reaction.Reaction.{Reaction}
 use Rattle.j39_tp.specs.declared.reaction.Reaction.TheVariants as reactions
 use Rattle.j39_tp.specs.declared.stage.Stage.{Stage}
-use Rattle.j39_bus.specs.declared.transfer.Content.{Content}
 use Rattle.j39_bus.specs.declared.transfer.Transfer as made
 use Rattle.j39_bus.specs.BusState.{Transfer, places_from}
 use Rattle.j39_bus.specs.Flows.{dest_of, window_at}
 use Rattle.j39_bus.specs.Traffic.{AreAnswering, IsInside, IsTransfer, HasContent, bytes_in, is_receiver, stage_in, transfer_of}
 use Rattle.j39_bus.specs.Transfers.{Outgoing, is_among}
 use Rattle.j39_bus.specs.TransferSteps.{session_hears}
-use Rattle.j39_bus.proofs.Receivers.{Boxed, values, none_some}
+use Rattle.j39_bus.proofs.Receivers.{Boxed, none_some}
 use Rattle.j39_bus.proofs.Sendings.{places_valued}
 use Rattle.j39_bus.proofs.SentMessages.{out}
 use Rattle.j39_bus.proofs.Tables.{among_places}

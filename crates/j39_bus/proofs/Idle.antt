@@ -1,25 +1,23 @@
 -- A sender that rests becomes idle.
-use Rattle.std.proofs.Common.{◌≡◌, ℕ, zero, suc, ◌+◌, ◌<◌, ◌≤◌, Bool, true, false, cond, not, ◌&&◌, ◌||◌, eqb, List, [], ◌∷◌, length, get_or, set, refl, sym, ap, ◌∙◌, subst, arith, inl, inr, Option, Some, None, is_some, get_or-set_other, get_or-set_same}
+use Rattle.std.proofs.Common.{◌≡◌, ℕ, zero, suc, ◌+◌, ◌<◌, ◌≤◌, Bool, true, false, cond, not, eqb, List, [], ◌∷◌, length, get_or, set, refl, sym, ap, ◌∙◌, subst, arith, inl, inr, Option, Some, None, is_some, get_or-set_other, get_or-set_same}
 use Rattle.std.proofs.Math.ListN.{length-set}
 use Rattle.std.proofs.lemmas.List.{get_or-map, get_or_past, map-set, length-map}
 use Rattle.std.proofs.lemmas.Bool.{cases_eq, cases_lt, eq-eqb, ne_eqb, and_parts, true≢false}
 use Rattle.std.specs.List.{list_all, list_any, range_with_len}
 use Rattle.std.specs.Option.{option_map}
 use Rattle.j39_tp.specs.Gathered.{Gathers}
-use Rattle.j39_tp.specs.Receiver.{Receiving, is_open_at}
-use Rattle.j39_tp.specs.declared.packet.Packet.{Packet}
+use Rattle.j39_tp.specs.Receiver.{is_open_at}
 use Rattle.j39_tp.specs.declared.packet.Packet.TheVariants.{Rts, Cts, EndAck, Bam, Abort, Dt}
 use Rattle.j39_tp.specs.declared.progress.Progress.{Progress}
 use Rattle.j39_tp.specs.declared.progress.Progress.TheVariants.{Closed, Open, Complete}
 use Rattle.j39_bus.specs.declared.network.Network.{Network}
-use Rattle.j39_bus.specs.declared.route.Route.{Route}
 use Rattle.j39_bus.specs.declared.transfer.Transfer as made
 use Rattle.j39_bus.specs.declared.wired.Wired.{Wired}
 use Rattle.j39_bus.specs.declared.wired.Wired.TheVariants as wired
 use Rattle.j39_bus.specs.BusState.{Transfer, outgoing_of, pair_in, receiver_of, receiving_or, session_at}
-use Rattle.j39_bus.specs.Network.{AreGathered, Histories, receivers_of, transfers_of, world_of}
+use Rattle.j39_bus.specs.Network.{AreGathered, Histories, receivers_of, world_of}
 use Rattle.j39_bus.specs.Resting.{can_rest, is_of_sender, is_over_with}
-use Rattle.j39_bus.specs.Traffic.{AreTransfers, IsTraffic, IsTransferOr, is_announcement, lists_of, receiver_in, transfer_of, values_of}
+use Rattle.j39_bus.specs.Traffic.{IsTraffic, IsTransferOr, is_announcement, lists_of, receiver_in, transfer_of, values_of}
 use Rattle.j39_bus.specs.Transfers.{outcome_in, settled}
 use Rattle.j39_bus.specs.World.{changed}
 use Rattle.j39_bus.proofs.Receivers.{Boxed}

@@ -1,5 +1,5 @@
 -- The oldest item between two units is taken away.
-use Rattle.std.proofs.Common.{◌≡◌, ℕ, ◌<◌, true, false, List, [], ◌∷◌, length, drop, refl, sym, ap, ◌∙◌, subst, arith, Option, Some, None, IfSome, is_some}
+use Rattle.std.proofs.Common.{◌≡◌, ℕ, ◌<◌, true, List, ◌∷◌, length, drop, sym, ap, ◌∙◌, subst, arith, Option, Some, None, IfSome, is_some}
 use Rattle.std.proofs.lemmas.Bool.{true≢false}
 use Rattle.j39_bus.specs.declared.network.Network.{Network}
 use Rattle.j39_bus.specs.declared.wire.Wire.{Wire}

@@ -1,10 +1,10 @@
 -- A receiver has heard something, or nothing in time.
-use Rattle.std.proofs.Common.{◌≡◌, ℕ, ◌<◌, Bool, true, false, cond, ◌&&◌, eqb, List, length, get_or, refl, sym, ap, ◌∙◌, subst, inl, inr, Option, Some, None, is_some, if◌then◌else◌}
+use Rattle.std.proofs.Common.{◌≡◌, ℕ, ◌<◌, Bool, true, false, ◌&&◌, eqb, List, length, get_or, refl, sym, ap, ◌∙◌, subst, inl, inr, Option, Some, None, is_some, if◌then◌else◌}
 use Rattle.std.proofs.lemmas.List.{get_or-map}
 use Rattle.std.proofs.lemmas.Bool.{cond_both, and_parts, eqb-true, eq-eqb, cases_Bool, true≢false}
 use Rattle.std.specs.Option.{option_map}
 use Rattle.j39_tp.specs.Gathered.{Gathers, TellsComplete}
-use Rattle.j39_tp.specs.Receiver.{Receiving, fresh, hears, receives, timed_out, gives_up, going_on, opened, is_directed}
+use Rattle.j39_tp.specs.Receiver.{Receiving, hears, receives, timed_out, gives_up, going_on, opened, is_directed}
 use Rattle.j39_tp.specs.declared.heard.Heard.{Heard}
 use Rattle.j39_tp.specs.declared.heard.Heard.TheVariants as heards
 use Rattle.j39_tp.specs.declared.manner.Manner.{Manner}

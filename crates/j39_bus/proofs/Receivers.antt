@@ -1,5 +1,5 @@
 -- The receivers of a message, after one of them has changed.
-use Rattle.std.proofs.Common.{◌≡◌, ℕ, ◌<◌, List, length, map, get_or, set, refl, sym, ap, ◌∙◌, Option, Some, None}
+use Rattle.std.proofs.Common.{◌≡◌, ℕ, ◌<◌, List, length, map, get_or, set, sym, ap, ◌∙◌, Option, Some, None}
 use Rattle.std.proofs.lemmas.List.{get_or-map, map-set, get_or_default}
 use Rattle.std.specs.Box.{with_value}
 use Rattle.std.specs.Option.{option_map}

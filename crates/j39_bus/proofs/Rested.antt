@@ -1,5 +1,5 @@
 -- When a sender may rest.
-use Rattle.std.proofs.Common.{◌≡◌, ℕ, zero, suc, ◌+◌, ◌<◌, ◌≤◌, Bool, true, false, not, ◌&&◌, ◌||◌, List, [], ◌∷◌, refl, sym, ap, ◌∙◌, subst, arith, inl, inr, length, get_or, Option, Some, None, is_some}
+use Rattle.std.proofs.Common.{◌≡◌, ℕ, zero, suc, ◌+◌, ◌<◌, ◌≤◌, Bool, true, false, not, ◌&&◌, ◌||◌, List, [], ◌∷◌, refl, sym, ap, ◌∙◌, arith, inl, inr, length, get_or, Option, Some, None, is_some}
 use Rattle.std.proofs.lemmas.Bool.{and_right, cases_eq, lt-ltb}
 use Rattle.std.proofs.lemmas.List.{length-map}
 use Rattle.std.specs.Option.{option_map}
@@ -10,11 +10,10 @@ use Rattle.j39_bus.specs.Run.{count_of, is_unit, is_no_transfer_open}
 use Rattle.j39_bus.specs.declared.transfer.Transfer as made
 use Rattle.j39_bus.proofs.AlongMessages.{session_of}
 use Rattle.std.specs.List.{list_all, list_any, range_with_len}
-use Rattle.j39_tp.specs.Receiver.{Receiving, is_open_at}
+use Rattle.j39_tp.specs.Receiver.{is_open_at}
 use Rattle.j39_tp.specs.declared.progress.Progress.{Progress}
 use Rattle.j39_tp.specs.declared.progress.Progress.TheVariants.{Closed, Open, Complete}
 use Rattle.j39_bus.specs.declared.network.Network.{Network}
-use Rattle.j39_bus.specs.declared.wired.Wired.{Wired}
 use Rattle.j39_bus.specs.BusState.{outgoing_of, pair_in, receiving_or, session_at}
 use Rattle.j39_bus.specs.Network.{Histories, IsOf, world_of}
 use Rattle.j39_bus.specs.Resting.{is_of_sender, is_of_receiver, is_over_with}

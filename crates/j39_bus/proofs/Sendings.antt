@@ -1,8 +1,7 @@
 -- What is sent joins the lists of the wire.
-use Rattle.std.proofs.Common.{◌≡◌, ℕ, suc, ◌<◌, Bool, true, false, cond, ◌&&◌, ◌||◌, eqb, List, [], ◌∷◌, ◌++◌, length, map, get_or, drop, refl, sym, ap, ◌∙◌, subst, Option, Some, None, inl, inr}
-use Rattle.std.proofs.lemmas.Bool.{cond_both, and_parts, eqb-true, cases_Bool, or_right, true≢false}
+use Rattle.std.proofs.Common.{◌≡◌, ℕ, suc, Bool, true, false, cond, ◌&&◌, ◌||◌, eqb, List, [], ◌∷◌, ◌++◌, length, drop, refl, sym, ap, ◌∙◌, subst, Option, Some, None}
+use Rattle.std.proofs.lemmas.Bool.{cond_both, and_parts, eqb-true, or_right, true≢false}
 use Rattle.std.specs.List.{list_any}
-use Rattle.std.specs.Option.{option_map}
 use Rattle.j39_tp.specs.declared.packet.Packet.{Packet}
 use Rattle.j39_bus.specs.declared.route.Route.{Route}
 use Rattle.j39_bus.specs.declared.network.Network.{Network}
@@ -15,7 +14,7 @@ use Rattle.j39_bus.specs.declared.wired.Wired.TheVariants as wired
 use Rattle.j39_bus.specs.BusState.{pair_in, places_from}
 use Rattle.j39_bus.specs.Sent.{Sent}
 use Rattle.j39_bus.specs.SentTransfers.{address_of, packet_frame}
-use Rattle.j39_bus.specs.Traffic.{IsTable, IsTraffic, is_announcement, is_receiver, posted, posted_along, lists_of, values_of}
+use Rattle.j39_bus.specs.Traffic.{IsTable, IsTraffic, is_announcement, is_receiver, posted, posted_along, lists_of}
 use Rattle.j39_bus.specs.Transfers.{Wire, added, is_among}
 use Rattle.j39_bus.specs.TransferSteps.{replied, sent_to}
 use Rattle.j39_bus.specs.World.{World, changed_pair}

@@ -1,15 +1,15 @@
 -- The messages that units send, after one of them has changed.
-use Rattle.std.proofs.Common.{◌≡◌, ℕ, ◌<◌, Bool, true, false, cond, ◌&&◌, eqb, List, length, map, get_or, set, refl, sym, ap, ◌∙◌, subst, arith, inl, inr, Option, Some, None, get_or-set_other, get_or-set_same}
+use Rattle.std.proofs.Common.{◌≡◌, ℕ, ◌<◌, Bool, true, false, cond, ◌&&◌, eqb, List, length, get_or, set, refl, sym, ap, ◌∙◌, subst, arith, inl, inr, Option, Some, None, get_or-set_other, get_or-set_same}
 use Rattle.std.proofs.Math.ListN.{length-set}
 use Rattle.std.proofs.lemmas.List.{get_or-map, map-set, length-map}
-use Rattle.std.proofs.lemmas.Bool.{cases_eq, eq-eqb, ne_eqb, cond_both}
+use Rattle.std.proofs.lemmas.Bool.{cases_eq, eq-eqb, ne_eqb}
 use Rattle.std.specs.Option.{option_map}
 use Rattle.j39_tp.specs.declared.stage.Stage.{Stage}
 use Rattle.j39_tp.specs.Receiver.{Receiving}
 use Rattle.j39_bus.specs.declared.transfer.Content.{Content}
 use Rattle.j39_bus.specs.declared.transfer.Transfer as made
 use Rattle.j39_bus.specs.BusState.{Transfer, outgoing_of, places_from, session_at, receiver_of}
-use Rattle.j39_bus.specs.Traffic.{AreTransfers, IsTransfer, IsTransferOr, HasContent, HasOwnContent, HasReceivers, KeepsReceivers, KeepsSessions, KeepsTransfers, bytes_in, stage_in, transfer_of, values_of, receiver_in}
+use Rattle.j39_bus.specs.Traffic.{IsTransfer, IsTransferOr, HasContent, HasOwnContent, KeepsReceivers, KeepsSessions, KeepsTransfers, bytes_in, stage_in, transfer_of, values_of, receiver_in}
 use Rattle.j39_bus.specs.Transfers.{Outgoing}
 use Rattle.j39_bus.specs.World.{changed, changed_pair}
 

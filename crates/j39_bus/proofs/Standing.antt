@@ -16,7 +16,7 @@ use Rattle.j39_bus.specs.Run.{refusal, Leads, RunsThrough}
 use Rattle.j39_bus.specs.Letters.{between, is_inside}
 use Rattle.j39_bus.specs.BusState.{BusState, table_of, undelivered}
 use Rattle.j39_bus.specs.Stands.{Stands}
-use Rattle.j39_bus.specs.Network.{state_of, world_of, claimants, Histories, HasGathered, IsNetwork, IsBus, IsOf, IsAllowed, IsRefused, IsSameNetwork, KeepsPlan, LeadsTo}
+use Rattle.j39_bus.specs.Network.{state_of, world_of, Histories, HasGathered, IsNetwork, IsBus, IsOf, IsAllowed, IsRefused, IsSameNetwork, KeepsPlan, LeadsTo}
 use Rattle.j39_bus.specs.Sent.{sent_of}
 use Rattle.j39_bus.specs.Traffic.{route_of, reported_of, values_of}
 use Rattle.j39_bus.proofs.Between.{none_outside}

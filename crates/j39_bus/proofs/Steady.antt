@@ -1,5 +1,5 @@
 -- What stays where a step changes other parts of a network.
-use Rattle.std.proofs.Common.{◌≡◌, List, Option, length, map, refl, sym, ap, ◌∙◌, subst}
+use Rattle.std.proofs.Common.{◌≡◌, List, Option, length, map, sym, ap, ◌∙◌, subst}
 use Rattle.j39_bus.specs.declared.transfer.Transfer as made
 use Rattle.j39_plan.specs.declared.plan.Plan.{Plan}
 use Rattle.j39_plan.specs.declared.steps.Step.{Step}
@@ -12,7 +12,7 @@ use Rattle.j39_bus.specs.Sent.{sent_of}
 use Rattle.j39_bus.specs.World.{World}
 use Rattle.j39_bus.specs.Run.{Leads}
 use Rattle.std.specs.Prelude.{ℕ}
-use Rattle.j39_bus.specs.Traffic.{IsTraffic, KeepsReceivers, lists_of, receiver_in, reported_of, values_of}
+use Rattle.j39_bus.specs.Traffic.{IsTraffic, KeepsReceivers, lists_of, reported_of, values_of}
 use Rattle.j39_tp.specs.Gathered.{Gathers}
 use Rattle.j39_tp.specs.declared.packet.Packet.{Packet}
 use Rattle.j39_tp.specs.Receiver.{Receiving}

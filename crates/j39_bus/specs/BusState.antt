@@ -1,5 +1,5 @@
 -- What contracts see of a bus.
-use Rattle.std.specs.Prelude.{ℕ, Bool, suc, cond, nat_eq, List, [], ◌∷◌, map, slice_index_or, Option, Some, None, is_some}
+use Rattle.std.specs.Prelude.{ℕ, suc, List, [], ◌∷◌, map, slice_index_or, Option, Some, None}
 use Rattle.std.specs.List.{range_with_len}
 use Rattle.j39_claim.specs.declared.item.Item.{Item}
 use Rattle.j39_claim.specs.Claiming.{Claiming}

@@ -1,5 +1,5 @@
 -- What the transfer steps need of a plan: what each flow sends to whom, and how much each unit lets be sent to it at once.
-use Rattle.std.specs.Prelude.{ℕ, Bool, true, false, ◌&&◌, not, nat_eq, nat_le, List, map, slice_index_or}
+use Rattle.std.specs.Prelude.{ℕ, Bool, true, ◌&&◌, not, nat_eq, nat_le, List, map, slice_index_or}
 use Rattle.std.specs.List.{slice_get}
 use Rattle.std.specs.Option.{option_map_or}
 use Rattle.j39_id.specs.Pgn.{pf_of}

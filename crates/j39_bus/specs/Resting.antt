@@ -1,8 +1,8 @@
 -- When a sender may rest (a rule of our own; it stands for waiting longer than every timeout).
-use Rattle.std.specs.Prelude.{ℕ, Bool, true, false, not, ◌&&◌, Option, Some, None, is_some}
+use Rattle.std.specs.Prelude.{ℕ, Bool, true, false, not, ◌&&◌, is_some}
 use Rattle.std.specs.List.{range_with_len, list_all}
 use Rattle.j39_tp.specs.Receiver.{is_open_at}
-use Rattle.j39_tp.specs.declared.packet.Packet.TheVariants.{Rts, Cts, EndAck, Bam, Abort, Dt}
+use Rattle.j39_tp.specs.declared.packet.Packet.TheVariants.{Cts, EndAck, Abort}
 use Rattle.j39_bus.specs.declared.wired.Wired.{Wired}
 use Rattle.j39_bus.specs.declared.wired.Wired.TheVariants as wired
 use Rattle.j39_bus.specs.Transfers.{outcome_in}

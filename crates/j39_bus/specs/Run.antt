@@ -1,10 +1,10 @@
 -- When a step is refused, where it leads, and runs.
 use Rattle.std.specs.Prelude.{◌≡◌, ℕ, ◌==◌, Bool, true, false, not, ◌&&◌, nat_lt, cond, List, [], ◌∷◌, length, Option, Some, None, MatchBool, is_some}
-use Rattle.std.specs.List.{slice_get, range_with_len, list_all, list_any}
+use Rattle.std.specs.List.{slice_get, range_with_len, list_all}
 use Rattle.j39_tp.specs.Receiver.{is_open_at}
 use Rattle.j39_tp.specs.Sender.{next_number}
 use Rattle.j39_tp.specs.declared.stage.Stage.{Stage}
-use Rattle.j39_tp.specs.declared.stage.Stage.TheVariants.{Sending, Waiting, Resting}
+use Rattle.j39_tp.specs.declared.stage.Stage.TheVariants.{Waiting}
 use Rattle.j39_plan.specs.declared.plan.Plan.{Plan}
 use Rattle.j39_plan.specs.declared.plan.to.To.{To}
 use Rattle.j39_plan.specs.declared.plan.to.To.TheVariants.{All, One}
@@ -15,7 +15,7 @@ use Rattle.j39_bus.specs.declared.step_error.StepError.TheVariants.{UnknownUnit,
 use Rattle.j39_bus.specs.Claimants.{units_of, is_place}
 use Rattle.j39_bus.specs.Flows.{Flow, flows_of, windows_of, can_be_sent}
 use Rattle.j39_bus.specs.Transfers.{Outgoing}
-use Rattle.j39_bus.specs.World.{World, Stations, Undelivered}
+use Rattle.j39_bus.specs.World.{World, Undelivered}
 use Rattle.j39_bus.specs.ClaimSteps.{switched_on, asked, GivenFrom}
 use Rattle.j39_bus.specs.Resting.{can_rest}
 use Rattle.j39_bus.specs.TransferSteps.{BeginsAt, Emits, TakenFrom, LostFrom, SenderTimesOut, receiver_timed_out, rested}

@@ -1,5 +1,5 @@
 -- What contracts see of the messages that units send one another, and what these keep true.
-use Rattle.std.specs.Prelude.{◌≡◌, ℕ, ◌-◌, ◌<◌, ◌≤◌, Bool, true, false, cond, not, ◌&&◌, nat_eq, List, [], map, drop, length, Option, Some, None, is_some, slice_get, slice_index_or, slice_set, vec_capacity, All, ◌++◌, ◌∷◌}
+use Rattle.std.specs.Prelude.{◌≡◌, ℕ, ◌-◌, ◌<◌, ◌≤◌, Bool, true, false, cond, ◌&&◌, nat_eq, List, [], map, drop, length, Option, Some, None, is_some, slice_index_or, slice_set, vec_capacity, All, ◌++◌, ◌∷◌}
 use Rattle.std.specs.List.{list_any}
 use Rattle.std.specs.Option.{option_map}
 use Rattle.std.specs.VecDeque.{deque_len, deque_capacity}
@@ -10,14 +10,12 @@ use Rattle.std.specs.declared.collections.VecDeque.{VecDeque}
 use Rattle.j39_plan.specs.declared.plan.to.To.{To}
 use Rattle.j39_plan.specs.declared.plan.to.To.TheVariants.{All as ToAll, One as ToOne}
 use Rattle.j39_tp.specs.Receiver.{Receiving, fresh}
-use Rattle.j39_tp.specs.declared.dest.Dest.{Dest}
 use Rattle.j39_tp.specs.declared.heard.Heard.{Heard}
 use Rattle.j39_tp.specs.declared.heard.Heard.TheVariants as heards
 use Rattle.j39_tp.specs.declared.manner.Manner.TheVariants.{Answering}
 use Rattle.j39_tp.specs.declared.outcome.Outcome.TheVariants.{Sent}
 use Rattle.j39_tp.specs.declared.packet.Packet.{Packet}
 use Rattle.j39_tp.specs.declared.packet.Packet.TheVariants.{Rts, Bam, Dt}
-use Rattle.j39_tp.specs.declared.session.Session.{Session}
 use Rattle.j39_tp.specs.declared.stage.Stage.{Stage}
 use Rattle.j39_tp.specs.declared.stage.Stage.TheVariants.{Resting}
 use Rattle.j39_bus.specs.declared.report.Report.{Report}

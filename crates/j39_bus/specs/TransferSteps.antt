@@ -1,6 +1,6 @@
 -- The steps of transfers (SAE J1939-21, transport protocol functions). What senders and receivers do is told by the rules of
 -- a sender and of a receiver; here is what becomes of it on a bus.
-use Rattle.std.specs.Prelude.{◌≡◌, ℕ, Bool, false, if◌then◌else◌, List, [], ◌∷◌, ◌++◌, length, map, Option, Some, None}
+use Rattle.std.specs.Prelude.{◌≡◌, ℕ, if◌then◌else◌, List, [], ◌∷◌, ◌++◌, length, map, Option, Some, None}
 use Rattle.std.specs.List.{range_with_len, filter}
 use Rattle.j39_tp.specs.Carried.{Carried}
 use Rattle.j39_tp.specs.Sender as sender
@@ -22,7 +22,7 @@ use Rattle.j39_bus.specs.declared.wired.Wired.TheVariants as wired
 use Rattle.j39_bus.specs.Flows.{Flow, dest_of, is_short, window_at}
 use Rattle.j39_bus.specs.Sent as frames
 use Rattle.j39_bus.specs.SentTransfers.{address_of, destination_of, packet_frame, short_frame}
-use Rattle.j39_bus.specs.Transfers.{Outgoing, Begun, Reported, is_among, added, settled}
+use Rattle.j39_bus.specs.Transfers.{Outgoing, Reported, is_among, added, settled}
 use Rattle.j39_bus.specs.World.{World, Stations, changed, changed_pair, hears}
 
 -- ---- what is sent

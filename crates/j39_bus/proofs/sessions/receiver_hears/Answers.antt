@@ -1,7 +1,7 @@
 use Rattle.std.proofs.Common.{◌≡◌, ◌<◌, length, refl, subst, ap, sym, ◌∙◌, arith, Some, None}
 use Rattle.std.proofs.lemmas.List.{length-map}
 use Rattle.std.specs.Option.{option_map}
-use Rattle.j39_tp.specs.Receiver.{Receiving, hears, timed_out, receives, gives_up}
+use Rattle.j39_tp.specs.Receiver.{Receiving, receives}
 use Rattle.j39_bus.specs.BusState.{Transfer}
 use Rattle.j39_bus.specs.Traffic.{HasReceivers, receiver_in, transfer_of}
 use Rattle.j39_bus.specs.World.{changed_pair}

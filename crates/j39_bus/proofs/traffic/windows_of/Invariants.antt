@@ -1,6 +1,5 @@
-use Rattle.std.proofs.Common.{◌≡◌, ℕ, ◌<◌, map, take, All}
+use Rattle.std.proofs.Common.{◌≡◌, ◌<◌, map, take, All}
 use Rattle.j39_plan.specs.declared.plan.unit_plan.UnitPlan.{UnitPlan}
-use Rattle.j39_bus.specs.Flows.{window_at}
 use Rattle.j39_bus.proofs.traffic.windows_of.Given as goal
 
 abbrev pub invariant-loop-unit : goal.invariant-loop-unit

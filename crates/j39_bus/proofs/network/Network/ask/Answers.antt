@@ -3,14 +3,13 @@ use Rattle.std.specs.List.{list_any}
 use Rattle.j39_claim.specs.Claiming.{Claiming}
 use Rattle.j39_plan.specs.declared.steps.Step.TheVariants.{Ask}
 use Rattle.j39_bus.specs.ClaimSteps.{asked}
-use Rattle.j39_bus.specs.Letters.{nobody, station_at}
+use Rattle.j39_bus.specs.Letters.{station_at}
 use Rattle.j39_bus.specs.Network.{world_of}
 use Rattle.j39_bus.specs.Run.{count_of, is_no_transfer_open, is_unit}
 use Rattle.j39_bus.proofs.Refused.{is_on}
 use Rattle.j39_bus.proofs.Rested.{idle_by, unit_known}
 use Rattle.j39_bus.proofs.Steady.{leads_same, leads_after, plan_same}
 use Rattle.j39_bus.proofs.Standing.{plan_kept}
-use Rattle.j39_bus.proofs.Worlds.{any_default}
 use Rattle.j39_bus.proofs.network.Network.ask.Goals as goal
 
 pub returns-then-is_transfer_open-clause-refused : goal.returns-then-is_transfer_open-clause-refused

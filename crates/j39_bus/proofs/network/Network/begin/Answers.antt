@@ -1,4 +1,4 @@
-use Rattle.std.proofs.Common.{◌≡◌, ℕ, ◌<◌, ◌==◌, true, false, not, is_some, List, length, get_or, refl, sym, ap, ◌∙◌, subst, arith, None}
+use Rattle.std.proofs.Common.{◌≡◌, ◌<◌, ◌==◌, true, false, not, is_some, length, get_or, refl, sym, ap, ◌∙◌, subst, arith, None}
 use Rattle.std.proofs.lemmas.List.{get_or_default}
 use Rattle.std.proofs.lemmas.Bool.{eq-eqb, ne_eqb}
 use Rattle.j39_plan.specs.declared.plan.Plan.{Plan}
@@ -12,8 +12,7 @@ use Rattle.j39_bus.specs.Traffic.{IsRoute, route_of}
 use Rattle.j39_bus.specs.TransferSteps.{BeginsAt, begins}
 use Rattle.j39_bus.proofs.BeginRefused.{flow_is, refusal_by, settled_by, idle_is}
 use Rattle.j39_bus.proofs.Rested.{units_count}
-use Rattle.j39_bus.proofs.Standing.{plan_kept}
-use Rattle.j39_bus.proofs.Steady.{leads_after, plan_same}
+use Rattle.j39_bus.proofs.Steady.{leads_after}
 use Rattle.j39_bus.proofs.network.Network.begin.Goals as goal
 
 pub returns-then-not-is_empty-clause-refused : goal.returns-then-not-is_empty-clause-refused

@@ -1,4 +1,4 @@
-use Rattle.std.proofs.Common.{◌≡◌, ◌∷◌, ◌++◌, false, refl, ap, sym, ◌∙◌, subst, map, drop, List, []}
+use Rattle.std.proofs.Common.{◌≡◌, ◌∷◌, ◌++◌, refl, ap, sym, ◌∙◌, subst, map, drop, List, []}
 use Rattle.std.specs.List.{list_any}
 use Rattle.j39_tp.specs.declared.manner.Manner.TheVariants.{Answering}
 use Rattle.j39_tp.specs.declared.packet.Packet.{Packet}

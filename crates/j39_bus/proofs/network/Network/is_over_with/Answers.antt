@@ -1,4 +1,4 @@
-use Rattle.std.proofs.Common.{◌≡◌, Bool, false, true, refl, sym, ap, ◌∙◌}
+use Rattle.std.proofs.Common.{◌≡◌, false, true, refl, sym, ap, ◌∙◌}
 use Rattle.j39_tp.specs.Receiver.{is_open_at}
 use Rattle.j39_bus.specs.BusState.{receiving_or}
 use Rattle.j39_bus.specs.Traffic.{receiver_in}

@@ -1,4 +1,4 @@
-use Rattle.std.proofs.Common.{◌≡◌, ap, ◌∙◌}
+use Rattle.std.proofs.Common.{ap, ◌∙◌}
 use Rattle.j39_plan.specs.declared.steps.Step.TheVariants.{LateReceiver}
 use Rattle.j39_bus.specs.Network.{world_of}
 use Rattle.j39_bus.specs.TransferSteps.{receiver_timed_out}

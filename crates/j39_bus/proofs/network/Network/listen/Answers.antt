@@ -1,4 +1,4 @@
-use Rattle.std.proofs.Common.{◌≡◌, ℕ, ◌<◌, Bool, true, false, ◌&&◌, eqb, List, [], ◌∷◌, ◌++◌, length, drop, get_or, refl, ap, sym, ◌∙◌, subst, arith, is_some, None}
+use Rattle.std.proofs.Common.{◌≡◌, ℕ, true, ◌&&◌, eqb, List, [], ◌∷◌, ◌++◌, length, drop, get_or, refl, ap, sym, ◌∙◌, subst, arith, is_some, None}
 use Rattle.std.proofs.lemmas.Bool.{or_left, and_from, eq-eqb, cond-true, cond-false}
 use Rattle.std.specs.List.{list_any}
 use Rattle.std.specs.Option.{option_map}
@@ -7,10 +7,10 @@ use Rattle.j39_tp.specs.Receiver.{Receiving, hears, receives}
 use Rattle.j39_tp.specs.declared.manner.Manner.TheVariants.{Answering}
 use Rattle.j39_tp.specs.declared.packet.Packet.{Packet}
 use Rattle.j39_bus.specs.declared.wired.Wired.TheVariants as wired
-use Rattle.j39_bus.specs.BusState.{pair_in, receiving_or, session_at}
+use Rattle.j39_bus.specs.BusState.{pair_in, receiving_or}
 use Rattle.j39_bus.specs.Flows.{window_at}
-use Rattle.j39_bus.specs.Network.{transfers_of, world_of}
-use Rattle.j39_bus.specs.Traffic.{IsTable, is_announcement, is_complete, lists_of, receiver_in, values_of}
+use Rattle.j39_bus.specs.Network.{world_of}
+use Rattle.j39_bus.specs.Traffic.{IsTable, is_announcement, is_complete, lists_of, receiver_in}
 use Rattle.j39_bus.specs.TransferSteps.{reaction_of, session_after}
 use Rattle.j39_bus.specs.World.{changed, changed_pair}
 use Rattle.j39_bus.proofs.Emitting.{traffic_kept}

@@ -1,6 +1,6 @@
 use Rattle.std.proofs.Common.{refl, arith, not, ap, ◌∙◌}
 use Rattle.j39_plan.specs.declared.steps.Step.TheVariants.{Lose}
-use Rattle.j39_bus.proofs.Lost.{lost, leads_lost}
+use Rattle.j39_bus.proofs.Lost.{leads_lost}
 use Rattle.j39_bus.proofs.Steady.{leads_same}
 use Rattle.j39_bus.proofs.network.Network.lose.Goals as goal
 

@@ -1,4 +1,4 @@
-use Rattle.std.proofs.Common.{◌≡◌, ◌∷◌, [], ◌++◌, ◌≤◌, List, ℕ, length, vec_len, vec_capacity, ap, sym, ◌∙◌, arith, if◌then◌else◌, is_ok}
+use Rattle.std.proofs.Common.{◌≡◌, ◌∷◌, [], ◌++◌, List, ℕ, length, vec_len, vec_capacity, ap, ◌∙◌, arith, if◌then◌else◌, is_ok}
 use Rattle.j39_tp.specs.Receiver.{Receiving, message_of}
 use Rattle.j39_bus.specs.BusState.{receiving_at, receiving_or}
 use Rattle.j39_bus.specs.Network.{transfers_of, world_of}

@@ -1,10 +1,9 @@
-use Rattle.std.proofs.Common.{◌≡◌, ◌∷◌, [], ◌++◌, List, length, map, get_or, arith, refl, ap, sym, ◌∙◌, subst, Option, Some, None}
+use Rattle.std.proofs.Common.{◌≡◌, ◌∷◌, [], ◌++◌, List, length, map, get_or, arith, ap, ◌∙◌, Some, None}
 use Rattle.std.proofs.lemmas.List.{map-append}
 use Rattle.std.specs.Option.{option_map}
-use Rattle.j39_plan.specs.declared.plan.to.To.{To}
 use Rattle.j39_bus.specs.declared.wired.Wired.TheVariants as wired
 use Rattle.j39_bus.specs.BusState.{pair_in, session_at}
-use Rattle.j39_bus.specs.Network.{transfers_of, world_of}
+use Rattle.j39_bus.specs.Network.{world_of}
 use Rattle.j39_bus.specs.Sent.{Sent, sent_of}
 use Rattle.j39_bus.specs.SentTransfers.{packet_frame, destination_of}
 use Rattle.j39_bus.specs.Letters.{station_at}

@@ -1,13 +1,12 @@
-use Rattle.std.proofs.Common.{◌≡◌, ◌<◌, ◌∷◌, [], ◌++◌, ℕ, List, length, map, refl, ap, sym, ◌∙◌, subst, arith, Some, None}
+use Rattle.std.proofs.Common.{◌≡◌, ◌<◌, ◌∷◌, [], ◌++◌, List, length, map, ap, sym, ◌∙◌, arith, Some}
 use Rattle.std.proofs.lemmas.List.{map-append}
-use Rattle.j39_tp.specs.Receiver.{Receiving, fresh}
-use Rattle.j39_tp.specs.declared.manner.Manner.TheVariants.{Answering}
+use Rattle.j39_tp.specs.Receiver.{Receiving}
 use Rattle.j39_bus.specs.BusState.{pair_in, places_from, session_at}
 use Rattle.j39_bus.specs.Flows.{Flow}
 use Rattle.j39_bus.specs.Letters.{station_at}
 use Rattle.j39_bus.specs.Network.{transfers_of, world_of}
 use Rattle.j39_bus.specs.Sent.{Sent, sent_of}
-use Rattle.j39_bus.specs.Traffic.{IsTransfer, item_frame, lists_of, posted, route_of, transfer_of}
+use Rattle.j39_bus.specs.Traffic.{IsTransfer, item_frame, lists_of, posted, route_of}
 use Rattle.j39_bus.specs.Transfers.{Begun, Outgoing, added}
 use Rattle.j39_bus.specs.TransferSteps.{outgoing, targets_of}
 use Rattle.j39_bus.specs.World.{changed}

@@ -1,4 +1,4 @@
-use Rattle.std.proofs.Common.{◌≡◌, false, true, subst, sym, ◌∙◌, List, ℕ, Result, Ok, Err, OnOk, is_err}
+use Rattle.std.proofs.Common.{◌≡◌, false, subst, List, ℕ, Result, Ok, Err, OnOk, is_err}
 use Rattle.std.proofs.lemmas.Bool.{true≢false}
 use Rattle.j39_bus.specs.BusState.{pair_in}
 use Rattle.j39_bus.specs.Network.{TakesTo, world_of}

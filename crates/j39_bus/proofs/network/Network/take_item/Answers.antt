@@ -1,4 +1,4 @@
-use Rattle.std.proofs.Common.{◌≡◌, subst, sym, ap, Result, Ok, Err, OnOk}
+use Rattle.std.proofs.Common.{subst, sym, ap, Result, Ok, Err, OnOk}
 use Rattle.j39_bus.specs.Network.{AreGathered, has_taken}
 use Rattle.j39_bus.specs.Traffic.{values_of}
 use Rattle.j39_bus.proofs.network.Network.take_item.Goals as goal

@@ -6,7 +6,6 @@ use Rattle.j39_bus.specs.ClaimSteps.{switched_on}
 use Rattle.j39_bus.specs.Letters.{nobody, station_at}
 use Rattle.j39_bus.specs.Network.{world_of}
 use Rattle.j39_bus.specs.Run.{count_of, is_no_transfer_open, is_unit}
-use Rattle.j39_bus.proofs.Refused.{is_on}
 use Rattle.j39_bus.proofs.Rested.{idle_by, unit_known}
 use Rattle.j39_bus.proofs.Steady.{leads_same, leads_after, plan_same}
 use Rattle.j39_bus.proofs.Standing.{plan_kept}

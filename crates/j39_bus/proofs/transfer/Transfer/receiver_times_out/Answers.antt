@@ -1,5 +1,5 @@
-use Rattle.std.proofs.Common.{◌≡◌, ap, sym, ◌∙◌, set, Some, None}
-use Rattle.j39_tp.specs.Receiver.{Receiving, receives, gives_up}
+use Rattle.std.proofs.Common.{ap, ◌∙◌, Some, None}
+use Rattle.j39_tp.specs.Receiver.{gives_up}
 use Rattle.j39_bus.specs.Traffic.{transfer_of}
 use Rattle.j39_bus.proofs.Receivers.{receiver_set, at_value}
 use Rattle.j39_bus.proofs.transfer.Transfer.receiver_times_out.Goals as goal

@@ -1,8 +1,7 @@
-use Rattle.std.proofs.Common.{◌≡◌, ℕ, ◌<◌, ◌+◌, true, false, cond, ◌&&◌, eqb, ltb, [], length, refl, sym, ap, ◌∙◌, arith, inl, inr}
+use Rattle.std.proofs.Common.{◌≡◌, ◌<◌, length, sym, ap, ◌∙◌, arith}
 use Rattle.std.proofs.lemmas.List.{length-map}
-use Rattle.std.proofs.lemmas.Bool.{cases_eq, eq-eqb, ne_eqb, lt-ltb}
 use Rattle.j39_bus.specs.BusState.{pair_in}
-use Rattle.j39_bus.specs.Traffic.{IsTable, lists_of, with_pair, items_in}
+use Rattle.j39_bus.specs.Traffic.{lists_of, with_pair, items_in}
 use Rattle.j39_bus.proofs.Cleared.{cleared_table, cleared_more, cleared_all}
 use Rattle.j39_bus.proofs.Queues.{in_row, lists_set, Row}
 use Rattle.j39_bus.proofs.Sendings.{own_table}

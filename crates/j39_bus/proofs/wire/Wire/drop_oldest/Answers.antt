@@ -1,4 +1,4 @@
-use Rattle.std.proofs.Common.{refl, sym, ap, ◌∙◌, arith, drop}
+use Rattle.std.proofs.Common.{sym, ap, ◌∙◌, arith, drop}
 use Rattle.j39_bus.specs.Traffic.{lists_of, with_pair}
 use Rattle.j39_bus.proofs.Queues.{in_row, list_is, lists_set, room_kept}
 use Rattle.j39_bus.proofs.wire.Wire.drop_oldest.Goals as goal

@@ -1,5 +1,5 @@
 use Rattle.std.proofs.Common.{◌≡◌, [], map, replicate}
-use Rattle.j39_bus.specs.Traffic.{Queue, items_in}
+use Rattle.j39_bus.specs.Traffic.{items_in}
 use Rattle.j39_bus.proofs.Queues.{Row}
 use Rattle.j39_bus.proofs.wire.Wire.new.Given as goal
 

@@ -1,4 +1,4 @@
-use Rattle.std.proofs.Common.{◌≡◌, ◌<◌, true, length, sym, ap, ◌∙◌, subst, arith}
+use Rattle.std.proofs.Common.{◌<◌, sym, ◌∙◌, subst}
 use Rattle.j39_bus.proofs.Queues.{row_count, room_row_was, table_row, row_posted}
 use Rattle.j39_bus.proofs.wire.Wire.post_each.Goals as goal
 

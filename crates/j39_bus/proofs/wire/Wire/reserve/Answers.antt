@@ -1,5 +1,3 @@
-use Rattle.std.proofs.Common.{◌≤◌, ◌+◌, arith, Result, Ok, Err, OnOk}
-use Rattle.std.specs.declared.alloc.AllocError.{AllocError}
 use Rattle.j39_bus.proofs.Queues.{in_row, lists_same, room_here, enough}
 use Rattle.j39_bus.proofs.wire.Wire.reserve.Goals as goal
 

@@ -1,4 +1,4 @@
-use Rattle.std.proofs.Common.{◌≡◌, length, sym, ap, ◌∙◌, arith}
+use Rattle.std.proofs.Common.{sym, ◌∙◌}
 use Rattle.j39_bus.proofs.Queues.{same_lists_row, room_row, row_count, enough_each}
 use Rattle.j39_bus.proofs.wire.Wire.reserve_each.Goals as goal
 
