@@ -1,6 +1,6 @@
 //! Messages that were received.
 
-/// A message that a unit received whole: who received it and who sent it, by the flow of these places from 0.
+/// A message that a unit received whole: who received it, who sent it and by which flow, all by place from 0.
 #[derive(Debug, PartialEq, Eq, Drop)]
 pub struct Report {
     pub receiver: usize,
