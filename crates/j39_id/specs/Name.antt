@@ -1,5 +1,5 @@
 -- The 64-bit NAME (SAE J1939-81, NAME fields).
-use Rattle.std.specs.Prelude.{ℕ, ◌*◌, ◌/◌, ◌%◌, ◌^◌, nat_le, List, [], ◌∷◌, sum_by, find, Option, option_map}
+use Rattle.std.specs.Prelude.{ℕ, ◌*◌, ◌/◌, ◌%◌, ◌^◌, nat_eq, nat_le, Bool, List, [], ◌∷◌, sum_by, find, Option, option_map}
 use Rattle.j39_id.specs.declared.name_fields.NameFields.{NameFields}
 use Rattle.j39_id.specs.declared.name_fields.NameField.{NameField}
 use Rattle.j39_id.specs.declared.name_fields.NameField.TheVariants.{Identity, Manufacturer, Ecu, FunctionInstance, Function, Reserved, System, SystemInstance, Industry, Arbitrary}
@@ -55,3 +55,7 @@ fields_of n = record {
   industry = bits_of n 60 3;
   arbitrary = bits_of n 63 1;
 }
+
+-- the unit is arbitrary address capable: it may choose another address
+abbrev pub is_arbitrary : ℕ → Bool
+is_arbitrary name = nat_eq (bits_of name 63 1) 1

@@ -24,7 +24,29 @@ pub struct Ident {
 }
 
 impl Ident {
-    ghost use Rattle.j39_id.specs.Ident.{bits, pgn_of};
+    ghost use Rattle.j39_id.specs.Ident.{bits, pgn_of, identifier_of};
+
+    /// The identifier of a frame of this group. A group whose frames name no destination has that place for itself.
+    pub fn new(priority: u8, pgn: Pgn, destination: u8, source: u8) -> Self
+        requires { priority < 8 }
+        ensures number { bits result ≡ identifier_of priority pgn destination source }
+        ensures pgn { pgn_of result ≡ pgn }
+    {
+        let number = pgn.number();
+        let pf = (number >> 8 & 0xff) as u8;
+        Ident {
+            priority,
+            edp: (number >> 17) as u8,
+            dp: (number >> 16 & 1) as u8,
+            pf,
+            ps: if pgn.is_pdu1() {
+                destination
+            } else {
+                (number & 0xff) as u8
+            },
+            sa: source,
+        }
+    }
 
     /// The identifier with this number, or `None` from 2^29 on.
     pub fn from_bits(number: u32) -> Option<Self>

@@ -2,17 +2,20 @@
 #![tactic(auto)]
 
 mod address;
+pub mod addresses;
 mod frame;
 mod hex_digits;
 mod ident;
 mod label;
 mod laws;
+pub mod limits;
 mod line_error;
 mod name;
 mod name_fields;
 mod pgn;
 mod printing;
 mod reading;
+pub mod services;
 
 pub use address::Address;
 pub use frame::Frame;

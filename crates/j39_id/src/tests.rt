@@ -1,7 +1,8 @@
 //! Worked examples of identifiers, NAMEs and frame lines.
+use crate::addresses::{GLOBAL_ADDRESS, NULL_ADDRESS, is_in_pool};
 use crate::{
     Address, Frame, Ident, Label, LineError, Name, NameError, NameField, NameFields, Pgn,
-    canonical_text_spells, one_reading, print_frame, printed_reads_back, read_frame,
+    canonical_text_spells, one_reading, print_frame, printed_reads_back, read_frame, services,
 };
 use std::test::Fail;
 
@@ -91,6 +92,27 @@ fn group_numbers_of_pdu1_end_in_0(rt: HostRuntime) -> Result<(), Fail> {
     assert_eq!(rt; Pgn::new(60929), None, "PF 238 and low byte 1");
     assert_eq!(rt; Pgn::new(262_144), None);
     Ok(())
+}
+
+#[test]
+fn an_identifier_is_laid_out(rt: HostRuntime) -> Result<(), Fail> {
+    let request = Ident::new(6, services::REQUEST, GLOBAL_ADDRESS, NULL_ADDRESS);
+    assert_eq!(rt; request.to_bits(), 0x18EA_FFFE);
+    let engine = Pgn::new(61444).ok_or("a PDU2 group")?;
+    assert_eq!(rt; Ident::new(3, engine, 17, 0).to_bits(), 0x0CF0_0400);
+    Ok(())
+}
+
+#[test]
+fn the_standard_has_these_numbers(rt: HostRuntime) {
+    let numbers = [59392, 59904, 60160, 60416, 60928, 65240];
+    for (service, number) in services::SERVICE_GROUPS.iter().zip(numbers.iter()) {
+        assert_eq!(rt; service.number(), *number);
+        assert!(rt; services::is_service(*number));
+    }
+    assert!(rt; !services::is_service(59905));
+    let in_pool = [127, 128, 247, 248].map(|number| is_in_pool(number));
+    assert_eq!(rt; in_pool, [false, true, true, false]);
 }
 
 #[test]
