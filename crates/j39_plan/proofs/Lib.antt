@@ -1,3 +1,4 @@
+pub mod AddingLemmas
 pub mod CleanLaws
 pub mod Counting
 pub mod Deciding

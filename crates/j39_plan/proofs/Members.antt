@@ -73,7 +73,7 @@ slice_get-drop (suc n) [] k = refl
 slice_get-drop (suc n) (x ∷ xs) k = let e : suc (n + k) ≡ suc n + k = omega arith in slice_get-drop n xs k ∙ ap (slice_get (x ∷ xs)) e
 
 -- what stands at index k behind place i stands at place i + 1 + k
-behind : {A : Type 0} (i k j : ℕ) (xs : List A) → j ≡ i + 1 + k → slice_get (drop (i + 1) xs) k ≡ slice_get xs j
+pub behind : {A : Type 0} (i k j : ℕ) (xs : List A) → j ≡ i + 1 + k → slice_get (drop (i + 1) xs) k ≡ slice_get xs j
 behind i k j xs at = slice_get-drop (i + 1) xs k ∙ ap (slice_get xs) (sym at)
 
 pub of_pairs : {A B : Type 0} {test : A → A → Bool} (R : A → A → Type 0) → ((x y : A) → Decides (test x y) (R x y)) → (make : ℕ → ℕ → B) (xs : List A) (f : B)

@@ -1,3 +1,4 @@
+pub mod Adding
 pub mod CleanParts
 pub mod Described
 pub mod Elements

@@ -5,7 +5,7 @@ use Rattle.j39_plan.specs.declared.plan.Plan.{Plan}
 use Rattle.j39_plan.specs.declared.checking.refused.RefusedCause.{RefusedCause}
 use Rattle.j39_plan.specs.declared.checking.refused.RefusedCause.TheVariants.{Findings, Memory}
 
--- all that is wrong with the plan, and something is; that an allocation was refused says nothing of the plan
+-- something is wrong with the plan, and this is all of it, or memory was refused for it
 abbrev pub IsCauseFor : Plan → RefusedCause → Type 0
 IsCauseFor plan (Findings findings) = (findings.items ≡ found plan) × (findings.items ≢ [])
-IsCauseFor plan Memory = Unit {0}
+IsCauseFor plan Memory = found plan ≢ []

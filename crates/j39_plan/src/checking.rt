@@ -1,6 +1,6 @@
 //! Everything that is wrong with a plan.
-ghost use Rattle.std.specs.Prelude.{◌≡◌, IfOk};
-ghost use Rattle.j39_plan.specs.Findings.{AreFindings};
+ghost use Rattle.std.specs.Prelude.{◌≡◌, ◌≢◌, [], IfOk, IsOk, OnErr};
+ghost use Rattle.j39_plan.specs.Findings.{AreFindings, Clean};
 ghost use Rattle.j39_plan.specs.Found.{found};
 
 mod checked_plan;
@@ -23,9 +23,12 @@ use std::alloc::{AllocError, Global};
 use units::find_in_units;
 
 /// All that is wrong with the plan, and nothing else, by the findings' numbers and then by their places in rising order.
+/// A plan in which nothing is wrong takes no memory.
 pub fn check(alloc: Global, plan: &Plan) -> Result<Findings, AllocError>
     ensures list { IfOk result (λ findings. findings.items ≡ found plan.now) }
     ensures exact { IfOk result (λ findings. AreFindings plan.now findings.items) }
+    ensures memory { OnErr result (found plan.now ≢ []) }
+    ensures clean { Clean plan.now → IsOk result }
 {
     let mut findings = Vec::new(alloc);
     find_in_units(&mut findings, &plan.units)?;

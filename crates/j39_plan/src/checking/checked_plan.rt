@@ -1,5 +1,6 @@
 //! Plans in which nothing is wrong.
-ghost use Rattle.std.specs.Prelude.{◌≡◌, [], IfOk, OnOk, IfErr};
+ghost use Rattle.std.specs.Prelude.{◌≡◌, [], IfOk, IsOk, OnOk, IfErr};
+ghost use Rattle.j39_plan.specs.Findings.{Clean};
 ghost use Rattle.j39_plan.specs.Found.{found};
 ghost use Rattle.j39_plan.specs.Refused.{IsCauseFor};
 
@@ -38,12 +39,14 @@ impl CheckedPlan {
     }
 }
 
-/// The plan as one in which nothing is wrong. Else the plan comes back, with all that is wrong with it or for want of memory.
+/// The plan as one in which nothing is wrong. Else the plan comes back, with all that is wrong with it, or where something
+/// is wrong and memory was refused for it.
 pub fn checked(alloc: Global, plan: Plan) -> Result<CheckedPlan, Refused>
     ensures ok { IfOk result (λ checked. checked ≡ plan) }
     ensures none_found { OnOk result (found plan ≡ []) }
     ensures returned { IfErr result (λ refused. refused.plan ≡ plan) }
     ensures cause { IfErr result (λ refused. IsCauseFor plan refused.cause) }
+    ensures clean { Clean plan → IsOk result }
 {
     match check(alloc, &plan) {
         Ok(findings) if findings.is_empty() => Ok(CheckedPlan { plan }),

@@ -1,5 +1,6 @@
 //! What is wrong with the flows of a plan.
-ghost use Rattle.std.specs.Prelude.{◌≡◌, ◌++◌, OnOk, List};
+ghost use Rattle.std.specs.Prelude.{◌≡◌, List};
+ghost use Rattle.j39_plan.specs.Adding.{Adds};
 ghost use Rattle.j39_plan.specs.Places.{found_if};
 ghost use Rattle.j39_plan.specs.Found.{is_one_frame_to_all, cannot_go_to_one, goes_to_its_sender, are_one_flow, flow_findings};
 
@@ -94,7 +95,7 @@ pub fn find_in_flows(
     groups: &[GroupPlan],
     flows: &[FlowPlan],
 ) -> Result<(), AllocError>
-    ensures { OnOk result (findings.new.items ≡ findings.old.items ++ flow_findings groups.now flows.now) }
+    ensures { Adds result findings.old.items findings.new.items (flow_findings groups.now flows.now) }
 {
     find_each(findings, &FlowToOne { groups }, flows)?;
     find_each(findings, &FlowToSelf, flows)?;

@@ -1,5 +1,6 @@
 //! What is wrong with the groups of a plan.
-ghost use Rattle.std.specs.Prelude.{◌≡◌, ◌++◌, OnOk, List};
+ghost use Rattle.std.specs.Prelude.{◌≡◌, List};
+ghost use Rattle.j39_plan.specs.Adding.{Adds};
 ghost use Rattle.j39_plan.specs.Places.{found_if};
 ghost use Rattle.j39_plan.specs.Found.{is_proprietary, is_service, cannot_be_planned, has_bad_pgn, have_same_pgn, group_findings};
 
@@ -69,7 +70,7 @@ impl PairRule<GroupPlan> for SamePgn {
 }
 
 pub fn find_in_groups(findings: &mut Vec<Finding>, groups: &[GroupPlan]) -> Result<(), AllocError>
-    ensures { OnOk result (findings.new.items ≡ findings.old.items ++ group_findings groups.now) }
+    ensures { Adds result findings.old.items findings.new.items (group_findings groups.now) }
 {
     find_each(findings, &BadPgn, groups)?;
     find_pairs(findings, &SamePgn, groups)

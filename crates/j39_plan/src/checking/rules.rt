@@ -1,18 +1,20 @@
 //! What is found of the values of a list, one after another, and of the pairs of them.
-ghost use Rattle.std.specs.Prelude.{◌≡◌, ◌+◌, ◌<◌, ℕ, Bool, List, [], ◌∷◌, ◌++◌, length, drop, OnOk, if◌then◌else◌};
+ghost use Rattle.std.specs.Prelude.{◌≡◌, ◌+◌, ◌<◌, ℕ, Bool, List, [], ◌∷◌, length, drop, if◌then◌else◌};
 ghost use Rattle.j39_plan.specs.Places.{found_if, each, pairs, in_each};
+ghost use Rattle.j39_plan.specs.Adding.{Adds};
 
 use crate::checking::finding::Finding;
 use std::alloc::AllocError;
 
 /// What is found of one value.
 pub trait Rule<T> {
+    ghost use Rattle.j39_plan.specs.Adding.{Adds};
     ghost use Rattle.j39_plan.specs.declared.checking.finding.Finding.{Finding as Found};
 
     ghost gives: { Self → ℕ → T → List Found };
 
     fn find(&self, findings: &mut Vec<Finding>, place: usize, value: &T) -> Result<(), AllocError>
-        ensures { OnOk result (findings.new.items ≡ findings.old.items ++ gives self.now place value.now) };
+        ensures { Adds result findings.old.items findings.new.items (gives self.now place value.now) };
 }
 
 /// What is found of two values that stand in a relation.
@@ -32,7 +34,7 @@ pub trait PairRule<T> {
 
 /// Adds the finding where the test holds.
 pub fn push_if(findings: &mut Vec<Finding>, holds: bool, finding: Finding) -> Result<(), AllocError>
-    ensures { OnOk result (findings.new.items ≡ findings.old.items ++ found_if holds finding) }
+    ensures { Adds result findings.old.items findings.new.items (found_if holds finding) }
 {
     if holds {
         findings.push(finding)?;
@@ -46,7 +48,7 @@ pub fn find_each<T, R: Rule<T>>(
     rule: &R,
     values: &[T],
 ) -> Result<(), AllocError>
-    ensures { OnOk result (findings.new.items ≡ findings.old.items ++ in_each (R.gives rule.now) 0 values.now) }
+    ensures { Adds result findings.old.items findings.new.items (in_each (R.gives rule.now) 0 values.now) }
 {
     for (place, value) in values.iter().enumerate() {
         rule.find(findings, place, value)?;
@@ -62,8 +64,8 @@ fn find_against<T, R: PairRule<T>>(
     values: &[T],
 ) -> Result<(), AllocError>
     requires { i < length values.now }
-    ensures { OnOk result (findings.new.items ≡ findings.old.items
-        ++ each (R.test value.now) (R.make rule.now i) (i + 1) (drop (i + 1) values.now)) }
+    ensures { Adds result findings.old.items findings.new.items
+        (each (R.test value.now) (R.make rule.now i) (i + 1) (drop (i + 1) values.now)) }
 {
     for j in i + 1..values.len() {
         push_if(findings, rule.holds(value, &values[j]), rule.finding(i, j))?;
@@ -77,7 +79,7 @@ pub fn find_pairs<T, R: PairRule<T>>(
     rule: &R,
     values: &[T],
 ) -> Result<(), AllocError>
-    ensures { OnOk result (findings.new.items ≡ findings.old.items ++ pairs R.test (R.make rule.now) values.now) }
+    ensures { Adds result findings.old.items findings.new.items (pairs R.test (R.make rule.now) values.now) }
 {
     for (i, value) in values.iter().enumerate() {
         find_against(findings, rule, i, value, values)?;

@@ -1,5 +1,6 @@
 //! What is wrong with the signals of each group of a plan.
-ghost use Rattle.std.specs.Prelude.{◌≡◌, ◌++◌, OnOk, List};
+ghost use Rattle.std.specs.Prelude.{◌≡◌, List};
+ghost use Rattle.j39_plan.specs.Adding.{Adds};
 ghost use Rattle.j39_signal.specs.Places.{shares_bit};
 ghost use Rattle.j39_plan.specs.Places.{found_if, each, pairs};
 ghost use Rattle.j39_plan.specs.Found.{has_other_width, ends_outside, width_findings, outside_findings, overlap_findings, signal_findings};
@@ -135,7 +136,7 @@ impl Rule<GroupPlan> for Overlaps {
 }
 
 pub fn find_in_signals(findings: &mut Vec<Finding>, groups: &[GroupPlan]) -> Result<(), AllocError>
-    ensures { OnOk result (findings.new.items ≡ findings.old.items ++ signal_findings groups.now) }
+    ensures { Adds result findings.old.items findings.new.items (signal_findings groups.now) }
 {
     find_each(findings, &Widths, groups)?;
     find_each(findings, &Outsides, groups)?;

@@ -1,5 +1,6 @@
 //! What is wrong with the units of a plan.
-ghost use Rattle.std.specs.Prelude.{◌≡◌, ◌++◌, OnOk, List};
+ghost use Rattle.std.specs.Prelude.{◌≡◌, List};
+ghost use Rattle.j39_plan.specs.Adding.{Adds};
 ghost use Rattle.j39_plan.specs.Findings.{needed_addresses};
 ghost use Rattle.j39_plan.specs.Found.{have_same_name, have_same_fixed_address, is_fixed, needs_pool_address, unit_findings};
 
@@ -70,7 +71,7 @@ fn needed_addresses(units: &[UnitPlan]) -> usize
 }
 
 pub fn find_in_units(findings: &mut Vec<Finding>, units: &[UnitPlan]) -> Result<(), AllocError>
-    ensures { OnOk result (findings.new.items ≡ findings.old.items ++ unit_findings units.now) }
+    ensures { Adds result findings.old.items findings.new.items (unit_findings units.now) }
 {
     find_pairs(findings, &SameName, units)?;
     find_pairs(findings, &SameFixedAddress, units)?;

@@ -1,8 +1,12 @@
-use Rattle.std.proofs.Common.{rules, append_assoc}
 use Rattle.j39_plan.specs.Places.{each}
 use Rattle.j39_plan.specs.Found.{group_findings}
+use Rattle.j39_plan.proofs.AddingLemmas.{refuses, adds_behind, some_left}
 use Rattle.j39_plan.proofs.checking.groups.find_in_groups.Goals as goal
+
+pub returns-in_err-find_each : goal.returns-in_err-find_each
+unfolding group_findings each
+returns-in_err-find_each c = refuses _ _ _ _ _ c.from_residual.ensures.1 (some_left _ _ c.in_err-find_each.ensures)
 
 pub returns : goal.returns
 unfolding group_findings each
-returns c = search (rules, append_assoc)
+returns c = adds_behind _ _ _ _ _ _ c.in_ok-find_each.ensures c.find_pairs.ensures

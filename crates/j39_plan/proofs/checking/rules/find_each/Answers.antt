@@ -1,6 +1,12 @@
 use Rattle.std.proofs.Common.{◌≤◌, length, sym, ◌∙◌, arith}
+use Rattle.j39_plan.proofs.AddingLemmas.{refuses, some_in_each}
 use Rattle.j39_plan.proofs.PlaceLemmas.{in_each_more, in_each_all}
 use Rattle.j39_plan.proofs.checking.rules.find_each.Goals as goal
+
+pub returns-in_err-find : goal.returns-in_err-find
+returns-in_err-find g c =
+    refuses _ _ _ _ _ c.from_residual.ensures.1
+    (some_in_each (g.R.Rule.gives c.args.rule.now) c.args.values.now c.loop-place.place c.index-values-place.result c.loop-place-test.true c.index-values-place.is c.in_err-find.ensures)
 
 pub loop-place-preserved : goal.loop-place-preserved
 loop-place-preserved g c =

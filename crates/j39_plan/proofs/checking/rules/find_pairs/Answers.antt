@@ -1,6 +1,12 @@
 use Rattle.std.proofs.Common.{◌≤◌, length, sym, ◌∙◌, arith}
+use Rattle.j39_plan.proofs.AddingLemmas.{refuses, some_pair}
 use Rattle.j39_plan.proofs.PlaceLemmas.{in_each_more, in_each_all, after, pairs_is}
 use Rattle.j39_plan.proofs.checking.rules.find_pairs.Goals as goal
+
+pub returns-in_err-find_against : goal.returns-in_err-find_against
+returns-in_err-find_against g c =
+    refuses _ _ _ _ _ c.from_residual.ensures.1
+    (some_pair g.R.PairRule.test (g.R.PairRule.make c.args.rule.now) c.args.values.now c.loop-i.i c.index-values-i.result c.loop-i-test.true c.index-values-i.is c.in_err-find_against.ensures)
 
 pub loop-i-preserved : goal.loop-i-preserved
 loop-i-preserved g c =
