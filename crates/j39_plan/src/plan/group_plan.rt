@@ -1,5 +1,5 @@
 //! A group of a plan.
-ghost use Rattle.std.specs.Prelude.{◌≢◌, ◌^◌, ◌<◌, ◌≤◌, IsTrue, length as count, All, AllPairs};
+ghost use Rattle.std.specs.Prelude.{◌≢◌, ◌≤◌, IsTrue, length as count, All, AllPairs};
 ghost use Rattle.j39_signal.specs.Parts.{IsSignal};
 ghost use Rattle.j39_plan.specs.Labels.{is_label};
 
@@ -11,7 +11,7 @@ use j39_signal::Signal;
 pub struct GroupPlan {
     /// 1 to 32 ASCII letters, digits and `_`.
     pub label: Label,
-    /// The planned group number, 0 to 16,777,215, which need be no group's.
+    /// The planned group number, which need be no group's.
     pub pgn: u32,
     /// 0 to 7, 0 being the highest.
     pub priority: u8,
@@ -19,7 +19,6 @@ pub struct GroupPlan {
     pub length: u16,
     pub signals: Vec<Signal>,
     pub ghost label_form: { IsTrue (is_label label.bytes) },
-    pub ghost pgn_range: { pgn < 2 ^ 24 },
     pub ghost priority_range: { priority ≤ 7 },
     pub ghost length_positive: { 1 ≤ length },
     pub ghost length_range: { length ≤ 1785 },
