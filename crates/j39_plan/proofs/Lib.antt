@@ -7,6 +7,7 @@ pub mod Families
 pub mod FirstFaults
 pub mod FoundLaws
 pub mod Labelled
+pub mod LastWrites
 pub mod Members
 pub mod NoFaults
 pub mod PlaceLemmas
