@@ -1,0 +1,77 @@
+"""What the tests share."""
+
+import importlib.util
+import os
+import re
+import subprocess
+import sys
+import tempfile
+import unittest
+
+TOOLS = os.path.dirname(os.path.dirname(os.path.realpath(__file__)))
+TOP = os.path.dirname(TOOLS)
+EXAMPLES = os.path.join(TOP, "examples")
+sys.path.insert(0, TOOLS)
+
+import program  # noqa: E402
+
+
+def example(name):
+    """The file name of an example."""
+    return os.path.join(EXAMPLES, name)
+
+
+def text_of(name):
+    """What a file holds."""
+    with open(name, encoding="utf-8") as file:
+        return file.read()
+
+
+def examples(ending):
+    """The file names of all examples with this ending."""
+    return sorted(
+        os.path.join(folder, name)
+        for folder, _, names in os.walk(EXAMPLES + os.sep)
+        for name in names
+        if name.endswith(ending)
+    )
+
+
+def shown_refusals():
+    """The plan files that docs/PLAN.md shows as refused, each with its answer."""
+    page = text_of(os.path.join(TOP, "docs", "PLAN.md"))
+    return re.findall(r"```toml\n([^`]*)```\n```text\n(refused [^`]*)```", page)
+
+
+def run(tool, *words, text=None):
+    """Runs a tool; its exit status, standard output and standard error."""
+    ended = subprocess.run(
+        [sys.executable, os.path.join(TOOLS, tool), *words],
+        input=text, capture_output=True, text=True, check=False, env={**os.environ, "J39PLAN": program.path()},
+    )
+    return ended.returncode, ended.stdout, ended.stderr
+
+
+def needs(module, package):
+    """Skips a test where a module isn't there."""
+    there = importlib.util.find_spec(module) is not None
+    return unittest.skipUnless(there, f"{module} isn't there: apt-get install {package}")
+
+
+class InFolder(unittest.TestCase):
+    """A test with a folder of its own."""
+
+    def setUp(self):
+        folder = tempfile.TemporaryDirectory()
+        self.addCleanup(folder.cleanup)
+        self.folder = folder.name
+
+    def path(self, name):
+        """A file name in the folder."""
+        return os.path.join(self.folder, name)
+
+    def write(self, name, text):
+        """Writes a file in the folder and answers its name."""
+        with open(self.path(name), "w", encoding="utf-8", newline="") as file:
+            file.write(text)
+        return self.path(name)

@@ -1,0 +1,128 @@
+"""The JSON schema of a plan file says what docs/PLAN.md and the program say."""
+
+import json
+import os
+import re
+import tomllib
+import unittest
+
+from tests.support import TOOLS, TOP, InFolder, examples, needs, run, shown_refusals, text_of
+
+SCHEMA = json.loads(text_of(os.path.join(TOOLS, "plan.schema.json")))
+
+# What the page's headings call the tables.
+TABLES = {"Top": None, "`[[unit]]`": "unit", "`unit.name`": "name", "`[[group]]`": "group",
+          "`[[group.signal]]`": "signal", "`[[flow]]`": "flow"}
+
+# Refusals that a schema can't say.
+UNSAID = ("Text", "Repeated", "UnknownLabel")
+
+
+def rules(table):
+    """A table's schema."""
+    return SCHEMA if table is None else SCHEMA["definitions"][table]
+
+
+def page_rows():
+    """The rows of the tables of keys in docs/PLAN.md: table, key, type and range, default."""
+    page = text_of(os.path.join(TOP, "docs", "PLAN.md"))
+    page = page[page.index("\n## Tables and keys"):page.index("\n## Bytes and bits")]
+    for heading, body in re.findall(r"\n### (.*?)\n(.*?)(?=\n### |\Z)", page, re.DOTALL):
+        for row in re.findall(r"\n\| `.*", body):
+            key, kind, default = (cell.strip() for cell in row.split("|")[1:4])
+            yield TABLES[heading], key.strip("`"), kind, default
+
+
+class Schema(InFolder):
+    def test_it_has_the_keys_of_the_page(self):
+        shown = {}
+        for table, key, _, _ in page_rows():
+            shown.setdefault(table, []).append(key)
+        self.assertEqual(shown, {table: list(rules(table)["properties"]) for table in TABLES.values()})
+
+    def test_it_has_the_ranges_of_the_page(self):
+        for table, key, kind, _ in page_rows():
+            rule = rules(table)["properties"][key]
+            if found := re.match(r"integer (-?\d+)\.\.(\d+)", kind):
+                self.assertEqual((rule["minimum"], rule["maximum"]), tuple(map(int, found.groups())), (table, key))
+            elif found := re.match(r"array of tables, at most (\d+)", kind):
+                self.assertEqual(rule["maxItems"], int(found.group(1)), (table, key))
+            elif words := re.findall(r'`"(\w+)"`', kind):
+                self.assertEqual(rule["enum"], words, (table, key))
+
+    def test_it_wants_the_keys_without_a_default(self):
+        for table, key, _, default in page_rows():
+            self.assertEqual(key in rules(table).get("required", []), default == "", (table, key))
+
+    def test_it_has_the_defaults_of_the_page(self):
+        for table, key, _, default in page_rows():
+            if default not in ("", "none"):  # an array that isn't there has no elements
+                shown = {"empty": "", "`false`": "False"}.get(default, default.strip('`"'))
+                self.assertEqual(str(rules(table)["properties"][key]["default"]), shown, (table, key))
+
+
+@needs("jsonschema", "python3-jsonschema")
+class Validated(InFolder):
+    def faults(self, text):
+        """What the schema finds wrong with a plan."""
+        import jsonschema
+        return list(jsonschema.Draft7Validator(SCHEMA).iter_errors(tomllib.loads(text)))
+
+    def test_it_is_a_schema(self):
+        import jsonschema
+        jsonschema.Draft7Validator.check_schema(SCHEMA)
+
+    def test_it_takes_the_examples(self):
+        for plan in examples(".toml"):
+            self.assertEqual(self.faults(text_of(plan)), [], plan)
+
+    def test_it_refuses_what_the_page_shows_as_refused(self):
+        for plan, refused in shown_refusals():
+            if not refused.startswith(tuple(f"refused {word}" for word in UNSAID)):
+                self.assertNotEqual(self.faults(plan), [], plan)
+
+    def test_it_agrees_with_the_program_on_each_bound(self):
+        plan = {
+            "version": 1,
+            "unit": [{"label": "A", "address": 0, "name": {"identity": 1}}],
+            "group": [{"label": "G", "pgn": 65262, "priority": 6, "length": 8,
+                       "signal": [{"label": "S", "byte": 1, "bits": 8, "kind": "raw"}]}],
+        }
+        for table, key, kind, _ in page_rows():
+            if table is None or not (found := re.match(r"integer (-?\d+)\.\.(\d+)", kind)):
+                continue
+            low, high = map(int, found.groups())
+            for value in (low - 1, low, high, high + 1):
+                text = spelled(changed(plan, table, key, value))
+                status, _, _ = run("where.py", self.write("plan.toml", text))
+                self.assertEqual(self.faults(text) == [], status != 2, (table, key, value))
+
+
+def changed(plan, table, key, value):
+    """The plan with another value of a key in its first such table."""
+    plan = json.loads(json.dumps(plan))
+    {"unit": plan["unit"][0], "name": plan["unit"][0]["name"], "group": plan["group"][0],
+     "signal": plan["group"][0]["signal"][0]}[table][key] = value
+    return plan
+
+
+def spelled(plan):
+    """The plan as TOML."""
+    lines = ["version = 1"]
+    for kind in ("unit", "group"):
+        lines.append(f"[[{kind}]]")
+        lines += [f"{key} = {inline(value)}" for key, value in plan[kind][0].items()]
+    return "\n".join(lines) + "\n"
+
+
+def inline(value):
+    """A value as TOML spells it in a line."""
+    if isinstance(value, dict):
+        return "{ " + ", ".join(f"{key} = {inline(part)}" for key, part in value.items()) + " }"
+    if isinstance(value, list):
+        return "[" + ", ".join(map(inline, value)) + "]"
+    return json.dumps(value)
+
+
+if __name__ == "__main__":
+    unittest.main()

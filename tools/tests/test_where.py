@@ -1,0 +1,118 @@
+"""Where the answers of `check` belong."""
+
+import unittest
+
+from tests.support import InFolder, example, examples, run, shown_refusals, text_of
+
+UNIT = '[[unit]]\nlabel = "{}"\naddress = {}\nname = {{ identity = {} }}\n'
+
+
+class Where(InFolder):
+    def answer(self, text, *words):
+        """What `where` answers of a plan, without the file's name."""
+        name = self.write("plan.toml", text)
+        status, answer, _ = run("where.py", *words, name)
+        return status, answer.replace(name + ":", "").splitlines()
+
+    def test_a_plan_without_findings_is_passed_on(self):
+        self.assertEqual(run("where.py", example("first_plan.toml")), (0, "ok 2 units 1 groups 1 flows\n", ""))
+
+    def test_the_answers_themselves_stay(self):
+        for plan in examples(".toml"):
+            _, answer, _ = run("where.py", plan)
+            lines = [line.split(": ", 1)[-1].split("  (")[0] for line in answer.splitlines()]
+            self.assertEqual("".join(f"{line}\n" for line in lines), text_of(plan[:-5] + ".check"), plan)
+
+    def test_findings_of_the_examples(self):
+        for name, line, key in [
+            ("f01_same_name", 'name = { identity = 7001, function = 129, industry = 2, arbitrary = true }', "key name"),
+            ("f02_same_fixed_address", "address = 0", "key address"),
+            ("f04_bad_pgn", "pgn = 65300", "key pgn"),
+            ("f05_same_pgn", "pgn = 65265", "key pgn"),
+            ("f06_signal_width", "bits = 1", "key bits"),
+            ("f07_signal_outside", "byte = 8", "key byte"),
+            ("f09_flow_to_one", 'to = "CLUSTER"', "key to"),
+            ("f10_flow_to_self", 'to = "ENGINE"', "key to"),
+        ]:
+            plan = example(f"findings/{name}.toml")
+            status, answer, _ = run("where.py", plan)
+            self.assertEqual(status, 1)
+            first = answer.splitlines()[0]
+            at = int(first[len(plan) + 1:].split(":")[0])
+            shown = text_of(plan).splitlines()[at - 1].split("#")[0].strip()
+            self.assertEqual(shown.split(" = ")[0], line.split(" = ")[0], first)
+            self.assertIn(key, first)
+
+    def test_the_second_of_two_is_named(self):
+        plan = "version = 1\n\n" + UNIT.format("A", 0, 1) + "\n" + UNIT.format("B", 0, 2)
+        hint = "10: F2 SameFixedAddress A B 0  (key address: the same as of A at line 5)"
+        self.assertEqual(self.answer(plan), (1, [hint, "findings 1"]))
+
+    def test_signals_that_overlap(self):
+        plan = (
+            'version = 1\n[[group]]\nlabel = "G"\npgn = 65262\npriority = 6\nlength = 8\n'
+            '[[group.signal]]\nlabel = "S"\nbyte = 1\nbits = 4\nkind = "raw"\n'
+            '[[group.signal]]\nlabel = "T"\nbyte = 1\nbit = 4\nbits = 2\nkind = "raw"\n'
+        )
+        self.assertEqual(self.answer(plan)[1][0], "12: F8 SignalOverlap G S T  (shares a bit with S at line 7)")
+
+    def test_each_shown_refusal_has_its_line(self):
+        lines = [4, 2, 3, 9, 3, 11, 3, 2, 5, 4, 15, 9, 16]
+        shown = shown_refusals()
+        self.assertEqual(len(shown), len(lines))
+        for (plan, refused), line in zip(shown, lines):
+            status, answer = self.answer(plan)
+            self.assertEqual((status, len(answer)), (2, 1))
+            self.assertTrue(answer[0].startswith(f"{line}: {refused.strip()}"), answer)
+
+    def test_a_key_that_was_meant(self):
+        plan = 'version = 1\n[[unit]]\nlabel = "A"\nadress = 1\nname = { identity = 1 }\n'
+        self.assertEqual(self.answer(plan)[1], ["4: refused UnknownKey unit 1  (key adress; did you mean address?)"])
+
+    def test_a_key_of_another_table(self):
+        plan = 'version = 1\n[[unit]]\nlabel = "A"\naddress = 1\npgn = 3\nname = { identity = 1 }\n'
+        self.assertEqual(self.answer(plan)[1], ["5: refused UnknownKey unit 1  (key pgn belongs to group)"])
+
+    def test_inline_tables_and_arrays(self):
+        plan = (
+            "version = 1\n# a comment with [[unit]]\nunit = [\n  { label = \"A\", address = 1, name = { identity = 1 } },\n"
+            "  { label = \"B]\", address = 2,\n  name = { identity = 1 } }, # }\n]\n"
+        )
+        self.assertEqual(self.answer(plan)[1][0].split("  ")[0], "5: refused Range unit 2 key label")
+
+    def test_dotted_keys_and_quoted_ones(self):
+        plan = "version = 1\n[[unit]]\n'label' = 'A'\n\"address\" = 1\nname.identity = 1\nname . manufacturer = 2048\n"
+        self.assertEqual(self.answer(plan)[1][0].split("  ")[0], "6: refused Range unit 1 name key manufacturer")
+
+    def test_a_header_in_a_text_is_none(self):
+        signal = '[[group.signal]]\nlabel = "S"\nbyte = 1\nbits = 8\nkind = "raw"\nunit = """[[group]]\n[[x]] """\n'
+        plan = 'version = 1\n[[group]]\nlabel = "G"\npgn = 65262\npriority = 8\nlength = 8\n' + signal
+        self.assertEqual(self.answer(plan)[1][0].split("  ")[0], "5: refused Range group 1 key priority")
+
+    def test_carriage_returns(self):
+        plan = "version = 1\r\n\r\n" + UNIT.format("A", 254, 1).replace("\n", "\r\n")
+        self.assertEqual(self.answer(plan)[1], ["5: refused Range unit 1 key address  (address = 254: integer 0..253)"])
+
+    def test_too_many(self):
+        plan = "version = 1\n" + "".join(UNIT.format(f"U{n}", n % 100, n) for n in range(129))
+        self.assertEqual(self.answer(plan)[1], ["514: refused TooMany top key unit  (key unit: at most 128)"])
+
+    def test_bytes_that_are_no_text(self):
+        with open(self.path("plan.toml"), "wb") as file:
+            file.write(b'version = 1\n[[unit]]\nlabel = "\xb0"\n')
+        status, answer, _ = run("where.py", self.path("plan.toml"))
+        self.assertEqual((status, answer.split(":", 1)[1]), (2, "3: refused Text  (byte B0 is no UTF-8)\n"))
+
+    def test_annotations(self):
+        name = self.write("plan.toml", "version = 2\n".replace("2", "3"))
+        status, answer, _ = run("where.py", "--github", name)
+        self.assertEqual(status, 2)
+        self.assertTrue(answer.startswith(f"::error file={name},line=1::refused Range top key version"), answer)
+
+    def test_a_missing_file(self):
+        status, answer, said = run("where.py", self.path("none.toml"))
+        self.assertEqual((status, answer, said), (4, "", "j39plan: device fault\n"))
+
+
+if __name__ == "__main__":
+    unittest.main()

@@ -1,0 +1,173 @@
+"""Where the tables and keys of a TOML text stand.
+
+A place is a tuple of keys and, for the elements of arrays, of numbers from 1: ("unit", 2, "name", "identity"). The text is one
+that TOML allows; where it isn't, the places up to there are found.
+"""
+
+import bisect
+import re
+import tomllib
+
+BLANK = re.compile(r"(?:[ \t\r\n]|#[^\n]*)*")
+STRING = re.compile(
+    r'"""(?:\\.|[^\\])*?"{3,5}'
+    r"|'''.*?'{3,5}"
+    r'|"(?:\\.|[^"\\\n])*"'
+    r"|'[^'\n]*'",
+    re.DOTALL,
+)
+KEY = re.compile(r'[A-Za-z0-9_-]+|"(?:\\.|[^"\\\n])*"|\'[^\'\n]*\'')
+OTHER = re.compile(r"[^,\]}#\r\n]+")
+
+
+class _Unexpected(Exception):
+    """The text isn't what TOML allows."""
+
+
+def text_of(spelled):
+    """The text that a TOML string spells."""
+    try:
+        return tomllib.loads(f"x = {spelled}")["x"]
+    except tomllib.TOMLDecodeError:
+        return spelled.strip("\"'")
+
+
+class Places:
+    """The line of each table and key of a TOML text, and the texts and other values as they are spelled."""
+
+    def __init__(self, text):
+        self.lines = {(): 1}
+        self.texts = {}
+        self.spelled = {}
+        self._text = text
+        self._at = 0
+        self._feeds = [found.start() for found in re.finditer("\n", text)]
+        self._counts = {}
+        try:
+            self._read()
+        except _Unexpected:
+            pass
+
+    def line(self, place):
+        """The line of the place, or of the nearest table around it."""
+        while place not in self.lines:
+            place = place[:-1]
+        return self.lines[place]
+
+    def keys(self, place):
+        """The keys of the table at the place, in the order of the text."""
+        size = len(place) + 1
+        return [other[-1] for other in self.lines if len(other) == size and other[:-1] == place]
+
+    def _read(self):
+        table = ()
+        while self._skip() < len(self._text):
+            if self._text.startswith("[[", self._at):
+                table = self._element(self._header("[[", "]]"))
+            elif self._text.startswith("[", self._at):
+                table = self._inside(self._header("[", "]"))
+            else:
+                self._pair(table)
+
+    def _skip(self):
+        self._at = BLANK.match(self._text, self._at).end()
+        return self._at
+
+    def _take(self, pattern):
+        found = pattern.match(self._text, self._at)
+        if not found:
+            raise _Unexpected
+        self._at = found.end()
+        return found.group()
+
+    def _expect(self, mark):
+        self._skip()
+        if not self._text.startswith(mark, self._at):
+            raise _Unexpected
+        self._at += len(mark)
+
+    def _comes(self, mark):
+        self._skip()
+        return self._text.startswith(mark, self._at)
+
+    def _note(self, place, at):
+        self.lines.setdefault(place, bisect.bisect_left(self._feeds, at) + 1)
+
+    def _dotted(self):
+        keys = []
+        while True:
+            self._skip()
+            key = self._take(KEY)
+            keys.append(text_of(key) if key[0] in "\"'" else key)
+            if not self._comes("."):
+                return keys
+            self._expect(".")
+
+    def _header(self, opening, closing):
+        start = self._at
+        self._expect(opening)
+        keys = self._dotted()
+        self._expect(closing)
+        return start, keys
+
+    def _inside(self, header):
+        """The table of a header, each array on the way at its last element."""
+        start, keys = header
+        place = ()
+        for key in keys:
+            place += (key,)
+            self._note(place, start)
+            if place in self._counts:
+                place += (self._counts[place],)
+        return place
+
+    def _element(self, header):
+        """The new element of an array of tables."""
+        start, keys = header
+        array = self._inside((start, keys[:-1])) + (keys[-1],)
+        self._note(array, start)
+        return self._next(array, start)
+
+    def _next(self, array, at):
+        self._counts[array] = self._counts.get(array, 0) + 1
+        place = array + (self._counts[array],)
+        self._note(place, at)
+        return place
+
+    def _pair(self, table):
+        start = self._at
+        place = table
+        for key in self._dotted():
+            place += (key,)
+            self._note(place, start)
+        self._expect("=")
+        self._skip()
+        self._value(place)
+
+    def _value(self, place):
+        start = self._at
+        if self._comes("{"):
+            self._table(place)
+        elif self._comes("["):
+            self._array(place)
+        elif self._comes('"') or self._comes("'"):
+            self.texts[place] = text_of(self._take(STRING))
+        else:
+            self._take(OTHER)
+        self.spelled[place] = self._text[start:self._at].strip()
+
+    def _table(self, place):
+        self._expect("{")
+        while not self._comes("}"):
+            self._pair(place)
+            if not self._comes("}"):
+                self._expect(",")
+        self._expect("}")
+
+    def _array(self, place):
+        self._expect("[")
+        while not self._comes("]"):
+            self._value(self._next(place, self._at))
+            if not self._comes("]"):
+                self._expect(",")
+        self._expect("]")

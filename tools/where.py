@@ -1,0 +1,220 @@
+#!/usr/bin/python3
+"""Checks a plan with j39plan and says where in the file each answer belongs, as FILE:LINE: ANSWER  (hint)."""
+
+import argparse
+import difflib
+import json
+import os
+import re
+import sys
+import tomllib
+
+import program
+from toml_places import Places
+
+SCHEMA = os.path.join(os.path.dirname(os.path.realpath(__file__)), "plan.schema.json")
+
+# The key to look at, of each finding that names two units or two groups.
+PAIR_KEYS = {"F1": ("unit", "name"), "F2": ("unit", "address"), "F5": ("group", "pgn")}
+
+# The key to look at of each finding that names one unit, group, signal or flow, and what is to be known of it.
+KEYS = {
+    "F4": ("group", "pgn", "none that can be planned"),
+    "F6": ("signal", "bits", "8, 16 or 32 of a measured signal, 2 of a discrete one, 1 to 32 of a raw one"),
+    "F7": ("signal", "byte", "the signal ends behind the group's length"),
+    "F9": ("flow", "to", "a frame of this group goes to all"),
+    "F10": ("flow", "to", "the sender itself"),
+}
+
+
+class Plan:
+    """A plan's text, and where in it stands what the program names."""
+
+    def __init__(self, text):
+        self.places = Places(text)
+        with open(SCHEMA, encoding="utf-8") as file:
+            self.schema = json.load(file)
+        self.labels = {
+            (place[:-2], label): place[:-1]
+            for place, label in reversed(self.places.texts.items())
+            if place[-1] == "label" and len(place) > 2
+        }
+
+    def line(self, place):
+        """The line of a place."""
+        return self.places.line(place)
+
+    def labelled(self, array, label):
+        """The place of the array's first element of this label."""
+        return self.labels.get((array, label), array)
+
+    def listed(self, place):
+        """The keys that the table at a place may have, with what the schema says of each."""
+        names = [part for part in place if isinstance(part, str)]
+        return (self.schema["definitions"][names[-1]] if names else self.schema)["properties"]
+
+    def tables_with(self, key):
+        """The tables that may have a key."""
+        return [name for name, rule in self.schema["definitions"].items() if key in rule.get("properties", {})]
+
+    def wanted(self, place, key):
+        """What the schema wants of a key, in words."""
+        rule = self.listed(place)[key]
+        while "$ref" in rule:
+            rule = self.schema["definitions"][rule["$ref"].split("/")[-1]]
+        if "enum" in rule:
+            return " or ".join(f'"{word}"' for word in rule["enum"])
+        if "const" in rule:
+            return f"{rule['type']} {rule['const']}"
+        if "minimum" in rule:
+            return f"{rule['type']} {rule['minimum']}..{rule['maximum']}"
+        kinds = {"array": "an array of tables", "object": "a table", "boolean": "true or false"}
+        return kinds.get(rule.get("type")) or f"a text, {rule['description']}"
+
+
+def place_named(words):
+    """The place that a refusal names, as `group 2 signal 3`."""
+    if words == "top":
+        return ()
+    return tuple(int(word) if word.isdigit() else word for word in words.split())
+
+
+def likely(word, words):
+    """A hint at the word that may have been meant."""
+    close = difflib.get_close_matches(word.lower(), [other.lower() for other in words], 1, 0.7)
+    meant = [other for other in words if close and other.lower() == close[0]]
+    return f"; did you mean {meant[0]}?" if meant else ""
+
+
+def text_fault(data):
+    """Line and hint of a file that is no TOML."""
+    try:
+        tomllib.loads(data.decode())
+    except UnicodeDecodeError as fault:
+        return data.count(b"\n", 0, fault.start) + 1, f"byte {data[fault.start]:02X} is no UTF-8"
+    except tomllib.TOMLDecodeError as fault:
+        found = re.search(r"at line (\d+)", str(fault))
+        return int(found.group(1)) if found else data.count(b"\n") + 1, str(fault)
+    return 1, None
+
+
+def unknown_key(plan, place):
+    """Line and hint of the table's first key that isn't listed."""
+    listed = list(plan.listed(place))
+    for key in plan.places.keys(place):
+        if key in listed:
+            continue
+        tables = plan.tables_with(key)
+        hint = likely(key, listed) or (f" belongs to {' or '.join(tables)}" if tables else " isn't listed")
+        return plan.line(place + (key,)), f"key {key}{hint}"
+    return plan.line(place), None
+
+
+def value_fault(plan, place, key, cause):
+    """Line and hint of a key whose value is refused."""
+    if cause == "TooMany":
+        most = plan.listed(place)[key]["maxItems"]
+        return plan.line(place + (key, most + 1)), f"key {key}: at most {most}"
+    spelled = plan.places.spelled.get(place + (key,), "")
+    shown = f"{key} = {spelled}" if 0 < len(spelled) < 50 and "\n" not in spelled else f"key {key}"
+    return plan.line(place + (key,)), f"{shown}: {plan.wanted(place, key)}"
+
+
+def label_fault(plan, place, key, cause):
+    """Line and hint of a label that was used before, or that nothing has."""
+    label = plan.places.texts.get(place + (key,), "")
+    if cause == "Repeated":
+        first = plan.labelled(place[:-1], label) + ("label",)
+        hint = f"key label: {label} is at line {plan.line(first)} too"
+    else:
+        kind = "group" if key == "group" else "unit"
+        others = [other for array, other in plan.labels if array == (kind,)]
+        hint = f"key {key}: no {kind} is called {label}{likely(label, others)}"
+    return plan.line(place + (key,)), hint
+
+
+def refusal(plan, data, line):
+    """Line and hint of a refused file."""
+    found = re.fullmatch(r"refused (\w+)(?: (.*?))?(?: key (\w+))?", line)
+    cause, place, key = found.group(1), place_named(found.group(2) or "top"), found.group(3)
+    if cause == "Text":
+        return text_fault(data)
+    if cause == "UnknownKey":
+        return unknown_key(plan, place)
+    if key is None:
+        return plan.line(place), "a table is wanted"
+    if cause == "Missing":
+        return plan.line(place), f"key {key} isn't there: {plan.wanted(place, key)}"
+    if cause in ("Repeated", "UnknownLabel"):
+        return label_fault(plan, place, key, cause)
+    return value_fault(plan, place, key, cause)
+
+
+def of_one(plan, number, words):
+    """Line and hint of a finding about one group, signal or flow."""
+    kind, key, hint = KEYS[number]
+    if kind == "flow":
+        place = ("flow", int(words[0]))
+    else:
+        place = plan.labelled(("group",), words[0])
+        if kind == "signal":
+            place = plan.labelled(place + ("signal",), words[1])
+    return plan.line(place + (key,)), f"key {key}: {hint}"
+
+
+def of_two(plan, number, words):
+    """Line and hint of a finding about two units, groups, signals or flows: where the second stands."""
+    if number == "F8":
+        signals = plan.labelled(("group",), words[0]) + ("signal",)
+        first, second = (plan.labelled(signals, label) for label in words[1:])
+        return plan.line(second), f"shares a bit with {words[1]} at line {plan.line(first)}"
+    if number == "F11":
+        return plan.line(("flow", int(words[1]))), f"the same as at line {plan.line(('flow', int(words[0])))}"
+    kind, key = PAIR_KEYS[number]
+    first, second = (plan.labelled((kind,), label) + (key,) for label in words[:2])
+    return plan.line(second), f"key {key}: the same as of {words[0]} at line {plan.line(first)}"
+
+
+def finding(plan, line):
+    """Line and hint of a finding."""
+    number, _, *words = line.split()
+    if number == "F3":
+        return plan.line(("unit", 1)), "units with arbitrary = true, and others at 128..247"
+    if number in KEYS:
+        return of_one(plan, number, words)
+    return of_two(plan, number, words)
+
+
+def annotate(name, data, answer, form):
+    """The answer's lines; those that say what is wrong with their place in the file."""
+    plan = Plan(data.decode(errors="replace"))
+    for line in answer.splitlines():
+        if line.startswith("refused "):
+            at, hint = refusal(plan, data, line)
+        elif re.match(r"F\d+ ", line):
+            at, hint = finding(plan, line)
+        else:
+            yield line
+            continue
+        shown = f"{line}  ({hint})" if hint else line
+        yield form.format(file=name, line=at, text=shown)
+
+
+def main(words=None):
+    """Runs `j39plan check` and answers its exit status."""
+    parser = argparse.ArgumentParser(description=__doc__)
+    parser.add_argument("plan", metavar="PLAN", help="the name of a plan file")
+    parser.add_argument("--github", action="store_true", help="as annotations of GitHub's CI")
+    given = parser.parse_args(words)
+    status, answer = program.call(["check", "--", given.plan])
+    if status in (1, 2) and answer:
+        with open(given.plan, "rb") as file:
+            data = file.read()
+        form = "::error file={file},line={line}::{text}" if given.github else "{file}:{line}: {text}"
+        answer = "".join(f"{line}\n" for line in annotate(given.plan, data, answer, form))
+    sys.stdout.write(answer)
+    return status
+
+
+if __name__ == "__main__":
+    sys.exit(main())
