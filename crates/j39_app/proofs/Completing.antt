@@ -7,17 +7,17 @@ use Rattle.std.specs.Prelude.{nat_le}
 use Rattle.j39_tp.specs.Chunks.{packets_of}
 use Rattle.j39_tp.specs.Carried.{listened, receives_any, CompletesAt, Carried, AreInRange}
 use Rattle.j39_tp.specs.Receiver.{Receiving, receives, hears, takes, takes_next, takes_later, is_directed, going_on, one_more, opened}
-use Rattle.j39_tp.specs.declared.heard.Heard.{Heard}
-use Rattle.j39_tp.specs.declared.heard.Heard.TheVariants as heard
-use Rattle.j39_tp.specs.declared.manner.Manner.{Manner}
-use Rattle.j39_tp.specs.declared.manner.Manner.TheVariants.{Answering, Listening}
+use Rattle.j39_tp.specs.declared.receiving.heard.Heard.{Heard}
+use Rattle.j39_tp.specs.declared.receiving.heard.Heard.TheVariants as heard
+use Rattle.j39_tp.specs.declared.receiving.manner.Manner.{Manner}
+use Rattle.j39_tp.specs.declared.receiving.manner.Manner.TheVariants.{Answering, Listening}
 use Rattle.j39_tp.specs.declared.packet.Packet.{Packet}
 use Rattle.j39_tp.specs.declared.packet.Packet.TheVariants.{Rts, Cts, EndAck, Bam, Abort, Dt}
-use Rattle.j39_tp.specs.declared.progress.Progress.{Progress}
-use Rattle.j39_tp.specs.declared.progress.Progress.TheVariants.{Closed, Open, Complete}
-use Rattle.j39_tp.specs.declared.reception.Kind.{Kind}
-use Rattle.j39_tp.specs.declared.reception.Kind.TheVariants.{Broadcast, Directed}
-use Rattle.j39_tp.specs.declared.reception.Reception.{Reception}
+use Rattle.j39_tp.specs.declared.receiving.progress.Progress.{Progress}
+use Rattle.j39_tp.specs.declared.receiving.progress.Progress.TheVariants.{Closed, Open, Complete}
+use Rattle.j39_tp.specs.declared.receiving.reception.Kind.{Kind}
+use Rattle.j39_tp.specs.declared.receiving.reception.Kind.TheVariants.{Broadcast, Directed}
+use Rattle.j39_tp.specs.declared.receiving.reception.Reception.{Reception}
 use Rattle.j39_app.specs.Listening.{is_complete, completes, after_all}
 use Rattle.j39_app.specs.ReadText.{CarriesNone}
 use Rattle.j39_app.proofs.PairLists.{listened_front, after_more, slice_get_end, in_range}
@@ -62,7 +62,7 @@ carried_there law h p s after group message heard_all heard_one all fits told pr
       packet = p;
       stands = slice_get_end h p;
       told = is_told _ (sym (told_there h p) ∙ told_all);
-      group_is = ap (λ (r : Receiving). r.progress) here ∙ progress;
+      pgn_is = ap (λ (r : Receiving). r.progress) here ∙ progress;
       bytes_are = ap (λ (r : Receiving). r.bytes) here ∙ bytes;
     })
 

@@ -7,9 +7,9 @@ use Rattle.std.specs.List.{filter, list_any, range_with_len}
 use Rattle.std.specs.Option.{option_map}
 use Rattle.j39_plan.specs.declared.plan.to.To.{To}
 use Rattle.j39_plan.specs.declared.plan.to.To.TheVariants.{All as ToAll, One as ToOne}
-use Rattle.j39_tp.specs.Gathered.{Gathers}
+use Rattle.j39_tp.specs.inside.Gathered.{Gathers}
 use Rattle.j39_tp.specs.Receiver.{Receiving, fresh}
-use Rattle.j39_tp.specs.declared.manner.Manner.TheVariants.{Answering}
+use Rattle.j39_tp.specs.declared.receiving.manner.Manner.TheVariants.{Answering}
 use Rattle.j39_tp.specs.declared.packet.Packet.{Packet}
 use Rattle.j39_bus.specs.declared.route.Route.{Route}
 use Rattle.j39_bus.specs.declared.transfer.Transfer as made
@@ -20,7 +20,7 @@ use Rattle.j39_bus.specs.Network.{AreGathered, receivers_of}
 use Rattle.j39_bus.specs.Traffic.{AreOpened, AreTransfers, IsInside, IsTable, IsTraffic, IsTransfer, IsTransferOr, is_announcement, is_receiver, is_target, is_target_of, item_frame, posted, transfer_of, values_of}
 use Rattle.j39_bus.specs.Transfers.{settled}
 use Rattle.j39_tp.specs.Sender.{announcement}
-use Rattle.j39_tp.specs.declared.progress.Progress.TheVariants.{Closed}
+use Rattle.j39_tp.specs.declared.receiving.progress.Progress.TheVariants.{Closed}
 use Rattle.j39_bus.specs.declared.wired.Wired.TheVariants as wired
 use Rattle.j39_bus.specs.SentTransfers.{address_of, destination_of, packet_frame, short_frame}
 use Rattle.j39_bus.specs.TransferSteps.{targets_of, first_item, first_frame}

@@ -8,8 +8,8 @@ use Rattle.j39_tp.specs.Sender.{data_next, timeout_packet}
 use Rattle.j39_tp.specs.declared.packet.Packet.{Packet}
 use Rattle.j39_tp.specs.Chunks.{chunk}
 use Rattle.j39_tp.specs.declared.packet.Packet.TheVariants.{Dt, Abort}
-use Rattle.j39_tp.specs.declared.stage.Stage.{Stage}
-use Rattle.j39_tp.specs.declared.stage.Stage.TheVariants.{Sending, Waiting, Resting}
+use Rattle.j39_tp.specs.declared.sending.stage.Stage.{Stage}
+use Rattle.j39_tp.specs.declared.sending.stage.Stage.TheVariants.{Sending, Waiting, Resting}
 use Rattle.j39_bus.specs.declared.transfer.Transfer as made
 use Rattle.j39_bus.specs.declared.wire.Wire as queued
 use Rattle.j39_bus.specs.declared.wired.Wired.{Wired}

@@ -5,14 +5,14 @@ use Rattle.std.specs.List.{AllByRecursion}
 use Rattle.j39_tp.specs.Receiver.{is_open_at}
 use Rattle.j39_tp.specs.declared.packet.Packet.{Packet}
 use Rattle.j39_tp.specs.declared.packet.Packet.TheVariants.{Rts, Cts, EndAck, Bam, Abort, Dt}
-use Rattle.j39_tp.specs.declared.progress.Progress.{Progress}
+use Rattle.j39_tp.specs.declared.receiving.progress.Progress.{Progress}
 use Rattle.j39_bus.specs.declared.wired.Wired.{Wired}
 use Rattle.j39_bus.specs.declared.wired.Wired.TheVariants as wired
 use Rattle.j39_bus.specs.Transfers.{Begun}
 use Rattle.j39_bus.specs.Sound.{IsSubsequence}
 use Rattle.j39_bus.proofs.Telling.{all-append}
 use Rattle.j39_bus.proofs.Subsequences.{subsequence_more, subsequence_both}
-use Rattle.j39_bus.proofs.Gathering.{GoesOn}
+use Rattle.j39_tp.specs.HonestPackets.{GoesOn}
 use Rattle.j39_bus.proofs.Hearings.{IsAside, IsAnswer, IsNoAnnouncement}
 use Rattle.j39_bus.proofs.Exchanges.{Pair, Message, IsAnswering, IsUnacknowledging, Begins, ComesAfter, BeginsOnce, EndsWith, IsUnreported, IsAhead, Exchange}
 

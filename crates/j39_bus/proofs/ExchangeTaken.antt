@@ -4,16 +4,17 @@ use Rattle.std.proofs.lemmas.Bool.{and_parts}
 use Rattle.std.specs.List.{AllByRecursion, list_all}
 use Rattle.j39_tp.specs.Carried.{Carried}
 use Rattle.j39_tp.specs.Receiver.{is_open_at, hears}
-use Rattle.j39_tp.specs.declared.heard.Heard.{Heard}
-use Rattle.j39_tp.specs.declared.manner.Manner.TheVariants.{Answering}
+use Rattle.j39_tp.specs.declared.receiving.heard.Heard.{Heard}
+use Rattle.j39_tp.specs.declared.receiving.manner.Manner.TheVariants.{Answering}
 use Rattle.j39_tp.specs.declared.packet.Packet.{Packet}
 use Rattle.j39_tp.specs.declared.packet.Packet.TheVariants.{Rts, Cts, EndAck, Bam, Abort, Dt}
-use Rattle.j39_tp.specs.declared.progress.Progress.{Progress}
+use Rattle.j39_tp.specs.declared.receiving.progress.Progress.{Progress}
 use Rattle.j39_bus.specs.declared.wired.Wired.{Wired}
 use Rattle.j39_bus.specs.declared.wired.Wired.TheVariants as wired
 use Rattle.j39_bus.specs.Resting.{is_of_sender, is_of_receiver}
 use Rattle.j39_bus.specs.Transfers.{settled}
-use Rattle.j39_bus.proofs.Gathering.{Opens, gathers_first, gathers_more, carried_is}
+use Rattle.j39_tp.specs.HonestPackets.{AnnouncesMessage}
+use Rattle.j39_tp.proofs.Honest.{tells_first, tells_more, carried_is}
 use Rattle.j39_bus.proofs.Hearings.{TellsNothing, TellsMessage, hears_told, announcement_told, closed_told}
 use Rattle.j39_bus.proofs.Exchanges.{Pair, Message, IsAnswering, IsUnacknowledging, ComesAfter, BeginsOnce, IsIdle, IsAhead, IsUnderWay, IsOver, Exchange}
 use Rattle.j39_bus.proofs.ExchangeSteps.{answers_announce_nothing, goes_on_unannounced, part_with, is_part}
@@ -73,10 +74,10 @@ idle_taken window pair p rest e wire =
 
 ahead_taken : (m : Message) (window : ℕ) (pair : Pair) (p : Packet) (rest : List Wired) → IsAhead m pair → BeginsOnce m (wired.Packet p ∷ rest) → Takes (Some m) window pair p rest
 ahead_taken m window pair p rest e (inl here) =
-    let opens : Opens m.group m.begun.bytes p = here.0 in
+    let opens : AnnouncesMessage m.group m.begun.bytes p = here.0 in
     inl (record {
       told = subst (λ (q : Packet). TellsNothing (hears (Answering window) pair.receiver q).1) (sym opens.1) (announcement_told window pair.receiver opens.0 m.group (length m.begun.bytes));
-      keeps = inr (inl (record { wire = here.1; gathers = gathers_first pair.taken m.group m.begun.bytes p opens; back = e.back; unreported = e.unreported }));
+      keeps = inr (inl (record { wire = here.1; gathers = tells_first pair.taken m.group m.begun.bytes p opens; back = e.back; unreported = e.unreported }));
     })
 ahead_taken m window pair p rest e (inr later) =
     let heard = closed_told window pair.receiver p e.closed (goes_on_unannounced m.begun.bytes p later.0) in
@@ -86,13 +87,13 @@ under_way_taken : (m : Message) (window : ℕ) (pair : Pair) (p : Packet) (rest 
 under_way_taken m window pair p rest e wire = elim (hears_told window pair.receiver p) [
   | inl told ↦ inl (record {
     told = told;
-    keeps = inr (inl (record { wire = wire.1; gathers = gathers_more pair.taken m.group m.begun.bytes p wire.0 e.gathers; back = e.back; unreported = e.unreported }));
+    keeps = inr (inl (record { wire = wire.1; gathers = tells_more pair.taken m.group m.begun.bytes p wire.0 e.gathers; back = e.back; unreported = e.unreported }));
   })
   | inr told ↦ inr (record {
     told = told.0;
     message = m;
     is = refl;
-    carried = carried_is pair.taken p m.group m.begun.bytes e.gathers wire.0;
+    carried = λ group bytes c. (carried_is pair.taken p m.group m.begun.bytes e.gathers wire.0 group bytes c).1;
     keeps = λ back. inr (inr (record { wire = wire.1; closed = told.1; back = inr (pair.reports, refl); part = part_with m pair.begun pair.reports e.unreported }));
   })
 ]

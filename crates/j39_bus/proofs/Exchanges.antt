@@ -4,13 +4,13 @@ use Rattle.std.specs.List.{AllByRecursion}
 use Rattle.j39_tp.specs.Receiver.{is_open_at}
 use Rattle.j39_tp.specs.declared.packet.Packet.{Packet}
 use Rattle.j39_tp.specs.declared.packet.Packet.TheVariants.{EndAck}
-use Rattle.j39_tp.specs.declared.progress.Progress.{Progress}
+use Rattle.j39_tp.specs.declared.receiving.progress.Progress.{Progress}
 use Rattle.j39_bus.specs.declared.wired.Wired.{Wired}
 use Rattle.j39_bus.specs.declared.wired.Wired.TheVariants as wired
 use Rattle.j39_bus.specs.Transfers.{Outgoing, Begun, is_among}
 use Rattle.j39_bus.specs.World.{World}
 use Rattle.j39_bus.specs.Sound.{IsSubsequence, reported}
-use Rattle.j39_bus.proofs.Gathering.{GoesOn, Opens, Gathers}
+use Rattle.j39_tp.specs.HonestPackets.{GoesOn, AnnouncesMessage, TellsLast}
 use Rattle.j39_bus.proofs.Hearings.{IsAnswer}
 
 -- all that a world has between a sender and a receiver
@@ -64,7 +64,7 @@ IsUnacknowledging _ = Unit {0}
 -- it is what the message begins with: all of it, or its announcement
 abbrev pub Begins : Message → Wired → Type 0
 Begins m (wired.Short bytes) = bytes ≡ m.begun.bytes
-Begins m (wired.Packet p) = Opens m.group m.begun.bytes p
+Begins m (wired.Packet p) = AnnouncesMessage m.group m.begun.bytes p
 
 -- it may come after that
 abbrev pub ComesAfter : Message → Wired → Type 0
@@ -106,7 +106,7 @@ pub record IsAhead (m : Message) (pair : Pair) : Type 0 where
 -- its announcement was taken
 pub record IsUnderWay (m : Message) (pair : Pair) : Type 0 where
   pub wire : AllByRecursion (ComesAfter m) pair.wire
-  pub gathers : Gathers pair.taken m.group m.begun.bytes
+  pub gathers : TellsLast pair.taken m.group m.begun.bytes
   pub back : AllByRecursion IsUnacknowledging pair.back
   pub unreported : IsUnreported m pair.begun pair.reports
 

@@ -6,11 +6,11 @@ use Rattle.std.proofs.lemmas.Bool.{cases_eq}
 use Rattle.std.specs.Option.{option_map}
 use Rattle.j39_tp.specs.Receiver.{Receiving}
 use Rattle.j39_tp.specs.Sender.{hears}
-use Rattle.j39_tp.specs.declared.manner.Manner.TheVariants.{Answering}
+use Rattle.j39_tp.specs.declared.receiving.manner.Manner.TheVariants.{Answering}
 use Rattle.j39_tp.specs.declared.packet.Packet.{Packet}
-use Rattle.j39_tp.specs.declared.reaction.Reaction.{Reaction}
-use Rattle.j39_tp.specs.declared.reaction.Reaction.TheVariants as reactions
-use Rattle.j39_tp.specs.declared.stage.Stage.{Stage}
+use Rattle.j39_tp.specs.declared.sending.reaction.Reaction.{Reaction}
+use Rattle.j39_tp.specs.declared.sending.reaction.Reaction.TheVariants as reactions
+use Rattle.j39_tp.specs.declared.sending.stage.Stage.{Stage}
 use Rattle.j39_bus.specs.declared.transfer.Transfer as made
 use Rattle.j39_bus.specs.BusState.{Transfer, places_from}
 use Rattle.j39_bus.specs.Flows.{dest_of, window_at}

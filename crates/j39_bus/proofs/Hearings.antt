@@ -6,24 +6,24 @@ use Rattle.j39_tp.specs.Chunks.{packets_of}
 use Rattle.j39_tp.specs.Receiver as receiver
 use Rattle.j39_tp.specs.Receiver.{is_open_at}
 use Rattle.j39_tp.specs.Sender as sender
-use Rattle.j39_tp.specs.declared.dest.Dest.{Dest}
-use Rattle.j39_tp.specs.declared.dest.Dest.TheVariants.{All, One}
-use Rattle.j39_tp.specs.declared.heard.Heard.{Heard}
-use Rattle.j39_tp.specs.declared.heard.Heard.TheVariants as heard
-use Rattle.j39_tp.specs.declared.manner.Manner.TheVariants.{Answering}
-use Rattle.j39_tp.specs.declared.outcome.Outcome.{Outcome}
-use Rattle.j39_tp.specs.declared.outcome.Outcome.TheVariants.{Acked, Aborted}
+use Rattle.j39_tp.specs.declared.sending.dest.Dest.{Dest}
+use Rattle.j39_tp.specs.declared.sending.dest.Dest.TheVariants.{All, One}
+use Rattle.j39_tp.specs.declared.receiving.heard.Heard.{Heard}
+use Rattle.j39_tp.specs.declared.receiving.heard.Heard.TheVariants as heard
+use Rattle.j39_tp.specs.declared.receiving.manner.Manner.TheVariants.{Answering}
+use Rattle.j39_tp.specs.declared.sending.outcome.Outcome.{Outcome}
+use Rattle.j39_tp.specs.declared.sending.outcome.Outcome.TheVariants.{Acked, Aborted}
 use Rattle.j39_tp.specs.declared.packet.Packet.{Packet}
 use Rattle.j39_tp.specs.declared.packet.Packet.TheVariants.{Rts, Cts, EndAck, Bam, Abort, Dt}
-use Rattle.j39_tp.specs.declared.progress.Progress.{Progress}
-use Rattle.j39_tp.specs.declared.progress.Progress.TheVariants.{Closed, Open, Complete}
-use Rattle.j39_tp.specs.declared.reaction.Reaction.{Reaction}
-use Rattle.j39_tp.specs.declared.reaction.Reaction.TheVariants as reaction
-use Rattle.j39_tp.specs.declared.reception.Kind.{Kind}
-use Rattle.j39_tp.specs.declared.reception.Kind.TheVariants.{Broadcast, Directed}
-use Rattle.j39_tp.specs.declared.reception.Reception.{Reception}
-use Rattle.j39_tp.specs.declared.stage.Stage.{Stage}
-use Rattle.j39_tp.specs.declared.stage.Stage.TheVariants.{Sending, Waiting, Resting}
+use Rattle.j39_tp.specs.declared.receiving.progress.Progress.{Progress}
+use Rattle.j39_tp.specs.declared.receiving.progress.Progress.TheVariants.{Closed, Open, Complete}
+use Rattle.j39_tp.specs.declared.sending.reaction.Reaction.{Reaction}
+use Rattle.j39_tp.specs.declared.sending.reaction.Reaction.TheVariants as reaction
+use Rattle.j39_tp.specs.declared.receiving.reception.Kind.{Kind}
+use Rattle.j39_tp.specs.declared.receiving.reception.Kind.TheVariants.{Broadcast, Directed}
+use Rattle.j39_tp.specs.declared.receiving.reception.Reception.{Reception}
+use Rattle.j39_tp.specs.declared.sending.stage.Stage.{Stage}
+use Rattle.j39_tp.specs.declared.sending.stage.Stage.TheVariants.{Sending, Waiting, Resting}
 use Rattle.j39_plan.specs.declared.plan.to.To.{To}
 use Rattle.j39_plan.specs.declared.plan.to.To.TheVariants as tos
 use Rattle.j39_bus.specs.Flows.{dest_of}

@@ -35,7 +35,6 @@ pub mod Answered
 pub mod Standing
 pub mod Running
 pub mod Opened
-mod Gathering
 mod Subsequences
 mod Hearings
 mod Exchanges

@@ -14,7 +14,7 @@ use Rattle.j39_bus.specs.declared.network.Network.{Network}
 use Rattle.j39_bus.specs.Claimants.{claimant_of, unit_at}
 use Rattle.j39_bus.specs.Letters.{unstarted, station_at, between, is_inside}
 use Rattle.j39_bus.specs.declared.traffic.Traffic as kept
-use Rattle.j39_tp.specs.Gathered.{Gathers}
+use Rattle.j39_tp.specs.inside.Gathered.{Gathers}
 use Rattle.j39_bus.specs.BusState.{outgoing_of, pair_in, receiver_of, receiving_or}
 use Rattle.j39_bus.specs.Flows.{flows_of, windows_of}
 use Rattle.j39_bus.specs.Traffic.{IsTraffic, lists_of, reported_of, route_of, values_of}

@@ -3,19 +3,19 @@ use Rattle.std.proofs.Common.{◌≡◌, ℕ, ◌<◌, Bool, true, false, ◌&&�
 use Rattle.std.proofs.lemmas.List.{get_or-map}
 use Rattle.std.proofs.lemmas.Bool.{cond_both, and_parts, eqb-true, eq-eqb, cases_Bool, true≢false}
 use Rattle.std.specs.Option.{option_map}
-use Rattle.j39_tp.specs.Gathered.{Gathers, TellsComplete}
+use Rattle.j39_tp.specs.inside.Gathered.{Gathers, TellsComplete}
 use Rattle.j39_tp.specs.Receiver.{Receiving, hears, receives, timed_out, gives_up, going_on, opened, is_directed}
-use Rattle.j39_tp.specs.declared.heard.Heard.{Heard}
-use Rattle.j39_tp.specs.declared.heard.Heard.TheVariants as heards
-use Rattle.j39_tp.specs.declared.manner.Manner.{Manner}
-use Rattle.j39_tp.specs.declared.manner.Manner.TheVariants.{Answering, Listening}
+use Rattle.j39_tp.specs.declared.receiving.heard.Heard.{Heard}
+use Rattle.j39_tp.specs.declared.receiving.heard.Heard.TheVariants as heards
+use Rattle.j39_tp.specs.declared.receiving.manner.Manner.{Manner}
+use Rattle.j39_tp.specs.declared.receiving.manner.Manner.TheVariants.{Answering, Listening}
 use Rattle.j39_tp.specs.declared.packet.Packet.{Packet}
 use Rattle.j39_tp.specs.declared.packet.Packet.TheVariants.{Rts, Cts, EndAck, Bam, Abort, Dt}
-use Rattle.j39_tp.specs.declared.reception.Kind.{Kind}
-use Rattle.j39_tp.specs.declared.reception.Kind.TheVariants.{Broadcast, Directed}
-use Rattle.j39_tp.specs.declared.reception.Reception.{Reception}
-use Rattle.j39_tp.specs.declared.progress.Progress.{Progress}
-use Rattle.j39_tp.specs.declared.progress.Progress.TheVariants.{Closed, Open, Complete}
+use Rattle.j39_tp.specs.declared.receiving.reception.Kind.{Kind}
+use Rattle.j39_tp.specs.declared.receiving.reception.Kind.TheVariants.{Broadcast, Directed}
+use Rattle.j39_tp.specs.declared.receiving.reception.Reception.{Reception}
+use Rattle.j39_tp.specs.declared.receiving.progress.Progress.{Progress}
+use Rattle.j39_tp.specs.declared.receiving.progress.Progress.TheVariants.{Closed, Open, Complete}
 use Rattle.j39_bus.specs.declared.route.Route.{Route}
 use Rattle.j39_bus.specs.declared.transfer.Transfer as made
 use Rattle.j39_bus.specs.declared.wired.Wired.{Wired}

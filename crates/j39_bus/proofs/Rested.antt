@@ -11,8 +11,8 @@ use Rattle.j39_bus.specs.declared.transfer.Transfer as made
 use Rattle.j39_bus.proofs.AlongMessages.{session_of}
 use Rattle.std.specs.List.{list_all, list_any, range_with_len}
 use Rattle.j39_tp.specs.Receiver.{is_open_at}
-use Rattle.j39_tp.specs.declared.progress.Progress.{Progress}
-use Rattle.j39_tp.specs.declared.progress.Progress.TheVariants.{Closed, Open, Complete}
+use Rattle.j39_tp.specs.declared.receiving.progress.Progress.{Progress}
+use Rattle.j39_tp.specs.declared.receiving.progress.Progress.TheVariants.{Closed, Open, Complete}
 use Rattle.j39_bus.specs.declared.network.Network.{Network}
 use Rattle.j39_bus.specs.BusState.{outgoing_of, pair_in, receiving_or, session_at}
 use Rattle.j39_bus.specs.Network.{Histories, IsOf, world_of}

@@ -6,13 +6,13 @@ use Rattle.std.specs.Option.{is_some}
 use Rattle.std.specs.List.{filter, list_all, range_with_len}
 use Rattle.j39_tp.specs.Sender as sender
 use Rattle.j39_tp.specs.Chunks.{chunk}
-use Rattle.j39_tp.specs.declared.dest.Dest.{Dest}
-use Rattle.j39_tp.specs.declared.dest.Dest.TheVariants as dests
-use Rattle.j39_tp.specs.declared.outcome.Outcome.TheVariants.{Acked}
+use Rattle.j39_tp.specs.declared.sending.dest.Dest.{Dest}
+use Rattle.j39_tp.specs.declared.sending.dest.Dest.TheVariants as dests
+use Rattle.j39_tp.specs.declared.sending.outcome.Outcome.TheVariants.{Acked}
 use Rattle.j39_tp.specs.declared.packet.Packet.{Packet}
 use Rattle.j39_tp.specs.declared.packet.Packet.TheVariants.{Dt, Abort}
-use Rattle.j39_tp.specs.declared.stage.Stage.{Stage}
-use Rattle.j39_tp.specs.declared.stage.Stage.TheVariants.{Sending, Waiting, Resting}
+use Rattle.j39_tp.specs.declared.sending.stage.Stage.{Stage}
+use Rattle.j39_tp.specs.declared.sending.stage.Stage.TheVariants.{Sending, Waiting, Resting}
 use Rattle.j39_plan.specs.declared.plan.Plan.{Plan}
 use Rattle.j39_plan.specs.declared.plan.to.To.{To}
 use Rattle.j39_plan.specs.declared.plan.to.To.TheVariants.{All, One}
@@ -26,7 +26,7 @@ use Rattle.j39_bus.specs.Transfers.{Outgoing, outcome_in, is_among, added}
 use Rattle.j39_bus.specs.TransferSteps.{targets_of, begun_stage, outgoing, first_item, begins, BeginsAt, Emits, SenderTimesOut, rested}
 use Rattle.j39_bus.specs.World.{World, changed, hears}
 use Rattle.j39_bus.specs.Sound.{reported}
-use Rattle.j39_bus.proofs.Gathering.{GoesOn}
+use Rattle.j39_tp.specs.HonestPackets.{GoesOn}
 use Rattle.j39_bus.proofs.Hearings.{either}
 use Rattle.j39_bus.proofs.Orderly.{IsPlanned, PlannedAt, SettledAt, IsOrderly, all_delivered, sessions_keep}
 use Rattle.j39_bus.proofs.Places.{changed_each, units_all}

@@ -4,7 +4,7 @@ use Rattle.std.proofs.Math.ListN.{length-set}
 use Rattle.std.proofs.lemmas.List.{get_or-map, map-set, length-map}
 use Rattle.std.proofs.lemmas.Bool.{cases_eq, eq-eqb, ne_eqb}
 use Rattle.std.specs.Option.{option_map}
-use Rattle.j39_tp.specs.declared.stage.Stage.{Stage}
+use Rattle.j39_tp.specs.declared.sending.stage.Stage.{Stage}
 use Rattle.j39_tp.specs.Receiver.{Receiving}
 use Rattle.j39_bus.specs.declared.transfer.Content.{Content}
 use Rattle.j39_bus.specs.declared.transfer.Transfer as made

@@ -13,7 +13,7 @@ use Rattle.j39_bus.specs.World.{World}
 use Rattle.j39_bus.specs.Run.{Leads}
 use Rattle.std.specs.Prelude.{ℕ}
 use Rattle.j39_bus.specs.Traffic.{IsTraffic, KeepsReceivers, lists_of, reported_of, values_of}
-use Rattle.j39_tp.specs.Gathered.{Gathers}
+use Rattle.j39_tp.specs.inside.Gathered.{Gathers}
 use Rattle.j39_tp.specs.declared.packet.Packet.{Packet}
 use Rattle.j39_tp.specs.Receiver.{Receiving}
 use Rattle.j39_bus.specs.Transfers.{settled}

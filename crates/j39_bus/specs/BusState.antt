@@ -5,8 +5,8 @@ use Rattle.j39_claim.specs.declared.item.Item.{Item}
 use Rattle.j39_claim.specs.Claiming.{Claiming}
 use Rattle.j39_plan.specs.declared.plan.to.To.{To}
 use Rattle.j39_tp.specs.Receiver.{Receiving, fresh}
-use Rattle.j39_tp.specs.declared.manner.Manner.TheVariants.{Listening}
-use Rattle.j39_tp.specs.declared.stage.Stage.{Stage}
+use Rattle.j39_tp.specs.declared.receiving.manner.Manner.TheVariants.{Listening}
+use Rattle.j39_tp.specs.declared.sending.stage.Stage.{Stage}
 use Rattle.j39_bus.specs.declared.wired.Wired.{Wired}
 use Rattle.j39_bus.specs.Flows.{Flow}
 use Rattle.j39_bus.specs.Sent.{Sent}

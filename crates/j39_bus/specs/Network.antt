@@ -6,7 +6,7 @@ use Rattle.j39_claim.specs.declared.item.Say.{Say}
 use Rattle.j39_claim.specs.declared.item.Item.{Item}
 use Rattle.j39_claim.specs.ClaimRule.{Claimant, Station, Answers}
 use Rattle.j39_claim.specs.Claiming.{Claiming}
-use Rattle.j39_tp.specs.Gathered.{Gathers}
+use Rattle.j39_tp.specs.inside.Gathered.{Gathers}
 use Rattle.j39_tp.specs.Receiver.{Receiving}
 use Rattle.j39_tp.specs.declared.packet.Packet.{Packet}
 use Rattle.j39_plan.specs.declared.plan.Plan.{Plan}

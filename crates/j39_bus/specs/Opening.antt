@@ -1,6 +1,6 @@
 -- Which plans have a bus, and why another has none.
 use Rattle.std.specs.Prelude.{◌≡◌, ◌≢◌, ℕ, ◌<◌, ◌⊎◌, List, length, take, All}
-use Rattle.j39_id.specs.Pgn.{IsGroup}
+use Rattle.j39_id.specs.Pgn.{IsPgn}
 use Rattle.j39_signal.specs.Places.{LaysOut}
 use Rattle.j39_signal.specs.Refusals.{HasLayoutFault}
 use Rattle.j39_signal.specs.declared.layout_error.LayoutError.{LayoutError}
@@ -32,13 +32,13 @@ pub record IsFirstOfOneName (units : List Claimant) (i j : ℕ) : Type 0 where
 
 -- the group's number is one of a group, and its signals lay out its payload
 pub record IsSendable (group : GroupPlan) : Type 0 where
-  pub number : IsGroup group.pgn
+  pub number : IsPgn group.pgn
   pub layout : LaysOut group.length group.signals.items
 
 -- its number is no group's, or there is a fault that keeps its signals from being a layout
 abbrev pub IsRefusedGroup : GroupPlan → Type 0
 IsRefusedGroup group =
-    (¬ IsGroup group.pgn) ⊎ ((e : LayoutError) × (e ≢ NoMemory) × HasLayoutFault group.length group.signals.items e)
+    (¬ IsPgn group.pgn) ⊎ ((e : LayoutError) × (e ≢ NoMemory) × HasLayoutFault group.length group.signals.items e)
 
 -- what keeps a group from being sent; where it is memory alone, it could be
 abbrev pub IsNotSendable : GroupPlan → GroupFault → Type 0

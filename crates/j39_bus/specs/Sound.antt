@@ -1,8 +1,8 @@
 -- What holds in every world of every run of a plan without findings: addresses are sound, and so are reports.
 use Rattle.std.specs.Prelude.{◌≡◌, ◌≢◌, ℕ, ◌&&◌, nat_eq, true, false, ◌⊎◌, List, [], ◌∷◌, ◌++◌, map, Some, Contains}
 use Rattle.std.specs.List.{filter}
-use Rattle.j39_tp.specs.declared.outcome.Outcome.TheVariants.{Acked}
-use Rattle.j39_tp.specs.declared.stage.Stage.TheVariants.{Resting}
+use Rattle.j39_tp.specs.declared.sending.outcome.Outcome.TheVariants.{Acked}
+use Rattle.j39_tp.specs.declared.sending.stage.Stage.TheVariants.{Resting}
 use Rattle.j39_plan.specs.declared.plan.to.To.TheVariants.{One}
 use Rattle.j39_bus.specs.Transfers.{Outgoing, Begun, Reported}
 use Rattle.j39_claim.specs.Pool.{is_arbitrary}

@@ -10,14 +10,14 @@ use Rattle.std.specs.declared.collections.VecDeque.{VecDeque}
 use Rattle.j39_plan.specs.declared.plan.to.To.{To}
 use Rattle.j39_plan.specs.declared.plan.to.To.TheVariants.{All as ToAll, One as ToOne}
 use Rattle.j39_tp.specs.Receiver.{Receiving, fresh}
-use Rattle.j39_tp.specs.declared.heard.Heard.{Heard}
-use Rattle.j39_tp.specs.declared.heard.Heard.TheVariants as heards
-use Rattle.j39_tp.specs.declared.manner.Manner.TheVariants.{Answering}
-use Rattle.j39_tp.specs.declared.outcome.Outcome.TheVariants.{Sent}
+use Rattle.j39_tp.specs.declared.receiving.heard.Heard.{Heard}
+use Rattle.j39_tp.specs.declared.receiving.heard.Heard.TheVariants as heards
+use Rattle.j39_tp.specs.declared.receiving.manner.Manner.TheVariants.{Answering}
+use Rattle.j39_tp.specs.declared.sending.outcome.Outcome.TheVariants.{Sent}
 use Rattle.j39_tp.specs.declared.packet.Packet.{Packet}
 use Rattle.j39_tp.specs.declared.packet.Packet.TheVariants.{Rts, Bam, Dt}
-use Rattle.j39_tp.specs.declared.stage.Stage.{Stage}
-use Rattle.j39_tp.specs.declared.stage.Stage.TheVariants.{Resting}
+use Rattle.j39_tp.specs.declared.sending.stage.Stage.{Stage}
+use Rattle.j39_tp.specs.declared.sending.stage.Stage.TheVariants.{Resting}
 use Rattle.j39_bus.specs.declared.report.Report.{Report}
 use Rattle.j39_bus.specs.declared.route.Route.{Route}
 use Rattle.j39_bus.specs.declared.transfer.Content.{Content}
@@ -143,7 +143,7 @@ pub record IsRoute (n : ℕ) (r : Route) : Type 0 where
 abbrev pub HasContent : ℕ → To → Content → Type 0
 HasContent group to (Short bytes) = Unit {0}
 HasContent group to (Long None) = ⊥
-HasContent group to (Long (Some s)) = (s.message.group ≡ group) × (s.dest ≡ dest_of to)
+HasContent group to (Long (Some s)) = (s.message.pgn ≡ group) × (s.dest ≡ dest_of to)
 
 -- receivers answer, each with its unit's window
 abbrev pub AreAnswering : List ℕ → List (Option Receiving) → Type 0

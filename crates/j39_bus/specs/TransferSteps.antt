@@ -5,16 +5,16 @@ use Rattle.std.specs.List.{range_with_len, filter}
 use Rattle.j39_tp.specs.Carried.{Carried}
 use Rattle.j39_tp.specs.Sender as sender
 use Rattle.j39_tp.specs.Receiver as receiver
-use Rattle.j39_tp.specs.declared.heard.Heard.{Heard}
-use Rattle.j39_tp.specs.declared.heard.Heard.TheVariants as heards
-use Rattle.j39_tp.specs.declared.manner.Manner.TheVariants.{Answering}
-use Rattle.j39_tp.specs.declared.outcome.Outcome.TheVariants.{Sent}
+use Rattle.j39_tp.specs.declared.receiving.heard.Heard.{Heard}
+use Rattle.j39_tp.specs.declared.receiving.heard.Heard.TheVariants as heards
+use Rattle.j39_tp.specs.declared.receiving.manner.Manner.TheVariants.{Answering}
+use Rattle.j39_tp.specs.declared.sending.outcome.Outcome.TheVariants.{Sent}
 use Rattle.j39_tp.specs.declared.packet.Packet.{Packet}
-use Rattle.j39_tp.specs.declared.progress.Progress.{Progress}
-use Rattle.j39_tp.specs.declared.reaction.Reaction.{Reaction}
-use Rattle.j39_tp.specs.declared.reaction.Reaction.TheVariants as reactions
-use Rattle.j39_tp.specs.declared.stage.Stage.{Stage}
-use Rattle.j39_tp.specs.declared.stage.Stage.TheVariants.{Resting}
+use Rattle.j39_tp.specs.declared.receiving.progress.Progress.{Progress}
+use Rattle.j39_tp.specs.declared.sending.reaction.Reaction.{Reaction}
+use Rattle.j39_tp.specs.declared.sending.reaction.Reaction.TheVariants as reactions
+use Rattle.j39_tp.specs.declared.sending.stage.Stage.{Stage}
+use Rattle.j39_tp.specs.declared.sending.stage.Stage.TheVariants.{Resting}
 use Rattle.j39_plan.specs.declared.plan.to.To.{To}
 use Rattle.j39_plan.specs.declared.plan.to.To.TheVariants.{All, One}
 use Rattle.j39_bus.specs.declared.wired.Wired.{Wired}

@@ -1,10 +1,10 @@
 -- What a world knows of transfers (SAE J1939-21, transport protocol functions).
 use Rattle.std.specs.Prelude.{ℕ, Bool, cond, ◌&&◌, nat_eq, List, [], ◌∷◌, ◌++◌, Option, Some, None}
 use Rattle.std.specs.List.{list_any}
-use Rattle.j39_tp.specs.declared.outcome.Outcome.{Outcome}
-use Rattle.j39_tp.specs.declared.progress.Progress.{Progress}
-use Rattle.j39_tp.specs.declared.progress.Progress.TheVariants.{Closed, Open, Complete}
-use Rattle.j39_tp.specs.declared.stage.Stage.{Stage}
+use Rattle.j39_tp.specs.declared.sending.outcome.Outcome.{Outcome}
+use Rattle.j39_tp.specs.declared.receiving.progress.Progress.{Progress}
+use Rattle.j39_tp.specs.declared.receiving.progress.Progress.TheVariants.{Closed, Open, Complete}
+use Rattle.j39_tp.specs.declared.sending.stage.Stage.{Stage}
 use Rattle.j39_tp.specs.Sender.{outcome_of}
 use Rattle.j39_plan.specs.declared.plan.to.To.{To}
 use Rattle.j39_bus.specs.declared.wired.Wired.{Wired}

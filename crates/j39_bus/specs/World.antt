@@ -3,7 +3,7 @@ use Rattle.std.specs.Prelude.{ℕ, Bool, cond, not, ◌&&◌, nat_eq, List, [], 
 use Rattle.j39_claim.specs.declared.item.Item.{Item}
 use Rattle.j39_claim.specs.ClaimRule.{Station, off}
 use Rattle.j39_tp.specs.declared.packet.Packet.{Packet}
-use Rattle.j39_tp.specs.declared.progress.Progress.TheVariants.{Closed}
+use Rattle.j39_tp.specs.declared.receiving.progress.Progress.TheVariants.{Closed}
 use Rattle.j39_bus.specs.Sent.{Sent}
 use Rattle.j39_bus.specs.Transfers.{Sessions, Wire, Receivers, Begun, Reported}
 

@@ -115,7 +115,7 @@ impl Transfer {
     ghost use Rattle.j39_bus.specs.BusState.{receiving_or};
     ghost use Rattle.j39_bus.specs.Flows.{dest_of};
     ghost use Rattle.j39_bus.specs.Traffic.{HasContent, bytes_in, is_receiver, stage_in, transfer_of};
-    ghost use Rattle.j39_tp.specs.declared.reaction.Reaction.TheVariants as reactions;
+    ghost use Rattle.j39_tp.specs.declared.sending.reaction.Reaction.TheVariants as reactions;
 
     /// What the receiver of a unit does with a packet; a unit without one does nothing.
     pub(crate) fn receiver_hears(&mut self, unit: usize, packet: &Packet) -> Heard

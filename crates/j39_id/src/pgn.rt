@@ -14,23 +14,23 @@ pub struct Pgn {
 
 impl Model for Pgn {
     ghost use Rattle.std.specs.Prelude.{ℕ};
-    ghost use Rattle.j39_id.specs.Pgn.{IsGroup};
+    ghost use Rattle.j39_id.specs.Pgn.{IsPgn};
 
     ghost Value = { ℕ };
 
     ghost view = { λ p. p.number };
 
-    ghost invariant = { λ p. IsGroup p.number };
+    ghost invariant = { λ p. IsPgn p.number };
 
     ghost inverse = { λ n. record { number = n } };
 }
 
 impl Pgn {
-    ghost use Rattle.j39_id.specs.Pgn.{IsGroup, pf_of};
+    ghost use Rattle.j39_id.specs.Pgn.{IsPgn, pf_of};
 
     /// The group number, or `None` from 2^18 on and for a PDU1 number whose low byte is not 0.
     pub fn new(number: u32) -> Option<Self>
-        ensures valid { IsSome result ↔ IsGroup number }
+        ensures valid { IsSome result ↔ IsPgn number }
         ensures value { IfSome result (λ p. p ≡ number) }
     {
         if number < 262_144 && ((number >> 8) & 0xff >= 240 || number & 0xff == 0) {
@@ -43,7 +43,7 @@ impl Pgn {
     /// The number, below 2^18.
     pub fn number(self) -> u32
         ensures value { result ≡ self }
-        ensures range { IsGroup self }
+        ensures range { IsPgn self }
     {
         self.number
     }

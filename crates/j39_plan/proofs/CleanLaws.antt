@@ -3,7 +3,7 @@ use Rattle.std.proofs.Common.{ℕ, ◌+◌, ◌*◌, ◌<◌, List, All, AllPair
 use Rattle.std.proofs.lemmas.Bool.{cases_Bool, cases_lt}
 use Rattle.std.proofs.lemmas.Bool.Decides.{not_from_Decides}
 use Rattle.std.proofs.lemmas.Option.{slice_get-get_or}
-use Rattle.j39_id.specs.Pgn.{IsGroup}
+use Rattle.j39_id.specs.Pgn.{IsPgn}
 use Rattle.j39_signal.specs.Parts.{SignalParts}
 use Rattle.j39_signal.specs.Places.{WidthFits, IsInside, SharesBit, LaysOut, width_fits}
 use Rattle.j39_plan.specs.declared.plan.Plan.{Plan}
@@ -28,7 +28,7 @@ no_pair_at R xs none = λ i j d below less related. none i j (record {
   related = related;
 })
 
-group_of : (n : ℕ) → ¬ (¬ IsGroup n) → IsGroup n
+group_of : (n : ℕ) → ¬ (¬ IsPgn n) → IsPgn n
 group_of n h = elim (cases_Bool (is_group n)) [
   | inl is ↦ (Decides-is_group n).0 is
   | inr other ↦ absurd (h (not_from_Decides (is_group n) (Decides-is_group n) other))

@@ -4,7 +4,7 @@ use Rattle.std.specs.List.{slice_get, list_any}
 use Rattle.std.proofs.lemmas.Bool.{false≢true, leb-true, le-leb, cases_lt}
 use Rattle.std.proofs.lemmas.Bool.Decides.{Decides-eqb, Decides-and, Decides-or, Decides-not, Decides-like, Decides-ltb}
 use Rattle.std.proofs.lemmas.Option.{none-some, same_Some}
-use Rattle.j39_id.specs.Pgn.{IsGroup, pf_of}
+use Rattle.j39_id.specs.Pgn.{IsPgn, pf_of}
 use Rattle.j39_signal.specs.Parts.{SignalParts}
 use Rattle.j39_signal.specs.Places.{WidthFits, IsInside, SharesBit, shares_bit}
 use Rattle.j39_signal.proofs.Sharing.{shared_by_test}
@@ -32,16 +32,16 @@ Decides-have_same_fixed_address u v =
 
 -- ---- groups
 
-group_from : (n : ℕ) → (n < 262144) × ((240 ≤ pf_of n) ⊎ (n % 256 ≡ 0)) → IsGroup n
+group_from : (n : ℕ) → (n < 262144) × ((240 ≤ pf_of n) ⊎ (n % 256 ≡ 0)) → IsPgn n
 group_from n h = record {
   range = h.0;
   low = λ to_one. elim h.1 [ inl to_all ↦ absurd (omega arith) | inr low ↦ low ];
 }
 
-group_parts : (n : ℕ) → IsGroup n → (n < 262144) × ((240 ≤ pf_of n) ⊎ (n % 256 ≡ 0))
+group_parts : (n : ℕ) → IsPgn n → (n < 262144) × ((240 ≤ pf_of n) ⊎ (n % 256 ≡ 0))
 group_parts n g = (g.range, elim (cases_lt (pf_of n) 240) [ inl to_one ↦ inr (g.low to_one) | inr to_all ↦ inl to_all ])
 
-pub Decides-is_group : (n : ℕ) → Decides (is_group n) (IsGroup n)
+pub Decides-is_group : (n : ℕ) → Decides (is_group n) (IsPgn n)
 Decides-is_group n =
     Decides-like _ (group_from n) (group_parts n)
     (Decides-and _ _ (Decides-ltb n 262144) (Decides-or _ _ (Decides-leb 240 (pf_of n)) (Decides-eqb (n % 256) 0)))

@@ -1,6 +1,6 @@
 -- What a clean plan keeps, part by part.
 use Rattle.std.specs.Prelude.{◌≡◌, ◌≢◌, ℕ, ◌<◌, ◌≤◌, All, AllPairs, Contains}
-use Rattle.j39_id.specs.Pgn.{IsGroup}
+use Rattle.j39_id.specs.Pgn.{IsPgn}
 use Rattle.j39_signal.specs.Places.{LaysOut}
 use Rattle.j39_plan.specs.Places.{ValueAt}
 use Rattle.j39_plan.specs.Findings.{arbitrary_bit, needed_addresses, IsProprietary, service_groups, IsToOne, IsOneFrameToAll, AreOneFlow}
@@ -14,7 +14,7 @@ HoldApart u v = arbitrary_bit u ≡ 0 → arbitrary_bit v ≡ 0 → u.address �
 
 -- a group of one data page that is neither proprietary nor a service of the network
 pub record CanBePlanned (pgn : ℕ) : Type 0 where
-  pub group : IsGroup pgn
+  pub group : IsPgn pgn
   pub page : pgn < 131072
   pub not_proprietary : ¬ IsProprietary pgn
   pub not_service : ¬ Contains service_groups pgn

@@ -1,7 +1,7 @@
 -- What can be wrong with a plan: each finding as a plain statement on its units, groups, signals and flows, by their
 -- places from 0 (addresses and NAMEs: SAE J1939-81; groups and their destinations: SAE J1939-21; signals: SAE J1939-71).
 use Rattle.std.specs.Prelude.{◌≡◌, ℕ, ◌+◌, ◌/◌, ◌%◌, ◌^◌, ◌<◌, ◌≤◌, ◌⊎◌, List, [], ◌∷◌, Bool, ◌&&◌, ◌==◌, nat_le, count_by, Contains, AllPairs}
-use Rattle.j39_id.specs.Pgn.{IsGroup, pf_of}
+use Rattle.j39_id.specs.Pgn.{IsPgn, pf_of}
 use Rattle.j39_signal.specs.Places.{WidthFits, IsInside, SharesBit}
 use Rattle.j39_plan.specs.Places.{ValueAt, PairAt}
 use Rattle.j39_plan.specs.declared.plan.Plan.{Plan}
@@ -56,7 +56,7 @@ service_groups = 59392 ∷ 59904 ∷ 60160 ∷ 60416 ∷ 60928 ∷ 65240 ∷ []
 
 -- a number that is no group's, or whose group is not for a plan; from 131072 on the extended data page is set
 abbrev pub CannotBePlanned : ℕ → Type 0
-CannotBePlanned pgn = (¬ IsGroup pgn) ⊎ ((131072 ≤ pgn) ⊎ (IsProprietary pgn ⊎ Contains service_groups pgn))
+CannotBePlanned pgn = (¬ IsPgn pgn) ⊎ ((131072 ≤ pgn) ⊎ (IsProprietary pgn ⊎ Contains service_groups pgn))
 
 abbrev pub HasBadPgn : GroupPlan → Type 0
 HasBadPgn group = CannotBePlanned group.pgn

@@ -6,24 +6,25 @@ use Rattle.std.proofs.lemmas.Bool.{cases_order, eqb-false, leb-true}
 use Rattle.std.proofs.lemmas.Option.{slice_get_within}
 use Rattle.j39_tp.specs.Chunks.{IsSize, packets_of}
 use Rattle.j39_tp.specs.Packets.{InRange}
-use Rattle.j39_tp.specs.Receiver.{Receiving, hears, receives, gives_up, timed_out, times_out, grown, kept, message_of, opened, one_more, asks, completed, going_on, takes, takes_next, takes_later, is_directed}
-use Rattle.j39_tp.specs.Carried.{Announces, MayPass, Awaits, Reaches, Leaves, IsUndisturbed, Carried}
-use Rattle.j39_tp.specs.Gathered.{Gathered, Gathers, TellsComplete, HoldsCarried}
-use Rattle.j39_tp.specs.declared.heard.Heard.{Heard}
-use Rattle.j39_tp.specs.declared.manner.Manner.{Manner}
-use Rattle.j39_tp.specs.declared.manner.Manner.TheVariants.{Answering, Listening}
+use Rattle.j39_tp.specs.Receiver.{Receiving, hears, receives, gives_up, timed_out, times_out, grown, bytes_at, message_of, opened, one_more, asks, completed, going_on, takes, takes_next, takes_later, is_directed}
+use Rattle.j39_tp.specs.Carried.{Announces, MayPass, Awaits, Leaves, IsUndisturbed, Carried}
+use Rattle.j39_tp.specs.inside.Gathered.{Reaches, Gathered, Gathers, TellsComplete, HoldsCarried}
+use Rattle.j39_tp.specs.declared.receiving.heard.Heard.{Heard}
+use Rattle.j39_tp.specs.declared.receiving.manner.Manner.{Manner}
+use Rattle.j39_tp.specs.declared.receiving.manner.Manner.TheVariants.{Answering, Listening}
 use Rattle.j39_tp.specs.declared.packet.Packet.{Packet}
 use Rattle.j39_tp.specs.declared.packet.Packet.TheVariants.{Rts, Cts, EndAck, Bam, Abort, Dt}
-use Rattle.j39_tp.specs.declared.progress.Progress.{Progress}
-use Rattle.j39_tp.specs.declared.progress.Progress.TheVariants.{Closed, Open, Complete}
-use Rattle.j39_tp.specs.declared.reception.Kind.{Kind}
-use Rattle.j39_tp.specs.declared.reception.Kind.TheVariants.{Broadcast, Directed}
-use Rattle.j39_tp.specs.declared.reception.Reception.{Reception}
+use Rattle.j39_tp.specs.declared.receiving.progress.Progress.{Progress}
+use Rattle.j39_tp.specs.declared.receiving.progress.Progress.TheVariants.{Closed, Open, Complete}
+use Rattle.j39_tp.specs.declared.receiving.reception.Kind.{Kind}
+use Rattle.j39_tp.specs.declared.receiving.reception.Kind.TheVariants.{Broadcast, Directed}
+use Rattle.j39_tp.specs.declared.receiving.reception.Reception.{Reception}
+use Rattle.j39_tp.proofs.Walks.{Walk, walk_of, carried_of}
 use Rattle.j39_tp.proofs.Hearing.{PacketPasses, if_case, if_cases, take_again, last_heard, last_grown}
 
 -- ---- a list that grows at its end
 
-stands_on : (h more : List Packet) (j : ℕ) (p : Packet) → slice_get h j ≡ Some p → slice_get (h ++ more) j ≡ Some p
+pub stands_on : (h more : List Packet) (j : ℕ) (p : Packet) → slice_get h j ≡ Some p → slice_get (h ++ more) j ≡ Some p
 stands_on [] more j p e = absurd (cc e)
 stands_on (x ∷ h) more zero p e = e
 stands_on (x ∷ h) more (suc j) p e = stands_on h more j p e
@@ -33,7 +34,7 @@ stood_before [] more j less = absurd (omega arith)
 stood_before (x ∷ h) more zero less = refl
 stood_before (x ∷ h) more (suc j) less = stood_before h more j (omega arith)
 
-last_stands : (h : List Packet) (p : Packet) → slice_get (h ++ p ∷ []) (length h) ≡ Some p
+pub last_stands : (h : List Packet) (p : Packet) → slice_get (h ++ p ∷ []) (length h) ≡ Some p
 last_stands [] p = refl
 last_stands (x ∷ h) p = last_stands h p
 
@@ -43,9 +44,9 @@ one_longer h p = length-append h (p ∷ []) ∙ add-one (length h)
 awaits_on : (h more : List Packet) (kind : Kind) (k from to : ℕ) → to ≤ length h → Awaits h kind k from to → Awaits (h ++ more) kind k from to
 awaits_on h more kind k from to within a = λ j number chunk lo hi e. a j number chunk lo hi (sym (stood_before h more j (omega arith)) ∙ e)
 
-undisturbed_on : (h more : List Packet) (kind : Kind) (group from to : ℕ) → to ≤ length h → IsUndisturbed h kind group from to
-    → IsUndisturbed (h ++ more) kind group from to
-undisturbed_on h more kind group from to within u = λ j p lo hi e. u j p lo hi (sym (stood_before h more j (omega arith)) ∙ e)
+undisturbed_on : (h more : List Packet) (kind : Kind) (pgn from to : ℕ) → to ≤ length h → IsUndisturbed h kind pgn from to
+    → IsUndisturbed (h ++ more) kind pgn from to
+undisturbed_on h more kind pgn from to within u = λ j p lo hi e. u j p lo hi (sym (stood_before h more j (omega arith)) ∙ e)
 
 reaches_on : (h more : List Packet) (kind : Kind) (start k place : ℕ) (chunks : List ℕ) → Reaches h kind start k place chunks
     → Reaches (h ++ more) kind start k place chunks
@@ -62,9 +63,8 @@ reaches_on h more kind start (suc k) place chunks r =
       r.7,
     )
 
--- what is carried is still carried in a longer list
-pub carried_on : (h more : List Packet) (place group : ℕ) (message : List ℕ) → place ≤ length h → Carried h place group message → Carried (h ++ more) place group message
-carried_on h more place group message within c = record {
+walk_on : (h more : List Packet) (place pgn : ℕ) (message : List ℕ) → place ≤ length h → Walk h place pgn message → Walk (h ++ more) place pgn message
+walk_on h more place pgn message within c = record {
   kind = c.kind;
   start = c.start;
   size = c.size;
@@ -74,9 +74,14 @@ carried_on h more place group message within c = record {
   announces = c.announces;
   fits = c.fits;
   reaches = reaches_on h more c.kind c.start (packets_of c.size) place c.chunks c.reaches;
-  undisturbed = undisturbed_on h more c.kind group c.start place within c.undisturbed;
+  undisturbed = undisturbed_on h more c.kind pgn c.start place within c.undisturbed;
   bytes = c.bytes;
 }
+
+-- what is carried is still carried in a longer list
+pub carried_on : (h more : List Packet) (place pgn : ℕ) (message : List ℕ) → place ≤ length h → Carried h place pgn message → Carried (h ++ more) place pgn message
+carried_on h more place pgn message within c =
+    carried_of (h ++ more) place pgn message (walk_on h more place pgn message within (walk_of h place pgn message c))
 
 -- the packet at its end is one that may pass
 more_awaits : (h : List Packet) (p : Packet) (kind : Kind) (k from : ℕ) → PacketPasses kind k p → Awaits h kind k from (length h)
@@ -93,9 +98,9 @@ more_awaits h p kind k from pass a = λ j number chunk lo hi e.
       ]
     ]
 
-more_undisturbed : (h : List Packet) (p : Packet) (kind : Kind) (group from : ℕ) → Leaves kind group p → IsUndisturbed h kind group from (length h)
-    → IsUndisturbed (h ++ p ∷ []) kind group from (length (h ++ p ∷ []))
-more_undisturbed h p kind group from leaves u = λ j other lo hi e.
+more_undisturbed : (h : List Packet) (p : Packet) (kind : Kind) (pgn from : ℕ) → Leaves kind pgn p → IsUndisturbed h kind pgn from (length h)
+    → IsUndisturbed (h ++ p ∷ []) kind pgn from (length (h ++ p ∷ []))
+more_undisturbed h p kind pgn from leaves u = λ j other lo hi e.
     elim (cases_order j (length h)) [
       | inl same ↦
           let there : slice_get (h ++ p ∷ []) (length h) ≡ Some other = rw same at e in
@@ -127,9 +132,9 @@ gathered_on h r bytes p pass leaves g = record {
 }
 
 -- it was just announced
-gathered_new : (h : List Packet) (kind : Kind) (group size limit : ℕ) (p : Packet) → Announces p kind group size → IsSize size
-    → Gathered (h ++ p ∷ []) (opened kind group size limit) []
-gathered_new h kind group size limit p a fits = record {
+gathered_new : (h : List Packet) (kind : Kind) (pgn size limit : ℕ) (p : Packet) → Announces p kind pgn size → IsSize size
+    → Gathered (h ++ p ∷ []) (opened kind pgn size limit) []
+gathered_new h kind pgn size limit p a fits = record {
   start = length h;
   place = length h;
   chunks = [];
@@ -250,9 +255,9 @@ data_gathers h m r number bytes chunk g =
     (λ more. later_gathers h m r.kind r number bytes chunk refl (eqb-false number (r.held + 1) other) g))
 
 -- an Abort that isn't the session's
-abort_leaves : (kind : Kind) (group reason pgn : ℕ) → is_directed kind && pgn == group ≡ false → Leaves kind group (Abort reason pgn)
-abort_leaves Directed group reason pgn other = eqb-false pgn group other
-abort_leaves Broadcast group reason pgn other = tt
+abort_leaves : (kind : Kind) (pgn reason named : ℕ) → is_directed kind && named == pgn ≡ false → Leaves kind pgn (Abort reason named)
+abort_leaves Directed pgn reason named other = eqb-false named pgn other
+abort_leaves Broadcast pgn reason named other = tt
 
 packet_gathers : (h : List Packet) (m : Manner) (pr : Progress) (bytes : List ℕ) (p : Packet) → InRange p → Gathers h pr bytes
     → Gathers (h ++ p ∷ []) (hears m pr p).0 (grown pr p bytes)
@@ -270,15 +275,15 @@ packet_gathers h m Closed bytes (Dt number chunk) range g = tt
 packet_gathers h m Closed bytes (Abort reason pgn) range g = tt
 packet_gathers h m Closed bytes (Cts count first pgn) range g = tt
 packet_gathers h m Closed bytes (EndAck size pgn) range g = tt
-packet_gathers h m (Complete group) bytes (Dt number chunk) range g = tt
-packet_gathers h m (Complete group) bytes (Abort reason pgn) range g = tt
-packet_gathers h m (Complete group) bytes (Cts count first pgn) range g = tt
-packet_gathers h m (Complete group) bytes (EndAck size pgn) range g = tt
+packet_gathers h m (Complete pgn) bytes (Dt number chunk) range g = tt
+packet_gathers h m (Complete pgn) bytes (Abort reason named) range g = tt
+packet_gathers h m (Complete pgn) bytes (Cts count first named) range g = tt
+packet_gathers h m (Complete pgn) bytes (EndAck size named) range g = tt
 
-gathers_kept : (h : List Packet) (pr : Progress) (bytes : List ℕ) → Gathers h pr bytes → Gathers h pr (kept pr bytes)
+gathers_kept : (h : List Packet) (pr : Progress) (bytes : List ℕ) → Gathers h pr bytes → Gathers h pr (bytes_at pr bytes)
 gathers_kept h (Open r) bytes g = g
 gathers_kept h Closed bytes g = tt
-gathers_kept h (Complete group) bytes g = tt
+gathers_kept h (Complete pgn) bytes g = tt
 
 pub hears_gathers : (h : List Packet) (s : Receiving) (p : Packet) → InRange p → Gathers h s.progress s.bytes
     → Gathers (h ++ p ∷ []) (receives s p).progress (receives s p).bytes
@@ -293,7 +298,7 @@ late_gathers h Listening k r bytes g = tt
 time_gathers : (h : List Packet) (m : Manner) (pr : Progress) (bytes : List ℕ) → Gathers h pr bytes → Gathers h (timed_out m pr).0 bytes
 time_gathers h m (Open r) bytes g = late_gathers h m r.kind r bytes g
 time_gathers h m Closed bytes g = tt
-time_gathers h m (Complete group) bytes g = tt
+time_gathers h m (Complete pgn) bytes g = tt
 
 pub times_out_gathers : (h : List Packet) (s : Receiving) → Gathers h s.progress s.bytes → Gathers h (gives_up s).progress (gives_up s).bytes
 times_out_gathers h s g = gathers_kept h (timed_out s.manner s.progress).0 s.bytes (time_gathers h s.manner s.progress s.bytes g)
@@ -353,14 +358,14 @@ told_last m (Dt number chunk) Closed told = absurd told
 told_last m (Abort reason pgn) Closed told = absurd told
 told_last m (Cts count first pgn) Closed told = absurd told
 told_last m (EndAck size pgn) Closed told = absurd told
-told_last m (Dt number chunk) (Complete group) told = absurd told
-told_last m (Abort reason pgn) (Complete group) told = absurd told
-told_last m (Cts count first pgn) (Complete group) told = absurd told
-told_last m (EndAck size pgn) (Complete group) told = absurd told
+told_last m (Dt number chunk) (Complete pgn) told = absurd told
+told_last m (Abort reason named) (Complete pgn) told = absurd told
+told_last m (Cts count first named) (Complete pgn) told = absurd told
+told_last m (EndAck size named) (Complete pgn) told = absurd told
 
 -- the last packet makes the history carry the message
 last_carried : (h : List Packet) (r : Reception) (bytes chunk : List ℕ) → suc r.held ≡ packets_of r.size → Gathered h r bytes
-    → Carried (h ++ Dt (suc r.held) chunk ∷ []) (length h) r.pgn (take r.size (bytes ++ chunk))
+    → Walk (h ++ Dt (suc r.held) chunk ∷ []) (length h) r.pgn (take r.size (bytes ++ chunk))
 last_carried h r bytes chunk last g =
     let p = Dt (suc r.held) chunk in
     record {
@@ -393,9 +398,9 @@ completes_carried h s p g told =
     let message : message_of (receives s p).progress (receives s p).bytes ≡ take l.reception.size (s.bytes ++ l.chunk) =
     ap (λ (pr : Progress). message_of pr (receives s p).bytes) after.0 ∙ after.1 in
     record {
-      group = l.reception.pgn;
+      pgn = l.reception.pgn;
       complete = after.0;
       carried = subst (λ (m : List ℕ). Carried (h ++ p ∷ []) (length h) l.reception.pgn m) (sym message)
           (subst (λ (other : Packet). Carried (h ++ other ∷ []) (length h) l.reception.pgn (take l.reception.size (s.bytes ++ l.chunk))) (sym l.packet_is)
-          (last_carried h l.reception s.bytes l.chunk l.last gathered));
+          (carried_of _ _ _ _ (last_carried h l.reception s.bytes l.chunk l.last gathered)));
     }

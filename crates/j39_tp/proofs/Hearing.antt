@@ -5,17 +5,17 @@ use Rattle.std.proofs.lemmas.Bool.{cases_lt}
 use Rattle.std.proofs.lemmas.Grind.{common_steps}
 use Rattle.std.proofs.lemmas.List.{take-append-le, take_all}
 use Rattle.j39_tp.specs.Chunks.{packets_of}
-use Rattle.j39_tp.specs.Receiver.{Receiving, hears, completed, grown, kept}
+use Rattle.j39_tp.specs.Receiver.{Receiving, hears, completed, grown, bytes_at}
 use Rattle.j39_tp.specs.Carried.{MayPass, receives_any, listened}
-use Rattle.j39_tp.specs.declared.heard.Heard.{Heard}
-use Rattle.j39_tp.specs.declared.manner.Manner.{Manner}
-use Rattle.j39_tp.specs.declared.manner.Manner.TheVariants.{Listening}
+use Rattle.j39_tp.specs.declared.receiving.heard.Heard.{Heard}
+use Rattle.j39_tp.specs.declared.receiving.manner.Manner.{Manner}
+use Rattle.j39_tp.specs.declared.receiving.manner.Manner.TheVariants.{Listening}
 use Rattle.j39_tp.specs.declared.packet.Packet.{Packet}
 use Rattle.j39_tp.specs.declared.packet.Packet.TheVariants.{Dt}
-use Rattle.j39_tp.specs.declared.progress.Progress.{Progress}
-use Rattle.j39_tp.specs.declared.progress.Progress.TheVariants.{Open, Complete}
-use Rattle.j39_tp.specs.declared.reception.Kind.{Kind}
-use Rattle.j39_tp.specs.declared.reception.Reception.{Reception}
+use Rattle.j39_tp.specs.declared.receiving.progress.Progress.{Progress}
+use Rattle.j39_tp.specs.declared.receiving.progress.Progress.TheVariants.{Open, Complete}
+use Rattle.j39_tp.specs.declared.receiving.reception.Kind.{Kind}
+use Rattle.j39_tp.specs.declared.receiving.reception.Reception.{Reception}
 
 same_manner : (s : Receiving) (o : Option Packet) → (receives_any s o).manner ≡ s.manner
 same_manner s None = refl
@@ -30,7 +30,7 @@ abbrev pub IsAt : List Packet → ℕ → Progress → List ℕ → Type 0
 IsAt h q p bytes = ((listened h q).progress ≡ p) × ((listened h q).bytes ≡ bytes)
 
 abbrev pub next_bytes : Progress → Packet → List ℕ → List ℕ
-next_bytes pr p bytes = kept (hears Listening pr p).0 (grown pr p bytes)
+next_bytes pr p bytes = bytes_at (hears Listening pr p).0 (grown pr p bytes)
 
 hears_more : (s : Receiving) (o : Option Packet) (p : Packet) (pr : Progress) (bytes : List ℕ) → o ≡ Some p → s.manner ≡ Listening → s.progress ≡ pr → s.bytes ≡ bytes
     → ((receives_any s o).progress ≡ (hears Listening pr p).0) × ((receives_any s o).bytes ≡ next_bytes pr p bytes)

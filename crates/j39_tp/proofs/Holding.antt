@@ -5,18 +5,19 @@ use Rattle.std.proofs.lemmas.Bool.{eqb-false, ltb-true}
 use Rattle.std.specs.Prelude.{nat_lt, nat_le}
 use Rattle.j39_tp.specs.Chunks.{packets_of}
 use Rattle.j39_tp.specs.Packets.{InRange}
-use Rattle.j39_tp.specs.Receiver.{Receiving, hears, grown, kept, opened, one_more, is_within, is_held_at, is_directed, going_on, takes, takes_next, takes_later}
-use Rattle.j39_tp.specs.declared.heard.Heard.{Heard}
-use Rattle.j39_tp.specs.declared.heard.Heard.TheVariants as heard
-use Rattle.j39_tp.specs.declared.manner.Manner.{Manner}
-use Rattle.j39_tp.specs.declared.manner.Manner.TheVariants.{Answering, Listening}
+use Rattle.j39_tp.specs.Receiver.{Receiving, hears, grown, bytes_at, opened, one_more, is_directed, going_on, takes, takes_next, takes_later}
+use Rattle.j39_tp.specs.inside.Held.{is_within, is_held_at}
+use Rattle.j39_tp.specs.declared.receiving.heard.Heard.{Heard}
+use Rattle.j39_tp.specs.declared.receiving.heard.Heard.TheVariants as heard
+use Rattle.j39_tp.specs.declared.receiving.manner.Manner.{Manner}
+use Rattle.j39_tp.specs.declared.receiving.manner.Manner.TheVariants.{Answering, Listening}
 use Rattle.j39_tp.specs.declared.packet.Packet.{Packet}
 use Rattle.j39_tp.specs.declared.packet.Packet.TheVariants.{Rts, Cts, EndAck, Bam, Abort, Dt}
-use Rattle.j39_tp.specs.declared.progress.Progress.{Progress}
-use Rattle.j39_tp.specs.declared.progress.Progress.TheVariants.{Closed, Open, Complete}
-use Rattle.j39_tp.specs.declared.reception.Kind.{Kind}
-use Rattle.j39_tp.specs.declared.reception.Kind.TheVariants.{Broadcast, Directed}
-use Rattle.j39_tp.specs.declared.reception.Reception.{Reception}
+use Rattle.j39_tp.specs.declared.receiving.progress.Progress.{Progress}
+use Rattle.j39_tp.specs.declared.receiving.progress.Progress.TheVariants.{Closed, Open, Complete}
+use Rattle.j39_tp.specs.declared.receiving.reception.Kind.{Kind}
+use Rattle.j39_tp.specs.declared.receiving.reception.Kind.TheVariants.{Broadcast, Directed}
+use Rattle.j39_tp.specs.declared.receiving.reception.Reception.{Reception}
 
 -- an open session holds this many packets
 abbrev pub Holds : Progress → ℕ → Type 0
@@ -25,12 +26,12 @@ Holds _ n = Unit {0}
 
 -- the bytes that are kept fit
 abbrev pub Fit : Progress → List ℕ → Type 0
-Fit p bytes = is_held_at p (kept p bytes) ≡ true
+Fit p bytes = is_held_at p (bytes_at p bytes) ≡ true
 
 fits : (p : Progress) (bytes : List ℕ) (n : ℕ) → Holds p n → length bytes ≡ 7 * n → Fit p bytes
 fits Closed bytes n h l = refl
 fits (Open r) bytes n h l = eq-eqb (length bytes) (7 * r.held) (l ∙ ap (λ (k : ℕ). 7 * k) (sym h))
-fits (Complete group) bytes n h l = refl
+fits (Complete pgn) bytes n h l = refl
 
 holds_if : (b : Bool) (x y : Progress × Heard) (n : ℕ) → Holds x.0 n → Holds y.0 n → Holds (if b then x else y).0 n
 holds_if true x y n h k = h
@@ -101,10 +102,10 @@ still_standing m Closed (Dt number chunk) bytes within held range = refl
 still_standing m Closed (Cts count first pgn) bytes within held range = refl
 still_standing m Closed (EndAck size pgn) bytes within held range = refl
 still_standing m Closed (Abort reason pgn) bytes within held range = refl
-still_standing m (Complete group) (Dt number chunk) bytes within held range = refl
-still_standing m (Complete group) (Cts count first pgn) bytes within held range = refl
-still_standing m (Complete group) (EndAck size pgn) bytes within held range = refl
-still_standing m (Complete group) (Abort reason pgn) bytes within held range = refl
+still_standing m (Complete pgn) (Dt number chunk) bytes within held range = refl
+still_standing m (Complete pgn) (Cts count first named) bytes within held range = refl
+still_standing m (Complete pgn) (EndAck size named) bytes within held range = refl
+still_standing m (Complete pgn) (Abort reason named) bytes within held range = refl
 
 -- ---- a receiver whose parts are known
 

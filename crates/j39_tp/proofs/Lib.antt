@@ -4,3 +4,5 @@ pub mod Hearing
 pub mod Holding
 pub mod PacketLaws
 pub mod Tracking
+pub mod Walks
+pub mod Honest

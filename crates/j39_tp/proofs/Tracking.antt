@@ -5,13 +5,13 @@ use Rattle.std.proofs.lemmas.List.{take-append-drop, length-take-le}
 use Rattle.std.proofs.lemmas.Option.{slice_get_within}
 use Rattle.j39_tp.specs.Receiver.{Receiving, hears, receives, message_of}
 use Rattle.j39_tp.specs.Carried.{Carried, receives_any, listened, CompletesAt, AreInRange}
-use Rattle.j39_tp.specs.Gathered.{Gathers, TellsComplete}
-use Rattle.j39_tp.specs.declared.heard.Heard.TheVariants as heard
-use Rattle.j39_tp.specs.declared.manner.Manner.{Manner}
-use Rattle.j39_tp.specs.declared.manner.Manner.TheVariants.{Listening}
+use Rattle.j39_tp.specs.inside.Gathered.{Gathers, TellsComplete}
+use Rattle.j39_tp.specs.declared.receiving.heard.Heard.TheVariants as heard
+use Rattle.j39_tp.specs.declared.receiving.manner.Manner.{Manner}
+use Rattle.j39_tp.specs.declared.receiving.manner.Manner.TheVariants.{Listening}
 use Rattle.j39_tp.specs.declared.packet.Packet.{Packet}
-use Rattle.j39_tp.specs.declared.progress.Progress.{Progress}
-use Rattle.j39_tp.specs.declared.progress.Progress.TheVariants.{Complete}
+use Rattle.j39_tp.specs.declared.receiving.progress.Progress.{Progress}
+use Rattle.j39_tp.specs.declared.receiving.progress.Progress.TheVariants.{Complete}
 use Rattle.j39_tp.proofs.Carrying.{carried_is_completed}
 use Rattle.j39_tp.proofs.Gathering.{carried_on, hears_gathers, completes_carried}
 use Rattle.j39_tp.proofs.Hearing.{listens}
@@ -49,45 +49,45 @@ all_gathered h range (suc q) = next_gathered h q range (all_gathered h range q) 
 -- ---- what it completes is carried
 
 -- what is carried at the end of the packets before a place is carried there in the whole list
-carried_whole : (h : List Packet) (q group : ℕ) (message : List ℕ) (p : Packet) → slice_get h q ≡ Some p
-    → Carried (take q h ++ p ∷ []) (length (take q h)) group message → Carried h q group message
-carried_whole h q group message p e c =
+carried_whole : (h : List Packet) (q pgn : ℕ) (message : List ℕ) (p : Packet) → slice_get h q ≡ Some p
+    → Carried (take q h ++ p ∷ []) (length (take q h)) pgn message → Carried h q pgn message
+carried_whole h q pgn message p e c =
     let within : q < length h = slice_get_within h q p e in
     let here : length (take q h) ≡ q = length-take-le q h (omega arith) in
-    let there : Carried (take q h ++ p ∷ []) q group message = subst (λ (at : ℕ). Carried (take q h ++ p ∷ []) at group message) here c in
-    let front : Carried (take (suc q) h) q group message = subst (λ (heard : List Packet). Carried heard q group message) (sym (one_more_heard h q p e)) there in
+    let there : Carried (take q h ++ p ∷ []) q pgn message = subst (λ (at : ℕ). Carried (take q h ++ p ∷ []) at pgn message) here c in
+    let front : Carried (take (suc q) h) q pgn message = subst (λ (heard : List Packet). Carried heard q pgn message) (sym (one_more_heard h q p e)) there in
     let size : length (take (suc q) h) ≡ suc q = length-take-le (suc q) h (omega arith) in
-    let whole : Carried (take (suc q) h ++ drop (suc q) h) q group message =
-    carried_on (take (suc q) h) (drop (suc q) h) q group message (omega arith) front in
-    subst (λ (all : List Packet). Carried all q group message) (take-append-drop (suc q) h) whole
+    let whole : Carried (take (suc q) h ++ drop (suc q) h) q pgn message =
+    carried_on (take (suc q) h) (drop (suc q) h) q pgn message (omega arith) front in
+    subst (λ (all : List Packet). Carried all q pgn message) (take-append-drop (suc q) h) whole
 
-same_group : (a b : ℕ) → Complete a ≡ Complete b → a ≡ b
-same_group a b e = cc e
+same_pgn : (a b : ℕ) → Complete a ≡ Complete b → a ≡ b
+same_pgn a b e = cc e
 
 told_complete : (m : Manner) (pr : Progress) (p : Packet) → m ≡ Listening → (hears Listening pr p).1 ≡ heard.Complete → TellsComplete (hears m pr p).1
 told_complete m pr p listens told = rw (listens, told) tt
 
 -- the message of a receiver that holds one
-held_message : (s : Receiving) (group : ℕ) (message : List ℕ) → s.progress ≡ Complete group → s.bytes ≡ message → message_of s.progress s.bytes ≡ message
-held_message s group message complete bytes = rw (complete, bytes) refl
+held_message : (s : Receiving) (pgn : ℕ) (message : List ℕ) → s.progress ≡ Complete pgn → s.bytes ≡ message → message_of s.progress s.bytes ≡ message
+held_message s pgn message complete bytes = rw (complete, bytes) refl
 
-pub completed_is_carried : (h : List Packet) (place group : ℕ) (message : List ℕ) → AreInRange h → CompletesAt h place group message → Carried h place group message
-completed_is_carried h place group message range c =
+pub completed_is_carried : (h : List Packet) (place pgn : ℕ) (message : List ℕ) → AreInRange h → CompletesAt h place pgn message → Carried h place pgn message
+completed_is_carried h place pgn message range c =
     let s = listened h place in
     let after : receives_any s (slice_get h place) ≡ receives s c.packet = ap (receives_any s) c.stands in
     let holds = completes_carried (take place h) s c.packet (all_gathered h range place) (told_complete s.manner s.progress c.packet (listens h place) c.told) in
-    let complete : (receives s c.packet).progress ≡ Complete group = ap (λ (t : Receiving). t.progress) (sym after) ∙ c.group_is in
+    let complete : (receives s c.packet).progress ≡ Complete pgn = ap (λ (t : Receiving). t.progress) (sym after) ∙ c.pgn_is in
     let bytes : (receives s c.packet).bytes ≡ message = ap (λ (t : Receiving). t.bytes) (sym after) ∙ c.bytes_are in
-    let same : holds.group ≡ group = same_group holds.group group (sym holds.complete ∙ complete) in
-    carried_whole h place group message c.packet c.stands
-    (rw same at (rw (held_message (receives s c.packet) group message complete bytes) at holds.carried))
+    let same : holds.pgn ≡ pgn = same_pgn holds.pgn pgn (sym holds.complete ∙ complete) in
+    carried_whole h place pgn message c.packet c.stands
+    (rw same at (rw (held_message (receives s c.packet) pgn message complete bytes) at holds.carried))
 
 -- ---- a place carries one message
 
-pub one_group : (h : List Packet) (place group other : ℕ) (message words : List ℕ) → Carried h place group message → Carried h place other words → group ≡ other
-one_group h place group other message words c d =
-    same_group group other (sym (carried_is_completed h place group message c).group_is ∙ (carried_is_completed h place other words d).group_is)
+pub one_pgn : (h : List Packet) (place pgn other : ℕ) (message words : List ℕ) → Carried h place pgn message → Carried h place other words → pgn ≡ other
+one_pgn h place pgn other message words c d =
+    same_pgn pgn other (sym (carried_is_completed h place pgn message c).pgn_is ∙ (carried_is_completed h place other words d).pgn_is)
 
-pub one_message : (h : List Packet) (place group other : ℕ) (message words : List ℕ) → Carried h place group message → Carried h place other words → message ≡ words
-one_message h place group other message words c d =
-    sym (carried_is_completed h place group message c).bytes_are ∙ (carried_is_completed h place other words d).bytes_are
+pub one_message : (h : List Packet) (place pgn other : ℕ) (message words : List ℕ) → Carried h place pgn message → Carried h place other words → message ≡ words
+one_message h place pgn other message words c d =
+    sym (carried_is_completed h place pgn message c).bytes_are ∙ (carried_is_completed h place other words d).bytes_are

@@ -4,19 +4,19 @@ use Rattle.std.specs.Prelude.{◌≡◌, ◌≢◌, ℕ, zero, suc, ◌<◌, Lis
 use Rattle.j39_tp.specs.Chunks.{IsSize, packets_of}
 use Rattle.j39_tp.specs.Packets.{InRange}
 use Rattle.j39_tp.specs.Receiver.{Receiving, fresh, receives, hears}
-use Rattle.j39_tp.specs.declared.heard.Heard.TheVariants as heard
-use Rattle.j39_tp.specs.declared.manner.Manner.TheVariants.{Listening}
+use Rattle.j39_tp.specs.declared.receiving.heard.Heard.TheVariants as heard
+use Rattle.j39_tp.specs.declared.receiving.manner.Manner.TheVariants.{Listening}
 use Rattle.j39_tp.specs.declared.packet.Packet.{Packet}
 use Rattle.j39_tp.specs.declared.packet.Packet.TheVariants.{Rts, Bam, Abort, Dt}
-use Rattle.j39_tp.specs.declared.progress.Progress.TheVariants.{Complete}
-use Rattle.j39_tp.specs.declared.reception.Kind.{Kind}
-use Rattle.j39_tp.specs.declared.reception.Kind.TheVariants.{Broadcast, Directed}
+use Rattle.j39_tp.specs.declared.receiving.progress.Progress.TheVariants.{Complete}
+use Rattle.j39_tp.specs.declared.receiving.reception.Kind.{Kind}
+use Rattle.j39_tp.specs.declared.receiving.reception.Kind.TheVariants.{Broadcast, Directed}
 
--- the packet announces a message of this group and size, to all or to one
+-- the packet announces a message of this PGN and size, to all or to one
 abbrev pub Announces : Packet → Kind → ℕ → ℕ → Type 0
-Announces (Bam size pgn) Broadcast group n = (pgn ≡ group) × (size ≡ n)
-Announces (Rts size limit pgn) Directed group n = (pgn ≡ group) × (size ≡ n)
-Announces _ _ group n = ⊥
+Announces (Bam size named) Broadcast pgn n = (named ≡ pgn) × (size ≡ n)
+Announces (Rts size limit named) Directed pgn n = (named ≡ pgn) × (size ≡ n)
+Announces _ _ pgn n = ⊥
 
 -- a data packet that may stand where packet k is awaited: another one, and after a BAM none that comes later
 abbrev pub MayPass : Kind → ℕ → ℕ → Type 0
@@ -28,39 +28,43 @@ abbrev pub Awaits : List Packet → Kind → ℕ → ℕ → ℕ → Type 0
 Awaits h kind k from to =
     (j number : ℕ) → (chunk : List ℕ) → from < j → j < to → slice_get h j ≡ Some (Dt number chunk) → MayPass kind k number
 
--- data packets 1 to k stand in order after the announcement, each the first of its number after the one before;
--- the last at this place, and these are their chunks
-abbrev pub Reaches : List Packet → Kind → ℕ → ℕ → ℕ → List ℕ → Type 0
-Reaches h kind start zero place chunks = (place ≡ start) × (chunks ≡ [])
-Reaches h kind start (suc k) place chunks =
-    (before : ℕ) × (front : List ℕ) × (chunk : List ℕ) × Reaches h kind start k before front
-    × (before < place) × Awaits h kind (suc k) before place
-    × (slice_get h place ≡ Some (Dt (suc k) chunk)) × (chunks ≡ front ++ chunk)
+-- data packet k with this chunk stands at a place, the first of its number after the place before
+pub record IsNext (h : List Packet) (kind : Kind) (k before place : ℕ) (chunk : List ℕ) : Type 0 where
+  pub later : before < place
+  pub stands : slice_get h place ≡ Some (Dt k chunk)
+  pub first : Awaits h kind k before place
 
--- a packet that leaves a session open: no announcement, and for a message to one no Abort of its group
+-- chunks 1 to k, one after another
+abbrev pub chunks_to : (ℕ → List ℕ) → ℕ → List ℕ
+chunks_to chunk zero = []
+chunks_to chunk (suc k) = chunks_to chunk k ++ chunk (suc k)
+
+-- a packet that leaves a session open: no announcement, and for a message to one no Abort of its PGN
 abbrev pub Leaves : Kind → ℕ → Packet → Type 0
-Leaves kind group (Bam size pgn) = ⊥
-Leaves kind group (Rts size limit pgn) = ⊥
-Leaves Directed group (Abort reason pgn) = pgn ≢ group
-Leaves kind group _ = Unit {0}
+Leaves kind pgn (Bam size named) = ⊥
+Leaves kind pgn (Rts size limit named) = ⊥
+Leaves Directed pgn (Abort reason named) = named ≢ pgn
+Leaves kind pgn _ = Unit {0}
 
 -- all packets between two places do
 abbrev pub IsUndisturbed : List Packet → Kind → ℕ → ℕ → ℕ → Type 0
-IsUndisturbed h kind group from to = (j : ℕ) → (p : Packet) → from < j → j < to → slice_get h j ≡ Some p → Leaves kind group p
+IsUndisturbed h kind pgn from to = (j : ℕ) → (p : Packet) → from < j → j < to → slice_get h j ≡ Some p → Leaves kind pgn p
 
--- the list carries the message at this place, where its last data packet stands
-pub record Carried (h : List Packet) (place group : ℕ) (message : List ℕ) : Type 0 where
+-- the list carries the message: its announcement stands at place 0 of a row of places, data packet k + 1 at the first
+-- place for it after that of packet k, and the last at this place; nothing between ends the session
+pub record Carried (h : List Packet) (place pgn : ℕ) (message : List ℕ) : Type 0 where
   pub kind : Kind
-  pub start : ℕ
   pub size : ℕ
-  pub chunks : List ℕ
   pub announcement : Packet
-  pub announced : slice_get h start ≡ Some announcement
-  pub announces : Announces announcement kind group size
+  pub at : ℕ → ℕ
+  pub chunk : ℕ → List ℕ
+  pub announced : slice_get h (at 0) ≡ Some announcement
+  pub announces : Announces announcement kind pgn size
   pub fits : IsSize size
-  pub reaches : Reaches h kind start (packets_of size) place chunks
-  pub undisturbed : IsUndisturbed h kind group start place
-  pub bytes : message ≡ take size chunks
+  pub carries : (k : ℕ) → k < packets_of size → IsNext h kind (suc k) (at k) (at (suc k)) (chunk (suc k))
+  pub last : at (packets_of size) ≡ place
+  pub undisturbed : IsUndisturbed h kind pgn (at 0) place
+  pub bytes : message ≡ take size (chunks_to chunk (packets_of size))
 
 -- ---- a listener that hears the list from closed
 
@@ -74,11 +78,11 @@ listened h zero = fresh Listening
 listened h (suc q) = receives_any (listened h q) (slice_get h q)
 
 -- at this place it completes this message
-pub record CompletesAt (h : List Packet) (place group : ℕ) (message : List ℕ) : Type 0 where
+pub record CompletesAt (h : List Packet) (place pgn : ℕ) (message : List ℕ) : Type 0 where
   pub packet : Packet
   pub stands : slice_get h place ≡ Some packet
   pub told : (hears Listening (listened h place).progress packet).1 ≡ heard.Complete
-  pub group_is : (listened h (suc place)).progress ≡ Complete group
+  pub pgn_is : (listened h (suc place)).progress ≡ Complete pgn
   pub bytes_are : (listened h (suc place)).bytes ≡ message
 
 -- the parts of all packets of a list are in their ranges

@@ -18,7 +18,7 @@ part bytes k = take 7 (drop (7 * (k - 1)) bytes)
 abbrev pub chunk : List ℕ → ℕ → List ℕ
 chunk bytes k = part bytes k ++ replicate (7 - length (part bytes k)) 255
 
--- a message: the number of its group, and its bytes
-pub record Letter : Type 0 where
-  pub group : ℕ
+-- a message: its PGN and its bytes
+pub record MessageParts : Type 0 where
+  pub pgn : ℕ
   pub bytes : List ℕ

@@ -1,6 +1,8 @@
 pub mod Chunks
 pub mod Packets
+pub mod Reasons
 pub mod Sender
 pub mod Receiver
 pub mod Carried
-pub mod Gathered
+pub mod HonestPackets
+pub mod inside

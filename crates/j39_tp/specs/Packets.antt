@@ -1,29 +1,33 @@
 -- The eight bytes of each transport packet (SAE J1939-21, connection management and data transfer).
 use Rattle.std.specs.Prelude.{◌≡◌, ℕ, ◌+◌, ◌*◌, ◌/◌, ◌%◌, ◌<◌, ◌==◌, ◌||◌, ◌&&◌, not, nat_lt, nat_le, Bool, if◌then◌else◌, List, [], ◌∷◌, length, slice_index, Option, Some, None}
-use Rattle.j39_id.specs.Pgn.{IsGroup, pf_of}
+use Rattle.j39_id.specs.Pgn.{IsPgn, is_pgn}
 use Rattle.j39_tp.specs.Chunks.{IsSize, packets_of}
 use Rattle.j39_tp.specs.declared.packet.Packet.{Packet}
 use Rattle.j39_tp.specs.declared.packet.Packet.TheVariants.{Rts, Cts, EndAck, Bam, Abort, Dt}
-use Rattle.j39_tp.specs.declared.packet_error.PacketError.{PacketError}
-use Rattle.j39_tp.specs.declared.packet_error.PacketError.TheVariants.{Length, Control, Size, Count, Number, Group}
+use Rattle.j39_tp.specs.declared.packet.packet_error.PacketError.{PacketError}
+use Rattle.j39_tp.specs.declared.packet.packet_error.PacketError.TheVariants.{Length, Control, Size, Count, Number, Group}
 
 -- ---- what is sent
+
+-- the limit of an RTS that lets any number of packets be sent for each CTS
+abbrev pub no_limit : ℕ
+no_limit = 255
 
 -- the size of a message, least significant byte first, and its number of packets
 abbrev pub size_bytes : ℕ → List ℕ → List ℕ
 size_bytes size rest = size % 256 ∷ size / 256 ∷ packets_of size ∷ rest
 
--- a group number, least significant byte first
-abbrev pub group_bytes : ℕ → List ℕ
-group_bytes group = group % 256 ∷ group / 256 % 256 ∷ group / 65536 ∷ []
+-- a PGN, least significant byte first
+abbrev pub pgn_bytes : ℕ → List ℕ
+pgn_bytes pgn = pgn % 256 ∷ pgn / 256 % 256 ∷ pgn / 65536 ∷ []
 
 -- the bytes of a packet
 abbrev pub data_of : Packet → List ℕ
-data_of (Rts size limit pgn) = 16 ∷ size_bytes size (limit ∷ group_bytes pgn)
-data_of (Cts count first pgn) = 17 ∷ count ∷ first ∷ 255 ∷ 255 ∷ group_bytes pgn
-data_of (EndAck size pgn) = 19 ∷ size_bytes size (255 ∷ group_bytes pgn)
-data_of (Bam size pgn) = 32 ∷ size_bytes size (255 ∷ group_bytes pgn)
-data_of (Abort reason pgn) = 255 ∷ reason ∷ 255 ∷ 255 ∷ 255 ∷ group_bytes pgn
+data_of (Rts size limit pgn) = 16 ∷ size_bytes size (limit ∷ pgn_bytes pgn)
+data_of (Cts count first pgn) = 17 ∷ count ∷ first ∷ 255 ∷ 255 ∷ pgn_bytes pgn
+data_of (EndAck size pgn) = 19 ∷ size_bytes size (255 ∷ pgn_bytes pgn)
+data_of (Bam size pgn) = 32 ∷ size_bytes size (255 ∷ pgn_bytes pgn)
+data_of (Abort reason pgn) = 255 ∷ reason ∷ 255 ∷ 255 ∷ 255 ∷ pgn_bytes pgn
 data_of (Dt number chunk) = number ∷ chunk
 
 -- a packet that can be read again: no packet is given the number 0
@@ -34,21 +38,21 @@ IsReadable _ = Unit {0}
 
 -- the ranges of a packet's parts
 abbrev pub InRange : Packet → Type 0
-InRange (Rts size limit pgn) = IsSize size × IsGroup pgn
-InRange (Cts count first pgn) = IsGroup pgn
-InRange (EndAck size pgn) = IsSize size × IsGroup pgn
-InRange (Bam size pgn) = IsSize size × IsGroup pgn
-InRange (Abort reason pgn) = IsGroup pgn
+InRange (Rts size limit pgn) = IsSize size × IsPgn pgn
+InRange (Cts count first pgn) = IsPgn pgn
+InRange (EndAck size pgn) = IsSize size × IsPgn pgn
+InRange (Bam size pgn) = IsSize size × IsPgn pgn
+InRange (Abort reason pgn) = IsPgn pgn
 InRange (Dt number chunk) = length chunk ≡ 7
 
 -- ---- what is read
 
--- the size and the group that stand in the bytes of a connection management packet
+-- the size and the PGN that stand in the bytes of a connection management packet
 abbrev pub size_in : List ℕ → ℕ
 size_in bytes = slice_index bytes 1 + 256 * slice_index bytes 2
 
-abbrev pub group_in : List ℕ → ℕ
-group_in bytes = slice_index bytes 5 + 256 * slice_index bytes 6 + 65536 * slice_index bytes 7
+abbrev pub pgn_in : List ℕ → ℕ
+pgn_in bytes = slice_index bytes 5 + 256 * slice_index bytes 6 + 65536 * slice_index bytes 7
 
 -- the bytes give the size of a message and its number of packets
 pub record GivesSize (bytes : List ℕ) (size : ℕ) : Type 0 where
@@ -58,17 +62,17 @@ pub record GivesSize (bytes : List ℕ) (size : ℕ) : Type 0 where
 
 -- the bytes are those of a connection management packet; what is sent as 255 may be anything
 abbrev pub ManagementFields : List ℕ → Packet → Type 0
-ManagementFields bytes (Rts size limit pgn) = (slice_index bytes 0 ≡ 16) × GivesSize bytes size × (slice_index bytes 4 ≡ limit) × (group_in bytes ≡ pgn)
-ManagementFields bytes (Cts count first pgn) = (slice_index bytes 0 ≡ 17) × (slice_index bytes 1 ≡ count) × (slice_index bytes 2 ≡ first) × (0 < count → 0 < first) × (group_in bytes ≡ pgn)
-ManagementFields bytes (EndAck size pgn) = (slice_index bytes 0 ≡ 19) × GivesSize bytes size × (group_in bytes ≡ pgn)
-ManagementFields bytes (Bam size pgn) = (slice_index bytes 0 ≡ 32) × GivesSize bytes size × (group_in bytes ≡ pgn)
-ManagementFields bytes (Abort reason pgn) = (slice_index bytes 0 ≡ 255) × (slice_index bytes 1 ≡ reason) × (group_in bytes ≡ pgn)
+ManagementFields bytes (Rts size limit pgn) = (slice_index bytes 0 ≡ 16) × GivesSize bytes size × (slice_index bytes 4 ≡ limit) × (pgn_in bytes ≡ pgn)
+ManagementFields bytes (Cts count first pgn) = (slice_index bytes 0 ≡ 17) × (slice_index bytes 1 ≡ count) × (slice_index bytes 2 ≡ first) × (0 < count → 0 < first) × (pgn_in bytes ≡ pgn)
+ManagementFields bytes (EndAck size pgn) = (slice_index bytes 0 ≡ 19) × GivesSize bytes size × (pgn_in bytes ≡ pgn)
+ManagementFields bytes (Bam size pgn) = (slice_index bytes 0 ≡ 32) × GivesSize bytes size × (pgn_in bytes ≡ pgn)
+ManagementFields bytes (Abort reason pgn) = (slice_index bytes 0 ≡ 255) × (slice_index bytes 1 ≡ reason) × (pgn_in bytes ≡ pgn)
 ManagementFields bytes (Dt number chunk) = ⊥
 
 pub record ManagementReads (bytes : List ℕ) (p : Packet) : Type 0 where
   pub eight : length bytes ≡ 8
   pub fields : ManagementFields bytes p
-  pub group : IsGroup (group_in bytes)
+  pub pgn : IsPgn (pgn_in bytes)
 
 -- the bytes are those of a data packet
 abbrev pub DataFields : List ℕ → Packet → Type 0
@@ -89,9 +93,6 @@ first_fault (fault ∷ rest) = if fault.1 then Some fault.0 else first_fault res
 abbrev pub is_size : ℕ → Bool
 is_size n = nat_le 9 n && nat_le n 1785
 
-abbrev pub is_group : ℕ → Bool
-is_group n = nat_lt n 262144 && (nat_le 240 (pf_of n) || n % 256 == 0)
-
 -- the first bytes of connection management packets, and those of them that give a size
 abbrev pub is_control : ℕ → Bool
 is_control c = c == 16 || (c == 17 || (c == 19 || (c == 32 || c == 255)))
@@ -107,7 +108,7 @@ management_faults bytes =
     ∷ (Size, gives_size (slice_index bytes 0) && not (is_size (size_in bytes)))
     ∷ (Count, gives_size (slice_index bytes 0) && not (slice_index bytes 3 == packets_of (size_in bytes)))
     ∷ (Number, slice_index bytes 0 == 17 && (nat_lt 0 (slice_index bytes 1) && slice_index bytes 2 == 0))
-    ∷ (Group, not (is_group (group_in bytes)))
+    ∷ (Group, not (is_pgn (pgn_in bytes)))
     ∷ []
 
 -- the refusals of a data packet, in their order

@@ -1,27 +1,29 @@
 -- The rules of a transport receiver, on plain numbers: what was announced, how many packets are held in order, the last
 -- that was granted, and how often one was asked for again (SAE J1939-21, transport protocol functions; what a receiver
 -- does with missing packets is a profile of our own).
-use Rattle.std.specs.Prelude.{ℕ, ◌+◌, ◌-◌, ◌*◌, ◌==◌, ◌&&◌, nat_lt, nat_le, Bool, true, false, if◌then◌else◌, min, List, [], ◌++◌, length, take, Option, Some, None}
+use Rattle.std.specs.Prelude.{ℕ, ◌+◌, ◌-◌, ◌==◌, ◌&&◌, nat_lt, nat_le, Bool, true, false, if◌then◌else◌, min, List, [], ◌++◌, take, Option, Some, None}
 use Rattle.j39_tp.specs.Chunks.{packets_of}
-use Rattle.j39_tp.specs.declared.heard.Heard.{Heard}
-use Rattle.j39_tp.specs.declared.heard.Heard.TheVariants as heard
-use Rattle.j39_tp.specs.declared.manner.Manner.{Manner}
-use Rattle.j39_tp.specs.declared.manner.Manner.TheVariants.{Answering, Listening}
+use Rattle.j39_tp.specs.Packets.{no_limit}
+use Rattle.j39_tp.specs.Reasons.{timeout, asked_too_often}
+use Rattle.j39_tp.specs.declared.receiving.heard.Heard.{Heard}
+use Rattle.j39_tp.specs.declared.receiving.heard.Heard.TheVariants as heard
+use Rattle.j39_tp.specs.declared.receiving.manner.Manner.{Manner}
+use Rattle.j39_tp.specs.declared.receiving.manner.Manner.TheVariants.{Answering, Listening}
 use Rattle.j39_tp.specs.declared.packet.Packet.{Packet}
 use Rattle.j39_tp.specs.declared.packet.Packet.TheVariants.{Rts, Cts, EndAck, Bam, Abort, Dt}
-use Rattle.j39_tp.specs.declared.progress.Progress.{Progress}
-use Rattle.j39_tp.specs.declared.progress.Progress.TheVariants.{Closed, Open, Complete}
-use Rattle.j39_tp.specs.declared.reception.Kind.{Kind}
-use Rattle.j39_tp.specs.declared.reception.Kind.TheVariants.{Broadcast, Directed}
-use Rattle.j39_tp.specs.declared.reception.Reception.{Reception}
+use Rattle.j39_tp.specs.declared.receiving.progress.Progress.{Progress}
+use Rattle.j39_tp.specs.declared.receiving.progress.Progress.TheVariants.{Closed, Open, Complete}
+use Rattle.j39_tp.specs.declared.receiving.reception.Kind.{Kind}
+use Rattle.j39_tp.specs.declared.receiving.reception.Kind.TheVariants.{Broadcast, Directed}
+use Rattle.j39_tp.specs.declared.receiving.reception.Reception.{Reception}
 
 -- a session that was just announced
 abbrev pub opened : Kind → ℕ → ℕ → ℕ → Reception
-opened kind group size limit = record { kind = kind; pgn = group; size = size; limit = limit; held = 0; granted = 0; asked = 0 }
+opened kind pgn size limit = record { kind = kind; pgn = pgn; size = size; limit = limit; held = 0; granted = 0; asked = 0 }
 
 -- how many packets a CTS grants; a limit of 0 counts as none
 abbrev pub limit_of : ℕ → ℕ
-limit_of limit = if limit == 0 then 255 else limit
+limit_of limit = if limit == 0 then no_limit else limit
 
 abbrev pub grant : ℕ → Reception → ℕ
 grant window r = min window (min (limit_of r.limit) (packets_of r.size - r.held))
@@ -33,12 +35,18 @@ clear_packet window r = Cts (grant window r) (r.held + 1) r.pgn
 abbrev pub granted_to : ℕ → Reception → Reception
 granted_to window r = record r { granted = r.held + grant window r }
 
--- asks again for the packets after those that are held, twice in a session; then it is given up with an Abort of this reason
+-- how often a session asks again (a profile of our own)
+abbrev pub ask_limit : ℕ
+ask_limit = 2
+
 abbrev pub asking : Reception → Reception
 asking r = record r { asked = r.asked + 1 }
 
+-- asks again for the packets after those that are held, while it may; then it gives up with an Abort of this reason
 abbrev pub asks : ℕ → ℕ → Reception → Progress × Packet
-asks window reason r = if nat_lt r.asked 2 then (Open (granted_to window (asking r)), clear_packet window r) else (Closed, Abort reason r.pgn)
+asks window reason r =
+    if nat_lt r.asked ask_limit then (Open (granted_to window (asking r)), clear_packet window r)
+    else (Closed, Abort reason r.pgn)
 
 -- goes on with a session: an answering receiver grants packets of a message to it alone
 abbrev pub going_on : Manner → Kind → Reception → Progress × Heard
@@ -62,15 +70,20 @@ takes_next manner r =
     else if r.held + 1 == r.granted then going_on manner r.kind (one_more r)
     else (Open (one_more r), heard.Nothing)
 
--- a packet after a missing one ends a message to all; of one to the receiver the last granted packet makes it ask again
+-- asks again at once where the last packet that was granted came, and an earlier one didn't
+abbrev pub asks_after : ℕ → Reception → ℕ → Progress × Heard
+asks_after window r number =
+    if number == r.granted
+    then ((asks window asked_too_often r).0, heard.Reply (asks window asked_too_often r).1)
+    else (Open r, heard.Nothing)
+
+-- a packet after a missing one: it ends a message to all; a listener passes it over, and an answering receiver asks again
 abbrev pub takes_later : Manner → Kind → Reception → ℕ → Progress × Heard
 takes_later manner Broadcast r number = (Closed, heard.Closed)
 takes_later Listening Directed r number = (Open r, heard.Nothing)
-takes_later (Answering window) Directed r number =
-    if number == r.granted
-    then ((asks window 5 r).0, heard.Reply (asks window 5 r).1)
-    else (Open r, heard.Nothing)
+takes_later (Answering window) Directed r number = asks_after window r number
 
+-- a data packet: the next one is taken, one that is held already passed over
 abbrev pub takes : Manner → Reception → ℕ → Progress × Heard
 takes manner r number =
     if number == r.held + 1 then takes_next manner r
@@ -81,17 +94,25 @@ abbrev pub is_directed : Kind → Bool
 is_directed Directed = true
 is_directed Broadcast = false
 
--- where a receiver stands once it heard a packet, and what it does; an announcement replaces what was open
+-- an Abort ends a session to one, if it names its PGN
+abbrev pub aborts : Reception → ℕ → Progress × Heard
+aborts r pgn = if is_directed r.kind && pgn == r.pgn then (Closed, heard.Closed) else (Open r, heard.Nothing)
+
+-- where a receiver stands once it heard a packet, and what it does. An announcement replaces what was open; data and an
+-- Abort concern an open session alone; CTS and EndOfMsgACK are ignored always
 abbrev pub hears : Manner → Progress → Packet → Progress × Heard
-hears manner progress (Bam size pgn) = going_on manner Broadcast (opened Broadcast pgn size 255)
+hears manner progress (Bam size pgn) = going_on manner Broadcast (opened Broadcast pgn size no_limit)
 hears manner progress (Rts size limit pgn) = going_on manner Directed (opened Directed pgn size limit)
 hears manner (Open r) (Dt number chunk) = takes manner r number
-hears manner (Open r) (Abort reason pgn) = if is_directed r.kind && pgn == r.pgn then (Closed, heard.Closed) else (Open r, heard.Nothing)
-hears manner progress _ = (progress, heard.Nothing)
+hears manner (Open r) (Abort reason pgn) = aborts r pgn
+hears manner progress (Dt number chunk) = (progress, heard.Nothing)
+hears manner progress (Abort reason pgn) = (progress, heard.Nothing)
+hears manner progress (Cts count first pgn) = (progress, heard.Nothing)
+hears manner progress (EndAck size pgn) = (progress, heard.Nothing)
 
 -- where a receiver stands once nothing was heard in time, and what it sends
 abbrev pub times_out : Manner → Kind → Reception → Progress × Option Packet
-times_out (Answering window) Directed r = ((asks window 3 r).0, Some (asks window 3 r).1)
+times_out (Answering window) Directed r = ((asks window timeout r).0, Some (asks window timeout r).1)
 times_out (Answering window) Broadcast r = (Closed, None)
 times_out Listening kind r = (Closed, None)
 
@@ -104,10 +125,10 @@ abbrev pub is_open_at : Progress → Bool
 is_open_at (Open r) = true
 is_open_at _ = false
 
-abbrev pub group_at : Progress → Option ℕ
-group_at Closed = None
-group_at (Open r) = Some r.pgn
-group_at (Complete pgn) = Some pgn
+abbrev pub pgn_at : Progress → Option ℕ
+pgn_at Closed = None
+pgn_at (Open r) = Some r.pgn
+pgn_at (Complete pgn) = Some pgn
 
 -- ---- a receiver with the bytes that it holds
 
@@ -123,22 +144,22 @@ grown progress (Rts size limit pgn) bytes = []
 grown (Open r) (Dt number chunk) bytes = if number == r.held + 1 then take r.size (bytes ++ chunk) else bytes
 grown progress _ bytes = bytes
 
--- a closed receiver holds none
-abbrev pub kept : Progress → List ℕ → List ℕ
-kept Closed bytes = []
-kept _ bytes = bytes
+-- the bytes that a receiver holds where it stands so: a closed one holds none
+abbrev pub bytes_at : Progress → List ℕ → List ℕ
+bytes_at Closed bytes = []
+bytes_at _ bytes = bytes
 
 -- a receiver once it heard a packet
 abbrev pub receives : Receiving → Packet → Receiving
 receives s packet =
     record s {
       progress = (hears s.manner s.progress packet).0;
-      bytes = kept (hears s.manner s.progress packet).0 (grown s.progress packet s.bytes);
+      bytes = bytes_at (hears s.manner s.progress packet).0 (grown s.progress packet s.bytes);
     }
 
 -- a receiver once nothing was heard in time
 abbrev pub gives_up : Receiving → Receiving
-gives_up s = record s { progress = (timed_out s.manner s.progress).0; bytes = kept (timed_out s.manner s.progress).0 s.bytes }
+gives_up s = record s { progress = (timed_out s.manner s.progress).0; bytes = bytes_at (timed_out s.manner s.progress).0 s.bytes }
 
 -- the message that was completed last
 abbrev pub message_of : Progress → List ℕ → List ℕ
@@ -148,13 +169,3 @@ message_of _ bytes = []
 -- a receiver that was just made
 abbrev pub fresh : Manner → Receiving
 fresh manner = record { manner = manner; progress = Closed; bytes = [] }
-
--- an open session lacks a packet, and has seven bytes of each that is held
-abbrev pub is_within : Progress → Bool
-is_within (Open r) = nat_lt r.held (packets_of r.size)
-is_within _ = true
-
-abbrev pub is_held_at : Progress → List ℕ → Bool
-is_held_at (Open r) bytes = length bytes == 7 * r.held
-is_held_at Closed bytes = length bytes == 0
-is_held_at (Complete pgn) bytes = true

@@ -1,24 +1,26 @@
--- The rules of a transport sender, on a session's group, size and stage (SAE J1939-21, transport protocol functions).
+-- The rules of a transport sender, on a session's PGN, size and stage (SAE J1939-21, transport protocol functions).
 use Rattle.std.specs.Prelude.{ℕ, ◌+◌, ◌-◌, ◌==◌, ◌&&◌, nat_lt, nat_le, Bool, if◌then◌else◌, min, List, length, Option, Some, None, is_some}
 use Rattle.j39_tp.specs.Chunks.{packets_of, chunk}
-use Rattle.j39_tp.specs.declared.dest.Dest.{Dest}
-use Rattle.j39_tp.specs.declared.dest.Dest.TheVariants.{All, One}
-use Rattle.j39_tp.specs.declared.outcome.Outcome.{Outcome}
-use Rattle.j39_tp.specs.declared.outcome.Outcome.TheVariants.{Sent, Acked, Aborted, GaveUp}
+use Rattle.j39_tp.specs.Packets.{no_limit}
+use Rattle.j39_tp.specs.Reasons.{timeout, cts_while_sending}
+use Rattle.j39_tp.specs.declared.sending.dest.Dest.{Dest}
+use Rattle.j39_tp.specs.declared.sending.dest.Dest.TheVariants.{All, One}
+use Rattle.j39_tp.specs.declared.sending.outcome.Outcome.{Outcome}
+use Rattle.j39_tp.specs.declared.sending.outcome.Outcome.TheVariants.{Sent, Acked, Aborted, GaveUp}
 use Rattle.j39_tp.specs.declared.packet.Packet.{Packet}
 use Rattle.j39_tp.specs.declared.packet.Packet.TheVariants.{Rts, Cts, EndAck, Bam, Abort, Dt}
-use Rattle.j39_tp.specs.declared.phase.Phase as phase
-use Rattle.j39_tp.specs.declared.phase.Phase.TheVariants as phases
-use Rattle.j39_tp.specs.declared.reaction.Reaction.{Reaction}
-use Rattle.j39_tp.specs.declared.reaction.Reaction.TheVariants.{Nothing, Go, Ended, Reply}
-use Rattle.j39_tp.specs.declared.session.Session.{Session}
-use Rattle.j39_tp.specs.declared.stage.Stage.{Stage}
-use Rattle.j39_tp.specs.declared.stage.Stage.TheVariants.{Sending, Waiting, Resting}
+use Rattle.j39_tp.specs.declared.sending.phase.Phase as phase
+use Rattle.j39_tp.specs.declared.sending.phase.Phase.TheVariants as phases
+use Rattle.j39_tp.specs.declared.sending.reaction.Reaction.{Reaction}
+use Rattle.j39_tp.specs.declared.sending.reaction.Reaction.TheVariants.{Nothing, Go, Ended, Reply}
+use Rattle.j39_tp.specs.declared.sending.session.Session.{Session}
+use Rattle.j39_tp.specs.declared.sending.stage.Stage.{Stage}
+use Rattle.j39_tp.specs.declared.sending.stage.Stage.TheVariants.{Sending, Waiting, Resting}
 
 -- a message is announced by BAM to all, by RTS without a limit to one
 abbrev pub announcement : Dest → ℕ → ℕ → Packet
-announcement All group size = Bam size group
-announcement One group size = Rts size 255 group
+announcement All pgn size = Bam size pgn
+announcement One pgn size = Rts size no_limit pgn
 
 -- where a session stands once its message was announced
 abbrev pub begun : Dest → ℕ → Stage
@@ -40,29 +42,30 @@ abbrev pub after_packet : Dest → Stage → Stage
 after_packet dest (Sending next last) = if nat_lt next last then Sending (next + 1) last else spent dest
 after_packet dest stage = stage
 
--- a CTS of the session's group: it is followed in waiting, and ends the session while data is being sent
+-- a CTS of the session's PGN: it is followed in waiting, and ends the session while data is being sent
 abbrev pub cleared : ℕ → ℕ → ℕ → ℕ → Stage → Stage × Reaction
-cleared group packets count first (Sending next last) = (Resting (Aborted 4), Reply (Abort 4 group))
-cleared group packets count first Waiting =
+cleared pgn packets count first (Sending next last) = (Resting (Aborted cts_while_sending), Reply (Abort cts_while_sending pgn))
+cleared pgn packets count first Waiting =
     if nat_lt 0 count && (nat_le 1 first && nat_le first packets)
     then (Sending first (min packets (first + count - 1)), Go)
     else (Waiting, Nothing)
-cleared group packets count first (Resting outcome) = (Resting outcome, Nothing)
+cleared pgn packets count first (Resting outcome) = (Resting outcome, Nothing)
 
 -- an end of the session, unless it has one
 abbrev pub ended : Outcome → Stage → Stage × Reaction
 ended outcome (Resting was) = (Resting was, Nothing)
 ended outcome _ = (Resting outcome, Ended)
 
--- where a session stands once it heard a packet, and what it does; one to all hears nothing
+-- where a session stands once it heard a packet, and what it does: one to all hears nothing, and one to one hears CTS,
+-- EndOfMsgACK and Abort of its PGN
 abbrev pub hears : Dest → ℕ → ℕ → Stage → Packet → Stage × Reaction
-hears All group size stage packet = (stage, Nothing)
-hears One group size stage (Cts count first pgn) = if pgn == group then cleared group (packets_of size) count first stage else (stage, Nothing)
-hears One group size stage (EndAck received pgn) = if pgn == group && received == size then ended Acked stage else (stage, Nothing)
-hears One group size stage (Abort reason pgn) = if pgn == group then ended (Aborted reason) stage else (stage, Nothing)
-hears One group size stage (Rts announced limit pgn) = (stage, Nothing)
-hears One group size stage (Bam announced pgn) = (stage, Nothing)
-hears One group size stage (Dt number chunk) = (stage, Nothing)
+hears All pgn size stage packet = (stage, Nothing)
+hears One pgn size stage (Cts count first named) = if named == pgn then cleared pgn (packets_of size) count first stage else (stage, Nothing)
+hears One pgn size stage (EndAck received named) = if named == pgn && received == size then ended Acked stage else (stage, Nothing)
+hears One pgn size stage (Abort reason named) = if named == pgn then ended (Aborted reason) stage else (stage, Nothing)
+hears One pgn size stage (Rts announced limit named) = (stage, Nothing)
+hears One pgn size stage (Bam announced named) = (stage, Nothing)
+hears One pgn size stage (Dt number chunk) = (stage, Nothing)
 
 -- where a session stands once nothing was heard in time, and what it sends
 abbrev pub after_timeout : Stage → Stage
@@ -70,8 +73,8 @@ after_timeout Waiting = Resting GaveUp
 after_timeout stage = stage
 
 abbrev pub timeout_packet : ℕ → Stage → Option Packet
-timeout_packet group Waiting = Some (Abort 3 group)
-timeout_packet group _ = None
+timeout_packet pgn Waiting = Some (Abort timeout pgn)
+timeout_packet pgn _ = None
 
 -- what is seen of a session
 abbrev pub phase_of : Stage → phase.Phase
@@ -100,7 +103,7 @@ sent_next (Some s) = Some (record s { stage = after_packet s.dest s.stage })
 
 -- what a sender does with a packet, and what it is then
 abbrev pub session_hears : Session → Packet → Stage × Reaction
-session_hears s packet = hears s.dest s.message.group (length s.message.bytes) s.stage packet
+session_hears s packet = hears s.dest s.message.pgn (length s.message.bytes) s.stage packet
 
 abbrev pub answer : Option Session → Packet → Reaction
 answer None packet = Nothing
@@ -113,7 +116,7 @@ heard (Some s) packet = Some (record s { stage = (session_hears s packet).0 })
 -- what a sender sends where nothing was heard in time, and what it is then
 abbrev pub late_packet : Option Session → Option Packet
 late_packet None = None
-late_packet (Some s) = timeout_packet s.message.group s.stage
+late_packet (Some s) = timeout_packet s.message.pgn s.stage
 
 abbrev pub timed_out : Option Session → Option Session
 timed_out None = None

@@ -7,7 +7,7 @@ use arrayvec::ArrayVec;
 use j39_id::Pgn;
 use std::marker::Model;
 
-/// A message of 9 to 1785 bytes that belongs to a group.
+/// A message of 9 to 1785 bytes of a group.
 #[derive(Drop)]
 pub struct Message {
     pgn: Pgn,
@@ -16,11 +16,11 @@ pub struct Message {
 
 impl Model for Message {
     ghost use Rattle.std.specs.Prelude.{length};
-    ghost use Rattle.j39_tp.specs.Chunks.{IsSize, Letter};
+    ghost use Rattle.j39_tp.specs.Chunks.{IsSize, MessageParts};
 
-    ghost Value = { Letter };
+    ghost Value = { MessageParts };
 
-    ghost view = { λ m. record { group = m.pgn; bytes = m.bytes.items } };
+    ghost view = { λ m. record { pgn = m.pgn; bytes = m.bytes.items } };
 
     ghost invariant = { λ m. IsSize (length m.bytes.items) };
 }
@@ -29,7 +29,7 @@ impl Message {
     /// The message of these bytes, `None` where they are fewer than 9 or more than 1785.
     pub fn new(pgn: Pgn, bytes: &[u8]) -> Option<Self>
         ensures valid { IsSome result ↔ IsSize (length bytes.now) }
-        ensures value { IfSome result (λ m. m ≡ record { group = pgn; bytes = bytes.now }) }
+        ensures value { IfSome result (λ m. m ≡ record { pgn = pgn; bytes = bytes.now }) }
     {
         if bytes.len() < 9 {
             return None;
@@ -40,9 +40,9 @@ impl Message {
         Some(Message { pgn, bytes })
     }
 
-    /// The group that the message belongs to.
+    /// The PGN of its group.
     pub fn pgn(&self) -> Pgn
-        ensures { result ≡ self.now.group }
+        ensures { result ≡ self.now.pgn }
     {
         self.pgn
     }

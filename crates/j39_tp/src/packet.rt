@@ -2,8 +2,21 @@
 ghost use Rattle.std.specs.Prelude.{◌≡◌, length};
 ghost use Rattle.j39_tp.specs.Packets.{InRange};
 
-use crate::Size;
 use j39_id::Pgn;
+
+mod packet_error;
+mod packing;
+pub(crate) mod reasons;
+mod size;
+mod unpacking;
+
+pub use packet_error::PacketError;
+pub use packing::to_data;
+pub use size::Size;
+pub use unpacking::{from_cm, from_dt};
+
+/// A limit of an RTS that lets any number of packets be sent for each CTS.
+pub(crate) const NO_LIMIT: u8 = 255;
 
 /// A packet of the transport protocol (SAE J1939-21): five of connection management, and data.
 #[derive(Clone, Copy, Debug, PartialEq, Eq)]

@@ -6,7 +6,7 @@ ghost use Rattle.j39_bus.specs.BusState.{places_from};
 ghost use Rattle.j39_bus.specs.Flows.{can_be_sent};
 ghost use Rattle.j39_bus.specs.Letters.{station_at};
 ghost use Rattle.j39_tp.specs.Receiver.{fresh};
-ghost use Rattle.j39_tp.specs.declared.manner.Manner.TheVariants.{Answering};
+ghost use Rattle.j39_tp.specs.declared.receiving.manner.Manner.TheVariants.{Answering};
 ghost use Rattle.j39_tp.specs.declared.packet.Packet.{Packet};
 ghost use Rattle.j39_bus.specs.Network.{AreGathered, Histories, has_begun, transfers_of, IsAllowed, IsNetwork, IsOf, IsRefused, IsSameNetwork, KeepsPlan, LeadsTo, world_of};
 ghost use Rattle.j39_bus.specs.Run.{at_ends};

@@ -3,7 +3,7 @@ ghost use Rattle.std.specs.Prelude.{◌≡◌, ◌≢◌, ℕ, ◌+◌, ◌<◌,
 ghost use Rattle.j39_plan.specs.declared.plan.Plan.{Plan};
 ghost use Rattle.j39_plan.specs.declared.steps.Step.TheVariants.{Take};
 ghost use Rattle.j39_bus.specs.BusState.{pair_in, receiving_at};
-ghost use Rattle.j39_tp.specs.Gathered.{HoldsCarried};
+ghost use Rattle.j39_tp.specs.inside.Gathered.{HoldsCarried};
 ghost use Rattle.j39_tp.specs.Receiver.{message_of};
 ghost use Rattle.j39_bus.specs.Network.{Histories, HasGathered, IsAllowed, IsNetwork, IsOf, IsRefused, IsSameNetwork, KeepsPlan, LeadsTo, has_taken, world_of, TakesTo, transfers_of};
 ghost use Rattle.j39_bus.specs.Traffic.{HasRoomFor, IsData, KeepsRoom, is_complete, lists_of, packet_heard, room_at};

@@ -1,7 +1,7 @@
 //! Reading a log line after line.
 ghost use Rattle.std.specs.Prelude.{◌≡◌, ◌+◌, ◌^◌, ◌<◌, ◌≤◌, ℕ, List, [], ◌∷◌, ◌++◌, length, Some, OnOk};
 ghost use Rattle.j39_tp.specs.Packets.{InRange};
-ghost use Rattle.j39_tp.specs.declared.progress.Progress.TheVariants.{Complete};
+ghost use Rattle.j39_tp.specs.declared.receiving.progress.Progress.TheVariants.{Complete};
 ghost use Rattle.j39_app.specs.Listening.{AreAllInRange, HaveHeard, IsCatalogOf, IsInRange, listener_at, place_of};
 ghost use Rattle.j39_app.specs.Recalling.{Recalls, counted};
 ghost use Rattle.j39_app.specs.LogLines.{IsRole, planned};

@@ -1,11 +1,11 @@
 use Rattle.std.proofs.Common.{◌≡◌, ◌∷◌, ◌++◌, refl, ap, sym, ◌∙◌, subst, map, drop, List, []}
 use Rattle.std.specs.List.{list_any}
-use Rattle.j39_tp.specs.declared.manner.Manner.TheVariants.{Answering}
+use Rattle.j39_tp.specs.declared.receiving.manner.Manner.TheVariants.{Answering}
 use Rattle.j39_tp.specs.declared.packet.Packet.{Packet}
 use Rattle.j39_bus.specs.declared.wired.Wired.TheVariants as wired
 use Rattle.j39_bus.specs.Flows.{window_at}
 use Rattle.j39_tp.specs.Receiver.{message_of}
-use Rattle.j39_tp.specs.declared.heard.Heard.{Heard}
+use Rattle.j39_tp.specs.declared.receiving.heard.Heard.{Heard}
 use Rattle.j39_bus.specs.declared.wired.Wired.{Wired}
 use Rattle.j39_bus.specs.BusState.{pair_in, receiving_at, session_at}
 use Rattle.j39_bus.specs.Network.{Histories, has_taken, receivers_of, transfers_of, world_of}
@@ -62,7 +62,7 @@ returns-clause-world c = λ h gathered.
           ∙ (λ i. record (c.listen-heard.ensures.world h i) { reports = (c.listen-heard.ensures.world h i).reports ++ report (c.listen-heard.ensures.world h i) u v (message_of r.progress r.bytes) ∷ [] })
           ∙ (λ i. record mid { reports = w.reports ++ record one { flow = flow_kept w u v p i } ∷ [] }) in (
             one ∷ [],
-            one_report w u v p heard (one ∷ []) (ap is_complete (sym heard_is) ∙ done) (holds.group, message_of r.progress r.bytes, holds.carried, refl),
+            one_report w u v p heard (one ∷ []) (ap is_complete (sym heard_is) ∙ done) (holds.pgn, message_of r.progress r.bytes, holds.carried, refl),
             c.reply-2.ensures.world after ∙ (λ i. replied ((c.reply.ensures.world after ∙ (λ j. replied (reported j) v u (replies_are j))) i) v u (more_are i)) ∙ replied_twice (record mid { reports = w.reports ++ one ∷ [] }) v u answers more,
           )
       | else-is_complete t ↦

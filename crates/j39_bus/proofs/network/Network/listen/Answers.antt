@@ -2,9 +2,9 @@ use Rattle.std.proofs.Common.{◌≡◌, ℕ, true, ◌&&◌, eqb, List, [], ◌
 use Rattle.std.proofs.lemmas.Bool.{or_left, and_from, eq-eqb, cond-true, cond-false}
 use Rattle.std.specs.List.{list_any}
 use Rattle.std.specs.Option.{option_map}
-use Rattle.j39_tp.specs.Gathered.{Gathers, HoldsCarried}
+use Rattle.j39_tp.specs.inside.Gathered.{Gathers, HoldsCarried}
 use Rattle.j39_tp.specs.Receiver.{Receiving, hears, receives}
-use Rattle.j39_tp.specs.declared.manner.Manner.TheVariants.{Answering}
+use Rattle.j39_tp.specs.declared.receiving.manner.Manner.TheVariants.{Answering}
 use Rattle.j39_tp.specs.declared.packet.Packet.{Packet}
 use Rattle.j39_bus.specs.declared.wired.Wired.TheVariants as wired
 use Rattle.j39_bus.specs.BusState.{pair_in, receiving_or}

@@ -1,13 +1,13 @@
 //! Packing packets into bytes.
 ghost use Rattle.std.specs.Prelude.{◌≡◌, ◌∷◌, ◌++◌};
-ghost use Rattle.j39_tp.specs.Packets.{data_of, group_bytes, size_bytes};
+ghost use Rattle.j39_tp.specs.Packets.{data_of, pgn_bytes, size_bytes};
 
 use crate::{Packet, Size};
 use j39_id::Pgn;
 
-// A connection management packet: its own bytes and the group.
+// A connection management packet: its own bytes and the PGN.
 fn managed(fields: [u8; 5], pgn: Pgn) -> [u8; 8]
-    ensures { result ≡ fields ++ group_bytes pgn }
+    ensures { result ≡ fields ++ pgn_bytes pgn }
 {
     let [control, second, third, fourth, fifth] = fields;
     let [low, middle, high, _] = pgn.number().to_le_bytes();
@@ -16,7 +16,7 @@ fn managed(fields: [u8; 5], pgn: Pgn) -> [u8; 8]
 
 // A connection management packet that gives a size.
 fn sized(control: u8, size: Size, limit: u8, pgn: Pgn) -> [u8; 8]
-    ensures { result ≡ control ∷ size_bytes size (limit ∷ group_bytes pgn) }
+    ensures { result ≡ control ∷ size_bytes size (limit ∷ pgn_bytes pgn) }
 {
     let [low, high] = size.bytes().to_le_bytes();
     managed([control, low, high, size.packets(), limit], pgn)

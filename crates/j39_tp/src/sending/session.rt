@@ -1,5 +1,5 @@
 //! A session of a sender.
-use crate::stage::Stage;
+use super::stage::Stage;
 use crate::{Dest, Message};
 
 /// A message that is being sent, and how far.

@@ -1,13 +1,11 @@
 //! Senders of messages.
 ghost use Rattle.std.specs.Prelude.{◌≡◌, ◌↔◌, length, IsSome, IsErr, IfOk, IfErr, OnOk, OnErr};
 
-use crate::session::Session;
-use crate::stage::Stage;
+use super::session::Session;
+use super::stage::Stage;
+use crate::packet::NO_LIMIT;
 use crate::{Busy, Dest, Message, Outcome, Packet, Phase, Reaction};
 use std::marker::Model;
-
-/// The limit of an RTS that allows any number of packets for each CTS.
-const NO_LIMIT: u8 = 255;
 
 /// A sender of one message at a time (SAE J1939-21, transport protocol).
 #[derive(Drop)]
@@ -17,7 +15,7 @@ pub struct Sender {
 
 impl Model for Sender {
     ghost use Rattle.std.specs.Prelude.{Option};
-    ghost use Rattle.j39_tp.specs.declared.session.Session.{Session};
+    ghost use Rattle.j39_tp.specs.declared.sending.session.Session.{Session};
 
     ghost Value = { Option Session };
 
@@ -36,7 +34,7 @@ impl Sender {
 
     /// Takes a message and gives its announcement; a sender that isn't idle hands it back.
     pub fn begin(&mut self, message: Message, dest: Dest) -> Result<Packet, Busy>
-        ensures announced { IfOk result (λ p. p ≡ announcement dest message.group (length message.bytes)) }
+        ensures announced { IfOk result (λ p. p ≡ announcement dest message.pgn (length message.bytes)) }
         ensures begun { OnOk result (self.new ≡ Some (record { message = message; dest = dest; stage = begun dest (length message.bytes) })) }
         ensures busy { IsErr result ↔ IsSome self.old }
         ensures returned { IfErr result (λ b. b.message ≡ message) }

@@ -1,8 +1,8 @@
 use Rattle.std.proofs.Common.{refl, ap, ◌∙◌}
 use Rattle.j39_tp.proofs.Holding.{still_standing, both_hold, first_holds, second_holds, same_receiving}
-use Rattle.j39_tp.specs.declared.heard.Heard.{Heard}
-use Rattle.j39_tp.specs.declared.progress.Progress.{Progress}
-use Rattle.j39_tp.proofs.receiver.Receiver.hear.Goals as goal
+use Rattle.j39_tp.specs.declared.receiving.heard.Heard.{Heard}
+use Rattle.j39_tp.specs.declared.receiving.progress.Progress.{Progress}
+use Rattle.j39_tp.proofs.receiving.receiver.Receiver.hear.Goals as goal
 
 pub invariant_of-self : goal.invariant_of-self
 invariant_of-self c =

@@ -1,6 +1,7 @@
 //! An open session of a receiver.
 ghost use Rattle.std.specs.Prelude.{◌≡◌, ◌<◌};
 
+use crate::packet::NO_LIMIT;
 use crate::{Packet, Size};
 use j39_id::Pgn;
 
@@ -51,7 +52,11 @@ impl Reception {
         ensures after { result.0 ≡ granted_to window self }
         ensures packet { result.1 ≡ clear_packet window self }
     {
-        let limit = if self.limit == 0 { 255 } else { self.limit };
+        let limit = if self.limit == 0 {
+            NO_LIMIT
+        } else {
+            self.limit
+        };
         let count = window.min(limit).min(self.size.packets() - self.held);
         let granted = Reception {
             granted: self.held + count,

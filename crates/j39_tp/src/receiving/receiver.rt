@@ -1,11 +1,11 @@
 //! Receivers of messages.
 ghost use Rattle.std.specs.Prelude.{◌≡◌, ◌<◌, ◌≤◌, ◌++◌, ◌↔◌, true, take, length, IsSome, IfSome};
-ghost use Rattle.j39_tp.specs.Receiver.{grown, kept, is_within, is_held_at};
+ghost use Rattle.j39_tp.specs.Receiver.{grown, bytes_at};
+ghost use Rattle.j39_tp.specs.inside.Held.{is_within, is_held_at};
 
-use crate::manner::Manner;
-use crate::packet::known_ranges;
-use crate::progress::Progress;
-use crate::{Heard, Packet, Size};
+use super::manner::Manner;
+use super::progress::Progress;
+use crate::{Heard, Packet, Size, known_ranges};
 use arrayvec::ArrayVec;
 use j39_id::Pgn;
 use std::marker::Model;
@@ -20,7 +20,8 @@ pub struct Receiver {
 
 impl Model for Receiver {
     ghost use Rattle.std.specs.Prelude.{◌≡◌, ◌&&◌, true};
-    ghost use Rattle.j39_tp.specs.Receiver.{Receiving, is_within, is_held_at};
+    ghost use Rattle.j39_tp.specs.Receiver.{Receiving};
+    ghost use Rattle.j39_tp.specs.inside.Held.{is_within, is_held_at};
 
     ghost Value = { Receiving };
 
@@ -49,7 +50,7 @@ fn hold(bytes: &mut ArrayVec<u8, 1785>, progress: Progress, packet: &Packet)
 
 // Holds nothing where a receiver is closed.
 fn settle(bytes: &mut ArrayVec<u8, 1785>, progress: Progress)
-    ensures { bytes.new.items ≡ kept progress bytes.old.items }
+    ensures { bytes.new.items ≡ bytes_at progress bytes.old.items }
 {
     if progress == Progress::Closed {
         bytes.clear();
@@ -68,8 +69,8 @@ fn append(bytes: &mut ArrayVec<u8, 1785>, size: Size, chunk: [u8; 7])
 }
 
 impl Receiver {
-    ghost use Rattle.j39_tp.specs.declared.manner.Manner.TheVariants.{Answering, Listening};
-    ghost use Rattle.j39_tp.specs.Receiver.{fresh, hears, receives, timed_out, gives_up, is_open_at, group_at, message_of};
+    ghost use Rattle.j39_tp.specs.declared.receiving.manner.Manner.TheVariants.{Answering, Listening};
+    ghost use Rattle.j39_tp.specs.Receiver.{fresh, hears, receives, timed_out, gives_up, is_open_at, pgn_at, message_of};
 
     /// A closed receiver that grants at most `window` packets in each CTS; `None` for 0.
     pub fn new(window: u8) -> Option<Self>
@@ -130,11 +131,11 @@ impl Receiver {
         matches!(self.progress, Progress::Open(_))
     }
 
-    /// The group of the open session, or of the message that `bytes` gives.
+    /// The PGN of the open session, or of the message that `bytes` gives.
     pub fn group(&self) -> Option<Pgn>
-        ensures { result ≡ group_at self.now.progress }
+        ensures { result ≡ pgn_at self.now.progress }
     {
-        self.progress.group()
+        self.progress.pgn()
     }
 
     /// The message that was completed last, until the next announcement; else nothing.

@@ -1,15 +1,26 @@
 -- What a receiver has of the packets that it heard, in any manner: the whole list of them is its history (SAE J1939-21,
 -- transport protocol functions; that a newer announcement replaces the older one is a rule of our own).
-use Rattle.std.specs.Prelude.{◌≡◌, ℕ, suc, List, length, take, slice_get, Some}
+use Rattle.std.specs.Prelude.{◌≡◌, ℕ, zero, suc, ◌<◌, List, [], ◌++◌, length, take, slice_get, Some}
 use Rattle.j39_tp.specs.Chunks.{IsSize}
 use Rattle.j39_tp.specs.Receiver.{Receiving, message_of}
-use Rattle.j39_tp.specs.Carried.{Announces, Awaits, Reaches, IsUndisturbed, Carried}
-use Rattle.j39_tp.specs.declared.heard.Heard.{Heard}
-use Rattle.j39_tp.specs.declared.heard.Heard.TheVariants as heard
+use Rattle.j39_tp.specs.Carried.{Announces, Awaits, IsUndisturbed, Carried}
+use Rattle.j39_tp.specs.declared.receiving.heard.Heard.{Heard}
+use Rattle.j39_tp.specs.declared.receiving.heard.Heard.TheVariants as heard
 use Rattle.j39_tp.specs.declared.packet.Packet.{Packet}
-use Rattle.j39_tp.specs.declared.progress.Progress.{Progress}
-use Rattle.j39_tp.specs.declared.progress.Progress.TheVariants.{Open, Complete}
-use Rattle.j39_tp.specs.declared.reception.Reception.{Reception}
+use Rattle.j39_tp.specs.declared.packet.Packet.TheVariants.{Dt}
+use Rattle.j39_tp.specs.declared.receiving.progress.Progress.{Progress}
+use Rattle.j39_tp.specs.declared.receiving.progress.Progress.TheVariants.{Open, Complete}
+use Rattle.j39_tp.specs.declared.receiving.reception.Kind.{Kind}
+use Rattle.j39_tp.specs.declared.receiving.reception.Reception.{Reception}
+
+-- data packets 1 to k stand in order after the announcement, each the first of its number after the one before;
+-- the last at this place, and these are their chunks
+abbrev pub Reaches : List Packet → Kind → ℕ → ℕ → ℕ → List ℕ → Type 0
+Reaches h kind start zero place chunks = (place ≡ start) × (chunks ≡ [])
+Reaches h kind start (suc k) place chunks =
+    (before : ℕ) × (front : List ℕ) × (chunk : List ℕ) × Reaches h kind start k before front
+    × (before < place) × Awaits h kind (suc k) before place
+    × (slice_get h place ≡ Some (Dt (suc k) chunk)) × (chunks ≡ front ++ chunk)
 
 -- the history announces the session, carries its packets in order up to the last that is held, and has nothing since
 -- that is the next or ends the session; the bytes are those of the packets, at most those of the message
@@ -39,6 +50,6 @@ TellsComplete _ = ⊥
 
 -- a receiver that holds the message that the list carries at this place
 pub record HoldsCarried (h : List Packet) (place : ℕ) (s : Receiving) : Type 0 where
-  pub group : ℕ
-  pub complete : s.progress ≡ Complete group
-  pub carried : Carried h place group (message_of s.progress s.bytes)
+  pub pgn : ℕ
+  pub complete : s.progress ≡ Complete pgn
+  pub carried : Carried h place pgn (message_of s.progress s.bytes)

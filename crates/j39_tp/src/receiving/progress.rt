@@ -1,24 +1,18 @@
 //! Where a receiver stands.
 ghost use Rattle.std.specs.Prelude.{◌≡◌, ◌<◌, true};
 ghost use Rattle.j39_tp.specs.Chunks.{packets_of};
-ghost use Rattle.j39_tp.specs.Receiver.{going_on, takes_next, takes_later, takes, asks, hears, timed_out, group_at, is_within};
+ghost use Rattle.j39_tp.specs.Receiver.{going_on, takes_next, takes_later, takes, asks, hears, timed_out, pgn_at};
+ghost use Rattle.j39_tp.specs.inside.Held.{is_within};
 
-use crate::manner::Manner;
-use crate::reception::{Kind, Reception};
+use super::manner::Manner;
+use super::reception::{Kind, Reception};
+use crate::packet::NO_LIMIT;
+use crate::packet::reasons::{ASKED_TOO_OFTEN, TIMEOUT};
 use crate::{Heard, Packet};
 use j39_id::Pgn;
 
-/// A limit that allows any number of packets for each CTS.
-const NO_LIMIT: u8 = 255;
-
 /// How often a session asks again for a packet.
 const ASK_LIMIT: u8 = 2;
-
-/// The reason of an Abort: nothing was heard in time.
-const TIMEOUT: u8 = 3;
-
-/// The reason of an Abort: a packet was asked for too often.
-const ASKED_TOO_OFTEN: u8 = 5;
 
 /// Where a receiver stands.
 #[derive(Clone, Copy, Debug, PartialEq, Eq)]
@@ -27,7 +21,7 @@ pub enum Progress {
     Closed,
     /// A session is open.
     Open(Reception),
-    /// A message of this group is held whole.
+    /// A message of this PGN is held whole.
     Complete(Pgn),
 }
 
@@ -176,9 +170,9 @@ impl Progress {
         }
     }
 
-    /// The group of the open session or of the message.
-    pub(crate) fn group(self) -> Option<Pgn>
-        ensures { result ≡ group_at self }
+    /// The PGN of the open session or of the message.
+    pub(crate) fn pgn(self) -> Option<Pgn>
+        ensures { result ≡ pgn_at self }
     {
         match self {
             Progress::Closed => None,

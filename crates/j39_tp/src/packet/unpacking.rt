@@ -1,7 +1,8 @@
 //! Unpacking bytes into packets.
 ghost use Rattle.std.specs.Prelude.{◌≡◌, ◌+◌, ◌*◌, ◌==◌, not, IfOk, IfErr, if◌then◌else◌};
+ghost use Rattle.j39_id.specs.Pgn.{is_pgn};
 ghost use Rattle.j39_tp.specs.Chunks.{packets_of};
-ghost use Rattle.j39_tp.specs.Packets.{is_size, is_group, InRange, ManagementReads, DataReads, first_fault, management_faults, data_faults};
+ghost use Rattle.j39_tp.specs.Packets.{is_size, InRange, ManagementReads, DataReads, first_fault, management_faults, data_faults};
 
 use crate::{Packet, PacketError, Size};
 use j39_id::Pgn;
@@ -19,9 +20,9 @@ fn size_of(low: u8, high: u8, packets: u8) -> Result<Size, PacketError>
     Ok(size)
 }
 
-// The group that three bytes give.
-fn group_of(low: u8, middle: u8, high: u8) -> Result<Pgn, PacketError>
-    ensures { result ≡ (if is_group (low + 256 * middle + 65536 * high) then Ok (low + 256 * middle + 65536 * high) else Err PacketError.Group) }
+// The PGN that three bytes give.
+fn pgn_of(low: u8, middle: u8, high: u8) -> Result<Pgn, PacketError>
+    ensures { result ≡ (if is_pgn (low + 256 * middle + 65536 * high) then Ok (low + 256 * middle + 65536 * high) else Err PacketError.Group) }
 {
     let Some(pgn) = Pgn::new(u32::from_le_bytes([low, middle, high, 0])) else {
         return Err(PacketError::Group);
@@ -43,7 +44,7 @@ pub fn from_cm(bytes: &[u8]) -> Result<Packet, PacketError>
     match control {
         16 => {
             let size = size_of(second, third, fourth)?;
-            let pgn = group_of(low, middle, high)?;
+            let pgn = pgn_of(low, middle, high)?;
             Ok(Packet::Rts {
                 size,
                 limit: fifth,
@@ -54,7 +55,7 @@ pub fn from_cm(bytes: &[u8]) -> Result<Packet, PacketError>
             if second > 0 && third == 0 {
                 return Err(PacketError::Number);
             }
-            let pgn = group_of(low, middle, high)?;
+            let pgn = pgn_of(low, middle, high)?;
             Ok(Packet::Cts {
                 count: second,
                 first: third,
@@ -63,16 +64,16 @@ pub fn from_cm(bytes: &[u8]) -> Result<Packet, PacketError>
         }
         19 => {
             let size = size_of(second, third, fourth)?;
-            let pgn = group_of(low, middle, high)?;
+            let pgn = pgn_of(low, middle, high)?;
             Ok(Packet::EndAck { size, pgn })
         }
         32 => {
             let size = size_of(second, third, fourth)?;
-            let pgn = group_of(low, middle, high)?;
+            let pgn = pgn_of(low, middle, high)?;
             Ok(Packet::Bam { size, pgn })
         }
         255 => {
-            let pgn = group_of(low, middle, high)?;
+            let pgn = pgn_of(low, middle, high)?;
             Ok(Packet::Abort {
                 reason: second,
                 pgn,

@@ -19,7 +19,7 @@ pub enum PacketError {
     /// A packet number 0.
     #[error("Number")]
     Number,
-    /// No group number.
+    /// No PGN.
     #[error("Group")]
     Group,
 }

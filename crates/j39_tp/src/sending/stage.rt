@@ -1,12 +1,7 @@
 //! Where a session of a sender stands.
+use crate::packet::reasons::{CTS_WHILE_SENDING, TIMEOUT};
 use crate::{Dest, Outcome, Packet, Phase, Reaction, Size};
 use j39_id::Pgn;
-
-/// The reason of an Abort: nothing was heard in time.
-const TIMEOUT: u8 = 3;
-
-/// The reason of an Abort: a CTS came while data was being sent.
-const CTS_WHILE_SENDING: u8 = 4;
 
 /// Where a session of a sender stands, from its announcement on.
 #[derive(Clone, Copy, Debug, PartialEq, Eq)]
@@ -54,7 +49,7 @@ impl Stage {
         }
     }
 
-    // A CTS of the session's group.
+    // A CTS of the session's PGN.
     fn clear(self, pgn: Pgn, packets: u8, count: u8, first: u8) -> (Self, Reaction)
         ensures { result ≡ cleared pgn packets count first self }
     {
