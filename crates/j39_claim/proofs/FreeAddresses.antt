@@ -2,11 +2,11 @@
 use Rattle.std.proofs.Common.{◌≡◌, ℕ, zero, suc, ◌+◌, ◌<◌, ◌≤◌, Bool, true, false, cond, not, ◌&&◌, leb, ltb, refl, sym, ap, ◌∙◌, arith, inl, inr, Option, Some, None}
 use Rattle.std.proofs.lemmas.Bool.{true≢false, cases_eq, and_from, and_parts, le-leb, leb-true, not-true}
 use Rattle.std.proofs.lemmas.List.Sums.{sum_by-cons}
-use Rattle.std.specs.Option.{unwrap_or}
+use Rattle.std.specs.Option.{unwrap_or, MatchOption}
 use Rattle.std.specs.List.{find, count_by, range_with_len}
 use Rattle.std.specs.Ordering.{nat_cmp}
 use Rattle.std.specs.FinSet.{FinSet, contains}
-use Rattle.j39_claim.specs.AddressSets.{IsFreeIn, is_free, free_count, lowest_free, free_above, next_free, first_of_two}
+use Rattle.j39_claim.specs.AddressSets.{IsFreeIn, IsLeastFree, LowestFreeIsLeast, is_free, free_count, lowest_free, free_above, next_free, first_of_two}
 use Rattle.j39_claim.specs.Pool.{in_pool}
 
 -- b is one of the n numbers from k on, and passes
@@ -74,3 +74,46 @@ none_free taken none b pooled_b =
             | inr other ↦ go (k + 1) n (omega arith) (omega arith) (omega arith)
           ]
         ] refl (count_more (is_free taken) k n)
+
+-- no number that passes lies before the one that is found, and none at all where none is found
+fails_before : (p : ℕ → Bool) (k n b : ℕ) → find p (range_with_len k n) ≡ Some b → (a : ℕ) → k ≤ a → a < b → p a ≡ false
+fails_before p k zero b is a low high = absurd (cc)
+fails_before p k (suc n) b is a low high =
+    elim (p k) as (λ e. p k ≡ e → cond e (Some k) (find p (range_with_len (k + 1) n)) ≡ Some b → p a ≡ false) [
+      | true ↦ λ _ e. let same : k ≡ b = cc in absurd (omega arith)
+      | false ↦ λ here e. elim (cases_eq k a) [
+        | inl same ↦ ap p (sym same) ∙ here
+        | inr other ↦ fails_before p (k + 1) n b e a (omega arith) high
+      ]
+    ] refl is
+
+fails_all : (p : ℕ → Bool) (k n : ℕ) → find p (range_with_len k n) ≡ None → (a : ℕ) → k ≤ a → a < k + n → p a ≡ false
+fails_all p k zero is a low high = absurd (omega arith)
+fails_all p k (suc n) is a low high =
+    elim (p k) as (λ e. p k ≡ e → cond e (Some k) (find p (range_with_len (k + 1) n)) ≡ None → p a ≡ false) [
+      | true ↦ λ _ e. absurd (cc)
+      | false ↦ λ here e. elim (cases_eq k a) [
+        | inl same ↦ ap p (sym same) ∙ here
+        | inr other ↦ fails_all p (k + 1) n e a (omega arith) (omega arith)
+      ]
+    ] refl is
+
+taken_if : (x : Bool) → not x ≡ false → x ≡ true
+taken_if true e = refl
+taken_if false e = absurd (true≢false e)
+
+low_of : (a : ℕ) → in_pool a ≡ true → 128 ≤ a
+low_of a is = leb-true 128 a (and_parts (leb 128 a) (leb a 247) is).0
+
+pub lowest_is_least : LowestFreeIsLeast
+unfolding lowest_free
+lowest_is_least taken = by (lowest_free taken) refl
+  where
+    by : (o : Option ℕ) → lowest_free taken ≡ o → MatchOption o ((a : ℕ) → in_pool a ≡ true → contains taken a ≡ true) (IsLeastFree taken)
+    by None is = λ a pooled_a. taken_if (contains taken a) (fails_all (is_free taken) 128 120 is a (low_of a pooled_a) (omega (arith, leb-true a 247 (and_parts (leb 128 a) (leb a 247) pooled_a).1)))
+    by (Some b) is =
+        let (low, high, free) = found (is_free taken) 128 120 b is in
+        record {
+          free = record { pool = pooled b low high; free = not-true (contains taken b) free };
+          lower = λ a pooled_a below. taken_if (contains taken a) (fails_before (is_free taken) 128 120 b is a (low_of a pooled_a) below);
+        }

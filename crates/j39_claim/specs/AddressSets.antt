@@ -1,5 +1,5 @@
 -- What a set of addresses leaves free of the pool.
-use Rattle.std.specs.Prelude.{◌≡◌, ℕ, Bool, true, false, not, ◌&&◌, nat_lt, List, Option, Some, None, find, count_by}
+use Rattle.std.specs.Prelude.{◌≡◌, ℕ, ◌<◌, MatchOption, Bool, true, false, not, ◌&&◌, nat_lt, List, Option, Some, None, find, count_by}
 use Rattle.std.specs.List.{range_with_len}
 use Rattle.std.specs.Ordering.{nat_cmp}
 use Rattle.std.specs.FinSet.{FinSet, contains}
@@ -24,6 +24,16 @@ free_count taken = count_by (is_free taken) pool
 -- the least of them
 unfoldable pub lowest_free : FinSet nat_cmp → Option ℕ
 lowest_free taken = find (is_free taken) pool
+
+-- a free address below which the whole pool is taken
+pub record IsLeastFree (taken : FinSet nat_cmp) (b : ℕ) : Type 0 where
+  pub free : IsFreeIn taken b
+  pub lower : (a : ℕ) → in_pool a ≡ true → a < b → contains taken a ≡ true
+
+-- it is the least free address, and there is none only where the whole pool is taken
+abbrev pub LowestFreeIsLeast : Type 0
+LowestFreeIsLeast =
+    (taken : FinSet nat_cmp) → MatchOption (lowest_free taken) ((a : ℕ) → in_pool a ≡ true → contains taken a ≡ true) (IsLeastFree taken)
 
 -- the least of them above an address
 unfoldable pub free_above : ℕ → FinSet nat_cmp → Option ℕ

@@ -1,7 +1,7 @@
 pub mod Pool
 pub mod AddressSets
-pub mod Flags
 pub mod ClaimRule
 pub mod Claiming
 pub mod ExactAnswer
 pub mod Noting
+pub mod inside

@@ -4,6 +4,7 @@
 mod address_set;
 mod choose;
 mod claimer;
+mod free_pool;
 mod item;
 mod laws;
 mod lowest;
@@ -16,6 +17,6 @@ pub use address_set::AddressSet;
 pub use choose::Choose;
 pub use claimer::Claimer;
 pub use item::{Item, Say};
-pub use laws::lawful_picks_follow_the_rule;
+pub use laws::{lawful_picks_follow_the_rule, lowest_free_is_least};
 pub use lowest::Lowest;
 pub use upward::Upward;
