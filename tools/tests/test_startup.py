@@ -1,0 +1,58 @@
+"""Start-up schedules."""
+
+import unittest
+
+import program
+from tests.support import InFolder, example, examples, run
+
+UNIT = '[[unit]]\nlabel = "U{0}"\naddress = {1}\nname = {{ identity = {0}, arbitrary = {2} }}\n'
+
+
+class Startup(InFolder):
+    def ends(self, plan, *first):
+        """The schedule that is written for a plan, and the last lines of its run."""
+        status, schedule, said = run("startup.py", plan, *first)
+        self.assertEqual(status, 0, said)
+        status, answer = program.call(["run", plan, self.write("start.schedule", schedule)])
+        self.assertEqual(status, 0, answer)
+        lines = answer.splitlines()
+        self.assertEqual(lines[-1], "settled")
+        shown = [line for line in lines if "#" not in line]
+        self.assertEqual("".join(f"{line}\n" for line in shown), said)
+        return schedule.splitlines(), shown
+
+    def test_each_example_that_has_a_bus(self):
+        for plan in examples(".toml"):
+            units, _ = program.call(["run", plan, "/dev/null"])
+            if units == 0 and "f03" not in plan:
+                self.ends(plan)
+
+    def test_the_steps(self):
+        schedule, shown = self.ends(example("address_contest.toml"))
+        self.assertEqual(schedule[1:], ["up A", "up B", "give B A", "give A B", "give B A"])
+        self.assertEqual(shown, ["unit A address 128", "unit B address 129", "settled"])
+
+    def test_units_named_first(self):
+        schedule, _ = self.ends(example("address_contest.toml"), "B")
+        self.assertEqual(schedule[1:], ["up B", "up A", "give A B", "give B A"])
+
+    def test_units_that_all_want_one_address(self):
+        plan = "version = 1\n" + "".join(UNIT.format(number, 200, "true") for number in range(1, 7))
+        _, shown = self.ends(self.write("plan.toml", plan))
+        self.assertEqual(len({line.split()[-1] for line in shown[:-1]}), 6)
+
+    def test_a_plan_without_units(self):
+        schedule, shown = self.ends(self.write("plan.toml", "version = 1\n"))
+        self.assertEqual((len(schedule), shown), (1, ["settled"]))
+
+    def test_why_there_is_none(self):
+        for plan, first, said in [
+            (example("findings/f01_same_name.toml"), [], "refused plan SameName BOOM_LEFT BOOM_RIGHT"),
+            (self.write("plan.toml", "version = 3\n"), [], "refused Range top key version"),
+            (example("first_plan.toml"), ["MOTOR"], "no unit is called MOTOR"),
+        ]:
+            self.assertEqual(run("startup.py", plan, *first), (1, "", f"startup: {said}\n"))
+
+
+if __name__ == "__main__":
+    unittest.main()
