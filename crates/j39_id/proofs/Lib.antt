@@ -1,3 +1,4 @@
+pub mod CutLines
 pub mod DigitTable
 pub mod Digits
 pub mod LastWord

@@ -2,6 +2,8 @@ pub mod Addresses
 pub mod FrameLine
 pub mod Ident
 pub mod Limits
+pub mod Lines
 pub mod Name
 pub mod Pgn
 pub mod Services
+pub mod inside

@@ -1,6 +1,7 @@
 //! Laws of frame lines: facts about the definitions, each the contract of a function that does nothing.
 ghost use Rattle.std.specs.Prelude.{◌≡◌, Ok};
 ghost use Rattle.hex.specs.Hex.{IsBytes};
+ghost use Rattle.j39_id.specs.Lines.{TellsLines, TellsPieces, IsBehindPieces};
 ghost use Rattle.j39_id.specs.FrameLine.{Spells, canon, SpellsAtMostOne, SpelledHasNoFault, HasAtMostOneFault};
 
 use crate::{Frame, LineError, print_frame, read_frame};
@@ -33,3 +34,11 @@ pub fn printed_reads_back(frame: &Frame) -> Result<Frame, LineError>
     let text = print_frame(frame);
     read_frame(text.as_slice())
 }
+
+/// What a new cutter answers to the bytes of a text, one after another, and to the end are the lines of the text, in
+/// however many pieces the text came.
+pub fn a_cutter_tells_the_lines()
+    ensures lines { TellsLines }
+    ensures pieces { TellsPieces }
+    ensures behind { IsBehindPieces }
+{}

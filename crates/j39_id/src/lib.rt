@@ -3,6 +3,9 @@
 
 mod address;
 pub mod addresses;
+mod advance;
+mod cut;
+mod cutter;
 mod frame;
 mod hex_digits;
 mod ident;
@@ -18,10 +21,13 @@ mod reading;
 pub mod services;
 
 pub use address::Address;
+pub use advance::Advance;
+pub use cut::Cut;
+pub use cutter::{Cutter, LINE_LIMIT};
 pub use frame::Frame;
 pub use ident::Ident;
 pub use label::Label;
-pub use laws::{canonical_text_spells, one_reading, printed_reads_back};
+pub use laws::{a_cutter_tells_the_lines, canonical_text_spells, one_reading, printed_reads_back};
 pub use line_error::LineError;
 pub use name::Name;
 pub use name_fields::{NameError, NameField, NameFields};

@@ -1,9 +1,13 @@
-//! Worked examples of identifiers, NAMEs and frame lines.
+//! Worked examples of identifiers, NAMEs, frame lines and the lines of a stream.
+ghost use Rattle.std.specs.Prelude.{◌<◌};
+
 use crate::addresses::{GLOBAL_ADDRESS, NULL_ADDRESS, is_in_pool};
 use crate::{
-    Address, Frame, Ident, Label, LineError, Name, NameError, NameField, NameFields, Pgn,
-    canonical_text_spells, one_reading, print_frame, printed_reads_back, read_frame, services,
+    Address, Cut, Cutter, Frame, Ident, Label, LineError, Name, NameError, NameField, NameFields,
+    Pgn, a_cutter_tells_the_lines, canonical_text_spells, one_reading, print_frame,
+    printed_reads_back, read_frame, services,
 };
+use arrayvec::ArrayVec;
 use std::test::Fail;
 
 #[test]
@@ -181,4 +185,65 @@ fn labels_hold_32_bytes(rt: HostRuntime) -> Result<(), Fail> {
     assert_eq!(rt; label.len(), 32);
     assert!(rt; Label::from("a_label_of_33_ASCII_letters_wider").is_err());
     Ok(())
+}
+
+// The answer of a new cutter to the last of so many letters, and to the line feed behind them.
+fn ends_of(letters: usize) -> (Cut, Cut, usize) {
+    let mut cutter = Cutter::new();
+    let mut last = Cut::More;
+    for _ in 0..letters {
+        last = cutter.feed(b'x');
+    }
+    let end = cutter.feed(b'\n');
+    (last, end, cutter.line().len())
+}
+
+#[test]
+fn a_line_has_at_most_8192_bytes(rt: HostRuntime) {
+    assert_eq!(rt; ends_of(8192), (Cut::More, Cut::Line, 8192));
+    assert_eq!(rt; ends_of(8193), (Cut::Long, Cut::More, 0));
+    let mut cutter = Cutter::new();
+    let letters = [b'x'; 8193];
+    let most = cutter.advance(&letters[1..]);
+    assert_eq!(rt;
+        (most.cut, most.used, most.whole.is_some()),
+        (Cut::More, 8192, false)
+    );
+    assert_eq!(rt; cutter.end(), Cut::Line);
+    assert_eq!(rt; cutter.line().len(), 8192);
+    let long = cutter.advance(&letters);
+    assert_eq!(rt; (long.cut, long.used), (Cut::Long, 8193));
+    assert_eq!(rt; cutter.end(), Cut::More);
+}
+
+// The lines of a text that comes in pieces of this size, each with a bar behind it.
+fn barred_lines(text: &[u8], size: usize) -> ArrayVec<u8, 32>
+    requires { 0 < size }
+{
+    let mut barred = ArrayVec::new();
+    let mut cutter = Cutter::new();
+    for piece in text.chunks(size) {
+        let mut rest = piece;
+        for _ in 0..piece.len() {
+            let step = cutter.advance(rest);
+            rest = &rest[step.used..];
+            if step.cut == Cut::Line {
+                let _ = barred.try_extend_from_slice(step.whole.unwrap_or(cutter.line()));
+                let _ = barred.try_push(b'|');
+            }
+        }
+    }
+    if cutter.end() == Cut::Line {
+        let _ = barred.try_extend_from_slice(cutter.line());
+    }
+    barred
+}
+
+#[test]
+fn pieces_of_any_size_give_the_same_lines(rt: HostRuntime) {
+    a_cutter_tells_the_lines();
+    for size in 1..9 {
+        let barred = barred_lines(b"ab\n\nc\rde\nf", size);
+        assert_eq!(rt; barred.as_slice(), b"ab||c\rde|f".as_slice());
+    }
 }
