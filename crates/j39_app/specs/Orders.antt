@@ -1,17 +1,17 @@
 -- What a command line orders.
 use Rattle.std.specs.Prelude.{◌≡◌, ◌⊎◌, ℕ, List, Option, Some, codes, string_bytes, [], ◌∷◌, length}
 use Rattle.clap.specs.Words.{Row, Text, first_of, subcommand_of}
-use Rattle.j39_app.specs.CheckText.{IsCheckText}
+use Rattle.j39_check.specs.CheckText.{IsCheckText}
 use Rattle.j39_app.specs.Commands.{commands}
-use Rattle.j39_app.specs.FrameText.{IsFrameText}
-use Rattle.j39_app.specs.PlanText.{Describes, IsRefusedText}
-use Rattle.j39_app.specs.ReadText.{IsReadText}
-use Rattle.j39_app.specs.RunText.{IsRunText}
+use Rattle.j39_text.specs.FrameText.{IsFrameText}
+use Rattle.j39_text.specs.PlanText.{Describes, IsRefusedText}
+use Rattle.j39_log.specs.ReadText.{IsReadText}
+use Rattle.j39_run.specs.RunText.{IsRunText}
 use Rattle.j39_plan.specs.declared.plan.Plan.{Plan}
-use Rattle.j39_app.specs.declared.verdict.Verdict.{Verdict}
-use Rattle.j39_app.specs.declared.verdict.Verdict.TheVariants.{Done, Unreadable}
-use Rattle.j39_app.specs.declared.command_line.orders.Order.{Order}
-use Rattle.j39_app.specs.declared.command_line.orders.Order.TheVariants.{Input, Frame, Check, Run, Read, Help}
+use Rattle.j39_stream.specs.declared.verdict.Verdict.{Verdict}
+use Rattle.j39_stream.specs.declared.verdict.Verdict.TheVariants.{Done, Unreadable}
+use Rattle.j39_app.specs.declared.orders.Order.{Order}
+use Rattle.j39_app.specs.declared.orders.Order.TheVariants.{Input, Frame, Check, Run, Read, Help}
 
 -- the subcommand that was met has this name, and the value by this name is the text
 abbrev pub Gives : Option (Text × List Row) → Text → Text → Text → Type 0

@@ -1,24 +1,24 @@
-//! The commands of the plan checker, over any source and sink of bytes.
+//! The commands of the plan checker, over any source and sink of bytes, and the program.
 #![tactic(auto)]
 
 mod command_line;
-mod fault;
-mod laws;
-mod line_feed;
-mod pieces;
-mod schedule;
-mod streams;
-mod texts;
-mod verdict;
+mod commands;
+mod exit_status;
+mod orders;
+mod program;
 
-pub use command_line::{Order, WordsFault, input_text, order, run_program, status};
-pub use fault::Fault;
-pub use laws::refused_lines_end_the_text;
-pub use pieces::{Pieces, Stop};
-pub use schedule::LineFault;
-pub use streams::{Failed, FromRead, Sink, Source, ToWrite, load, put_all};
-pub use texts::{check_text, frame_text, plan_text, read_text, run_planned, run_text};
-pub use verdict::Verdict;
+pub use command_line::order;
+pub use exit_status::status;
+pub use j39_check::check_text;
+pub use j39_log::read_text;
+pub use j39_run::{refused_lines_end_the_text, run_planned, run_text};
+pub use j39_schedule::LineFault;
+pub use j39_stream::{
+    Failed, Fault, FromRead, Pieces, Sink, Source, Stop, ToWrite, Verdict, load, put_all,
+};
+pub use j39_text::{frame_text, input_text, plan_text};
+pub use orders::{Order, WordsFault};
+pub use program::run_program;
 
 #[cfg(test)]
 mod tests;

@@ -1,8 +1,0 @@
-use Rattle.std.proofs.Common.{Some, sym, ap, ◌∙◌}
-use Rattle.clap.specs.Words.{found_of}
-use Rattle.clap.proofs.WalkLemmas.{first_value-rows}
-use Rattle.j39_app.proofs.command_line.words.value.Goals as goal
-
-pub returns-in_ok-from_str-in-Some : goal.returns-in_ok-from_str-in-Some
-returns-in_ok-from_str-in-Some c =
-    sym (c.in-Some.ensures ∙ first_value-rows (found_of c.args.values.now) c.args.name.now) ∙ ap Some (sym c.in_ok-from_str-in-Some.ensures.ok)

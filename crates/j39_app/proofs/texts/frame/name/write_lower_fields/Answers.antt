@@ -1,7 +1,0 @@
-use Rattle.std.proofs.Common.{append_assoc}
-use Rattle.j39_app.specs.FrameText.{lower_fields}
-use Rattle.j39_app.proofs.texts.frame.name.write_lower_fields.Goals as goal
-
-pub returns : goal.returns
-unfolding lower_fields
-returns c = simp (c.in_ok-field-2.ensures, c.in_ok-field.ensures, append_assoc) at c.field-3.ensures

@@ -1,5 +1,0 @@
-use Rattle.std.proofs.Common.{◌∙◌}
-use Rattle.j39_app.proofs.texts.read.catalog.Catalog.place.Goals as goal
-
-pub returns : goal.returns
-returns c = λ groups index. c.copied.ensures ∙ c.get.ensures.value ∙ index (c.args.pgn, c.args.bytes)

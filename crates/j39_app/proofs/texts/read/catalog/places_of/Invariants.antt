@@ -1,6 +1,0 @@
-use Rattle.std.proofs.Common.{take}
-use Rattle.j39_app.specs.Listening.{IsIndex}
-use Rattle.j39_app.proofs.texts.read.catalog.places_of.Given as goal
-
-abbrev pub invariant-loop-place : goal.invariant-loop-place
-invariant-loop-place l = IsIndex (take l.place l.groups) l.places

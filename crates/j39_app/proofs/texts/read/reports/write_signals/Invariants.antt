@@ -1,7 +1,0 @@
-use Rattle.std.proofs.Common.{◌≡◌, ◌++◌, drop}
-use Rattle.j39_app.specs.LogReports.{signal_lines}
-use Rattle.j39_app.proofs.texts.read.reports.write_signals.Given as goal
-
-abbrev pub invariant-loop-place : goal.invariant-loop-place
-invariant-loop-place l =
-    l.text ++ signal_lines (drop l.place l.signals) l.bytes ≡ l.initial.text ++ signal_lines l.signals l.bytes

@@ -1,7 +1,0 @@
-//! Laws of the texts.
-ghost use Rattle.j39_app.specs.RunText.{IsSameForContinuations};
-
-/// Where a line of a schedule is refused, what stands behind it makes no difference to the text.
-pub fn refused_lines_end_the_text()
-    ensures { IsSameForContinuations }
-{}

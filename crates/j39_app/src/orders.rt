@@ -1,0 +1,42 @@
+//! What a command line asks for.
+ghost use Rattle.std.specs.Prelude.{◌≡◌};
+ghost use Rattle.j39_app.specs.declared.orders.WordsFault.TheVariants.{Memory};
+
+use std::alloc::AllocError;
+use thiserror::Error;
+
+/// What a command line asks for.
+#[derive(Debug, Drop)]
+pub enum Order {
+    /// No words: the first line of standard input is a frame line.
+    Input,
+    /// `frame LINE`: what the line says.
+    Frame(String),
+    /// `check PLAN`: what is wrong with the plan of the file of this name.
+    Check(String),
+    /// `run PLAN SCHEDULE`: what happens on the bus of the plan by the schedule, the files of these names.
+    Run(String, String),
+    /// `read PLAN LOG`: what the log says of the plan's groups, the files of these names.
+    Read(String, String),
+    /// The help of the program or of a command, or the program's version: this text.
+    Help(String),
+}
+
+/// Why words are no order.
+#[derive(Clone, Copy, Debug, PartialEq, Eq, Error)]
+pub enum WordsFault {
+    /// The words are no command with its values.
+    #[error("bad command line")]
+    Bad,
+    /// An allocation was refused.
+    #[error("out of memory")]
+    Memory,
+}
+
+impl From<AllocError> for WordsFault {
+    ghost from_gives = { λ _ fault. fault ≡ Memory };
+
+    fn from(_error: AllocError) -> WordsFault {
+        WordsFault::Memory
+    }
+}

@@ -1,0 +1,122 @@
+//! The program.
+ghost use Rattle.std.specs.Prelude.{ℕ, IfOk, List};
+ghost use Rattle.std.specs.Io.KnownBytes.{Appends};
+ghost use Rattle.j39_app.specs.Orders.{IsAnswer, IsAnswerOfTwo, IsPlannedRun};
+ghost use Rattle.j39_log.specs.ReadText.{IsReadText};
+
+use crate::orders::{Order, WordsFault};
+use crate::{
+    Fault, FromRead, Sink, ToWrite, Verdict, check_text, frame_text, input_text, order, plan_text,
+    put_all, read_text, run_planned, status,
+};
+use std::env::Env;
+use std::fmt::Display;
+use std::io::{BufWriter, ErrorKind};
+use std::process::ExitCode;
+use std::rt::Files;
+use std::{env, fs, io};
+
+// The status of a bad command line.
+const BAD: u8 = 2;
+
+// The words after the program's name.
+fn words<R: Env + AllocGlobal>(rt: &R) -> Result<Vec<String>, WordsFault> {
+    match env::args(rt) {
+        Ok(words) => Ok(words.skip(1).collect(rt.alloc())?),
+        Err(error) if error.kind() == ErrorKind::OutOfMemory => Err(WordsFault::Memory),
+        Err(_) => Err(WordsFault::Bad),
+    }
+}
+
+// A file to be read. One that can't be opened is a device fault.
+fn opened<R: Files>(rt: &R, name: &str) -> Result<FromRead<R::File>, Fault> {
+    match fs::open(rt, name) {
+        Ok(file) => Ok(FromRead::new(file)),
+        Err(_) => Err(Fault::Device),
+    }
+}
+
+// Writes what happens on the bus of a plan by a schedule, whose file is opened once the plan was read.
+fn run_files<R: Files + AllocGlobal, W: Sink>(
+    rt: &R,
+    plan: &str,
+    schedule: &str,
+    sink: &mut W,
+) -> Result<Verdict, Fault>
+    ensures { IfOk result (λ verdict. (text : List ℕ) × IsAnswerOfTwo IsPlannedRun text verdict × Appends (W.taken sink.old) (W.taken sink.new) text) }
+{
+    let Some(plan) = plan_text(rt.alloc(), &mut opened(rt, plan)?, sink)? else {
+        return Ok(Verdict::Unreadable);
+    };
+    run_planned(rt.alloc(), &plan, &mut opened(rt, schedule)?, sink)
+}
+
+// Writes what a log says of the groups of a plan; the log's file is opened once the plan was read.
+fn read_files<R: Files + AllocGlobal, W: Sink>(
+    rt: &R,
+    plan: &str,
+    log: &str,
+    sink: &mut W,
+) -> Result<Verdict, Fault>
+    ensures { IfOk result (λ verdict. (text : List ℕ) × IsAnswerOfTwo IsReadText text verdict × Appends (W.taken sink.old) (W.taken sink.new) text) }
+{
+    let Some(plan) = plan_text(rt.alloc(), &mut opened(rt, plan)?, sink)? else {
+        return Ok(Verdict::Unreadable);
+    };
+    read_text(rt.alloc(), &plan, &mut opened(rt, log)?, sink)
+}
+
+// Does what the words order.
+fn perform<R: Input + Files + AllocGlobal, W: Sink>(
+    rt: &R,
+    order: &Order,
+    sink: &mut W,
+) -> Result<Verdict, Fault>
+    ensures { IfOk result (λ verdict. (text : List ℕ) × IsAnswer order.now text verdict × Appends (W.taken sink.old) (W.taken sink.new) text) }
+{
+    match order {
+        Order::Input => input_text(rt.alloc(), &mut FromRead::new(rt.reader()), sink),
+        Order::Frame(line) => frame_text(rt.alloc(), line.as_bytes(), sink),
+        Order::Check(plan) => check_text(rt.alloc(), &mut opened(rt, plan)?, sink),
+        Order::Run(plan, schedule) => run_files(rt, plan, schedule, sink),
+        Order::Read(plan, log) => read_files(rt, plan, log, sink),
+        Order::Help(text) => {
+            put_all(sink, text.as_bytes())?;
+            Ok(Verdict::Done)
+        }
+    }
+}
+
+// Does what the words order, on standard output.
+fn answer<R: Input + Print + Files + AllocGlobal>(rt: &R, order: &Order) -> Result<Verdict, Fault> {
+    let Ok(output) = BufWriter::new(rt.alloc(), io::writer(rt)) else {
+        return Err(Fault::Memory);
+    };
+    let mut sink = ToWrite::new(output);
+    let outcome = perform(rt, order, &mut sink);
+    let flushed = sink.flush();
+    let verdict = outcome?;
+    flushed?;
+    Ok(verdict)
+}
+
+// Says in one line why the program gave up, if it can.
+fn complain<R: Eprint>(rt: &R, fault: impl Display + Drop) {
+    let _ = eprintln!(rt; "j39plan: {fault}");
+}
+
+/// Runs the program: reads the words, does what they order and answers the exit status.
+pub fn run_program<R: Env + Input + Print + Eprint + Files + AllocGlobal>(rt: &R) -> ExitCode {
+    let outcome = match words(rt).and_then(|words| order(rt.alloc(), words)) {
+        Ok(order) => answer(rt, &order),
+        Err(WordsFault::Memory) => Err(Fault::Memory),
+        Err(WordsFault::Bad) => {
+            complain(rt, WordsFault::Bad);
+            return ExitCode::from(BAD);
+        }
+    };
+    if let Err(fault) = &outcome {
+        complain(rt, *fault);
+    }
+    ExitCode::from(status(&outcome))
+}

@@ -1,0 +1,34 @@
+-- The text that the check command writes for a plan file.
+use Rattle.std.specs.Prelude.{◌≡◌, ◌≢◌, ◌⊎◌, ℕ, List, [], ◌∷◌, ◌++◌, codes, length}
+use Rattle.j39_plan.specs.declared.plan.Plan.{Plan}
+use Rattle.j39_plan.specs.declared.checking.finding.Finding.{Finding}
+use Rattle.j39_plan.specs.Findings.{Clean}
+use Rattle.j39_plan.specs.Found.{found}
+use Rattle.j39_bus.specs.SoundPlan.{IsSound}
+use Rattle.j39_check.specs.FindingLines.{finding_lines}
+use Rattle.j39_text.specs.PlanText.{Describes, IsRefusedText}
+use Rattle.j39_text.specs.Texts.{field}
+use Rattle.j39_stream.specs.declared.verdict.Verdict.{Verdict}
+use Rattle.j39_stream.specs.declared.verdict.Verdict.TheVariants.{Done, Findings, Refused, Unreadable}
+
+-- how large a plan is in which nothing is wrong
+unfoldable pub ok_line : Plan → List ℕ
+ok_line plan =
+    field (codes "ok ") (length plan.units.items) ++ (field (codes " units ") (length plan.groups.items)
+    ++ (field (codes " groups ") (length plan.flows.items) ++ codes " flows\n"))
+
+-- a line for each finding, and how many they are
+unfoldable pub findings_text : Plan → List Finding → List ℕ
+findings_text plan findings = finding_lines plan findings ++ (field (codes "findings ") (length findings) ++ 10 ∷ [])
+
+-- what is written for a plan, with the verdict: one in which nothing is wrong is sound
+abbrev pub IsReport : Plan → List ℕ → Verdict → Type 0
+IsReport plan text Done = Clean plan × IsSound plan × (text ≡ ok_line plan)
+IsReport plan text Findings = (found plan ≢ []) × (text ≡ findings_text plan (found plan))
+IsReport plan text Refused = ⊥
+IsReport plan text Unreadable = ⊥
+
+-- what is written for a file: the report of the plan that it describes, or why it describes none
+abbrev pub IsCheckText : List ℕ → List ℕ → Verdict → Type 0
+IsCheckText bytes text verdict =
+    ((plan : Plan) × Describes bytes plan × IsReport plan text verdict) ⊎ (IsRefusedText bytes text × (verdict ≡ Unreadable))

@@ -1,0 +1,35 @@
+-- The lines of findings, with the labels of what they name by places.
+use Rattle.std.specs.Prelude.{ℕ, List, [], ◌∷◌, ◌++◌, codes}
+use Rattle.j39_plan.specs.declared.plan.Plan.{Plan}
+use Rattle.j39_plan.specs.declared.checking.finding.Finding.{Finding}
+use Rattle.j39_plan.specs.declared.checking.finding.Finding.TheVariants.{SameName, SameFixedAddress, TooFewAddresses, BadPgn, SamePgn, SignalWidth, SignalOutside, SignalOverlap, FlowToOne, FlowToSelf, FlowRepeated}
+use Rattle.j39_text.specs.Labels.{group_label, group_pgn, group_text, signal_bits, signal_end, signal_label, unit_address, units_text}
+use Rattle.j39_text.specs.Texts.{field, place_field}
+
+-- ---- a finding
+
+-- a word, and a signal behind its group
+unfoldable pub signal_text : List ℕ → Plan → ℕ → ℕ → List ℕ
+signal_text word plan g s = word ++ (group_label plan g ++ (codes " " ++ signal_label plan g s))
+
+unfoldable pub finding_text : Plan → Finding → List ℕ
+finding_text plan (SameName i j) = units_text (codes "F1 SameName ") plan i j
+finding_text plan (SameFixedAddress i j) = units_text (codes "F2 SameFixedAddress ") plan i j ++ field (codes " ") (unit_address plan i)
+finding_text plan (TooFewAddresses n) = field (codes "F3 TooFewAddresses ") n
+finding_text plan (BadPgn g) = group_text (codes "F4 BadPgn ") plan g ++ field (codes " ") (group_pgn plan g)
+finding_text plan (SamePgn g h) = group_text (codes "F5 SamePgn ") plan g ++ (group_text (codes " ") plan h ++ field (codes " ") (group_pgn plan g))
+finding_text plan (SignalWidth g s) = signal_text (codes "F6 SignalWidth ") plan g s ++ field (codes " ") (signal_bits plan g s)
+finding_text plan (SignalOutside g s) = signal_text (codes "F7 SignalOutside ") plan g s ++ field (codes " ") (signal_end plan g s)
+finding_text plan (SignalOverlap g s t) = signal_text (codes "F8 SignalOverlap ") plan g s ++ (codes " " ++ signal_label plan g t)
+finding_text plan (FlowToOne f) = place_field (codes "F9 FlowToOne ") f
+finding_text plan (FlowToSelf f) = place_field (codes "F10 FlowToSelf ") f
+finding_text plan (FlowRepeated f h) = place_field (codes "F11 FlowRepeated ") f ++ place_field (codes " ") h
+
+-- ---- all of them
+
+unfoldable pub finding_line : Plan → Finding → List ℕ
+finding_line plan finding = finding_text plan finding ++ 10 ∷ []
+
+unfoldable pub finding_lines : Plan → List Finding → List ℕ
+finding_lines plan [] = []
+finding_lines plan (finding ∷ findings) = finding_line plan finding ++ finding_lines plan findings

@@ -1,0 +1,37 @@
+//! What the check command writes.
+ghost use Rattle.std.specs.Prelude.{◌≡◌, ◌⊎◌, ℕ, List, IfOk, IsErrOf};
+ghost use Rattle.std.specs.Io.KnownBytes.{Appends, Consumes, IsAtEnd};
+ghost use Rattle.j39_check.specs.CheckText.{IsCheckText};
+ghost use Rattle.j39_stream.specs.Streams.{AppendsPart, HasFailed};
+
+use crate::plan_report::report;
+use j39_stream::{Fault, Sink, Source, Verdict, put_all};
+use j39_text::plan_text;
+use std::alloc::Global;
+
+/// Writes everything that is wrong with the plan that a file describes, or that nothing is, or why the file describes none.
+pub fn check_text<S: Source, W: Sink>(
+    alloc: Global,
+    source: &mut S,
+    sink: &mut W,
+) -> Result<Verdict, Fault>
+    ensures written { IfOk result (λ verdict. (input : List ℕ) × (text : List ℕ)
+        × Consumes (S.left source.old) (S.left source.new) input × IsAtEnd (S.left source.new)
+        × IsCheckText input text verdict × Appends (W.taken sink.old) (W.taken sink.new) text) }
+    ensures memory { IsErrOf result Fault.Memory → sink.new ≡ sink.old }
+    ensures long { IsErrOf result Fault.TooLong → sink.new ≡ sink.old }
+
+    // A call of the source or of the sink failed. What was written is then a prefix of what the file asks for.
+    ensures device { IsErrOf result Fault.Device → HasFailed (S.failures source.old) (S.failures source.new)
+        ⊎ HasFailed (W.failures sink.old) (W.failures sink.new) }
+    ensures cut { IsErrOf result Fault.Device → (sink.new ≡ sink.old) ⊎ ((input : List ℕ) × (text : List ℕ) × (verdict : Verdict)
+        × Consumes (S.left source.old) (S.left source.new) input × IsAtEnd (S.left source.new)
+        × IsCheckText input text verdict × AppendsPart (W.taken sink.old) (W.taken sink.new) text) }
+{
+    let Some(plan) = plan_text(alloc, source, sink)? else {
+        return Ok(Verdict::Unreadable);
+    };
+    let (text, verdict) = report(alloc, plan)?;
+    put_all(sink, text.as_slice())?;
+    Ok(verdict)
+}

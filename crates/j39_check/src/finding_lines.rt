@@ -1,0 +1,158 @@
+//! The lines of findings.
+ghost use Rattle.std.specs.Prelude.{◌≡◌, ◌++◌, OnOk};
+ghost use Rattle.j39_plan.specs.declared.checking.finding.Finding.TheVariants.{SameFixedAddress, BadPgn, SamePgn, SignalWidth, SignalOutside, SignalOverlap, FlowRepeated};
+ghost use Rattle.j39_text.specs.Labels.{group_text, units_text};
+ghost use Rattle.j39_check.specs.FindingLines.{finding_line, finding_lines, finding_text, signal_text};
+
+use j39_plan::{Finding, Plan};
+use j39_text::{
+    TextBuffer, group_label, group_pgn, signal_bits, signal_end, signal_label, unit_address,
+    write_group, write_units,
+};
+use std::alloc::AllocError;
+
+#[tactic(auto, unfolding(crate::specs::FindingLines::signal_text))]
+fn write_signal(
+    text: &mut TextBuffer,
+    word: &str,
+    plan: &Plan,
+    group: usize,
+    signal: usize,
+) -> Result<(), AllocError>
+    ensures { OnOk result (text.new ≡ text.old ++ signal_text word.now plan.now group signal) }
+{
+    text.word(word)?;
+    text.word(group_label(plan, group))?;
+    text.word(" ")?;
+    text.word(signal_label(plan, group, signal))
+}
+
+#[tactic(auto, unfolding(crate::specs::FindingLines::finding_text))]
+fn write_same_fixed_address(
+    text: &mut TextBuffer,
+    plan: &Plan,
+    first: usize,
+    second: usize,
+) -> Result<(), AllocError>
+    ensures { OnOk result (text.new ≡ text.old ++ finding_text plan.now (SameFixedAddress first second)) }
+{
+    write_units(text, "F2 SameFixedAddress ", plan, first, second)?;
+    text.field(" ", unit_address(plan, first))
+}
+
+#[tactic(auto, unfolding(crate::specs::FindingLines::finding_text))]
+fn write_bad_pgn(text: &mut TextBuffer, plan: &Plan, group: usize) -> Result<(), AllocError>
+    ensures { OnOk result (text.new ≡ text.old ++ finding_text plan.now (BadPgn group)) }
+{
+    write_group(text, "F4 BadPgn ", plan, group)?;
+    text.field(" ", group_pgn(plan, group))
+}
+
+#[tactic(auto, unfolding(crate::specs::FindingLines::finding_text))]
+fn write_same_pgn(
+    text: &mut TextBuffer,
+    plan: &Plan,
+    first: usize,
+    second: usize,
+) -> Result<(), AllocError>
+    ensures { OnOk result (text.new ≡ text.old ++ finding_text plan.now (SamePgn first second)) }
+{
+    write_group(text, "F5 SamePgn ", plan, first)?;
+    write_group(text, " ", plan, second)?;
+    text.field(" ", group_pgn(plan, first))
+}
+
+#[tactic(auto, unfolding(crate::specs::FindingLines::finding_text))]
+fn write_signal_width(
+    text: &mut TextBuffer,
+    plan: &Plan,
+    group: usize,
+    signal: usize,
+) -> Result<(), AllocError>
+    ensures { OnOk result (text.new ≡ text.old ++ finding_text plan.now (SignalWidth group signal)) }
+{
+    write_signal(text, "F6 SignalWidth ", plan, group, signal)?;
+    text.field(" ", signal_bits(plan, group, signal))
+}
+
+#[tactic(auto, unfolding(crate::specs::FindingLines::finding_text))]
+fn write_signal_outside(
+    text: &mut TextBuffer,
+    plan: &Plan,
+    group: usize,
+    signal: usize,
+) -> Result<(), AllocError>
+    ensures { OnOk result (text.new ≡ text.old ++ finding_text plan.now (SignalOutside group signal)) }
+{
+    write_signal(text, "F7 SignalOutside ", plan, group, signal)?;
+    text.field(" ", signal_end(plan, group, signal))
+}
+
+#[tactic(auto, unfolding(crate::specs::FindingLines::finding_text))]
+fn write_signal_overlap(
+    text: &mut TextBuffer,
+    plan: &Plan,
+    group: usize,
+    first: usize,
+    second: usize,
+) -> Result<(), AllocError>
+    ensures { OnOk result (text.new ≡ text.old ++ finding_text plan.now (SignalOverlap group first second)) }
+{
+    write_signal(text, "F8 SignalOverlap ", plan, group, first)?;
+    text.word(" ")?;
+    text.word(signal_label(plan, group, second))
+}
+
+#[tactic(auto, unfolding(crate::specs::FindingLines::finding_text))]
+fn write_flow_repeated(
+    text: &mut TextBuffer,
+    plan: &Plan,
+    first: usize,
+    second: usize,
+) -> Result<(), AllocError>
+    ensures { OnOk result (text.new ≡ text.old ++ finding_text plan.now (FlowRepeated first second)) }
+{
+    text.place("F11 FlowRepeated ", first)?;
+    text.place(" ", second)
+}
+
+#[tactic(auto, unfolding(crate::specs::FindingLines::finding_text))]
+fn write_finding(text: &mut TextBuffer, plan: &Plan, finding: Finding) -> Result<(), AllocError>
+    ensures { OnOk result (text.new ≡ text.old ++ finding_text plan.now finding) }
+{
+    match finding {
+        Finding::SameName(i, j) => write_units(text, "F1 SameName ", plan, i, j),
+        Finding::SameFixedAddress(i, j) => write_same_fixed_address(text, plan, i, j),
+        Finding::TooFewAddresses(count) => text.field("F3 TooFewAddresses ", count),
+        Finding::BadPgn(g) => write_bad_pgn(text, plan, g),
+        Finding::SamePgn(g, h) => write_same_pgn(text, plan, g, h),
+        Finding::SignalWidth(g, s) => write_signal_width(text, plan, g, s),
+        Finding::SignalOutside(g, s) => write_signal_outside(text, plan, g, s),
+        Finding::SignalOverlap(g, s, t) => write_signal_overlap(text, plan, g, s, t),
+        Finding::FlowToOne(f) => text.place("F9 FlowToOne ", f),
+        Finding::FlowToSelf(f) => text.place("F10 FlowToSelf ", f),
+        Finding::FlowRepeated(f, h) => write_flow_repeated(text, plan, f, h),
+    }
+}
+
+#[tactic(auto, unfolding(crate::specs::FindingLines::finding_line))]
+fn write_line(text: &mut TextBuffer, plan: &Plan, finding: Finding) -> Result<(), AllocError>
+    ensures { OnOk result (text.new ≡ text.old ++ finding_line plan.now finding) }
+{
+    write_finding(text, plan, finding)?;
+    text.end_line()
+}
+
+/// Writes a line for each finding.
+pub(super) fn write_lines(
+    text: &mut TextBuffer,
+    plan: &Plan,
+    findings: &[Finding],
+) -> Result<(), AllocError>
+    ensures { OnOk result (text.new ≡ text.old ++ finding_lines plan.now findings.now) }
+{
+    for finding in findings {
+        write_line(text, plan, *finding)?;
+    }
+    Ok(())
+}

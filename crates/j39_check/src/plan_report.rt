@@ -1,0 +1,54 @@
+//! What is written for a plan.
+ghost use Rattle.std.specs.Prelude.{◌≡◌, ◌++◌, OnOk, IfOk};
+ghost use Rattle.j39_check.specs.CheckText.{IsReport, findings_text, ok_line};
+
+use crate::finding_lines::write_lines;
+use j39_bus::certify;
+use j39_plan::{Finding, Plan, Refused, RefusedCause, checked};
+use j39_stream::Verdict;
+use j39_text::TextBuffer;
+use std::alloc::{AllocError, Global};
+
+#[tactic(auto, unfolding(crate::specs::CheckText::ok_line))]
+fn write_ok(text: &mut TextBuffer, plan: &Plan) -> Result<(), AllocError>
+    ensures { OnOk result (text.new ≡ text.old ++ ok_line plan.now) }
+{
+    text.field("ok ", plan.units.len())?;
+    text.field(" units ", plan.groups.len())?;
+    text.field(" groups ", plan.flows.len())?;
+    text.word(" flows\n")
+}
+
+#[tactic(auto, unfolding(crate::specs::CheckText::findings_text))]
+fn write_findings(
+    text: &mut TextBuffer,
+    plan: &Plan,
+    findings: &[Finding],
+) -> Result<(), AllocError>
+    ensures { OnOk result (text.new ≡ text.old ++ findings_text plan.now findings.now) }
+{
+    write_lines(text, plan, findings)?;
+    text.field("findings ", findings.len())?;
+    text.end_line()
+}
+
+/// What is written for a plan, with the verdict.
+pub(super) fn report(alloc: Global, plan: Plan) -> Result<(TextBuffer, Verdict), AllocError>
+    ensures { IfOk result (λ report. IsReport plan report.0 report.1) }
+{
+    let mut text = TextBuffer::new(alloc);
+    match checked(alloc, plan) {
+        Ok(plan) => {
+            certify(&plan);
+            write_ok(&mut text, plan.plan())?;
+            Ok((text, Verdict::Done))
+        }
+        Err(Refused { plan, cause }) => match cause {
+            RefusedCause::Findings(findings) => {
+                write_findings(&mut text, &plan, &findings)?;
+                Ok((text, Verdict::Findings))
+            }
+            RefusedCause::Memory => Err(AllocError),
+        },
+    }
+}

@@ -1,0 +1,9 @@
+pub mod Completing
+pub mod Indexes
+pub mod LineEnds
+pub mod LogReading
+pub mod Outcomes
+pub mod PairLists
+pub mod PlannedGroups
+pub mod SignalLists
+pub mod Tables

@@ -1,0 +1,45 @@
+-- The group that is found for a number and a length.
+use Rattle.std.proofs.Common.{◌≡◌, ℕ, ◌<◌, ◌==◌, ◌&&◌, Bool, true, false, List, length, map, get_or, Some, refl, sym, ap, ◌∙◌, eqb-true}
+use Rattle.std.specs.List.{HoldsAt}
+use Rattle.std.proofs.lemmas.List.Quantifiers.{position-Some}
+use Rattle.std.proofs.lemmas.Option.{slice_get-get_or}
+use Rattle.std.proofs.lemmas.List.{get_or-map}
+use Rattle.j39_signal.specs.LayoutParts.{LayoutParts}
+use Rattle.j39_plan.specs.declared.plan.Plan.{Plan}
+use Rattle.j39_plan.specs.declared.plan.group_plan.GroupPlan.{GroupPlan}
+use Rattle.j39_log.specs.Listening.{IsCatalogOf, layout_of}
+use Rattle.j39_log.specs.LogLines.{is_planned_as, planned}
+use Rattle.j39_log.specs.LogReports.{report}
+use Rattle.j39_log.specs.ReadText.{IsReport}
+use Rattle.j39_id.specs.declared.ident.Ident.{Ident}
+use Rattle.j39_log.specs.declared.catalog.Catalog.{Catalog}
+
+second : (a b : Bool) → (a && b) ≡ true → b ≡ true
+second true b e = e
+second false b e = cc
+
+-- the place that is found is within the groups, and its group has the length
+pub planned_there : (plan : Plan) (pgn bytes place : ℕ) (group : GroupPlan) → planned plan pgn bytes ≡ Some place → group ≡ get_or plan.groups.items place group
+    → (place < length plan.groups.items) × (group.length ≡ bytes)
+planned_there plan pgn bytes place group found here =
+    let at = position-Some (is_planned_as pgn bytes) plan.groups.items place group found in
+    let passes : is_planned_as pgn bytes group ≡ true = ap (is_planned_as pgn bytes) here ∙ at.1 in
+    (at.0, eqb-true group.length bytes (second (group.pgn == pgn) (group.length == bytes) passes))
+
+-- its layout is that of the group
+pub laid_there : (plan : Plan) (catalog : Catalog) (place : ℕ) (group : GroupPlan) (layout : LayoutParts) → IsCatalogOf plan catalog
+    → place < length plan.groups.items → group ≡ get_or plan.groups.items place group → HoldsAt (λ l. l ≡ layout) catalog.layouts.items place
+    → layout ≡ layout_of group
+laid_there plan catalog place group layout of less here at =
+    let kept : get_or catalog.layouts.items place layout ≡ layout = at layout in
+    let mapped : get_or (map layout_of plan.groups.items) place layout ≡ layout_of (get_or plan.groups.items place group) = get_or-map layout_of plan.groups.items place group layout less in
+    sym kept ∙ ap (λ (xs : List LayoutParts). get_or xs place layout) of.layouts ∙ mapped ∙ ap layout_of (sym here)
+
+-- its report is that of the place
+pub report_there : (plan : Plan) (place : ℕ) (group : GroupPlan) (i : Ident) (bytes : List ℕ) → place < length plan.groups.items
+    → group ≡ get_or plan.groups.items place group → IsReport plan place i bytes (report group i bytes)
+report_there plan place group i bytes less here = record {
+  value = group;
+  value_is = slice_get-get_or plan.groups.items place group less ∙ ap Some (sym here);
+  meets = refl;
+}

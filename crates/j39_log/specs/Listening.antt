@@ -1,0 +1,108 @@
+-- What the reader of a log keeps, and what it stands for.
+use Rattle.std.specs.Prelude.{◌≡◌, ◌==◌, ◌&&◌, ◌+◌, ◌*◌, ◌<◌, Bool, true, false, ℕ, List, length, map, All, Box, Option, Some, None}
+use Rattle.std.specs.HashMap.{HashMap, get}
+use Rattle.std.specs.List.{position, slice_get}
+use Rattle.j39_signal.specs.LayoutParts.{LayoutParts}
+use Rattle.j39_plan.specs.declared.plan.Plan.{Plan}
+use Rattle.j39_plan.specs.declared.plan.group_plan.GroupPlan.{GroupPlan}
+use Rattle.j39_tp.specs.Carried.{listened}
+use Rattle.j39_tp.specs.Packets.{InRange}
+use Rattle.j39_tp.specs.Receiver.{Receiving, fresh, hears}
+use Rattle.j39_tp.specs.declared.receiving.heard.Heard.{Heard}
+use Rattle.j39_tp.specs.declared.receiving.heard.Heard.TheVariants as heards
+use Rattle.j39_tp.specs.declared.receiving.manner.Manner.TheVariants.{Listening}
+use Rattle.j39_tp.specs.declared.packet.Packet.{Packet}
+use Rattle.j39_tp.specs.declared.packet.Packet.TheVariants.{Rts, Bam}
+use Rattle.j39_log.specs.LogLines.{is_planned_as}
+use Rattle.j39_log.specs.LogPairs.{Seen, heard}
+use Rattle.j39_bus.specs.Opening.{IsRefusedGroup}
+use Rattle.j39_log.specs.ReadText.{IsFirstRefused}
+use Rattle.j39_log.specs.declared.catalog.CatalogError.{CatalogError}
+use Rattle.j39_log.specs.declared.catalog.CatalogError.TheVariants.{BadGroup, Memory as NoRoom}
+use Rattle.j39_log.specs.declared.catalog.GroupError.{GroupError}
+use Rattle.j39_log.specs.declared.catalog.GroupError.TheVariants.{Refused, Memory}
+use Rattle.j39_log.specs.declared.catalog.Catalog.{Catalog}
+use Rattle.j39_log.specs.declared.role.Role.{Role}
+use Rattle.j39_log.specs.declared.role.Role.TheVariants.{Short, Packet as APacket, Other}
+
+-- ---- groups
+
+-- why a group can't be read: it is refused, or memory is
+abbrev pub IsNotReadable : GroupPlan → GroupError → Type 0
+IsNotReadable group Refused = IsRefusedGroup group
+IsNotReadable group Memory = Unit {0}
+
+abbrev pub IsBadCatalog : List GroupPlan → CatalogError → Type 0
+IsBadCatalog groups (BadGroup g) = IsFirstRefused groups g
+IsBadCatalog groups NoRoom = Unit {0}
+
+-- the layout of a group
+abbrev pub layout_of : GroupPlan → LayoutParts
+layout_of group = record { length = group.length; signals = group.signals.items }
+
+abbrev pub is_same_key : ℕ × ℕ → ℕ × ℕ → Bool
+is_same_key k l = k.0 == l.0 && k.1 == l.1
+
+-- the index has the first place of each number and length
+abbrev pub IsIndex : {S : Type 0} → List GroupPlan → HashMap (ℕ × ℕ) ℕ S → Type 0
+IsIndex groups places = (key : ℕ × ℕ) → get is_same_key places key ≡ position (is_planned_as key.0 key.1) groups
+
+-- a catalog has the groups of the plan
+pub record IsCatalogOf (plan : Plan) (catalog : Catalog) : Type 0 where
+  pub layouts : catalog.layouts.items ≡ map layout_of plan.groups.items
+  pub index : IsIndex plan.groups.items catalog.places
+
+-- ---- listeners
+
+-- the parts of a role's packet are in their ranges
+abbrev pub IsInRange : Role → Type 0
+IsInRange (APacket p) = InRange p
+IsInRange (Short g) = Unit {0}
+IsInRange Other = Unit {0}
+
+abbrev pub is_announcement : Packet → Bool
+is_announcement (Bam size pgn) = true
+is_announcement (Rts size limit pgn) = true
+is_announcement _ = false
+
+abbrev pub is_complete : Heard → Bool
+is_complete heards.Complete = true
+is_complete _ = false
+
+-- the packet completes a message of a receiver
+abbrev pub completes : Receiving → Packet → Bool
+completes s p = is_complete (hears s.manner s.progress p).1
+
+-- the listener in a slot of the table: in an empty one, a listener that opened nothing
+abbrev pub listener_in : {Z : Type 0} → Option (Box Receiving Z) → Receiving
+listener_in None = fresh Listening
+listener_in (Some b) = b.value
+
+abbrev pub listener_of : {Z : Type 0} → Option (Option (Box Receiving Z)) → Receiving
+listener_of None = fresh Listening
+listener_of (Some slot) = listener_in slot
+
+abbrev pub listener_at : {Z : Type 0} → List (Option (Box Receiving Z)) → ℕ → Receiving
+listener_at table k = listener_of (slice_get table k)
+
+-- there is a listener at this place of the table
+abbrev pub HasListener : {Z : Type 0} → List (Option (Box Receiving Z)) → ℕ → Type 0
+HasListener {Z} table k = (b : Box Receiving Z) × (slice_get table k ≡ Some (Some b))
+
+-- where the listener of a pair stands
+abbrev pub place_of : ℕ → ℕ → ℕ
+place_of source destination = 256 * source + destination
+
+-- a listener that heard all of these packets
+abbrev pub after_all : List Packet → Receiving
+after_all h = listened h (length h)
+
+-- each listener heard what its pair heard
+abbrev pub HaveHeard : {Z : Type 0} → List (Option (Box Receiving Z)) → List Seen → Type 0
+HaveHeard table seen =
+    (source destination : ℕ) → source < 256 → destination < 256
+    → listener_at table (place_of source destination) ≡ after_all (heard source destination seen)
+
+-- the parts of all packets are in their ranges
+abbrev pub AreAllInRange : List Seen → Type 0
+AreAllInRange seen = All (λ (s : Seen). IsInRange s.role) seen

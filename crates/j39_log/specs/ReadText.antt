@@ -1,0 +1,118 @@
+-- The text that the read command writes for a plan and a log.
+use Rattle.std.specs.Prelude.{◌≡◌, ℕ, ◌+◌, ◌⊎◌, List, [], ◌∷◌, ◌++◌, length, take, All, codes, Some, None, Option}
+use Rattle.j39_id.specs.declared.frame.Frame.{Frame}
+use Rattle.j39_id.specs.declared.ident.Ident.{Ident}
+use Rattle.j39_plan.specs.Places.{ValueAt}
+use Rattle.j39_plan.specs.declared.plan.Plan.{Plan}
+use Rattle.j39_plan.specs.declared.plan.group_plan.GroupPlan.{GroupPlan}
+use Rattle.j39_tp.specs.Carried.{Carried}
+use Rattle.j39_tp.specs.declared.packet.Packet.{Packet}
+use Rattle.j39_bus.specs.Opening.{IsSendable, IsRefusedGroup}
+use Rattle.j39_text.specs.Labels.{group_label}
+use Rattle.j39_log.specs.LogLines.{IsEntry, IsRole, planned}
+use Rattle.j39_log.specs.LogPairs.{Seen, heard}
+use Rattle.j39_log.specs.LogReports.{report}
+use Rattle.j39_log.specs.TextLines.{IsCut}
+use Rattle.j39_text.specs.Texts.{field}
+use Rattle.j39_log.specs.declared.entry.Entry.{Entry}
+use Rattle.j39_log.specs.declared.entry.Entry.TheVariants.{Frame as AFrame, Blank, Skipped, Bad}
+use Rattle.j39_log.specs.declared.role.Role.{Role}
+use Rattle.j39_log.specs.declared.role.Role.TheVariants.{Short, Packet as APacket, Other}
+use Rattle.j39_stream.specs.declared.verdict.Verdict.{Verdict}
+use Rattle.j39_stream.specs.declared.verdict.Verdict.TheVariants.{Done, Findings, Refused, Unreadable}
+
+-- ---- a frame
+
+-- the report of the group at this place of the plan
+abbrev pub IsReport : Plan → ℕ → Ident → List ℕ → List ℕ → Type 0
+IsReport plan g i bytes text = ValueAt (λ group. text ≡ report group i bytes) plan.groups.items g
+
+-- the report of a message, where a group is planned of its number and length
+abbrev pub IsPlannedReport : Plan → Option ℕ → Ident → List ℕ → List ℕ → Type 0
+IsPlannedReport plan None i message text = text ≡ []
+IsPlannedReport plan (Some g) i message text = IsReport plan g i message text
+
+-- the list of packets carries no message at this place
+abbrev pub CarriesNone : List Packet → ℕ → Type 0
+CarriesNone h place = (group : ℕ) (message : List ℕ) → ¬ Carried h place group message
+
+-- what is written at the last packet of a list: the report of the message that the list carries there
+abbrev pub IsMessageText : Plan → List Packet → ℕ → Ident → List ℕ → Type 0
+IsMessageText plan h place i text =
+    ((group : ℕ) × (message : List ℕ) × Carried h place group message × IsPlannedReport plan (planned plan group (length message)) i message text)
+    ⊎ (CarriesNone h place × (text ≡ []))
+
+-- the packets that the pair of a packet's addresses heard before it
+abbrev pub heard_before : List Seen → Ident → List Packet
+heard_before before i = heard i.sa i.ps before
+
+-- what is written at a frame, after these
+abbrev pub IsFrameReport : Plan → List Seen → Frame → Role → List ℕ → Type 0
+IsFrameReport plan before f (Short g) text = IsReport plan g f.ident f.payload.items text
+IsFrameReport plan before f (APacket p) text =
+    IsMessageText plan (heard_before before f.ident ++ p ∷ []) (length (heard_before before f.ident)) f.ident text
+IsFrameReport plan before f Other text = text ≡ []
+
+-- ---- a log
+
+-- what came so far: the frames, and how many lines were skipped and bad
+pub record Past : Type 0 where
+  pub seen : List Seen
+  pub skipped : ℕ
+  pub bad : ℕ
+
+abbrev pub nothing_yet : Past
+nothing_yet = record { seen = []; skipped = 0; bad = 0 }
+
+abbrev pub with_frame : Past → Frame → Role → Past
+with_frame past f role = record past { seen = past.seen ++ record { frame = f; role = role } ∷ [] }
+
+-- from what came so far a line leads to this, and this is written of it
+abbrev pub Follows : Plan → Past → Entry → Past → List ℕ → Type 0
+Follows plan past (AFrame f) next text =
+    (role : Role) × IsRole plan f role × IsFrameReport plan past.seen f role text × (next ≡ with_frame past f role)
+Follows plan past Blank next text = (next ≡ past) × (text ≡ [])
+Follows plan past Skipped next text = (next ≡ record past { skipped = past.skipped + 1 }) × (text ≡ [])
+Follows plan past Bad next text = (next ≡ record past { bad = past.bad + 1 }) × (text ≡ [])
+
+abbrev pub ReadsLine : Plan → Past → List ℕ → Past → List ℕ → Type 0
+ReadsLine plan past line next text = (entry : Entry) × IsEntry line entry × Follows plan past entry next text
+
+-- so do all lines, one after another
+abbrev pub ReadsLines : Plan → Past → List (List ℕ) → Past → List ℕ → Type 0
+ReadsLines plan past [] end text = (end ≡ past) × (text ≡ [])
+ReadsLines plan past (line ∷ lines) end text =
+    (next : Past) × (front : List ℕ) × (back : List ℕ) × ReadsLine plan past line next front
+    × ReadsLines plan next lines end back × (text ≡ front ++ back)
+
+unfoldable pub counts_line : ℕ → ℕ → ℕ → List ℕ
+counts_line frames skipped bad =
+    field (codes "frames ") frames ++ (field (codes " skipped ") skipped ++ (field (codes " bad ") bad ++ 10 ∷ []))
+
+abbrev pub count_line : Past → List ℕ
+count_line past = counts_line (length past.seen) past.skipped past.bad
+
+-- what is written of a log: what its lines report, and how many lines there were of each sort
+pub record IsLogText (plan : Plan) (log text : List ℕ) : Type 0 where
+  pub lines : List (List ℕ)
+  pub past : Past
+  pub reports : List ℕ
+  pub cut : IsCut log lines
+  pub read : ReadsLines plan nothing_yet lines past reports
+  pub text_is : text ≡ reports ++ count_line past
+
+-- ---- a plan
+
+-- the first group that is refused
+abbrev pub IsFirstRefused : List GroupPlan → ℕ → Type 0
+IsFirstRefused groups g = All IsSendable (take g groups) × ValueAt IsRefusedGroup groups g
+
+unfoldable pub refused_plan_line : Plan → ℕ → List ℕ
+refused_plan_line plan g = codes "refused plan BadGroup " ++ (group_label plan g ++ 10 ∷ [])
+
+-- what is written for a plan and a log, with the verdict; of the log of a refused plan nothing is read
+abbrev pub IsReadText : Plan → List ℕ → List ℕ → Verdict → Type 0
+IsReadText plan log text Done = All IsSendable plan.groups.items × IsLogText plan log text
+IsReadText plan log text Refused = (g : ℕ) × IsFirstRefused plan.groups.items g × (text ≡ refused_plan_line plan g) × (log ≡ [])
+IsReadText plan log text Findings = ⊥
+IsReadText plan log text Unreadable = ⊥

@@ -1,0 +1,135 @@
+//! The groups of a plan as a reader of frames finds them.
+ghost use Rattle.std.specs.Prelude.{◌≡◌, ◌<◌, List, [], ◌∷◌, ◌++◌, length, map, All, OnOk, IfOk, IfErr};
+ghost use Rattle.std.specs.List.{HoldsAt, position};
+ghost use Rattle.j39_log.specs.Listening.{IsBadCatalog, IsCatalogOf, IsIndex, IsNotReadable, layout_of as parts_of};
+ghost use Rattle.j39_log.specs.LogLines.{is_planned_as};
+ghost use Rattle.j39_bus.specs.Opening.{IsSendable};
+ghost use Rattle.j39_plan.specs.declared.plan.group_plan.GroupPlan.{GroupPlan as APlannedGroup};
+
+use j39_id::Pgn;
+use j39_plan::{GroupPlan, Plan};
+use j39_signal::{Layout, LayoutError};
+use std::alloc::{AllocError, Global};
+use std::collections::HashMap;
+
+/// Why there is no catalog of a plan.
+#[derive(Clone, Copy, Debug, PartialEq, Eq)]
+pub(crate) enum CatalogError {
+    /// The first group that is refused, by its place.
+    BadGroup(usize),
+    /// An allocation was refused.
+    Memory,
+}
+
+/// Why a group has no layout.
+#[derive(Clone, Copy, Debug, PartialEq, Eq)]
+pub(crate) enum GroupError {
+    Refused,
+    Memory,
+}
+
+/// The groups of a plan: their layouts by place, and the first place of each number and length.
+#[derive(Drop)]
+pub(crate) struct Catalog {
+    layouts: Vec<Layout>,
+    places: HashMap<(u32, usize), usize>,
+}
+
+// The layout of a group whose number is one of a group.
+fn layout_of(alloc: Global, group: &GroupPlan) -> Result<Layout, GroupError>
+    ensures layout { IfOk result (λ layout. layout ≡ parts_of group.now) }
+    ensures readable { OnOk result (IsSendable group.now) }
+    ensures refused { IfErr result (IsNotReadable group.now) }
+{
+    if Pgn::new(group.pgn).is_none() {
+        return Err(GroupError::Refused);
+    }
+    match Layout::new(alloc, group.length, group.signals.as_slice()) {
+        Ok(layout) => Ok(layout),
+        Err(LayoutError::Memory) => Err(GroupError::Memory),
+        Err(_other) => Err(GroupError::Refused),
+    }
+}
+
+// The layouts of the groups, by place.
+fn layouts_of(alloc: Global, groups: &[GroupPlan]) -> Result<Vec<Layout>, CatalogError>
+    ensures layouts { IfOk result (λ layouts. layouts.items ≡ map parts_of groups.now) }
+    ensures readable { OnOk result (All IsSendable groups.now) }
+    ensures refused { IfErr result (IsBadCatalog groups.now) }
+{
+    let mut layouts = Vec::new(alloc);
+    for (place, group) in groups.iter().enumerate() {
+        match layout_of(alloc, group) {
+            Ok(layout) => {
+                let Ok(()) = layouts.push(layout) else {
+                    return Err(CatalogError::Memory);
+                };
+            }
+            Err(GroupError::Memory) => return Err(CatalogError::Memory),
+            Err(GroupError::Refused) => return Err(CatalogError::BadGroup(place)),
+        }
+    }
+    Ok(layouts)
+}
+
+// The place of a group after others, unless one of them has its number and length.
+fn add_place(
+    places: &mut HashMap<(u32, usize), usize>,
+    group: &GroupPlan,
+    place: usize,
+) -> Result<(), AllocError>
+    ensures { OnOk result ((before : List APlannedGroup) → length before ≡ place → IsIndex before places.old
+        → IsIndex (before ++ group.now ∷ []) places.new) }
+{
+    let key = (group.pgn, usize::from(group.length));
+    match places.get(&key).copied() {
+        Some(_earlier) => Ok(()),
+        None => match places.insert(key, place) {
+            Ok(_) => Ok(()),
+            Err(_) => Err(AllocError),
+        },
+    }
+}
+
+// The first place of each number and length.
+fn places_of(
+    alloc: Global,
+    groups: &[GroupPlan],
+) -> Result<HashMap<(u32, usize), usize>, AllocError>
+    ensures { IfOk result (IsIndex groups.now) }
+{
+    let mut places = HashMap::new(alloc);
+    for (place, group) in groups.iter().enumerate() {
+        add_place(&mut places, group, place)?;
+    }
+    Ok(places)
+}
+
+impl Catalog {
+    pub fn new(alloc: Global, plan: &Plan) -> Result<Self, CatalogError>
+        ensures catalog { IfOk result (IsCatalogOf plan.now) }
+        ensures readable { OnOk result (All IsSendable plan.now.groups.items) }
+        ensures refused { IfErr result (IsBadCatalog plan.now.groups.items) }
+    {
+        let layouts = layouts_of(alloc, plan.groups.as_slice())?;
+        let Ok(places) = places_of(alloc, plan.groups.as_slice()) else {
+            return Err(CatalogError::Memory);
+        };
+        Ok(Catalog { layouts, places })
+    }
+
+    /// The place of the first group of this number and length.
+    pub fn place(&self, pgn: u32, bytes: usize) -> Option<usize>
+        ensures { (groups : List APlannedGroup) → IsIndex groups self.now.places → result ≡ position (is_planned_as pgn bytes) groups }
+    {
+        self.places.get(&(pgn, bytes)).copied()
+    }
+
+    /// The layout of the group at a place.
+    pub fn layout(&self, place: usize) -> &Layout
+        requires { place < length self.now.layouts.items }
+        ensures { HoldsAt (λ l. l ≡ result.now) self.now.layouts.items place }
+    {
+        &self.layouts[place]
+    }
+}

@@ -1,0 +1,3 @@
+pub mod Continuations
+pub mod Halting
+pub mod RunLists

@@ -1,0 +1,54 @@
+//! The run command with the choosers that a plan names.
+ghost use Rattle.std.specs.Prelude.{◌≡◌, ◌⊎◌, ℕ, List, length, IfOk, IsErrOf};
+ghost use Rattle.std.specs.Io.KnownBytes.{Appends, Consumes, IsAtEnd};
+ghost use Rattle.j39_run.specs.RunText.{IsRunText};
+ghost use Rattle.j39_stream.specs.Streams.{AppendsPart, HasFailed};
+
+use crate::run_text;
+use j39_claim::{Choose, Lowest, Upward};
+use j39_plan::{Plan, Way};
+use j39_stream::{Fault, Sink, Source, Verdict};
+use std::alloc::Global;
+
+/// Writes what a bus of the plan sends on a schedule as `run_text` does, each unit choosing addresses in its planned way.
+pub fn run_planned<S: Source, W: Sink>(
+    alloc: Global,
+    plan: &Plan,
+    source: &mut S,
+    sink: &mut W,
+) -> Result<Verdict, Fault>
+    ensures written { IfOk result (λ verdict. (input : List ℕ) × (text : List ℕ)
+        × Consumes (S.left source.old) (S.left source.new) input × (verdict ≡ Verdict.Done → IsAtEnd (S.left source.new))
+        × IsRunText plan.now (length plan.now.units.items) input text verdict × Appends (W.taken sink.old) (W.taken sink.new) text) }
+    ensures memory { IsErrOf result Fault.Memory → sink.new ≡ sink.old }
+    ensures long { IsErrOf result Fault.TooLong → sink.new ≡ sink.old }
+
+    // A call of the source or of the sink failed. What was written is then a prefix of what the schedule asks for.
+    ensures device { IsErrOf result Fault.Device → HasFailed (S.failures source.old) (S.failures source.new)
+        ⊎ HasFailed (W.failures sink.old) (W.failures sink.new) }
+    ensures cut { IsErrOf result Fault.Device → (sink.new ≡ sink.old) ⊎ ((input : List ℕ) × (text : List ℕ) × (verdict : Verdict)
+        × Consumes (S.left source.old) (S.left source.new) input
+        × IsRunText plan.now (length plan.now.units.items) input text verdict × AppendsPart (W.taken sink.old) (W.taken sink.new) text) }
+{
+    let mut choosers: Vec<Box<dyn Choose>> = Vec::with_capacity(alloc, plan.units.len())?;
+    for unit in &plan.units {
+        let pushed = match unit.way {
+            Way::Lowest => {
+                let Ok(lowest) = Box::new(alloc, Lowest) else {
+                    return Err(Fault::Memory);
+                };
+                choosers.push(lowest)
+            }
+            Way::Upward => {
+                let Ok(upward) = Box::new(alloc, Upward) else {
+                    return Err(Fault::Memory);
+                };
+                choosers.push(upward)
+            }
+        };
+        if pushed.is_err() {
+            return Err(Fault::Memory);
+        }
+    }
+    run_text(alloc, plan, choosers, source, sink)
+}

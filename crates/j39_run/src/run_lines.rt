@@ -1,0 +1,176 @@
+//! The lines of a run.
+ghost use Rattle.std.specs.Prelude.{◌≡◌, ◌++◌, OnOk, map};
+ghost use Rattle.j39_bus.specs.Sent.{sent_of};
+ghost use Rattle.j39_bus.specs.Traffic.{reported_of};
+ghost use Rattle.j39_run.specs.RunText.{end_text, halt_lines, line_cause, refused_line, report_line, report_lines, report_route, sent_line, sent_lines, settled_line, state_text, step_cause, unit_line, unit_lines};
+
+use crate::halt::Halt;
+use j39_bus::{Ended, Report, StepError, UnitState};
+use j39_id::{Frame, print_frame};
+use j39_plan::Plan;
+use j39_schedule::LineFault;
+use j39_text::{TextBuffer, unit_label};
+use std::alloc::AllocError;
+
+#[tactic(auto, unfolding(crate::specs::RunText::sent_line))]
+fn write_frame(text: &mut TextBuffer, frame: &Frame) -> Result<(), AllocError>
+    ensures { OnOk result (text.new ≡ text.old ++ sent_line (sent_of frame.now)) }
+{
+    text.bytes(print_frame(frame).as_slice())?;
+    text.end_line()
+}
+
+fn write_frames(text: &mut TextBuffer, frames: &[Frame]) -> Result<(), AllocError>
+    ensures { OnOk result (text.new ≡ text.old ++ sent_lines (map sent_of frames.now)) }
+{
+    for frame in frames {
+        write_frame(text, frame)?;
+    }
+    Ok(())
+}
+
+fn step_cause(error: StepError) -> &'static str
+    ensures { result.now ≡ step_cause error }
+{
+    match error {
+        StepError::UnknownUnit => "UnknownUnit",
+        StepError::NoSuchFlow => "NoSuchFlow",
+        StepError::NotStarted => "NotStarted",
+        StepError::AlreadyStarted => "AlreadyStarted",
+        StepError::NothingUndelivered => "NothingUndelivered",
+        StepError::TransferOpen => "TransferOpen",
+        StepError::NotSettled => "NotSettled",
+        StepError::NoAddress => "NoAddress",
+        StepError::Busy => "Busy",
+        StepError::WrongLength => "WrongLength",
+        StepError::NothingToSend => "NothingToSend",
+        StepError::NoSession => "NoSession",
+        StepError::CannotRest => "CannotRest",
+        StepError::Memory => "Memory",
+    }
+}
+
+fn line_cause(fault: LineFault) -> &'static str
+    ensures { result.now ≡ line_cause fault }
+{
+    match fault {
+        LineFault::LongLine => "LongLine",
+        LineFault::UnknownWord => "UnknownWord",
+        LineFault::WordCount => "WordCount",
+        LineFault::UnknownLabel => "UnknownLabel",
+        LineFault::BadNumber => "BadNumber",
+        LineFault::BadHex => "BadHex",
+    }
+}
+
+#[tactic(auto, unfolding(crate::specs::RunText::refused_line))]
+fn write_refused(text: &mut TextBuffer, place: usize, cause: &str) -> Result<(), AllocError>
+    ensures { OnOk result (text.new ≡ text.old ++ refused_line place cause.now) }
+{
+    text.place("refused line ", place)?;
+    text.word(" ")?;
+    text.word(cause)?;
+    text.end_line()
+}
+
+fn write_halt(text: &mut TextBuffer, halt: Halt) -> Result<(), AllocError>
+    ensures { OnOk result (text.new ≡ text.old ++ halt_lines halt) }
+{
+    match halt {
+        Halt::End => Ok(()),
+        Halt::Step(place, cause) => write_refused(text, place, step_cause(cause)),
+        Halt::Line(place, fault) => write_refused(text, place, line_cause(fault)),
+    }
+}
+
+#[tactic(auto, unfolding(crate::specs::RunText::state_text))]
+fn write_state(text: &mut TextBuffer, state: UnitState) -> Result<(), AllocError>
+    ensures { OnOk result (text.new ≡ text.old ++ state_text state) }
+{
+    match state {
+        UnitState::Off => text.word(" off"),
+        UnitState::NoAddress => text.word(" none"),
+        UnitState::At(address) => text.field(" address ", address.number()),
+    }
+}
+
+#[tactic(auto, unfolding(crate::specs::RunText::unit_line))]
+fn write_unit(
+    text: &mut TextBuffer,
+    plan: &Plan,
+    unit: usize,
+    state: UnitState,
+) -> Result<(), AllocError>
+    ensures { OnOk result (text.new ≡ text.old ++ unit_line plan.now unit state) }
+{
+    text.word("unit ")?;
+    text.word(unit_label(plan, unit))?;
+    write_state(text, state)?;
+    text.end_line()
+}
+
+fn write_units(text: &mut TextBuffer, plan: &Plan, states: &[UnitState]) -> Result<(), AllocError>
+    ensures { OnOk result (text.new ≡ text.old ++ unit_lines plan.now 0 states.now) }
+{
+    for (unit, state) in states.iter().enumerate() {
+        write_unit(text, plan, unit, *state)?;
+    }
+    Ok(())
+}
+
+fn settled_line(settled: bool) -> &'static str
+    ensures { result.now ≡ settled_line settled }
+{
+    if settled {
+        "settled\n"
+    } else {
+        "not settled\n"
+    }
+}
+
+#[tactic(auto, unfolding(crate::specs::RunText::report_route))]
+fn write_route(text: &mut TextBuffer, plan: &Plan, report: &Report) -> Result<(), AllocError>
+    ensures { OnOk result (text.new ≡ text.old ++ report_route plan.now (reported_of report.now)) }
+{
+    text.word("report ")?;
+    text.word(unit_label(plan, report.receiver))?;
+    text.word(" from ")?;
+    text.word(unit_label(plan, report.sender))?;
+    text.place(" flow ", report.flow)
+}
+
+#[tactic(auto, unfolding(crate::specs::RunText::report_line))]
+fn write_report(text: &mut TextBuffer, plan: &Plan, report: &Report) -> Result<(), AllocError>
+    ensures { OnOk result (text.new ≡ text.old ++ report_line plan.now (reported_of report.now)) }
+{
+    write_route(text, plan, report)?;
+    text.word(" bytes ")?;
+    text.hex(report.bytes.as_slice())?;
+    text.end_line()
+}
+
+fn write_reports(text: &mut TextBuffer, plan: &Plan, reports: &[Report]) -> Result<(), AllocError>
+    ensures { OnOk result (text.new ≡ text.old ++ report_lines plan.now (map reported_of reports.now)) }
+{
+    for report in reports {
+        write_report(text, plan, report)?;
+    }
+    Ok(())
+}
+
+/// Writes what is seen at the end of a run, and where it ended.
+#[tactic(auto, unfolding(crate::specs::RunText::end_text))]
+pub fn write_end(
+    text: &mut TextBuffer,
+    plan: &Plan,
+    ended: &Ended,
+    halt: Halt,
+) -> Result<(), AllocError>
+    ensures { OnOk result (text.new ≡ text.old ++ end_text plan.now ended.now halt) }
+{
+    write_frames(text, ended.frames())?;
+    write_halt(text, halt)?;
+    write_units(text, plan, ended.units())?;
+    text.word(settled_line(ended.is_settled()))?;
+    write_reports(text, plan, ended.reports())
+}

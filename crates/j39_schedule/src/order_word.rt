@@ -1,0 +1,66 @@
+//! The words that orders begin with.
+ghost use Rattle.std.specs.Prelude.{◌≡◌};
+ghost use Rattle.std.specs.List.{find};
+ghost use Rattle.std.specs.Str.{bytes_eq};
+ghost use Rattle.j39_schedule.specs.Schedule.{order_words, word_text};
+
+/// A word that an order begins with.
+#[derive(Clone, Copy, Debug, PartialEq, Eq)]
+pub enum OrderWord {
+    Up,
+    Give,
+    Ask,
+    Begin,
+    Emit,
+    Take,
+    Lose,
+    Late,
+    Rest,
+}
+
+const ORDER_WORDS: [OrderWord; 9] = [
+    OrderWord::Up,
+    OrderWord::Give,
+    OrderWord::Ask,
+    OrderWord::Begin,
+    OrderWord::Emit,
+    OrderWord::Take,
+    OrderWord::Lose,
+    OrderWord::Late,
+    OrderWord::Rest,
+];
+
+impl OrderWord {
+    /// The order word that is spelled so.
+    pub fn spelled(text: &[u8]) -> Option<Self>
+        ensures { result ≡ find (λ w. bytes_eq (word_text w) text.now) order_words }
+    {
+        first_spelled(&ORDER_WORDS, text)
+    }
+
+    fn text(self) -> &'static str
+        ensures { result.now ≡ word_text self }
+    {
+        match self {
+            OrderWord::Up => "up",
+            OrderWord::Give => "give",
+            OrderWord::Ask => "ask",
+            OrderWord::Begin => "begin",
+            OrderWord::Emit => "emit",
+            OrderWord::Take => "take",
+            OrderWord::Lose => "lose",
+            OrderWord::Late => "late",
+            OrderWord::Rest => "rest",
+        }
+    }
+}
+
+/// The first of these words that is spelled so.
+fn first_spelled(words: &[OrderWord], text: &[u8]) -> Option<OrderWord>
+    ensures { result ≡ find (λ w. bytes_eq (word_text w) text.now) words.now }
+{
+    words
+        .iter()
+        .copied()
+        .find(|word| word.text().as_bytes() == text)
+}

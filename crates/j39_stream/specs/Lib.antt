@@ -1,0 +1,3 @@
+pub mod LineFeed
+pub mod Streams
+pub mod Tape

@@ -1,0 +1,26 @@
+//! Sources and sinks of bytes, and why reading or writing them fails.
+#![tactic(auto)]
+
+mod failed;
+mod fault;
+mod from_read;
+mod line_feed;
+mod loading;
+mod pieces;
+mod sink;
+mod source;
+mod to_write;
+mod verdict;
+mod writing;
+
+pub use failed::Failed;
+pub use fault::Fault;
+pub use from_read::FromRead;
+pub use line_feed::first_feed;
+pub use loading::load;
+pub use pieces::{Pieces, Stop};
+pub use sink::Sink;
+pub use source::Source;
+pub use to_write::ToWrite;
+pub use verdict::Verdict;
+pub use writing::put_all;

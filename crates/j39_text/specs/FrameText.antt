@@ -1,0 +1,114 @@
+-- The text that the frame command writes for a line.
+use Rattle.std.specs.Prelude.{◌≡◌, ℕ, Bool, ◌==◌, ◌||◌, nat_le, nat_lt, ◌&&◌, ◌+◌, ◌*◌, length, slice_index, if◌then◌else◌, List, [], ◌∷◌, ◌++◌, codes, decimal}
+use Rattle.std.specs.Int.{w64, to_be_bytes, from_le_bytes}
+use Rattle.hex.specs.Hex.{encode_upper}
+use Rattle.j39_id.specs.Ident.{pgn_of}
+use Rattle.j39_id.specs.Name.{fields_of}
+use Rattle.j39_id.specs.FrameLine.{Spells, HasLineFault, canon}
+use Rattle.j39_id.specs.declared.name_fields.NameFields.{NameFields}
+use Rattle.j39_id.specs.declared.ident.Ident.{Ident}
+use Rattle.j39_id.specs.declared.frame.Frame.{Frame}
+use Rattle.j39_id.specs.declared.line_error.LineError.{LineError}
+use Rattle.j39_id.specs.declared.line_error.LineError.TheVariants.{Empty, NoHash, ShortIdent, BadIdent, TooLong, BadData}
+use Rattle.j39_text.specs.Texts.{field}
+use Rattle.j39_text.specs.declared.frame.meaning.Meaning.{Meaning}
+use Rattle.j39_text.specs.declared.frame.meaning.Meaning.TheVariants.{Plain, Claim, Cannot, Request}
+use Rattle.j39_stream.specs.declared.verdict.Verdict.{Verdict}
+use Rattle.j39_stream.specs.declared.verdict.Verdict.TheVariants.{Done, Findings, Refused, Unreadable}
+
+-- a frame of a group to all, or to the global address, goes to all
+unfoldable pub destination_text : Ident → List ℕ
+destination_text i = if nat_le 240 i.pf || i.ps == 255 then codes "all" else decimal i.ps
+
+-- a frame of the extended data page belongs to another protocol
+unfoldable pub page_text : Ident → List ℕ
+page_text i = if i.edp == 1 then codes " other" else []
+
+unfoldable pub route_line : Ident → List ℕ
+route_line i =
+    field (codes "priority ") i.priority ++ (field (codes " pgn ") (pgn_of i) ++ (field (codes " from ") i.sa
+    ++ (codes " to " ++ (destination_text i ++ (page_text i ++ 10 ∷ [])))))
+
+unfoldable pub head_lines : Frame → List ℕ
+head_lines f = codes "frame " ++ (canon f ++ (10 ∷ [] ++ route_line f.ident))
+
+-- the group of Address Claimed and Cannot Claim
+abbrev pub address_claimed : ℕ
+address_claimed = 60928
+
+-- the group of requests
+abbrev pub request : ℕ
+request = 59904
+
+-- what a frame says besides its route: a NAME is claimed from an address, and given up from the null address
+abbrev pub carries_name : Frame → Bool
+carries_name f = f.ident.edp == 0 && (pgn_of f.ident == address_claimed && length f.payload.items == 8)
+
+abbrev pub carries_request : Frame → Bool
+carries_request f = f.ident.edp == 0 && (pgn_of f.ident == request && length f.payload.items == 3)
+
+abbrev pub meaning_of : Frame → Meaning
+meaning_of f =
+    if carries_name f && nat_lt f.ident.sa 254 then Claim
+    else if carries_name f && f.ident.sa == 254 then Cannot
+    else if carries_request f then Request
+    else Plain
+
+-- the fields of a NAME from the lowest up, in three parts
+unfoldable pub lower_fields : NameFields → List ℕ
+lower_fields f =
+    field (codes "identity ") f.identity ++ (field (codes " manufacturer ") f.manufacturer ++ field (codes " ecu ") f.ecu)
+
+unfoldable pub middle_fields : NameFields → List ℕ
+middle_fields f =
+    field (codes " function_instance ") f.function_instance ++ (field (codes " function ") f.function
+    ++ field (codes " reserved ") f.reserved)
+
+unfoldable pub upper_fields : NameFields → List ℕ
+upper_fields f =
+    field (codes " system ") f.system ++ (field (codes " system_instance ") f.system_instance
+    ++ (field (codes " industry ") f.industry ++ field (codes " arbitrary ") f.arbitrary))
+
+unfoldable pub fields_line : NameFields → List ℕ
+fields_line f = lower_fields f ++ (middle_fields f ++ (upper_fields f ++ 10 ∷ []))
+
+-- the digits of a NAME, and its fields in a line of their own
+unfoldable pub name_lines : ℕ → List ℕ
+name_lines n = encode_upper (to_be_bytes w64 n) ++ (10 ∷ [] ++ fields_line (fields_of n))
+
+-- the NAME that a payload carries, least significant byte first
+abbrev pub name_in : Frame → ℕ
+name_in f = from_le_bytes w64 f.payload.items
+
+-- the group that a payload requests, least significant byte first
+abbrev pub requested_group : Frame → ℕ
+requested_group f = slice_index f.payload.items 0 + 256 * slice_index f.payload.items 1 + 65536 * slice_index f.payload.items 2
+
+-- what is written of a meaning
+unfoldable pub meaning_lines : Frame → Meaning → List ℕ
+meaning_lines f Plain = []
+meaning_lines f Claim = field (codes "claim ") f.ident.sa ++ (codes " name " ++ name_lines (name_in f))
+meaning_lines f Cannot = codes "cannot name " ++ name_lines (name_in f)
+meaning_lines f Request = field (codes "request ") (requested_group f) ++ 10 ∷ []
+
+-- all lines of a frame
+unfoldable pub frame_lines : Frame → List ℕ
+frame_lines f = head_lines f ++ meaning_lines f (meaning_of f)
+
+abbrev pub cause_text : LineError → List ℕ
+cause_text Empty = codes "Empty"
+cause_text NoHash = codes "NoHash"
+cause_text ShortIdent = codes "ShortIdent"
+cause_text BadIdent = codes "BadIdent"
+cause_text TooLong = codes "TooLong"
+cause_text BadData = codes "BadData"
+
+unfoldable pub refused_line : LineError → List ℕ
+refused_line e = codes "refused " ++ (cause_text e ++ 10 ∷ [])
+
+-- what is written for a line, with the verdict
+abbrev pub IsFrameText : List ℕ → List ℕ → Verdict → Type 0
+IsFrameText line text Done = (f : Frame) × Spells line f × (text ≡ frame_lines f)
+IsFrameText line text Unreadable = (e : LineError) × HasLineFault line e × (text ≡ refused_line e)
+IsFrameText line text Findings = ⊥
+IsFrameText line text Refused = ⊥

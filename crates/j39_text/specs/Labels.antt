@@ -1,0 +1,42 @@
+-- What a place of a plan names; nothing past the last.
+use Rattle.std.specs.Prelude.{ℕ, List, [], ◌++◌, codes}
+use Rattle.std.specs.List.{slice_get}
+use Rattle.std.specs.Option.{option_map_or}
+use Rattle.j39_signal.specs.Parts.{SignalParts}
+use Rattle.j39_signal.specs.Places.{end_of}
+use Rattle.j39_plan.specs.declared.plan.Plan.{Plan}
+use Rattle.j39_plan.specs.declared.plan.unit_plan.UnitPlan.{UnitPlan}
+use Rattle.j39_plan.specs.declared.plan.group_plan.GroupPlan.{GroupPlan}
+
+unfoldable pub unit_label : Plan → ℕ → List ℕ
+unit_label plan i = option_map_or (λ (unit : UnitPlan). unit.label.bytes) (slice_get plan.units.items i) []
+
+unfoldable pub unit_address : Plan → ℕ → ℕ
+unit_address plan i = option_map_or (λ (unit : UnitPlan). unit.address) (slice_get plan.units.items i) 0
+
+unfoldable pub group_label : Plan → ℕ → List ℕ
+group_label plan g = option_map_or (λ (group : GroupPlan). group.label.bytes) (slice_get plan.groups.items g) []
+
+unfoldable pub group_pgn : Plan → ℕ → ℕ
+group_pgn plan g = option_map_or (λ (group : GroupPlan). group.pgn) (slice_get plan.groups.items g) 0
+
+unfoldable pub signals_of : Plan → ℕ → List SignalParts
+signals_of plan g = option_map_or (λ (group : GroupPlan). group.signals.items) (slice_get plan.groups.items g) []
+
+unfoldable pub signal_label : Plan → ℕ → ℕ → List ℕ
+signal_label plan g s = option_map_or (λ (signal : SignalParts). signal.label.bytes) (slice_get (signals_of plan g) s) []
+
+unfoldable pub signal_bits : Plan → ℕ → ℕ → ℕ
+signal_bits plan g s = option_map_or (λ (signal : SignalParts). signal.bits) (slice_get (signals_of plan g) s) 0
+
+-- the first place after the signal
+unfoldable pub signal_end : Plan → ℕ → ℕ → ℕ
+signal_end plan g s = option_map_or end_of (slice_get (signals_of plan g) s) 0
+
+-- a word, and two units
+unfoldable pub units_text : List ℕ → Plan → ℕ → ℕ → List ℕ
+units_text word plan i j = word ++ (unit_label plan i ++ (codes " " ++ unit_label plan j))
+
+-- a word, and a group
+unfoldable pub group_text : List ℕ → Plan → ℕ → List ℕ
+group_text word plan g = word ++ group_label plan g

@@ -1,0 +1,4 @@
+pub mod FrameText
+pub mod Labels
+pub mod PlanText
+pub mod Texts

@@ -1,0 +1,46 @@
+//! The frame command on a whole input.
+ghost use Rattle.std.specs.Prelude.{◌≡◌, ◌⊎◌, ℕ, List, IfOk, IsErrOf};
+ghost use Rattle.std.specs.List.{before_first};
+ghost use Rattle.std.specs.Io.KnownBytes.{Appends, Consumes, IsAtEnd};
+ghost use Rattle.j39_text.specs.FrameText.{IsFrameText};
+ghost use Rattle.j39_stream.specs.LineFeed.{is_line_feed};
+ghost use Rattle.j39_stream.specs.Streams.{AppendsPart, HasFailed};
+
+use crate::frame_text;
+use j39_stream::{Fault, Sink, Source, Verdict, first_feed, load};
+use std::alloc::Global;
+
+// The bytes before the first line feed, or all of them.
+fn first_line(input: &[u8]) -> &[u8]
+    ensures { result.now ≡ before_first is_line_feed input.now }
+{
+    match first_feed(input) {
+        Some(end) => &input[..end],
+        None => input,
+    }
+}
+
+/// Writes what the first line of the input spells, or why it is refused.
+pub fn input_text<S: Source, W: Sink>(
+    alloc: Global,
+    source: &mut S,
+    sink: &mut W,
+) -> Result<Verdict, Fault>
+    ensures written { IfOk result (λ verdict. (input : List ℕ) × (text : List ℕ)
+        × Consumes (S.left source.old) (S.left source.new) input × IsAtEnd (S.left source.new)
+        × IsFrameText (before_first is_line_feed input) text verdict
+        × Appends (W.taken sink.old) (W.taken sink.new) text) }
+    ensures memory { IsErrOf result Fault.Memory → sink.new ≡ sink.old }
+    ensures long { IsErrOf result Fault.TooLong → sink.new ≡ sink.old }
+
+    // A call of the source or of the sink failed. What was written is then a prefix of what the first line asks for.
+    ensures device { IsErrOf result Fault.Device → HasFailed (S.failures source.old) (S.failures source.new)
+        ⊎ HasFailed (W.failures sink.old) (W.failures sink.new) }
+    ensures cut { IsErrOf result Fault.Device → (sink.new ≡ sink.old) ⊎ ((input : List ℕ) × (text : List ℕ) × (verdict : Verdict)
+        × Consumes (S.left source.old) (S.left source.new) input × IsAtEnd (S.left source.new)
+        × IsFrameText (before_first is_line_feed input) text verdict
+        × AppendsPart (W.taken sink.old) (W.taken sink.new) text) }
+{
+    let input = load(alloc, source)?;
+    frame_text(alloc, first_line(input.as_slice()), sink)
+}

@@ -1,0 +1,120 @@
+//! What a place of a plan names. Past the last place there is nothing.
+ghost use Rattle.std.specs.Prelude.{◌≡◌, ◌++◌, OnOk};
+ghost use Rattle.j39_text.specs.Labels.{group_label, group_pgn, group_text, signal_bits, signal_end, signal_label, signals_of, unit_address, unit_label, units_text};
+
+use crate::TextBuffer;
+use j39_plan::Plan;
+use j39_signal::Signal;
+use std::alloc::AllocError;
+
+#[tactic(auto, unfolding(crate::specs::Labels::unit_label))]
+pub fn unit_label(plan: &Plan, unit: usize) -> &str
+    ensures { result.now ≡ unit_label plan.now unit }
+{
+    match plan.units.get(unit) {
+        Some(unit) => unit.label.as_str(),
+        None => "",
+    }
+}
+
+#[tactic(auto, unfolding(crate::specs::Labels::unit_address))]
+pub fn unit_address(plan: &Plan, unit: usize) -> u8
+    ensures { result ≡ unit_address plan.now unit }
+{
+    match plan.units.get(unit) {
+        Some(unit) => unit.address.number(),
+        None => 0,
+    }
+}
+
+#[tactic(auto, unfolding(crate::specs::Labels::group_label))]
+pub fn group_label(plan: &Plan, group: usize) -> &str
+    ensures { result.now ≡ group_label plan.now group }
+{
+    match plan.groups.get(group) {
+        Some(group) => group.label.as_str(),
+        None => "",
+    }
+}
+
+#[tactic(auto, unfolding(crate::specs::Labels::group_pgn))]
+pub fn group_pgn(plan: &Plan, group: usize) -> u32
+    ensures { result ≡ group_pgn plan.now group }
+{
+    match plan.groups.get(group) {
+        Some(group) => group.pgn,
+        None => 0,
+    }
+}
+
+#[tactic(auto, unfolding(crate::specs::Labels::signals_of))]
+fn signals_of(plan: &Plan, group: usize) -> &[Signal]
+    ensures { result.now ≡ signals_of plan.now group }
+{
+    match plan.groups.get(group) {
+        Some(group) => group.signals.as_slice(),
+        None => &[],
+    }
+}
+
+#[tactic(auto, unfolding(crate::specs::Labels::signal_label))]
+pub fn signal_label(plan: &Plan, group: usize, signal: usize) -> &str
+    ensures { result.now ≡ signal_label plan.now group signal }
+{
+    match signals_of(plan, group).get(signal) {
+        Some(signal) => signal.label().as_str(),
+        None => "",
+    }
+}
+
+#[tactic(auto, unfolding(crate::specs::Labels::signal_bits))]
+pub fn signal_bits(plan: &Plan, group: usize, signal: usize) -> u8
+    ensures { result ≡ signal_bits plan.now group signal }
+{
+    match signals_of(plan, group).get(signal) {
+        Some(signal) => signal.bits(),
+        None => 0,
+    }
+}
+
+/// The first place after a signal, in bits from 0.
+#[tactic(auto, unfolding(crate::specs::Labels::signal_end))]
+pub fn signal_end(plan: &Plan, group: usize, signal: usize) -> u32
+    ensures { result ≡ signal_end plan.now group signal }
+{
+    match signals_of(plan, group).get(signal) {
+        Some(signal) => u32::from(signal.start()) + u32::from(signal.bits()),
+        None => 0,
+    }
+}
+
+/// Writes a word and two units.
+#[tactic(auto, unfolding(crate::specs::Labels::units_text))]
+pub fn write_units(
+    text: &mut TextBuffer,
+    word: &str,
+    plan: &Plan,
+    first: usize,
+    second: usize,
+) -> Result<(), AllocError>
+    ensures { OnOk result (text.new ≡ text.old ++ units_text word.now plan.now first second) }
+{
+    text.word(word)?;
+    text.word(unit_label(plan, first))?;
+    text.word(" ")?;
+    text.word(unit_label(plan, second))
+}
+
+/// Writes a word and a group.
+#[tactic(auto, unfolding(crate::specs::Labels::group_text))]
+pub fn write_group(
+    text: &mut TextBuffer,
+    word: &str,
+    plan: &Plan,
+    group: usize,
+) -> Result<(), AllocError>
+    ensures { OnOk result (text.new ≡ text.old ++ group_text word.now plan.now group) }
+{
+    text.word(word)?;
+    text.word(group_label(plan, group))
+}

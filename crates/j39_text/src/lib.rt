@@ -1,0 +1,17 @@
+//! Texts of frames and of plan files, and the buffer that all texts are written in.
+#![tactic(auto)]
+
+mod frame;
+mod input;
+mod labels;
+mod plan_file;
+mod text_buffer;
+
+pub use frame::{frame_text, write_destination};
+pub use input::input_text;
+pub use labels::{
+    group_label, group_pgn, signal_bits, signal_end, signal_label, unit_address, unit_label,
+    write_group, write_units,
+};
+pub use plan_file::plan_text;
+pub use text_buffer::TextBuffer;

@@ -1,0 +1,65 @@
+//! Why a plan file is refused.
+ghost use Rattle.std.specs.Prelude.{◌≡◌, ◌++◌, OnOk, IfOk};
+ghost use Rattle.j39_text.specs.PlanText.{IsRefusalLine, fault_line, key_text, table_text};
+
+use crate::TextBuffer;
+use j39_plan::{Fault, Key, PlanError, Table};
+use std::alloc::{AllocError, Global};
+
+#[tactic(auto, unfolding(crate::specs::PlanText::table_text))]
+fn write_table(text: &mut TextBuffer, table: Table) -> Result<(), AllocError>
+    ensures { OnOk result (text.new ≡ text.old ++ table_text table) }
+{
+    match table {
+        Table::Top => text.word("top"),
+        Table::Unit(unit) => text.place("unit ", unit),
+        Table::UnitName(unit) => {
+            text.place("unit ", unit)?;
+            text.word(" name")
+        }
+        Table::Group(group) => text.place("group ", group),
+        Table::Signal(group, signal) => {
+            text.place("group ", group)?;
+            text.place(" signal ", signal)
+        }
+        Table::Flow(flow) => text.place("flow ", flow),
+    }
+}
+
+#[tactic(auto, unfolding(crate::specs::PlanText::key_text))]
+fn write_key(text: &mut TextBuffer, key: Option<Key>) -> Result<(), AllocError>
+    ensures { OnOk result (text.new ≡ text.old ++ key_text key) }
+{
+    match key {
+        Some(key) => {
+            text.word(" key ")?;
+            text.word(key.word())
+        }
+        None => Ok(()),
+    }
+}
+
+#[tactic(auto, unfolding(crate::specs::PlanText::fault_line))]
+fn write_fault(text: &mut TextBuffer, fault: &Fault) -> Result<(), AllocError>
+    ensures { OnOk result (text.new ≡ text.old ++ fault_line fault.now) }
+{
+    text.word("refused ")?;
+    text.word(fault.cause.word())?;
+    text.word(" ")?;
+    write_table(text, fault.place.table)?;
+    write_key(text, fault.place.key)?;
+    text.end_line()
+}
+
+/// The line of a refusal. Where the plan could not be read for want of memory there is none.
+pub(super) fn refusal(alloc: Global, error: &PlanError) -> Result<TextBuffer, AllocError>
+    ensures { IfOk result (IsRefusalLine error.now) }
+{
+    let mut text = TextBuffer::new(alloc);
+    match error {
+        PlanError::Text => text.word("refused Text\n")?,
+        PlanError::Fault(fault) => write_fault(&mut text, fault)?,
+        PlanError::Memory => return Err(AllocError),
+    }
+    Ok(text)
+}

@@ -1,0 +1,109 @@
+//! A text that grows, and the one place where numbers, digits and words are written.
+ghost use Rattle.std.specs.Prelude.{◌≡◌, ℕ, ◌+◌, [], ◌∷◌, ◌++◌, length, OnOk};
+ghost use Rattle.hex.specs.Hex.{encode_upper};
+ghost use Rattle.j39_text.specs.Texts.{field_text, place_field};
+
+use itoa::{Buffer, Integer};
+use std::alloc::{AllocError, Global};
+use std::marker::Model;
+
+const DIGITS: [u8; 16] = *b"0123456789ABCDEF";
+
+/// A text that grows.
+#[derive(Drop)]
+pub struct TextBuffer {
+    bytes: Vec<u8>,
+}
+
+impl Model for TextBuffer {
+    ghost use Rattle.std.specs.Prelude.{ℕ, List};
+
+    ghost Value = { List ℕ };
+
+    ghost view = { λ text. text.bytes.items };
+}
+
+impl TextBuffer {
+    pub fn new(alloc: Global) -> Self
+        ensures { result ≡ [] }
+    {
+        TextBuffer {
+            bytes: Vec::new(alloc),
+        }
+    }
+
+    pub fn as_slice(&self) -> &[u8]
+        ensures { result.now ≡ self.now }
+    {
+        self.bytes.as_slice()
+    }
+
+    pub fn len(&self) -> usize
+        ensures { result ≡ length self.now }
+    {
+        self.bytes.len()
+    }
+
+    /// Drops the text, and keeps its room for the next one.
+    pub fn clear(&mut self)
+        ensures { self.new ≡ [] }
+    {
+        self.bytes.clear();
+    }
+
+    pub fn bytes(&mut self, bytes: &[u8]) -> Result<(), AllocError>
+        ensures { OnOk result (self.new ≡ self.old ++ bytes.now) }
+    {
+        self.bytes.extend_from_slice(bytes)
+    }
+
+    pub fn word(&mut self, word: &str) -> Result<(), AllocError>
+        ensures { OnOk result (self.new ≡ self.old ++ word.now) }
+    {
+        self.bytes(word.as_bytes())
+    }
+
+    /// Adds the decimal digits of a number.
+    pub fn number<I: Integer>(&mut self, number: I) -> Result<(), AllocError>
+        ensures { OnOk result (self.new ≡ self.old ++ I.text number) }
+    {
+        let mut buffer = Buffer::new();
+        self.word(buffer.format(number))
+    }
+
+    /// Adds a word and the decimal digits of a number.
+    #[tactic(auto, unfolding(crate::specs::Texts::field_text))]
+    pub fn field<I: Integer>(&mut self, word: &str, number: I) -> Result<(), AllocError>
+        ensures { OnOk result (self.new ≡ self.old ++ field_text word.now (I.text number)) }
+    {
+        self.word(word)?;
+        self.number(number)
+    }
+
+    /// Adds a word and a place, which is counted from 0 and written as counted from 1.
+    pub fn place(&mut self, word: &str, place: usize) -> Result<(), AllocError>
+        ensures { OnOk result (self.new ≡ self.old ++ place_field word.now place) }
+    {
+        self.field(word, place as u128 + 1)
+    }
+
+    /// Adds two capital digits for each byte.
+    pub fn hex(&mut self, bytes: &[u8]) -> Result<(), AllocError>
+        ensures { OnOk result (self.new ≡ self.old ++ encode_upper bytes.now) }
+    {
+        for byte in bytes {
+            let digits = [
+                DIGITS[usize::from(*byte >> 4)],
+                DIGITS[usize::from(*byte & 15)],
+            ];
+            self.bytes(&digits)?;
+        }
+        Ok(())
+    }
+
+    pub fn end_line(&mut self) -> Result<(), AllocError>
+        ensures { OnOk result (self.new ≡ self.old ++ 10 ∷ []) }
+    {
+        self.bytes(b"\n")
+    }
+}
