@@ -3,7 +3,7 @@ use Rattle.std.proofs.Common.{◌≡◌, List, [], ◌∷◌, ◌++◌, Some}
 use Rattle.j39_plan.specs.declared.reading.fault.Fault.{Fault}
 use Rattle.j39_plan.specs.declared.reading.plan_error.PlanError.{PlanError}
 use Rattle.j39_plan.specs.declared.reading.plan_error.PlanError.TheVariants as errors
-use Rattle.j39_plan.specs.Outcome.{first, Fails}
+use Rattle.j39_plan.specs.Outcome.{first, FailsGrowing}
 
 pub first-append : (xs ys : List Fault) (f : Fault) → first xs ≡ Some f → first (xs ++ ys) ≡ Some f
 first-append [] ys f e = cc
@@ -12,7 +12,8 @@ first-append (x ∷ xs) ys f e = e
 pub ruleset faults_after = (first-append)
 
 -- A reader passes on the refusal of a part, where the part's first fault is the first of the whole.
-pub fails_on : (e : PlanError) (part whole : List Fault) → ((f : Fault) → first part ≡ Some f → first whole ≡ Some f) → Fails e part → Fails e whole
-fails_on errors.Text part whole leads fails = fails
-fails_on (errors.Fault f) part whole leads fails = leads f fails
-fails_on errors.Memory part whole leads fails = tt
+pub fails_on : (Inner Outer : Type 0) (e : PlanError) (part whole : List Fault) → (Inner → Outer) → ((f : Fault) → first part ≡ Some f → first whole ≡ Some f)
+    → FailsGrowing Inner e part → FailsGrowing Outer e whole
+fails_on Inner Outer errors.Text part whole grows leads fails = fails
+fails_on Inner Outer (errors.Fault f) part whole grows leads fails = leads f fails
+fails_on Inner Outer errors.Memory part whole grows leads fails = grows fails

@@ -1,7 +1,8 @@
 -- Which plan a file describes, and what reading it answers.
-use Rattle.std.specs.Prelude.{◌≡◌, ℕ, List, [], if◌then◌else◌, Option, Some, None, Result, Ok, Err}
+use Rattle.std.specs.Prelude.{◌≡◌, ℕ, List, [], if◌then◌else◌, IsTrue, Option, Some, None, Result, Ok, Err}
 use Rattle.std.specs.Str.{is_utf8}
 use Rattle.toml.specs.Data.{Members}
+use Rattle.toml.specs.Errors.{IsBlank}
 use Rattle.toml.specs.Parse.{parse_document}
 use Rattle.j39_plan.specs.declared.plan.Plan.{Plan}
 use Rattle.j39_plan.specs.declared.reading.plan_error.PlanError.{PlanError}
@@ -27,6 +28,10 @@ Described tree p = (faults tree ≡ []) × Holds tree p
 -- the tree of a text, where the bytes are UTF-8 and TOML
 abbrev pub tree_of : List ℕ → Option Members
 tree_of bytes = if is_utf8 bytes then parse_document bytes else None
+
+-- reading the bytes may ask for room: they are UTF-8, and not white space and comments alone
+abbrev pub MayAskForRoom : List ℕ → Type 0
+MayAskForRoom bytes = IsTrue (is_utf8 bytes) × ¬ IsBlank bytes
 
 -- the plan that the tree describes, or its first fault, or that there is no tree, unless memory ran out
 abbrev pub Reads : Result Plan PlanError → Option Members → Type 0

@@ -36,9 +36,15 @@ group_labels tree = labels_of group_label (tables_of group_rule tree)
 abbrev pub no_label : Data → List ℕ
 no_label d = []
 
+abbrev pub units_faults : Members → List Fault
+units_faults tree = each_faults unit_faults unit_label 0 [] (tables_of unit_rule tree)
+
+abbrev pub groups_faults : Members → List Fault
+groups_faults tree = each_faults group_faults group_label 0 [] (tables_of group_rule tree)
+
+abbrev pub flows_faults : Members → List Fault
+flows_faults tree = each_faults (λ i seen. flow_faults (group_labels tree) (unit_labels tree) i) no_label 0 [] (tables_of flow_rule tree)
+
 -- the top table's keys, then the units, the groups and the flows, each in order
 abbrev pub faults : Members → List Fault
-faults tree = table_faults at.Top top_rules tree
-    ++ (each_faults unit_faults unit_label 0 [] (tables_of unit_rule tree)
-    ++ (each_faults group_faults group_label 0 [] (tables_of group_rule tree)
-    ++ each_faults (λ i seen. flow_faults (group_labels tree) (unit_labels tree) i) no_label 0 [] (tables_of flow_rule tree)))
+faults tree = table_faults at.Top top_rules tree ++ (units_faults tree ++ (groups_faults tree ++ flows_faults tree))

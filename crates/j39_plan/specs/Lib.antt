@@ -7,6 +7,7 @@ pub mod Findings
 pub mod Flows
 pub mod Found
 pub mod Groups
+pub mod Growing
 pub mod Labels
 pub mod Outcome
 pub mod Places

@@ -8,13 +8,21 @@ abbrev pub first : List Fault → Option Fault
 first [] = None
 first (f ∷ fs) = Some f
 
--- the first fault, unless memory ran out
-abbrev pub Fails : PlanError → List Fault → Type 0
-Fails errors.Text faults = ⊥
-Fails (errors.Fault f) faults = first faults ≡ Some f
-Fails errors.Memory faults = Unit {0}
+-- the first fault, or want of memory where room may have been asked for before it
+abbrev pub FailsGrowing : Type 0 → PlanError → List Fault → Type 0
+FailsGrowing MayGrow errors.Text faults = ⊥
+FailsGrowing MayGrow (errors.Fault f) faults = first faults ≡ Some f
+FailsGrowing MayGrow errors.Memory faults = MayGrow
 
--- such a value, where there is no fault, or else the first fault
+-- the first fault
+abbrev pub Fails : PlanError → List Fault → Type 0
+Fails = FailsGrowing ⊥
+
+-- such a value, where there is no fault, or else the first fault, or want of memory where room may have been asked for
+abbrev pub GivesGrowing : {X : Type 0} → Type 0 → Result X PlanError → List Fault → (X → Type 0) → Type 0
+GivesGrowing MayGrow (Ok x) faults Is = (faults ≡ []) × Is x
+GivesGrowing MayGrow (Err e) faults Is = FailsGrowing MayGrow e faults
+
+-- such a value, where there is no fault, or else the first fault: nothing is asked of memory
 abbrev pub Gives : {X : Type 0} → Result X PlanError → List Fault → (X → Type 0) → Type 0
-Gives (Ok x) faults Is = (faults ≡ []) × Is x
-Gives (Err e) faults Is = Fails e faults
+Gives = GivesGrowing ⊥

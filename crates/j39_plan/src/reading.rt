@@ -1,9 +1,10 @@
 //! Reading a plan file.
-ghost use Rattle.std.specs.Prelude.{◌≡◌};
+ghost use Rattle.std.specs.Prelude.{◌≡◌, IsErrOf};
 ghost use Rattle.toml.specs.View.{table_view};
-ghost use Rattle.j39_plan.specs.Outcome.{Gives};
+ghost use Rattle.j39_plan.specs.Outcome.{GivesGrowing};
+ghost use Rattle.j39_plan.specs.Growing.{PlanGrows};
 ghost use Rattle.j39_plan.specs.Faults.{faults};
-ghost use Rattle.j39_plan.specs.Described.{Holds, tree_of, Reads};
+ghost use Rattle.j39_plan.specs.Described.{Holds, tree_of, Reads, MayAskForRoom};
 
 mod cause;
 mod elements;
@@ -40,7 +41,7 @@ const TOP_KEYS: [Key; 4] = [Key::Version, Key::Unit, Key::Group, Key::Flow];
 
 #[tactic(auto, using(crate::proofs::FirstFaults::faults_after))]
 fn read_top(alloc: Global, members: &toml::Table) -> Result<Plan, PlanError>
-    ensures { Gives result (faults (table_view members.now)) (Holds (table_view members.now)) }
+    ensures { GivesGrowing (PlanGrows (table_view members.now)) result (faults (table_view members.now)) (Holds (table_view members.now)) }
 {
     only(members, Table::Top, &TOP_KEYS)?;
     number(members, Table::Top, Key::Version, 1, 1, None)?;
@@ -66,9 +67,11 @@ fn read_top(alloc: Global, members: &toml::Table) -> Result<Plan, PlanError>
 
 /// The plan that a file describes: TOML of UTF-8 bytes, at most 128 units, 256 groups of 64 signals and 512 flows.
 ///
-/// Refuses bytes that are no TOML text, and else the first fault, in the order of the file's tables and keys.
+/// Refuses bytes that are no TOML text, and else the first fault, in the order of the file's tables and keys. Takes no
+/// memory of bytes that are no UTF-8, or white space and comments alone.
 pub fn read_plan(alloc: Global, bytes: &[u8]) -> Result<Plan, PlanError>
-    ensures { Reads result (tree_of bytes.now) }
+    ensures reads { Reads result (tree_of bytes.now) }
+    ensures memory { IsErrOf result PlanError.Memory → MayAskForRoom bytes.now }
 {
     let text = match str::from_utf8(bytes) {
         Ok(text) => text,

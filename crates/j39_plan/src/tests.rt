@@ -137,16 +137,68 @@ fn files_are_refused_for_their_first_fault(rt: HostRuntime) {
     }
 }
 
-#[test]
-fn the_129th_unit_is_one_too_many(rt: HostRuntime) -> Result<(), Fail> {
-    let alloc = rt.alloc();
-    let mut file = String::new(alloc);
-    file.push_str("version = 1\n")?;
-    for _ in 0..129 {
-        file.push_str("[[unit]]\n")?;
+// The refusal of a file in which a line stands so many times behind others.
+fn refusal_of_many(
+    alloc: Global,
+    front: &str,
+    line: &str,
+    count: u32,
+) -> Result<Option<PlanError>, Fail> {
+    let mut file = String::from_str(alloc, front)?;
+    for _ in 0..count {
+        file.push_str(line)?;
     }
-    let expected = fault(Cause::TooMany, Table::Top, Some(Key::Unit));
-    assert_eq!(rt; refusal(alloc, file.as_bytes()), expected);
+    Ok(refusal(alloc, file.as_bytes()))
+}
+
+#[test]
+fn one_more_than_the_limit_is_too_many(rt: HostRuntime) -> Result<(), Fail> {
+    let top = "version = 1\n";
+    let group = "version = 1\n[[group]]\nlabel = \"VI\"\npgn = 65260\npriority = 6\nlength = 17\n";
+    let arrays = [
+        (top, "[[unit]]\n", 129, Table::Top, Key::Unit),
+        (top, "[[group]]\n", 257, Table::Top, Key::Group),
+        (top, "[[flow]]\n", 513, Table::Top, Key::Flow),
+        (
+            group,
+            "[[group.signal]]\n",
+            65,
+            Table::Group(0),
+            Key::Signal,
+        ),
+    ];
+    for (front, line, count, table, key) in arrays {
+        let refused = refusal_of_many(rt.alloc(), front, line, count)?;
+        assert_eq!(rt; refused, fault(Cause::TooMany, table, Some(key)), "{count}");
+    }
+    Ok(())
+}
+
+#[test]
+fn labels_are_given_once_and_known(rt: HostRuntime) -> Result<(), Fail> {
+    let unit = "[[unit]]\nlabel = \"A\"\naddress = 0\nname = { identity = 1 }\n";
+    let group = "[[group]]\nlabel = \"G\"\npgn = 1\npriority = 6\nlength = 8\n";
+    let signal = "[[group.signal]]\nlabel = \"S\"\nbyte = 1\nbits = 8\nkind = \"raw\"\n";
+    let of_no_group = "[[flow]]\ngroup = \"Z\"\nfrom = \"A\"\nto = \"all\"\n";
+    let to_nobody = "[[flow]]\ngroup = \"G\"\nfrom = \"A\"\nto = \"Z\"\n";
+    let repeated = Cause::Repeated;
+    let unknown = Cause::UnknownLabel;
+    let files = [
+        ([group, group, ""], repeated, Table::Group(1), Key::Label),
+        (
+            [group, signal, signal],
+            repeated,
+            Table::Signal(0, 1),
+            Key::Label,
+        ),
+        ([unit, of_no_group, ""], unknown, Table::Flow(0), Key::Group),
+        ([unit, group, to_nobody], unknown, Table::Flow(0), Key::To),
+    ];
+    for ([first, second, third], cause, table, key) in files {
+        let file = format!(in rt.alloc(); "version = 1\n{first}{second}{third}")?;
+        let refused = refusal(rt.alloc(), file.as_bytes());
+        assert_eq!(rt; refused, fault(cause, table, Some(key)), "{third}");
+    }
     Ok(())
 }
 

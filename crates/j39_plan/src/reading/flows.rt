@@ -79,6 +79,7 @@ fn flow(
 }
 
 impl ReadElement<FlowPlan> for Flows<'_> {
+    ghost use Rattle.j39_plan.specs.Growing.{NeverGrows};
     ghost use Rattle.j39_plan.specs.Faults.{no_label};
     ghost use Rattle.j39_plan.specs.Flows.{flow_faults, IsFlowOf};
 
@@ -87,6 +88,8 @@ impl ReadElement<FlowPlan> for Flows<'_> {
     ghost label_of = { no_label };
 
     ghost faults = { λ r i seen. flow_faults (map (λ g. g.label.bytes) r.groups.now) (map (λ u. u.label.bytes) r.units.now) i };
+
+    ghost Grows = { λ _. NeverGrows };
 
     ghost Tells = { λ r. IsFlowOf (map (λ g. g.label.bytes) r.groups.now) (map (λ u. u.label.bytes) r.units.now) };
 

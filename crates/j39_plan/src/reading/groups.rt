@@ -1,7 +1,8 @@
 //! The groups of a plan.
 ghost use Rattle.std.specs.Prelude.{◌≡◌, map};
 ghost use Rattle.toml.specs.View.{view, table_view};
-ghost use Rattle.j39_plan.specs.Outcome.{Gives};
+ghost use Rattle.j39_plan.specs.Outcome.{GivesGrowing};
+ghost use Rattle.j39_plan.specs.Growing.{GroupGrows};
 ghost use Rattle.j39_plan.specs.Groups.{group_table_faults, TellsGroup};
 
 use super::elements::{ReadElement, read_each};
@@ -25,7 +26,8 @@ const GROUP_KEYS: [Key; 5] = [
 
 #[tactic(auto, using(crate::proofs::FirstFaults::faults_after))]
 fn group(alloc: Global, index: usize, members: &toml::Table) -> Result<GroupPlan, PlanError>
-    ensures { Gives result (group_table_faults index (table_view members.now)) (TellsGroup (table_view members.now)) }
+    ensures { GivesGrowing (GroupGrows index (table_view members.now)) result
+        (group_table_faults index (table_view members.now)) (TellsGroup (table_view members.now)) }
 {
     let table = Table::Group(index);
     only(members, table, &GROUP_KEYS)?;
@@ -49,6 +51,7 @@ fn group(alloc: Global, index: usize, members: &toml::Table) -> Result<GroupPlan
 pub struct Groups;
 
 impl ReadElement<GroupPlan> for Groups {
+    ghost use Rattle.j39_plan.specs.Growing.{GroupElementGrows};
     ghost use Rattle.j39_plan.specs.Groups.{group_faults, group_label, IsGroupOf};
 
     ghost label_bytes = { λ g. g.label.bytes };
@@ -56,6 +59,8 @@ impl ReadElement<GroupPlan> for Groups {
     ghost label_of = { group_label };
 
     ghost faults = { λ _. group_faults };
+
+    ghost Grows = { λ _. GroupElementGrows };
 
     ghost Tells = { λ _. IsGroupOf };
 

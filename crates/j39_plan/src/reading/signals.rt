@@ -87,6 +87,7 @@ pub struct Signals {
 }
 
 impl ReadElement<Signal> for Signals {
+    ghost use Rattle.j39_plan.specs.Growing.{NeverGrows};
     ghost use Rattle.j39_plan.specs.Signals.{signal_faults, signal_label, IsSignalOf, IsFit};
 
     ghost label_bytes = { λ s. s.label.bytes };
@@ -94,6 +95,8 @@ impl ReadElement<Signal> for Signals {
     ghost label_of = { signal_label };
 
     ghost faults = { λ r. signal_faults r.group };
+
+    ghost Grows = { λ _. NeverGrows };
 
     ghost Tells = { λ _ d s. IsSignalOf d s × IsFit s };
 

@@ -82,6 +82,7 @@ fn unit(index: usize, members: &toml::Table) -> Result<UnitPlan, PlanError>
 pub struct Units;
 
 impl ReadElement<UnitPlan> for Units {
+    ghost use Rattle.j39_plan.specs.Growing.{NeverGrows};
     ghost use Rattle.j39_plan.specs.Units.{unit_faults, unit_label, IsUnitOf};
 
     ghost label_bytes = { λ u. u.label.bytes };
@@ -89,6 +90,8 @@ impl ReadElement<UnitPlan> for Units {
     ghost label_of = { unit_label };
 
     ghost faults = { λ _. unit_faults };
+
+    ghost Grows = { λ _. NeverGrows };
 
     ghost Tells = { λ _. IsUnitOf };
 

@@ -1,0 +1,36 @@
+-- Where reading a plan file asks for room: behind an element that was read. Want of memory is answered nowhere else.
+use Rattle.std.specs.Prelude.{◌≡◌, ◌⊎◌, ℕ, List, []}
+use Rattle.toml.specs.Data.{Data, Items, no_items, item, Members}
+use Rattle.j39_plan.specs.declared.reading.fault.Fault.{Fault}
+use Rattle.j39_plan.specs.declared.reading.place.Table.TheVariants as at
+use Rattle.j39_plan.specs.Schema.{tables_of}
+use Rattle.j39_plan.specs.TableFaults.{table_faults}
+use Rattle.j39_plan.specs.Elements.{inside}
+use Rattle.j39_plan.specs.Signals.{signal_faults}
+use Rattle.j39_plan.specs.Units.{unit_faults}
+use Rattle.j39_plan.specs.Groups.{group_rules, signal_rule, group_faults}
+use Rattle.j39_plan.specs.Flows.{flow_faults}
+use Rattle.j39_plan.specs.Faults.{top_rules, unit_rule, group_rule, flow_rule, units_faults, groups_faults, group_labels, unit_labels}
+
+-- the reader of an element asks for none
+abbrev pub NeverGrows : ℕ → Data → Type 0
+NeverGrows i d = ⊥
+
+-- room is asked for among elements: behind the first, which has no fault, or in reading it
+abbrev pub EachGrows : (ℕ → List (List ℕ) → Data → List Fault) → (ℕ → Data → Type 0) → Items → Type 0
+EachGrows faults Grows no_items = ⊥
+EachGrows faults Grows (item d ds) = Grows 0 d ⊎ (faults 0 [] d ≡ [])
+
+-- in a group, whose table has no fault, among its signals
+abbrev pub GroupGrows : ℕ → Members → Type 0
+GroupGrows g ms = (table_faults (at.Group g) group_rules ms ≡ []) × EachGrows (signal_faults g) NeverGrows (tables_of signal_rule ms)
+
+abbrev pub GroupElementGrows : ℕ → Data → Type 0
+GroupElementGrows g d = GroupGrows g (inside d)
+
+-- in a plan, whose top table has no fault, among its units, behind these among its groups, or behind these among its flows
+abbrev pub PlanGrows : Members → Type 0
+PlanGrows tree = (table_faults at.Top top_rules tree ≡ [])
+    × (EachGrows unit_faults NeverGrows (tables_of unit_rule tree)
+    ⊎ ((units_faults tree ≡ []) × (EachGrows group_faults GroupElementGrows (tables_of group_rule tree)
+    ⊎ ((groups_faults tree ≡ []) × EachGrows (λ i seen. flow_faults (group_labels tree) (unit_labels tree) i) NeverGrows (tables_of flow_rule tree)))))
