@@ -10,8 +10,12 @@ use Rattle.j39_plan.specs.declared.plan.Plan.{Plan}
 use Rattle.j39_plan.specs.declared.steps.Step.{Step}
 use Rattle.j39_bus.specs.World.{World, Undelivered, first}
 use Rattle.j39_bus.specs.Run.{Run}
+use Rattle.j39_bus.specs.Claimants.{units_of}
+use Rattle.j39_bus.specs.Opening.{AreNamesDistinct}
+use Rattle.j39_bus.specs.Settling.{Settles}
 use Rattle.j39_bus.specs.Sound.{AreAddressesSound, AreAddressesDifferent, IsQuiet, AreReportsSound, IsAcknowledgedReported}
 use Rattle.j39_bus.specs.SoundPlan.{IsSound}
+use Rattle.j39_bus.proofs.CleanUnits.{clean_units}
 
 none_in : (x : Item) → ¬ Contains [] x
 none_in x (k, inside, is) = absurd (omega arith)
@@ -26,14 +30,16 @@ quiet_where_empty claims empty u v = (
 pub sound_by_laws : (plan : Plan) → Clean plan
     → ((p : Plan) (steps : List Step) (w : World) → Clean p → Run p first steps w → AreAddressesSound p w)
     → ((p : Plan) (steps : List Step) (w : World) → Clean p → Run p first steps w → IsQuiet w.claims → AreAddressesDifferent w)
+    → ((p : Plan) (steps : List Step) (w : World) → AreNamesDistinct (units_of p) → Run p first steps w → Settles p w)
     → ((p : Plan) → Clean p → SoundSignals p)
     → ((p : Plan) (steps : List Step) (w : World) → Run p first steps w → AreReportsSound w)
     → ((p : Plan) (steps : List Step) (w : World) → Run p first steps w → IsAcknowledgedReported w)
     → IsSound plan
-sound_by_laws plan clean addresses different signals reports acknowledged = record {
+sound_by_laws plan clean addresses different settles signals reports acknowledged = record {
   addresses = λ steps w run. addresses plan steps w clean run;
   quiet = λ steps w run. different plan steps w clean run;
   sending = λ steps w run (u, o, is). different plan steps w clean run (quiet_where_empty w.claims ((reports plan steps w run).settled u o is));
+  settles = λ steps w run. settles plan steps w (λ i j one. (clean_units plan clean).names i j one.below one.inside one.same) run;
   signals = signals plan clean;
   reports = λ steps w run. reports plan steps w run;
   acknowledged = λ steps w run. acknowledged plan steps w run;

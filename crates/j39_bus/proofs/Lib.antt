@@ -47,6 +47,14 @@ mod KeptWorlds
 mod SenderSteps
 mod ReceiverSteps
 mod SoundRuns
+mod Totals
+mod Changes
+mod Responses
+mod Measure
+mod Lowered
+mod ClaimRuns
+mod Deliveries
+mod SettlingRuns
 pub mod Certified
 pub mod Simulated
 pub mod GreatestFree

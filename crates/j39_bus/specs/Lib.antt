@@ -9,6 +9,7 @@ pub mod TransferSteps
 pub mod Resting
 pub mod Run
 pub mod Sound
+pub mod Settling
 pub mod SoundPlan
 pub mod Letters
 pub mod BusState

@@ -1,4 +1,4 @@
--- What a plan without findings has: its addresses, its signals and its reports are sound.
+-- What a plan without findings has: its addresses, its signals and its reports are sound, and its claims die down.
 use Rattle.std.specs.Prelude.{◌≡◌, ℕ, List, Some}
 use Rattle.j39_plan.specs.SoundSignals.{SoundSignals}
 use Rattle.j39_plan.specs.declared.plan.Plan.{Plan}
@@ -6,6 +6,7 @@ use Rattle.j39_plan.specs.declared.steps.Step.{Step}
 use Rattle.j39_bus.specs.Transfers.{Outgoing}
 use Rattle.j39_bus.specs.World.{World, first}
 use Rattle.j39_bus.specs.Run.{Run}
+use Rattle.j39_bus.specs.Settling.{Settles}
 use Rattle.j39_bus.specs.Sound.{AreAddressesSound, AreAddressesDifferent, IsQuiet, AreReportsSound, IsAcknowledgedReported}
 
 -- it holds in every world of every run of the plan, with all lawful choices and whatever is lost
@@ -22,6 +23,8 @@ pub record IsSound (plan : Plan) : Type 0 where
   -- where no claim is undelivered, and while any message is sent, no two units hold one address
   pub quiet : Always plan (λ w. IsQuiet w.claims → AreAddressesDifferent w)
   pub sending : Always plan (λ w. IsSending w → AreAddressesDifferent w)
+  -- whoever goes on delivering claims comes to an end, where nothing is undelivered
+  pub settles : Always plan (Settles plan)
   -- whatever is written to a group's signals, each reads back what it was last given
   pub signals : SoundSignals plan
   -- what a unit reports of another was begun by that one, in this order, and nothing twice

@@ -4,7 +4,10 @@ ghost use Rattle.j39_plan.specs.Findings.{Clean};
 ghost use Rattle.j39_plan.specs.declared.plan.Plan.{Plan as Plans};
 ghost use Rattle.j39_plan.specs.declared.steps.Step.{Step as Steps};
 ghost use Rattle.j39_bus.specs.World.{World, first};
+ghost use Rattle.j39_bus.specs.Claimants.{units_of};
+ghost use Rattle.j39_bus.specs.Opening.{AreNamesDistinct};
 ghost use Rattle.j39_bus.specs.Run.{Run, RunsThrough};
+ghost use Rattle.j39_bus.specs.Settling.{Settles};
 ghost use Rattle.j39_bus.specs.Sound.{AreAddressesSound, AreAddressesDifferent, IsQuiet, AreReportsSound, IsAcknowledgedReported};
 
 /// In every world of every run of a plan without findings, with all lawful choices, addresses are sound: each unit that is on holds
@@ -23,6 +26,13 @@ pub fn reports_are_sound()
 /// In every world of every run, a sender that rests acknowledged sends to one unit, and what this unit reported of it last is the message.
 pub fn acknowledged_messages_were_reported()
     ensures { (plan : Plans) (steps : List Steps) (w : World) → Run plan first steps w → IsAcknowledgedReported w }
+{}
+
+/// From each world of each run of a plan whose NAMEs differ, whoever goes on delivering what claimants have told each other comes to
+/// an end, in whatever order and with whatever lawful choices: no more Gives than a given number run through, and where none does,
+/// nothing is undelivered. It says nothing of time.
+pub fn claims_die_down()
+    ensures { (plan : Plans) (steps : List Steps) (w : World) → AreNamesDistinct (units_of plan) → Run plan first steps w → Settles plan w }
 {}
 
 /// What a bus runs without a refusal is a run, so that what holds in every run holds of it.

@@ -32,7 +32,7 @@ pub use bus_error::BusError;
 pub use certificate::certify;
 pub use ended::{Ended, UnitState};
 pub use laws::{
-    acknowledged_messages_were_reported, addresses_are_sound, reports_are_sound,
+    acknowledged_messages_were_reported, addresses_are_sound, claims_die_down, reports_are_sound,
     runs_through_are_runs,
 };
 pub use report::Report;
