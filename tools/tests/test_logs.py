@@ -1,0 +1,79 @@
+"""The routes from logs of other tools to `read`, as docs/GUIDE.md shows them."""
+
+import os
+import re
+import shutil
+import subprocess
+import sys
+import unittest
+
+import program
+from tests.support import TOP, InFolder, example, needs, text_of
+
+PLAN = example("tractor_and_implement.toml")
+LOG = example("tractor_and_implement.start.log")
+
+# The log without its bad line.
+LINES = [line for line in text_of(LOG).splitlines() if not line.endswith(" R")]
+
+GUIDE = text_of(os.path.join(TOP, "docs", "GUIDE.md"))
+
+
+class Logs(InFolder):
+    def read(self, name):
+        """What `read` says of a log, its counts apart."""
+        status, answer = program.call(["read", PLAN, name])
+        self.assertEqual(status, 0)
+        return answer.splitlines()[:-1], answer.splitlines()[-1]
+
+    def shown(self, line):
+        """Runs a line that the guide shows."""
+        self.assertIn(line, GUIDE.replace("\\|", "|"))
+        self.shell(line)
+
+    def shell(self, line):
+        """Runs a line in the folder."""
+        path = os.pathsep.join([os.path.dirname(sys.executable), os.environ["PATH"]])
+        subprocess.run(["sh", "-c", line], cwd=self.folder, check=True, capture_output=True, env={**os.environ, "PATH": path})
+
+    def reports(self):
+        """What `read` says of the log itself."""
+        return self.read(self.write("plain.log", "".join(f"{line}\n" for line in LINES)))
+
+    def test_words_behind_the_data(self):
+        for ending in (" R\n", " T\n", " R\r\n"):
+            marked = self.write("start.log", "".join(f"{line}{ending}" for line in LINES))
+            self.assertEqual(self.read(marked), ([], f"frames 0 skipped 0 bad {len(LINES)}"))
+            self.shown(r"sed -E 's/ [RT]\r?$//' start.log > mended.log")
+            self.assertEqual(self.read(self.path("mended.log")), self.reports())
+
+    def test_one_interface_of_several(self):
+        other = [line.replace(" can0 ", " can1 ") for line in LINES]
+        self.write("start.log", "".join(f"{line}\n" for both in zip(LINES, other) for line in both))
+        self.shown("grep ' can0 ' start.log > can0.log")
+        self.assertEqual(self.read(self.path("can0.log")), self.reports())
+
+    @unittest.skipUnless(shutil.which("asc2log") and shutil.which("log2asc"), "apt-get install can-utils")
+    def test_asc_by_can_utils(self):
+        lines = self.write("plain.log", "".join(f"{line}\n" for line in LINES))
+        with open(self.path("drive.asc"), "wb") as drive:
+            subprocess.run(["log2asc", "-I", lines, "can0"], stdout=drive, check=True)
+        self.shown(r"asc2log < drive.asc | sed -E 's/ [RT]\r?$//' > drive.log")
+        self.assertEqual(self.read(self.path("drive.log")), self.reports())
+
+    @needs("can", "python3-can")
+    def test_asc_blf_and_trc_by_python_can(self):
+        import can
+        convert, mend = re.search(r"`(python3 -m can\.logconvert [^`]*)`, then `([^`]*)`", GUIDE).groups()
+        messages = list(can.LogReader(self.write("plain.log", "".join(f"{line}\n" for line in LINES))))
+        for ending in ("asc", "blf", "trc"):
+            with can.Logger(self.path(f"drive.{ending}")) as logger:
+                for message in messages:
+                    logger(message)
+            self.shell(convert.replace("drive.blf", f"drive.{ending}"))
+            self.shell(mend)
+            self.assertEqual(self.read(self.path("drive.log")), self.reports(), ending)
+
+
+if __name__ == "__main__":
+    unittest.main()
