@@ -1,9 +1,8 @@
 -- Why a message is not begun.
-use Rattle.std.proofs.Common.{◌≡◌, ℕ, suc, ◌<◌, Bool, true, not, ◌==◌, ltb, List, [], ◌∷◌, length, map, get_or, refl, sym, ap, ◌∙◌, arith, Option, Some, None, is_some}
+use Rattle.std.proofs.Common.{◌≡◌, ℕ, zero, suc, ◌<◌, ◌≤◌, Bool, true, false, not, ◌==◌, ltb, List, [], ◌∷◌, length, map, get_or, refl, sym, ap, ◌∙◌, subst, arith, Option, Some, None, is_some}
 use Rattle.std.proofs.lemmas.List.{get_or-map, length-map}
-use Rattle.std.proofs.lemmas.Bool.{eq-eqb, ne_eqb, and_parts, ltb-true}
+use Rattle.std.proofs.lemmas.Bool.{eq-eqb, eqb-true, ne_eqb, and_parts, ltb-true}
 use Rattle.std.specs.List.{list_all, range_with_len, slice_get}
-use Rattle.j39_plan.specs.declared.plan.Plan.{Plan}
 use Rattle.j39_bus.specs.declared.letter.Letter.{Letter}
 use Rattle.j39_bus.specs.declared.network.Network.{Network}
 use Rattle.j39_bus.specs.declared.route.Route.{Route}
@@ -12,26 +11,50 @@ use Rattle.j39_bus.specs.declared.transfer.Transfer as made
 use Rattle.j39_bus.specs.BusState.{session_at}
 use Rattle.j39_bus.specs.Flows.{Flow, flows_of, can_be_sent}
 use Rattle.j39_bus.specs.Letters.{between, is_inside}
-use Rattle.j39_bus.specs.Network.{IsOf}
-use Rattle.j39_bus.specs.Run.{at_ends, begin_refusal, count_of, has_address, is_nothing_undelivered, is_on, unless}
-use Rattle.j39_bus.specs.Traffic.{route_of, values_of}
+use Rattle.j39_plan.specs.declared.plan.Plan.{Plan}
+use Rattle.j39_bus.specs.Network.{Histories, IsNetwork, IsOf, world_of}
+use Rattle.j39_bus.specs.Run.{at_ends, begin_refusal, has_address, is_nothing_undelivered, is_on, unless}
+use Rattle.j39_bus.specs.Traffic.{IsRoute, route_of, values_of}
 use Rattle.j39_bus.specs.World.{World}
 use Rattle.j39_bus.proofs.AlongMessages.{session_of}
 use Rattle.j39_bus.proofs.Opened.{got}
+use Rattle.j39_bus.proofs.Refused.{nowhere}
 use Rattle.j39_bus.proofs.Rested.{all_below, not_below, some_session}
 
-module _ (plan : Plan) (net : Network) (of : IsOf plan net) (f : ℕ) (r : Route) (inside : f < length net.traffic.routes.items) (at : r ≡ get_or net.traffic.routes.items f r) where
-  pub flow_is : slice_get (flows_of plan) f ≡ Some (route_of r)
-  flow_is = ap (λ (fs : List Flow). slice_get fs f) (sym of.flows)
-      ∙ got (map route_of net.traffic.routes.items) f (route_of r) (omega (arith, inside, length-map net.traffic.routes.items route_of))
+begin_parts : (a b c d e f : Bool)
+    → unless a NoSuchFlow (unless b NotStarted (unless c NotSettled (unless d NoAddress (unless e Busy (unless f WrongLength None))))) ≡ None → (e ≡ true) × (f ≡ true)
+begin_parts true true true true true true is = (refl, refl)
+begin_parts true true true true true false is = absurd (cc is)
+begin_parts true true true true false f is = absurd (cc is)
+begin_parts true true true false e f is = absurd (cc is)
+begin_parts true true false d e f is = absurd (cc is)
+begin_parts true false c d e f is = absurd (cc is)
+begin_parts false b c d e f is = absurd (cc is)
+
+module _ (net : Network) (f : ℕ) (r : Route) (inside : f < length net.traffic.routes.items) (at : r ≡ get_or net.traffic.routes.items f r) where
+  pub flow_is : slice_get (map route_of net.traffic.routes.items) f ≡ Some (route_of r)
+  flow_is = got (map route_of net.traffic.routes.items) f (route_of r) (omega (arith, inside, length-map net.traffic.routes.items route_of))
       (ap route_of at ∙ sym (get_or-map route_of net.traffic.routes.items f r (route_of r) inside))
 
-  pub refusal_by : (w : World) (bytes : List ℕ) → can_be_sent (route_of r) ≡ true → at_ends (is_on w) r.sender r.to ≡ true → (a b c d : Bool)
-      → is_nothing_undelivered (count_of plan) w.claims ≡ a → at_ends (has_address w) r.sender r.to ≡ b → not (is_some (w.sessions r.sender)) ≡ c → (length bytes == r.length) ≡ d
-      → begin_refusal (count_of plan) w (slice_get (flows_of plan) f) bytes ≡ unless a NotSettled (unless b NoAddress (unless c Busy (unless d WrongLength None)))
-  refusal_by w bytes sendable started a b c d a_is b_is c_is d_is =
-      ap (λ (o : Option Flow). begin_refusal (count_of plan) w o bytes) flow_is
+  pub refusal_by : (n : ℕ) (w : World) (bytes : List ℕ) (x y a b c d : Bool) → can_be_sent (route_of r) ≡ x → at_ends (is_on w) r.sender r.to ≡ y
+      → is_nothing_undelivered n w.claims ≡ a → at_ends (has_address w) r.sender r.to ≡ b → not (is_some (w.sessions r.sender)) ≡ c → (length bytes == r.length) ≡ d
+      → begin_refusal n w (slice_get (map route_of net.traffic.routes.items) f) bytes
+      ≡ unless x NoSuchFlow (unless y NotStarted (unless a NotSettled (unless b NoAddress (unless c Busy (unless d WrongLength None)))))
+  refusal_by n w bytes x y a b c d sendable started a_is b_is c_is d_is =
+      ap (λ (o : Option Flow). begin_refusal n w o bytes) flow_is
       ∙ (λ i. unless (sendable i) NoSuchFlow (unless (started i) NotStarted (unless (a_is i) NotSettled (unless (b_is i) NoAddress (unless (c_is i) Busy (unless (d_is i) WrongLength None))))))
+
+  pub begin_met : (n : ℕ) (w : World) (bytes : List ℕ) → begin_refusal n w (slice_get (map route_of net.traffic.routes.items) f) bytes ≡ None
+      → (not (is_some (w.sessions r.sender)) ≡ true) × ((length bytes == r.length) ≡ true)
+  begin_met n w bytes allowed =
+      begin_parts (can_be_sent (route_of r)) (at_ends (is_on w) r.sender r.to) (is_nothing_undelivered n w.claims) (at_ends (has_address w) r.sender r.to)
+      (not (is_some (w.sessions r.sender))) (length bytes == r.length) (ap (λ (o : Option Flow). begin_refusal n w o bytes) (sym flow_is) ∙ allowed)
+
+-- a message is begun by a flow alone
+pub flow_inside : (n : ℕ) (w : World) (flows : List Flow) (f : ℕ) (bytes : List ℕ) → begin_refusal n w (slice_get flows f) bytes ≡ None → f < length flows
+flow_inside n w [] f bytes allowed = absurd (cc allowed)
+flow_inside n w (x ∷ flows) zero bytes allowed = omega arith
+flow_inside n w (x ∷ flows) (suc f) bytes allowed = let less : f < length flows = flow_inside n w flows f bytes allowed in omega arith
 
 -- nothing is undelivered where there is no letter
 pub settled_by : (n : ℕ) (ls : List Letter) → list_all (is_inside n) ls ≡ true → is_nothing_undelivered n (between ls) ≡ (length ls == 0)
@@ -46,3 +69,37 @@ settled_by n (l ∷ ls) inside =
 -- a unit sends nothing where it has no message
 pub idle_is : (ts : List (Option made.Transfer)) (u : ℕ) → u < length ts → not (is_some (session_at (values_of ts) u)) ≡ not (is_some (get_or ts u None))
 idle_is ts u inside = ap not (ap is_some (session_of ts u inside) ∙ some_session (get_or ts u None))
+
+pub idle_of : (ts : List (Option made.Transfer)) (u : ℕ) → u < length ts → not (is_some (session_at (values_of ts) u)) ≡ true → get_or ts u None ≡ None
+idle_of ts u inside idle = none_there (get_or ts u None) (sym (idle_is ts u inside) ∙ idle)
+  where
+    none_there : (o : Option made.Transfer) → not (is_some o) ≡ true → o ≡ None
+    none_there None is = refl
+    none_there (Some t) is = absurd (cc is)
+
+-- ---- a message that may be begun
+module _ (net : Network) (well : IsNetwork net) (f : ℕ) (bytes : List ℕ)
+    (allowed : (h : Histories) → begin_refusal (length net.claimers.items) (world_of h net) (slice_get (map route_of net.traffic.routes.items) f) bytes ≡ None)
+    (r : Route) (at : r ≡ get_or net.traffic.routes.items f r) where
+  pub inside_routes : f < length net.traffic.routes.items
+  inside_routes =
+      let inside : f < length (map route_of net.traffic.routes.items) =
+      flow_inside (length net.claimers.items) (world_of nowhere net) (map route_of net.traffic.routes.items) f bytes (allowed nowhere) in
+      omega (arith, inside, length-map net.traffic.routes.items route_of)
+
+  pub route_fits : IsRoute (length net.claimers.items) r
+  route_fits = subst (IsRoute (length net.claimers.items)) (sym at) (well.traffic.flows f r inside_routes)
+
+  pub is_idle : get_or net.traffic.transfers.items r.sender None ≡ None
+  is_idle =
+      let sender : r.sender < length net.traffic.transfers.items = omega (arith, route_fits.sender, well.traffic.transfers.count) in
+      idle_of net.traffic.transfers.items r.sender sender (begin_met net f r inside_routes at (length net.claimers.items) (world_of nowhere net) bytes (allowed nowhere)).0
+
+  pub is_in_length : length bytes ≤ 1785
+  is_in_length =
+      let same : length bytes ≡ r.length =
+      eqb-true (length bytes) r.length (begin_met net f r inside_routes at (length net.claimers.items) (world_of nowhere net) bytes (allowed nowhere)).1 in
+      omega (arith, same, route_fits.length)
+
+  pub planned_flow : (plan : Plan) → IsOf plan net → slice_get (flows_of plan) f ≡ Some (route_of r)
+  planned_flow plan of = ap (λ (fs : List Flow). slice_get fs f) (sym of.flows) ∙ flow_is net f r inside_routes at

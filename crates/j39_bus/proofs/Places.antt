@@ -62,10 +62,10 @@ range_all test a (suc n) all x from to =
     ]
 
 pub unit_below : (plan : Plan) (u : ℕ) → is_unit plan u ≡ true → u < count_of plan
-unit_below plan u unit =
-    let less : u < length (units_of plan) = ltb-true u (length (units_of plan)) unit in
-    let same : length (units_of plan) ≡ count_of plan = length-map plan.units.items claimant_of in
-    omega arith
+unit_below plan u unit = ltb-true u (count_of plan) unit
+
+pub in_units : (plan : Plan) (u : ℕ) → is_unit plan u ≡ true → u < length (units_of plan)
+in_units plan u unit = let below : u < count_of plan = unit_below plan u unit in omega (arith, length-map plan.units.items claimant_of)
 
 pub units_all : (plan : Plan) (test : ℕ → Bool) → list_all test (range_with_len 0 (count_of plan)) ≡ true → (u : ℕ) → is_unit plan u ≡ true → test u ≡ true
 units_all plan test all u unit = let less : u < count_of plan = unit_below plan u unit in range_all test 0 (count_of plan) all u (omega arith) (omega arith)

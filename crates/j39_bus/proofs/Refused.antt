@@ -1,31 +1,144 @@
--- When a delivery is refused.
-use Rattle.std.proofs.Common.{◌≡◌, ℕ, ◌<◌, ◌≤◌, true, List, [], ◌∷◌, length, get_or, refl, sym, ap, ◌∙◌, arith, Some}
-use Rattle.std.proofs.lemmas.Bool.{lt-ltb}
+-- When a step is refused.
+use Rattle.std.proofs.Common.{◌≡◌, ◌≢◌, inl, inr, ℕ, ◌<◌, ◌==◌, Bool, true, false, not, nat_lt, is_some, List, [], ◌∷◌, length, map, get_or, refl, sym, ap, ◌∙◌, arith, Option, Some, None}
+use Rattle.std.proofs.lemmas.Bool.{and_parts, cases_lt, ltb-true, true≢false}
+use Rattle.std.specs.List.{slice_get}
+use Rattle.j39_claim.specs.declared.item.Item.{Item}
+use Rattle.j39_bus.specs.declared.letter.Letter.{Letter}
 use Rattle.j39_claim.specs.Claiming.{Claiming}
 use Rattle.j39_plan.specs.declared.plan.Plan.{Plan}
-use Rattle.j39_plan.specs.declared.steps.Step.TheVariants.{Give}
-use Rattle.j39_bus.specs.declared.step_error.StepError.TheVariants.{NothingUndelivered}
-use Rattle.j39_bus.specs.declared.letter.Letter.{Letter}
-use Rattle.j39_bus.specs.Claimants.{units_of}
-use Rattle.j39_bus.specs.Sent.{Sent}
-use Rattle.j39_bus.specs.Letters.{first_between, station_at, nobody}
+use Rattle.j39_plan.specs.declared.steps.Step.{Step}
+use Rattle.j39_plan.specs.declared.steps.Step.TheVariants.{Up, Give, Ask, Begin, Emit, Take, Lose, LateSender, LateReceiver, Rest}
+use Rattle.j39_bus.specs.declared.network.Network.{Network}
+use Rattle.j39_bus.specs.declared.step_error.StepError.{StepError}
+use Rattle.j39_bus.specs.declared.step_error.StepError.TheVariants.{UnknownUnit, NoSuchFlow, NotStarted, AlreadyStarted, NothingUndelivered, TransferOpen, NotSettled, NoAddress, Busy, WrongLength, NothingToSend, NoSession, CannotRest, Memory}
+use Rattle.j39_tp.specs.Receiver.{is_open_at}
+use Rattle.j39_bus.specs.Flows.{Flow, can_be_sent}
+use Rattle.j39_bus.specs.Resting.{can_rest}
+use Rattle.j39_bus.specs.Letters.{between, first_between, station_at, nobody}
+use Rattle.j39_bus.specs.Network.{Histories, IsOf, claimants}
 use Rattle.j39_bus.specs.World.{World}
-use Rattle.j39_bus.specs.Run.{refusal}
-use Rattle.j39_bus.specs.Network.{claimants}
+use Rattle.j39_bus.specs.Run.{at_ends, begin_refusal, both, can_emit, cause_of, has_address, is_no_transfer_open, is_nothing_undelivered, is_on, is_waiting, refusal, refusal_among, unless}
+use Rattle.j39_bus.specs.Traffic.{route_of}
+use Rattle.j39_bus.proofs.Rested.{units_count}
 use Rattle.j39_bus.proofs.Between.{nothing_between}
-use Rattle.j39_bus.proofs.Worlds.{any_default, world}
+use Rattle.j39_bus.proofs.Worlds.{any_default}
 
 pub length-claimants : (cs : List Claiming) → length (claimants cs) ≡ length cs
 length-claimants [] = refl
 length-claimants (c ∷ cs) = omega (arith, length-claimants cs)
 
-pub is_on : (cs : List Claiming) (u : ℕ) (c : Claiming) → u < length cs → c ≡ get_or cs u c → c.station.on ≡ true → (station_at cs u).on ≡ true
-is_on cs u c inside at on = ap (λ (x : Claiming). x.station.on) (sym (at ∙ any_default cs u c nobody inside)) ∙ on
+-- the unit at a place
+pub station_is : (cs : List Claiming) (u : ℕ) (c : Claiming) → u < length cs → c ≡ get_or cs u c → (station_at cs u).on ≡ c.station.on
+station_is cs u c inside at = ap (λ (x : Claiming). x.station.on) (sym (at ∙ any_default cs u c nobody inside))
 
--- two units that are on, with nothing undelivered from the first to the second
-pub nothing_to_give : (plan : Plan) (b : World) (cs : List Claiming) (ls : List Letter) (fs : List Sent) (u v : ℕ) → claimants cs ≡ units_of plan → u < length cs → v < length cs
-    → (station_at cs u).on ≡ true → (station_at cs v).on ≡ true → length ls ≤ first_between u v ls → refusal plan (world b cs ls fs) (Give u v) ≡ Some NothingUndelivered
-nothing_to_give plan b cs ls fs u v planned in_u in_v on_u on_v past =
-    let below_u : u < length (units_of plan) = omega (arith, length-claimants cs, ap length planned) in
-    let below_v : v < length (units_of plan) = omega (arith, length-claimants cs, ap length planned) in
-    rw (lt-ltb u (length (units_of plan)) below_u, lt-ltb v (length (units_of plan)) below_v, on_u, on_v, nothing_between u v ls past) refl
+-- ---- the conditions of a step in turn
+
+pub met : (b : Bool) (e : StepError) (more : Option StepError) → unless b e more ≡ None → (b ≡ true) × (more ≡ None)
+met true e more none = (refl, none)
+met false e more some = absurd (cc some)
+
+module _ (a b : Bool) (e f : StepError) where
+  -- a cause of the first two conditions is one of all
+  pub earlier : (x : StepError) (more : Option StepError) → Some x ≡ unless a e (unless b f None) → Some x ≡ unless a e (unless b f more)
+  earlier x more is = elim a as (λ a. Some x ≡ unless a e (unless b f None) → Some x ≡ unless a e (unless b f more)) [
+    | true ↦ elim b as (λ b. Some x ≡ unless b f None → Some x ≡ unless b f more) [ true ↦ λ none. absurd (cc none) | false ↦ λ here. here ]
+    | false ↦ λ here. here
+  ] is
+
+  -- where the first two are met
+  pub both_met : None ≡ unless a e (unless b f None) → (a ≡ true) × (b ≡ true)
+  both_met is = elim a as (λ a. None ≡ unless a e (unless b f None) → (a ≡ true) × (b ≡ true)) [
+    | true ↦ elim b as (λ b. None ≡ unless b f None → (true ≡ true) × (b ≡ true)) [ true ↦ λ none. (refl, refl) | false ↦ λ some. absurd (cc some) ]
+    | false ↦ λ some. absurd (cc some)
+  ] is
+
+  -- what is left where they are
+  pub later : (more : Option StepError) → None ≡ unless a e (unless b f None) → more ≡ unless a e (unless b f more)
+  later more is = let met = both_met is in rw (met.0, met.1) refl
+
+  -- where they are, it is the third's
+  pub third : (c x : Bool) (g : StepError) → c ≡ x → None ≡ unless a e (unless b f None) → unless x g None ≡ unless a e (unless b f (unless c g None))
+  third c x g c_is is = ap (λ y. unless y g None) (sym c_is) ∙ later (unless c g None) is
+
+  -- where three are met
+  pub all_met : (c : Bool) (g : StepError) → unless a e (unless b f (unless c g None)) ≡ None → (a ≡ true) × (b ≡ true) × (c ≡ true)
+  all_met c g is = elim a as (λ a. unless a e (unless b f (unless c g None)) ≡ None → (a ≡ true) × (b ≡ true) × (c ≡ true)) [
+    | true ↦ elim b as (λ b. unless b f (unless c g None) ≡ None → (true ≡ true) × (b ≡ true) × (c ≡ true)) [
+      | true ↦ elim c as (λ c. unless c g None ≡ None → (true ≡ true) × (true ≡ true) × (c ≡ true)) [ true ↦ λ none. (refl, refl, refl) | false ↦ λ some. absurd (cc some) ]
+      | false ↦ λ some. absurd (cc some)
+    ]
+    | false ↦ λ some. absurd (cc some)
+  ] is
+
+-- ---- no cause is want of memory
+
+abbrev pub IsOwnCause : Option StepError → Type 0
+IsOwnCause None = Unit {0}
+IsOwnCause (Some e) = Some e ≡ cause_of e
+
+own_of : (a b c : Bool) (e f g : StepError) → Some e ≡ cause_of e → Some f ≡ cause_of f → Some g ≡ cause_of g → IsOwnCause (unless a e (unless b f (unless c g None)))
+own_of true true true e f g x y z = tt
+own_of true true false e f g x y z = z
+own_of true false c e f g x y z = y
+own_of false b c e f g x y z = x
+
+own_begin : (a b c d e f : Bool)
+    → IsOwnCause (unless a NoSuchFlow (unless b NotStarted (unless c NotSettled (unless d NoAddress (unless e Busy (unless f WrongLength None))))))
+own_begin true true true true true true = tt
+own_begin true true true true true false = refl
+own_begin true true true true false f = refl
+own_begin true true true false e f = refl
+own_begin true true false d e f = refl
+own_begin true false c d e f = refl
+own_begin false b c d e f = refl
+
+own_by_flow : (count : ℕ) (w : World) (flow : Option Flow) (bytes : List ℕ) → IsOwnCause (begin_refusal count w flow bytes)
+own_by_flow count w None bytes = refl
+own_by_flow count w (Some flow) bytes =
+    own_begin (can_be_sent flow) (at_ends (is_on w) flow.sender flow.to) (is_nothing_undelivered count w.claims)
+    (at_ends (has_address w) flow.sender flow.to) (not (is_some (w.sessions flow.sender))) (length bytes == flow.length)
+
+pub own_cause : (count : ℕ) (flows : List Flow) (w : World) (step : Step) → IsOwnCause (refusal_among count flows w step)
+own_cause count flows w (Up u) = own_of (nat_lt u count) (not (is_on w u)) (is_no_transfer_open count w) UnknownUnit AlreadyStarted TransferOpen refl refl refl
+own_cause count flows w (Give u v) =
+    own_of (both (λ x. nat_lt x count) u v) (both (is_on w) u v) (nat_lt 0 (length (w.claims u v))) UnknownUnit NotStarted NothingUndelivered refl refl refl
+own_cause count flows w (Ask u) = own_of (nat_lt u count) (is_on w u) (is_no_transfer_open count w) UnknownUnit NotStarted TransferOpen refl refl refl
+own_cause count flows w (Begin f bytes) = own_by_flow count w (slice_get flows f) bytes.items
+own_cause count flows w (Emit u) = own_of (nat_lt u count) (is_on w u) (can_emit (w.sessions u)) UnknownUnit NotStarted NothingToSend refl refl refl
+own_cause count flows w (Take u v) =
+    own_of (both (λ x. nat_lt x count) u v) (both (is_on w) u v) (nat_lt 0 (length (w.wire u v))) UnknownUnit NotStarted NothingUndelivered refl refl refl
+own_cause count flows w (Lose u v) =
+    own_of (both (λ x. nat_lt x count) u v) (both (is_on w) u v) (nat_lt 0 (length (w.wire u v))) UnknownUnit NotStarted NothingUndelivered refl refl refl
+own_cause count flows w (LateSender u) = own_of (nat_lt u count) (is_on w u) (is_waiting (w.sessions u)) UnknownUnit NotStarted NoSession refl refl refl
+own_cause count flows w (LateReceiver u v) =
+    own_of (both (λ x. nat_lt x count) u v) (both (is_on w) u v) (is_open_at (w.receivers v u)) UnknownUnit NotStarted NoSession refl refl refl
+own_cause count flows w (Rest u) = own_of (nat_lt u count) (is_on w u) (can_rest count w u) UnknownUnit NotStarted CannotRest refl refl refl
+
+pub cause_named : (e : StepError) → e ≢ Memory → cause_of e ≡ Some e
+cause_named Memory other = absurd (other refl)
+cause_named e other = refl
+
+-- ---- the refusal of a network's step is the definition's
+pub refusal_is : (plan : Plan) (net : Network) → IsOf plan net → (w : World) (step : Step)
+    → refusal plan w step ≡ refusal_among (length net.claimers.items) (map route_of net.traffic.routes.items) w step
+refusal_is plan net of w step = λ i. refusal_among (units_count plan net of i) (sym of.flows i) w step
+
+-- ---- what holds of a step that is not refused
+
+abbrev pub nowhere : Histories
+nowhere = record { taken = λ v u. []; begun = λ u v. [] }
+
+pub unit_inside : (count u : ℕ) (more : Option StepError) → unless (nat_lt u count) UnknownUnit more ≡ None → u < count
+unit_inside count u more allowed = ltb-true u count (met (nat_lt u count) UnknownUnit more allowed).0
+
+pub pair_inside : (count u v : ℕ) (more : Option StepError) → unless (both (λ x. nat_lt x count) u v) UnknownUnit more ≡ None → (u < count) × (v < count)
+pair_inside count u v more allowed =
+    let units = and_parts (nat_lt u count) (nat_lt v count) (met (both (λ x. nat_lt x count) u v) UnknownUnit more allowed).0 in
+    (ltb-true u count units.0, ltb-true v count units.1)
+
+-- a list that is not empty has a first letter
+pub first_inside : (u v : ℕ) (ls : List Letter) → nat_lt 0 (length (between ls u v)) ≡ true → first_between u v ls < length ls
+first_inside u v ls some = elim (cases_lt (first_between u v ls) (length ls)) [
+  | inl less ↦ less
+  | inr past ↦ absurd (true≢false (sym some ∙ ap (λ (xs : List Item). nat_lt 0 (length xs)) (nothing_between u v ls past)))
+]

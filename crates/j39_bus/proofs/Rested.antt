@@ -1,12 +1,12 @@
 -- When a sender may rest.
 use Rattle.std.proofs.Common.{◌≡◌, ℕ, zero, suc, ◌+◌, ◌<◌, ◌≤◌, Bool, true, false, not, ◌&&◌, ◌||◌, List, [], ◌∷◌, refl, sym, ap, ◌∙◌, arith, inl, inr, length, get_or, Option, Some, None, is_some}
-use Rattle.std.proofs.lemmas.Bool.{and_right, cases_eq, lt-ltb}
+use Rattle.std.proofs.lemmas.Bool.{and_right, cases_eq}
 use Rattle.std.proofs.lemmas.List.{length-map}
 use Rattle.std.specs.Option.{option_map}
 use Rattle.j39_claim.specs.Claiming.{Claiming}
 use Rattle.j39_plan.specs.declared.plan.Plan.{Plan}
-use Rattle.j39_bus.specs.Claimants.{claimant_of, units_of}
-use Rattle.j39_bus.specs.Run.{count_of, is_unit, is_no_transfer_open}
+use Rattle.j39_bus.specs.Claimants.{claimant_of}
+use Rattle.j39_bus.specs.Run.{count_of, is_no_transfer_open}
 use Rattle.j39_bus.specs.declared.transfer.Transfer as made
 use Rattle.j39_bus.proofs.AlongMessages.{session_of}
 use Rattle.std.specs.List.{list_all, list_any, range_with_len}
@@ -70,13 +70,10 @@ some_session (Some t) = refl
 pub units_count : (plan : Plan) (net : Network) → IsOf plan net → count_of plan ≡ length net.claimers.items
 units_count plan net of = sym (length-map plan.units.items claimant_of) ∙ sym (ap length of.units) ∙ length-map net.claimers.items (λ (c : Claiming). c.claimant)
 
-pub unit_known : (plan : Plan) (net : Network) → IsOf plan net → (u : ℕ) → u < length net.claimers.items → is_unit plan u ≡ true
-unit_known plan net of u inside = lt-ltb u (length (units_of plan)) (omega (arith, inside, ap length of.units, length-map net.claimers.items (λ (c : Claiming). c.claimant)))
-
-pub idle_by : (plan : Plan) (net : Network) (h : Histories) → IsOf plan net → length net.traffic.transfers.items ≡ length net.claimers.items
-    → is_no_transfer_open (count_of plan) (world_of h net) ≡ not (list_any (λ t. is_some t) net.traffic.transfers.items)
-idle_by plan net h of count =
-    ap (λ n. is_no_transfer_open n (world_of h net)) (units_count plan net of ∙ sym count)
+pub idle_by : (net : Network) (h : Histories) → length net.traffic.transfers.items ≡ length net.claimers.items
+    → is_no_transfer_open (length net.claimers.items) (world_of h net) ≡ not (list_any (λ t. is_some t) net.traffic.transfers.items)
+idle_by net h count =
+    ap (λ n. is_no_transfer_open n (world_of h net)) (sym count)
     ∙ all_idle 0 net.traffic.transfers.items (λ u. not (is_some (session_at (values_of net.traffic.transfers.items) u)))
     (λ j inside. ap (λ k. not (is_some (session_at (values_of net.traffic.transfers.items) k))) (omega arith)
     ∙ ap not (ap is_some (session_of net.traffic.transfers.items j inside) ∙ some_session (get_or net.traffic.transfers.items j None)))

@@ -1,5 +1,5 @@
 -- A bus runs a list of steps.
-use Rattle.std.proofs.Common.{◌≡◌, ◌≢◌, ℕ, suc, ◌+◌, ◌<◌, ◌≤◌, List, ◌++◌, length, get_or, take, drop, sym, ap, ◌∙◌, subst, arith, Some, None}
+use Rattle.std.proofs.Common.{◌≡◌, ℕ, suc, true, ◌+◌, ◌<◌, ◌≤◌, List, ◌++◌, length, get_or, take, drop, sym, ap, ◌∙◌, subst, arith, None}
 use Rattle.std.proofs.lemmas.List.{take_more, take_all, take-append-drop, length-take-le}
 use Rattle.std.proofs.Math.Seq.{drop-cons}
 use Rattle.j39_plan.specs.declared.plan.Plan.{Plan}
@@ -7,7 +7,7 @@ use Rattle.j39_plan.specs.declared.steps.Step.{Step}
 use Rattle.j39_bus.specs.declared.step_error.StepError.{StepError}
 use Rattle.j39_bus.specs.declared.step_error.StepError.TheVariants.{Memory}
 use Rattle.j39_bus.specs.World.{World}
-use Rattle.j39_bus.specs.Run.{refusal, Leads, RunsThrough}
+use Rattle.j39_bus.specs.Run.{cause_of, refusal, takes_memory, Leads, RunsThrough}
 use Rattle.j39_bus.specs.BusState.{BusState}
 use Rattle.j39_bus.specs.Stands.{Stands, IsRefusedAt}
 use Rattle.j39_bus.proofs.Standing.{runs_more}
@@ -27,8 +27,9 @@ module _ (old mid new : BusState) (steps : List Step) (place : ℕ) (d : Step) (
         s'',
       )
 
-  pub run_refused : new ≡ mid → (e : StepError) → (e ≢ Memory → (plan : Plan) (w : World) → Stands mid plan w → refusal plan w (get_or steps place d) ≡ Some e) → IsRefusedAt old new steps place e
-  run_refused same e refuses = record {
+  pub run_refused : new ≡ mid → (e : StepError) → ((plan : Plan) (w : World) → Stands mid plan w → refusal plan w (get_or steps place d) ≡ cause_of e)
+      → (e ≡ Memory → takes_memory (get_or steps place d) ≡ true) → IsRefusedAt old new steps place e
+  run_refused same e refuses memory = record {
     done = take place steps;
     step = get_or steps place d;
     rest = drop (suc place) steps;
@@ -36,7 +37,8 @@ module _ (old mid new : BusState) (steps : List Step) (place : ℕ) (d : Step) (
     count = length-take-le place steps (omega arith);
     ran = λ plan w s.
         let (before, runs, s') = ran plan w s in
-        (before, runs, subst (λ (b : BusState). Stands b plan before) (sym same) s', λ other. refuses other plan before s');
+        (before, runs, subst (λ (b : BusState). Stands b plan before) (sym same) s', refuses plan before s');
+    memory = memory;
   }
 
 -- all of them

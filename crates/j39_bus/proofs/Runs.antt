@@ -1,6 +1,6 @@
 -- Each world of a run of a clean plan is sound.
-use Rattle.std.proofs.Common.{◌≡◌, ◌≢◌, ℕ, ◌<◌, Bool, true, false, ltb, List, [], ◌∷◌, length, refl, sym, ap, ◌∙◌, subst, Option, inl, inr}
-use Rattle.std.proofs.lemmas.Bool.{ltb-true, and_parts, true≢false}
+use Rattle.std.proofs.Common.{◌≡◌, ◌≢◌, ℕ, ◌<◌, Bool, true, false, List, [], ◌∷◌, length, refl, sym, ap, ◌∙◌, subst, Option, inl, inr}
+use Rattle.std.proofs.lemmas.Bool.{and_parts, true≢false}
 use Rattle.std.specs.Bool.{MatchBool}
 use Rattle.std.specs.FinMap.{get-empty}
 use Rattle.std.specs.Option.{is_some}
@@ -13,11 +13,12 @@ use Rattle.j39_plan.specs.declared.steps.Step.{Step}
 use Rattle.j39_plan.specs.declared.steps.Step.TheVariants.{Up, Give, Ask, Begin, Emit, Take, Lose, LateSender, LateReceiver, Rest}
 use Rattle.j39_bus.specs.declared.step_error.StepError.{StepError}
 use Rattle.j39_bus.specs.Claimants.{units_of}
+use Rattle.j39_bus.proofs.Places.{in_units}
 use Rattle.j39_bus.proofs.CleanUnits.{IsClean}
 use Rattle.j39_bus.specs.Flows.{flows_of, windows_of}
 use Rattle.j39_bus.specs.World.{World, first}
 use Rattle.j39_bus.specs.ClaimSteps.{GivenFrom}
-use Rattle.j39_bus.specs.Run.{count_of, refusal, unless, Leads, Follows, Run, RunsThrough}
+use Rattle.j39_bus.specs.Run.{count_of, is_unit, refusal, unless, Leads, Follows, Run, RunsThrough}
 use Rattle.j39_bus.specs.Sound.{AreAddressesSound, AreAddressesDifferent, IsQuiet}
 use Rattle.j39_bus.specs.Claimants.{unit_at}
 use Rattle.j39_bus.proofs.Kept.{Kept, IsSaid}
@@ -63,9 +64,11 @@ leads_keeps plan clean w kept (Up u) allowed new e = subst (KeptIn (units_of pla
 leads_keeps plan clean w kept (Give u v) allowed new leads =
     let known = met _ _ _ allowed in
     let started = met _ _ _ known.1 in
-    let inside = and_parts (ltb u (length (units_of plan))) (ltb v (length (units_of plan))) known.0 in
+    let inside = and_parts (is_unit plan u) (is_unit plan v) known.0 in
+    let in_u : u < length (units_of plan) = in_units plan u inside.0 in
+    let in_v : v < length (units_of plan) = in_units plan v inside.1 in
     let on = and_parts (w.stations u).on (w.stations v).on started.0 in
-    given_from (units_of plan) clean w kept u v (ltb-true u (length (units_of plan)) inside.0) (ltb-true v (length (units_of plan)) inside.1) on.1 (w.claims u v) refl new leads
+    given_from (units_of plan) clean w kept u v in_u in_v on.1 (w.claims u v) refl new leads
 leads_keeps plan clean w kept (Ask u) allowed new e =
     let known = met _ _ _ allowed in
     let started = met _ _ _ known.1 in

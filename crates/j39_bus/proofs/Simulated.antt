@@ -1,5 +1,5 @@
 -- A bus obeys a list of orders, and what is then seen of it.
-use Rattle.std.proofs.Common.{◌≡◌, ◌↔◌, IsTrue, ℕ, ◌+◌, ◌<◌, ◌≤◌, List, [], ◌∷◌, ◌++◌, length, map, get_or, take, refl, sym, ap, ◌∙◌, subst, arith, Option, Some, None, Result, Ok, Err, OnOk}
+use Rattle.std.proofs.Common.{◌≢◌, IfErr, ◌≡◌, ◌↔◌, IsTrue, ℕ, ◌+◌, ◌<◌, ◌≤◌, List, [], ◌∷◌, ◌++◌, length, map, get_or, take, refl, sym, ap, ◌∙◌, subst, arith, Option, Some, None, Result, Ok, Err, OnOk}
 use Rattle.std.proofs.lemmas.List.{take_more, take_all, length-map}
 use Rattle.std.proofs.Math.ListN.{get_or-map}
 use Rattle.std.proofs.lemmas.List.FromFn.{fill_by_all}
@@ -7,15 +7,17 @@ use Rattle.std.proofs.lemmas.Option.{slice_get-get_or}
 use Rattle.j39_plan.specs.declared.plan.Plan.{Plan}
 use Rattle.j39_plan.specs.declared.steps.Step.{Step}
 use Rattle.j39_bus.specs.declared.step_error.StepError.{StepError}
+use Rattle.j39_bus.specs.declared.step_error.StepError.TheVariants.{Memory}
 use Rattle.j39_bus.specs.World.{World, Stations, first}
 use Rattle.j39_bus.specs.Claimants.{claimant_of}
-use Rattle.j39_bus.specs.Run.{refusal, Leads, RunsThrough}
+use Rattle.j39_bus.specs.Run.{cause_of, refusal, Leads, RunsThrough}
 use Rattle.j39_bus.specs.BusState.{BusState, undelivered}
 use Rattle.j39_bus.specs.Letters.{nobody}
 use Rattle.j39_bus.specs.Sound.{IsQuiet}
 use Rattle.j39_bus.specs.Stands.{Stands}
 use Rattle.j39_bus.specs.Ended.{View, Shows, EndsIn, steps_of, unit_state}
 use Rattle.j39_bus.specs.Simulating.{HasCome, HasObeyed, IsRefused, IsRefusedAt}
+use Rattle.j39_bus.proofs.Refused.{cause_named}
 
 steps-append : (os ps : List (Option Step)) → steps_of (os ++ ps) ≡ steps_of os ++ steps_of ps
 steps-append [] ps = refl
@@ -34,6 +36,12 @@ obeyed_step (Err e) old new order step is h = tt
 obeyed_step (Ok x) old new order step is h =
     subst (λ (o : Option Step). HasObeyed old (o ∷ []) new) (sym is)
     (λ plan w s. let (allowed, (after, leads, s')) = h plan w s in (after, (after, allowed, leads, refl), s'))
+
+-- and is refused where the bus refuses it
+pub obeyed_refused : {X : Type 0} (result : Result X StepError) (old : BusState) (order : Option Step) (step : Step) → order ≡ Some step
+    → IfErr result (λ e. (plan : Plan) (w : World) → Stands old plan w → refusal plan w step ≡ cause_of e) → IfErr result (λ e. e ≢ Memory → IsRefused old order e)
+obeyed_refused (Ok x) old order step is h = tt
+obeyed_refused (Err e) old order step is h = λ other. record { step = step; here = is; refuses = λ plan w s. h plan w s ∙ cause_named e other }
 
 -- an order for nothing leaves the bus
 pub obeyed_nothing : (old : BusState) (order : Option Step) → order ≡ None → HasObeyed old (order ∷ []) old

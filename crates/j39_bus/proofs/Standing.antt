@@ -1,5 +1,5 @@
 -- What a bus stands for, by its network.
-use Rattle.std.proofs.Common.{◌≡◌, ◌≢◌, ℕ, true, inl, inr, List, [], ◌∷◌, ◌++◌, length, map, get_or, refl, sym, ap, ◌∙◌, subst, arith, Some, None, Result, Ok, Err, OnOk, OnErr, IfErr}
+use Rattle.std.proofs.Common.{◌≡◌, ℕ, true, inl, inr, List, [], ◌∷◌, ◌++◌, length, map, get_or, refl, sym, ap, ◌∙◌, subst, arith, None, Result, Ok, Err, OnOk, OnErr, IfErr}
 use Rattle.std.proofs.lemmas.Bool.{cases_lt}
 use Rattle.std.proofs.lemmas.List.{get_or_past}
 use Rattle.std.proofs.lemmas.List.FromFn.{get_or-map-range_with_len, length-map-range_with_len}
@@ -10,17 +10,16 @@ use Rattle.j39_bus.specs.declared.letter.Letter.{Letter}
 use Rattle.j39_bus.specs.declared.network.Network.{Network}
 use Rattle.j39_plan.specs.declared.steps.Step.{Step}
 use Rattle.j39_bus.specs.declared.step_error.StepError.{StepError}
-use Rattle.j39_bus.specs.declared.step_error.StepError.TheVariants.{Memory}
 use Rattle.j39_bus.specs.World.{World}
-use Rattle.j39_bus.specs.Run.{refusal, Leads, RunsThrough}
+use Rattle.j39_bus.specs.Run.{cause_of, refusal, refusal_among, Leads, RunsThrough}
 use Rattle.j39_bus.specs.Letters.{between, is_inside}
 use Rattle.j39_bus.specs.BusState.{BusState, table_of, undelivered}
 use Rattle.j39_bus.specs.Stands.{Stands}
-use Rattle.j39_bus.specs.Network.{state_of, world_of, Histories, HasGathered, IsNetwork, IsBus, IsOf, IsAllowed, IsRefused, IsSameNetwork, KeepsPlan, LeadsTo}
+use Rattle.j39_bus.specs.Network.{state_of, world_of, Histories, HasGathered, IsNetwork, IsBus, IsOf, IsAllowed, IsSameNetwork, KeepsPlan, LeadsTo, refusal_in}
 use Rattle.j39_bus.specs.Sent.{sent_of}
 use Rattle.j39_bus.specs.Traffic.{route_of, reported_of, values_of}
 use Rattle.j39_bus.proofs.Between.{none_outside}
-use Rattle.j39_bus.proofs.Refused.{length-claimants}
+use Rattle.j39_bus.proofs.Refused.{length-claimants, refusal_is}
 
 -- the lists of the table are those between units
 tabled : (n : ℕ) (ls : List Letter) → list_all (is_inside n) ls ≡ true → (u v : ℕ) → get_or (get_or (table_of n (between ls)) u []) v [] ≡ between ls u v
@@ -96,33 +95,36 @@ plan_is net plan w s = record { units = s.planned; flows = s.flows; windows = s.
 pub plan_kept : (old new : Network) (plan : Plan) → KeepsPlan old new → IsOf plan old → IsOf plan new
 plan_kept old new plan keeps of = record { units = keeps.claimants ∙ of.units; flows = ap (map route_of) keeps.routes ∙ of.flows; windows = keeps.windows ∙ of.windows }
 
-module _ {X : Type 0} (old new : Network) (b : BusState) (is_state : state_of old ≡ b) (given step : Step) (same : given ≡ step) (well : IsNetwork old) (result : Result X StepError) where
+module _ {X : Type 0} (old new : Network) (b : BusState) (is_state : state_of old ≡ b) (step : Step) (well : IsNetwork old) (result : Result X StepError) where
+  here : (plan : Plan) (w : World) → Stands b plan w → Stands (state_of old) plan w
+  here plan w s = subst (λ (v : BusState). Stands v plan w) (sym is_state) s
+
+  refused_by : (plan : Plan) (w : World) (s : Stands (state_of old) plan w) → refusal plan w step ≡ refusal_in old (histories w) step
+  refused_by plan w s = refusal_is plan old (plan_is old plan w s) w step ∙ (λ i. refusal_among (length old.claimers.items) (map route_of old.traffic.routes.items) (world_is old well plan w s i) step)
+
   -- what a step of the network does, the bus does
-  pub step_done : IsNetwork new → KeepsPlan old new → OnOk result ((plan : Plan) → IsOf plan old → IsAllowed plan old step) → OnOk result ((plan : Plan) → IsOf plan old → LeadsTo plan old step new)
-      → OnOk result ((plan : Plan) (w : World) → Stands b plan w → (refusal plan w given ≡ None) × ((after : World) × Leads plan w given after × Stands (state_of new) plan after))
-  step_done well_new keeps may h = elim result as (λ (r : Result X StepError). OnOk r ((plan : Plan) → IsOf plan old → IsAllowed plan old step) → OnOk r ((plan : Plan) → IsOf plan old → LeadsTo plan old step new)
-      → OnOk r ((plan : Plan) (w : World) → Stands b plan w → (refusal plan w given ≡ None) × ((after : World) × Leads plan w given after × Stands (state_of new) plan after))) [
+  pub step_done : IsNetwork new → KeepsPlan old new → OnOk result (IsAllowed old step) → OnOk result ((plan : Plan) → IsOf plan old → LeadsTo plan old step new)
+      → OnOk result ((plan : Plan) (w : World) → Stands b plan w → (refusal plan w step ≡ None) × ((after : World) × Leads plan w step after × Stands (state_of new) plan after))
+  step_done well_new keeps may h = elim result as (λ (r : Result X StepError). OnOk r (IsAllowed old step) → OnOk r ((plan : Plan) → IsOf plan old → LeadsTo plan old step new)
+      → OnOk r ((plan : Plan) (w : World) → Stands b plan w → (refusal plan w step ≡ None) × ((after : World) × Leads plan w step after × Stands (state_of new) plan after))) [
         | Ok x ↦ λ allowed done plan w s.
-            let s' : Stands (state_of old) plan w = subst (λ (v : BusState). Stands v plan w) (sym is_state) s in
+            let s' : Stands (state_of old) plan w = here plan w s in
             let is : w ≡ world_of (histories w) old = world_is old well plan w s' in
             let of : IsOf plan old = plan_is old plan w s' in
             let (after, leads, gathered) = done plan of (histories w) s'.gathered in (
-              (λ i. refusal plan (is i) (same i)) ∙ allowed plan of (histories w),
-              (world_of after new, subst (λ (v : World). Leads plan v given (world_of after new)) (sym is) (subst (λ (k : Step). Leads plan (world_of (histories w) old) k (world_of after new)) (sym same) leads), stands new well_new plan (plan_kept old new plan keeps of) after gathered),
+              refused_by plan w s' ∙ allowed (histories w),
+              (world_of after new, subst (λ (v : World). Leads plan v step (world_of after new)) (sym is) leads, stands new well_new plan (plan_kept old new plan keeps of) after gathered),
             )
         | Err e ↦ λ _ _. tt
       ] may h
 
   -- and what it refuses, the bus refuses
-  pub step_refused : IfErr result (λ e. e ≢ Memory → (plan : Plan) → IsOf plan old → IsRefused plan old step e)
-      → IfErr result (λ e. e ≢ Memory → (plan : Plan) (w : World) → Stands b plan w → refusal plan w given ≡ Some e)
-  step_refused h = elim result as (λ (r : Result X StepError). IfErr r (λ e. e ≢ Memory → (plan : Plan) → IsOf plan old → IsRefused plan old step e)
-      → IfErr r (λ e. e ≢ Memory → (plan : Plan) (w : World) → Stands b plan w → refusal plan w given ≡ Some e)) [
+  pub step_refused : IfErr result (λ e. (h : Histories) → refusal_in old h step ≡ cause_of e)
+      → IfErr result (λ e. (plan : Plan) (w : World) → Stands b plan w → refusal plan w step ≡ cause_of e)
+  step_refused h = elim result as (λ (r : Result X StepError). IfErr r (λ e. (h : Histories) → refusal_in old h step ≡ cause_of e)
+      → IfErr r (λ e. (plan : Plan) (w : World) → Stands b plan w → refusal plan w step ≡ cause_of e)) [
         | Ok x ↦ λ _. tt
-        | Err e ↦ λ refuses other plan w s.
-            let s' : Stands (state_of old) plan w = subst (λ (v : BusState). Stands v plan w) (sym is_state) s in
-            let is : w ≡ world_of (histories w) old = world_is old well plan w s' in
-            (λ i. refusal plan (is i) (same i)) ∙ refuses other plan (plan_is old plan w s') (histories w)
+        | Err e ↦ λ refuses plan w s. refused_by plan w (here plan w s) ∙ refuses (histories w)
       ] h
 
   -- a refused step leaves the bus

@@ -1,5 +1,5 @@
 -- The world that a network stands for, and what it keeps true.
-use Rattle.std.specs.Prelude.{◌≡◌, ℕ, ◌≤◌, Bool, true, nat_eq, List, [], ◌∷◌, ◌++◌, map, length, Option, Some, None, is_some, slice_index_or, slice_set}
+use Rattle.std.specs.Prelude.{◌≡◌, ℕ, ◌≤◌, Bool, true, nat_eq, List, [], ◌∷◌, ◌++◌, map, length, Option, None, is_some, slice_index_or, slice_set}
 use Rattle.std.specs.List.{list_all, list_any}
 use Rattle.std.specs.FinMap.{get}
 use Rattle.j39_claim.specs.declared.item.Say.{Say}
@@ -20,7 +20,7 @@ use Rattle.j39_bus.specs.World.{World, changed_pair}
 use Rattle.j39_bus.specs.Flows.{Flow, flows_of, windows_of}
 use Rattle.j39_bus.specs.Transfers.{Begun, Receivers, added, settled}
 use Rattle.j39_bus.specs.TransferSteps.{TakenFrom}
-use Rattle.j39_bus.specs.Run.{refusal, Leads}
+use Rattle.j39_bus.specs.Run.{refusal_among, Leads}
 use Rattle.j39_bus.specs.Letters.{nobody, station_at, between, is_inside}
 use Rattle.j39_bus.specs.BusState.{BusState, Transfer, table_of, pair_in, session_at, receiving_at}
 use Rattle.j39_bus.specs.Traffic.{route_of, reported_of, traffic_of, lists_of, values_of, IsTraffic}
@@ -119,13 +119,13 @@ TakesTo old u v new =
     (h : Histories) → HasGathered h old
     → (after : Histories) × TakenFrom old.traffic.windows.items (world_of h old) u v (pair_in (lists_of old.traffic.wire) u v) (world_of after new) × HasGathered after new
 
--- the step is not refused
-abbrev pub IsAllowed : Plan → Network → Step → Type 0
-IsAllowed plan net step = (h : Histories) → refusal plan (world_of h net) step ≡ None
+-- the first cause for which a step of a network is refused
+abbrev pub refusal_in : Network → Histories → Step → Option StepError
+refusal_in net h step = refusal_among (length net.claimers.items) (map route_of net.traffic.routes.items) (world_of h net) step
 
--- the step is refused for this cause
-abbrev pub IsRefused : Plan → Network → Step → StepError → Type 0
-IsRefused plan net step e = (h : Histories) → refusal plan (world_of h net) step ≡ Some e
+-- the step is not refused
+abbrev pub IsAllowed : Network → Step → Type 0
+IsAllowed net step = (h : Histories) → refusal_in net h step ≡ None
 
 -- unit v of these has heard the item under the NAME, and is what it then is
 abbrev pub HasAnswered : List Claiming → ℕ → ℕ → Item → Option Say → List Claiming → Type 0

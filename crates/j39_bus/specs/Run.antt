@@ -11,8 +11,8 @@ use Rattle.j39_plan.specs.declared.plan.to.To.TheVariants.{All, One}
 use Rattle.j39_plan.specs.declared.steps.Step.{Step}
 use Rattle.j39_plan.specs.declared.steps.Step.TheVariants.{Up, Give, Ask, Begin, Emit, Take, Lose, LateSender, LateReceiver, Rest}
 use Rattle.j39_bus.specs.declared.step_error.StepError.{StepError}
-use Rattle.j39_bus.specs.declared.step_error.StepError.TheVariants.{UnknownUnit, NoSuchFlow, NotStarted, AlreadyStarted, NothingUndelivered, TransferOpen, NotSettled, NoAddress, Busy, WrongLength, NothingToSend, NoSession, CannotRest}
-use Rattle.j39_bus.specs.Claimants.{units_of, is_place}
+use Rattle.j39_bus.specs.declared.step_error.StepError.TheVariants.{UnknownUnit, NoSuchFlow, NotStarted, AlreadyStarted, NothingUndelivered, TransferOpen, NotSettled, NoAddress, Busy, WrongLength, NothingToSend, NoSession, CannotRest, Memory}
+use Rattle.j39_bus.specs.Claimants.{units_of}
 use Rattle.j39_bus.specs.Flows.{Flow, flows_of, windows_of, can_be_sent}
 use Rattle.j39_bus.specs.Transfers.{Outgoing}
 use Rattle.j39_bus.specs.World.{World, Undelivered}
@@ -26,7 +26,7 @@ abbrev pub count_of : Plan → ℕ
 count_of plan = length plan.units.items
 
 abbrev pub is_unit : Plan → ℕ → Bool
-is_unit plan u = is_place (units_of plan) u
+is_unit plan u = nat_lt u (count_of plan)
 
 -- this holds of one unit, or of two
 abbrev pub both : (ℕ → Bool) → ℕ → ℕ → Bool
@@ -79,45 +79,60 @@ begin_refusal count w (Some flow) bytes =
     unless (not (is_some (w.sessions flow.sender))) Busy (
     unless (length bytes == flow.length) WrongLength None)))))
 
--- the first cause in the numbered order for which the step is refused; want of memory is none of the world's
-abbrev pub refusal : Plan → World → Step → Option StepError
-refusal plan w (Up u) =
-    unless (is_unit plan u) UnknownUnit (
+-- the first cause in the numbered order for which a step is refused, among so many units with these flows; want of memory is
+-- none of the world's
+abbrev pub refusal_among : ℕ → List Flow → World → Step → Option StepError
+refusal_among count flows w (Up u) =
+    unless (nat_lt u count) UnknownUnit (
     unless (not (is_on w u)) AlreadyStarted (
-    unless (is_no_transfer_open (count_of plan) w) TransferOpen None))
-refusal plan w (Give u v) =
-    unless (both (is_unit plan) u v) UnknownUnit (
+    unless (is_no_transfer_open count w) TransferOpen None))
+refusal_among count flows w (Give u v) =
+    unless (both (λ x. nat_lt x count) u v) UnknownUnit (
     unless (both (is_on w) u v) NotStarted (
     unless (nat_lt 0 (length (w.claims u v))) NothingUndelivered None))
-refusal plan w (Ask u) =
-    unless (is_unit plan u) UnknownUnit (
+refusal_among count flows w (Ask u) =
+    unless (nat_lt u count) UnknownUnit (
     unless (is_on w u) NotStarted (
-    unless (is_no_transfer_open (count_of plan) w) TransferOpen None))
-refusal plan w (Begin f bytes) = begin_refusal (count_of plan) w (slice_get (flows_of plan) f) bytes.items
-refusal plan w (Emit u) =
-    unless (is_unit plan u) UnknownUnit (
+    unless (is_no_transfer_open count w) TransferOpen None))
+refusal_among count flows w (Begin f bytes) = begin_refusal count w (slice_get flows f) bytes.items
+refusal_among count flows w (Emit u) =
+    unless (nat_lt u count) UnknownUnit (
     unless (is_on w u) NotStarted (
     unless (can_emit (w.sessions u)) NothingToSend None))
-refusal plan w (Take u v) =
-    unless (both (is_unit plan) u v) UnknownUnit (
+refusal_among count flows w (Take u v) =
+    unless (both (λ x. nat_lt x count) u v) UnknownUnit (
     unless (both (is_on w) u v) NotStarted (
     unless (nat_lt 0 (length (w.wire u v))) NothingUndelivered None))
-refusal plan w (Lose u v) =
-    unless (both (is_unit plan) u v) UnknownUnit (
+refusal_among count flows w (Lose u v) =
+    unless (both (λ x. nat_lt x count) u v) UnknownUnit (
     unless (both (is_on w) u v) NotStarted (
     unless (nat_lt 0 (length (w.wire u v))) NothingUndelivered None))
-refusal plan w (LateSender u) =
-    unless (is_unit plan u) UnknownUnit (
+refusal_among count flows w (LateSender u) =
+    unless (nat_lt u count) UnknownUnit (
     unless (is_on w u) NotStarted (
     unless (is_waiting (w.sessions u)) NoSession None))
-refusal plan w (LateReceiver u v) =
-    unless (both (is_unit plan) u v) UnknownUnit (
+refusal_among count flows w (LateReceiver u v) =
+    unless (both (λ x. nat_lt x count) u v) UnknownUnit (
     unless (both (is_on w) u v) NotStarted (
     unless (is_open_at (w.receivers v u)) NoSession None))
-refusal plan w (Rest u) =
-    unless (is_unit plan u) UnknownUnit (
+refusal_among count flows w (Rest u) =
+    unless (nat_lt u count) UnknownUnit (
     unless (is_on w u) NotStarted (
-    unless (can_rest (count_of plan) w u) CannotRest None))
+    unless (can_rest count w u) CannotRest None))
+
+abbrev pub refusal : Plan → World → Step → Option StepError
+refusal plan w step = refusal_among (count_of plan) (flows_of plan) w step
+
+-- what an answer to a step says of its refusal: none where it was done, and none where memory was wanted
+abbrev pub cause_of : StepError → Option StepError
+cause_of Memory = None
+cause_of e = Some e
+
+-- the steps that take memory
+abbrev pub takes_memory : Step → Bool
+takes_memory (Lose u v) = false
+takes_memory (Rest u) = false
+takes_memory _ = true
 
 -- ---- steps and runs
 

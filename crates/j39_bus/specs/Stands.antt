@@ -1,5 +1,5 @@
 -- What a bus stands for.
-use Rattle.std.specs.Prelude.{◌≡◌, ◌≢◌, ℕ, List, ◌∷◌, ◌++◌, length, map, Some}
+use Rattle.std.specs.Prelude.{◌≡◌, ℕ, true, List, ◌∷◌, ◌++◌, length, map}
 use Rattle.j39_tp.specs.inside.Gathered.{Gathers}
 use Rattle.j39_tp.specs.Receiver.{Receiving}
 use Rattle.j39_plan.specs.declared.plan.Plan.{Plan}
@@ -12,7 +12,7 @@ use Rattle.j39_bus.specs.Letters.{station_at}
 use Rattle.j39_bus.specs.BusState.{BusState, undelivered, wire_of, session_at, receiving_at}
 use Rattle.j39_bus.specs.Flows.{flows_of, windows_of}
 use Rattle.j39_bus.specs.Transfers.{settled}
-use Rattle.j39_bus.specs.Run.{refusal, RunsThrough}
+use Rattle.j39_bus.specs.Run.{refusal, cause_of, takes_memory, RunsThrough}
 
 -- the bus stands for this world of the plan
 pub record Stands (b : BusState) (plan : Plan) (w : World) : Type 0 where
@@ -32,7 +32,8 @@ pub record Stands (b : BusState) (plan : Plan) (w : World) : Type 0 where
   pub reports : w.reports ≡ b.traffic.reports
   pub frames : w.frames ≡ b.frames
 
--- a run of these steps is refused at a place: what stands before it was done, and this step is refused
+-- a run of these steps ends at a place: what stands before it was done, and this step is refused for the cause, or wanted memory
+-- where it is not refused
 pub record IsRefusedAt (old new : BusState) (steps : List Step) (place : ℕ) (error : StepError) : Type 0 where
   pub done : List Step
   pub step : Step
@@ -40,4 +41,5 @@ pub record IsRefusedAt (old new : BusState) (steps : List Step) (place : ℕ) (e
   pub parts : steps ≡ done ++ step ∷ rest
   pub count : length done ≡ place
   pub ran : (plan : Plan) (w : World) → Stands old plan w
-      → (after : World) × RunsThrough plan w done after × Stands new plan after × (error ≢ Memory → refusal plan after step ≡ Some error)
+      → (after : World) × RunsThrough plan w done after × Stands new plan after × (refusal plan after step ≡ cause_of error)
+  pub memory : error ≡ Memory → takes_memory step ≡ true

@@ -4,38 +4,26 @@ ghost use Rattle.j39_plan.specs.declared.plan.Plan.{Plan};
 ghost use Rattle.j39_plan.specs.declared.steps.Step.TheVariants.{Up, Give, Ask};
 ghost use Rattle.j39_bus.specs.ClaimSteps.{switched_on, asked, GivenFrom};
 ghost use Rattle.j39_bus.specs.Letters.{between, first_between};
-ghost use Rattle.j39_bus.specs.Network.{Histories, IsAllowed, IsNetwork, IsOf, IsRefused, IsSameNetwork, KeepsPlan, LeadsTo, claimants, world_of};
+ghost use Rattle.j39_bus.specs.Network.{Histories, IsAllowed, IsNetwork, IsOf, IsSameNetwork, KeepsPlan, LeadsTo, claimants, world_of};
 
-use crate::StepError;
 use crate::hearing::hear;
 use crate::letter::{drop_letters_to, first_between};
 use crate::network::Network;
 use crate::transfer::is_transfer_open;
 use j39_claim::{Choose, Item};
+use std::alloc::AllocError;
 
 impl Network {
     /// The unit is switched on.
-    pub(crate) fn up(&mut self, unit: usize) -> Result<(), StepError>
-        requires { IsNetwork self.old }
+    pub(crate) fn up(&mut self, unit: usize) -> Result<(), AllocError>
+        requires network { IsNetwork self.old }
+        requires allowed { IsAllowed self.old (Up unit) }
         ensures network { IsNetwork self.new }
         ensures plan { KeepsPlan self.old self.new }
-        ensures allowed { OnOk result ((plan : Plan) → IsOf plan self.old → IsAllowed plan self.old (Up unit)) }
         ensures leads { OnOk result ((plan : Plan) → IsOf plan self.old → LeadsTo plan self.old (Up unit) self.new) }
-        ensures refused { IfErr result (λ e. e ≢ StepError.Memory → (plan : Plan) → IsOf plan self.old → IsRefused plan self.old (Up unit) e) }
         ensures same { OnErr result (IsSameNetwork self.old self.new) }
     {
-        if unit >= self.claimers.len() {
-            return Err(StepError::UnknownUnit);
-        }
-        if self.claimers[unit].is_started() {
-            return Err(StepError::AlreadyStarted);
-        }
-        if is_transfer_open(self.traffic.transfers.as_slice()) {
-            return Err(StepError::TransferOpen);
-        }
-        if self.reserve(1).is_err() {
-            return Err(StepError::Memory);
-        }
+        self.reserve(1)?;
         self.switch_on(unit);
         Ok(())
     }
@@ -46,56 +34,30 @@ impl Network {
         choosers: &[Box<dyn Choose>],
         from: usize,
         to: usize,
-    ) -> Result<(), StepError>
+    ) -> Result<(), AllocError>
         requires network { IsNetwork self.old }
+        requires allowed { IsAllowed self.old (Give from to) }
         requires choosers { length choosers.now ≡ length self.old.claimers.items }
         ensures network { IsNetwork self.new }
         ensures plan { KeepsPlan self.old self.new }
-        ensures allowed { OnOk result ((plan : Plan) → IsOf plan self.old → IsAllowed plan self.old (Give from to)) }
         ensures leads { OnOk result ((plan : Plan) → IsOf plan self.old → LeadsTo plan self.old (Give from to) self.new) }
-        ensures refused { IfErr result (λ e. e ≢ StepError.Memory → (plan : Plan) → IsOf plan self.old → IsRefused plan self.old (Give from to) e) }
         ensures same { OnErr result (IsSameNetwork self.old self.new) }
     {
-        let count = self.claimers.len();
-        if from >= count || to >= count {
-            return Err(StepError::UnknownUnit);
-        }
-        if !self.claimers[from].is_started() || !self.claimers[to].is_started() {
-            return Err(StepError::NotStarted);
-        }
-        let place = first_between(self.letters.as_slice(), from, to);
-        if place >= self.letters.len() {
-            return Err(StepError::NothingUndelivered);
-        }
-        if self.reserve(1).is_err() {
-            return Err(StepError::Memory);
-        }
+        self.reserve(1)?;
         self.deliver(choosers, from, to);
         Ok(())
     }
 
     /// The unit asks all others for their claims, and sends its own.
-    pub(crate) fn ask(&mut self, unit: usize) -> Result<(), StepError>
-        requires { IsNetwork self.old }
+    pub(crate) fn ask(&mut self, unit: usize) -> Result<(), AllocError>
+        requires network { IsNetwork self.old }
+        requires allowed { IsAllowed self.old (Ask unit) }
         ensures network { IsNetwork self.new }
         ensures plan { KeepsPlan self.old self.new }
-        ensures allowed { OnOk result ((plan : Plan) → IsOf plan self.old → IsAllowed plan self.old (Ask unit)) }
         ensures leads { OnOk result ((plan : Plan) → IsOf plan self.old → LeadsTo plan self.old (Ask unit) self.new) }
-        ensures refused { IfErr result (λ e. e ≢ StepError.Memory → (plan : Plan) → IsOf plan self.old → IsRefused plan self.old (Ask unit) e) }
         ensures same { OnErr result (IsSameNetwork self.old self.new) }
     {
-        if unit >= self.claimers.len() {
-            return Err(StepError::UnknownUnit);
-        }
-        if !self.claimers[unit].is_started() {
-            return Err(StepError::NotStarted);
-        }
-        if is_transfer_open(self.traffic.transfers.as_slice()) {
-            return Err(StepError::TransferOpen);
-        }
-        if self.reserve(2).is_err() {
-            return Err(StepError::Memory);
-        }
+        self.reserve(2)?;
         self.request(unit);
         Ok(())
     }

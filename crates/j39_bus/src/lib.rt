@@ -14,6 +14,7 @@ mod laws;
 mod letter;
 mod network;
 mod opening;
+mod refusing;
 mod report;
 mod route;
 mod sessions;

@@ -1,36 +1,88 @@
 //! The steps of a bus.
-ghost use Rattle.std.specs.Prelude.{◌≡◌, ◌≢◌, None, Some, OnOk, OnErr, IfErr, length};
+ghost use Rattle.std.specs.Prelude.{◌≡◌, true, None, OnOk, OnErr, IfErr, length};
 ghost use Rattle.j39_plan.specs.declared.plan.Plan.{Plan};
 ghost use Rattle.j39_bus.specs.World.{World};
-ghost use Rattle.j39_bus.specs.Run.{refusal, Leads, RunsThrough};
+ghost use Rattle.j39_bus.specs.Run.{refusal, cause_of, takes_memory, Leads, RunsThrough};
 ghost use Rattle.j39_bus.specs.Stands.{Stands, IsRefusedAt};
 
+use crate::network::Network;
 use crate::{Bus, StepError};
+use j39_claim::Choose;
 use j39_plan::Step;
+use std::alloc::AllocError;
+
+impl Network {
+    ghost use Rattle.j39_bus.specs.Network.{Histories, IsAllowed, IsNetwork, IsOf, IsSameNetwork, KeepsPlan, LeadsTo, refusal_in};
+
+    /// Does a step. A refused step changes nothing, nor does one for which there is no memory.
+    pub(crate) fn step(
+        &mut self,
+        choosers: &[Box<dyn Choose>],
+        step: &Step,
+    ) -> Result<(), StepError>
+        requires network { IsNetwork self.old }
+        requires choosers { length choosers.now ≡ length self.old.claimers.items }
+        ensures network { IsNetwork self.new }
+        ensures plan { KeepsPlan self.old self.new }
+        ensures allowed { OnOk result (IsAllowed self.old step.now) }
+        ensures leads { OnOk result ((plan : Plan) → IsOf plan self.old → LeadsTo plan self.old step.now self.new) }
+        ensures refused { IfErr result (λ e. (h : Histories) → refusal_in self.old h step.now ≡ cause_of e) }
+        ensures memory { IfErr result (λ e. e ≡ StepError.Memory → takes_memory step.now ≡ true) }
+        ensures same { OnErr result (IsSameNetwork self.old self.new) }
+    {
+        if let Some(error) = self.refusal(step) {
+            return Err(error);
+        }
+        let Ok(()) = self.act(choosers, step) else {
+            return Err(StepError::Memory);
+        };
+        Ok(())
+    }
+
+    /// Does a step that is not refused.
+    fn act(&mut self, choosers: &[Box<dyn Choose>], step: &Step) -> Result<(), AllocError>
+        requires network { IsNetwork self.old }
+        requires choosers { length choosers.now ≡ length self.old.claimers.items }
+        requires allowed { IsAllowed self.old step.now }
+        ensures network { IsNetwork self.new }
+        ensures plan { KeepsPlan self.old self.new }
+        ensures leads { OnOk result ((plan : Plan) → IsOf plan self.old → LeadsTo plan self.old step.now self.new) }
+        ensures memory { OnErr result (takes_memory step.now ≡ true) }
+        ensures same { OnErr result (IsSameNetwork self.old self.new) }
+    {
+        match step {
+            Step::Up(unit) => self.up(*unit),
+            Step::Give(from, to) => self.give(choosers, *from, *to),
+            Step::Ask(unit) => self.ask(*unit),
+            Step::Begin(flow, bytes) => self.begin(*flow, bytes),
+            Step::Emit(unit) => self.emit(*unit),
+            Step::Take(from, to) => self.take(*from, *to),
+            Step::Lose(from, to) => {
+                self.lose(*from, *to);
+                Ok(())
+            }
+            Step::LateSender(unit) => self.late_sender(*unit),
+            Step::LateReceiver(from, to) => self.late_receiver(*from, *to),
+            Step::Rest(unit) => {
+                self.rest(*unit);
+                Ok(())
+            }
+        }
+    }
+}
 
 impl Bus {
     /// Does one step. A refused step changes nothing: the error is the first cause that holds, in the order of
-    /// `StepError`, want of memory being the last.
+    /// `StepError`. Want of memory comes only where no cause holds, and never for `Lose` and `Rest`; it changes nothing either.
     pub fn step(&mut self, step: &Step) -> Result<(), StepError>
         ensures ok { OnOk result ((plan : Plan) (w : World) → Stands self.old plan w
             → (refusal plan w step.now ≡ None) × ((after : World) × Leads plan w step.now after × Stands self.new plan after)) }
-        ensures refused { IfErr result (λ e. e ≢ StepError.Memory → (plan : Plan) (w : World) → Stands self.old plan w
-            → refusal plan w step.now ≡ Some e) }
+        ensures refused { IfErr result (λ e. (plan : Plan) (w : World) → Stands self.old plan w → refusal plan w step.now ≡ cause_of e) }
+        ensures memory { IfErr result (λ e. e ≡ StepError.Memory → takes_memory step.now ≡ true) }
         ensures same { OnErr result (self.new ≡ self.old) }
         ensures units { length self.new.units ≡ length self.old.units }
     {
-        match step {
-            Step::Up(unit) => self.network.up(*unit),
-            Step::Give(from, to) => self.network.give(self.choosers.as_slice(), *from, *to),
-            Step::Ask(unit) => self.network.ask(*unit),
-            Step::Begin(flow, bytes) => self.network.begin(*flow, bytes),
-            Step::Emit(unit) => self.network.emit(*unit),
-            Step::Take(from, to) => self.network.take(*from, *to),
-            Step::Lose(from, to) => self.network.lose(*from, *to),
-            Step::LateSender(unit) => self.network.late_sender(*unit),
-            Step::LateReceiver(from, to) => self.network.late_receiver(*from, *to),
-            Step::Rest(unit) => self.network.rest(*unit),
-        }
+        self.network.step(self.choosers.as_slice(), step)
     }
 
     /// Does the steps in turn, up to the first that is refused. An error has that step's place; those before it are done.

@@ -8,13 +8,12 @@ ghost use Rattle.j39_bus.specs.Letters.{station_at};
 ghost use Rattle.j39_tp.specs.Receiver.{fresh};
 ghost use Rattle.j39_tp.specs.declared.receiving.manner.Manner.TheVariants.{Answering};
 ghost use Rattle.j39_tp.specs.declared.packet.Packet.{Packet};
-ghost use Rattle.j39_bus.specs.Network.{AreGathered, Histories, has_begun, transfers_of, IsAllowed, IsNetwork, IsOf, IsRefused, IsSameNetwork, KeepsPlan, LeadsTo, world_of};
+ghost use Rattle.j39_bus.specs.Network.{AreGathered, Histories, has_begun, transfers_of, IsAllowed, IsNetwork, IsOf, IsSameNetwork, KeepsPlan, LeadsTo, world_of};
 ghost use Rattle.j39_bus.specs.Run.{at_ends};
 ghost use Rattle.j39_bus.specs.Sent.{sent_of};
 ghost use Rattle.j39_bus.specs.Traffic.{AreOpened, HasContent, IsRoute, bytes_in, is_receiver, is_target, item_frame, room_at, route_of, stage_in};
 ghost use Rattle.j39_bus.specs.TransferSteps.{begins, begun_stage, first_item};
 
-use crate::StepError;
 use crate::letter::post;
 use crate::network::Network;
 use crate::route::Route;
@@ -28,16 +27,6 @@ use std::alloc::AllocError;
 
 /// A message of at most so many bytes is sent in one frame.
 const FRAME_LENGTH: usize = 8;
-
-/// Whether a flow to one unit goes to another one, and its group can be sent to one.
-fn can_be_sent(route: &Route) -> bool
-    ensures { result ≡ can_be_sent (route_of route.now) }
-{
-    match route.to {
-        To::All => true,
-        To::One(unit) => unit != route.sender && (route.pgn.is_pdu1() || route.length > 8),
-    }
-}
 
 /// What the sender has, and what it sends first: the whole message, or its announcement.
 fn opening(route: &Route, bytes: &[u8]) -> (Content, Wired)
@@ -91,66 +80,18 @@ fn receiver_with(window: u8) -> Receiver
 
 impl Network {
     /// The sender of the flow at this place begins to send these bytes.
-    pub(crate) fn begin(&mut self, flow: usize, bytes: &Vec<u8>) -> Result<(), StepError>
-        requires { IsNetwork self.old }
+    pub(crate) fn begin(&mut self, flow: usize, bytes: &Vec<u8>) -> Result<(), AllocError>
+        requires network { IsNetwork self.old }
+        requires allowed { IsAllowed self.old (Begin flow bytes.now) }
         ensures network { IsNetwork self.new }
         ensures plan { KeepsPlan self.old self.new }
-        ensures allowed { OnOk result ((plan : Plan) → IsOf plan self.old → IsAllowed plan self.old (Begin flow bytes.now)) }
         ensures leads { OnOk result ((plan : Plan) → IsOf plan self.old → LeadsTo plan self.old (Begin flow bytes.now) self.new) }
-        ensures refused { IfErr result (λ e. e ≢ StepError.Memory → (plan : Plan) → IsOf plan self.old → IsRefused plan self.old (Begin flow bytes.now) e) }
         ensures same { OnErr result (IsSameNetwork self.old self.new) }
     {
-        let Some(route) = self.traffic.routes.get(flow) else {
-            return Err(StepError::NoSuchFlow);
-        };
-        let route = *route;
-        if !can_be_sent(&route) {
-            return Err(StepError::NoSuchFlow);
-        }
-        if !self.are_started(&route) {
-            return Err(StepError::NotStarted);
-        }
-        if !self.letters.is_empty() {
-            return Err(StepError::NotSettled);
-        }
-        if !self.have_addresses(&route) {
-            return Err(StepError::NoAddress);
-        }
-        if self.traffic.transfers[route.sender].is_some() {
-            return Err(StepError::Busy);
-        }
-        if bytes.len() != usize::from(route.length) {
-            return Err(StepError::WrongLength);
-        }
-        let Ok(receivers) = self.prepare(&route) else {
-            return Err(StepError::Memory);
-        };
+        let route = self.traffic.routes[flow];
+        let receivers = self.prepare(&route)?;
         self.start(flow, &route, bytes.as_slice(), receivers);
         Ok(())
-    }
-
-    /// Whether the sender of a flow is on, and its one receiver.
-    fn are_started(&self, route: &Route) -> bool
-        requires { IsRoute (length self.now.claimers.items) route.now }
-        ensures { result ≡ at_ends (λ u. (station_at self.now.claimers.items u).on) route.now.sender route.now.to }
-    {
-        self.claimers[route.sender].is_started()
-            && match route.to {
-                To::All => true,
-                To::One(unit) => self.claimers[unit].is_started(),
-            }
-    }
-
-    /// Whether the sender of a flow holds an address, and its one receiver.
-    fn have_addresses(&self, route: &Route) -> bool
-        requires { IsRoute (length self.now.claimers.items) route.now }
-        ensures { result ≡ at_ends (λ u. is_some (station_at self.now.claimers.items u).address) route.now.sender route.now.to }
-    {
-        self.claimers[route.sender].address().is_some()
-            && match route.to {
-                To::All => true,
-                To::One(unit) => self.claimers[unit].address().is_some(),
-            }
     }
 
     /// Whether a message of the flow goes to the unit.

@@ -2,38 +2,26 @@
 ghost use Rattle.std.specs.Prelude.{◌≡◌, ◌≢◌, ◌<◌, length, vec_len, vec_capacity, OnOk, OnErr, IfErr};
 ghost use Rattle.j39_plan.specs.declared.plan.Plan.{Plan};
 ghost use Rattle.j39_plan.specs.declared.steps.Step.TheVariants.{LateReceiver};
-ghost use Rattle.j39_bus.specs.Network.{Histories, HasGathered, IsAllowed, IsNetwork, IsOf, IsRefused, IsSameNetwork, KeepsPlan, LeadsTo, world_of};
+ghost use Rattle.j39_bus.specs.Network.{Histories, HasGathered, IsAllowed, IsNetwork, IsOf, IsSameNetwork, KeepsPlan, LeadsTo, world_of};
 ghost use Rattle.j39_bus.specs.Traffic.{room_at};
 ghost use Rattle.j39_bus.specs.TransferSteps.{receiver_timed_out};
 
 use crate::network::Network;
-use crate::{StepError, sessions};
+use crate::sessions;
 use j39_tp::receivers_gather_what_they_hear;
+use std::alloc::AllocError;
 
 impl Network {
     /// The second unit, which receives a message of the first, hears nothing in time: it asks again, or gives up.
-    pub(crate) fn late_receiver(&mut self, from: usize, to: usize) -> Result<(), StepError>
-        requires { IsNetwork self.old }
+    pub(crate) fn late_receiver(&mut self, from: usize, to: usize) -> Result<(), AllocError>
+        requires network { IsNetwork self.old }
+        requires allowed { IsAllowed self.old (LateReceiver from to) }
         ensures network { IsNetwork self.new }
         ensures plan { KeepsPlan self.old self.new }
-        ensures allowed { OnOk result ((plan : Plan) → IsOf plan self.old → IsAllowed plan self.old (LateReceiver from to)) }
         ensures leads { OnOk result ((plan : Plan) → IsOf plan self.old → LeadsTo plan self.old (LateReceiver from to) self.new) }
-        ensures refused { IfErr result (λ e. e ≢ StepError.Memory → (plan : Plan) → IsOf plan self.old → IsRefused plan self.old (LateReceiver from to) e) }
         ensures same { OnErr result (IsSameNetwork self.old self.new) }
     {
-        let count = self.claimers.len();
-        if from >= count || to >= count {
-            return Err(StepError::UnknownUnit);
-        }
-        if !self.claimers[from].is_started() || !self.claimers[to].is_started() {
-            return Err(StepError::NotStarted);
-        }
-        if !sessions::is_receiving(self.traffic.transfers.as_slice(), from, to) {
-            return Err(StepError::NoSession);
-        }
-        if self.reserve_replies(to, from, 1).is_err() {
-            return Err(StepError::Memory);
-        }
+        self.reserve_replies(to, from, 1)?;
         self.ask_again(from, to);
         Ok(())
     }

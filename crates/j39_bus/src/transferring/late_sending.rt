@@ -2,38 +2,27 @@
 ghost use Rattle.std.specs.Prelude.{◌≡◌, ◌≢◌, ◌<◌, true, None, length, slice_index_or, vec_len, vec_capacity, OnOk, OnErr, IfErr};
 ghost use Rattle.j39_plan.specs.declared.plan.Plan.{Plan};
 ghost use Rattle.j39_plan.specs.declared.steps.Step.TheVariants.{LateSender};
-ghost use Rattle.j39_bus.specs.Network.{Histories, IsAllowed, IsNetwork, IsOf, IsRefused, IsSameNetwork, KeepsPlan, LeadsTo, transfers_of, world_of};
+ghost use Rattle.j39_bus.specs.Network.{Histories, IsAllowed, IsNetwork, IsOf, IsSameNetwork, KeepsPlan, LeadsTo, transfers_of, world_of};
 ghost use Rattle.j39_bus.specs.BusState.{session_at};
 ghost use Rattle.j39_bus.specs.Run.{is_waiting};
 ghost use Rattle.j39_bus.specs.Traffic.{HasRoomAlong, KeepsReceivers};
 ghost use Rattle.j39_bus.specs.TransferSteps.{SenderTimesOut};
 
 use crate::network::Network;
-use crate::{StepError, sessions};
+use crate::sessions;
+use std::alloc::AllocError;
 
 impl Network {
     /// The unit, which waits for its receiver, hears nothing in time, and gives its message up.
-    pub(crate) fn late_sender(&mut self, unit: usize) -> Result<(), StepError>
-        requires { IsNetwork self.old }
+    pub(crate) fn late_sender(&mut self, unit: usize) -> Result<(), AllocError>
+        requires network { IsNetwork self.old }
+        requires allowed { IsAllowed self.old (LateSender unit) }
         ensures network { IsNetwork self.new }
         ensures plan { KeepsPlan self.old self.new }
-        ensures allowed { OnOk result ((plan : Plan) → IsOf plan self.old → IsAllowed plan self.old (LateSender unit)) }
         ensures leads { OnOk result ((plan : Plan) → IsOf plan self.old → LeadsTo plan self.old (LateSender unit) self.new) }
-        ensures refused { IfErr result (λ e. e ≢ StepError.Memory → (plan : Plan) → IsOf plan self.old → IsRefused plan self.old (LateSender unit) e) }
         ensures same { OnErr result (IsSameNetwork self.old self.new) }
     {
-        if unit >= self.claimers.len() {
-            return Err(StepError::UnknownUnit);
-        }
-        if !self.claimers[unit].is_started() {
-            return Err(StepError::NotStarted);
-        }
-        if !sessions::is_waiting(self.traffic.transfers.as_slice(), unit) {
-            return Err(StepError::NoSession);
-        }
-        if self.reserve_along(unit).is_err() {
-            return Err(StepError::Memory);
-        }
+        self.reserve_along(unit)?;
         self.give_up(unit);
         Ok(())
     }

@@ -2,38 +2,26 @@
 ghost use Rattle.std.specs.Prelude.{◌≡◌, ◌≢◌, ◌<◌, length, OnOk, OnErr, IfErr};
 ghost use Rattle.j39_plan.specs.declared.plan.Plan.{Plan};
 ghost use Rattle.j39_plan.specs.declared.steps.Step.TheVariants.{Rest};
-ghost use Rattle.j39_bus.specs.Network.{Histories, IsAllowed, IsNetwork, IsOf, IsRefused, IsSameNetwork, KeepsPlan, LeadsTo, world_of};
+ghost use Rattle.j39_bus.specs.Network.{Histories, IsAllowed, IsNetwork, IsOf, IsSameNetwork, KeepsPlan, LeadsTo, world_of};
 ghost use Rattle.j39_bus.specs.Resting.{can_rest, is_over_with};
 
 use crate::network::Network;
-use crate::{StepError, sessions};
+use crate::sessions;
 
 impl Network {
     /// The message of the unit has ended, and it may begin another one.
-    pub(crate) fn rest(&mut self, unit: usize) -> Result<(), StepError>
-        requires { IsNetwork self.old }
+    pub(crate) fn rest(&mut self, unit: usize)
+        requires network { IsNetwork self.old }
+        requires allowed { IsAllowed self.old (Rest unit) }
         ensures network { IsNetwork self.new }
         ensures plan { KeepsPlan self.old self.new }
-        ensures allowed { OnOk result ((plan : Plan) → IsOf plan self.old → IsAllowed plan self.old (Rest unit)) }
-        ensures leads { OnOk result ((plan : Plan) → IsOf plan self.old → LeadsTo plan self.old (Rest unit) self.new) }
-        ensures refused { IfErr result (λ e. e ≢ StepError.Memory → (plan : Plan) → IsOf plan self.old → IsRefused plan self.old (Rest unit) e) }
-        ensures same { OnErr result (IsSameNetwork self.old self.new) }
+        ensures leads { (plan : Plan) → IsOf plan self.old → LeadsTo plan self.old (Rest unit) self.new }
     {
-        if unit >= self.claimers.len() {
-            return Err(StepError::UnknownUnit);
-        }
-        if !self.claimers[unit].is_started() {
-            return Err(StepError::NotStarted);
-        }
-        if !self.can_rest(unit) {
-            return Err(StepError::CannotRest);
-        }
         self.traffic.transfers[unit] = None;
-        Ok(())
     }
 
     /// Whether the message of the unit has ended, and nothing of it is open or undelivered.
-    fn can_rest(&self, unit: usize) -> bool
+    pub(crate) fn can_rest(&self, unit: usize) -> bool
         requires network { IsNetwork self.now }
         requires unit { unit < length self.now.claimers.items }
         ensures { (h : Histories) → result ≡ can_rest (length self.now.claimers.items) (world_of h self.now) unit }

@@ -5,15 +5,15 @@ ghost use Rattle.j39_plan.specs.declared.steps.Step.TheVariants.{Take};
 ghost use Rattle.j39_bus.specs.BusState.{pair_in, receiving_at};
 ghost use Rattle.j39_tp.specs.inside.Gathered.{HoldsCarried};
 ghost use Rattle.j39_tp.specs.Receiver.{message_of};
-ghost use Rattle.j39_bus.specs.Network.{Histories, HasGathered, IsAllowed, IsNetwork, IsOf, IsRefused, IsSameNetwork, KeepsPlan, LeadsTo, has_taken, world_of, TakesTo, transfers_of};
+ghost use Rattle.j39_bus.specs.Network.{Histories, HasGathered, IsAllowed, IsNetwork, IsOf, IsSameNetwork, KeepsPlan, LeadsTo, has_taken, world_of, TakesTo, transfers_of};
 ghost use Rattle.j39_bus.specs.Traffic.{HasRoomFor, IsData, KeepsRoom, is_complete, lists_of, packet_heard, room_at};
 ghost use Rattle.j39_bus.specs.TransferSteps.{TakenFrom, hearing, packets_in, reaction_of, receiver_replies, report, sender_replies};
 
 use crate::letter::post;
 use crate::network::Network;
 use crate::report::Report;
+use crate::sessions;
 use crate::wired::Wired;
-use crate::{StepError, sessions};
 use j39_tp::{Heard, Packet, Reaction, known_ranges, receivers_gather_what_they_hear};
 use std::alloc::AllocError;
 
@@ -53,30 +53,19 @@ fn answer_of(reaction: &Reaction) -> Option<Packet>
 
 impl Network {
     /// The second unit takes the oldest that it has not taken yet of the first.
-    pub(crate) fn take(&mut self, from: usize, to: usize) -> Result<(), StepError>
-        requires { IsNetwork self.old }
+    pub(crate) fn take(&mut self, from: usize, to: usize) -> Result<(), AllocError>
+        requires network { IsNetwork self.old }
+        requires allowed { IsAllowed self.old (Take from to) }
         ensures network { IsNetwork self.new }
         ensures plan { KeepsPlan self.old self.new }
-        ensures allowed { OnOk result ((plan : Plan) → IsOf plan self.old → IsAllowed plan self.old (Take from to)) }
         ensures leads { OnOk result ((plan : Plan) → IsOf plan self.old → LeadsTo plan self.old (Take from to) self.new) }
-        ensures refused { IfErr result (λ e. e ≢ StepError.Memory → (plan : Plan) → IsOf plan self.old → IsRefused plan self.old (Take from to) e) }
         ensures same { OnErr result (IsSameNetwork self.old self.new) }
     {
-        let count = self.claimers.len();
-        if from >= count || to >= count {
-            return Err(StepError::UnknownUnit);
-        }
-        if !self.claimers[from].is_started() || !self.claimers[to].is_started() {
-            return Err(StepError::NotStarted);
-        }
         let Some(oldest) = self.traffic.wire.oldest(from, to) else {
-            return Err(StepError::NothingUndelivered);
+            unreachable!()
         };
         let item = oldest.copy();
-        if self.take_item(from, to, &item).is_err() {
-            return Err(StepError::Memory);
-        }
-        Ok(())
+        self.take_item(from, to, &item)
     }
 
     fn take_item(&mut self, from: usize, to: usize, item: &Wired) -> Result<(), AllocError>

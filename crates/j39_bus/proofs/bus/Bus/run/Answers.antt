@@ -1,8 +1,8 @@
-use Rattle.std.proofs.Common.{◌≡◌, ◌≢◌, ◌<◌, ◌≤◌, length, ◌∙◌, subst, arith, Some, None}
+use Rattle.std.proofs.Common.{◌≡◌, ◌<◌, ◌≤◌, true, length, ◌∙◌, subst, arith, None}
 use Rattle.j39_plan.specs.declared.plan.Plan.{Plan}
 use Rattle.j39_plan.specs.declared.steps.Step.{Step}
 use Rattle.j39_bus.specs.declared.step_error.StepError.TheVariants.{Memory}
-use Rattle.j39_bus.specs.Run.{refusal, Leads}
+use Rattle.j39_bus.specs.Run.{cause_of, refusal, takes_memory, Leads}
 use Rattle.j39_bus.specs.Stands.{Stands}
 use Rattle.j39_bus.specs.World.{World}
 use Rattle.j39_bus.proofs.Running.{run_more, run_refused, run_all}
@@ -12,7 +12,8 @@ pub returns-in-Err-clause-refused : goal.returns-in-Err-clause-refused
 returns-in-Err-clause-refused g c =
     let inside : c.loop-place.place < length c.args.steps.now = omega arith in
     run_refused c.args.self.now c.loop-place.self c.step.new.self c.args.steps.now c.loop-place.place c.index-steps-place.result inside c.loop-place.invariant.ran c.in-Err.ensures.same c.in-Err.error
-    (subst (λ (d : Step). c.in-Err.error ≢ Memory → (plan : Plan) (w : World) → Stands c.loop-place.self plan w → refusal plan w d ≡ Some c.in-Err.error) c.index-steps-place.is c.in-Err.ensures.refused)
+    (subst (λ (d : Step). (plan : Plan) (w : World) → Stands c.loop-place.self plan w → refusal plan w d ≡ cause_of c.in-Err.error) c.index-steps-place.is c.in-Err.ensures.refused)
+    (subst (λ (d : Step). c.in-Err.error ≡ Memory → takes_memory d ≡ true) c.index-steps-place.is c.in-Err.ensures.memory)
 
 pub loop-place-preserved : goal.loop-place-preserved
 loop-place-preserved g c =

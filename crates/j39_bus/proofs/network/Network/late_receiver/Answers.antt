@@ -1,10 +1,27 @@
-use Rattle.std.proofs.Common.{ap, ◌∙◌}
+use Rattle.std.proofs.Common.{◌<◌, length, ap, ◌∙◌, arith}
 use Rattle.j39_plan.specs.declared.steps.Step.TheVariants.{LateReceiver}
 use Rattle.j39_bus.specs.Network.{world_of}
 use Rattle.j39_bus.specs.TransferSteps.{receiver_timed_out}
+use Rattle.j39_bus.proofs.Refused.{nowhere, pair_inside}
 use Rattle.j39_bus.proofs.Standing.{plan_kept}
 use Rattle.j39_bus.proofs.Steady.{leads_after, plan_same}
 use Rattle.j39_bus.proofs.network.Network.late_receiver.Goals as goal
+
+pub reserve_replies-requires-clause-from : goal.reserve_replies-requires-clause-from
+reserve_replies-requires-clause-from c = (pair_inside _ _ _ _ (c.requires.allowed nowhere)).1
+
+pub reserve_replies-requires-clause-to : goal.reserve_replies-requires-clause-to
+reserve_replies-requires-clause-to c = (pair_inside _ _ _ _ (c.requires.allowed nowhere)).0
+
+pub ask_again-requires-clause-from : goal.ask_again-requires-clause-from
+ask_again-requires-clause-from c =
+    let inside : (c.args.from < length c.args.self.now.claimers.items) × (c.args.to < length c.args.self.now.claimers.items) = pair_inside _ _ _ _ (c.requires.allowed nowhere) in
+    omega (arith, inside.0, ap length c.reserve_replies.ensures.same.claimers)
+
+pub ask_again-requires-clause-to : goal.ask_again-requires-clause-to
+ask_again-requires-clause-to c =
+    let inside : (c.args.from < length c.args.self.now.claimers.items) × (c.args.to < length c.args.self.now.claimers.items) = pair_inside _ _ _ _ (c.requires.allowed nowhere) in
+    omega (arith, inside.1, ap length c.reserve_replies.ensures.same.claimers)
 
 pub returns-clause-leads : goal.returns-clause-leads
 returns-clause-leads c = λ plan of.

@@ -1,6 +1,23 @@
+use Rattle.std.proofs.Common.{◌<◌, length, ap, ◌∙◌, arith}
 use Rattle.j39_plan.specs.declared.steps.Step.TheVariants.{LateSender}
+use Rattle.j39_bus.specs.BusState.{session_at}
+use Rattle.j39_bus.specs.Run.{is_waiting}
+use Rattle.j39_bus.specs.Traffic.{values_of}
+use Rattle.j39_bus.proofs.Refused.{all_met, nowhere, unit_inside}
 use Rattle.j39_bus.proofs.Steady.{leads_after, receivers_gathered}
 use Rattle.j39_bus.proofs.network.Network.late_sender.Goals as goal
+
+pub reserve_along-requires-clause-unit : goal.reserve_along-requires-clause-unit
+reserve_along-requires-clause-unit c = unit_inside _ _ _ (c.requires.allowed nowhere)
+
+pub give_up-requires-clause-unit : goal.give_up-requires-clause-unit
+give_up-requires-clause-unit c =
+    let inside : c.args.unit < length c.args.self.now.claimers.items = unit_inside _ _ _ (c.requires.allowed nowhere) in
+    omega (arith, inside, ap length c.reserve_along.ensures.same.claimers)
+
+pub give_up-requires-clause-waits : goal.give_up-requires-clause-waits
+give_up-requires-clause-waits c =
+    ap (λ ts. is_waiting (session_at (values_of ts) c.args.unit)) c.reserve_along.ensures.same.transfers ∙ (all_met _ _ _ _ _ _ (c.requires.allowed nowhere)).2
 
 pub returns-clause-leads : goal.returns-clause-leads
 returns-clause-leads c = λ plan of.

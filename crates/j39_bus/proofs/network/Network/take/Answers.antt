@@ -1,19 +1,44 @@
-use Rattle.std.proofs.Common.{◌≡◌, false, subst, List, ℕ, Result, Ok, Err, OnOk, is_err}
+use Rattle.std.proofs.Common.{◌<◌, true, ◌≡◌, ap, sym, ◌∙◌, subst, List, ℕ, Result, Ok, Err, OnOk, nat_lt, length, arith}
 use Rattle.std.proofs.lemmas.Bool.{true≢false}
+use Rattle.j39_bus.specs.declared.wired.Wired.{Wired}
 use Rattle.j39_bus.specs.BusState.{pair_in}
 use Rattle.j39_bus.specs.Network.{TakesTo, world_of}
 use Rattle.j39_bus.specs.Traffic.{lists_of}
 use Rattle.j39_bus.specs.TransferSteps.{TakenFrom}
+use Rattle.j39_bus.proofs.Refused.{all_met, nowhere, pair_inside}
 use Rattle.j39_bus.proofs.network.Network.take.Goals as goal
 
-on_ok : {X E : Type 0} (r : Result X E) (P : Type 0) → is_err r ≡ false → OnOk r P → P
-on_ok (Ok x) P is h = h
-on_ok (Err e) P is h = absurd (true≢false is)
+pub oldest-requires-clause-from : goal.oldest-requires-clause-from
+oldest-requires-clause-from c =
+    let inside : (c.args.from < length c.args.self.now.claimers.items) × (c.args.to < length c.args.self.now.claimers.items) = pair_inside _ _ _ _ (c.requires.allowed nowhere) in
+    omega (arith, inside.0, c.requires.network.traffic.table.rows)
+
+pub oldest-requires-clause-to : goal.oldest-requires-clause-to
+oldest-requires-clause-to c =
+    let inside : (c.args.from < length c.args.self.now.claimers.items) × (c.args.to < length c.args.self.now.claimers.items) = pair_inside _ _ _ _ (c.requires.allowed nowhere) in
+    omega (arith, inside.1, c.requires.network.traffic.table.rows)
+
+pub take_item-requires-clause-from : goal.take_item-requires-clause-from
+take_item-requires-clause-from c = (pair_inside _ _ _ _ (c.requires.allowed nowhere)).0
+
+pub take_item-requires-clause-to : goal.take_item-requires-clause-to
+take_item-requires-clause-to c = (pair_inside _ _ _ _ (c.requires.allowed nowhere)).1
+
+pub unreachable-requires : goal.unreachable-requires
+unreachable-requires c =
+    let some : nat_lt 0 (length (pair_in (lists_of c.args.self.now.traffic.wire) c.args.from c.args.to)) ≡ true = (all_met _ _ _ _ _ _ (c.requires.allowed nowhere)).2 in
+    true≢false (sym some ∙ ap (λ (xs : List Wired). nat_lt 0 (length xs)) c.in_default.ensures.none)
+
+on_map : {X E : Type 0} (r : Result X E) (P Q : Type 0) → (P → Q) → OnOk r P → OnOk r Q
+on_map (Ok x) P Q f h = f h
+on_map (Err e) P Q f h = tt
 
 pub returns-clause-leads : goal.returns-clause-leads
-returns-clause-leads c = λ plan of h gathered.
+returns-clause-leads c =
     let net = c.args.self.now in
-    let done : is_err c.take_item.result ≡ false = cc in
-    let leads : TakesTo net c.args.from c.args.to c.take_item.new.self = on_ok c.take_item.result (TakesTo net c.args.from c.args.to c.take_item.new.self) done c.take_item.ensures.leads in
+    let list = pair_in (lists_of net.traffic.wire) c.args.from c.args.to in
+    on_map c.take_item.result (TakesTo net c.args.from c.args.to c.take_item.new.self) _
+    (λ leads plan of h gathered.
     let (after, taken, has) = leads h gathered in
-    (after, subst (λ (ws : List ℕ). TakenFrom ws (world_of h net) c.args.from c.args.to (pair_in (lists_of net.traffic.wire) c.args.from c.args.to) (world_of after c.take_item.new.self)) of.windows taken, has)
+    (after, subst (λ (ws : List ℕ). TakenFrom ws (world_of h net) c.args.from c.args.to list (world_of after c.take_item.new.self)) of.windows taken, has))
+    c.take_item.ensures.leads

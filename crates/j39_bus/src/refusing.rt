@@ -1,0 +1,233 @@
+//! Why steps are refused.
+ghost use Rattle.std.specs.Prelude.{◌≡◌, ◌<◌, true, None, Some, nat_lt, length, is_some};
+ghost use Rattle.j39_plan.specs.declared.steps.Step.TheVariants.{Up, Give, Ask, Begin, Emit, Take, LateSender, LateReceiver, Rest};
+ghost use Rattle.j39_bus.specs.Flows.{can_be_sent};
+ghost use Rattle.j39_bus.specs.Letters.{station_at};
+ghost use Rattle.j39_bus.specs.Network.{Histories, IsNetwork, refusal_in};
+ghost use Rattle.j39_bus.specs.Run.{at_ends, both, unless};
+ghost use Rattle.j39_bus.specs.Traffic.{IsRoute, route_of};
+
+use crate::letter::first_between;
+use crate::network::Network;
+use crate::route::Route;
+use crate::transfer::is_transfer_open;
+use crate::{StepError, sessions};
+use j39_plan::{Step, To};
+
+/// Whether a flow to one unit goes to another one, and its group can be sent to one.
+fn can_be_sent(route: &Route) -> bool
+    ensures { result ≡ can_be_sent (route_of route.now) }
+{
+    match route.to {
+        To::All => true,
+        To::One(unit) => unit != route.sender && (route.pgn.is_pdu1() || route.length > 8),
+    }
+}
+
+impl Network {
+    /// The first cause for which a step is refused, if there is one.
+    pub(crate) fn refusal(&self, step: &Step) -> Option<StepError>
+        requires { IsNetwork self.now }
+        ensures { (h : Histories) → result ≡ refusal_in self.now h step.now }
+    {
+        match step {
+            Step::Up(unit) => self.refusal_of_up(*unit),
+            Step::Give(from, to) => self.refusal_of_give(*from, *to),
+            Step::Ask(unit) => self.refusal_of_ask(*unit),
+            Step::Begin(flow, bytes) => self.refusal_of_begin(*flow, bytes),
+            Step::Emit(unit) => self.refusal_of_emit(*unit),
+            Step::Take(from, to) => self.refusal_of_take(*from, *to),
+            Step::Lose(from, to) => self.refusal_of_take(*from, *to),
+            Step::LateSender(unit) => self.refusal_of_late_sender(*unit),
+            Step::LateReceiver(from, to) => self.refusal_of_late_receiver(*from, *to),
+            Step::Rest(unit) => self.refusal_of_rest(*unit),
+        }
+    }
+
+    // Of a unit that has to be on.
+    fn refusal_of_unit(&self, unit: usize) -> Option<StepError>
+        ensures { result ≡ unless (nat_lt unit (length self.now.claimers.items)) StepError.UnknownUnit (unless (station_at self.now.claimers.items unit).on StepError.NotStarted None) }
+    {
+        if unit >= self.claimers.len() {
+            return Some(StepError::UnknownUnit);
+        }
+        if !self.claimers[unit].is_started() {
+            return Some(StepError::NotStarted);
+        }
+        None
+    }
+
+    // Of two units that have to be on.
+    fn refusal_of_pair(&self, from: usize, to: usize) -> Option<StepError>
+        ensures { result ≡ unless (both (λ x. nat_lt x (length self.now.claimers.items)) from to) StepError.UnknownUnit (unless (both (λ x. (station_at self.now.claimers.items x).on) from to) StepError.NotStarted None) }
+    {
+        let count = self.claimers.len();
+        if from >= count || to >= count {
+            return Some(StepError::UnknownUnit);
+        }
+        if !self.claimers[from].is_started() || !self.claimers[to].is_started() {
+            return Some(StepError::NotStarted);
+        }
+        None
+    }
+
+    fn refusal_of_up(&self, unit: usize) -> Option<StepError>
+        requires { IsNetwork self.now }
+        ensures { (h : Histories) → result ≡ refusal_in self.now h (Up unit) }
+    {
+        if unit >= self.claimers.len() {
+            return Some(StepError::UnknownUnit);
+        }
+        if self.claimers[unit].is_started() {
+            return Some(StepError::AlreadyStarted);
+        }
+        if is_transfer_open(self.traffic.transfers.as_slice()) {
+            return Some(StepError::TransferOpen);
+        }
+        None
+    }
+
+    fn refusal_of_give(&self, from: usize, to: usize) -> Option<StepError>
+        requires { IsNetwork self.now }
+        ensures { (h : Histories) → result ≡ refusal_in self.now h (Give from to) }
+    {
+        if let Some(error) = self.refusal_of_pair(from, to) {
+            return Some(error);
+        }
+        if first_between(self.letters.as_slice(), from, to) >= self.letters.len() {
+            return Some(StepError::NothingUndelivered);
+        }
+        None
+    }
+
+    fn refusal_of_ask(&self, unit: usize) -> Option<StepError>
+        requires { IsNetwork self.now }
+        ensures { (h : Histories) → result ≡ refusal_in self.now h (Ask unit) }
+    {
+        if let Some(error) = self.refusal_of_unit(unit) {
+            return Some(error);
+        }
+        if is_transfer_open(self.traffic.transfers.as_slice()) {
+            return Some(StepError::TransferOpen);
+        }
+        None
+    }
+
+    fn refusal_of_begin(&self, flow: usize, bytes: &Vec<u8>) -> Option<StepError>
+        requires { IsNetwork self.now }
+        ensures { (h : Histories) → result ≡ refusal_in self.now h (Begin flow bytes.now) }
+    {
+        let Some(route) = self.traffic.routes.get(flow) else {
+            return Some(StepError::NoSuchFlow);
+        };
+        if !can_be_sent(route) {
+            return Some(StepError::NoSuchFlow);
+        }
+        if !self.are_started(route) {
+            return Some(StepError::NotStarted);
+        }
+        if !self.letters.is_empty() {
+            return Some(StepError::NotSettled);
+        }
+        if !self.have_addresses(route) {
+            return Some(StepError::NoAddress);
+        }
+        if self.traffic.transfers[route.sender].is_some() {
+            return Some(StepError::Busy);
+        }
+        if bytes.len() != usize::from(route.length) {
+            return Some(StepError::WrongLength);
+        }
+        None
+    }
+
+    fn refusal_of_emit(&self, unit: usize) -> Option<StepError>
+        requires { IsNetwork self.now }
+        ensures { (h : Histories) → result ≡ refusal_in self.now h (Emit unit) }
+    {
+        if let Some(error) = self.refusal_of_unit(unit) {
+            return Some(error);
+        }
+        if !sessions::is_sending(self.traffic.transfers.as_slice(), unit) {
+            return Some(StepError::NothingToSend);
+        }
+        None
+    }
+
+    // Of a unit that takes what another sent, or for which this is lost.
+    fn refusal_of_take(&self, from: usize, to: usize) -> Option<StepError>
+        requires { IsNetwork self.now }
+        ensures { (h : Histories) → result ≡ refusal_in self.now h (Take from to) }
+    {
+        if let Some(error) = self.refusal_of_pair(from, to) {
+            return Some(error);
+        }
+        if self.traffic.wire.oldest(from, to).is_none() {
+            return Some(StepError::NothingUndelivered);
+        }
+        None
+    }
+
+    fn refusal_of_late_sender(&self, unit: usize) -> Option<StepError>
+        requires { IsNetwork self.now }
+        ensures { (h : Histories) → result ≡ refusal_in self.now h (LateSender unit) }
+    {
+        if let Some(error) = self.refusal_of_unit(unit) {
+            return Some(error);
+        }
+        if !sessions::is_waiting(self.traffic.transfers.as_slice(), unit) {
+            return Some(StepError::NoSession);
+        }
+        None
+    }
+
+    fn refusal_of_late_receiver(&self, from: usize, to: usize) -> Option<StepError>
+        requires { IsNetwork self.now }
+        ensures { (h : Histories) → result ≡ refusal_in self.now h (LateReceiver from to) }
+    {
+        if let Some(error) = self.refusal_of_pair(from, to) {
+            return Some(error);
+        }
+        if !sessions::is_receiving(self.traffic.transfers.as_slice(), from, to) {
+            return Some(StepError::NoSession);
+        }
+        None
+    }
+
+    fn refusal_of_rest(&self, unit: usize) -> Option<StepError>
+        requires { IsNetwork self.now }
+        ensures { (h : Histories) → result ≡ refusal_in self.now h (Rest unit) }
+    {
+        if let Some(error) = self.refusal_of_unit(unit) {
+            return Some(error);
+        }
+        if !self.can_rest(unit) {
+            return Some(StepError::CannotRest);
+        }
+        None
+    }
+
+    /// Whether the sender of a flow is on, and its one receiver.
+    fn are_started(&self, route: &Route) -> bool
+        requires { IsRoute (length self.now.claimers.items) route.now }
+        ensures { result ≡ at_ends (λ u. (station_at self.now.claimers.items u).on) route.now.sender route.now.to }
+    {
+        self.claimers[route.sender].is_started()
+            && match route.to {
+                To::All => true,
+                To::One(unit) => self.claimers[unit].is_started(),
+            }
+    }
+
+    /// Whether the sender of a flow holds an address, and its one receiver.
+    fn have_addresses(&self, route: &Route) -> bool
+        requires { IsRoute (length self.now.claimers.items) route.now }
+        ensures { result ≡ at_ends (λ u. is_some (station_at self.now.claimers.items u).address) route.now.sender route.now.to }
+    {
+        self.claimers[route.sender].address().is_some()
+            && match route.to {
+                To::All => true,
+                To::One(unit) => self.claimers[unit].address().is_some(),
+            }
+    }
+}
