@@ -22,8 +22,7 @@ def path():
     return found
 
 
-def call(words, text=None):
+def call(words):
     """What the program answers: its exit status and standard output. Its standard error goes where ours does."""
-    given = {"stdin": subprocess.DEVNULL} if text is None else {"input": text.encode()}
-    ended = subprocess.run([path(), *words], stdout=subprocess.PIPE, check=False, **given)
+    ended = subprocess.run([path(), *words], stdin=subprocess.DEVNULL, stdout=subprocess.PIPE, check=False)
     return ended.returncode, ended.stdout.decode()

@@ -7,6 +7,7 @@ still to hear. The schedule that is written ends settled, and a run of it shows 
 
 import argparse
 import sys
+import tempfile
 
 import program
 
@@ -20,7 +21,10 @@ class Refused(Exception):
 
 def answer_of(plan, steps):
     """The lines that the program answers to a schedule of these steps."""
-    status, answer = program.call(["run", "--", plan, "/dev/stdin"], "".join(f"{step}\n" for step in steps))
+    with tempfile.NamedTemporaryFile("w", suffix=".schedule") as schedule:
+        schedule.writelines(f"{step}\n" for step in steps)
+        schedule.flush()
+        status, answer = program.call(["run", "--", plan, schedule.name])
     lines = answer.splitlines()
     if status != 0:
         raise Refused(next((line for line in lines if line.startswith("refused")), f"status {status}"))
@@ -54,7 +58,7 @@ def deliveries(order, senders, frames):
     ]
 
 
-def schedule(plan, order):
+def start_up(plan, order):
     """The steps of a start-up in this order, and what the program answers to them."""
     steps, senders = started(plan, order)
     steps += [f"give {later} {earlier}" for at, later in enumerate(order) for earlier in order[:at]]
@@ -86,7 +90,7 @@ def main(words=None):
     given = parser.parse_args(words)
     try:
         order = ordered(units_of(given.plan), given.first)
-        steps, lines = schedule(given.plan, order)
+        steps, lines = start_up(given.plan, order)
     except Refused as refused:
         print(f"startup: {refused}", file=sys.stderr)
         return 1
