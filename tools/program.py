@@ -24,5 +24,10 @@ def path():
 
 def call(words):
     """What the program answers: its exit status and standard output. Its standard error goes where ours does."""
-    ended = subprocess.run([path(), *words], stdin=subprocess.DEVNULL, stdout=subprocess.PIPE, check=False)
+    name = path()
+    try:
+        ended = subprocess.run([name, *words], stdin=subprocess.DEVNULL, stdout=subprocess.PIPE, check=False)
+    except OSError as fault:
+        print(f"j39plan can't be run: {name}: {fault.strerror}", file=sys.stderr)
+        sys.exit(MISSING)
     return ended.returncode, ended.stdout.decode()

@@ -1,8 +1,11 @@
 """Where the answers of `check` belong."""
 
+import os
+import subprocess
+import sys
 import unittest
 
-from tests.support import InFolder, example, examples, run, shown_refusals, text_of
+from tests.support import TOOLS, InFolder, example, examples, run, shown_refusals, text_of
 
 UNIT = '[[unit]]\nlabel = "{}"\naddress = {}\nname = {{ identity = {} }}\n'
 
@@ -108,6 +111,15 @@ class Where(InFolder):
         status, answer, _ = run("where.py", "--github", name)
         self.assertEqual(status, 2)
         self.assertTrue(answer.startswith(f"::error file={name},line=1::refused Range top key version"), answer)
+
+    def test_a_program_that_is_not_there(self):
+        environment = {**os.environ, "J39PLAN": self.path("j39plan")}
+        ended = subprocess.run(
+            [sys.executable, os.path.join(TOOLS, "where.py"), example("first_plan.toml")],
+            capture_output=True, text=True, check=False, env=environment,
+        )
+        said = f"j39plan can't be run: {self.path('j39plan')}: No such file or directory\n"
+        self.assertEqual((ended.returncode, ended.stdout, ended.stderr), (69, "", said))
 
     def test_a_missing_file(self):
         status, answer, said = run("where.py", self.path("none.toml"))
