@@ -1,5 +1,6 @@
 pub mod Adding
 pub mod CleanParts
+pub mod ConflictRuns
 pub mod Described
 pub mod Elements
 pub mod Faults

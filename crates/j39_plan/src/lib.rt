@@ -2,13 +2,17 @@
 #![tactic(auto)]
 
 mod checking;
+mod conflict_run;
 mod laws;
 mod plan;
 mod reading;
 mod steps;
 
 pub use checking::{CheckedPlan, Finding, Findings, Refused, RefusedCause, check, checked};
-pub use laws::{clean_parts, clean_where_none, found_exactly, signals_are_sound};
+pub use conflict_run::bad_run;
+pub use laws::{
+    clean_parts, clean_where_none, conflict_runs_are_exact, found_exactly, signals_are_sound,
+};
 pub use plan::{FlowPlan, GroupPlan, Plan, To, UnitPlan, Way};
 pub use reading::{Cause, Fault, Key, Place, PlanError, Table, read_plan};
 pub use steps::Step;
