@@ -1,0 +1,104 @@
+//! Rows: a file that a command is run on, and beside it what the command writes.
+//!
+//! `PLAN.toml` is checked, `PLAN.NAME.schedule` is run and `PLAN.NAME.log` is read by the plan beside it, and `NAME.line`
+//! is a frame line. Standard error stays empty, and the status is one of the program's output.
+
+use crate::outcome::perform;
+use crate::stage::Stage;
+use std::fs;
+use std::rt::Files;
+
+/// How files of one ending are run.
+#[derive(Clone, Copy)]
+struct Kind {
+    command: &'static str,
+    ending: &'static str,
+    shown: &'static str,
+}
+
+const KINDS: [Kind; 4] = [
+    Kind {
+        command: "check",
+        ending: ".toml",
+        shown: ".check",
+    },
+    Kind {
+        command: "run",
+        ending: ".schedule",
+        shown: ".run",
+    },
+    Kind {
+        command: "read",
+        ending: ".log",
+        shown: ".read",
+    },
+    Kind {
+        command: "frame",
+        ending: ".line",
+        shown: ".frame",
+    },
+];
+
+// The file name of the plan that a row belongs to: the row's up to its first dot.
+fn plan_of<R: AllocGlobal>(rt: &R, name: &str) -> Result<String, anyhow::Error> {
+    let plan = match name.split_once('.') {
+        Some((plan, _)) => plan,
+        None => name,
+    };
+    Ok(format!(in rt.alloc(); "{plan}.toml")?)
+}
+
+// The words that a row is run by.
+fn words_of<R: Files + AllocGlobal>(
+    rt: &R,
+    folder: &str,
+    kind: Kind,
+    name: &str,
+) -> Result<Vec<Vec<u8>>, anyhow::Error> {
+    let file = format!(in rt.alloc(); "{name}{}", kind.ending)?;
+    let mut words = Vec::new(rt.alloc());
+    words.push(kind.command.as_bytes().to_vec(rt.alloc())?)?;
+    match kind.command {
+        "check" => words.push(file.into_bytes())?,
+        "frame" => words.push(fs::read(rt, format!(in rt.alloc(); "{folder}{file}")?.as_str())?)?,
+        _ => {
+            words.push(plan_of(rt, name)?.into_bytes())?;
+            words.push(file.into_bytes())?;
+        }
+    }
+    Ok(words)
+}
+
+// Runs a row and says whether it wrote what is shown.
+fn run_row<R: Files + Print + AllocGlobal>(
+    rt: &R,
+    folder: &str,
+    kind: Kind,
+    name: &str,
+) -> Result<(), anyhow::Error> {
+    let words = words_of(rt, folder, kind, name)?;
+    let outcome = perform(Stage::new(rt, folder, words.as_slice(), &[], usize::MAX));
+    let shown = format!(in rt.alloc(); "{folder}{name}{}", kind.shown)?;
+    let wanted = fs::read(rt, shown.as_str())?;
+    let is_as_shown = outcome.output.as_slice() == wanted.as_slice()
+        && outcome.complaints.is_empty();
+    let answer = if is_as_shown { "as shown" } else { "other" };
+    println!(rt; "{shown}: {answer}, status {}", outcome.status)?;
+    Ok(())
+}
+
+/// Runs the rows of a folder, of whose files these are the names.
+pub fn run_rows<R: Files + Print + AllocGlobal>(
+    rt: &R,
+    folder: &str,
+    files: &[String],
+) -> Result<(), anyhow::Error> {
+    for kind in KINDS {
+        for file in files {
+            if let Some(name) = file.strip_suffix(kind.ending) {
+                run_row(rt, folder, kind, name)?;
+            }
+        }
+    }
+    Ok(())
+}
