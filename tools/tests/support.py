@@ -8,12 +8,11 @@ import sys
 import tempfile
 import unittest
 
+import program
+
 TOOLS = os.path.dirname(os.path.dirname(os.path.realpath(__file__)))
 TOP = os.path.dirname(TOOLS)
 EXAMPLES = os.path.join(TOP, "examples")
-sys.path.insert(0, TOOLS)
-
-import program  # noqa: E402
 
 
 def example(name):

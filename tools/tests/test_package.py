@@ -31,7 +31,7 @@ class Built(InFolder):
             os.umask(before)
 
     def test_two_builds_give_the_same_bytes(self):
-        first, second = self.build("one"), self.build("two", 0o077)
+        first, second = self.build("one"), self.build("two", umask=0o077)
         self.assertEqual(list(map(os.path.basename, first)), list(map(os.path.basename, second)))
         for one, two in zip(first, second):
             with open(one, "rb") as left, open(two, "rb") as right:

@@ -6,7 +6,8 @@ import re
 import tomllib
 import unittest
 
-from tests.support import TOOLS, TOP, InFolder, examples, needs, run, shown_refusals, text_of
+import program
+from tests.support import TOOLS, TOP, InFolder, examples, needs, shown_refusals, text_of
 
 SCHEMA = json.loads(text_of(os.path.join(TOOLS, "plan.schema.json")))
 
@@ -94,7 +95,7 @@ class Validated(InFolder):
             low, high = map(int, found.groups())
             for value in (low - 1, low, high, high + 1):
                 text = spelled(changed(plan, table, key, value))
-                status, _, _ = run("where.py", self.write("plan.toml", text))
+                status, _ = program.call(["check", self.write("plan.toml", text)])
                 self.assertEqual(self.faults(text) == [], status != 2, (table, key, value))
 
 
