@@ -53,7 +53,7 @@ class Logs(InFolder):
         self.shown("grep ' can0 ' start.log > can0.log")
         self.assertEqual(self.read(self.path("can0.log")), self.reports())
 
-    @unittest.skipUnless(shutil.which("asc2log") and shutil.which("log2asc"), "apt-get install can-utils")
+    @unittest.skipUnless(shutil.which("asc2log") and shutil.which("log2asc"), "asc2log isn't there: apt-get install can-utils")
     def test_asc_by_can_utils(self):
         lines = self.write("plain.log", "".join(f"{line}\n" for line in LINES))
         with open(self.path("drive.asc"), "wb") as drive:

@@ -71,7 +71,7 @@ class Built(InFolder):
 
 
 class Pages(unittest.TestCase):
-    @unittest.skipUnless(shutil.which("groff"), "apt-get install groff")
+    @unittest.skipUnless(shutil.which("groff"), "groff isn't there: apt-get install groff")
     def test_man_pages_have_no_faults(self):
         for page in glob.glob(os.path.join(PACKAGE, "man", "*.1")):
             ended = subprocess.run(["groff", "-man", "-Tutf8", "-ww", "-z", page], capture_output=True, text=True, check=True)
@@ -100,7 +100,7 @@ class Completions(unittest.TestCase):
         self.assertEqual(self.complete_bash("j39plan", "check", "plan.s"), ["plan.schema.json"])
         self.assertEqual(self.complete_bash("j39plan", "help", "f"), ["frame"])
 
-    @unittest.skipUnless(shutil.which("fish"), "apt-get install fish")
+    @unittest.skipUnless(shutil.which("fish"), "fish isn't there: apt-get install fish")
     def test_fish(self):
         script = f"source {PACKAGE}/completions/j39plan.fish; complete -C '{{}}'"
         offered = lines_of("fish", "--no-config", "-c", script.format("j39plan "), cwd=TOOLS)
@@ -108,7 +108,7 @@ class Completions(unittest.TestCase):
         offered = lines_of("fish", "--no-config", "-c", script.format("j39plan check plan.s"), cwd=TOOLS)
         self.assertEqual([line.split("\t")[0] for line in offered], ["plan.schema.json"])
 
-    @unittest.skipUnless(shutil.which("zsh"), "apt-get install zsh")
+    @unittest.skipUnless(shutil.which("zsh"), "zsh isn't there: apt-get install zsh")
     def test_zsh(self):
         """Zsh offers completions only on a terminal, so it has one here."""
         script = (
