@@ -1,5 +1,7 @@
 -- The 64-bit NAME (SAE J1939-81, NAME fields).
-use Rattle.std.specs.Prelude.{ℕ, ◌*◌, ◌/◌, ◌%◌, ◌^◌, nat_eq, nat_le, Bool, List, [], ◌∷◌, sum_by, find, Option, option_map}
+use Rattle.std.specs.Prelude.{◌≡◌, ℕ, ◌*◌, ◌/◌, ◌%◌, ◌^◌, ◌<◌, nat_eq, nat_le, Bool, List, length, [], ◌∷◌, sum_by, find, Option, option_map}
+use Rattle.std.specs.Int.{w64, to_le_bytes, from_le_bytes}
+use Rattle.hex.specs.Hex.{IsBytes}
 use Rattle.j39_id.specs.declared.name_fields.NameFields.{NameFields}
 use Rattle.j39_id.specs.declared.name_fields.NameField.{NameField}
 use Rattle.j39_id.specs.declared.name_fields.NameField.TheVariants.{Identity, Manufacturer, Ecu, FunctionInstance, Function, Reserved, System, SystemInstance, Industry, Arbitrary}
@@ -59,3 +61,13 @@ fields_of n = record {
 -- the unit is arbitrary address capable: it may choose another address
 abbrev pub is_arbitrary : ℕ → Bool
 is_arbitrary name = nat_eq (bits_of name 63 1) 1
+
+-- ---- laws
+
+-- the NAME of the bytes of a NAME is that NAME
+abbrev pub NamesReadBack : Type 0
+NamesReadBack = (name : ℕ) → name < 2 ^ 64 → from_le_bytes w64 (to_le_bytes w64 name) ≡ name
+
+-- the bytes of the NAME of eight bytes are those bytes
+abbrev pub NameBytesReadBack : Type 0
+NameBytesReadBack = (bytes : List ℕ) → length bytes ≡ 8 → IsBytes bytes → to_le_bytes w64 (from_le_bytes w64 bytes) ≡ bytes

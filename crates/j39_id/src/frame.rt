@@ -1,10 +1,11 @@
 //! CAN frames.
 use crate::Ident;
+use crate::limits::FRAME_BYTES;
 use arrayvec::ArrayVec;
 
 /// A CAN data frame with a 29-bit identifier: the identifier and at most eight bytes.
-#[derive(Clone, Debug, PartialEq, Eq, Drop)]
+#[derive(Debug, PartialEq, Eq, Drop)]
 pub struct Frame {
     pub ident: Ident,
-    pub payload: ArrayVec<u8, 8>,
+    pub payload: ArrayVec<u8, FRAME_BYTES>,
 }

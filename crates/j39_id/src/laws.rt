@@ -1,10 +1,10 @@
-//! Laws of frame lines: facts about the definitions, each the contract of a function that does nothing.
-ghost use Rattle.std.specs.Prelude.{◌≡◌, Ok};
+//! Laws of frame lines, NAMEs and lines: facts about the definitions, each the contract of a function that does nothing.
 ghost use Rattle.hex.specs.Hex.{IsBytes};
 ghost use Rattle.j39_id.specs.Lines.{TellsLines, TellsPieces, IsBehindPieces};
+ghost use Rattle.j39_id.specs.Name.{NamesReadBack, NameBytesReadBack};
 ghost use Rattle.j39_id.specs.FrameLine.{Spells, canon, SpellsAtMostOne, SpelledHasNoFault, HasAtMostOneFault};
 
-use crate::{Frame, LineError, print_frame, read_frame};
+use crate::Frame;
 
 // The elements of a slice of bytes are bytes.
 fn known_bytes(bytes: &[u8])
@@ -26,14 +26,11 @@ pub fn canonical_text_spells(frame: &Frame)
     let _bits = frame.ident.to_bits();
 }
 
-/// What is printed is read back: the answer is the frame itself.
-pub fn printed_reads_back(frame: &Frame) -> Result<Frame, LineError>
-    ensures { result ≡ Ok frame.now }
-{
-    canonical_text_spells(frame);
-    let text = print_frame(frame);
-    read_frame(text.as_slice())
-}
+/// The bytes of a NAME give the NAME, and the NAME of eight bytes gives the bytes.
+pub fn names_and_bytes_are_inverse()
+    ensures name { NamesReadBack }
+    ensures bytes { NameBytesReadBack }
+{}
 
 /// What a new cutter answers to the bytes of a text, one after another, and to the end are the lines of the text, in
 /// however many pieces the text came.

@@ -27,7 +27,9 @@ pub use cutter::{Cutter, LINE_LIMIT};
 pub use frame::Frame;
 pub use ident::Ident;
 pub use label::Label;
-pub use laws::{a_cutter_tells_the_lines, canonical_text_spells, one_reading, printed_reads_back};
+pub use laws::{
+    a_cutter_tells_the_lines, canonical_text_spells, names_and_bytes_are_inverse, one_reading,
+};
 pub use line_error::LineError;
 pub use name::Name;
 pub use name_fields::{NameError, NameField, NameFields};

@@ -4,8 +4,8 @@ ghost use Rattle.std.specs.Prelude.{◌<◌};
 use crate::addresses::{GLOBAL_ADDRESS, NULL_ADDRESS, is_in_pool};
 use crate::{
     Address, Cut, Cutter, Frame, Ident, Label, LineError, Name, NameError, NameField, NameFields,
-    Pgn, a_cutter_tells_the_lines, canonical_text_spells, one_reading, print_frame,
-    printed_reads_back, read_frame, services,
+    Pgn, a_cutter_tells_the_lines, canonical_text_spells, names_and_bytes_are_inverse, one_reading,
+    print_frame, read_frame, services,
 };
 use arrayvec::ArrayVec;
 use std::test::Fail;
@@ -66,7 +66,8 @@ fn a_printed_frame_reads_back(rt: HostRuntime) -> Result<(), Fail> {
     let frame = read_frame(b"18FEEE00#7D")?;
     one_reading();
     canonical_text_spells(&frame);
-    let back: Frame = printed_reads_back(&frame)?;
+    let text = print_frame(&frame);
+    let back: Frame = read_frame(text.as_slice())?;
     assert_eq!(rt; back, frame);
     Ok(())
 }
@@ -150,6 +151,7 @@ fn a_name_is_its_fields(rt: HostRuntime) -> Result<(), Fail> {
         name.to_bytes(),
         [0x01, 0x00, 0x80, 0x0C, 0x00, 0x00, 0x00, 0x10]
     );
+    names_and_bytes_are_inverse();
     assert_eq!(rt; Name::from_bytes(name.to_bytes()), name);
     assert_eq!(rt; Name::from_bits(0x1000_0000_0C80_0001).fields(), TRACTOR);
     assert!(rt; !name.is_arbitrary());

@@ -1,5 +1,6 @@
 -- The widths and the places of signals (SAE J1939-71, bit and byte order of parameters).
 use Rattle.std.specs.Prelude.{ℕ, ◌+◌, ◌*◌, ◌<◌, ◌≤◌, max, min, Bool, ◌==◌, ◌||◌, ◌&&◌, nat_le, nat_lt, List, All, AllPairs, IsTrue}
+use Rattle.j39_id.specs.Limits.{message_bytes}
 use Rattle.j39_signal.specs.Parts.{SignalParts}
 use Rattle.j39_signal.specs.declared.kind.Kind.{Kind}
 use Rattle.j39_signal.specs.declared.kind.Kind.TheVariants.{Measured, Discrete, Raw}
@@ -40,7 +41,7 @@ shares_bit s t = nat_lt (max s.start t.start) (min (end_of s) (end_of t))
 -- signals lay out a payload of this length: each of them fits its kind and ends within it, and no two share a bit
 pub record LaysOut (length : ℕ) (signals : List SignalParts) : Type 0 where
   pub some_bytes : 1 ≤ length
-  pub most_bytes : length ≤ 1785
+  pub most_bytes : length ≤ message_bytes
   pub widths : All WidthFits signals
   pub inside : All (IsInside length) signals
   pub apart : AllPairs (λ s t. ¬ SharesBit s t) signals

@@ -1,6 +1,7 @@
 -- Why signals make no layout: the first fault, by the signals in rising order.
 use Rattle.std.specs.Prelude.{◌≡◌, ℕ, ◌<◌, ◌≤◌, List, length, take, All}
 use Rattle.std.specs.List.{HoldsAt}
+use Rattle.j39_id.specs.Limits.{message_bytes}
 use Rattle.j39_signal.specs.Parts.{SignalParts}
 use Rattle.j39_signal.specs.Places.{WidthFits, IsInside, SharesBit, LaysOut}
 use Rattle.j39_signal.specs.declared.layout_error.LayoutError.{LayoutError}
@@ -24,7 +25,7 @@ HasFault bytes before s Memory = ⊥
 
 -- the length is out of range; or a signal is the first with a fault; or there is no fault and memory was refused
 abbrev pub HasLayoutFault : ℕ → List SignalParts → LayoutError → Type 0
-HasLayoutFault bytes signals Length = ¬ ((1 ≤ bytes) × (bytes ≤ 1785))
+HasLayoutFault bytes signals Length = ¬ ((1 ≤ bytes) × (bytes ≤ message_bytes))
 HasLayoutFault bytes signals (Width i) = IsFirst bytes signals i (λ s. ¬ WidthFits s)
 HasLayoutFault bytes signals (Outside i) = IsFirst bytes signals i (λ s. WidthFits s × ¬ IsInside bytes s)
 HasLayoutFault bytes signals (Overlap j i) = IsFirst bytes signals i (λ s. WidthFits s × IsInside bytes s × IsFirstSharer s (take i signals) j)

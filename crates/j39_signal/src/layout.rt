@@ -7,6 +7,7 @@ ghost use Rattle.j39_signal.specs.Refusals.{HasFault, HasLayoutFault};
 ghost use Rattle.j39_signal.specs.State.{state_of, RefusesValue, WritesValue};
 
 use crate::{LayoutError, Signal, State, WriteError};
+use j39_id::limits::MESSAGE_BYTES;
 use std::alloc::{AllocError, Global};
 use std::marker::Model;
 
@@ -51,7 +52,7 @@ impl Layout {
         ensures lays_out { OnOk result (LaysOut length signals.now) }
         ensures refused { IfErr result (HasLayoutFault length signals.now) }
     {
-        if length < 1 || length > 1785 {
+        if length < 1 || usize::from(length) > MESSAGE_BYTES {
             return Err(LayoutError::Length);
         }
         for (i, signal) in signals.iter().enumerate() {

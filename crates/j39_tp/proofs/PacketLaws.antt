@@ -1,7 +1,7 @@
 -- The bytes of a connection management packet are read as that packet.
 use Rattle.std.proofs.Common.{◌≡◌, ℕ, ◌+◌, ◌*◌, ◌/◌, ◌%◌, List, refl, sym, subst, arith}
 use Rattle.j39_id.specs.Pgn.{IsPgn}
-use Rattle.j39_tp.specs.Packets.{data_of, InRange, IsReadable, ManagementReads}
+use Rattle.j39_tp.specs.Packets.{data_of, InRange, IsReadable, IsManagement, ManagementReads, DataReads}
 use Rattle.j39_tp.specs.declared.packet.Packet.{Packet}
 use Rattle.j39_tp.specs.declared.packet.Packet.TheVariants.{Rts, Cts, EndAck, Bam, Abort, Dt}
 
@@ -13,11 +13,6 @@ pgn_again g = omega arith
 
 pgn_is_kept : (g : ℕ) → IsPgn g → IsPgn (g % 256 + 256 * (g / 256 % 256) + 65536 * (g / 65536))
 pgn_is_kept g h = subst (λ (n : ℕ). IsPgn n) (sym (pgn_again g)) h
-
--- whether a packet is of connection management
-abbrev pub IsManagement : Packet → Type 0
-IsManagement (Dt number chunk) = ⊥
-IsManagement _ = Unit {0}
 
 pub management_reads : (p : Packet) → IsManagement p → InRange p → IsReadable p → ManagementReads (data_of p) p
 management_reads (Rts size limit named) m r k = record {
@@ -47,11 +42,5 @@ management_reads (Abort reason named) m r k = record {
 }
 management_reads (Dt number chunk) m r k = absurd m
 
--- a packet that isn't data is of connection management
-pub not_data : (p : Packet) → ((number : ℕ) → (chunk : List ℕ) → p ≡ Dt number chunk → ⊥) → IsManagement p
-not_data (Dt number chunk) h = h number chunk refl
-not_data (Rts size limit pgn) h = tt
-not_data (Cts count first pgn) h = tt
-not_data (EndAck size pgn) h = tt
-not_data (Bam size pgn) h = tt
-not_data (Abort reason pgn) h = tt
+pub data_reads : (number : ℕ) (chunk : List ℕ) → InRange (Dt number chunk) → IsReadable (Dt number chunk) → DataReads (data_of (Dt number chunk)) (Dt number chunk)
+data_reads number chunk r k = record { eight = omega arith; fields = (refl, k) }

@@ -1,5 +1,6 @@
 -- The eight bytes of each transport packet (SAE J1939-21, connection management and data transfer).
 use Rattle.std.specs.Prelude.{◌≡◌, ℕ, ◌+◌, ◌*◌, ◌/◌, ◌%◌, ◌<◌, ◌==◌, ◌||◌, ◌&&◌, not, nat_lt, nat_le, Bool, if◌then◌else◌, List, [], ◌∷◌, length, slice_index, Option, Some, None}
+use Rattle.j39_id.specs.Limits.{frame_bytes, message_bytes}
 use Rattle.j39_id.specs.Pgn.{IsPgn, is_pgn}
 use Rattle.j39_tp.specs.Chunks.{IsSize, packets_of}
 use Rattle.j39_tp.specs.declared.packet.Packet.{Packet}
@@ -91,7 +92,7 @@ first_fault [] = None
 first_fault (fault ∷ rest) = if fault.1 then Some fault.0 else first_fault rest
 
 abbrev pub is_size : ℕ → Bool
-is_size n = nat_le 9 n && nat_le n 1785
+is_size n = nat_lt frame_bytes n && nat_le n message_bytes
 
 -- the first bytes of connection management packets, and those of them that give a size
 abbrev pub is_control : ℕ → Bool
@@ -114,3 +115,18 @@ management_faults bytes =
 -- the refusals of a data packet, in their order
 abbrev pub data_faults : List ℕ → List (PacketError × Bool)
 data_faults bytes = (Length, not (length bytes == 8)) ∷ (Number, slice_index bytes 0 == 0) ∷ []
+
+-- ---- laws
+
+-- a packet of connection management
+abbrev pub IsManagement : Packet → Type 0
+IsManagement (Dt number chunk) = ⊥
+IsManagement _ = Unit {0}
+
+-- the bytes of a packet that can be read again are that packet's
+abbrev pub ManagementReadsBack : Type 0
+ManagementReadsBack = (p : Packet) → IsManagement p → InRange p → IsReadable p → ManagementReads (data_of p) p
+
+abbrev pub DataReadsBack : Type 0
+DataReadsBack = (number : ℕ) (chunk : List ℕ) → InRange (Dt number chunk) → IsReadable (Dt number chunk)
+    → DataReads (data_of (Dt number chunk)) (Dt number chunk)

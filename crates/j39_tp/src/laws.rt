@@ -3,23 +3,16 @@ ghost use Rattle.std.specs.Prelude.{◌≡◌, ℕ, List, [], ◌∷◌, ◌++�
 ghost use Rattle.j39_tp.specs.Carried.{AreInRange, CompletesAt, Carried};
 ghost use Rattle.j39_tp.specs.inside.Gathered.{Gathers, TellsComplete, HoldsCarried};
 ghost use Rattle.j39_tp.specs.HonestPackets.{AnnouncesMessage, GoesOn, TellsLast, CarriesItsMessage};
-ghost use Rattle.j39_tp.specs.Packets.{InRange, IsReadable};
+ghost use Rattle.j39_tp.specs.Packets.{InRange, ManagementReadsBack, DataReadsBack};
 ghost use Rattle.j39_tp.specs.Receiver.{Receiving, hears, receives, gives_up};
 
 use crate::{Packet, PacketError, from_cm, from_dt, known_ranges, to_data};
 
-/// What is sent is read again.
-pub fn reread(packet: &Packet) -> Result<Packet, PacketError>
-    requires { IsReadable packet.now }
-    ensures { result ≡ Ok packet.now }
-{
-    known_ranges(packet);
-    let data = to_data(packet);
-    match *packet {
-        Packet::Dt { .. } => from_dt(&data),
-        _ => from_cm(&data),
-    }
-}
+/// What is sent is read as what it is.
+pub fn sent_packets_read_back()
+    ensures management { ManagementReadsBack }
+    ensures data { DataReadsBack }
+{}
 
 /// A listener that hears packets from closed completes a message exactly where they carry one, and then holds that message.
 pub fn listener_completes_what_is_carried()

@@ -9,7 +9,7 @@ mod sending;
 
 pub use laws::{
     a_place_carries_one_message, honest_packets_carry_their_message,
-    listener_completes_what_is_carried, receivers_gather_what_they_hear, reread,
+    listener_completes_what_is_carried, receivers_gather_what_they_hear, sent_packets_read_back,
 };
 pub use message::Message;
 pub use packet::{Packet, PacketError, Size, from_cm, from_dt, known_ranges, to_data};

@@ -5,13 +5,14 @@ ghost use Rattle.j39_tp.specs.Chunks.{IsSize, chunk};
 use crate::Size;
 use arrayvec::ArrayVec;
 use j39_id::Pgn;
+use j39_id::limits::{FRAME_BYTES, MESSAGE_BYTES};
 use std::marker::Model;
 
 /// A message of 9 to 1785 bytes of a group.
 #[derive(Drop)]
 pub struct Message {
     pgn: Pgn,
-    bytes: ArrayVec<u8, 1785>,
+    bytes: ArrayVec<u8, MESSAGE_BYTES>,
 }
 
 impl Model for Message {
@@ -31,7 +32,7 @@ impl Message {
         ensures valid { IsSome result ↔ IsSize (length bytes.now) }
         ensures value { IfSome result (λ m. m ≡ record { pgn = pgn; bytes = bytes.now }) }
     {
-        if bytes.len() < 9 {
+        if bytes.len() <= FRAME_BYTES {
             return None;
         }
         let Ok(bytes) = ArrayVec::try_from(bytes) else {

@@ -2,6 +2,7 @@
 ghost use Rattle.std.specs.Prelude.{◌≡◌, ℕ, ◌↔◌, IsSome, IfSome};
 ghost use Rattle.j39_tp.specs.Chunks.{IsSize, packets_of};
 
+use j39_id::limits::{FRAME_BYTES, MESSAGE_BYTES};
 use std::marker::Model;
 
 /// The size of a message that the transport protocol of SAE J1939-21 carries: 9 to 1785 bytes.
@@ -26,7 +27,8 @@ impl Size {
         ensures valid { IsSome result ↔ IsSize bytes }
         ensures value { IfSome result (λ s. s ≡ bytes) }
     {
-        if bytes >= 9 && bytes <= 1785 {
+        let count = usize::from(bytes);
+        if count > FRAME_BYTES && count <= MESSAGE_BYTES {
             Some(Size { bytes })
         } else {
             None

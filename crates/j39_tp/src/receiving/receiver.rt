@@ -8,6 +8,7 @@ use super::progress::Progress;
 use crate::{Heard, Packet, Size, known_ranges};
 use arrayvec::ArrayVec;
 use j39_id::Pgn;
+use j39_id::limits::MESSAGE_BYTES;
 use std::marker::Model;
 
 /// A receiver of the messages of one sender (SAE J1939-21, transport protocol).
@@ -15,7 +16,7 @@ use std::marker::Model;
 pub struct Receiver {
     manner: Manner,
     progress: Progress,
-    bytes: ArrayVec<u8, 1785>,
+    bytes: ArrayVec<u8, MESSAGE_BYTES>,
 }
 
 impl Model for Receiver {
@@ -31,7 +32,7 @@ impl Model for Receiver {
 }
 
 // Holds the bytes of the packets in order, at most those of the message.
-fn hold(bytes: &mut ArrayVec<u8, 1785>, progress: Progress, packet: &Packet)
+fn hold(bytes: &mut ArrayVec<u8, MESSAGE_BYTES>, progress: Progress, packet: &Packet)
     requires within { is_within progress ≡ true }
     requires held { is_held_at progress bytes.old.items ≡ true }
     ensures { bytes.new.items ≡ grown progress packet.now bytes.old.items }
@@ -49,7 +50,7 @@ fn hold(bytes: &mut ArrayVec<u8, 1785>, progress: Progress, packet: &Packet)
 }
 
 // Holds nothing where a receiver is closed.
-fn settle(bytes: &mut ArrayVec<u8, 1785>, progress: Progress)
+fn settle(bytes: &mut ArrayVec<u8, MESSAGE_BYTES>, progress: Progress)
     ensures { bytes.new.items ≡ bytes_at progress bytes.old.items }
 {
     if progress == Progress::Closed {
@@ -58,7 +59,7 @@ fn settle(bytes: &mut ArrayVec<u8, 1785>, progress: Progress)
 }
 
 // Appends the bytes of a chunk that belong to a message of this size.
-fn append(bytes: &mut ArrayVec<u8, 1785>, size: Size, chunk: [u8; 7])
+fn append(bytes: &mut ArrayVec<u8, MESSAGE_BYTES>, size: Size, chunk: [u8; 7])
     requires { length bytes.old.items ≤ size }
     ensures { bytes.new.items ≡ take size (bytes.old.items ++ chunk) }
 {
