@@ -35,14 +35,14 @@ one_found p k (suc n) some =
 pooled : (b : ℕ) → 128 ≤ b → b < 128 + 120 → in_pool b ≡ true
 pooled b low high = and_from (leb 128 b) (leb b 247) (le-leb 128 b low) (le-leb b 247 (omega arith))
 
-pub lowest_free_in : (taken : FinSet nat_cmp) → 0 < free_count taken → IsFreeIn taken (unwrap_or (lowest_free taken) 128)
+lowest_free_in : (taken : FinSet nat_cmp) → 0 < free_count taken → IsFreeIn taken (unwrap_or (lowest_free taken) 128)
 unfolding free_count lowest_free
 lowest_free_in taken some =
     let (b, is) = one_found (is_free taken) 128 120 some in
     let (low, high, free) = found (is_free taken) 128 120 b is in
     rw is (record { pool = pooled b low high; free = not-true (contains taken b) free })
 
-pub next_free_in : (before : ℕ) (taken : FinSet nat_cmp) → 0 < free_count taken → IsFreeIn taken (unwrap_or (next_free before taken) 128)
+next_free_in : (before : ℕ) (taken : FinSet nat_cmp) → 0 < free_count taken → IsFreeIn taken (unwrap_or (next_free before taken) 128)
 unfolding free_above
 next_free_in before taken some = by (free_above before taken) refl
   where
@@ -52,6 +52,13 @@ next_free_in before taken some = by (free_above before taken) refl
         let (low, high, passes) = found (λ q. ltb before q && is_free taken q) 128 120 b is in
         let free = (and_parts (ltb before b) (is_free taken b) passes).1 in
         record { pool = pooled b low high; free = not-true (contains taken b) free }
+
+-- the same of equal answers
+pub lowest_is_free : (taken : FinSet nat_cmp) (o : Option ℕ) (b : ℕ) → 0 < free_count taken → o ≡ lowest_free taken → b ≡ unwrap_or o 128 → IsFreeIn taken b
+lowest_is_free taken o b some is same = rw (same, is) (lowest_free_in taken some)
+
+pub next_is_free : (before : ℕ) (taken : FinSet nat_cmp) (o : Option ℕ) (b : ℕ) → 0 < free_count taken → o ≡ next_free before taken → b ≡ unwrap_or o 128 → IsFreeIn taken b
+next_is_free before taken o b some is same = rw (same, is) (next_free_in before taken some)
 
 -- where none is free, each address of the pool is taken
 pub none_free : (taken : FinSet nat_cmp) → free_count taken ≡ 0 → (b : ℕ) → in_pool b ≡ true → contains taken b ≡ true

@@ -4,7 +4,7 @@ use Rattle.std.proofs.lemmas.Bool.{true≢false, ltb-false, ltb-true, eqb-true, 
 use Rattle.std.specs.Option.{IfSome}
 use Rattle.std.specs.Bool.{MatchBool}
 use Rattle.std.specs.Ordering.{nat_cmp}
-use Rattle.std.specs.FinMap.{FinMap, insert}
+use Rattle.std.specs.FinMap.{insert}
 use Rattle.std.specs.FinSet.{FinSet}
 use Rattle.j39_claim.specs.declared.item.Say.{Say}
 use Rattle.j39_claim.specs.declared.item.Say.TheVariants.{Claim, Cannot}
@@ -74,9 +74,9 @@ pub heard : (pick : Pick) (c : Claimant) (s : Station) (n a : ℕ) (says : Optio
 heard pick c s n a says new inside said left lawful = rw (said, left, lt-ltb a 254 inside) (follows pick c s n a lawful)
 
 -- the same move, said of equal things
-pub same_move : (pick : Pick) (name name' lost lost' : ℕ) (notes notes' : FinMap nat_cmp ℕ) → name ≡ name' → lost ≡ lost' → notes ≡ notes'
-    → IsFreeMove pick name lost (noted_addresses notes) → IsFreeMove pick name' lost' (noted_addresses notes')
-same_move pick name name' lost lost' notes notes' e f h move =
+pub same_move : (pick : Pick) (name name' lost lost' : ℕ) (taken taken' : FinSet nat_cmp) → name ≡ name' → lost ≡ lost' → taken ≡ taken'
+    → IsFreeMove pick name lost taken → IsFreeMove pick name' lost' taken'
+same_move pick name name' lost lost' taken taken' e f h move =
     rw (sym e, sym f, sym h) move
 
 -- a lawful pick is free wherever it is made

@@ -1,6 +1,7 @@
+pub mod Counts
 pub mod FreeAddresses
 pub mod Hearing
-pub mod NoteLists
 pub mod NotedAddresses
 pub mod PoolBits
+pub mod RisingNotes
 pub mod WordSets

@@ -3,5 +3,4 @@ pub mod AddressSets
 pub mod ClaimRule
 pub mod Claiming
 pub mod ExactAnswer
-pub mod Noting
 pub mod inside

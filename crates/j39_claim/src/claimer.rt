@@ -4,10 +4,10 @@ ghost use Rattle.std.specs.FinMap as map;
 ghost use Rattle.j39_claim.specs.AddressSets.{IsFreeIn};
 ghost use Rattle.j39_claim.specs.ClaimRule.{Hears, started, off, claim_of, say_of};
 ghost use Rattle.j39_claim.specs.Claiming.{can_note};
-ghost use Rattle.j39_claim.specs.ExactAnswer.{said_after, station_after, moved_to, noted_addresses, IsFreeMove};
+ghost use Rattle.j39_claim.specs.ExactAnswer.{said_after, station_after, moved_to, IsFreeMove};
 
 use crate::notes::Notes;
-use crate::{Choose, Say};
+use crate::{AddressSet, Choose, Say};
 use j39_id::{Address, Name};
 use std::marker::Model;
 
@@ -115,7 +115,7 @@ impl Claimer {
             return None;
         }
         if name < self.name {
-            self.address = moved_to(self.name, claimed, &self.notes, chooser);
+            self.address = moved_to(self.name, claimed, self.notes.addresses(), chooser);
         }
         Some(claim_of(self.address))
     }
@@ -132,13 +132,12 @@ fn claim_of(address: Option<Address>) -> Say
 }
 
 /// Where a unit moves that loses an address: a fixed one holds none from then on, nor does one with no free address left.
-fn moved_to(name: Name, lost: Address, notes: &Notes, chooser: &dyn Choose) -> Option<Address>
-    ensures place { result ≡ moved_to (pick chooser.now) name lost (noted_addresses notes.now) }
-    ensures free { IsFreeMove (pick chooser.now) name lost (noted_addresses notes.now) }
+fn moved_to(name: Name, lost: Address, taken: &AddressSet, chooser: &dyn Choose) -> Option<Address>
+    ensures place { result ≡ moved_to (pick chooser.now) name lost taken.now }
+    ensures free { IsFreeMove (pick chooser.now) name lost taken.now }
 {
-    let taken = notes.taken();
     if name.is_arbitrary() && taken.free_count() > 0 {
-        Address::new(chooser.choose(name, lost.number(), &taken))
+        Address::new(chooser.choose(name, lost.number(), taken))
     } else {
         None
     }

@@ -1,6 +1,7 @@
 //! Address claims of SAE J1939-81: what a unit notes of what it hears, what it answers and where it moves.
 #![tactic(auto)]
 
+mod address_counts;
 mod address_set;
 mod choose;
 mod claimer;

@@ -1,35 +1,39 @@
 //! What a unit has noted of the others.
-ghost use Rattle.std.specs.Prelude.{◌≡◌, ◌<◌, true, length, IfSome};
+ghost use Rattle.std.specs.Prelude.{◌≡◌, true, T, IfOk, IfErr};
 ghost use Rattle.std.specs.FinMap as map;
+ghost use Rattle.std.specs.FinMap.{is_sorted};
+ghost use Rattle.std.specs.Ordering.{nat_cmp};
 ghost use Rattle.j39_claim.specs.Claiming.{can_note};
 ghost use Rattle.j39_claim.specs.ExactAnswer.{noted_addresses};
-ghost use Rattle.j39_claim.specs.Noting.{place_of};
+ghost use Rattle.j39_claim.specs.inside.Noting.{IsAt, IsGapFor};
 
 use crate::AddressSet;
+use crate::address_counts::AddressCounts;
 use arrayvec::ArrayVec;
 use j39_id::{Address, Name};
 use std::marker::Model;
 
-/// The address last heard from each NAME, of at most 128 NAMEs, in the order of first hearing.
+/// The address last heard from each NAME, of at most 128 NAMEs, in rising order of NAME.
 #[derive(Drop)]
 pub(crate) struct Notes {
     pairs: ArrayVec<(Name, Address), 128>,
+    counts: AddressCounts,
 }
 
 impl Model for Notes {
-    ghost use Rattle.std.specs.Prelude.{◌≡◌, ℕ, true};
+    ghost use Rattle.std.specs.Prelude.{ℕ};
     ghost use Rattle.std.specs.Ordering.{nat_cmp};
     ghost use Rattle.std.specs.FinMap as map;
     ghost use Rattle.std.specs.Coded.{coded_ℕ};
-    ghost use Rattle.j39_claim.specs.Noting.{are_distinct};
+    ghost use Rattle.j39_claim.specs.inside.Noting.{AreNotes};
 
     ghost Value = { map.FinMap nat_cmp ℕ };
 
     ghost coded = { map.code coded_ℕ coded_ℕ };
 
-    ghost view = { λ a. map.from_entries a.pairs.items };
+    ghost view = { λ a. map.from_sorted a.pairs.items };
 
-    ghost invariant = { λ a. are_distinct a.pairs.items ≡ true };
+    ghost invariant = { λ a. AreNotes a.pairs.items a.counts };
 }
 
 impl Notes {
@@ -38,6 +42,7 @@ impl Notes {
     {
         Notes {
             pairs: ArrayVec::new(),
+            counts: AddressCounts::new(),
         }
     }
 
@@ -45,7 +50,7 @@ impl Notes {
     pub fn can_note(&self, name: Name) -> bool
         ensures { result ≡ can_note self.now name }
     {
-        place_of(self.pairs.as_slice(), name).is_some() || self.pairs.len() < 128
+        place_of(self.pairs.as_slice(), name).is_ok() || self.pairs.len() < 128
     }
 
     /// Notes the address of a NAME in place of what was noted of it.
@@ -54,36 +59,39 @@ impl Notes {
         ensures { self.new ≡ map.insert self.old name address }
     {
         match place_of(self.pairs.as_slice(), name) {
-            Some(place) => self.pairs.as_mut_slice()[place] = (name, address),
-            None => self.pairs.push((name, address)),
+            Ok(place) => {
+                let old = self.pairs.as_slice()[place].1;
+                self.counts.lower(old);
+                self.pairs.as_mut_slice()[place] = (name, address);
+            }
+            Err(place) => self.pairs.insert(place, (name, address)),
         }
+        self.counts.raise(address);
     }
 
     /// Drops the note of a NAME, if there is one.
     pub fn forget(&mut self, name: Name)
         ensures { self.new ≡ map.remove self.old name }
     {
-        if let Some(place) = place_of(self.pairs.as_slice(), name) {
-            self.pairs.remove(place);
+        if let Ok(place) = place_of(self.pairs.as_slice(), name) {
+            let (_, address) = self.pairs.remove(place);
+            self.counts.lower(address);
         }
     }
 
     /// All addresses that are noted.
-    pub fn taken(&self) -> AddressSet
-        ensures { result ≡ noted_addresses self.now }
+    pub fn addresses(&self) -> &AddressSet
+        ensures { result.now ≡ noted_addresses self.now }
     {
-        let mut taken = AddressSet::new();
-        for pair in self.pairs.as_slice() {
-            taken.insert(pair.1);
-        }
-        taken
+        self.counts.noted()
     }
 }
 
-/// The place of a NAME.
-fn place_of(pairs: &[(Name, Address)], name: Name) -> Option<usize>
-    ensures place { result ≡ place_of name pairs.now }
-    ensures inside { IfSome result (λ place. place < length pairs.now) }
+/// The place of a NAME, or the place where it belongs.
+fn place_of(pairs: &[(Name, Address)], name: Name) -> Result<usize, usize>
+    requires { T (is_sorted nat_cmp pairs.now) }
+    ensures found { IfOk result (IsAt pairs.now name) }
+    ensures absent { IfErr result (IsGapFor pairs.now name) }
 {
-    pairs.iter().position(|pair| pair.0 == name)
+    pairs.binary_search_by_key(&name, |pair| pair.0)
 }

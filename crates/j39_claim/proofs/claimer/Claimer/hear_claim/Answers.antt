@@ -1,7 +1,7 @@
-use Rattle.std.proofs.Common.{rules, ◌≡◌, ◌<◌, Some, ◌∙◌}
+use Rattle.std.proofs.Common.{rules, ◌≡◌, ◌<◌, Some, ap, ◌∙◌}
 use Rattle.std.specs.FinMap.{insert}
 use Rattle.j39_claim.specs.ClaimRule.{Station, say_of}
-use Rattle.j39_claim.specs.ExactAnswer.{Pick, said_after, station_after}
+use Rattle.j39_claim.specs.ExactAnswer.{Pick, noted_addresses, said_after, station_after}
 use Rattle.j39_claim.proofs.Hearing.{heard, same_move}
 use Rattle.j39_claim.proofs.claimer.Claimer.hear_claim.Goals as goal
 use Rattle.j39_claim.proofs.claimer.Claimer.hear_claim.Goals.{then-lt, else-lt}
@@ -16,7 +16,7 @@ returns-clause-rule g c =
     heard picks c.args.self.now.claimant c.args.self.now.station c.args.name c.args.address (Some c.claim_of.result) new inside said left
     (λ smaller. elim c.if-lt.branch [
       | then-lt w ↦ same_move picks _ _ _ _ _ _ (λ i. (c.self.view_is i).claimant.name) c.in-Some.ensures.value
-          (c.note.ensures ∙ (λ i. insert (c.self.view_is i).station.notes c.args.name (c.in-Some.ensures.value i)))
+          (w.addresses.ensures ∙ ap noted_addresses (c.note.ensures ∙ (λ i. insert (c.self.view_is i).station.notes c.args.name (c.in-Some.ensures.value i))))
           w.moved_to-self-inside.ensures.free
       | else-lt w ↦ search rules
     ])

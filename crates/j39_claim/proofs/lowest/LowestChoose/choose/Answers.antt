@@ -1,5 +1,6 @@
-use Rattle.j39_claim.proofs.FreeAddresses.{lowest_free_in}
+use Rattle.std.proofs.Common.{rules}
+use Rattle.j39_claim.proofs.FreeAddresses.{lowest_is_free}
 use Rattle.j39_claim.proofs.lowest.LowestChoose.choose.Goals as goal
 
 pub returns-clause-free : goal.returns-clause-free
-returns-clause-free c = rw (c.unwrap_or.ensures, c.lowest_free.ensures) (lowest_free_in c.args.taken.now c.requires)
+returns-clause-free c = search (rules, lowest_is_free)

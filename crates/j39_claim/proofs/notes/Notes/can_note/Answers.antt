@@ -1,13 +1,13 @@
 use Rattle.std.proofs.Common.{◌||◌, ltb, length, ap, sym, ◌∙◌}
-use Rattle.j39_claim.proofs.NoteLists.{room_of}
+use Rattle.j39_claim.proofs.RisingNotes.{room}
 use Rattle.j39_claim.proofs.notes.Notes.can_note.Goals as goal
 
-pub returns-then-is_some : goal.returns-then-is_some
-returns-then-is_some c =
-    let room = room_of c.args.name c.self.inside.pairs.items _ c.args.self.now _ c.self.invariant c.self.view_is c.place_of.ensures.place c.as_slice.ensures.value in
-    c.if-is_some.true ∙ sym (room ∙ ap (λ b. b || ltb (length c.self.inside.pairs.items) 128) (sym c.is_some.ensures ∙ c.if-is_some.true))
+pub returns-then-is_ok : goal.returns-then-is_ok
+returns-then-is_ok c =
+    let has_room = room c.self.inside.pairs.items c.as_slice.result.now c.args.name c.args.self.now c.place_of.result c.as_slice.ensures.value c.self.view_is c.self.invariant.rising c.place_of.ensures.found c.place_of.ensures.absent in
+    c.if-is_ok.true ∙ sym (has_room ∙ ap (λ b. b || ltb (length c.self.inside.pairs.items) 128) (sym c.is_ok.ensures.value ∙ c.if-is_ok.true))
 
-pub returns-else-is_some : goal.returns-else-is_some
-returns-else-is_some c =
-    let room = room_of c.args.name c.self.inside.pairs.items _ c.args.self.now _ c.self.invariant c.self.view_is c.place_of.ensures.place c.as_slice.ensures.value in
-    ap (λ k. ltb k 128) c.len.ensures.value ∙ sym (room ∙ ap (λ b. b || ltb (length c.self.inside.pairs.items) 128) (sym c.is_some.ensures ∙ c.if-is_some.false))
+pub returns-else-is_ok : goal.returns-else-is_ok
+returns-else-is_ok c =
+    let has_room = room c.self.inside.pairs.items c.as_slice.result.now c.args.name c.args.self.now c.place_of.result c.as_slice.ensures.value c.self.view_is c.self.invariant.rising c.place_of.ensures.found c.place_of.ensures.absent in
+    ap (λ k. ltb k 128) c.len.ensures.value ∙ sym (has_room ∙ ap (λ b. b || ltb (length c.self.inside.pairs.items) 128) (sym c.is_ok.ensures.value ∙ c.if-is_ok.false))

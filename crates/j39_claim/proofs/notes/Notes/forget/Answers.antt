@@ -1,22 +1,25 @@
-use Rattle.std.proofs.Common.{◌≡◌, Some, None, ap, sym, ◌∙◌}
+use Rattle.std.proofs.Common.{subst, ap, sym, ◌∙◌}
 use Rattle.std.specs.FinMap as map
-use Rattle.j39_claim.specs.Noting.{place_of}
-use Rattle.j39_claim.proofs.NoteLists.{Became, map_of, note_removed, note_absent}
+use Rattle.j39_claim.specs.inside.Noting.{IsAt, IsGapFor, AreNotes}
+use Rattle.j39_claim.proofs.Counts.{dropped}
+use Rattle.j39_claim.proofs.RisingNotes.{map_of, note_removed, remove_absent}
 use Rattle.j39_claim.proofs.notes.Notes.forget.Goals as goal
-use Rattle.j39_claim.proofs.notes.Notes.forget.Goals.{After-remove}
+use Rattle.j39_claim.proofs.notes.Notes.forget.Goals.{After-lower}
 
-became : (c : After-remove) → Became c.remove.new.self.items (map.remove (map_of c.self.inside.pairs.items) c.args.name)
-became c =
-    let at : place_of c.args.name c.self.inside.pairs.items ≡ Some c.in-Some.place = ap (place_of c.args.name) (sym c.as_slice.ensures.value) ∙ sym c.place_of.ensures.place ∙ c.in-Some.is in
-    rw c.remove.ensures.items (note_removed c.args.name c.in-Some.place c.self.inside.pairs.items at c.self.invariant)
+at : (c : After-lower) → IsAt c.self.inside.pairs.items c.args.name c.in-Ok.place
+at c = subst (λ l. IsAt l c.args.name c.in-Ok.place) c.as_slice.ensures.value c.in-Ok.ensures.found
 
 pub invariant_of-self : goal.invariant_of-self
-invariant_of-self c = (became c).distinct
+invariant_of-self c =
+    subst (λ l. AreNotes l c.lower.new.self) (sym c.remove-address.ensures.items)
+    (dropped c.self.inside.pairs.items c.args.name c.in-Ok.place _ c.remove-address.result c.self.inside.counts c.lower.new.self c.self.invariant (at c) (ap (λ pair. pair.1) c.remove-address.ensures.value) c.lower.ensures)
 
-pub returns-in-Some : goal.returns-in-Some
-returns-in-Some c = (became c).map ∙ ap (λ m. map.remove m c.args.name) c.self.view_is
+pub returns-in-Ok : goal.returns-in-Ok
+returns-in-Ok c =
+    ap map_of c.remove-address.ensures.items ∙ (note_removed c.self.inside.pairs.items c.args.name c.in-Ok.place c.self.invariant.rising (at c)).map
+    ∙ ap (λ m. map.remove m c.args.name) c.self.view_is
 
 pub returns-in_default : goal.returns-in_default
 returns-in_default c =
-    let none : place_of c.args.name c.self.inside.pairs.items ≡ None = ap (place_of c.args.name) (sym c.as_slice.ensures.value) ∙ sym c.place_of.ensures.place ∙ c.in_default.is in
-    sym c.self.view_is ∙ note_absent c.args.name c.self.inside.pairs.items none ∙ ap (λ m. map.remove m c.args.name) c.self.view_is
+    let gap = subst (λ l. IsGapFor l c.args.name c.in_default.field-0) c.as_slice.ensures.value c.in_default.ensures.absent in
+    sym c.self.view_is ∙ remove_absent c.self.inside.pairs.items c.args.name c.in_default.field-0 c.self.invariant.rising gap ∙ ap (λ m. map.remove m c.args.name) c.self.view_is
