@@ -365,7 +365,7 @@ def main(words=None):
     plan.add_units(db.frames)
     plan.add_frames(frame for frame in db.frames if is_chosen(frame, given.sender, given.group))
     sys.stdout.write(text_of(plan, os.path.basename(given.file)))
-    print(f"{len(plan.units)} units {len(plan.groups)} groups {len(plan.flows)} flows, {plan.notes.count} notes", file=sys.stderr)
+    print(f"{len(plan.units)} units {len(plan.groups)} groups {len(plan.flows)} flows, notes {plan.notes.count}", file=sys.stderr)
     return 0
 
 

@@ -155,7 +155,7 @@ class FromDbc(InFolder):
 
     def test_what_is_said_is_counted(self):
         _, said = self.plan()
-        self.assertEqual(said[-1], f"2 units 4 groups 5 flows, {len(said) - 1} notes")
+        self.assertEqual(said[-1], f"2 units 4 groups 5 flows, notes {len(said) - 1}")
 
     def test_a_file_that_cannot_be_read(self):
         for name in ("none.dbc", "plan.txt"):

@@ -1,48 +1,114 @@
-"""The commands that the pages show, and what they write."""
+"""What the pages claim: each command that they show writes what is shown, each file that they show is that file, each name of
+docs/PROOFS.md is there, and each link leads somewhere."""
 
+import glob
+import importlib.util
 import os
 import re
+import shutil
 import subprocess
-import unittest
 
 import program
-from tests.support import TOP, text_of
+from tests.support import TOP, InFolder, example, text_of
+
+PAGES = ["README.md", *(f"docs/{name}" for name in sorted(os.listdir(os.path.join(TOP, "docs"))))]
+
+# A command that can be run here: the program or a tool, at the beginning or behind another command.
+COMMAND = re.compile(r"(?:^|[\n;|] ?)(?:\./j39plan|tools/(?!package)[\w.-]+)(?: |$)")
 
 
-def blocks(page):
+def page(name):
+    """A page's text."""
+    return text_of(os.path.join(TOP, name))
+
+
+def blocks(text):
     """The indented blocks of a page, each with the block behind it."""
-    found = [block.replace("\n    ", "\n")[4:] for block in re.findall(r"(?<=\n\n)    .*(?:\n    .*)*", page)]
-    return list(zip(found, found[1:]))
+    found = [block.replace("\n    ", "\n")[4:] for block in re.findall(r"(?<=\n\n)    .*(?:\n    .*)*", text)]
+    return zip(found, found[1:] + [""])
 
 
-class Pages(unittest.TestCase):
-    def test_what_the_tools_are_shown_to_write(self):
-        environment = {**os.environ, "J39PLAN": os.path.realpath(program.path())}
-        count = 0
-        for page in ("README.md", "docs/TOOLS.md", "docs/GUIDE.md"):
-            for command, shown in blocks(text_of(os.path.join(TOP, page))):
-                if re.match(r"tools/(?!package)", command):
-                    ended = subprocess.run(["sh", "-c", command], cwd=TOP, capture_output=True, text=True, check=False, env=environment)
-                    self.assertEqual(ended.stdout, shown + "\n", command)
-                    count += 1
-        self.assertGreaterEqual(count, 3)
+def missing(command):
+    """What a command needs that isn't there."""
+    if "vehicle" in command and importlib.util.find_spec("canmatrix") is None:
+        return "canmatrix isn't there: apt-get install python3-canmatrix"
+    if "asc2log" in command and shutil.which("asc2log") is None:
+        return "asc2log isn't there: apt-get install can-utils"
+    return None
 
+
+class Shown(InFolder):
+    def output(self, command):
+        """What a command writes, with the built program in the launcher's place and a folder of its own for /tmp."""
+        name = os.path.realpath(program.path())
+        ended = subprocess.run(
+            ["bash", "-c", command.replace("./j39plan", name).replace("/tmp/", self.folder + "/")],
+            cwd=TOP, capture_output=True, text=True, check=False, env={**os.environ, "J39PLAN": name},
+        )
+        return ended.stdout.replace(self.folder + "/", "/tmp/")
+
+    def test_commands_write_what_is_shown(self):
+        for name, least in (("README.md", 12), ("docs/GUIDE.md", 7), ("docs/TOOLS.md", 3)):
+            commands = [(command, shown) for command, shown in blocks(page(name)) if COMMAND.search(command)]
+            self.assertGreaterEqual(len(commands), least)
+            for command, shown in commands:
+                with self.subTest(command):
+                    if missing(command):
+                        self.skipTest(missing(command))
+                    self.assertEqual(self.output(command), shown + "\n")
+
+    def test_plans_are_answered_as_shown(self):
+        shown = re.findall(r"```toml\n([^`]*)```\n(?:(?!```).)*```text\n([^`]*)```", page("docs/PLAN.md"), re.DOTALL)
+        self.assertGreaterEqual(len(shown), 14)
+        for plan, answer in shown:
+            self.assertEqual(program.call(["check", self.write("plan.toml", plan)])[1], answer, plan)
+
+    def test_examples_are_answered_as_shown(self):
+        shown = re.findall(r"`examples/(findings/\w+\.toml)`[^\n]*:\n\n```text\n(.*?)```", page("docs/PLAN.md"), re.DOTALL)
+        self.assertGreaterEqual(len(shown), 11)
+        for plan, answer in shown:
+            self.assertEqual(program.call(["check", example(plan)])[1], answer, plan)
+
+    def test_files_are_as_shown(self):
+        for name, least in (("README.md", 1), ("docs/GUIDE.md", 4)):
+            shown = re.findall(r"`examples/([\w./]+)`[^`]*(?:`(?!examples/)[^`\n]+`[^`]*)*?```(?:toml|text)\n(.*?)```", page(name), re.DOTALL)
+            self.assertGreaterEqual(len(shown), least)
+            for file, text in shown:
+                whole = text_of(example(file))
+                self.assertTrue(whole == text or (file.endswith(".toml") and whole.endswith(text)), f"{name}: {file}")
+
+
+class Names(InFolder):
     def test_links_lead_somewhere(self):
-        for page in ["README.md", *(f"docs/{name}" for name in os.listdir(os.path.join(TOP, "docs")))]:
-            text = text_of(os.path.join(TOP, page))
-            for link in re.findall(r"\]\(([^)\s]+)\)", text):
-                name, _, heading = link.partition("#")
-                target = os.path.normpath(os.path.join(TOP, os.path.dirname(page), name)) if name else os.path.join(TOP, page)
-                self.assertTrue(os.path.exists(target), f"{page}: {link}")
+        for name in PAGES:
+            for link in re.findall(r"\]\(([^)\s]+)\)", page(name)):
+                file, _, heading = link.partition("#")
+                target = os.path.normpath(os.path.join(os.path.dirname(name), file)) if file else name
+                self.assertTrue(os.path.exists(os.path.join(TOP, target)), f"{name}: {link}")
                 if heading:
-                    self.assertIn(heading, anchors(text_of(target)), f"{page}: {link}")
+                    self.assertIn(heading, anchors(page(target)), f"{name}: {link}")
+
+    def test_what_is_called_proved_is_there(self):
+        sections = re.findall(r"\n## ((?:`j39_\w+`(?:, )?)+):.*?\n(.*?)(?=\n## )", page("docs/PROOFS.md"), re.DOTALL)
+        self.assertGreaterEqual(len(sections), 10)
+        for heading, body in sections:
+            source = "\n".join(source_of(crate) for crate in re.findall(r"j39_\w+", heading))
+            for names, proved in re.findall(r"\n\| (`[^|]*) \| (.*) \|", body):
+                for name in re.findall(r"`([\w:]+)`", names):
+                    pattern = rf"pub (?:fn|struct|enum|trait|type) {name.split('::')[-1]}\b"
+                    self.assertTrue(re.search(pattern, source), f"{heading}: {name}")
+                for name in re.findall(r"\(((?:`\w+`(?:, )?)+)\)", proved):
+                    for clause in re.findall(r"\w+", name):
+                        self.assertTrue(re.search(rf"ensures {clause}\b", source), f"{heading}: {clause}")
+
+
+def source_of(crate):
+    """The sources of a crate; a trait's functions are as public as it is."""
+    names = glob.glob(os.path.join(TOP, "crates", crate, "src", "**", "*.rt"), recursive=True)
+    return "\n".join(re.sub(r"\n    fn ", "\n    pub fn ", text_of(name)) for name in names if "tests" not in name)
 
 
 def anchors(text):
     """The anchors of a page's headings, as GitHub makes them."""
     headings = re.findall(r"^#+ (.*)$", re.sub(r"```.*?```", "", text, flags=re.DOTALL), re.MULTILINE)
     return {re.sub(r"[^\w\- ]", "", heading.lower()).replace(" ", "-") for heading in headings}
-
-
-if __name__ == "__main__":
-    unittest.main()
