@@ -1,10 +1,14 @@
 """Plans from DBC, ARXML, KCD and SYM files."""
 
+import contextlib
+import io
 import logging
 import os
+import random
 import tomllib
 import unittest
 
+import dbc2plan
 import program
 from tests.support import InFolder, needs, run
 
@@ -75,6 +79,45 @@ VAL_ 2348810494 SPN518 255 "Not available" ;
 '''
 
 CANMATRIX_J1939 = "/usr/lib/python3/dist-packages/canmatrix/j1939.dbc"
+
+
+# canmatrix tells at its import which of its formats miss a library.
+logging.disable(logging.CRITICAL)
+
+NAMES = ["all", "A", "a b", "ä", "", "X" * 40, "motor-1", "N1", "\"", "\\", "é" * 40]
+UNITS = ["", "rpm", "°C", "µm³", "日", "k" * 33, "\"\\", "km/h\n", "%"]
+
+
+def random_ecu(canmatrix, chance, number):
+    """A node with some of the usual attributes, within their ranges and without."""
+    ecu = canmatrix.Ecu(chance.choice(NAMES) + str(number))
+    for attribute, most in [*dbc2plan.NAME_ATTRIBUTES.values(), ("NmStationAddress", 253), ("NmJ1939AAC", 1)]:
+        if chance.random() < 0.7:
+            ecu.add_attribute(attribute, str(chance.choice([0, 1, most, most + 1, -1, "x", chance.randrange(most + 1)])))
+    return ecu
+
+
+def random_signal(canmatrix, chance, nodes):
+    """A signal that often can't be carried over."""
+    return canmatrix.Signal(
+        chance.choice(NAMES), start_bit=chance.randrange(70), size=chance.choice([1, 2, 3, 8, 12, 16, 24, 32, 33, 64]),
+        is_little_endian=chance.random() < 0.8, is_signed=chance.random() < 0.2, is_float=chance.random() < 0.1,
+        factor=chance.choice(["1", "0.125", "0.0001", "1E-7", "-1", "0", "3.3333", "1000000", "2000000", "1E-20"]),
+        offset=chance.choice(["0", "-40", "-273.15", "1E12", "1E13", "0.5"]), unit=chance.choice(UNITS),
+        values=chance.choice([{}, {0: "off", 1: "on"}, {2: "medium"}, {255: "not available"}]), receivers=nodes[1:],
+    )
+
+
+def random_frame(canmatrix, chance, nodes, number):
+    """A frame that often can't be carried over."""
+    ident = chance.choice([0x0CF00400, 0x18FEEE00, 0x0C000003, 0x18EF0000, 0x18FF1000, 0x18EEFF00, 0x1BFEEE00, chance.randrange(2**29)])
+    frame = canmatrix.Frame(
+        chance.choice(NAMES) + str(number), arbitration_id=canmatrix.ArbitrationId(ident, extended=True),
+        size=chance.choice([0, 1, 8, 9, 39, 1785, 1786]), transmitters=chance.choice([nodes, nodes[:1] + ["Vector__XXX"]]),
+    )
+    for _ in range(chance.choice([0, 1, 5, 70])):
+        frame.add_signal(random_signal(canmatrix, chance, nodes))
+    return frame
 
 
 @needs("canmatrix", "python3-canmatrix")
@@ -163,6 +206,25 @@ class FromDbc(InFolder):
             self.assertEqual((status, plan), (2, ""))
             self.assertTrue(said.startswith("dbc2plan: "), said)
 
+    def test_what_it_writes_can_be_read(self):
+        """Files of random nodes, frames and signals, of which much can't be carried over."""
+        import canmatrix
+        chance, flows = random.Random(1939), 0
+        for _ in range(60):
+            db = canmatrix.CanMatrix()
+            for number in range(chance.randrange(4)):
+                db.add_ecu(random_ecu(canmatrix, chance, number))
+            nodes = [ecu.name for ecu in db.ecus]
+            for number in range(chance.randrange(8)):
+                db.add_frame(random_frame(canmatrix, chance, nodes, number))
+            with contextlib.redirect_stderr(io.StringIO()):
+                plan = dbc2plan.Plan(db, dbc2plan.Notes())
+                plan.add_units(db.frames)
+                plan.add_frames(db.frames)
+            self.checked(dbc2plan.text_of(plan, "random"))
+            flows += len(plan.flows)
+        self.assertGreater(flows, 10)
+
     @unittest.skipUnless(os.path.exists(CANMATRIX_J1939), "canmatrix's j1939.dbc isn't there")
     def test_the_groups_of_canmatrix(self):
         status, plan, said = run("dbc2plan.py", CANMATRIX_J1939)
@@ -179,8 +241,6 @@ class FromOthers(InFolder):
     """The same groups and signals come out of the other formats, as canmatrix writes them."""
 
     def test_formats(self):
-        logging.disable(logging.CRITICAL)
-        self.addCleanup(logging.disable, logging.NOTSET)
         import canmatrix.formats
         with open(self.path("file.dbc"), "w", encoding="iso-8859-1", errors="replace") as file:
             file.write(DBC)

@@ -1,10 +1,13 @@
 """Where the answers of `check` belong."""
 
 import os
+import re
 import subprocess
 import sys
 import unittest
 
+import program
+import where
 from tests.support import TOOLS, InFolder, example, examples, run, shown_refusals, text_of
 
 UNIT = '[[unit]]\nlabel = "{}"\naddress = {}\nname = {{ identity = {} }}\n'
@@ -111,6 +114,22 @@ class Where(InFolder):
         status, answer, _ = run("where.py", "--github", name)
         self.assertEqual(status, 2)
         self.assertTrue(answer.startswith(f"::error file={name},line=1::refused Range top key version"), answer)
+
+    def test_every_fault_has_a_line(self):
+        """Each line of a plan is left out, doubled and cut in turn: the answers stay, and their lines are in the file."""
+        lines = text_of(example("findings/several.toml")).splitlines(keepends=True)
+        for at, line in enumerate(lines):
+            for instead in ("", line + line, line[: len(line) // 2] + "\n", line.replace(" = ", "x = "), line.replace("1", "-1")):
+                text = "".join(lines[:at] + [instead] + lines[at + 1:])
+                name = self.write("plan.toml", text)
+                status, answer = program.call(["check", name])
+                shown = list(where.annotate("P", text.encode(), answer, "{file}:{line}: {text}"))
+                self.assertEqual([part.split(": ", 1)[-1].split("  (")[0] for part in shown], answer.splitlines())
+                for part in shown:
+                    if found := re.match(r"P:(\d+): ", part):
+                        self.assertLessEqual(int(found.group(1)), text.count("\n") + 1)
+                    else:
+                        self.assertRegex(part, r"ok |findings ")
 
     def test_a_program_that_is_not_there(self):
         environment = {**os.environ, "J39PLAN": self.path("j39plan")}
