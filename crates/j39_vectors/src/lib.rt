@@ -1,13 +1,20 @@
-//! Conformance tests: worked examples of SAE J1939 groups and plans, and what the crates below answer on them.
+//! Worked rows of the commands, and conformance tests of the crates below.
 #![tactic(auto)]
 
+mod performing;
+mod row;
+mod rows;
+
+pub use performing::perform;
+pub use row::{Command, Row};
+pub use rows::{
+    CHECK_OF_A_FINDING, CHECK_OF_A_PLAN, READ_OF_A_MESSAGE, ROWS, RUN_OF_A_BROADCAST,
+    RUN_OF_A_MESSAGE,
+};
+
 #[cfg(test)]
-mod checks;
+mod choosers;
 #[cfg(test)]
 mod groups;
-#[cfg(test)]
-mod logs;
-#[cfg(test)]
-mod runs;
 #[cfg(test)]
 mod signals;

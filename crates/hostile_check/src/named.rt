@@ -1,0 +1,112 @@
+//! Texts that a command can write.
+
+use crate::attempt::Attempt;
+use j39_app::Verdict;
+use j39_vectors::Command;
+
+// Words behind `refused` where a line or a plan can't be read.
+const UNREADABLE: [&str; 13] = [
+    "Empty",
+    "NoHash",
+    "ShortIdent",
+    "BadIdent",
+    "TooLong",
+    "BadData",
+    "Text",
+    "UnknownKey",
+    "Missing",
+    "WrongType",
+    "Range",
+    "TooMany",
+    "Repeated",
+];
+
+// Words behind `refused line N` where the line can't be read.
+const UNREADABLE_LINE: [&str; 6] = [
+    "LongLine",
+    "UnknownWord",
+    "WordCount",
+    "UnknownLabel",
+    "BadNumber",
+    "BadHex",
+];
+
+// Words behind `refused line N` where the step is refused.
+const REFUSED_STEP: [&str; 12] = [
+    "NoSuchFlow",
+    "NotStarted",
+    "AlreadyStarted",
+    "NothingUndelivered",
+    "TransferOpen",
+    "NotSettled",
+    "NoAddress",
+    "Busy",
+    "WrongLength",
+    "NothingToSend",
+    "NoSession",
+    "CannotRest",
+];
+
+// The first words of lines of check, and of lines of read.
+const CHECK: [&str; 15] = [
+    "ok", "findings", "F1", "F2", "F3", "F4", "F5", "F6", "F7", "F8", "F9", "F10", "F11", "",
+    "refused",
+];
+
+const FRAME: [&str; 7] = [
+    "frame", "priority", "claim", "cannot", "identity", "request", "refused",
+];
+
+const RUN: [&str; 5] = ["unit", "settled", "not", "report", "refused"];
+
+const READ: [&str; 4] = ["group", "", "frames", "refused"];
+
+fn word(line: &str, place: usize) -> &str {
+    line.split(' ').nth(place).unwrap_or("")
+}
+
+// The verdict that a line behind `refused` tells.
+fn refused(line: &str) -> Option<Verdict> {
+    match word(line, 1) {
+        "plan" => Some(Verdict::Refused),
+        "line" if UNREADABLE_LINE.contains(&word(line, 3)) => Some(Verdict::Unreadable),
+        "line" if REFUSED_STEP.contains(&word(line, 3)) => Some(Verdict::Refused),
+        "UnknownLabel" => Some(Verdict::Unreadable),
+        cause if UNREADABLE.contains(&cause) => Some(Verdict::Unreadable),
+        _ => None,
+    }
+}
+
+// The verdict that a text tells.
+fn told(text: &str) -> Option<Verdict> {
+    match text.lines().find(|line| line.starts_with("refused ")) {
+        Some(line) => refused(line),
+        None if text.lines().any(|line| line.starts_with("findings ")) => Some(Verdict::Findings),
+        None => Some(Verdict::Done),
+    }
+}
+
+fn is_line_of(command: Command, line: &str) -> bool {
+    let first = word(line, 0);
+    match command {
+        Command::Frame => FRAME.contains(&first),
+        Command::Check => CHECK.contains(&first),
+        Command::Run => RUN.contains(&first) || first.contains('#'),
+        Command::Read => READ.contains(&first),
+    }
+}
+
+/// Whether the text is made of lines of the command, tells the verdict and is whole.
+pub fn is_named(command: Command, attempt: &Attempt) -> bool {
+    match (
+        std::str::from_utf8(attempt.written.as_slice()),
+        &attempt.outcome,
+    ) {
+        (Ok(text), Ok(verdict)) => {
+            text.ends_with('\n')
+                && told(text) == Some(*verdict)
+                && text.lines().all(|line| is_line_of(command, line))
+        }
+        _ => false,
+    }
+}

@@ -1,0 +1,29 @@
+//! Commands, by what they read.
+use crate::Command;
+use j39_app::{
+    Fault, Sink, Source, Verdict, check_text, input_text, plan_text, read_text, run_planned,
+};
+use std::alloc::Global;
+
+/// Does a command: reads the plan and the input, as far as it needs them, and writes its text.
+pub fn perform<P: Source, S: Source, W: Sink>(
+    alloc: Global,
+    command: Command,
+    plan: &mut P,
+    input: &mut S,
+    sink: &mut W,
+) -> Result<Verdict, Fault> {
+    match command {
+        Command::Frame => return input_text(alloc, input, sink),
+        Command::Check => return check_text(alloc, plan, sink),
+        Command::Run | Command::Read => {}
+    }
+    let Some(plan) = plan_text(alloc, plan, sink)? else {
+        return Ok(Verdict::Unreadable);
+    };
+    if command == Command::Run {
+        run_planned(alloc, &plan, input, sink)
+    } else {
+        read_text(alloc, &plan, input, sink)
+    }
+}

@@ -1,0 +1,26 @@
+//! A worked row.
+use j39_app::Verdict;
+
+/// What reads the row's plan and input.
+#[derive(Clone, Copy, Debug, PartialEq, Eq)]
+pub enum Command {
+    /// The frame line of the input.
+    Frame,
+    /// The plan's check.
+    Check,
+    /// The run of a schedule, the input.
+    Run,
+    /// The reading of a log, the input.
+    Read,
+}
+
+/// A command with what it reads, the text that it writes then, and its verdict.
+#[derive(Clone, Copy, Debug)]
+pub struct Row {
+    pub name: &'static str,
+    pub command: Command,
+    pub plan: &'static str,
+    pub input: &'static str,
+    pub text: &'static str,
+    pub verdict: Verdict,
+}

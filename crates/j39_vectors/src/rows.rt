@@ -1,0 +1,253 @@
+//! The rows.
+use crate::{Command, Row};
+use j39_app::Verdict;
+
+const NOTHING: &str = "version = 1\n";
+
+// Two fixed units at one address.
+const SHARED: &str = "version = 1
+[[unit]]
+label = \"A\"
+address = 0
+name = { identity = 1 }
+[[unit]]
+label = \"B\"
+address = 0
+name = { identity = 2 }
+";
+
+// Two fixed units, A at 0 and B at 3, and a group of 17 bytes, which A sends to all by flow 1 and to B by flow 2.
+const SENDING: &str = "version = 1
+[[unit]]
+label = \"A\"
+address = 0
+name = { identity = 1 }
+[[unit]]
+label = \"B\"
+address = 3
+name = { identity = 2 }
+[[group]]
+label = \"VI\"
+pgn = 65260
+priority = 6
+length = 17
+[[flow]]
+group = \"VI\"
+from = \"A\"
+to = \"all\"
+[[flow]]
+group = \"VI\"
+from = \"A\"
+to = \"B\"
+";
+
+// A group with one signal.
+const TEMPERATURE: &str = "version = 1
+[[group]]
+label = \"ET1\"
+pgn = 65262
+priority = 6
+length = 8
+[[group.signal]]
+label = \"SPN110\"
+byte = 1
+bits = 8
+kind = \"measured\"
+offset = -40
+unit = \"degC\"
+";
+
+const FRAME: Row = Row {
+    name: "a frame line",
+    command: Command::Frame,
+    plan: "",
+    input: "0CF00400#FFFFFFE02EFFFFFF",
+    text: "frame 0CF00400#FFFFFFE02EFFFFFF
+priority 3 pgn 61444 from 0 to all
+",
+    verdict: Verdict::Done,
+};
+
+const CHECK_OF_NOTHING: Row = Row {
+    name: "a plan of nothing",
+    command: Command::Check,
+    plan: NOTHING,
+    input: "",
+    text: "ok 0 units 0 groups 0 flows\n",
+    verdict: Verdict::Done,
+};
+
+/// A plan of units, a group and flows.
+pub const CHECK_OF_A_PLAN: Row = Row {
+    name: "a plan of two flows",
+    command: Command::Check,
+    plan: SENDING,
+    input: "",
+    text: "ok 2 units 1 groups 2 flows\n",
+    verdict: Verdict::Done,
+};
+
+/// A plan with a finding.
+pub const CHECK_OF_A_FINDING: Row = Row {
+    name: "two fixed units at one address, checked",
+    command: Command::Check,
+    plan: SHARED,
+    input: "",
+    text: "F2 SameFixedAddress A B 0\nfindings 1\n",
+    verdict: Verdict::Findings,
+};
+
+const RUN_OF_A_CONFLICT: Row = Row {
+    name: "two fixed units at one address, run",
+    command: Command::Run,
+    plan: SHARED,
+    input: "up B\nup A\ngive A B\ngive B A\n",
+    text: "18EEFF00#0200000000000000
+18EEFF00#0100000000000000
+18EEFFFE#0200000000000000
+unit A address 0
+unit B none
+settled
+",
+    verdict: Verdict::Done,
+};
+
+/// A broadcast that is reported.
+pub const RUN_OF_A_BROADCAST: Row = Row {
+    name: "a broadcast",
+    command: Command::Run,
+    plan: SENDING,
+    input: "up A
+up B
+give B A
+begin 1 000102030405060708090A0B0C0D0E0F10
+emit A
+emit A
+emit A
+take A B
+take A B
+take A B
+take A B
+rest A
+",
+    text: "18EEFF00#0100000000000000
+18EEFF03#0200000000000000
+1CECFF00#20110003FFECFE00
+1CEBFF00#0100010203040506
+1CEBFF00#020708090A0B0C0D
+1CEBFF00#030E0F10FFFFFFFF
+unit A address 0
+unit B address 3
+settled
+report B from A flow 1 bytes 000102030405060708090A0B0C0D0E0F10
+",
+    verdict: Verdict::Done,
+};
+
+/// A message that is acknowledged once its second packet was sent again.
+pub const RUN_OF_A_MESSAGE: Row = Row {
+    name: "a message of which a packet is lost",
+    command: Command::Run,
+    plan: SENDING,
+    input: "up A
+up B
+give B A
+begin 2 000102030405060708090A0B0C0D0E0F10
+take A B
+take B A
+emit A
+emit A
+emit A
+take A B
+lose A B
+take A B
+take B A
+emit A
+emit A
+take A B
+take A B
+take B A
+rest A
+",
+    text: "18EEFF00#0100000000000000
+18EEFF03#0200000000000000
+1CEC0300#10110003FFECFE00
+1CEC0003#110301FFFFECFE00
+1CEB0300#0100010203040506
+1CEB0300#020708090A0B0C0D
+1CEB0300#030E0F10FFFFFFFF
+1CEC0003#110202FFFFECFE00
+1CEB0300#020708090A0B0C0D
+1CEB0300#030E0F10FFFFFFFF
+1CEC0003#13110003FFECFE00
+unit A address 0
+unit B address 3
+settled
+report B from A flow 2 bytes 000102030405060708090A0B0C0D0E0F10
+",
+    verdict: Verdict::Done,
+};
+
+const CHECK_OF_NO_PLAN: Row = Row {
+    name: "a plan without its version",
+    command: Command::Check,
+    plan: "",
+    input: "",
+    text: "refused Missing top key version\n",
+    verdict: Verdict::Unreadable,
+};
+
+const RUN_OF_NO_PLAN: Row = Row {
+    name: "a plan that is cut",
+    command: Command::Run,
+    plan: "version = 1\n[[unit",
+    input: "up A\n",
+    text: "refused Text\n",
+    verdict: Verdict::Unreadable,
+};
+
+const READ_OF_A_SIGNAL: Row = Row {
+    name: "a log with a signal",
+    command: Command::Read,
+    plan: TEMPERATURE,
+    input: "(1.5) can0 18FEEE00#7DFFFFFFFFFFFFFF
+(1.6) can0 123#00
+x
+",
+    text: "group ET1 from 0 to all bytes 7DFFFFFFFFFFFFFF
+  SPN110 value 85 degC
+frames 1 skipped 1 bad 1
+",
+    verdict: Verdict::Done,
+};
+
+/// A log of a broadcast.
+pub const READ_OF_A_MESSAGE: Row = Row {
+    name: "a log with a message",
+    command: Command::Read,
+    plan: SENDING,
+    input: "1CECFF00#20110003FFECFE00
+1CEBFF00#0100010203040506
+1CEBFF00#020708090A0B0C0D
+1CEBFF00#030E0F10FFFFFFFF
+",
+    text: "group VI from 0 to all bytes 000102030405060708090A0B0C0D0E0F10
+frames 4 skipped 0 bad 0
+",
+    verdict: Verdict::Done,
+};
+
+/// Each row.
+pub const ROWS: [Row; 11] = [
+    FRAME,
+    CHECK_OF_NOTHING,
+    CHECK_OF_A_PLAN,
+    CHECK_OF_A_FINDING,
+    RUN_OF_A_CONFLICT,
+    RUN_OF_A_BROADCAST,
+    RUN_OF_A_MESSAGE,
+    CHECK_OF_NO_PLAN,
+    RUN_OF_NO_PLAN,
+    READ_OF_A_SIGNAL,
+    READ_OF_A_MESSAGE,
+];
