@@ -1,11 +1,11 @@
 -- What a plan without findings has of its units.
-use Rattle.std.proofs.Common.{◌≡◌, ◌≢◌, ℕ, zero, suc, ◌+◌, ◌/◌, ◌%◌, ◌^◌, ◌<◌, ◌≤◌, Bool, true, false, cond, ◌&&◌, ◌||◌, eqb, List, [], ◌∷◌, length, map, inl, inr, Some, refl, sym, ap, ◌∙◌, arith}
-use Rattle.std.proofs.lemmas.Bool.{cases_lt, eqb-false}
+use Rattle.std.proofs.Common.{◌≡◌, ◌≢◌, ℕ, zero, suc, ◌^◌, ◌<◌, ◌≤◌, Bool, false, cond, ◌||◌, List, [], ◌∷◌, length, map, inl, inr, Some, refl, sym, ap, ◌∙◌, arith}
+use Rattle.std.proofs.lemmas.Bool.{cases_lt}
 use Rattle.std.proofs.lemmas.List.Sums.{sum_by-cons}
 use Rattle.std.specs.List.{count_by, slice_get}
 use Rattle.j39_claim.specs.ClaimRule.{Claimant}
 use Rattle.j39_claim.specs.Pool.{is_arbitrary, in_pool}
-use Rattle.j39_plan.specs.Findings.{Clean, needed_addresses, arbitrary_bit, is_arbitrary as is_arbitrary_unit, is_in_pool, is_fixed_in_pool}
+use Rattle.j39_plan.specs.Findings.{Clean, needed_addresses, needs_pool_address}
 use Rattle.j39_plan.specs.declared.checking.finding.Finding.TheVariants.{SameName, SameFixedAddress, TooFewAddresses}
 use Rattle.j39_plan.specs.declared.plan.Plan.{Plan}
 use Rattle.j39_plan.specs.declared.plan.unit_plan.UnitPlan.{UnitPlan}
@@ -31,24 +31,11 @@ placed [] i inside = absurd (omega arith)
 placed (p ∷ ps) zero inside = (p, refl, refl)
 placed (p ∷ ps) (suc i) inside = placed ps i (omega arith)
 
-bit_below : (n : ℕ) → n % 2 < 2
-bit_below n = omega arith
-
-bit_zero : (b : ℕ) → b < 2 → eqb b 1 ≡ false → b ≡ 0
-bit_zero b small not_one = let other : b ≢ 1 = eqb-false b 1 not_one in omega arith
-
-one : (b : ℕ) (pool : Bool) → b < 2 → cond (eqb b 1 || pool) 1 0 ≡ cond (eqb b 1) 1 0 + cond (eqb b 0 && pool) 1 0
-one zero true small = refl
-one zero false small = refl
-one (suc zero) true small = refl
-one (suc zero) false small = refl
-one (suc (suc b)) pool small = absurd (omega arith)
-
 count : (ps : List UnitPlan) → count_by needs_pool (map claimant_of ps) ≡ needed_addresses ps
 count [] = refl
 count (p ∷ ps) =
-    rw (sum_by-cons (λ x. cond (needs_pool x) 1 0) (claimant_of p) (map claimant_of ps), sum_by-cons (λ x. cond (is_arbitrary_unit x) 1 0) p ps, sum_by-cons (λ x. cond (is_fixed_in_pool x) 1 0) p ps)
-    (omega (arith, count ps, one (arbitrary_bit p) (is_in_pool p.address) (bit_below (p.name / 2 ^ 63))))
+    rw (sum_by-cons (λ x. cond (needs_pool x) 1 0) (claimant_of p) (map claimant_of ps), sum_by-cons (λ x. cond (needs_pool_address x) 1 0) p ps)
+    (omega (arith, count ps))
 
 pub clean_units : (plan : Plan) → Clean plan → IsClean (units_of plan)
 clean_units plan clean = record {
@@ -69,8 +56,8 @@ clean_units plan clean = record {
         first_is = p_is;
         second_is = q_is;
         related = (
-          bit_zero (p.name / 2 ^ 63 % 2) (bit_below (p.name / 2 ^ 63)) (sym (ap (λ (c : Claimant). is_arbitrary c.name) at_i) ∙ fixed_i),
-          bit_zero (q.name / 2 ^ 63 % 2) (bit_below (q.name / 2 ^ 63)) (sym (ap (λ (c : Claimant). is_arbitrary c.name) at_j) ∙ fixed_j),
+          sym (ap (λ (c : Claimant). is_arbitrary c.name) at_i) ∙ fixed_i,
+          sym (ap (λ (c : Claimant). is_arbitrary c.name) at_j) ∙ fixed_j,
           sym (ap (λ (c : Claimant). c.preferred) at_i) ∙ same ∙ ap (λ (c : Claimant). c.preferred) at_j,
         );
       });

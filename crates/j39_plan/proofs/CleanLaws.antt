@@ -3,7 +3,8 @@ use Rattle.std.proofs.Common.{ℕ, ◌+◌, ◌*◌, ◌<◌, List, All, AllPair
 use Rattle.std.proofs.lemmas.Bool.{cases_Bool, cases_lt}
 use Rattle.std.proofs.lemmas.Bool.Decides.{not_from_Decides}
 use Rattle.std.proofs.lemmas.Option.{slice_get-get_or}
-use Rattle.j39_id.specs.Pgn.{IsPgn}
+use Rattle.j39_id.specs.Addresses.{pool_size}
+use Rattle.j39_id.specs.Pgn.{IsPgn, is_pgn}
 use Rattle.j39_signal.specs.Parts.{SignalParts}
 use Rattle.j39_signal.specs.Places.{WidthFits, IsInside, SharesBit, LaysOut, width_fits}
 use Rattle.j39_plan.specs.declared.plan.Plan.{Plan}
@@ -11,9 +12,8 @@ use Rattle.j39_plan.specs.declared.plan.group_plan.GroupPlan.{GroupPlan}
 use Rattle.j39_plan.specs.declared.checking.finding.Finding.TheVariants.{SameName, SameFixedAddress, TooFewAddresses, BadPgn, SamePgn, SignalWidth, SignalOutside, SignalOverlap, FlowToOne, FlowToSelf, FlowRepeated}
 use Rattle.j39_plan.specs.Places.{ValueAt, PairAt}
 use Rattle.j39_plan.specs.Findings.{CannotBePlanned, Clean}
-use Rattle.j39_plan.specs.Found.{is_group}
 use Rattle.j39_plan.specs.CleanParts.{CanBePlanned, CleanParts}
-use Rattle.j39_plan.proofs.Deciding.{Decides-is_group}
+use Rattle.j39_plan.proofs.Deciding.{Decides-is_pgn}
 
 none_at : {A : Type 0} (P : A → Type 0) (xs : List A) → ((i : ℕ) → ¬ ValueAt P xs i) → All (λ x. ¬ P x) xs
 none_at P xs none = λ i d less meets. none i (record { value = get_or xs i d; value_is = slice_get-get_or xs i d less; meets = meets })
@@ -29,9 +29,9 @@ no_pair_at R xs none = λ i j d below less related. none i j (record {
 })
 
 group_of : (n : ℕ) → ¬ (¬ IsPgn n) → IsPgn n
-group_of n h = elim (cases_Bool (is_group n)) [
-  | inl is ↦ (Decides-is_group n).0 is
-  | inr other ↦ absurd (h (not_from_Decides (is_group n) (Decides-is_group n) other))
+group_of n h = elim (cases_Bool (is_pgn n)) [
+  | inl is ↦ (Decides-is_pgn n).0 is
+  | inr other ↦ absurd (h (not_from_Decides (is_pgn n) (Decides-is_pgn n) other))
 ]
 
 planned : (n : ℕ) → ¬ CannotBePlanned n → CanBePlanned n
@@ -68,7 +68,7 @@ pub parts_of : (plan : Plan) → Clean plan → CleanParts plan
 parts_of plan clean = record {
   names = no_pair_at _ plan.units.items (λ i j. clean (SameName i j));
   fixed_addresses = λ i j d below less first second same. no_pair_at _ plan.units.items (λ k l. clean (SameFixedAddress k l)) i j d below less (first, second, same);
-  addresses = elim (cases_lt 120 _) [ inl more ↦ absurd (clean (TooFewAddresses _) (refl, more)) | inr few ↦ few ];
+  addresses = elim (cases_lt pool_size _) [ inl more ↦ absurd (clean (TooFewAddresses _) (refl, more)) | inr few ↦ few ];
   groups = λ g d less. planned _ (none_at _ plan.groups.items (λ k. clean (BadPgn k)) g d less);
   pgns = no_pair_at _ plan.groups.items (λ g h. clean (SamePgn g h));
   layouts = layout plan clean;

@@ -1,10 +1,12 @@
 -- Each test decides its statement.
-use Rattle.std.proofs.Common.{◌≡◌, ℕ, zero, suc, ◌<◌, ◌≤◌, ◌==◌, ◌⊎◌, List, [], ◌∷◌, nat_le, Option, Some, None, Contains, Decides, refl, sym, ◌∙◌, inl, inr, subst, ◌%◌, arith}
+use Rattle.std.proofs.Common.{◌≡◌, ℕ, zero, suc, ◌<◌, ◌≤◌, ◌==◌, ◌⊎◌, List, [], ◌∷◌, Bool, true, false, not, nat_le, Option, Some, None, Contains, Decides, refl, sym, ◌∙◌, inl, inr, subst, ◌%◌, arith}
 use Rattle.std.specs.List.{slice_get, list_any}
 use Rattle.std.proofs.lemmas.Bool.{false≢true, leb-true, le-leb, cases_lt}
 use Rattle.std.proofs.lemmas.Bool.Decides.{Decides-eqb, Decides-and, Decides-or, Decides-not, Decides-like, Decides-ltb}
 use Rattle.std.proofs.lemmas.Option.{none-some, same_Some}
-use Rattle.j39_id.specs.Pgn.{IsPgn, pf_of}
+use Rattle.j39_id.specs.Name.{is_arbitrary}
+use Rattle.j39_id.specs.Pgn.{IsPgn, pf_of, is_pgn}
+use Rattle.j39_id.specs.Services.{service_groups}
 use Rattle.j39_signal.specs.Parts.{SignalParts}
 use Rattle.j39_signal.specs.Places.{WidthFits, IsInside, SharesBit, shares_bit}
 use Rattle.j39_signal.proofs.Sharing.{shared_by_test}
@@ -14,13 +16,17 @@ use Rattle.j39_plan.specs.declared.plan.group_plan.GroupPlan.{GroupPlan}
 use Rattle.j39_plan.specs.declared.plan.flow_plan.FlowPlan.{FlowPlan}
 use Rattle.j39_plan.specs.declared.plan.to.To.{To}
 use Rattle.j39_plan.specs.declared.plan.to.To.TheVariants.{All, One}
-use Rattle.j39_plan.specs.Findings.{arbitrary_bit, HaveSameName, HaveSameFixedAddress, IsProprietary, service_groups, CannotBePlanned, HasBadPgn, HaveSamePgn, IsOneFrameToAll, CannotGoToOne, GoesToItsSender, AreOneFlow}
-use Rattle.j39_plan.specs.Found.{have_same_name, have_same_fixed_address, is_group, is_proprietary, cannot_be_planned, has_bad_pgn, have_same_pgn, has_other_width, ends_outside, is_one_frame_to_all, is_group_of, is_to_one, is_to, have_same_receiver, cannot_go_to_one, goes_to_its_sender, are_one_flow}
+use Rattle.j39_plan.specs.Findings.{HaveSameName, HaveSameFixedAddress, IsProprietary, CannotBePlanned, HasBadPgn, HaveSamePgn, IsOneFrameToAll, CannotGoToOne, GoesToItsSender, AreOneFlow}
+use Rattle.j39_plan.specs.Found.{have_same_name, have_same_fixed_address, is_proprietary, cannot_be_planned, has_bad_pgn, have_same_pgn, has_other_width, ends_outside, is_one_frame_to_all, is_group_of, is_to_one, is_to, have_same_receiver, cannot_go_to_one, goes_to_its_sender, are_one_flow}
 
 Decides-leb : (a b : ℕ) → Decides (nat_le a b) (a ≤ b)
 Decides-leb a b = (leb-true a b, le-leb a b)
 
 -- ---- units
+
+not_is : (b : Bool) → Decides (not b) (b ≡ false)
+not_is true = (λ e. sym e, λ e. sym e)
+not_is false = (λ e. refl, λ e. refl)
 
 pub Decides-have_same_name : (u v : UnitPlan) → Decides (have_same_name u v) (HaveSameName u v)
 Decides-have_same_name u v = Decides-eqb u.name v.name
@@ -28,7 +34,7 @@ Decides-have_same_name u v = Decides-eqb u.name v.name
 pub Decides-have_same_fixed_address : (u v : UnitPlan) → Decides (have_same_fixed_address u v) (HaveSameFixedAddress u v)
 Decides-have_same_fixed_address u v =
     Decides-like _ (λ h. (h.0, h.1.0, h.1.1)) (λ h. (h.0, (h.1, h.2)))
-    (Decides-and _ _ (Decides-eqb (arbitrary_bit u) 0) (Decides-and _ _ (Decides-eqb (arbitrary_bit v) 0) (Decides-eqb u.address v.address)))
+    (Decides-and _ _ (not_is (is_arbitrary u.name)) (Decides-and _ _ (not_is (is_arbitrary v.name)) (Decides-eqb u.address v.address)))
 
 -- ---- groups
 
@@ -41,8 +47,8 @@ group_from n h = record {
 group_parts : (n : ℕ) → IsPgn n → (n < 262144) × ((240 ≤ pf_of n) ⊎ (n % 256 ≡ 0))
 group_parts n g = (g.range, elim (cases_lt (pf_of n) 240) [ inl to_one ↦ inr (g.low to_one) | inr to_all ↦ inl to_all ])
 
-pub Decides-is_group : (n : ℕ) → Decides (is_group n) (IsPgn n)
-Decides-is_group n =
+pub Decides-is_pgn : (n : ℕ) → Decides (is_pgn n) (IsPgn n)
+Decides-is_pgn n =
     Decides-like _ (group_from n) (group_parts n)
     (Decides-and _ _ (Decides-ltb n 262144) (Decides-or _ _ (Decides-leb 240 (pf_of n)) (Decides-eqb (n % 256) 0)))
 
@@ -65,7 +71,7 @@ Decides-list_any n (x ∷ xs) = Decides-like _ (contains_from n x xs) (contains_
 
 pub Decides-cannot_be_planned : (n : ℕ) → Decides (cannot_be_planned n) (CannotBePlanned n)
 Decides-cannot_be_planned n =
-    Decides-or _ _ (Decides-not _ (Decides-is_group n)) (Decides-or _ _ (Decides-leb 131072 n)
+    Decides-or _ _ (Decides-not _ (Decides-is_pgn n)) (Decides-or _ _ (Decides-leb 131072 n)
     (Decides-or _ _ (Decides-is_proprietary n) (Decides-list_any n service_groups)))
 
 pub Decides-has_bad_pgn : (g : GroupPlan) → Decides (has_bad_pgn g) (HasBadPgn g)

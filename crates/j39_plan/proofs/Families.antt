@@ -10,7 +10,8 @@ use Rattle.j39_plan.specs.declared.plan.group_plan.GroupPlan.{GroupPlan}
 use Rattle.j39_plan.specs.declared.checking.finding.Finding.{Finding}
 use Rattle.j39_plan.specs.declared.checking.finding.Finding.TheVariants.{SameName, SameFixedAddress, TooFewAddresses, BadPgn, SamePgn, SignalWidth, SignalOutside, SignalOverlap, FlowToOne, FlowToSelf, FlowRepeated}
 use Rattle.j39_plan.specs.Places.{in_each, each, pairs, ValueAt, PairAt}
-use Rattle.j39_plan.specs.Findings.{HaveSameName, HaveSameFixedAddress, needed_addresses, pool_size, HasBadPgn, HaveSamePgn, CannotGoToOne, GoesToItsSender, AreOneFlow, Holds, IsBefore, IsBelow, number_of, places_of}
+use Rattle.j39_id.specs.Addresses.{pool_size}
+use Rattle.j39_plan.specs.Findings.{HaveSameName, HaveSameFixedAddress, needed_addresses, HasBadPgn, HaveSamePgn, CannotGoToOne, GoesToItsSender, AreOneFlow, Holds, IsBefore, IsBelow, number_of, places_of}
 use Rattle.j39_plan.specs.Found.{too_few_addresses, unit_findings, group_findings, has_other_width, ends_outside, overlap_findings, signal_findings, flow_findings}
 use Rattle.j39_plan.proofs.Members.{of_in_each, of_found_if, of_each, of_pairs}
 use Rattle.j39_plan.proofs.Rising.{Rises, Rises-append, Rises-found_if, Rises-in_each, Rises-each, Rises-pairs}

@@ -9,7 +9,8 @@ use Rattle.j39_plan.specs.declared.plan.group_plan.GroupPlan.{GroupPlan}
 use Rattle.j39_plan.specs.declared.checking.finding.Finding.{Finding}
 use Rattle.j39_plan.specs.declared.checking.finding.Finding.TheVariants.{SameName, SameFixedAddress, TooFewAddresses, BadPgn, SamePgn, SignalWidth, SignalOutside, SignalOverlap, FlowToOne, FlowToSelf, FlowRepeated}
 use Rattle.j39_plan.specs.Places.{in_each, each, pairs}
-use Rattle.j39_plan.specs.Findings.{HaveSameName, HaveSameFixedAddress, needed_addresses, pool_size, HasBadPgn, HaveSamePgn, CannotGoToOne, GoesToItsSender, AreOneFlow, Holds, IsBefore, AreFindings, Clean}
+use Rattle.j39_id.specs.Addresses.{pool_size}
+use Rattle.j39_plan.specs.Findings.{HaveSameName, HaveSameFixedAddress, needed_addresses, HasBadPgn, HaveSamePgn, CannotGoToOne, GoesToItsSender, AreOneFlow, Holds, IsBefore, AreFindings, Clean}
 use Rattle.j39_plan.specs.Found.{have_same_name, have_same_fixed_address, too_few_addresses, unit_findings, has_bad_pgn, have_same_pgn, group_findings, width_findings, outside_findings, overlap_findings, signal_findings, cannot_go_to_one, goes_to_its_sender, are_one_flow, flow_findings, found}
 use Rattle.j39_plan.proofs.Members.{in_each_of, found_if_of, each_of, pairs_of}
 use Rattle.j39_plan.proofs.Rising.{AllPairs-from_Rises}

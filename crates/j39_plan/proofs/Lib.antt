@@ -1,7 +1,6 @@
 pub mod AddingLemmas
 pub mod CleanLaws
 pub mod ConflictLaws
-pub mod Counting
 pub mod Deciding
 pub mod EachElement
 pub mod Families

@@ -1,16 +1,18 @@
 -- What a clean plan keeps, part by part.
 use Rattle.std.specs.Prelude.{◌≡◌, ◌≢◌, ℕ, ◌<◌, ◌≤◌, All, AllPairs, Contains}
+use Rattle.j39_id.specs.Addresses.{pool_size}
 use Rattle.j39_id.specs.Pgn.{IsPgn}
+use Rattle.j39_id.specs.Services.{service_groups}
 use Rattle.j39_signal.specs.Places.{LaysOut}
 use Rattle.j39_plan.specs.Places.{ValueAt}
-use Rattle.j39_plan.specs.Findings.{arbitrary_bit, needed_addresses, IsProprietary, service_groups, IsToOne, IsOneFrameToAll, AreOneFlow}
+use Rattle.j39_plan.specs.Findings.{IsFixed, needed_addresses, IsProprietary, IsToOne, IsOneFrameToAll, AreOneFlow}
 use Rattle.j39_plan.specs.declared.plan.Plan.{Plan}
 use Rattle.j39_plan.specs.declared.plan.unit_plan.UnitPlan.{UnitPlan}
 use Rattle.j39_plan.specs.declared.plan.to.To.TheVariants.{One}
 
 -- two units that never move have two addresses
 abbrev pub HoldApart : UnitPlan → UnitPlan → Type 0
-HoldApart u v = arbitrary_bit u ≡ 0 → arbitrary_bit v ≡ 0 → u.address ≢ v.address
+HoldApart u v = IsFixed u → IsFixed v → u.address ≢ v.address
 
 -- a group of one data page that is neither proprietary nor a service of the network
 pub record CanBePlanned (pgn : ℕ) : Type 0 where
@@ -22,7 +24,7 @@ pub record CanBePlanned (pgn : ℕ) : Type 0 where
 pub record CleanParts (plan : Plan) : Type 0 where
   pub names : AllPairs (λ u v. u.name ≢ v.name) plan.units.items
   pub fixed_addresses : AllPairs HoldApart plan.units.items
-  pub addresses : needed_addresses plan.units.items ≤ 120
+  pub addresses : needed_addresses plan.units.items ≤ pool_size
   pub groups : All (λ g. CanBePlanned g.pgn) plan.groups.items
   pub pgns : AllPairs (λ g h. g.pgn ≢ h.pgn) plan.groups.items
   pub layouts : All (λ g. LaysOut g.length g.signals.items) plan.groups.items

@@ -1,7 +1,11 @@
 -- What can be wrong with a plan: each finding as a plain statement on its units, groups, signals and flows, by their
 -- places from 0 (addresses and NAMEs: SAE J1939-81; groups and their destinations: SAE J1939-21; signals: SAE J1939-71).
-use Rattle.std.specs.Prelude.{◌≡◌, ℕ, ◌+◌, ◌/◌, ◌%◌, ◌^◌, ◌<◌, ◌≤◌, ◌⊎◌, List, [], ◌∷◌, Bool, ◌&&◌, ◌==◌, nat_le, count_by, Contains, AllPairs}
+use Rattle.std.specs.Prelude.{◌≡◌, ℕ, ◌<◌, ◌≤◌, ◌⊎◌, List, [], ◌∷◌, Bool, false, ◌||◌, count_by, Contains, AllPairs}
+use Rattle.j39_id.specs.Addresses.{in_pool, pool_size}
+use Rattle.j39_id.specs.Limits.{frame_bytes}
+use Rattle.j39_id.specs.Name.{is_arbitrary}
 use Rattle.j39_id.specs.Pgn.{IsPgn, pf_of}
+use Rattle.j39_id.specs.Services.{service_groups}
 use Rattle.j39_signal.specs.Places.{WidthFits, IsInside, SharesBit}
 use Rattle.j39_plan.specs.Places.{ValueAt, PairAt}
 use Rattle.j39_plan.specs.declared.plan.Plan.{Plan}
@@ -14,45 +18,29 @@ use Rattle.j39_plan.specs.declared.checking.finding.Finding.TheVariants.{SameNam
 
 -- ---- units
 
--- the bit of a NAME that says whether the unit may choose another address
-abbrev pub arbitrary_bit : UnitPlan → ℕ
-arbitrary_bit unit = unit.name / 2 ^ 63 % 2
+-- a unit that never moves to another address
+abbrev pub IsFixed : UnitPlan → Type 0
+IsFixed unit = is_arbitrary unit.name ≡ false
 
 abbrev pub HaveSameName : UnitPlan → UnitPlan → Type 0
 HaveSameName u v = u.name ≡ v.name
 
 abbrev pub HaveSameFixedAddress : UnitPlan → UnitPlan → Type 0
-HaveSameFixedAddress u v = (arbitrary_bit u ≡ 0) × (arbitrary_bit v ≡ 0) × (u.address ≡ v.address)
+HaveSameFixedAddress u v = IsFixed u × IsFixed v × (u.address ≡ v.address)
 
-abbrev pub is_arbitrary : UnitPlan → Bool
-is_arbitrary unit = arbitrary_bit unit == 1
+-- a unit that may hold an address of the pool: an arbitrary one, or a fixed one that has its own there
+abbrev pub needs_pool_address : UnitPlan → Bool
+needs_pool_address unit = is_arbitrary unit.name || in_pool unit.address
 
--- the addresses among which an arbitrary unit chooses
-abbrev pub is_in_pool : ℕ → Bool
-is_in_pool address = nat_le 128 address && nat_le address 247
-
--- a unit that never gives up an address among which the others choose
-abbrev pub is_fixed_in_pool : UnitPlan → Bool
-is_fixed_in_pool unit = arbitrary_bit unit == 0 && is_in_pool unit.address
-
--- how many addresses there are to choose
-abbrev pub pool_size : ℕ
-pool_size = 120
-
--- how many of them the units need
+-- how many addresses of the pool the units need
 abbrev pub needed_addresses : List UnitPlan → ℕ
-needed_addresses units = count_by is_arbitrary units + count_by is_fixed_in_pool units
+needed_addresses units = count_by needs_pool_address units
 
 -- ---- groups
 
 -- the groups whose layout is each maker's own
 abbrev pub IsProprietary : ℕ → Type 0
 IsProprietary pgn = (pgn ≡ 61184) ⊎ ((pgn ≡ 126720) ⊎ (((65280 ≤ pgn) × (pgn ≤ 65535)) ⊎ ((130816 ≤ pgn) × (pgn ≤ 131071))))
-
--- the groups by which the network runs: acknowledgement, request, data and announcements of the transport protocol,
--- address claim, commanded address
-abbrev pub service_groups : List ℕ
-service_groups = 59392 ∷ 59904 ∷ 60160 ∷ 60416 ∷ 60928 ∷ 65240 ∷ []
 
 -- a number that is no group's, or whose group is not for a plan; from 131072 on the extended data page is set
 abbrev pub CannotBePlanned : ℕ → Type 0
@@ -68,7 +56,7 @@ HaveSamePgn g h = g.pgn ≡ h.pgn
 
 -- a group that is sent in one frame, and whose frames name no destination
 abbrev pub IsOneFrameToAll : GroupPlan → Type 0
-IsOneFrameToAll group = (240 ≤ pf_of group.pgn) × (group.length ≤ 8)
+IsOneFrameToAll group = (240 ≤ pf_of group.pgn) × (group.length ≤ frame_bytes)
 
 abbrev pub IsToOne : FlowPlan → Type 0
 IsToOne flow = (receiver : ℕ) × (flow.to ≡ One receiver)

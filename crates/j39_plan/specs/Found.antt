@@ -1,11 +1,15 @@
 -- The findings of a plan as a list: a test for each statement, and the list of all that pass.
-use Rattle.std.specs.Prelude.{ℕ, ◌%◌, List, ◌++◌, Bool, true, false, not, ◌&&◌, ◌||◌, ◌==◌, nat_le, nat_lt, Option, Some, None}
-use Rattle.std.specs.List.{slice_get, list_any}
-use Rattle.j39_id.specs.Pgn.{pf_of}
+use Rattle.std.specs.Prelude.{ℕ, List, ◌++◌, Bool, true, false, not, ◌&&◌, ◌||◌, ◌==◌, nat_le, nat_lt, Option, Some, None}
+use Rattle.std.specs.List.{slice_get}
+use Rattle.j39_id.specs.Addresses.{pool_size}
+use Rattle.j39_id.specs.Limits.{frame_bytes}
+use Rattle.j39_id.specs.Name.{is_arbitrary}
+use Rattle.j39_id.specs.Pgn.{is_pgn, is_pdu2}
+use Rattle.j39_id.specs.Services.{is_service}
 use Rattle.j39_signal.specs.Parts.{SignalParts}
 use Rattle.j39_signal.specs.Places.{width_fits, is_inside, shares_bit}
 use Rattle.j39_plan.specs.Places.{found_if, each, pairs, in_each}
-use Rattle.j39_plan.specs.Findings.{arbitrary_bit, is_arbitrary, is_fixed_in_pool, needed_addresses, pool_size, service_groups}
+use Rattle.j39_plan.specs.Findings.{needed_addresses}
 use Rattle.j39_plan.specs.declared.plan.Plan.{Plan}
 use Rattle.j39_plan.specs.declared.plan.unit_plan.UnitPlan.{UnitPlan}
 use Rattle.j39_plan.specs.declared.plan.group_plan.GroupPlan.{GroupPlan}
@@ -21,13 +25,10 @@ abbrev pub have_same_name : UnitPlan → UnitPlan → Bool
 have_same_name u v = u.name == v.name
 
 abbrev pub is_fixed : UnitPlan → Bool
-is_fixed unit = arbitrary_bit unit == 0
+is_fixed unit = not (is_arbitrary unit.name)
 
 abbrev pub have_same_fixed_address : UnitPlan → UnitPlan → Bool
 have_same_fixed_address u v = is_fixed u && (is_fixed v && u.address == v.address)
-
-abbrev pub needs_pool_address : UnitPlan → Bool
-needs_pool_address unit = is_arbitrary unit || is_fixed_in_pool unit
 
 abbrev pub too_few_addresses : List UnitPlan → List Finding
 too_few_addresses units = found_if (nat_lt pool_size (needed_addresses units)) (TooFewAddresses (needed_addresses units))
@@ -37,17 +38,11 @@ unit_findings units = pairs have_same_name SameName units ++ (pairs have_same_fi
 
 -- ---- groups
 
-abbrev pub is_group : ℕ → Bool
-is_group pgn = nat_lt pgn 262144 && (nat_le 240 (pf_of pgn) || pgn % 256 == 0)
-
 abbrev pub is_proprietary : ℕ → Bool
 is_proprietary pgn = pgn == 61184 || (pgn == 126720 || ((nat_le 65280 pgn && nat_le pgn 65535) || (nat_le 130816 pgn && nat_le pgn 131071)))
 
-abbrev pub is_service : ℕ → Bool
-is_service pgn = list_any (λ service. service == pgn) service_groups
-
 abbrev pub cannot_be_planned : ℕ → Bool
-cannot_be_planned pgn = not (is_group pgn) || (nat_le 131072 pgn || (is_proprietary pgn || is_service pgn))
+cannot_be_planned pgn = not (is_pgn pgn) || (nat_le 131072 pgn || (is_proprietary pgn || is_service pgn))
 
 abbrev pub has_bad_pgn : GroupPlan → Bool
 has_bad_pgn group = cannot_be_planned group.pgn
@@ -81,7 +76,7 @@ signal_findings groups = in_each width_findings 0 groups ++ (in_each outside_fin
 -- ---- flows
 
 abbrev pub is_one_frame_to_all : GroupPlan → Bool
-is_one_frame_to_all group = nat_le 240 (pf_of group.pgn) && nat_le group.length 8
+is_one_frame_to_all group = is_pdu2 group.pgn && nat_le group.length frame_bytes
 
 abbrev pub is_group_of : (GroupPlan → Bool) → Option GroupPlan → Bool
 is_group_of test None = false

@@ -2,24 +2,19 @@
 ghost use Rattle.std.specs.Prelude.{◌≡◌, List};
 ghost use Rattle.j39_plan.specs.Adding.{Adds};
 ghost use Rattle.j39_plan.specs.Places.{found_if};
-ghost use Rattle.j39_plan.specs.Found.{is_proprietary, is_service, cannot_be_planned, has_bad_pgn, have_same_pgn, group_findings};
+ghost use Rattle.j39_plan.specs.Found.{is_proprietary, cannot_be_planned, has_bad_pgn, have_same_pgn, group_findings};
 
 use crate::checking::finding::Finding;
 use crate::checking::rules::{PairRule, Rule, find_each, find_pairs, push_if};
 use crate::plan::GroupPlan;
 use j39_id::Pgn;
+use j39_id::services::is_service;
 use std::alloc::AllocError;
 
 fn is_proprietary(pgn: u32) -> bool
     ensures { result ≡ is_proprietary pgn }
 {
     matches!(pgn, 61_184 | 126_720 | 65_280..=65_535 | 130_816..=131_071)
-}
-
-fn is_service(pgn: u32) -> bool
-    ensures { result ≡ is_service pgn }
-{
-    matches!(pgn, 59_392 | 59_904 | 60_160 | 60_416 | 60_928 | 65_240)
 }
 
 fn cannot_be_planned(pgn: u32) -> bool

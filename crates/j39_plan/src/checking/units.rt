@@ -1,16 +1,14 @@
 //! What is wrong with the units of a plan.
 ghost use Rattle.std.specs.Prelude.{◌≡◌, List};
 ghost use Rattle.j39_plan.specs.Adding.{Adds};
-ghost use Rattle.j39_plan.specs.Findings.{needed_addresses};
-ghost use Rattle.j39_plan.specs.Found.{have_same_name, have_same_fixed_address, is_fixed, needs_pool_address, unit_findings};
+ghost use Rattle.j39_plan.specs.Findings.{needed_addresses, needs_pool_address};
+ghost use Rattle.j39_plan.specs.Found.{have_same_name, have_same_fixed_address, is_fixed, unit_findings};
 
 use crate::checking::finding::Finding;
 use crate::checking::rules::{PairRule, find_pairs, push_if};
 use crate::plan::UnitPlan;
+use j39_id::addresses::{POOL_SIZE, is_in_pool};
 use std::alloc::AllocError;
-
-/// How many addresses there are for arbitrary units: 128 to 247.
-const POOL_SIZE: usize = 120;
 
 #[derive(Clone, Copy)]
 struct SameName;
@@ -60,8 +58,7 @@ impl PairRule<UnitPlan> for SameFixedAddress {
 fn needs_pool_address(unit: &UnitPlan) -> bool
     ensures { result ≡ needs_pool_address unit.now }
 {
-    let address = unit.address.number();
-    !is_fixed(unit) || (128 <= address && address <= 247)
+    unit.name.is_arbitrary() || is_in_pool(unit.address.number())
 }
 
 fn needed_addresses(units: &[UnitPlan]) -> usize
