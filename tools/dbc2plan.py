@@ -41,7 +41,9 @@ PROPRIETARY = (61184, 126720, *range(65280, 65536), *range(130816, 131072))
 SPELLED = str.maketrans({"°": "deg", "º": "deg", "µ": "u", "μ": "u", "²": "2", "³": "3", "Ω": "Ohm", "·": "*", "–": "-"})
 
 # Words by which a table of values calls the two raw numbers that a discrete signal has for fault and 'not available'.
-NO_VALUE = re.compile(r"error|fault|fail|reserved|not.?avail|unavail|n/?a\b|take.?no.?action|don.?t.?care|invalid|sna", re.IGNORECASE)
+NO_VALUE = re.compile(
+    r"error|fault|fail|reserved|not.?avail|unavail|n/?a\b|take.?no.?action|don.?t.?care|invalid|sna", re.IGNORECASE
+)
 
 
 class LeftOut(Exception):

@@ -110,7 +110,8 @@ def random_signal(canmatrix, chance, nodes):
 
 def random_frame(canmatrix, chance, nodes, number):
     """A frame that often can't be carried over."""
-    ident = chance.choice([0x0CF00400, 0x18FEEE00, 0x0C000003, 0x18EF0000, 0x18FF1000, 0x18EEFF00, 0x1BFEEE00, chance.randrange(2**29)])
+    known = [0x0CF00400, 0x18FEEE00, 0x0C000003, 0x18EF0000, 0x18FF1000, 0x18EEFF00, 0x1BFEEE00]
+    ident = chance.choice([*known, chance.randrange(2**29)])
     frame = canmatrix.Frame(
         chance.choice(NAMES) + str(number), arbitration_id=canmatrix.ArbitrationId(ident, extended=True),
         size=chance.choice([0, 1, 8, 9, 39, 1785, 1786]), transmitters=chance.choice([nodes, nodes[:1] + ["Vector__XXX"]]),

@@ -16,6 +16,9 @@ PAGES = ["README.md", *(f"docs/{name}" for name in sorted(os.listdir(os.path.joi
 # A command that can be run here: the program or a tool, at the beginning or behind another command.
 COMMAND = re.compile(r"(?:^|[\n;|] ?)(?:\./j39plan|tools/(?!package)[\w.-]+)(?: |$)")
 
+# A file that is named and then shown.
+FILE = re.compile(r"`examples/([\w./]+)`[^`]*(?:`(?!examples/)[^`\n]+`[^`]*)*?```(?:toml|text)\n(.*?)```", re.DOTALL)
+
 
 def page(name):
     """A page's text."""
@@ -71,7 +74,7 @@ class Shown(InFolder):
 
     def test_files_are_as_shown(self):
         for name, least in (("README.md", 1), ("docs/GUIDE.md", 4)):
-            shown = re.findall(r"`examples/([\w./]+)`[^`]*(?:`(?!examples/)[^`\n]+`[^`]*)*?```(?:toml|text)\n(.*?)```", page(name), re.DOTALL)
+            shown = re.findall(FILE, page(name))
             self.assertGreaterEqual(len(shown), least)
             for file, text in shown:
                 whole = text_of(example(file))
