@@ -45,7 +45,7 @@ class Shown(InFolder):
         """What a command writes, with the built program in the launcher's place and a folder of its own for /tmp."""
         name = os.path.realpath(program.path())
         ended = subprocess.run(
-            ["bash", "-c", command.replace("./j39plan", name).replace("/tmp/", self.folder + "/")],
+            ["bash", "-c", command.replace("/tmp/", self.folder + "/").replace("./j39plan", name)],
             cwd=TOP, capture_output=True, text=True, check=False, env={**os.environ, "J39PLAN": name},
         )
         return ended.stdout.replace(self.folder + "/", "/tmp/")
