@@ -1,0 +1,247 @@
+#!/usr/bin/env python3
+"""Builds the program with its proofs: each crate that it needs, once those below it are built, as many side by side as
+processors and memory allow. What it says goes to standard error.
+
+usage: build.py [JOBS]    JOBS: how many processors to use, else all that there are
+
+Exit status: 0 built, 69 the toolchain is missing, 70 the build failed. A second run waits for the first.
+"""
+
+import fcntl
+import glob
+import os
+import re
+import shutil
+import signal
+import subprocess
+import sys
+import tempfile
+import threading
+import time
+from concurrent.futures import FIRST_COMPLETED, ThreadPoolExecutor, wait
+
+sys.dont_write_bytecode = True
+import crates
+
+PROGRAM = "j39plan"
+ROOM = "j39plan-build-"
+MISSING, FAILED = 69, 70
+# What a check takes, about, and the whole build, as docs/GATE.md says.
+JOB_BYTES = 2_000_000_000
+NEEDS = "about 15 minutes on four processors and 45 on one, 2 GB of memory for each processor, 4 GB of disk"
+
+
+def say(text):
+    print(f"{PROGRAM}: {text}", file=sys.stderr, flush=True)
+
+
+def clock(start):
+    passed = int(time.monotonic() - start)
+    return f"{passed // 60}:{passed % 60:02}"
+
+
+def processors():
+    """Returns how many processors there is memory for, at least one."""
+    found = len(os.sched_getaffinity(0))
+    with open("/proc/meminfo", encoding="ascii") as lines:
+        free = re.search(r"MemAvailable:\s+(\d+)", lines.read())
+    return max(min(found, 1024 * int(free[1]) // JOB_BYTES), 1) if free else found
+
+
+def is_built():
+    """Returns whether the program is there and no source is newer."""
+    program = f"{crates.folder(PROGRAM)}/out/{PROGRAM}"
+    if not os.access(program, os.X_OK):
+        return False
+    made = os.path.getmtime(program)
+    files = [f"{crates.TOP}/crates.txt"]
+    for name in crates.needed(PROGRAM):
+        for part in ("src", "specs", "proofs"):
+            for at, _, names in os.walk(f"{crates.folder(name)}/{part}"):
+                files += [f"{at}/{it}" for it in names if it.endswith((".rt", ".antt"))]
+    return all(os.path.getmtime(it) <= made for it in files)
+
+
+class Room:
+    """A copy of a crate and of what it stands on. rt holds all of these folders while it builds the crate, so crates
+    are built side by side only in copies."""
+
+    def __init__(self, name):
+        self.name = name
+        git = f"{crates.TOP}/.git"
+        self.top = tempfile.mkdtemp(prefix=ROOM, dir=git if os.path.isdir(git) else None)
+        self.folder = f"{self.top}/crates/{name}"
+        named = crates.needed(name)
+        with open(f"{crates.TOP}/crates.txt", encoding="utf-8") as lines:
+            kept = [it for it in lines if it.partition(":")[0].strip() in named]
+        with open(f"{self.top}/crates.txt", "w", encoding="utf-8") as file:
+            file.writelines(kept)
+        for it in named:
+            for part in ("src", "specs", "proofs"):
+                self.bring(f"{crates.folder(it)}/{part}", f"{self.top}/crates/{it}/{part}", shutil.copy2)
+            if it != name:
+                self.bring(f"{crates.folder(it)}/out/rlib", f"{self.top}/crates/{it}/out/rlib", link)
+        if os.path.isdir(f"{crates.folder(name)}/out"):
+            shutil.move(f"{crates.folder(name)}/out", f"{self.folder}/out")
+
+    @staticmethod
+    def bring(old, new, copy):
+        if os.path.isdir(old):
+            shutil.copytree(old, new, copy_function=copy)
+
+    def close(self):
+        """Gives the crate what was built, and removes the copies."""
+        out = f"{crates.folder(self.name)}/out"
+        if os.path.isdir(f"{self.folder}/out") and not os.path.isdir(out):
+            shutil.move(f"{self.folder}/out", out)
+        shutil.rmtree(self.top, ignore_errors=True)
+
+
+def remove_stale_rooms():
+    """Removes what builds that were killed have left."""
+    for it in glob.glob(f"{crates.TOP}/.git/{ROOM}*"):
+        shutil.rmtree(it, ignore_errors=True)
+
+
+def link(old, new):
+    try:
+        os.link(old, new)
+    except OSError:
+        shutil.copy2(old, new)
+
+
+class Build:
+    """A build of the program."""
+
+    def __init__(self, lanes):
+        self.lanes = lanes
+        self.start = time.monotonic()
+        self.running = {}
+        self.lock = threading.Lock()
+        self.stopped = threading.Event()
+        self.logs = tempfile.mkdtemp(prefix="j39plan-logs-")
+
+    def build(self, name, jobs):
+        """Builds one crate and returns whether that went well."""
+        room = Room(name)
+        words = ["rt", "run", "--jobs", str(jobs), "--", "--version"] if crates.is_program(name) else ["rt", "lib", "--jobs", str(jobs)]
+        try:
+            with open(f"{self.logs}/{name}", "wb") as log:
+                how = {"stdin": subprocess.DEVNULL, "stdout": log, "stderr": log, "start_new_session": True}
+                with self.lock:
+                    if self.stopped.is_set():
+                        return False
+                    child = subprocess.Popen(words, cwd=room.folder, **how)
+                    self.running[name] = child
+                status = child.wait()
+            with self.lock:
+                del self.running[name]
+            return status == 0
+        finally:
+            room.close()
+
+    def stop(self):
+        """Ends what runs."""
+        with self.lock:
+            self.stopped.set()
+            for child in self.running.values():
+                try:
+                    os.killpg(child.pid, signal.SIGTERM)
+                except ProcessLookupError:
+                    pass
+
+    def show(self, count, total):
+        """Says what is being built and for how long, until the build ends: on a terminal in place, else every half minute."""
+        shown = self.start
+        while not self.stopped.wait(1):
+            with self.lock:
+                names = ", ".join(sorted(self.running))
+            text = f"{clock(self.start)} building {names} ({count()} of {total} crates built)"
+            if sys.stderr.isatty():
+                print(f"\r{PROGRAM}: {text}\033[K", end="", file=sys.stderr, flush=True)
+            elif time.monotonic() - shown >= 30:
+                shown = time.monotonic()
+                say(text)
+        if sys.stderr.isatty():
+            print("\r\033[K", end="", file=sys.stderr, flush=True)
+
+    def complain(self, name):
+        log = f"{self.logs}/{name}"
+        with open(log, encoding="utf-8", errors="replace") as lines:
+            said = lines.read().splitlines()
+        told = [it for it in said if re.search(r"error|no proof|^rt:", it)] or said[-20:]
+        print("\n".join(told[:40]), file=sys.stderr)
+        say(f"building {name} failed; its output is in {log}")
+
+    def run(self):
+        """Builds all crates and returns whether that went well."""
+        named = crates.below()
+        left = crates.needed(PROGRAM, named)
+        done, failed, total = set(), [], len(left)
+        shower = threading.Thread(target=self.show, args=(lambda: len(done), total))
+        shower.start()
+        with ThreadPoolExecutor(self.lanes) as pool:
+            try:
+                self.build_all(pool, named, left, done, failed)
+            finally:
+                self.stop()
+        shower.join()
+        if failed:
+            self.complain(failed[0])
+        else:
+            shutil.rmtree(self.logs, ignore_errors=True)
+        return not failed
+
+    def build_all(self, pool, named, left, done, failed):
+        """Builds the crates that are left, each once those below it are done, until one has failed."""
+        running = {}
+        while (left or running) and not failed:
+            ready = [it for it in left if done.issuperset(named[it])]
+            for at, name in enumerate(ready):
+                idle = self.lanes - sum(jobs for _, jobs in running.values())
+                if idle > 0:
+                    jobs = max(min(4, idle // (len(ready) - at)), 1)
+                    left.remove(name)
+                    running[pool.submit(self.build, name, jobs)] = name, jobs
+            for it in wait(running, return_when=FIRST_COMPLETED).done:
+                name = running.pop(it)[0]
+                if it.result():
+                    done.add(name)
+                else:
+                    failed.append(name)
+
+
+def main(words):
+    if not shutil.which("rt"):
+        say("the Rattle toolchain is missing: install the kit that the README names and put its command rt on the PATH")
+        return MISSING
+    os.makedirs(crates.folder(PROGRAM), exist_ok=True)
+    with open(f"{crates.TOP}/crates.txt", "rb") as lock:
+        try:
+            fcntl.flock(lock, fcntl.LOCK_EX | fcntl.LOCK_NB)
+        except BlockingIOError:
+            say("another run is building the program; waiting for it")
+            fcntl.flock(lock, fcntl.LOCK_EX)
+        remove_stale_rooms()
+        if is_built():
+            os.utime(f"{crates.folder(PROGRAM)}/out/{PROGRAM}")
+            return 0
+        lanes = int(words[0]) if words else processors()
+        say(f"the program is built first, with its proofs ({NEEDS}); {lanes} processors are used")
+        build = Build(lanes)
+        for number in (signal.SIGTERM, signal.SIGHUP):
+            signal.signal(number, lambda *_: sys.exit(FAILED))
+        try:
+            if not build.run():
+                return FAILED
+        except (KeyboardInterrupt, SystemExit):
+            build.stop()
+            say("the build was stopped")
+            return FAILED
+        os.utime(f"{crates.folder(PROGRAM)}/out/{PROGRAM}")
+        say(f"built in {clock(build.start)}")
+    return 0
+
+
+if __name__ == "__main__":
+    sys.exit(main(sys.argv[1:]))

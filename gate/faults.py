@@ -1,0 +1,141 @@
+#!/usr/bin/env python3
+"""Runs the built program on devices that fail and with little memory, and sees that each status, what it says on standard
+error and what it writes are as documented. The program of the environment's J39PLAN is taken, else the built one.
+
+The last line is 'N passed, M failed'.
+"""
+
+import os
+import resource
+import subprocess
+import sys
+
+sys.dont_write_bytecode = True
+import crates
+
+PROGRAM = os.path.realpath(os.environ.get("J39PLAN") or f"{crates.folder('j39plan')}/out/j39plan")
+DEVICE, MEMORY = b"j39plan: device fault\n", b"j39plan: out of memory\n"
+TOO_LONG, BAD_WORDS = b"j39plan: input too long\n", b"j39plan: bad command line\n"
+SECONDS = 60
+# Each command once: its words, from the folder examples/.
+COMMANDS = (
+    ["frame", "18EEFF00#0100800C00000010"],
+    ["check", "tractor_and_implement.toml"],
+    ["check", "findings/several.toml"],
+    ["run", "transfers.toml", "transfers.directed_lost.schedule"],
+    ["read", "tractor_and_implement.toml", "tractor_and_implement.start.log"],
+    ["--help"],
+)
+# The address space, in KiB: no program starts within the first figure, each of the commands has enough within the last.
+LEAST, MOST, STEP = 1_024, 8_192, 16
+
+
+def run(words, **how):
+    how = {"stdin": subprocess.DEVNULL, "stdout": subprocess.PIPE, "stderr": subprocess.PIPE, **how}
+    return subprocess.run([PROGRAM, *words], cwd=f"{crates.TOP}/examples", timeout=SECONDS, check=False, **how)
+
+
+class Tally:
+    def __init__(self):
+        self.passed, self.failed = 0, 0
+
+    def expect(self, what, ran, status, complaint, output=b""):
+        """Counts a run. An output that isn't caught is None on both sides."""
+        is_well = (ran.returncode, ran.stderr, ran.stdout) == (status, complaint, output)
+        self.count(what, is_well, f"status {ran.returncode}, standard error {ran.stderr!r}, standard output {ran.stdout!r:.200}")
+
+    def count(self, what, is_well, found):
+        self.passed, self.failed = self.passed + is_well, self.failed + (not is_well)
+        if not is_well:
+            print(f"faults: {what}: {found}")
+
+
+def outputs(tally):
+    """Standard output that is full, closed, or a pipe that nobody reads."""
+    for words in COMMANDS:
+        name = " ".join(words)
+        with open("/dev/full", "wb") as full:
+            tally.expect(f"{name} > /dev/full", run(words, stdout=full), 4, DEVICE, None)
+        reader, writer = os.pipe()
+        os.close(reader)
+        tally.expect(f"{name} into a closed pipe", run(words, stdout=writer), 4, DEVICE, None)
+        os.close(writer)
+        closed = run(words, stdout=None, preexec_fn=lambda: os.close(1))
+        tally.expect(f"{name} >&-", closed, 4, DEVICE, None)
+
+
+def inputs(tally):
+    """Standard input and files that are closed, missing, folders, endless or empty."""
+    tally.expect("standard input closed", run([], stdin=None, preexec_fn=lambda: os.close(0)), 4, DEVICE)
+    with open("/dev/zero", "rb") as endless:
+        tally.expect("standard input without an end", run([], stdin=endless), 2, TOO_LONG)
+    tally.expect("standard input empty", run([]), 2, b"", b"refused Empty\n")
+    folder = os.open("/", os.O_RDONLY | os.O_DIRECTORY)
+    tally.expect("standard input a folder", run([], stdin=folder), 4, DEVICE)
+    os.close(folder)
+    plan = "tractor_and_implement.toml"
+    for file in ("missing", "findings", "transfers.toml/inside", "x" * 5000, ""):
+        for words in (["check", file], ["run", file, "missing"], ["read", file, "missing"], ["run", plan, file], ["read", plan, file]):
+            tally.expect(f"{' '.join(words):.80}", run(words), 4, DEVICE)
+    tally.expect("check of /dev/zero", run(["check", "/dev/zero"]), 2, TOO_LONG)
+    tally.expect("check of /dev/null", run(["check", "/dev/null"]), 2, b"", b"refused Missing top key version\n")
+
+
+def complaints(tally):
+    """Standard error that is full or closed: the status tells all the same."""
+    with open("/dev/full", "wb") as full:
+        tally.expect("jump 2> /dev/full", run(["jump"], stderr=full), 2, None)
+        tally.expect("check missing 2> /dev/full", run(["check", "missing"], stderr=full), 4, None)
+    tally.expect("jump 2>&-", run(["jump"], stderr=None, preexec_fn=lambda: os.close(2)), 2, None)
+    tally.expect("jump", run(["jump"]), 2, BAD_WORDS)
+    tally.expect("a word that is no text", run([b"frame", b"\xff"]), 2, BAD_WORDS)
+
+
+def limit(kibibytes):
+    def set_limits():
+        resource.setrlimit(resource.RLIMIT_AS, (1024 * kibibytes, 1024 * kibibytes))
+        resource.setrlimit(resource.RLIMIT_CORE, (0, 0))
+
+    return set_limits
+
+
+def memory(tally):
+    """Little memory, in steps: first the system doesn't start the program (status 127), then it wants memory and has
+    written nothing or a part of its text, then all is as with enough of it."""
+    for words in COMMANDS:
+        enough = run(words)
+        stage, found = 0, ""
+        reached = {0: 0, 1: 0, 2: 0}
+        for kibibytes in range(LEAST, MOST + 1, STEP):
+            ran = run(words, preexec_fn=limit(kibibytes))
+            if (ran.returncode, ran.stdout) == (127, b"") and not ran.stderr.startswith(b"j39plan:"):
+                now = 0
+            elif (ran.returncode, ran.stderr) == (3, MEMORY) and enough.stdout.startswith(ran.stdout):
+                now = 1
+            elif (ran.returncode, ran.stdout, ran.stderr) == (enough.returncode, enough.stdout, enough.stderr):
+                now = 2
+            else:
+                now = -1
+            if now < stage:
+                found = f"at {kibibytes} KiB status {ran.returncode}, {ran.stderr!r:.100}, {ran.stdout!r:.100}"
+                break
+            stage = now
+            reached[now] += 1
+        is_well = not found and reached[1] > 0 and reached[2] > 0
+        tally.count(f"{' '.join(words)} with little memory", is_well, found or f"steps in each stage: {reached}")
+
+
+def main():
+    if not os.access(PROGRAM, os.X_OK):
+        print(f"faults: there is no program {PROGRAM}\n0 passed, 1 failed")
+        return 1
+    tally = Tally()
+    for part in (outputs, inputs, complaints, memory):
+        part(tally)
+    print(f"faults: {tally.passed} passed, {tally.failed} failed" if tally.failed else "faults: all as documented")
+    print(f"{tally.passed} passed, {tally.failed} failed")
+    return 1 if tally.failed else 0
+
+
+if __name__ == "__main__":
+    sys.exit(main())

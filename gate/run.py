@@ -1,0 +1,63 @@
+#!/usr/bin/env python3
+"""Runs the whole gate: rt ci, and then what needs the built program: the tests of the tools and of the pages, devices that
+fail, and refused allocations. The last line is 'N passed, M failed'; the status is 0 where nothing failed.
+"""
+
+import os
+import re
+import signal
+import subprocess
+import sys
+import threading
+
+sys.dont_write_bytecode = True
+import crates
+
+# The parts behind rt ci: a name, its words from the top, and the minutes that it may take.
+PARTS = (
+    ("tools", ["tools/test"], 15),
+    ("faults", [sys.executable, "gate/faults.py"], 10),
+    ("memory", [sys.executable, "gate/memory.py"], 10),
+)
+COUNTS = re.compile(r"(\d+) passed, (\d+) failed")
+
+
+def counted(name, words, minutes=None):
+    """Runs a part, passes on what it says, and returns how much of it passed and failed."""
+    print(f"== {name}", flush=True)
+    last = ""
+    how = {"stdin": subprocess.DEVNULL, "stdout": subprocess.PIPE, "stderr": subprocess.STDOUT, "start_new_session": minutes is not None}
+    try:
+        started = subprocess.Popen(words, cwd=crates.TOP, text=True, errors="replace", **how)
+    except OSError as error:
+        print(f"{name}: {error}")
+        return 0, 1
+    if minutes:
+        # A part that hangs is stopped, with all that it started: its output then ends.
+        stopper = threading.Timer(60 * minutes, os.killpg, (started.pid, signal.SIGKILL))
+        stopper.start()
+    for line in started.stdout:
+        print(line, end="", flush=True)
+        last = line.strip() or last
+    status = started.wait()
+    if minutes:
+        stopper.cancel()
+    found = COUNTS.fullmatch(last)
+    passed, failed = map(int, found.groups()) if found else (int(status == 0), 0)
+    if status and not failed:
+        print(f"{name}: it ended with status {status}")
+        failed = 1
+    return passed, failed
+
+
+def main():
+    found = [counted("rt ci", ["rt", "ci"])]
+    for name, words, minutes in PARTS:
+        found.append(counted(name, words, minutes))
+    passed, failed = map(sum, zip(*found))
+    print(f"{passed} passed, {failed} failed")
+    return 1 if failed else 0
+
+
+if __name__ == "__main__":
+    sys.exit(main())
