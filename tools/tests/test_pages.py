@@ -104,6 +104,16 @@ class Names(InFolder):
                     for clause in re.findall(r"\w+", name):
                         self.assertTrue(re.search(rf"ensures {clause}\b", source), f"{heading}: {clause}")
 
+    def test_each_module_of_definitions_has_its_place(self):
+        """The table of rules in docs/ARCHITECTURE.md has each module of specs/, and no other; specs/inside/ are for proofs."""
+        table = page("docs/ARCHITECTURE.md").split("## Where each rule lives")[1]
+        rows = re.findall(r"\n\| [^|]* \| `(j39_\w+)` \| ([^|]*) \|", table)
+        shown = {(crate, module) for crate, cell in rows for module in re.findall(r"`(\w+)`", cell)}
+        files = glob.glob(os.path.join(TOP, "crates", "*", "specs", "*.antt"))
+        there = {(crate, name[:-5]) for *_, crate, _, name in (file.split(os.sep) for file in files)}
+        there = {(crate, module) for crate, module in there if module not in ("Lib", "inside")}
+        self.assertEqual(sorted(there ^ shown), [])
+
 
 def source_of(crate):
     """The sources of a crate; a trait's functions are as public as it is."""
