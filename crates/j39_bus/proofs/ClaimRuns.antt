@@ -8,10 +8,10 @@ use Rattle.j39_claim.specs.declared.item.Say.{Say}
 use Rattle.j39_claim.specs.declared.item.Say.TheVariants.{Claim}
 use Rattle.j39_claim.specs.declared.item.Item.{Item}
 use Rattle.j39_claim.specs.declared.item.Item.TheVariants.{Told, Request}
-use Rattle.j39_claim.specs.ClaimRule.{Station, Answers, claim_of, started}
+use Rattle.j39_claim.specs.ClaimRule.{Station, Answers, claim_of, off, started}
 use Rattle.j39_plan.specs.declared.plan.Plan.{Plan}
 use Rattle.j39_plan.specs.declared.steps.Step.{Step}
-use Rattle.j39_plan.specs.declared.steps.Step.TheVariants.{Up, Give, Ask, Begin, Emit, Take, Lose, LateSender, LateReceiver, Rest}
+use Rattle.j39_plan.specs.declared.steps.Step.TheVariants.{Up, Down, Give, Ask, Begin, Emit, Take, Lose, LateSender, LateReceiver, Rest}
 use Rattle.j39_bus.specs.declared.step_error.StepError.{StepError}
 use Rattle.j39_bus.specs.Claimants.{units_of, unit_at}
 use Rattle.j39_bus.specs.Flows.{flows_of, windows_of}
@@ -30,6 +30,7 @@ pub record IsKeptBySteps (plan : Plan) (Holds : ClaimProperty) : Type 0 where
   pub switched_on : (stations : Stations) (claims : Undelivered) → Holds stations claims → (u : ℕ) → is_unit plan u ≡ true
       → Holds (changed stations u (started (unit_at (units_of plan) u)))
       (told_to_others (changed stations u (started (unit_at (units_of plan) u))) (without_lists_to u claims) u (Told (Claim (unit_at (units_of plan) u).preferred) ∷ []))
+  pub switched_off : (stations : Stations) (claims : Undelivered) → Holds stations claims → (u : ℕ) → Holds (changed stations u off) (without_lists_to u claims)
   pub asked : (stations : Stations) (claims : Undelivered) → Holds stations claims → (u : ℕ) → is_unit plan u ≡ true → (stations u).on ≡ true
       → Holds stations (told_to_others stations claims u (Request ∷ Told (claim_of (stations u).address) ∷ []))
   pub given : (stations : Stations) (claims : Undelivered) → Holds stations claims → (u v : ℕ) → is_unit plan u ≡ true → is_unit plan v ≡ true → (stations v).on ≡ true
@@ -61,12 +62,13 @@ module _ (plan : Plan) (Holds : ClaimProperty) (kept : IsKeptBySteps plan Holds)
   leads_keeps w here (Up u) allowed new e =
       let known = met _ _ _ allowed in
       subst (λ (x : World). Holds x.stations x.claims) (sym e) (kept.switched_on w.stations w.claims here u known.0)
+  leads_keeps w here (Down u) allowed new e =
+      subst (λ (x : World). Holds x.stations x.claims) (sym e) (kept.switched_off w.stations w.claims here u)
   leads_keeps w here (Give u v) allowed new leads =
       let known = met _ _ _ allowed in
       let started = met _ _ _ known.1 in
       let units = and_parts (is_unit plan u) (is_unit plan v) known.0 in
-      let on = and_parts (w.stations u).on (w.stations v).on started.0 in
-      given_from w here u v units.0 units.1 on.1 (w.claims u v) refl new leads
+      given_from w here u v units.0 units.1 started.0 (w.claims u v) refl new leads
   leads_keeps w here (Ask u) allowed new e =
       let known = met _ _ _ allowed in
       let started = met _ _ _ known.1 in

@@ -8,7 +8,7 @@ use Rattle.j39_claim.specs.declared.item.Say.{Say}
 use Rattle.j39_claim.specs.declared.item.Say.TheVariants.{Claim}
 use Rattle.j39_claim.specs.declared.item.Item.{Item}
 use Rattle.j39_claim.specs.declared.item.Item.TheVariants.{Told, Request}
-use Rattle.j39_claim.specs.ClaimRule.{Claimant, Station, Answers, claim_of, started}
+use Rattle.j39_claim.specs.ClaimRule.{Claimant, Station, Answers, claim_of, off, started}
 use Rattle.j39_plan.specs.declared.plan.Plan.{Plan}
 use Rattle.j39_bus.specs.Claimants.{claimant_of, units_of, unit_at}
 use Rattle.j39_bus.specs.ClaimSteps.{told_to_others, without_lists_to, answer_items}
@@ -29,9 +29,8 @@ pub record AreDeliverable (plan : Plan) (stations : Stations) (claims : Undelive
   -- units alone are on, and tell each other
   pub units : AreUnitsOn plan stations
   pub between : AreBetweenUnits plan claims
-  -- nothing is undelivered to a unit that is off, nor from one
+  -- nothing is undelivered to a unit that is off
   pub heard : (s t : ℕ) → (stations t).on ≡ false → claims s t ≡ []
-  pub sent : (s t : ℕ) → (stations s).on ≡ false → claims s t ≡ []
 
 -- ---- NAMEs differ
 
@@ -52,11 +51,6 @@ place_of plan u unit = let below : u < count_of plan = unit_below plan u unit in
 told_off : (stations : Stations) (claims : Undelivered) (u : ℕ) (items : List Item) (s t : ℕ) → (stations t).on ≡ false → told_to_others stations claims u items s t ≡ claims s t
 told_off stations claims u items s t off =
     cond-false (eqb s u && hears stations u t) (claims s t ++ items) (claims s t) (and_right (eqb s u) (hears stations u t) (and_left (stations t).on (not (eqb t u)) off))
-
--- another unit than the one that tells tells nothing
-told_by_other : (stations : Stations) (claims : Undelivered) (u : ℕ) (items : List Item) (s t : ℕ) → s ≢ u → told_to_others stations claims u items s t ≡ claims s t
-told_by_other stations claims u items s t other =
-    cond-false (eqb s u && hears stations u t) (claims s t ++ items) (claims s t) (and_left (eqb s u) (hears stations u t) (ne_eqb s u other))
 
 -- where one is switched on or stays on, the units that are off are others, and were off
 still_off : (stations : Stations) (u : ℕ) (new : Station) → new.on ≡ true → (t : ℕ) → (changed stations u new t).on ≡ false → (t ≢ u) × ((stations t).on ≡ false)
@@ -84,8 +78,18 @@ module _ (plan : Plan) (distinct : AreNamesDistinct (units_of plan)) (stations :
         between = told_between plan (changed stations u new) on mid (λ s t outside. none s t (old.between s t outside)) u unit items;
         heard = λ s t off. let was = still_off stations u new refl t off in
             told_off (changed stations u new) mid u items s t off ∙ none s t (old.heard s t was.1);
-        sent = λ s t off. let was = still_off stations u new refl s off in
-            told_by_other (changed stations u new) mid u items s t was.0 ∙ none s t (old.sent s t was.1);
+      }
+
+  switched_off_keeps : (u : ℕ) → AreDeliverable plan (changed stations u off) (without_lists_to u claims)
+  switched_off_keeps u =
+      let none : (s t : ℕ) → claims s t ≡ [] → without_lists_to u claims s t ≡ [] = λ s t is. cond_both (eqb t u) [] (claims s t) (λ xs. xs ≡ []) (λ _. refl) (λ _. is) in
+      record {
+        unclashed = changed_each (λ x s. IsUnclashed (unit_at (units_of plan) x).name s) stations u off (record { unnoted = λ m a smaller held is. absurd (cc) }) old.unclashed;
+        itself = λ s. none s s (old.itself s);
+        units = changed_each (λ x y. y.on ≡ true → is_unit plan x ≡ true) stations u off (λ on. absurd (true≢false (sym on))) old.units;
+        between = λ s t outside. none s t (old.between s t outside);
+        heard = λ s t. cond_both (eqb t u) off (stations t) (λ x. x.on ≡ false → without_lists_to u claims s t ≡ [])
+            (λ here _. cond-true (eqb t u) [] (claims s t) here) (λ _ was. none s t (old.heard s t was));
       }
 
   asked_keeps : (u : ℕ) → is_unit plan u ≡ true → (stations u).on ≡ true → AreDeliverable plan stations (told_to_others stations claims u (Request ∷ Told (claim_of (stations u).address) ∷ []))
@@ -97,7 +101,6 @@ module _ (plan : Plan) (distinct : AreNamesDistinct (units_of plan)) (stations :
         units = old.units;
         between = told_between plan stations old.units claims old.between u unit items;
         heard = λ s t off. told_off stations claims u items s t off ∙ old.heard s t off;
-        sent = λ s t off. told_by_other stations claims u items s t (λ same. true≢false (sym on ∙ sym (ap (λ x. (stations x).on) same) ∙ off)) ∙ old.sent s t off;
       }
 
   module _ (u v : ℕ) (unit_u : is_unit plan u ≡ true) (unit_v : is_unit plan v ≡ true) (on_v : (stations v).on ≡ true) (item : Item) (rest : List Item) (list : claims u v ≡ item ∷ rest)
@@ -127,8 +130,6 @@ module _ (plan : Plan) (distinct : AreNamesDistinct (units_of plan)) (stations :
           between = told_between plan (changed stations v new) on mid (λ s t outside. less s t (old.between s t outside)) v unit_v items;
           heard = λ s t off. let was = still_off stations v new still_on t off in
               told_off (changed stations v new) mid v items s t off ∙ less s t (old.heard s t was.1);
-          sent = λ s t off. let was = still_off stations v new still_on s off in
-              told_by_other (changed stations v new) mid v items s t was.0 ∙ less s t (old.sent s t was.1);
         }
 
 pub deliverable_kept : (plan : Plan) → AreNamesDistinct (units_of plan) → IsKeptBySteps plan (AreDeliverable plan)
@@ -139,9 +140,9 @@ deliverable_kept plan distinct = record {
     units = λ u on. absurd (true≢false (sym on));
     between = λ s t _. refl;
     heard = λ s t _. refl;
-    sent = λ s t _. refl;
   };
   switched_on = λ stations claims old u unit. switched_on_keeps plan distinct stations claims old u unit;
+  switched_off = λ stations claims old u. switched_off_keeps plan distinct stations claims old u;
   asked = λ stations claims old u unit on. asked_keeps plan distinct stations claims old u unit on;
   given = λ stations claims old u v unit_u unit_v on item rest list says new answers.
       given_keeps plan distinct stations claims old u v unit_u unit_v on item rest list says new answers;

@@ -7,7 +7,7 @@ use Rattle.j39_bus.specs.declared.letter.Letter.{Letter}
 use Rattle.j39_claim.specs.Claiming.{Claiming}
 use Rattle.j39_plan.specs.declared.plan.Plan.{Plan}
 use Rattle.j39_plan.specs.declared.steps.Step.{Step}
-use Rattle.j39_plan.specs.declared.steps.Step.TheVariants.{Up, Give, Ask, Begin, Emit, Take, Lose, LateSender, LateReceiver, Rest}
+use Rattle.j39_plan.specs.declared.steps.Step.TheVariants.{Up, Down, Give, Ask, Begin, Emit, Take, Lose, LateSender, LateReceiver, Rest}
 use Rattle.j39_bus.specs.declared.network.Network.{Network}
 use Rattle.j39_bus.specs.declared.step_error.StepError.{StepError}
 use Rattle.j39_bus.specs.declared.step_error.StepError.TheVariants.{UnknownUnit, NoSuchFlow, NotStarted, AlreadyStarted, NothingUndelivered, TransferOpen, NotSettled, NoAddress, Busy, WrongLength, NothingToSend, NoSession, CannotRest, Memory}
@@ -100,8 +100,9 @@ own_by_flow count w (Some flow) bytes =
 
 pub own_cause : (count : ℕ) (flows : List Flow) (w : World) (step : Step) → IsOwnCause (refusal_among count flows w step)
 own_cause count flows w (Up u) = own_of (nat_lt u count) (not (is_on w u)) (is_no_transfer_open count w) UnknownUnit AlreadyStarted TransferOpen refl refl refl
+own_cause count flows w (Down u) = own_of (nat_lt u count) (is_on w u) (is_no_transfer_open count w) UnknownUnit NotStarted TransferOpen refl refl refl
 own_cause count flows w (Give u v) =
-    own_of (both (λ x. nat_lt x count) u v) (both (is_on w) u v) (nat_lt 0 (length (w.claims u v))) UnknownUnit NotStarted NothingUndelivered refl refl refl
+    own_of (both (λ x. nat_lt x count) u v) (is_on w v) (nat_lt 0 (length (w.claims u v))) UnknownUnit NotStarted NothingUndelivered refl refl refl
 own_cause count flows w (Ask u) = own_of (nat_lt u count) (is_on w u) (is_no_transfer_open count w) UnknownUnit NotStarted TransferOpen refl refl refl
 own_cause count flows w (Begin f bytes) = own_by_flow count w (slice_get flows f) bytes.items
 own_cause count flows w (Emit u) = own_of (nat_lt u count) (is_on w u) (can_emit (w.sessions u)) UnknownUnit NotStarted NothingToSend refl refl refl

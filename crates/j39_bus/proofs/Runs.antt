@@ -10,7 +10,7 @@ use Rattle.j39_claim.specs.declared.item.Item.{Item}
 use Rattle.j39_claim.specs.ClaimRule.{Claimant}
 use Rattle.j39_plan.specs.declared.plan.Plan.{Plan}
 use Rattle.j39_plan.specs.declared.steps.Step.{Step}
-use Rattle.j39_plan.specs.declared.steps.Step.TheVariants.{Up, Give, Ask, Begin, Emit, Take, Lose, LateSender, LateReceiver, Rest}
+use Rattle.j39_plan.specs.declared.steps.Step.TheVariants.{Up, Down, Give, Ask, Begin, Emit, Take, Lose, LateSender, LateReceiver, Rest}
 use Rattle.j39_bus.specs.declared.step_error.StepError.{StepError}
 use Rattle.j39_bus.specs.Claimants.{units_of}
 use Rattle.j39_bus.proofs.Places.{in_units}
@@ -23,7 +23,7 @@ use Rattle.j39_bus.specs.Sound.{AreAddressesSound, AreAddressesDifferent, IsQuie
 use Rattle.j39_bus.specs.Claimants.{unit_at}
 use Rattle.j39_bus.proofs.Kept.{Kept, IsSaid}
 use Rattle.j39_bus.proofs.Turns.{turn}
-use Rattle.j39_bus.proofs.Steps.{switched_on_keeps, asked_keeps, given_keeps}
+use Rattle.j39_bus.proofs.Steps.{switched_on_keeps, switched_off_keeps, asked_keeps, given_keeps}
 use Rattle.j39_bus.proofs.Unmoved.{Unmoved, begun_unmoved, emitted_unmoved, taken_unmoved, lost_unmoved, late_sender_unmoved, late_receiver_unmoved, rested_unmoved}
 
 -- of a world
@@ -61,14 +61,14 @@ unmoved_keeps units w new kept unmoved =
 
 leads_keeps : (plan : Plan) → IsClean (units_of plan) → (w : World) → KeptIn (units_of plan) w → (step : Step) → is_some (refusal plan w step) ≡ false → (new : World) → Leads plan w step new → KeptIn (units_of plan) new
 leads_keeps plan clean w kept (Up u) allowed new e = subst (KeptIn (units_of plan)) (sym e) (switched_on_keeps (units_of plan) w.stations w.claims kept u)
+leads_keeps plan clean w kept (Down u) allowed new e = subst (KeptIn (units_of plan)) (sym e) (switched_off_keeps (units_of plan) w.stations w.claims kept u)
 leads_keeps plan clean w kept (Give u v) allowed new leads =
     let known = met _ _ _ allowed in
     let started = met _ _ _ known.1 in
     let inside = and_parts (is_unit plan u) (is_unit plan v) known.0 in
     let in_u : u < length (units_of plan) = in_units plan u inside.0 in
     let in_v : v < length (units_of plan) = in_units plan v inside.1 in
-    let on = and_parts (w.stations u).on (w.stations v).on started.0 in
-    given_from (units_of plan) clean w kept u v in_u in_v on.1 (w.claims u v) refl new leads
+    given_from (units_of plan) clean w kept u v in_u in_v started.0 (w.claims u v) refl new leads
 leads_keeps plan clean w kept (Ask u) allowed new e =
     let known = met _ _ _ allowed in
     let started = met _ _ _ known.1 in

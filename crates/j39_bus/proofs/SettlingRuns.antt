@@ -14,7 +14,7 @@ use Rattle.j39_claim.proofs.FreeAddresses.{lowest_free_in}
 use Rattle.j39_claim.proofs.Hearing.{lawful_follows}
 use Rattle.j39_plan.specs.declared.plan.Plan.{Plan}
 use Rattle.j39_plan.specs.declared.steps.Step.{Step}
-use Rattle.j39_plan.specs.declared.steps.Step.TheVariants.{Up, Give, Ask, Begin, Emit, Take, Lose, LateSender, LateReceiver, Rest}
+use Rattle.j39_plan.specs.declared.steps.Step.TheVariants.{Up, Down, Give, Ask, Begin, Emit, Take, Lose, LateSender, LateReceiver, Rest}
 use Rattle.j39_bus.specs.declared.step_error.StepError.{StepError}
 use Rattle.j39_bus.specs.declared.step_error.StepError.TheVariants.{UnknownUnit, NotStarted, NothingUndelivered}
 use Rattle.j39_bus.specs.Claimants.{units_of, unit_at}
@@ -65,22 +65,21 @@ module _ (plan : Plan) (distinct : AreNamesDistinct (units_of plan)) (w : World)
 
   give_lowers : (u v : ℕ) → refusal plan w (Give u v) ≡ None → (new : World) → Leads plan w (Give u v) new → measure (units_of plan) new.stations new.claims < measure (units_of plan) w.stations w.claims
   give_lowers u v allowed new leads =
-      let asks = met_all (both (is_unit plan) u v) (both (is_on w) u v) (ltb 0 (length (w.claims u v))) UnknownUnit NotStarted NothingUndelivered allowed in
+      let asks = met_all (both (is_unit plan) u v) (is_on w v) (ltb 0 (length (w.claims u v))) UnknownUnit NotStarted NothingUndelivered allowed in
       let units = and_parts (is_unit plan u) (is_unit plan v) asks.0 in
-      let on = and_parts (is_on w u) (is_on w v) asks.1 in
-      lowered_from u v units.0 units.1 on.1 (w.claims u v) refl new leads
+      lowered_from u v units.0 units.1 asks.1 (w.claims u v) refl new leads
 
   delivers : (u v : ℕ) (list : List Item) → w.claims u v ≡ list → w.claims u v ≢ [] → (after : World) × RunsThrough plan w (Give u v ∷ []) after
   delivers u v [] is some = absurd (some is)
   delivers u v (item ∷ rest) is some =
       let units : both (is_unit plan) u v ≡ true = true_unless (both (is_unit plan) u v) (λ outside. some (old.between u v outside)) in
-      let on : both (is_on w) u v ≡ true = and_from (is_on w u) (is_on w v) (true_unless (is_on w u) (λ off. some (old.sent u v off))) (true_unless (is_on w v) (λ off. some (old.heard u v off))) in
+      let on : is_on w v ≡ true = true_unless (is_on w v) (λ off. some (old.heard u v off)) in
       let some_items : 0 < length (w.claims u v) = rw is (omega arith) in
       let long : ltb 0 (length (w.claims u v)) ≡ true = lt-ltb 0 (length (w.claims u v)) some_items in
       let (says, s, answers) = answered (unit_at (units_of plan) v) (w.stations v) (unit_at (units_of plan) u).name item in
       let after : World = given (units_of plan) w u v rest says s in
       let leads : GivenFrom (units_of plan) w u v (item ∷ rest) after = (says, s, answers, refl) in
-      let allowed = none_unmet (both (is_unit plan) u v) (both (is_on w) u v) (ltb 0 (length (w.claims u v))) UnknownUnit NotStarted NothingUndelivered units on long in
+      let allowed = none_unmet (both (is_unit plan) u v) (is_on w v) (ltb 0 (length (w.claims u v))) UnknownUnit NotStarted NothingUndelivered units on long in
       (after, (after, allowed, subst (λ (xs : List Item). GivenFrom (units_of plan) w u v xs after) (sym is) leads, refl))
     where
       true_unless : (b : Bool) → (b ≡ false → ⊥) → b ≡ true
@@ -94,6 +93,7 @@ module _ (plan : Plan) (distinct : AreNamesDistinct (units_of plan)) where
       → measure (units_of plan) new.stations new.claims < measure (units_of plan) w.stations w.claims
   one_less (Give u v) is w old allowed new leads = give_lowers plan distinct w old u v allowed new leads
   one_less (Up u) never w old allowed new leads = absurd never
+  one_less (Down u) never w old allowed new leads = absurd never
   one_less (Ask u) never w old allowed new leads = absurd never
   one_less (Begin f bytes) never w old allowed new leads = absurd never
   one_less (Emit u) never w old allowed new leads = absurd never

@@ -6,11 +6,11 @@ use Rattle.std.specs.Option.{is_some}
 use Rattle.j39_claim.specs.declared.item.Item.{Item}
 use Rattle.j39_claim.specs.declared.item.Item.TheVariants.{Told, Request}
 use Rattle.j39_claim.specs.declared.item.Say.TheVariants.{Claim}
-use Rattle.j39_claim.specs.ClaimRule.{claim_of, started}
+use Rattle.j39_claim.specs.ClaimRule.{claim_of, off, started}
 use Rattle.j39_tp.specs.Receiver.{is_open_at}
 use Rattle.j39_plan.specs.declared.plan.Plan.{Plan}
 use Rattle.j39_plan.specs.declared.steps.Step.{Step}
-use Rattle.j39_plan.specs.declared.steps.Step.TheVariants.{Up, Give, Ask, Begin, Emit, Take, Lose, LateSender, LateReceiver, Rest}
+use Rattle.j39_plan.specs.declared.steps.Step.TheVariants.{Up, Down, Give, Ask, Begin, Emit, Take, Lose, LateSender, LateReceiver, Rest}
 use Rattle.std.specs.Prelude.{nat_lt, slice_get}
 use Rattle.j39_bus.specs.Claimants.{units_of, unit_at}
 use Rattle.j39_bus.specs.Flows.{flows_of, windows_of}
@@ -18,7 +18,7 @@ use Rattle.j39_bus.specs.declared.step_error.StepError.{StepError}
 use Rattle.j39_bus.specs.declared.step_error.StepError.TheVariants.{UnknownUnit, NotStarted, AlreadyStarted, NothingUndelivered, TransferOpen, NoSession, CannotRest}
 use Rattle.j39_bus.specs.Resting.{can_rest}
 use Rattle.j39_bus.specs.Transfers.{Outgoing}
-use Rattle.j39_bus.specs.ClaimSteps.{switched_on, asked, GivenFrom, told_to_others, without_lists_to, answer_items}
+use Rattle.j39_bus.specs.ClaimSteps.{switched_on, switched_off, asked, GivenFrom, told_to_others, without_lists_to, answer_items}
 use Rattle.j39_bus.specs.World.{World, first, changed, changed_pair}
 use Rattle.j39_bus.specs.Run.{count_of, is_unit, both, is_on, is_no_transfer_open, unless, refusal, Leads, Follows, Run}
 use Rattle.j39_bus.specs.Sound.{AreReportsSound, IsAcknowledgedReported, reported}
@@ -79,6 +79,21 @@ module _ (plan : Plan) (w : World) (kept : IsKept plan w) where
         acknowledged = kept.acknowledged;
       }
 
+  switched_off_kept : (u : ℕ) → is_unit plan u ≡ true → is_no_transfer_open (count_of plan) w ≡ true → IsKept plan (switched_off w u)
+  switched_off_kept u unit closed =
+      let none = none_open closed in
+      let on : AreUnitsOn plan (changed w.stations u off) = units_on plan w.stations w.claims w.sessions kept.order u off unit in
+      record {
+        order = claims_keep plan w.stations w.claims w.sessions kept.order none (changed w.stations u off) on
+            (without_lists_to u w.claims)
+            (without_between plan w.stations w.claims w.sessions kept.order u);
+        exchanges = λ s t.
+            let e : message_to None t ≡ message_to (w.sessions s) t = ap (λ (o : Option Outgoing). message_to o t) (sym (none s)) in
+            subst (λ m. Exchange m (record (pair_of w s t) { wire = cond (eqb t u) [] (w.wire s t); back = cond (eqb s u) [] (w.wire t s) })) e
+            (dropped (eqb t u) (eqb s u) (pair_of w s t) (subst (λ m. Exchange m (pair_of w s t)) (sym e) (kept.exchanges s t)));
+        acknowledged = kept.acknowledged;
+      }
+
   asked_kept : (u : ℕ) → is_unit plan u ≡ true → is_no_transfer_open (count_of plan) w ≡ true → IsKept plan (asked (units_of plan) w u)
   asked_kept u unit closed =
       let told : List Item = Request ∷ Told (claim_of (w.stations u).address) ∷ [] in
@@ -108,8 +123,11 @@ module _ (plan : Plan) (w : World) (kept : IsKept plan w) where
   leads_kept (Up u) allowed new e =
       let asks = met_all (is_unit plan u) (not (is_on w u)) (is_no_transfer_open (count_of plan) w) UnknownUnit AlreadyStarted TransferOpen allowed in
       subst (IsKept plan) (sym e) (switched_on_kept u asks.0 asks.2)
+  leads_kept (Down u) allowed new e =
+      let asks = met_all (is_unit plan u) (is_on w u) (is_no_transfer_open (count_of plan) w) UnknownUnit NotStarted TransferOpen allowed in
+      subst (IsKept plan) (sym e) (switched_off_kept u asks.0 asks.2)
   leads_kept (Give u v) allowed new leads =
-      let asks = met_all (both (is_unit plan) u v) (both (is_on w) u v) (nat_lt 0 (length (w.claims u v))) UnknownUnit NotStarted NothingUndelivered allowed in
+      let asks = met_all (both (is_unit plan) u v) (is_on w v) (nat_lt 0 (length (w.claims u v))) UnknownUnit NotStarted NothingUndelivered allowed in
       let units = and_parts (is_unit plan u) (is_unit plan v) asks.0 in
       given_kept u v units.0 units.1 asks.2 (w.claims u v) new leads
   leads_kept (Ask u) allowed new e =

@@ -1,6 +1,6 @@
 -- Each step keeps what is kept.
 use Rattle.std.proofs.Common.{◌≡◌, ◌≢◌, ℕ, zero, suc, true, ◌&&◌, inl, inr, eqb, List, [], ◌∷◌, refl, sym, ap, ◌∙◌, subst, arith, Option, Some}
-use Rattle.std.proofs.lemmas.Bool.{cases_eq, eqb-true, eq-eqb, ne_eqb, cond_both, cond-true, cond-false, and_parts, and_right}
+use Rattle.std.proofs.lemmas.Bool.{cases_eq, eqb-true, eq-eqb, ne_eqb, cond_both, cond-true, cond-false, and_parts, and_right, true≢false}
 use Rattle.std.specs.Ordering.{nat_cmp}
 use Rattle.std.specs.FinMap.{get-empty}
 use Rattle.std.specs.List.{Contains, AllByRecursion}
@@ -8,7 +8,7 @@ use Rattle.j39_claim.specs.declared.item.Say.{Say}
 use Rattle.j39_claim.specs.declared.item.Say.TheVariants.{Claim}
 use Rattle.j39_claim.specs.declared.item.Item.{Item}
 use Rattle.j39_claim.specs.declared.item.Item.TheVariants.{Told, Request}
-use Rattle.j39_claim.specs.ClaimRule.{Claimant, Station, claim_of, started}
+use Rattle.j39_claim.specs.ClaimRule.{Claimant, Station, claim_of, off, started}
 use Rattle.j39_bus.specs.Claimants.{unit_at}
 use Rattle.j39_bus.specs.World.{Stations, Undelivered, changed, changed_pair}
 use Rattle.j39_bus.specs.Sound.{IsToBeTold}
@@ -105,6 +105,24 @@ module _ (units : List Claimant) (stations : Stations) (claims : Undelivered) (k
             (λ s t. cond_both (eqb t u) [] (claims s t) (AllByRecursion (IsSaid (unit_at units s))) (λ _. tt) (λ _. kept.said s t)) ((λ _. refl), tt);
         itself = not_itself (changed stations u new) mid u items (λ s. cond_both (eqb s u) [] (claims s s) (λ xs. xs ≡ []) (λ _. refl) (λ _. kept.itself s));
         notes = changed_all (λ x s. AllNoted units x s.notes) stations u new (λ n a is. absurd (let e = sym (get-empty {X = ℕ} nat_cmp n) ∙ is in cc)) kept.notes;
+      }
+
+  pub switched_off_keeps : (u : ℕ) → Kept units (changed stations u off) (without_lists_to u claims)
+  switched_off_keeps u =
+      let mid : Undelivered = without_lists_to u claims in
+      record {
+        holds = changed_all (λ x s. s.on ≡ true → IsHeld (unit_at units x) s.address) stations u off (λ on. absurd (true≢false (sym on))) kept.holds;
+        apart = λ x y a other on_x on_y address_x address_y.
+            clash_cases (IsToBeTold mid) (swapped mid) stations u off
+            (λ z b z_other on _ has. absurd (cc))
+            (λ z t b z_other t_other c.
+            let z_list : mid t z ≡ claims t z = cond-false (eqb z u) [] (claims t z) (ne_eqb z u z_other) in
+            let t_list : mid z t ≡ claims z t = cond-false (eqb t u) [] (claims z t) (ne_eqb t u t_other) in
+            rw (z_list, t_list) (kept.apart z t b c.apart c.on_x c.on_y c.address_x c.address_y))
+            x y a (record { apart = other; on_x = on_x; on_y = on_y; address_x = address_x; address_y = address_y });
+        said = λ s t. cond_both (eqb t u) [] (claims s t) (AllByRecursion (IsSaid (unit_at units s))) (λ _. tt) (λ _. kept.said s t);
+        itself = λ s. cond_both (eqb s u) [] (claims s s) (λ xs. xs ≡ []) (λ _. refl) (λ _. kept.itself s);
+        notes = changed_all (λ x s. AllNoted units x s.notes) stations u off (λ n a is. absurd (let e = sym (get-empty {X = ℕ} nat_cmp n) ∙ is in cc)) kept.notes;
       }
 
   pub asked_keeps : (u : ℕ) → (stations u).on ≡ true → Kept units stations (told_to_others stations claims u (Request ∷ Told (claim_of (stations u).address) ∷ []))

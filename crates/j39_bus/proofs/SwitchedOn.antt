@@ -1,16 +1,16 @@
--- A unit that is switched on.
+-- A unit that is switched on or off.
 use Rattle.std.proofs.Common.{◌≡◌, ℕ, ◌<◌, List, [], ◌∷◌, length, get_or, set, sym, ap, ◌∙◌}
 use Rattle.j39_claim.specs.declared.item.Say.{Say}
 use Rattle.j39_claim.specs.declared.item.Say.TheVariants.{Claim}
 use Rattle.j39_claim.specs.declared.item.Item.TheVariants.{Told}
-use Rattle.j39_claim.specs.ClaimRule.{Claimant, started}
+use Rattle.j39_claim.specs.ClaimRule.{Claimant, off, started}
 use Rattle.j39_claim.specs.Claiming.{Claiming}
 use Rattle.j39_bus.specs.declared.letter.Letter.{Letter}
 use Rattle.j39_bus.specs.Claimants.{unit_at}
 use Rattle.j39_bus.specs.Sent.{Sent}
 use Rattle.j39_bus.specs.Transfers.{Wire}
 use Rattle.j39_bus.specs.World.{World, changed}
-use Rattle.j39_bus.specs.ClaimSteps.{tell, switched_on, without_lists_to}
+use Rattle.j39_bus.specs.ClaimSteps.{tell, switched_on, switched_off, without_lists_to}
 use Rattle.j39_bus.specs.Letters.{between, without_letters_to, nobody, station_at}
 use Rattle.j39_bus.specs.Network.{claimants}
 use Rattle.j39_bus.proofs.Worlds.{any_default, claimants-set, unit_at-claimants, world, world_on}
@@ -35,3 +35,17 @@ module _ (cs : List Claiming) (u : ℕ) (inside : u < length cs) (old new : Clai
       let before : world b (set cs u new) left fs ≡ record b { stations = changed (station_at cs) u (started (unit_at (claimants cs) u)); claims = without_lists_to u (between ls); frames = fs } =
       (λ i. world b (set cs u new) (left_is i) fs) ∙ world_on b cs ls fs u new inside ∙ (λ i. record b { stations = changed (station_at cs) u (station i); claims = without_lists_to u (between ls); frames = fs }) in
       after_is ∙ (λ i. tell (claimants_on i) (record (before i) { wire = wire_is i }) u (Told (claims i) ∷ []))
+
+module _ (cs : List Claiming) (u : ℕ) (inside : u < length cs) (old new : Claiming) (at : old ≡ get_or cs u old) (stops : new ≡ record old { station = off }) where
+  pub off_claimant : new.claimant ≡ (get_or cs u nobody).claimant
+  off_claimant = ap (λ (c : Claiming). c.claimant) stops ∙ ap (λ (c : Claiming). c.claimant) (at ∙ any_default cs u old nobody inside)
+
+  pub claimants_off : claimants (set cs u new) ≡ claimants cs
+  claimants_off = claimants-set cs u new off_claimant
+
+  pub switched_off_world : (b : World) (ls left : List Letter) (fs : List Sent) → left ≡ without_letters_to u ls → (wire : Wire) → wire ≡ without_lists_to u b.wire
+      → record (world b (set cs u new) left fs) { wire = wire } ≡ switched_off (world b cs ls fs) u
+  switched_off_world b ls left fs left_is wire wire_is =
+      let before : world b (set cs u new) left fs ≡ record b { stations = changed (station_at cs) u off; claims = without_lists_to u (between ls); frames = fs } =
+      (λ i. world b (set cs u new) (left_is i) fs) ∙ world_on b cs ls fs u new inside ∙ (λ i. record b { stations = changed (station_at cs) u (stops i).station; claims = without_lists_to u (between ls); frames = fs }) in
+      λ i. record (before i) { wire = wire_is i }

@@ -4,7 +4,7 @@ use Rattle.j39_claim.specs.declared.item.Say.{Say}
 use Rattle.j39_claim.specs.declared.item.Say.TheVariants.{Claim}
 use Rattle.j39_claim.specs.declared.item.Item.{Item}
 use Rattle.j39_claim.specs.declared.item.Item.TheVariants.{Told, Request}
-use Rattle.j39_claim.specs.ClaimRule.{Claimant, Station, Answers, claim_of, started}
+use Rattle.j39_claim.specs.ClaimRule.{Claimant, Station, Answers, claim_of, off, started}
 use Rattle.j39_bus.specs.Claimants.{unit_at}
 use Rattle.j39_bus.specs.Sent.{frame_of}
 use Rattle.j39_bus.specs.World.{World, Stations, Undelivered, changed, changed_pair, hears}
@@ -36,6 +36,16 @@ switched_on units w u =
       wire = without_lists_to u w.wire;
     })
     u (Told (Claim (unit_at units u).preferred) ∷ [])
+
+-- u is switched off: what was undelivered to it is gone, what it sent is heard later. Nobody sends a message then, so it has no
+-- session that could end
+abbrev pub switched_off : World → ℕ → World
+switched_off w u =
+    record w {
+      stations = changed w.stations u off;
+      claims = without_lists_to u w.claims;
+      wire = without_lists_to u w.wire;
+    }
 
 -- u asks all others for their claims, and sends its own
 abbrev pub asked : List Claimant → World → ℕ → World

@@ -9,14 +9,14 @@ use Rattle.j39_plan.specs.declared.plan.Plan.{Plan}
 use Rattle.j39_plan.specs.declared.plan.to.To.{To}
 use Rattle.j39_plan.specs.declared.plan.to.To.TheVariants.{All, One}
 use Rattle.j39_plan.specs.declared.steps.Step.{Step}
-use Rattle.j39_plan.specs.declared.steps.Step.TheVariants.{Up, Give, Ask, Begin, Emit, Take, Lose, LateSender, LateReceiver, Rest}
+use Rattle.j39_plan.specs.declared.steps.Step.TheVariants.{Up, Down, Give, Ask, Begin, Emit, Take, Lose, LateSender, LateReceiver, Rest}
 use Rattle.j39_bus.specs.declared.step_error.StepError.{StepError}
 use Rattle.j39_bus.specs.declared.step_error.StepError.TheVariants.{UnknownUnit, NoSuchFlow, NotStarted, AlreadyStarted, NothingUndelivered, TransferOpen, NotSettled, NoAddress, Busy, WrongLength, NothingToSend, NoSession, CannotRest, Memory}
 use Rattle.j39_bus.specs.Claimants.{units_of}
 use Rattle.j39_bus.specs.Flows.{Flow, flows_of, windows_of, can_be_sent}
 use Rattle.j39_bus.specs.Transfers.{Outgoing}
 use Rattle.j39_bus.specs.World.{World, Undelivered}
-use Rattle.j39_bus.specs.ClaimSteps.{switched_on, asked, GivenFrom}
+use Rattle.j39_bus.specs.ClaimSteps.{switched_on, switched_off, asked, GivenFrom}
 use Rattle.j39_bus.specs.Resting.{can_rest}
 use Rattle.j39_bus.specs.TransferSteps.{BeginsAt, Emits, TakenFrom, LostFrom, SenderTimesOut, receiver_timed_out, rested}
 
@@ -86,9 +86,13 @@ refusal_among count flows w (Up u) =
     unless (nat_lt u count) UnknownUnit (
     unless (not (is_on w u)) AlreadyStarted (
     unless (is_no_transfer_open count w) TransferOpen None))
+refusal_among count flows w (Down u) =
+    unless (nat_lt u count) UnknownUnit (
+    unless (is_on w u) NotStarted (
+    unless (is_no_transfer_open count w) TransferOpen None))
 refusal_among count flows w (Give u v) =
     unless (both (λ x. nat_lt x count) u v) UnknownUnit (
-    unless (both (is_on w) u v) NotStarted (
+    unless (is_on w v) NotStarted (
     unless (nat_lt 0 (length (w.claims u v))) NothingUndelivered None))
 refusal_among count flows w (Ask u) =
     unless (nat_lt u count) UnknownUnit (
@@ -130,6 +134,7 @@ cause_of e = Some e
 
 -- the steps that take memory
 abbrev pub takes_memory : Step → Bool
+takes_memory (Down u) = false
 takes_memory (Lose u v) = false
 takes_memory (Rest u) = false
 takes_memory _ = true
@@ -139,6 +144,7 @@ takes_memory _ = true
 -- the step leads from one world to another, by some lawful choice
 abbrev pub Leads : Plan → World → Step → World → Type 0
 Leads plan w (Up u) new = new ≡ switched_on (units_of plan) w u
+Leads plan w (Down u) new = new ≡ switched_off w u
 Leads plan w (Give u v) new = GivenFrom (units_of plan) w u v (w.claims u v) new
 Leads plan w (Ask u) new = new ≡ asked (units_of plan) w u
 Leads plan w (Begin f bytes) new = BeginsAt (count_of plan) w f (slice_get (flows_of plan) f) bytes.items new

@@ -21,6 +21,7 @@ mod sessions;
 mod simulating;
 mod step_error;
 mod stepping;
+mod switching_off;
 mod traffic;
 mod transfer;
 mod transfer_frames;

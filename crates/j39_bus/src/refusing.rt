@@ -32,6 +32,7 @@ impl Network {
     {
         match step {
             Step::Up(unit) => self.refusal_of_up(*unit),
+            Step::Down(unit) => self.refusal_of_ask(*unit),
             Step::Give(from, to) => self.refusal_of_give(*from, *to),
             Step::Ask(unit) => self.refusal_of_ask(*unit),
             Step::Begin(flow, bytes) => self.refusal_of_begin(*flow, bytes),
@@ -87,11 +88,15 @@ impl Network {
         None
     }
 
+    // The unit that hears has to be on; the other may be off again.
     fn refusal_of_give(&self, from: usize, to: usize) -> Option<StepError>
         requires { IsNetwork self.now }
         ensures { (h : Histories) → result ≡ refusal_in self.now h (Give from to) }
     {
-        if let Some(error) = self.refusal_of_pair(from, to) {
+        if from >= self.claimers.len() {
+            return Some(StepError::UnknownUnit);
+        }
+        if let Some(error) = self.refusal_of_unit(to) {
             return Some(error);
         }
         if first_between(self.letters.as_slice(), from, to) >= self.letters.len() {
@@ -100,6 +105,7 @@ impl Network {
         None
     }
 
+    // Of a unit that asks all others, or is switched off.
     fn refusal_of_ask(&self, unit: usize) -> Option<StepError>
         requires { IsNetwork self.now }
         ensures { (h : Histories) → result ≡ refusal_in self.now h (Ask unit) }

@@ -10,7 +10,7 @@ pub enum StepError {
     /// The flow is none of the plan, goes to its own sender, or is one of a group that can't go to one unit.
     #[error("NoSuchFlow")]
     NoSuchFlow,
-    /// A unit that the step names, the flow's sender or its one receiver isn't on.
+    /// A unit that the step names, the flow's sender or its one receiver isn't on. The unit whose item a `Give` delivers may be off.
     #[error("NotStarted")]
     NotStarted,
     #[error("AlreadyStarted")]

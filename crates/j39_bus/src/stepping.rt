@@ -52,6 +52,10 @@ impl Network {
     {
         match step {
             Step::Up(unit) => self.up(*unit),
+            Step::Down(unit) => {
+                self.down(*unit);
+                Ok(())
+            }
             Step::Give(from, to) => self.give(choosers, *from, *to),
             Step::Ask(unit) => self.ask(*unit),
             Step::Begin(flow, bytes) => self.begin(*flow, bytes),
@@ -73,7 +77,7 @@ impl Network {
 
 impl Bus {
     /// Does one step. A refused step changes nothing: the error is the first cause that holds, in the order of
-    /// `StepError`. Want of memory comes only where no cause holds, and never for `Lose` and `Rest`; it changes nothing either.
+    /// `StepError`. Want of memory comes only where no cause holds, and never for `Down`, `Lose` and `Rest`; it changes nothing either.
     pub fn step(&mut self, step: &Step) -> Result<(), StepError>
         ensures ok { OnOk result ((plan : Plan) (w : World) → Stands self.old plan w
             → (refusal plan w step.now ≡ None) × ((after : World) × Leads plan w step.now after × Stands self.new plan after)) }

@@ -59,6 +59,15 @@ impl Claimer {
         Say::Claim(self.preferred)
     }
 
+    /// Ends: it is not started, holds no address and has no notes.
+    pub fn stop(&mut self)
+        ensures { self.new ≡ record self.old { station = off } }
+    {
+        self.started = false;
+        self.address = None;
+        self.notes = Notes::new();
+    }
+
     /// The NAME that it claims under.
     pub fn name(&self) -> Name
         ensures { result ≡ self.now.claimant.name }

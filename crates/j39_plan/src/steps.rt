@@ -5,6 +5,8 @@
 pub enum Step {
     /// The unit is switched on and claims the address that it prefers.
     Up(usize),
+    /// The unit is switched off. What was sent to it is gone, and what it sent is heard later.
+    Down(usize),
     /// The second unit hears the oldest claim or request of the first that it has not heard yet.
     Give(usize, usize),
     /// The unit asks all others for their claims, and sends its own.

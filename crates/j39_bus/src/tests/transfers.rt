@@ -85,6 +85,7 @@ fn transfers_are_refused_for_the_first_cause(rt: HostRuntime) -> Result<(), Fail
     let message = MESSAGE.to_vec(alloc)?;
     assert_eq!(rt; bus.step(&Step::Begin(0, message)), Ok(()));
     assert_eq!(rt; bus.step(&Step::Ask(1)), Err(StepError::TransferOpen));
+    assert_eq!(rt; bus.step(&Step::Down(1)), Err(StepError::TransferOpen));
     let message = MESSAGE.to_vec(alloc)?;
     assert_eq!(rt; bus.step(&Step::Begin(1, message)), Err(StepError::Busy));
     assert_eq!(rt; bus.outcome_of(0), None);

@@ -18,6 +18,12 @@ returns-in-Up-clause-leads g c = subst (λ (s : Step). OnOk c.up.result ((plan :
 pub returns-in-Up-clause-memory : goal.returns-in-Up-clause-memory
 returns-in-Up-clause-memory g c = on_err c.up.result (ap takes_memory c.in-Up.is)
 
+pub down-requires-clause-allowed : goal.down-requires-clause-allowed
+down-requires-clause-allowed g c = subst (IsAllowed c.args.self.now) c.in-Down.is c.requires.allowed
+
+pub returns-in-Down-clause-leads : goal.returns-in-Down-clause-leads
+returns-in-Down-clause-leads g c = subst (λ (s : Step). (plan : Plan) → IsOf plan c.args.self.now → LeadsTo plan c.args.self.now s c.down.new.self) (sym c.in-Down.is) c.down.ensures.leads
+
 pub give-requires-clause-allowed : goal.give-requires-clause-allowed
 give-requires-clause-allowed g c = subst (IsAllowed c.args.self.now) c.in-Give.is c.requires.allowed
 

@@ -5,11 +5,14 @@ use Rattle.j39_bus.proofs.network.Network.refusal.Goals as goal
 pub returns-in-Up : goal.returns-in-Up
 returns-in-Up c = λ h. c.refusal_of_up.ensures h ∙ ap (refusal_in c.args.self.now h) (sym c.in-Up.is)
 
+pub returns-in-Down : goal.returns-in-Down
+returns-in-Down c = λ h. c.refusal_of_ask.ensures h ∙ ap (refusal_in c.args.self.now h) (sym c.in-Down.is)
+
 pub returns-in-Give : goal.returns-in-Give
 returns-in-Give c = λ h. c.refusal_of_give.ensures h ∙ ap (refusal_in c.args.self.now h) (sym c.in-Give.is)
 
 pub returns-in-Ask : goal.returns-in-Ask
-returns-in-Ask c = λ h. c.refusal_of_ask.ensures h ∙ ap (refusal_in c.args.self.now h) (sym c.in-Ask.is)
+returns-in-Ask c = λ h. c.refusal_of_ask-in-Ask.ensures h ∙ ap (refusal_in c.args.self.now h) (sym c.in-Ask.is)
 
 pub returns-in-Begin : goal.returns-in-Begin
 returns-in-Begin c = λ h. c.refusal_of_begin.ensures h ∙ ap (refusal_in c.args.self.now h) (sym c.in-Begin.is)

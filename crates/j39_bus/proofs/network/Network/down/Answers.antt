@@ -1,0 +1,66 @@
+use Rattle.std.proofs.Common.{◌<◌, List, length, map, set, refl, ap, ◌∙◌, arith}
+use Rattle.std.proofs.Math.ListN.{length-set}
+use Rattle.std.specs.Vec.{with_item}
+use Rattle.j39_claim.specs.Claiming.{Claiming}
+use Rattle.j39_plan.specs.declared.steps.Step.TheVariants.{Down}
+use Rattle.j39_bus.specs.declared.network.Network.{Network}
+use Rattle.j39_bus.specs.BusState.{pair_in}
+use Rattle.j39_bus.specs.Network.{world_of}
+use Rattle.j39_bus.specs.Sent.{sent_of}
+use Rattle.j39_bus.specs.Traffic.{lists_of}
+use Rattle.j39_bus.proofs.Refused.{nowhere, unit_inside}
+use Rattle.j39_bus.proofs.Sendings.{switched_traffic}
+use Rattle.j39_bus.proofs.Steady.{leads_same}
+use Rattle.j39_bus.proofs.SwitchedOn.{claimants_off, off_claimant, switched_off_world}
+use Rattle.j39_bus.proofs.WellFormed.{well_on}
+use Rattle.j39_bus.proofs.network.Network.down.Goals as goal
+
+pub clear_to-requires-clause-to : goal.clear_to-requires-clause-to
+clear_to-requires-clause-to c =
+    let inside : c.args.unit < length c.args.self.now.claimers.items = unit_inside _ _ _ (c.requires.allowed nowhere) in
+    omega (arith, inside, c.requires.network.traffic.table.rows)
+
+pub index_mut-requires : goal.index_mut-requires
+index_mut-requires c =
+    let inside : c.args.unit < length c.args.self.now.claimers.items = unit_inside _ _ _ (c.requires.allowed nowhere) in
+    omega (arith, inside, c.args.self.now.claimers.ok.0)
+
+pub returns-clause-network : goal.returns-clause-network
+returns-clause-network c =
+    let cs : List Claiming = c.args.self.now.claimers.items in
+    let inside : c.args.unit < length cs = unit_inside _ _ _ (c.requires.allowed nowhere) in
+    let new : Network = record c.args.self.now {
+      claimers = with_item c.args.self.now.claimers c.args.unit c.stop.new.self;
+      letters = c.drop_letters_to.new.letters;
+      traffic = record c.args.self.now.traffic { wire = c.clear_to.new.self };
+    } in
+    let same = off_claimant cs c.args.unit inside c.index_mut.result.now c.stop.new.self c.index_mut.ensures.value c.stop.ensures in
+    record {
+      claims = well_on cs c.args.self.now.letters.items c.requires.network.claims c.args.unit inside c.stop.new.self same (ap (λ (k : Claiming). k.station.notes) c.stop.ensures)
+          c.drop_letters_to.new.letters.items c.drop_letters_to.ensures.items;
+      traffic = switched_traffic c.args.self.now new (length-set cs c.args.unit c.stop.new.self) c.clear_to.new.self refl
+          c.requires.network.traffic c.args.unit c.clear_to.ensures.table c.clear_to.ensures.lists;
+    }
+
+pub returns-clause-plan : goal.returns-clause-plan
+returns-clause-plan c =
+    let inside : c.args.unit < length c.args.self.now.claimers.items = unit_inside _ _ _ (c.requires.allowed nowhere) in
+    record {
+      claimants = claimants_off c.args.self.now.claimers.items c.args.unit inside c.index_mut.result.now c.stop.new.self c.index_mut.ensures.value c.stop.ensures;
+      routes = refl;
+      windows = refl;
+    }
+
+pub returns-clause-leads : goal.returns-clause-leads
+returns-clause-leads c = λ plan of.
+    let net = c.args.self.now in
+    let inside : c.args.unit < length net.claimers.items = unit_inside _ _ _ (c.requires.allowed nowhere) in
+    let new : Network = record c.args.self.now {
+      claimers = with_item c.args.self.now.claimers c.args.unit c.stop.new.self;
+      letters = c.drop_letters_to.new.letters;
+      traffic = record c.args.self.now.traffic { wire = c.clear_to.new.self };
+    } in
+    leads_same plan net (Down c.args.unit) new
+    (λ h. switched_off_world net.claimers.items c.args.unit inside c.index_mut.result.now c.stop.new.self c.index_mut.ensures.value c.stop.ensures
+    (world_of h net) net.letters.items c.drop_letters_to.new.letters.items (map sent_of net.frames.items) c.drop_letters_to.ensures.items
+    (pair_in (lists_of c.clear_to.new.self)) c.clear_to.ensures.lists) refl

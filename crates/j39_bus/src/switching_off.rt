@@ -1,0 +1,22 @@
+//! A unit is switched off.
+ghost use Rattle.j39_plan.specs.declared.plan.Plan.{Plan};
+ghost use Rattle.j39_plan.specs.declared.steps.Step.TheVariants.{Down};
+ghost use Rattle.j39_bus.specs.Network.{IsAllowed, IsNetwork, IsOf, KeepsPlan, LeadsTo};
+
+use crate::letter::drop_letters_to;
+use crate::network::Network;
+
+impl Network {
+    /// The unit is switched off. What was sent to it is gone, what it sent is still undelivered.
+    pub(crate) fn down(&mut self, unit: usize)
+        requires network { IsNetwork self.old }
+        requires allowed { IsAllowed self.old (Down unit) }
+        ensures network { IsNetwork self.new }
+        ensures plan { KeepsPlan self.old self.new }
+        ensures leads { (plan : Plan) → IsOf plan self.old → LeadsTo plan self.old (Down unit) self.new }
+    {
+        drop_letters_to(&mut self.letters, unit);
+        self.traffic.wire.clear_to(unit);
+        self.claimers[unit].stop();
+    }
+}
