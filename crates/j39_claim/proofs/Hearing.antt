@@ -8,18 +8,18 @@ use Rattle.std.specs.FinMap.{insert}
 use Rattle.std.specs.FinSet.{FinSet}
 use Rattle.j39_claim.specs.declared.item.Say.{Say}
 use Rattle.j39_claim.specs.declared.item.Say.TheVariants.{Claim, Cannot}
-use Rattle.j39_claim.specs.Pool.{is_arbitrary}
+use Rattle.j39_id.specs.Name.{is_arbitrary}
 use Rattle.j39_claim.specs.AddressSets.{IsFreeIn, free_count}
-use Rattle.j39_claim.specs.ClaimRule.{Claimant, Station, IsFree, Moves, GivesUp, Hears, claim_of, is_address, say_of}
-use Rattle.j39_claim.specs.ExactAnswer.{Pick, IsLawful, IsFreeMove, noted_addresses, moved_to, said_after, station_after}
+use Rattle.j39_claim.specs.ClaimRule.{PlannedUnit, ClaimState, IsFree, Moves, GivesUp, Hears, claim_of, holds_address, say_of}
+use Rattle.j39_claim.specs.ExactAnswer.{Pick, IsLawful, IsFreeMove, noted_addresses, moved_to, said_after, state_after}
 use Rattle.j39_claim.proofs.FreeAddresses.{none_free}
 use Rattle.j39_claim.proofs.NotedAddresses.{noted_in, noted_by_one}
 
 -- an address that is free in the set of the noted ones is free
-free : (s : Station) (b : ℕ) → IsFreeIn (noted_addresses s.notes) b → IsFree s b
+free : (s : ClaimState) (b : ℕ) → IsFreeIn (noted_addresses s.notes) b → IsFree s b
 free s b is = record { pool = is.pool; unnoted = λ n noted. true≢false (sym (noted_in s.notes n b noted) ∙ is.free) }
 
-module _ (pick : Pick) (c : Claimant) (s : Station) (lost : ℕ) where
+module _ (pick : Pick) (c : PlannedUnit) (s : ClaimState) (lost : ℕ) where
   -- a unit that loses its address
   loses : (place : Option ℕ) → place ≡ moved_to pick c.name lost (noted_addresses s.notes) → IfSome place (IsFreeIn (noted_addresses s.notes))
       → Moves c s (Some (claim_of place)) (record s { address = place }) ⊎ GivesUp c s (Some (claim_of place)) (record s { address = place })
@@ -41,34 +41,34 @@ module _ (pick : Pick) (c : Claimant) (s : Station) (lost : ℕ) where
       no_room false y e h = absurd (true≢false (sym h))
 
 -- what it says and is follows the rule, where what it moves to is free
-pub follows : (pick : Pick) (c : Claimant) (s : Station) (n a : ℕ)
+pub follows : (pick : Pick) (c : PlannedUnit) (s : ClaimState) (n a : ℕ)
     → (n < c.name → IsFreeMove pick c.name a (noted_addresses (insert s.notes n a)))
-    → Hears c s n (Claim a) (said_after pick c s n (Claim a)) (station_after pick c s n (Claim a))
-follows pick c s n a lawful = held (is_address s.address a) refl (ltb n c.name) refl
+    → Hears c s n (Claim a) (said_after pick c s n (Claim a)) (state_after pick c s n (Claim a))
+follows pick c s n a lawful = held (holds_address s.address a) refl (ltb n c.name) refl
   where
-    noted : Station
+    noted : ClaimState
     noted = record s { notes = insert s.notes n a }
 
     after : Bool → Bool → Option ℕ
     after x y = cond (x && y) (moved_to pick c.name a (noted_addresses (insert s.notes n a))) s.address
 
-    held : (x : Bool) → is_address s.address a ≡ x → (y : Bool) → ltb n c.name ≡ y
+    held : (x : Bool) → holds_address s.address a ≡ x → (y : Bool) → ltb n c.name ≡ y
         → MatchBool x
         (MatchBool y
         (Moves c noted (cond x (Some (claim_of (after x y))) None) (record noted { address = after x y }) ⊎ GivesUp c noted (cond x (Some (claim_of (after x y))) None) (record noted { address = after x y }))
-        ((cond x (Some (claim_of (after x y))) None ≡ Some (Claim a)) × (◌≡◌ {A = Station} (record noted { address = after x y }) noted)))
-        ((cond x (Some (claim_of (after x y))) None ≡ None) × (◌≡◌ {A = Station} (record noted { address = after x y }) noted))
+        ((cond x (Some (claim_of (after x y))) None ≡ Some (Claim a)) × (◌≡◌ {A = ClaimState} (record noted { address = after x y }) noted)))
+        ((cond x (Some (claim_of (after x y))) None ≡ None) × (◌≡◌ {A = ClaimState} (record noted { address = after x y }) noted))
     held true holds true smaller = loses pick c noted a _ refl (lawful (ltb-true n c.name smaller))
     held true holds false larger = (ap (λ o. Some (claim_of o)) (is_held s.address holds), refl)
       where
-        is_held : (o : Option ℕ) → is_address o a ≡ true → o ≡ Some a
+        is_held : (o : Option ℕ) → holds_address o a ≡ true → o ≡ Some a
         is_held (Some b) e = ap Some (eqb-true b a e)
         is_held None e = absurd (true≢false (sym e))
     held false other y _ = (refl, refl)
 
 -- the same of a number that is an address, and of equal answers
-pub heard : (pick : Pick) (c : Claimant) (s : Station) (n a : ℕ) (says : Option Say) (new : Station) → a < 254
-    → says ≡ said_after pick c s n (say_of a) → new ≡ station_after pick c s n (say_of a)
+pub heard : (pick : Pick) (c : PlannedUnit) (s : ClaimState) (n a : ℕ) (says : Option Say) (new : ClaimState) → a < 254
+    → says ≡ said_after pick c s n (say_of a) → new ≡ state_after pick c s n (say_of a)
     → (n < c.name → IsFreeMove pick c.name a (noted_addresses (insert s.notes n a)))
     → Hears c s n (say_of a) says new
 heard pick c s n a says new inside said left lawful = rw (said, left, lt-ltb a 254 inside) (follows pick c s n a lawful)
@@ -88,6 +88,6 @@ free_move pick lawful name lost taken = by (is_arbitrary name) (ltb 0 (free_coun
     by true false h = tt
     by false y h = tt
 
-pub lawful_follows : (pick : Pick) → IsLawful pick → (c : Claimant) (s : Station) (n : ℕ) (say : Say) → Hears c s n say (said_after pick c s n say) (station_after pick c s n say)
+pub lawful_follows : (pick : Pick) → IsLawful pick → (c : PlannedUnit) (s : ClaimState) (n : ℕ) (say : Say) → Hears c s n say (said_after pick c s n say) (state_after pick c s n say)
 lawful_follows pick lawful c s n (Claim a) = follows pick c s n a (λ _. free_move pick lawful c.name a (noted_addresses (insert s.notes n a)))
 lawful_follows pick lawful c s n Cannot = (refl, refl)

@@ -11,7 +11,8 @@ use Rattle.std.specs.Int.{bit_at, trailing_zeros, from_bool, w64}
 use Rattle.std.specs.Int.Count.{ones_step}
 use Rattle.std.specs.Ordering.{nat_cmp}
 use Rattle.std.specs.FinSet.{FinSet}
-use Rattle.j39_claim.specs.AddressSets.{pool, is_free, free_count, lowest_free, free_above}
+use Rattle.j39_id.specs.Addresses.{pool}
+use Rattle.j39_claim.specs.AddressSets.{is_free, free_count, lowest_free, free_above}
 use Rattle.j39_claim.specs.inside.Words.{HasBits, ArePassing, is_above, count_in_pool, least_in_pool}
 
 -- a digit tells its test

@@ -14,7 +14,7 @@ use Rattle.std.proofs.lemmas.Bool.{and_parts, eq-eqb, eqb-true, ne_eqb, cases_eq
 use Rattle.std.proofs.lemmas.Bool.Decides.{nat_tests}
 use Rattle.std.proofs.lemmas.Cmp.{ranked}
 use Rattle.std.proofs.lemmas.List.Sorted.{IsNonDecreasingBy-from_default}
-use Rattle.j39_claim.specs.Claiming.{can_note}
+use Rattle.j39_claim.specs.ClaimerValue.{can_note}
 use Rattle.j39_claim.specs.inside.Noting.{Pairs, name_at, IsAt, IsGapFor}
 
 -- tests as facts

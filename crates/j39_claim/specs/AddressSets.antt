@@ -1,18 +1,13 @@
 -- What a set of addresses leaves free of the pool.
 use Rattle.std.specs.Prelude.{◌≡◌, ℕ, ◌<◌, MatchOption, Bool, true, false, not, ◌&&◌, nat_lt, List, Option, Some, None, find, count_by}
-use Rattle.std.specs.List.{range_with_len}
 use Rattle.std.specs.Ordering.{nat_cmp}
 use Rattle.std.specs.FinSet.{FinSet, contains}
-use Rattle.j39_claim.specs.Pool.{in_pool}
+use Rattle.j39_id.specs.Addresses.{in_pool, pool}
 
 -- an address of the pool that is not taken
 pub record IsFreeIn (taken : FinSet nat_cmp) (b : ℕ) : Type 0 where
   pub pool : in_pool b ≡ true
   pub free : contains taken b ≡ false
-
--- 128 to 247, rising
-abbrev pub pool : List ℕ
-pool = range_with_len 128 120
 
 abbrev pub is_free : FinSet nat_cmp → ℕ → Bool
 is_free taken b = not (contains taken b)

@@ -5,9 +5,9 @@ use Rattle.std.specs.FinMap.{FinMap, insert, remove, values}
 use Rattle.std.specs.FinSet.{FinSet, from_list}
 use Rattle.j39_claim.specs.declared.item.Say.{Say}
 use Rattle.j39_claim.specs.declared.item.Say.TheVariants.{Claim, Cannot}
-use Rattle.j39_claim.specs.Pool.{is_arbitrary}
+use Rattle.j39_id.specs.Name.{is_arbitrary}
 use Rattle.j39_claim.specs.AddressSets.{free_count, IsFreeIn}
-use Rattle.j39_claim.specs.ClaimRule.{Claimant, Station, claim_of, is_address}
+use Rattle.j39_claim.specs.ClaimRule.{PlannedUnit, ClaimState, claim_of, holds_address}
 
 -- the address that is picked for a NAME that loses an address, where these are taken
 abbrev pub Pick : Type 0
@@ -31,18 +31,18 @@ abbrev pub IsFreeMove : Pick → ℕ → ℕ → FinSet nat_cmp → Type 0
 IsFreeMove pick name lost taken = IfSome (moved_to pick name lost taken) (IsFreeIn taken)
 
 -- the address that a unit holds once n has claimed a, which it then notes
-abbrev pub address_after : Pick → Claimant → Station → ℕ → ℕ → Option ℕ
+abbrev pub address_after : Pick → PlannedUnit → ClaimState → ℕ → ℕ → Option ℕ
 address_after pick c s n a =
-    if is_address s.address a && nat_lt n c.name
+    if holds_address s.address a && nat_lt n c.name
     then moved_to pick c.name a (noted_addresses (insert s.notes n a))
     else s.address
 
 -- it answers where it held that address
-abbrev pub said_after : Pick → Claimant → Station → ℕ → Say → Option Say
-said_after pick c s n (Claim a) = if is_address s.address a then Some (claim_of (address_after pick c s n a)) else None
+abbrev pub said_after : Pick → PlannedUnit → ClaimState → ℕ → Say → Option Say
+said_after pick c s n (Claim a) = if holds_address s.address a then Some (claim_of (address_after pick c s n a)) else None
 said_after pick c s n Cannot = None
 
-abbrev pub station_after : Pick → Claimant → Station → ℕ → Say → Station
-station_after pick c s n (Claim a) =
+abbrev pub state_after : Pick → PlannedUnit → ClaimState → ℕ → Say → ClaimState
+state_after pick c s n (Claim a) =
     record { on = s.on; address = address_after pick c s n a; notes = insert s.notes n a }
-station_after pick c s n Cannot = record s { notes = remove s.notes n }
+state_after pick c s n Cannot = record s { notes = remove s.notes n }

@@ -1,6 +1,5 @@
-pub mod Pool
 pub mod AddressSets
 pub mod ClaimRule
-pub mod Claiming
+pub mod ClaimerValue
 pub mod ExactAnswer
 pub mod inside

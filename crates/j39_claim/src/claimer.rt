@@ -3,8 +3,8 @@ ghost use Rattle.std.specs.Prelude.{◌≡◌, true, false, Some, None, IfSome};
 ghost use Rattle.std.specs.FinMap as map;
 ghost use Rattle.j39_claim.specs.AddressSets.{IsFreeIn};
 ghost use Rattle.j39_claim.specs.ClaimRule.{Hears, started, off, claim_of, say_of};
-ghost use Rattle.j39_claim.specs.Claiming.{can_note};
-ghost use Rattle.j39_claim.specs.ExactAnswer.{said_after, station_after, moved_to, IsFreeMove};
+ghost use Rattle.j39_claim.specs.ClaimerValue.{can_note};
+ghost use Rattle.j39_claim.specs.ExactAnswer.{said_after, state_after, moved_to, IsFreeMove};
 
 use crate::notes::Notes;
 use crate::{AddressSet, Choose, Say};
@@ -23,13 +23,13 @@ pub struct Claimer {
 
 impl Model for Claimer {
     ghost use Rattle.std.specs.Prelude.{◌≡◌, false, None};
-    ghost use Rattle.j39_claim.specs.Claiming.{Claiming, coded_claiming};
+    ghost use Rattle.j39_claim.specs.ClaimerValue.{ClaimerValue, coded_claimer};
 
-    ghost Value = { Claiming };
+    ghost Value = { ClaimerValue };
 
-    ghost coded = { coded_claiming };
+    ghost coded = { coded_claimer };
 
-    ghost view = { λ a. record { claimant = record { name = a.name; preferred = a.preferred }; station = record { on = a.started; address = a.address; notes = a.notes } } };
+    ghost view = { λ a. record { planned = record { name = a.name; preferred = a.preferred }; state = record { on = a.started; address = a.address; notes = a.notes } } };
 
     ghost invariant = { λ a. a.started ≡ false → a.address ≡ None };
 }
@@ -37,7 +37,7 @@ impl Model for Claimer {
 impl Claimer {
     /// A unit that is not started. It holds no address and has no notes.
     pub fn new(name: Name, preferred: Address) -> Self
-        ensures { result ≡ record { claimant = record { name = name; preferred = preferred }; station = off } }
+        ensures { result ≡ record { planned = record { name = name; preferred = preferred }; state = off } }
     {
         Claimer {
             name,
@@ -50,8 +50,8 @@ impl Claimer {
 
     /// Begins anew, with no notes and the preferred address, and claims it.
     pub fn start(&mut self) -> Say
-        ensures said { result ≡ Say.Claim self.old.claimant.preferred }
-        ensures started { self.new ≡ record self.old { station = started self.old.claimant } }
+        ensures said { result ≡ Say.Claim self.old.planned.preferred }
+        ensures started { self.new ≡ record self.old { state = started self.old.planned } }
     {
         self.started = true;
         self.address = Some(self.preferred);
@@ -70,36 +70,36 @@ impl Claimer {
 
     /// The NAME that it claims under.
     pub fn name(&self) -> Name
-        ensures { result ≡ self.now.claimant.name }
+        ensures { result ≡ self.now.planned.name }
     {
         self.name
     }
 
     /// Whether it was started.
     pub fn is_started(&self) -> bool
-        ensures { result ≡ self.now.station.on }
+        ensures { result ≡ self.now.state.on }
     {
         self.started
     }
 
     /// The address that it holds. A unit that is not started holds none.
     pub fn address(&self) -> Option<Address>
-        ensures address { result ≡ self.now.station.address }
-        ensures unstarted { self.now.station.on ≡ false → result ≡ None }
+        ensures address { result ≡ self.now.state.address }
+        ensures unstarted { self.now.state.on ≡ false → result ≡ None }
     {
         self.address
     }
 
     /// Whether it can note what it hears of the NAME: it has noted it already, or fewer than 128 NAMEs.
     pub fn can_note(&self, name: Name) -> bool
-        ensures { result ≡ can_note self.now.station.notes name }
+        ensures { result ≡ can_note self.now.state.notes name }
     {
         self.notes.can_note(name)
     }
 
     /// What it answers to a request for Address Claimed: Claim of its address, or Cannot where it holds none.
     pub fn hear_request(&self) -> Say
-        ensures { result ≡ claim_of self.now.station.address }
+        ensures { result ≡ claim_of self.now.state.address }
     {
         claim_of(self.address)
     }
@@ -107,10 +107,10 @@ impl Claimer {
     /// What it answers to Address Claimed of this address under the NAME. A number above 253 is Cannot Claim.
     /// The smaller NAME keeps an address, and an arbitrary unit that loses its own moves to what the chooser picks.
     pub fn hear_claim(&mut self, name: Name, address: u8, chooser: &dyn Choose) -> Option<Say>
-        requires { can_note self.old.station.notes name ≡ true }
-        ensures said { result ≡ said_after (pick chooser.now) self.old.claimant self.old.station name (say_of address) }
-        ensures left { self.new ≡ record self.old { station = station_after (pick chooser.now) self.old.claimant self.old.station name (say_of address) } }
-        ensures rule { Hears self.old.claimant self.old.station name (say_of address) result self.new.station }
+        requires { can_note self.old.state.notes name ≡ true }
+        ensures said { result ≡ said_after (pick chooser.now) self.old.planned self.old.state name (say_of address) }
+        ensures left { self.new ≡ record self.old { state = state_after (pick chooser.now) self.old.planned self.old.state name (say_of address) } }
+        ensures rule { Hears self.old.planned self.old.state name (say_of address) result self.new.state }
     {
         let claimed = match Address::new(address) {
             Some(claimed) => claimed,

@@ -3,6 +3,11 @@ ghost use Rattle.std.specs.Prelude.{◌≡◌, ℕ, Bool, nat_lt, ◌+◌, ◌<�
 ghost use Rattle.std.specs.Int.{bit_at, from_bool};
 ghost use Rattle.j39_claim.specs.inside.Words.{ArePassing, count_in_pool, least_in_pool, is_above};
 
+use j39_id::addresses::POOL_FIRST;
+
+/// The address of bit 0 of the second word.
+const SECOND_WORD: u8 = POOL_FIRST + 64;
+
 /// Addresses of 128 to 247: bit i of `low` stands for 128 + i, and bit i of `high` for 192 + i.
 #[derive(Clone, Copy)]
 pub(crate) struct FreePool {
@@ -25,9 +30,9 @@ impl FreePool {
         ensures { (p : ℕ → Bool) → ArePassing p self.low self.high → result ≡ least_in_pool p }
     {
         if self.low != 0 {
-            Some(128 + self.low.trailing_zeros() as u8)
+            Some(POOL_FIRST + self.low.trailing_zeros() as u8)
         } else if self.high != 0 {
-            Some(192 + self.high.trailing_zeros() as u8)
+            Some(SECOND_WORD + self.high.trailing_zeros() as u8)
         } else {
             None
         }
@@ -38,8 +43,8 @@ impl FreePool {
         ensures { (p : ℕ → Bool) → ArePassing p self.low self.high → ArePassing (is_above address p) result.low result.high }
     {
         FreePool {
-            low: self.low & bits_above(address, 128),
-            high: self.high & bits_above(address, 192),
+            low: self.low & bits_above(address, POOL_FIRST),
+            high: self.high & bits_above(address, SECOND_WORD),
         }
     }
 }

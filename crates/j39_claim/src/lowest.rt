@@ -4,6 +4,7 @@ ghost use Rattle.j39_claim.specs.AddressSets.{lowest_free};
 
 use crate::{AddressSet, Choose};
 use j39_id::Name;
+use j39_id::addresses::POOL_FIRST;
 
 /// Chooses the least free address.
 #[derive(Drop)]
@@ -13,6 +14,6 @@ impl Choose for Lowest {
     ghost pick = { λ chooser own before taken. unwrap_or (lowest_free taken) 128 };
 
     fn choose(&self, _own: Name, _before: u8, taken: &AddressSet) -> u8 {
-        taken.lowest_free().unwrap_or(128)
+        taken.lowest_free().unwrap_or(POOL_FIRST)
     }
 }

@@ -3,7 +3,7 @@ ghost use Rattle.std.specs.Prelude.{◌≡◌, true, T, IfOk, IfErr};
 ghost use Rattle.std.specs.FinMap as map;
 ghost use Rattle.std.specs.FinMap.{is_sorted};
 ghost use Rattle.std.specs.Ordering.{nat_cmp};
-ghost use Rattle.j39_claim.specs.Claiming.{can_note};
+ghost use Rattle.j39_claim.specs.ClaimerValue.{can_note};
 ghost use Rattle.j39_claim.specs.ExactAnswer.{noted_addresses};
 ghost use Rattle.j39_claim.specs.inside.Noting.{IsAt, IsGapFor};
 

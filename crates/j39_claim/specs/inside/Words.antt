@@ -4,7 +4,7 @@ use Rattle.std.specs.List.{range_with_len}
 use Rattle.std.specs.Int.{bit_at, from_bool}
 use Rattle.std.specs.Ordering.{nat_cmp}
 use Rattle.std.specs.FinSet.{FinSet, from_list}
-use Rattle.j39_claim.specs.AddressSets.{pool}
+use Rattle.j39_id.specs.Addresses.{pool}
 
 -- address a is bit a % 64 of word a / 64
 abbrev pub has_bit : List ℕ → ℕ → Bool

@@ -1,7 +1,7 @@
 use Rattle.std.proofs.Common.{rules, ◌≡◌, ◌<◌, Some, ap, ◌∙◌}
 use Rattle.std.specs.FinMap.{insert}
-use Rattle.j39_claim.specs.ClaimRule.{Station, say_of}
-use Rattle.j39_claim.specs.ExactAnswer.{Pick, noted_addresses, said_after, station_after}
+use Rattle.j39_claim.specs.ClaimRule.{ClaimState, say_of}
+use Rattle.j39_claim.specs.ExactAnswer.{Pick, noted_addresses, said_after, state_after}
 use Rattle.j39_claim.proofs.Hearing.{heard, same_move}
 use Rattle.j39_claim.proofs.claimer.Claimer.hear_claim.Goals as goal
 use Rattle.j39_claim.proofs.claimer.Claimer.hear_claim.Goals.{then-lt, else-lt}
@@ -9,14 +9,14 @@ use Rattle.j39_claim.proofs.claimer.Claimer.hear_claim.Goals.{then-lt, else-lt}
 pub returns-clause-rule : goal.returns-clause-rule
 returns-clause-rule g c =
     let picks : Pick = (goal.Choose-dyn g c.args.chooser.now).pick c.args.chooser.now.1 in
-    let new : Station = record { on = c.if-lt.self-inside.started; address = c.if-lt.self-inside.address; notes = c.if-lt.self-inside.notes } in
-    let said : Some c.claim_of.result ≡ said_after picks c.args.self.now.claimant c.args.self.now.station c.args.name (say_of c.args.address) = search rules in
-    let left : new ≡ station_after picks c.args.self.now.claimant c.args.self.now.station c.args.name (say_of c.args.address) = search rules in
+    let new : ClaimState = record { on = c.if-lt.self-inside.started; address = c.if-lt.self-inside.address; notes = c.if-lt.self-inside.notes } in
+    let said : Some c.claim_of.result ≡ said_after picks c.args.self.now.planned c.args.self.now.state c.args.name (say_of c.args.address) = search rules in
+    let left : new ≡ state_after picks c.args.self.now.planned c.args.self.now.state c.args.name (say_of c.args.address) = search rules in
     let inside : c.args.address < 254 = search rules in
-    heard picks c.args.self.now.claimant c.args.self.now.station c.args.name c.args.address (Some c.claim_of.result) new inside said left
+    heard picks c.args.self.now.planned c.args.self.now.state c.args.name c.args.address (Some c.claim_of.result) new inside said left
     (λ smaller. elim c.if-lt.branch [
-      | then-lt w ↦ same_move picks _ _ _ _ _ _ (λ i. (c.self.view_is i).claimant.name) c.in-Some.ensures.value
-          (w.addresses.ensures ∙ ap noted_addresses (c.note.ensures ∙ (λ i. insert (c.self.view_is i).station.notes c.args.name (c.in-Some.ensures.value i))))
+      | then-lt w ↦ same_move picks _ _ _ _ _ _ (λ i. (c.self.view_is i).planned.name) c.in-Some.ensures.value
+          (w.addresses.ensures ∙ ap noted_addresses (c.note.ensures ∙ (λ i. insert (c.self.view_is i).state.notes c.args.name (c.in-Some.ensures.value i))))
           w.moved_to-self-inside.ensures.free
       | else-lt w ↦ search rules
     ])
