@@ -4,7 +4,7 @@ use Rattle.std.proofs.lemmas.Bool.{eqb-true, eq-eqb, ne_eqb, ltb-true, lt-ltb, a
 use Rattle.std.specs.List.{remove, list_all}
 use Rattle.std.proofs.lemmas.Cmp.{nat_eq_equiv}
 use Rattle.j39_claim.specs.declared.item.Item.{Item}
-use Rattle.j39_claim.specs.Claiming.{Claiming}
+use Rattle.j39_claim.specs.ClaimerValue.{ClaimerValue}
 use Rattle.j39_bus.specs.declared.letter.Letter.{Letter}
 use Rattle.j39_bus.specs.World.{changed_pair}
 use Rattle.j39_bus.specs.Letters.{between, first_between, letters_to_others, without_letters_to, is_inside, station_at}
@@ -22,33 +22,33 @@ between-append (l ∷ xs) ys u v =
     ]
 
 -- to a unit before those told there is nothing
-none_below : (k : ℕ) (cs : List Claiming) (from : ℕ) (item : Item) (s t : ℕ) → t < k → between (letters_to_others k cs from item) s t ≡ []
+none_below : (k : ℕ) (cs : List ClaimerValue) (from : ℕ) (item : Item) (s t : ℕ) → t < k → between (letters_to_others k cs from item) s t ≡ []
 none_below k [] from item s t below = refl
 none_below k (c ∷ cs) from item s t below =
-    elim (not (eqb k from) && c.station.on) as (λ b. between (cond b (record { from = from; to = k; item = item } ∷ letters_to_others (k + 1) cs from item) (letters_to_others (k + 1) cs from item)) s t ≡ []) [
+    elim (not (eqb k from) && c.state.on) as (λ b. between (cond b (record { from = from; to = k; item = item } ∷ letters_to_others (k + 1) cs from item) (letters_to_others (k + 1) cs from item)) s t ≡ []) [
       | true ↦ rw (ne_eqb k t (λ e. absurd (omega arith)), and_right (eqb from s) false refl) (none_below (k + 1) cs from item s t (omega arith))
       | false ↦ none_below (k + 1) cs from item s t (omega arith)
     ]
 
-at_place : (k : ℕ) (cs : List Claiming) (from : ℕ) (item : Item) (s i t : ℕ) → t ≡ k + i → between (letters_to_others k cs from item) s t ≡ cond (eqb from s && ((station_at cs i).on && not (eqb t from))) (item ∷ []) []
+at_place : (k : ℕ) (cs : List ClaimerValue) (from : ℕ) (item : Item) (s i t : ℕ) → t ≡ k + i → between (letters_to_others k cs from item) s t ≡ cond (eqb from s && ((station_at cs i).on && not (eqb t from))) (item ∷ []) []
 at_place k [] from item s i t is = rw (and_right (eqb from s) false refl)
 at_place k (c ∷ cs) from item s zero t is =
     let same : t ≡ k = omega arith in
-    rw same (elim (eqb k from) as (λ a. between (cond (not a && c.station.on) (record { from = from; to = k; item = item } ∷ letters_to_others (k + 1) cs from item) (letters_to_others (k + 1) cs from item)) s k ≡ cond (eqb from s && (c.station.on && not a)) (item ∷ []) []) [
-      | true ↦ rw (and_right c.station.on false refl, and_right (eqb from s) false refl) (none_below (k + 1) cs from item s k (omega arith))
-      | false ↦ elim (c.station.on) as (λ a. between (cond a (record { from = from; to = k; item = item } ∷ letters_to_others (k + 1) cs from item) (letters_to_others (k + 1) cs from item)) s k ≡ cond (eqb from s && (a && true)) (item ∷ []) []) [
+    rw same (elim (eqb k from) as (λ a. between (cond (not a && c.state.on) (record { from = from; to = k; item = item } ∷ letters_to_others (k + 1) cs from item) (letters_to_others (k + 1) cs from item)) s k ≡ cond (eqb from s && (c.state.on && not a)) (item ∷ []) []) [
+      | true ↦ rw (and_right c.state.on false refl, and_right (eqb from s) false refl) (none_below (k + 1) cs from item s k (omega arith))
+      | false ↦ elim (c.state.on) as (λ a. between (cond a (record { from = from; to = k; item = item } ∷ letters_to_others (k + 1) cs from item) (letters_to_others (k + 1) cs from item)) s k ≡ cond (eqb from s && (a && true)) (item ∷ []) []) [
         | true ↦ rw (eq-eqb k k refl, none_below (k + 1) cs from item s k (omega arith)) refl
         | false ↦ rw (and_right (eqb from s) false refl) (none_below (k + 1) cs from item s k (omega arith))
       ]
     ])
 at_place k (c ∷ cs) from item s (suc i) t is =
-    elim (not (eqb k from) && c.station.on) as (λ b. between (cond b (record { from = from; to = k; item = item } ∷ letters_to_others (k + 1) cs from item) (letters_to_others (k + 1) cs from item)) s t ≡ cond (eqb from s && ((station_at cs i).on && not (eqb t from))) (item ∷ []) []) [
+    elim (not (eqb k from) && c.state.on) as (λ b. between (cond b (record { from = from; to = k; item = item } ∷ letters_to_others (k + 1) cs from item) (letters_to_others (k + 1) cs from item)) s t ≡ cond (eqb from s && ((station_at cs i).on && not (eqb t from))) (item ∷ []) []) [
       | true ↦ rw (ne_eqb k t (λ e. absurd (omega arith)), and_right (eqb from s) false refl) (at_place (k + 1) cs from item s i t (omega arith))
       | false ↦ at_place (k + 1) cs from item s i t (omega arith)
     ]
 
 -- the lists after a unit told the others
-pub between_told : (ls : List Letter) (cs : List Claiming) (from : ℕ) (item : Item) (s t : ℕ) → cond (eqb s from && ((station_at cs t).on && not (eqb t from))) (between ls s t ++ item ∷ []) (between ls s t) ≡ between (ls ++ letters_to_others 0 cs from item) s t
+pub between_told : (ls : List Letter) (cs : List ClaimerValue) (from : ℕ) (item : Item) (s t : ℕ) → cond (eqb s from && ((station_at cs t).on && not (eqb t from))) (between ls s t ++ item ∷ []) (between ls s t) ≡ between (ls ++ letters_to_others 0 cs from item) s t
 between_told ls cs from item s t = sym (between-append ls (letters_to_others 0 cs from item) s t ∙ ap (λ zs. between ls s t ++ zs) (at_place 0 cs from item s t t (omega arith)) ∙ turned)
   where
     one : (b : Bool) (xs : List Item) → xs ++ cond b (item ∷ []) [] ≡ cond b (xs ++ item ∷ []) xs
@@ -139,10 +139,10 @@ inside-left n u (l ∷ ls) all =
       | false ↦ inside-left n u ls parts.1
     ]
 
-pub inside-told : (n k : ℕ) (cs : List Claiming) (from : ℕ) (item : Item) → from < n → k + length cs ≤ n → list_all (is_inside n) (letters_to_others k cs from item) ≡ true
+pub inside-told : (n k : ℕ) (cs : List ClaimerValue) (from : ℕ) (item : Item) → from < n → k + length cs ≤ n → list_all (is_inside n) (letters_to_others k cs from item) ≡ true
 inside-told n k [] from item in_from fits = refl
 inside-told n k (c ∷ cs) from item in_from fits =
-    elim (not (eqb k from) && c.station.on) as (λ b. list_all (is_inside n) (cond b (record { from = from; to = k; item = item } ∷ letters_to_others (k + 1) cs from item) (letters_to_others (k + 1) cs from item)) ≡ true) [
+    elim (not (eqb k from) && c.state.on) as (λ b. list_all (is_inside n) (cond b (record { from = from; to = k; item = item } ∷ letters_to_others (k + 1) cs from item) (letters_to_others (k + 1) cs from item)) ≡ true) [
       | true ↦ rw (lt-ltb from n in_from, lt-ltb k n (omega arith)) (inside-told n (k + 1) cs from item in_from (omega arith))
       | false ↦ inside-told n (k + 1) cs from item in_from (omega arith)
     ]

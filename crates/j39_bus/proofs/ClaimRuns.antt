@@ -8,7 +8,7 @@ use Rattle.j39_claim.specs.declared.item.Say.{Say}
 use Rattle.j39_claim.specs.declared.item.Say.TheVariants.{Claim}
 use Rattle.j39_claim.specs.declared.item.Item.{Item}
 use Rattle.j39_claim.specs.declared.item.Item.TheVariants.{Told, Request}
-use Rattle.j39_claim.specs.ClaimRule.{Station, Answers, claim_of, off, started}
+use Rattle.j39_claim.specs.ClaimRule.{ClaimState, Answers, claim_of, off, started}
 use Rattle.j39_plan.specs.declared.plan.Plan.{Plan}
 use Rattle.j39_plan.specs.declared.steps.Step.{Step}
 use Rattle.j39_plan.specs.declared.steps.Step.TheVariants.{Up, Down, Give, Ask, Begin, Emit, Take, Lose, LateSender, LateReceiver, Rest}
@@ -35,7 +35,7 @@ pub record IsKeptBySteps (plan : Plan) (Holds : ClaimProperty) : Type 0 where
       → Holds stations (told_to_others stations claims u (Request ∷ Told (claim_of (stations u).address) ∷ []))
   pub given : (stations : Stations) (claims : Undelivered) → Holds stations claims → (u v : ℕ) → is_unit plan u ≡ true → is_unit plan v ≡ true → (stations v).on ≡ true
       → (item : Item) (rest : List Item) → claims u v ≡ item ∷ rest
-      → (says : Option Say) (new : Station) → Answers (unit_at (units_of plan) v) (stations v) (unit_at (units_of plan) u).name item says new
+      → (says : Option Say) (new : ClaimState) → Answers (unit_at (units_of plan) v) (stations v) (unit_at (units_of plan) u).name item says new
       → Holds (changed stations v new) (told_to_others (changed stations v new) (changed_pair claims u v rest) v (answer_items says))
 
 -- a step that is not refused meets each condition in turn

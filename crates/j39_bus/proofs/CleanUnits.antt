@@ -3,8 +3,9 @@ use Rattle.std.proofs.Common.{◌≡◌, ◌≢◌, ℕ, zero, suc, ◌^◌, ◌
 use Rattle.std.proofs.lemmas.Bool.{cases_lt}
 use Rattle.std.proofs.lemmas.List.Sums.{sum_by-cons}
 use Rattle.std.specs.List.{count_by, slice_get}
-use Rattle.j39_claim.specs.ClaimRule.{Claimant}
-use Rattle.j39_claim.specs.Pool.{is_arbitrary, in_pool}
+use Rattle.j39_claim.specs.ClaimRule.{PlannedUnit}
+use Rattle.j39_id.specs.Name.{is_arbitrary}
+use Rattle.j39_id.specs.Addresses.{in_pool}
 use Rattle.j39_plan.specs.Findings.{Clean, needed_addresses, needs_pool_address}
 use Rattle.j39_plan.specs.declared.checking.finding.Finding.TheVariants.{SameName, SameFixedAddress, TooFewAddresses}
 use Rattle.j39_plan.specs.declared.plan.Plan.{Plan}
@@ -12,10 +13,10 @@ use Rattle.j39_plan.specs.declared.plan.unit_plan.UnitPlan.{UnitPlan}
 use Rattle.j39_bus.specs.Claimants.{claimant_of, units_of, unit_at}
 
 -- it may hold an address of 128..247
-abbrev pub needs_pool : Claimant → Bool
+abbrev pub needs_pool : PlannedUnit → Bool
 needs_pool p = is_arbitrary p.name || in_pool p.preferred
 
-pub record IsClean (units : List Claimant) : Type 0 where
+pub record IsClean (units : List PlannedUnit) : Type 0 where
   -- NAMEs have 64 bits
   pub range : (i : ℕ) → i < length units → (unit_at units i).name < 2 ^ 64
   -- no two units have one NAME
@@ -45,7 +46,7 @@ clean_units plan clean = record {
   names = λ i j below inside same.
       let (p, p_is, at_i) = placed plan.units.items i (omega arith) in
       let (q, q_is, at_j) = placed plan.units.items j inside in
-      clean (SameName i j) (record { first = p; second = q; below = below; first_is = p_is; second_is = q_is; related = sym (ap (λ (c : Claimant). c.name) at_i) ∙ same ∙ ap (λ (c : Claimant). c.name) at_j });
+      clean (SameName i j) (record { first = p; second = q; below = below; first_is = p_is; second_is = q_is; related = sym (ap (λ (c : PlannedUnit). c.name) at_i) ∙ same ∙ ap (λ (c : PlannedUnit). c.name) at_j });
   fixed = λ i j below inside fixed_i fixed_j same.
       let (p, p_is, at_i) = placed plan.units.items i (omega arith) in
       let (q, q_is, at_j) = placed plan.units.items j inside in
@@ -56,9 +57,9 @@ clean_units plan clean = record {
         first_is = p_is;
         second_is = q_is;
         related = (
-          sym (ap (λ (c : Claimant). is_arbitrary c.name) at_i) ∙ fixed_i,
-          sym (ap (λ (c : Claimant). is_arbitrary c.name) at_j) ∙ fixed_j,
-          sym (ap (λ (c : Claimant). c.preferred) at_i) ∙ same ∙ ap (λ (c : Claimant). c.preferred) at_j,
+          sym (ap (λ (c : PlannedUnit). is_arbitrary c.name) at_i) ∙ fixed_i,
+          sym (ap (λ (c : PlannedUnit). is_arbitrary c.name) at_j) ∙ fixed_j,
+          sym (ap (λ (c : PlannedUnit). c.preferred) at_i) ∙ same ∙ ap (λ (c : PlannedUnit). c.preferred) at_j,
         );
       });
   room = elim (cases_lt 120 (needed_addresses plan.units.items)) [

@@ -3,8 +3,8 @@ use Rattle.std.proofs.Common.{◌≡◌, ℕ, ◌<◌, List, length, get_or, ref
 use Rattle.std.specs.List.{remove}
 use Rattle.j39_claim.specs.declared.item.Say.{Say}
 use Rattle.j39_claim.specs.declared.item.Item.{Item}
-use Rattle.j39_claim.specs.ClaimRule.{Claimant, Answers}
-use Rattle.j39_claim.specs.Claiming.{Claiming}
+use Rattle.j39_claim.specs.ClaimRule.{PlannedUnit, Answers}
+use Rattle.j39_claim.specs.ClaimerValue.{ClaimerValue}
 use Rattle.j39_bus.specs.declared.letter.Letter.{Letter}
 use Rattle.j39_bus.specs.Claimants.{unit_at}
 use Rattle.j39_bus.specs.Sent.{Sent}
@@ -15,12 +15,12 @@ use Rattle.j39_bus.specs.Network.{claimants, HasAnswered}
 use Rattle.j39_bus.proofs.Between.{taken_out}
 use Rattle.j39_bus.proofs.Worlds.{unit_at-claimants, claimants-set, world, world_heard}
 
-pub claimants_heard : (cs : List Claiming) (v name : ℕ) (item : Item) (says : Option Say) (new : List Claiming) → HasAnswered cs v name item says new → claimants new ≡ claimants cs
-claimants_heard cs v name item says new (s, is, answers) = (λ i. claimants (is i)) ∙ claimants-set cs v (record (get_or cs v nobody) { station = s }) refl
+pub claimants_heard : (cs : List ClaimerValue) (v name : ℕ) (item : Item) (says : Option Say) (new : List ClaimerValue) → HasAnswered cs v name item says new → claimants new ≡ claimants cs
+claimants_heard cs v name item says new (s, is, answers) = (λ i. claimants (is i)) ∙ claimants-set cs v (record (get_or cs v nobody) { state = s }) refl
 
-pub delivered : (b : World) (cs : List Claiming) (ls : List Letter) (fs : List Sent) (u v : ℕ) → v < length cs → first_between u v ls < length ls
-    → (letter : Letter) → letter ≡ get_or ls (first_between u v ls) letter → (name : ℕ) → name ≡ (get_or cs u nobody).claimant.name
-    → (says : Option Say) (new : List Claiming) → HasAnswered cs v name letter.item says new → (left : List Letter) → left ≡ remove ls (first_between u v ls)
+pub delivered : (b : World) (cs : List ClaimerValue) (ls : List Letter) (fs : List Sent) (u v : ℕ) → v < length cs → first_between u v ls < length ls
+    → (letter : Letter) → letter ≡ get_or ls (first_between u v ls) letter → (name : ℕ) → name ≡ (get_or cs u nobody).planned.name
+    → (says : Option Say) (new : List ClaimerValue) → HasAnswered cs v name letter.item says new → (left : List Letter) → left ≡ remove ls (first_between u v ls)
     → (after : World) → after ≡ tell (claimants new) (world b new left fs) v (answer_items says)
     → GivenFrom (claimants cs) (world b cs ls fs) u v (between ls u v) after
 delivered b cs ls fs u v in_v some letter is_oldest name name_is says new (s, is, answers) left left_is after after_is =
@@ -28,7 +28,7 @@ delivered b cs ls fs u v in_v some letter is_oldest name name_is says new (s, is
       says,
       s,
       subst (λ (it : Item). Answers (unit_at (claimants cs) v) (station_at cs v) (unit_at (claimants cs) u).name it says s) (ap (λ (l : Letter). l.item) is_oldest)
-          (subst (λ (n : ℕ). Answers (unit_at (claimants cs) v) (station_at cs v) n letter.item says s) (name_is ∙ sym (ap (λ (c : Claimant). c.name) (unit_at-claimants cs u)))
-          (subst (λ (c : Claimant). Answers c (station_at cs v) name letter.item says s) (sym (unit_at-claimants cs v)) answers)),
+          (subst (λ (n : ℕ). Answers (unit_at (claimants cs) v) (station_at cs v) n letter.item says s) (name_is ∙ sym (ap (λ (c : PlannedUnit). c.name) (unit_at-claimants cs u)))
+          (subst (λ (c : PlannedUnit). Answers c (station_at cs v) name letter.item says s) (sym (unit_at-claimants cs v)) answers)),
       after_is ∙ (λ i. tell (claimants_heard cs v name letter.item says new (s, is, answers) i) (((λ j. world b (is j) (left_is j) fs) ∙ world_heard b cs ls fs u v s in_v some) i) v (answer_items says)),
     )

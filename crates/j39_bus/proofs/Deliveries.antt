@@ -8,7 +8,7 @@ use Rattle.j39_claim.specs.declared.item.Say.{Say}
 use Rattle.j39_claim.specs.declared.item.Say.TheVariants.{Claim}
 use Rattle.j39_claim.specs.declared.item.Item.{Item}
 use Rattle.j39_claim.specs.declared.item.Item.TheVariants.{Told, Request}
-use Rattle.j39_claim.specs.ClaimRule.{Claimant, Station, Answers, claim_of, off, started}
+use Rattle.j39_claim.specs.ClaimRule.{PlannedUnit, ClaimState, Answers, claim_of, off, started}
 use Rattle.j39_plan.specs.declared.plan.Plan.{Plan}
 use Rattle.j39_bus.specs.Claimants.{claimant_of, units_of, unit_at}
 use Rattle.j39_bus.specs.ClaimSteps.{told_to_others, without_lists_to, answer_items}
@@ -34,7 +34,7 @@ pub record AreDeliverable (plan : Plan) (stations : Stations) (claims : Undelive
 
 -- ---- NAMEs differ
 
-pub names_differ : (units : List Claimant) → AreNamesDistinct units → (u v : ℕ) → u < length units → v < length units → u ≢ v → (unit_at units u).name ≢ (unit_at units v).name
+pub names_differ : (units : List PlannedUnit) → AreNamesDistinct units → (u v : ℕ) → u < length units → v < length units → u ≢ v → (unit_at units u).name ≢ (unit_at units v).name
 names_differ units distinct u v in_u in_v other same =
     elim (cases_order u v) [
       | inl is ↦ other is
@@ -53,19 +53,19 @@ told_off stations claims u items s t off =
     cond-false (eqb s u && hears stations u t) (claims s t ++ items) (claims s t) (and_right (eqb s u) (hears stations u t) (and_left (stations t).on (not (eqb t u)) off))
 
 -- where one is switched on or stays on, the units that are off are others, and were off
-still_off : (stations : Stations) (u : ℕ) (new : Station) → new.on ≡ true → (t : ℕ) → (changed stations u new t).on ≡ false → (t ≢ u) × ((stations t).on ≡ false)
+still_off : (stations : Stations) (u : ℕ) (new : ClaimState) → new.on ≡ true → (t : ℕ) → (changed stations u new t).on ≡ false → (t ≢ u) × ((stations t).on ≡ false)
 still_off stations u new on t off =
     let other : t ≢ u = λ same.
     let here : changed stations u new t ≡ new = cond-true (eqb t u) new (stations t) (eq-eqb t u same) in
-    true≢false (sym on ∙ sym (ap (λ (x : Station). x.on) here) ∙ off) in
+    true≢false (sym on ∙ sym (ap (λ (x : ClaimState). x.on) here) ∙ off) in
     let there : changed stations u new t ≡ stations t = cond-false (eqb t u) new (stations t) (ne_eqb t u other) in
-    (other, sym (ap (λ (x : Station). x.on) there) ∙ off)
+    (other, sym (ap (λ (x : ClaimState). x.on) there) ∙ off)
 
 module _ (plan : Plan) (distinct : AreNamesDistinct (units_of plan)) (stations : Stations) (claims : Undelivered) (old : AreDeliverable plan stations claims) where
   switched_on_keeps : (u : ℕ) → is_unit plan u ≡ true → AreDeliverable plan (changed stations u (started (unit_at (units_of plan) u)))
       (told_to_others (changed stations u (started (unit_at (units_of plan) u))) (without_lists_to u claims) u (Told (Claim (unit_at (units_of plan) u).preferred) ∷ []))
   switched_on_keeps u unit =
-      let new : Station = started (unit_at (units_of plan) u) in
+      let new : ClaimState = started (unit_at (units_of plan) u) in
       let mid : Undelivered = without_lists_to u claims in
       let items : List Item = Told (Claim (unit_at (units_of plan) u).preferred) ∷ [] in
       let on : AreUnitsOn plan (changed stations u new) = changed_each (λ x y. y.on ≡ true → is_unit plan x ≡ true) stations u new (λ _. unit) old.units in
@@ -104,7 +104,7 @@ module _ (plan : Plan) (distinct : AreNamesDistinct (units_of plan)) (stations :
       }
 
   module _ (u v : ℕ) (unit_u : is_unit plan u ≡ true) (unit_v : is_unit plan v ≡ true) (on_v : (stations v).on ≡ true) (item : Item) (rest : List Item) (list : claims u v ≡ item ∷ rest)
-      (says : Option Say) (new : Station) (answers : Answers (unit_at (units_of plan) v) (stations v) (unit_at (units_of plan) u).name item says new) where
+      (says : Option Say) (new : ClaimState) (answers : Answers (unit_at (units_of plan) v) (stations v) (unit_at (units_of plan) u).name item says new) where
     pub apart : u ≢ v
     apart same = let none : item ∷ rest ≡ [] = sym list ∙ ap (claims u) (sym same) ∙ old.itself u in cc
 

@@ -6,7 +6,7 @@ use Rattle.std.specs.FinMap.{get}
 use Rattle.j39_claim.specs.declared.item.Say.{Say}
 use Rattle.j39_claim.specs.declared.item.Item.{Item}
 use Rattle.j39_claim.specs.declared.item.Item.TheVariants.{Told, Request}
-use Rattle.j39_claim.specs.ClaimRule.{Claimant, Station}
+use Rattle.j39_claim.specs.ClaimRule.{PlannedUnit, ClaimState}
 use Rattle.j39_bus.specs.Claimants.{unit_at}
 use Rattle.j39_bus.specs.World.{Stations, Undelivered, changed, changed_pair, hears}
 use Rattle.j39_bus.specs.ClaimSteps.{told_to_others, answer_items}
@@ -48,9 +48,9 @@ at_most_once change times most once less = let more : change * times ≤ change 
 lower_by : (now was lost adds after before : ℕ) → after ≡ now → before ≡ was → now + lost ≤ was + adds → adds < lost → after < before
 lower_by now was lost adds after before a b sum less = omega arith
 
-module _ (units : List Claimant) (stations : Stations) (claims : Undelivered) (u v : ℕ) (in_u : u < length units) (in_v : v < length units) (apart : u ≢ v)
+module _ (units : List PlannedUnit) (stations : Stations) (claims : Undelivered) (u v : ℕ) (in_u : u < length units) (in_v : v < length units) (apart : u ≢ v)
     (distinct : (i : ℕ) → i < length units → i ≢ u → name_at units i ≢ name_at units u)
-    (item : Item) (rest : List Item) (list : claims u v ≡ item ∷ rest) (says : Option Say) (new : Station)
+    (item : Item) (rest : List Item) (list : claims u v ≡ item ∷ rest) (says : Option Say) (new : ClaimState)
     (r : Response (unit_at units v) (stations v) (name_at units u) item says new) where
   after : Stations
   after = changed stations v new
@@ -81,7 +81,7 @@ module _ (units : List Claimant) (stations : Stations) (claims : Undelivered) (u
 
   address_other : (s : ℕ) → s ≢ v → (after s).address ≡ (stations s).address
   unfolding after
-  address_other s other = ap (λ (x : Station). x.address) (changed_other stations v new s other)
+  address_other s other = ap (λ (x : ClaimState). x.address) (changed_other stations v new s other)
 
   -- what is noted of another than u
   noted_other : (s t : ℕ) → s < length units → IsElsewhere u v s t → get (after t).notes (name_at units s) ≡ get (stations t).notes (name_at units s)
@@ -90,8 +90,8 @@ module _ (units : List Claimant) (stations : Stations) (claims : Undelivered) (u
     | inl same ↦
         let now : changed stations v new t ≡ new = ap (changed stations v new) same ∙ changed_same stations v new in
         let was : stations v ≡ stations t = ap stations (sym same) in
-        ap (λ (x : Station). get x.notes (name_at units s)) now ∙ r.others (name_at units s) (distinct s in_s (λ e. elsewhere e same)) ∙ ap (λ (x : Station). get x.notes (name_at units s)) was
-    | inr other ↦ ap (λ (x : Station). get x.notes (name_at units s)) (changed_other stations v new t other)
+        ap (λ (x : ClaimState). get x.notes (name_at units s)) now ∙ r.others (name_at units s) (distinct s in_s (λ e. elsewhere e same)) ∙ ap (λ (x : ClaimState). get x.notes (name_at units s)) was
+    | inr other ↦ ap (λ (x : ClaimState). get x.notes (name_at units s)) (changed_other stations v new t other)
   ]
 
   -- lists of others weigh what they weighed
@@ -115,7 +115,7 @@ module _ (units : List Claimant) (stations : Stations) (claims : Undelivered) (u
       let w : ℕ = say_weight units u in
       let n : ℕ = name_at units u in
       let now = load_same c q w (get (changed stations v new v).notes n) (get new.notes n) (told u v) rest (changed stations v new u).address (stations u).address
-      (ap (λ (x : Station). get x.notes n) (changed_same stations v new)) (told_other u v apart ∙ pair_here claims u v rest) (address_other u apart) in
+      (ap (λ (x : ClaimState). get x.notes n) (changed_same stations v new)) (told_other u v apart ∙ pair_here claims u v rest) (address_other u apart) in
       let less = load_heard c q w (stations v).notes new.notes n item rest (stations u).address r.noted in
       let was = load_same c q w (get (stations v).notes n) (get (stations v).notes n) (item ∷ rest) (claims u v) (stations u).address (stations u).address refl (sym list) refl in
       omega (arith, now, less, was)
@@ -149,9 +149,9 @@ module _ (units : List Claimant) (stations : Stations) (claims : Undelivered) (u
         let n : ℕ = name_at units v in
         let noted : Option ℕ = get (stations t).notes n in
         let held : Option ℕ = (stations v).address in
-        let same_note : get (changed stations v new t).notes n ≡ noted = ap (λ (x : Station). get x.notes n) (changed_other stations v new t other) in
+        let same_note : get (changed stations v new t).notes n ≡ noted = ap (λ (x : ClaimState). get x.notes n) (changed_other stations v new t other) in
         let same_list : changed_pair claims u v rest v t ≡ claims v t = pair_elsewhere claims u v rest v t (λ e _. apart (sym e)) in
-        let now : (changed stations v new v).address ≡ new.address = ap (λ (x : Station). x.address) (changed_same stations v new) in
+        let now : (changed stations v new v).address ≡ new.address = ap (λ (x : ClaimState). x.address) (changed_same stations v new) in
         let more : c * differ held new.address ≤ rise = rises t in_t in
         cond_both (eqb v v && hears (changed stations v new) v t) (changed_pair claims u v rest v t ++ answer_items says) (changed_pair claims u v rest v t)
         (λ (xs : List Item). load c q w (get (changed stations v new t).notes n) xs (changed stations v new v).address ≤ load c q w noted (claims v t) held + (rise + answers))

@@ -7,7 +7,7 @@ use Rattle.std.specs.Ordering.{nat_cmp}
 use Rattle.j39_claim.specs.declared.item.Say.{Say}
 use Rattle.j39_claim.specs.declared.item.Item.{Item}
 use Rattle.j39_claim.specs.declared.item.Item.TheVariants.{Told, Request}
-use Rattle.j39_claim.specs.ClaimRule.{Claimant}
+use Rattle.j39_claim.specs.ClaimRule.{PlannedUnit}
 use Rattle.j39_bus.specs.Claimants.{unit_at}
 use Rattle.j39_bus.specs.World.{Stations, Undelivered}
 use Rattle.j39_bus.specs.ClaimSteps.{answer_items}
@@ -70,37 +70,37 @@ load_heard change request say notes after n Request items held is = rw is (omega
 
 -- ---- the measure
 
-abbrev pub name_at : List Claimant → ℕ → ℕ
+abbrev pub name_at : List PlannedUnit → ℕ → ℕ
 name_at units u = (unit_at units u).name
 
 -- no NAME is above this
-unfoldable pub top : List Claimant → ℕ
+unfoldable pub top : List PlannedUnit → ℕ
 top units = total (length units) (name_at units)
 
 -- what a unit says of itself weighs more than all that units of smaller NAMEs say to it
-abbrev pub say_weight : List Claimant → ℕ → ℕ
+abbrev pub say_weight : List PlannedUnit → ℕ → ℕ
 say_weight units u = weight (length units) (name_at units u)
 
 -- a request weighs more than all answers to it
-unfoldable pub request_weight : List Claimant → ℕ
+unfoldable pub request_weight : List PlannedUnit → ℕ
 request_weight units = 1 + length units * weight (length units) (top units)
 
 -- what is below a unit by this: of each unit of a larger NAME
-abbrev pub rest_weight : List Claimant → ℕ → ℕ
+abbrev pub rest_weight : List PlannedUnit → ℕ → ℕ
 rest_weight units v = below (length units) (top units - name_at units v)
 
 -- a change of what a unit says to one of a larger NAME weighs more than all that this one's move can add
-abbrev pub change_weight : List Claimant → ℕ → ℕ → ℕ
+abbrev pub change_weight : List PlannedUnit → ℕ → ℕ → ℕ
 change_weight units s t = cond (ltb (name_at units s) (name_at units t)) (request_weight units * weight (length units) (top units - name_at units t)) 0
 
-abbrev pub load_between : List Claimant → Stations → Undelivered → ℕ → ℕ → ℕ
+abbrev pub load_between : List PlannedUnit → Stations → Undelivered → ℕ → ℕ → ℕ
 load_between units stations claims s t =
     load (change_weight units s t) (request_weight units) (say_weight units s) (get (stations t).notes (name_at units s)) (claims s t) (stations s).address
 
-unfoldable pub measure : List Claimant → Stations → Undelivered → ℕ
+unfoldable pub measure : List PlannedUnit → Stations → Undelivered → ℕ
 measure units stations claims = total (length units) (λ s. total (length units) (load_between units stations claims s))
 
-module _ (units : List Claimant) where
+module _ (units : List PlannedUnit) where
   pub name_top : (u : ℕ) → u < length units → name_at units u ≤ top units
   unfolding top
   name_top u inside = part-le (length units) (name_at units) u inside

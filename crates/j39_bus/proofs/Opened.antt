@@ -5,8 +5,8 @@ use Rattle.std.specs.List.{list_all, slice_get}
 use Rattle.std.specs.Option.{is_some}
 use Rattle.std.specs.Ordering.{nat_cmp}
 use Rattle.std.specs.FinMap.{get, get-empty}
-use Rattle.j39_claim.specs.ClaimRule.{Claimant, Station, off}
-use Rattle.j39_claim.specs.Claiming.{Claiming}
+use Rattle.j39_claim.specs.ClaimRule.{PlannedUnit, ClaimState, off}
+use Rattle.j39_claim.specs.ClaimerValue.{ClaimerValue}
 use Rattle.j39_plan.specs.declared.plan.Plan.{Plan}
 use Rattle.j39_plan.specs.declared.plan.unit_plan.UnitPlan.{UnitPlan}
 use Rattle.j39_bus.specs.declared.letter.Letter.{Letter}
@@ -32,21 +32,21 @@ station_unstarted (p ∷ units) (suc u) = station_unstarted units u
 
 claimants-unstarted : (units : List UnitPlan) → claimants (map unstarted units) ≡ map claimant_of units
 claimants-unstarted [] = refl
-claimants-unstarted (p ∷ units) = ap (λ (cs : List Claimant). claimant_of p ∷ cs) (claimants-unstarted units)
+claimants-unstarted (p ∷ units) = ap (λ (cs : List PlannedUnit). claimant_of p ∷ cs) (claimants-unstarted units)
 
 length-unstarted : (units : List UnitPlan) → length (map unstarted units) ≡ length units
 length-unstarted [] = refl
 length-unstarted (p ∷ units) = omega (arith, length-unstarted units)
 
-pub length_opened : (units : List UnitPlan) (cs : List Claiming) → cs ≡ map unstarted units → length cs ≡ length units
+pub length_opened : (units : List UnitPlan) (cs : List ClaimerValue) → cs ≡ map unstarted units → length cs ≡ length units
 length_opened units cs is = ap length is ∙ length-unstarted units
 
 -- units that are not started, and no letter
-pub well_opened : (units : List UnitPlan) → length units ≤ 128 → (cs : List Claiming) (ls : List Letter) → cs ≡ map unstarted units → ls ≡ [] → IsWellFormed cs ls
+pub well_opened : (units : List UnitPlan) → length units ≤ 128 → (cs : List ClaimerValue) (ls : List Letter) → cs ≡ map unstarted units → ls ≡ [] → IsWellFormed cs ls
 well_opened units few cs ls cs_is ls_is = record {
   few = omega (arith, length_opened units cs cs_is, few);
   inside = ap (list_all (is_inside (length cs))) ls_is;
-  notes = λ v n h. absurd (true≢false (sym h ∙ ap is_some (ap (λ (s : Station). get s.notes n) (ap (λ (l : List Claiming). station_at l v) cs_is ∙ station_unstarted units v) ∙ get-empty nat_cmp n)));
+  notes = λ v n h. absurd (true≢false (sym h ∙ ap is_some (ap (λ (s : ClaimState). get s.notes n) (ap (λ (l : List ClaimerValue). station_at l v) cs_is ∙ station_unstarted units v) ∙ get-empty nat_cmp n)));
 }
 
 -- no unit sends anything
@@ -83,7 +83,7 @@ stands_first plan net well cs_is ls_is fs_is t = subst (Stands (state_of net) pl
 
     at_first : world_of no_histories net ≡ first
     at_first = λ i. record {
-      stations = λ u. (ap (λ (l : List Claiming). station_at l u) cs_is ∙ station_unstarted plan.units.items u) i;
+      stations = λ u. (ap (λ (l : List ClaimerValue). station_at l u) cs_is ∙ station_unstarted plan.units.items u) i;
       claims = λ u v. between (ls_is i) u v;
       sessions = λ u. outgoing_of (sent u i);
       wire = λ u v. t.wire u v i;

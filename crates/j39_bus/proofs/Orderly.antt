@@ -4,7 +4,7 @@ use Rattle.std.proofs.lemmas.Bool.{eqb-true, cond_both, and_parts}
 use Rattle.std.specs.List.{list_all, range_with_len}
 use Rattle.std.specs.Option.{is_some}
 use Rattle.j39_claim.specs.declared.item.Item.{Item}
-use Rattle.j39_claim.specs.ClaimRule.{Station}
+use Rattle.j39_claim.specs.ClaimRule.{ClaimState}
 use Rattle.j39_plan.specs.declared.plan.Plan.{Plan}
 use Rattle.j39_plan.specs.declared.plan.to.To.{To}
 use Rattle.j39_plan.specs.declared.plan.to.To.TheVariants.{One}
@@ -89,7 +89,7 @@ module _ (plan : Plan) (stations : Stations) (claims : Undelivered) (sessions : 
     settled = λ u. subst (SettledAt more) (sym (none u)) tt;
   }
 
-  pub units_on : (u : ℕ) (s : Station) → is_unit plan u ≡ true → AreUnitsOn plan (changed stations u s)
+  pub units_on : (u : ℕ) (s : ClaimState) → is_unit plan u ≡ true → AreUnitsOn plan (changed stations u s)
   units_on u s unit = changed_each (λ x y. y.on ≡ true → is_unit plan x ≡ true) stations u s (λ _. unit) o.units
 
   pub without_between : (u : ℕ) → AreBetweenUnits plan (without_lists_to u claims)

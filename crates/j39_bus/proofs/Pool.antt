@@ -5,8 +5,8 @@ use Rattle.std.proofs.lemmas.List.Sums.{sum_by-cons}
 use Rattle.std.specs.List.{list_any, filter_map, cons_option, count_by}
 use Rattle.std.specs.Ordering.{nat_cmp}
 use Rattle.std.specs.FinMap.{FinMap, get}
-use Rattle.j39_claim.specs.Pool.{in_pool}
-use Rattle.j39_claim.specs.ClaimRule.{Claimant}
+use Rattle.j39_id.specs.Addresses.{in_pool}
+use Rattle.j39_claim.specs.ClaimRule.{PlannedUnit}
 use Rattle.j39_bus.specs.Claimants.{unit_at}
 use Rattle.j39_bus.proofs.CleanUnits.{needs_pool}
 
@@ -57,14 +57,14 @@ spare p k (suc n) xs few =
     ] refl few
 
 -- what a map has at the NAMEs of the units that may need an address of the pool
-abbrev pub noted : FinMap nat_cmp ℕ → List Claimant → List ℕ
+abbrev pub noted : FinMap nat_cmp ℕ → List PlannedUnit → List ℕ
 noted notes units = filter_map (λ p. cond (needs_pool p) (get notes p.name) None) units
 
 one_more : (o : Option ℕ) (xs : List ℕ) → length (cons_option o xs) ≤ 1 + length xs
 one_more None xs = omega arith
 one_more (Some x) xs = omega arith
 
-length-noted : (notes : FinMap nat_cmp ℕ) (units : List Claimant) → length (noted notes units) ≤ count_by needs_pool units
+length-noted : (notes : FinMap nat_cmp ℕ) (units : List PlannedUnit) → length (noted notes units) ≤ count_by needs_pool units
 length-noted notes [] = omega arith
 length-noted notes (p ∷ units) =
     rw (sum_by-cons (λ x. cond (needs_pool x) 1 0) p units)
@@ -74,7 +74,7 @@ length-noted notes (p ∷ units) =
     ])
 
 -- a unit that is not noted itself leaves one address more
-pub length-noted_but : (notes : FinMap nat_cmp ℕ) (units : List Claimant) (v : ℕ) → v < length units → needs_pool (unit_at units v) ≡ true → get notes (unit_at units v).name ≡ None → length (noted notes units) + 1 ≤ count_by needs_pool units
+pub length-noted_but : (notes : FinMap nat_cmp ℕ) (units : List PlannedUnit) (v : ℕ) → v < length units → needs_pool (unit_at units v) ≡ true → get notes (unit_at units v).name ≡ None → length (noted notes units) + 1 ≤ count_by needs_pool units
 length-noted_but notes [] v in_units needs none = absurd (omega arith)
 length-noted_but notes (p ∷ units) zero in_units needs none =
     rw (sum_by-cons (λ x. cond (needs_pool x) 1 0) p units, needs, none) (omega (arith, length-noted notes units))
@@ -90,13 +90,13 @@ has-cons_option b None xs h = h
 has-cons_option b (Some x) xs h = or_right (eqb b x) (has b xs) h
 
 -- what is noted of a unit that may need the pool is in the list
-pub has-noted : (notes : FinMap nat_cmp ℕ) (units : List Claimant) (u b : ℕ) → u < length units → needs_pool (unit_at units u) ≡ true → get notes (unit_at units u).name ≡ Some b → has b (noted notes units) ≡ true
+pub has-noted : (notes : FinMap nat_cmp ℕ) (units : List PlannedUnit) (u b : ℕ) → u < length units → needs_pool (unit_at units u) ≡ true → get notes (unit_at units u).name ≡ Some b → has b (noted notes units) ≡ true
 has-noted notes [] u b in_units needs is = absurd (omega arith)
 has-noted notes (p ∷ units) zero b in_units needs is = rw (needs, is) (or_left (eqb b b) (has b (noted notes units)) (eq-eqb b b refl))
 has-noted notes (p ∷ units) (suc u) b in_units needs is = has-cons_option b (cond (needs_pool p) (get notes p.name) None) (noted notes units) (has-noted notes units u b (omega arith) needs is)
 
 -- where the plan has room and a unit may need the pool, an address of the pool is left that it has noted of no unit
-pub one_left : (notes : FinMap nat_cmp ℕ) (units : List Claimant) (v : ℕ) → count_by needs_pool units ≤ 120 → v < length units → needs_pool (unit_at units v) ≡ true → get notes (unit_at units v).name ≡ None
+pub one_left : (notes : FinMap nat_cmp ℕ) (units : List PlannedUnit) (v : ℕ) → count_by needs_pool units ≤ 120 → v < length units → needs_pool (unit_at units v) ≡ true → get notes (unit_at units v).name ≡ None
     → (b : ℕ) × (in_pool b ≡ true) × ((u : ℕ) → u < length units → needs_pool (unit_at units u) ≡ true → get notes (unit_at units u).name ≢ Some b)
 one_left notes units v room in_units needs none =
     let (b, above, ok, left) = spare in_pool 128 120 (noted notes units) (omega (arith, length-noted_but notes units v in_units needs none)) in

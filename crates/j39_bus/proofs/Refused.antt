@@ -4,7 +4,7 @@ use Rattle.std.proofs.lemmas.Bool.{and_parts, cases_lt, ltb-true, true≢false}
 use Rattle.std.specs.List.{slice_get}
 use Rattle.j39_claim.specs.declared.item.Item.{Item}
 use Rattle.j39_bus.specs.declared.letter.Letter.{Letter}
-use Rattle.j39_claim.specs.Claiming.{Claiming}
+use Rattle.j39_claim.specs.ClaimerValue.{ClaimerValue}
 use Rattle.j39_plan.specs.declared.plan.Plan.{Plan}
 use Rattle.j39_plan.specs.declared.steps.Step.{Step}
 use Rattle.j39_plan.specs.declared.steps.Step.TheVariants.{Up, Down, Give, Ask, Begin, Emit, Take, Lose, LateSender, LateReceiver, Rest}
@@ -23,13 +23,13 @@ use Rattle.j39_bus.proofs.Rested.{units_count}
 use Rattle.j39_bus.proofs.Between.{nothing_between}
 use Rattle.j39_bus.proofs.Worlds.{any_default}
 
-pub length-claimants : (cs : List Claiming) → length (claimants cs) ≡ length cs
+pub length-claimants : (cs : List ClaimerValue) → length (claimants cs) ≡ length cs
 length-claimants [] = refl
 length-claimants (c ∷ cs) = omega (arith, length-claimants cs)
 
 -- the unit at a place
-pub station_is : (cs : List Claiming) (u : ℕ) (c : Claiming) → u < length cs → c ≡ get_or cs u c → (station_at cs u).on ≡ c.station.on
-station_is cs u c inside at = ap (λ (x : Claiming). x.station.on) (sym (at ∙ any_default cs u c nobody inside))
+pub station_is : (cs : List ClaimerValue) (u : ℕ) (c : ClaimerValue) → u < length cs → c ≡ get_or cs u c → (station_at cs u).on ≡ c.state.on
+station_is cs u c inside at = ap (λ (x : ClaimerValue). x.state.on) (sym (at ∙ any_default cs u c nobody inside))
 
 -- ---- the conditions of a step in turn
 

@@ -9,11 +9,11 @@ use Rattle.j39_claim.specs.declared.item.Say.{Say}
 use Rattle.j39_claim.specs.declared.item.Say.TheVariants.{Claim, Cannot}
 use Rattle.j39_claim.specs.declared.item.Item.{Item}
 use Rattle.j39_claim.specs.declared.item.Item.TheVariants.{Told, Request}
-use Rattle.j39_claim.specs.ClaimRule.{Claimant, Station, Answers, Moves, GivesUp, is_address, claim_of}
+use Rattle.j39_claim.specs.ClaimRule.{PlannedUnit, ClaimState, Answers, Moves, GivesUp, holds_address, claim_of}
 use Rattle.j39_bus.specs.Sent.{claimed_by}
 
 -- a unit of this NAME doesn't hold what it noted for a smaller one
-pub record IsUnclashed (name : ℕ) (s : Station) : Type 0 where
+pub record IsUnclashed (name : ℕ) (s : ClaimState) : Type 0 where
   pub unnoted : (m a : ℕ) → m < name → s.address ≡ Some a → get s.notes m ≢ Some a
 
 -- what was heard of n is noted
@@ -22,7 +22,7 @@ IsNotedOf notes new n (Told say) = get new n ≡ claimed_by say
 IsNotedOf notes new n Request = get new n ≡ get notes n
 
 -- it says what it holds, as before, to a request or to a larger NAME
-pub record Repeats (c : Claimant) (s : Station) (n : ℕ) (item : Item) (says : Option Say) (new : Station) : Type 0 where
+pub record Repeats (c : PlannedUnit) (s : ClaimState) (n : ℕ) (item : Item) (says : Option Say) (new : ClaimState) : Type 0 where
   pub say : Say
   pub said : says ≡ Some say
   pub holds : claimed_by say ≡ new.address
@@ -30,7 +30,7 @@ pub record Repeats (c : Claimant) (s : Station) (n : ℕ) (item : Item) (says : 
   pub cause : (item ≡ Request) ⊎ ((c.name < n) × (heard : Say) × (item ≡ Told heard))
 
 -- it loses its address to a smaller NAME, of which it had not noted that address, and says what it then holds
-pub record Loses (c : Claimant) (s : Station) (n : ℕ) (item : Item) (says : Option Say) (new : Station) : Type 0 where
+pub record Loses (c : PlannedUnit) (s : ClaimState) (n : ℕ) (item : Item) (says : Option Say) (new : ClaimState) : Type 0 where
   pub say : Say
   pub said : says ≡ Some say
   pub holds : claimed_by say ≡ new.address
@@ -39,10 +39,10 @@ pub record Loses (c : Claimant) (s : Station) (n : ℕ) (item : Item) (says : Op
   pub cause : item ≡ Told (Claim lost)
   pub unnoted : get s.notes n ≢ Some lost
 
-abbrev pub IsSilent : Station → Option Say → Station → Type 0
+abbrev pub IsSilent : ClaimState → Option Say → ClaimState → Type 0
 IsSilent s says new = (says ≡ None) × (new.address ≡ s.address)
 
-pub record Response (c : Claimant) (s : Station) (n : ℕ) (item : Item) (says : Option Say) (new : Station) : Type 0 where
+pub record Response (c : PlannedUnit) (s : ClaimState) (n : ℕ) (item : Item) (says : Option Say) (new : ClaimState) : Type 0 where
   pub on : new.on ≡ s.on
   pub unclashed : IsUnclashed c.name new
   pub noted : IsNotedOf s.notes new.notes n item
@@ -63,18 +63,18 @@ removed_here notes n = get-remove nat_cmp_total notes n n ∙ ap (λ b. cond b N
 removed_elsewhere : (notes : FinMap nat_cmp ℕ) (n m : ℕ) → m ≢ n → get (remove notes n) m ≡ get notes m
 removed_elsewhere notes n m other = get-remove nat_cmp_total notes n m ∙ ap (λ b. cond b None (get notes m)) (unsigned_tied m n) ∙ cond-false (eqb m n) None (get notes m) (ne_eqb m n other)
 
-is_address-true : (o : Option ℕ) (a : ℕ) → is_address o a ≡ true → o ≡ Some a
-is_address-true None a h = absurd (true≢false (sym h))
-is_address-true (Some b) a h = ap Some (eqb-true b a h)
+holds_address-true : (o : Option ℕ) (a : ℕ) → holds_address o a ≡ true → o ≡ Some a
+holds_address-true None a h = absurd (true≢false (sym h))
+holds_address-true (Some b) a h = ap Some (eqb-true b a h)
 
-is_address-false : (o : Option ℕ) (a : ℕ) → is_address o a ≡ false → o ≢ Some a
-is_address-false None a h e = absurd (cc)
-is_address-false (Some b) a h e = eqb-false b a h (cc)
+holds_address-false : (o : Option ℕ) (a : ℕ) → holds_address o a ≡ false → o ≢ Some a
+holds_address-false None a h e = absurd (cc)
+holds_address-false (Some b) a h e = eqb-false b a h (cc)
 
 -- ---- what a unit is that has noted a claim of an address
 
-module _ (c : Claimant) (s : Station) (unclashed : IsUnclashed c.name s) (n : ℕ) (other : n ≢ c.name) where
-  noted_with : ℕ → Station
+module _ (c : PlannedUnit) (s : ClaimState) (unclashed : IsUnclashed c.name s) (n : ℕ) (other : n ≢ c.name) where
+  noted_with : ℕ → ClaimState
   noted_with a = record s { notes = insert s.notes n a }
 
   -- one that it doesn't hold
@@ -98,7 +98,7 @@ module _ (c : Claimant) (s : Station) (unclashed : IsUnclashed c.name s) (n : �
         unclashed.unnoted m b smaller held (sym (inserted_elsewhere s.notes n a m apart) ∙ is);
   }
 
-  loses : (a : ℕ) → s.address ≡ Some a → n < c.name → (says : Option Say) (new : Station) → Moves c (noted_with a) says new ⊎ GivesUp c (noted_with a) says new → Response c s n (Told (Claim a)) says new
+  loses : (a : ℕ) → s.address ≡ Some a → n < c.name → (says : Option Say) (new : ClaimState) → Moves c (noted_with a) says new ⊎ GivesUp c (noted_with a) says new → Response c s n (Told (Claim a)) says new
   unfolding noted_with
   loses a held smaller says new (inl (b, arbitrary, free, said, is)) = subst (Response c s n (Told (Claim a)) says) (sym is) (record {
     on = refl;
@@ -115,14 +115,14 @@ module _ (c : Claimant) (s : Station) (unclashed : IsUnclashed c.name s) (n : �
     outcome = inr (inr (record { say = Cannot; said = said; holds = refl; smaller = smaller; lost = a; cause = refl; unnoted = unclashed.unnoted n a smaller held }));
   })
 
-  claimed : (a : ℕ) (says : Option Say) (new : Station) → Answers c s n (Told (Claim a)) says new → Response c s n (Told (Claim a)) says new
+  claimed : (a : ℕ) (says : Option Say) (new : ClaimState) → Answers c s n (Told (Claim a)) says new → Response c s n (Told (Claim a)) says new
   unfolding noted_with
   claimed a says new answers =
-      elim (is_address s.address a) as (λ e. is_address s.address a ≡ e → MatchBool e
+      elim (holds_address s.address a) as (λ e. holds_address s.address a ≡ e → MatchBool e
       (MatchBool (ltb n c.name) (Moves c (noted_with a) says new ⊎ GivesUp c (noted_with a) says new) ((says ≡ Some (Claim a)) × (new ≡ noted_with a)))
       ((says ≡ None) × (new ≡ noted_with a)) → Response c s n (Told (Claim a)) says new) [
         | true ↦ λ has.
-            let held = is_address-true s.address a has in
+            let held = holds_address-true s.address a has in
             elim (ltb n c.name) as (λ e. ltb n c.name ≡ e → MatchBool e (Moves c (noted_with a) says new ⊎ GivesUp c (noted_with a) says new) ((says ≡ Some (Claim a)) × (new ≡ noted_with a)) → Response c s n (Told (Claim a)) says new) [
               | true ↦ λ smaller lost. loses a held (ltb-true n c.name smaller) says new lost
               | false ↦ λ not_smaller stays.
@@ -138,7 +138,7 @@ module _ (c : Claimant) (s : Station) (unclashed : IsUnclashed c.name s) (n : �
             ] refl
         | false ↦ λ not_held silent. subst (Response c s n (Told (Claim a)) says) (sym silent.1) (record {
           on = refl;
-          unclashed = unclashed_after a (is_address-false s.address a not_held);
+          unclashed = unclashed_after a (holds_address-false s.address a not_held);
           noted = inserted_here s.notes n a;
           others = inserted_elsewhere s.notes n a;
           outcome = inl (silent.0, refl);
@@ -149,7 +149,7 @@ module _ (c : Claimant) (s : Station) (unclashed : IsUnclashed c.name s) (n : �
   says_held None = refl
   says_held (Some a) = refl
 
-  pub response : (item : Item) (says : Option Say) (new : Station) → Answers c s n item says new → Response c s n item says new
+  pub response : (item : Item) (says : Option Say) (new : ClaimState) → Answers c s n item says new → Response c s n item says new
   response (Told (Claim a)) says new answers = claimed a says new answers
   response (Told Cannot) says new answers = subst (Response c s n (Told Cannot) says) (sym answers.1) (record {
     on = refl;

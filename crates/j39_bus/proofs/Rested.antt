@@ -3,7 +3,7 @@ use Rattle.std.proofs.Common.{◌≡◌, ℕ, zero, suc, ◌+◌, ◌<◌, ◌�
 use Rattle.std.proofs.lemmas.Bool.{and_right, cases_eq}
 use Rattle.std.proofs.lemmas.List.{length-map}
 use Rattle.std.specs.Option.{option_map}
-use Rattle.j39_claim.specs.Claiming.{Claiming}
+use Rattle.j39_claim.specs.ClaimerValue.{ClaimerValue}
 use Rattle.j39_plan.specs.declared.plan.Plan.{Plan}
 use Rattle.j39_bus.specs.Claimants.{claimant_of}
 use Rattle.j39_bus.specs.Run.{count_of, is_no_transfer_open}
@@ -68,7 +68,7 @@ some_session None = refl
 some_session (Some t) = refl
 
 pub units_count : (plan : Plan) (net : Network) → IsOf plan net → count_of plan ≡ length net.claimers.items
-units_count plan net of = sym (length-map plan.units.items claimant_of) ∙ sym (ap length of.units) ∙ length-map net.claimers.items (λ (c : Claiming). c.claimant)
+units_count plan net of = sym (length-map plan.units.items claimant_of) ∙ sym (ap length of.units) ∙ length-map net.claimers.items (λ (c : ClaimerValue). c.planned)
 
 pub idle_by : (net : Network) (h : Histories) → length net.traffic.transfers.items ≡ length net.claimers.items
     → is_no_transfer_open (length net.claimers.items) (world_of h net) ≡ not (list_any (λ t. is_some t) net.traffic.transfers.items)

@@ -11,8 +11,8 @@ use Rattle.j39_claim.specs.declared.item.Say.{Say}
 use Rattle.j39_claim.specs.declared.item.Say.TheVariants.{Claim, Cannot}
 use Rattle.j39_claim.specs.declared.item.Item.{Item}
 use Rattle.j39_claim.specs.declared.item.Item.TheVariants.{Told, Request}
-use Rattle.j39_claim.specs.ClaimRule.{Claimant, Station, Answers, is_address, Moves, GivesUp}
-use Rattle.j39_claim.specs.Claiming.{Claiming, can_note}
+use Rattle.j39_claim.specs.ClaimRule.{PlannedUnit, ClaimState, Answers, holds_address, Moves, GivesUp}
+use Rattle.j39_claim.specs.ClaimerValue.{ClaimerValue, can_note}
 use Rattle.j39_bus.specs.declared.letter.Letter.{Letter}
 use Rattle.j39_bus.specs.Letters.{nobody, station_at}
 use Rattle.j39_bus.specs.Network.{names_of, is_named, IsWellFormed}
@@ -43,15 +43,15 @@ len-le m (n ∷ ns) all =
         some : (k : ℕ) → is_some (cond (eqb k n) None (get m k)) ≡ true → is_some (get m k) ≡ true
         some k h = elim (eqb k n) as (λ b. is_some (cond b None (get m k)) ≡ true → is_some (get m k) ≡ true) [ true ↦ λ g. absurd (true≢false (sym g)) | false ↦ λ g. g ] h
 
-length-names : (cs : List Claiming) → length (names_of cs) ≡ length cs
+length-names : (cs : List ClaimerValue) → length (names_of cs) ≡ length cs
 length-names [] = refl
 length-names (c ∷ cs) = omega (arith, length-names cs)
 
 -- a unit's NAME is one of the units'
-pub named : (cs : List Claiming) (u : ℕ) → u < length cs → is_named cs (get_or cs u nobody).claimant.name ≡ true
+pub named : (cs : List ClaimerValue) (u : ℕ) → u < length cs → is_named cs (get_or cs u nobody).planned.name ≡ true
 named [] u inside = absurd (omega arith)
-named (c ∷ cs) zero inside = or_left (eqb c.claimant.name c.claimant.name) (is_named cs c.claimant.name) (eq-eqb c.claimant.name c.claimant.name refl)
-named (c ∷ cs) (suc u) inside = or_right (eqb (get_or cs u nobody).claimant.name c.claimant.name) (is_named cs (get_or cs u nobody).claimant.name) (named cs u (omega arith))
+named (c ∷ cs) zero inside = or_left (eqb c.planned.name c.planned.name) (is_named cs c.planned.name) (eq-eqb c.planned.name c.planned.name refl)
+named (c ∷ cs) (suc u) inside = or_right (eqb (get_or cs u nobody).planned.name c.planned.name) (is_named cs (get_or cs u nobody).planned.name) (named cs u (omega arith))
 
 -- what is noted once n is
 noted_with : (notes : FinMap nat_cmp ℕ) (n a k : ℕ) → is_some (get (insert notes n a) k) ≡ true → (k ≡ n) ⊎ (is_some (get notes k) ≡ true)
@@ -69,9 +69,9 @@ noted_without notes n k h =
     ] (sym (ap is_some (get-remove nat_cmp_total notes n k ∙ ap (λ b. cond b None (get notes k)) (unsigned_tied k n))) ∙ h)
 
 -- each unit can note each
-pub can_note_all : (cs : List Claiming) (ls : List Letter) (u v : ℕ) → IsWellFormed cs ls → u < length cs → can_note (station_at cs v).notes (get_or cs u nobody).claimant.name ≡ true
+pub can_note_all : (cs : List ClaimerValue) (ls : List Letter) (u v : ℕ) → IsWellFormed cs ls → u < length cs → can_note (station_at cs v).notes (get_or cs u nobody).planned.name ≡ true
 can_note_all cs ls u v well inside =
-    let n : ℕ = (get_or cs u nobody).claimant.name in
+    let n : ℕ = (get_or cs u nobody).planned.name in
     let notes : FinMap nat_cmp ℕ = (station_at cs v).notes in
     elim (cases_Bool (is_some (get notes n))) [
       | inl there ↦ or_left (is_some (get notes n)) (ltb (len notes) 128) there
@@ -86,23 +86,23 @@ can_note_all cs ls u v well inside =
     ]
 
 -- who hears an item under a NAME notes no other NAME
-pub noted_then : (c : Claimant) (s : Station) (n : ℕ) (item : Item) (says : Option Say) (new : Station) → Answers c s n item says new
+pub noted_then : (c : PlannedUnit) (s : ClaimState) (n : ℕ) (item : Item) (says : Option Say) (new : ClaimState) → Answers c s n item says new
     → (k : ℕ) → is_some (get new.notes k) ≡ true → (k ≡ n) ⊎ (is_some (get s.notes k) ≡ true)
 noted_then c s n (Told (Claim a)) says new answers k h =
-    noted_with s.notes n a k (sym (ap (λ m. is_some (get m k)) (notes_are (is_address s.address a) (ltb n c.name) answers)) ∙ h)
+    noted_with s.notes n a k (sym (ap (λ m. is_some (get m k)) (notes_are (holds_address s.address a) (ltb n c.name) answers)) ∙ h)
   where
     notes_are : (b d : Bool) → MatchBool b
         (MatchBool d (Moves c (record s { notes = insert s.notes n a }) says new ⊎ GivesUp c (record s { notes = insert s.notes n a }) says new) ((says ≡ Some (Claim a)) × (new ≡ record s { notes = insert s.notes n a })))
         ((says ≡ None) × (new ≡ record s { notes = insert s.notes n a })) → new.notes ≡ insert s.notes n a
-    notes_are true true (inl (b, may, free, said, is)) = ap (λ (t : Station). t.notes) is
-    notes_are true true (inr (none, said, is)) = ap (λ (t : Station). t.notes) is
-    notes_are true false (said, is) = ap (λ (t : Station). t.notes) is
-    notes_are false d (said, is) = ap (λ (t : Station). t.notes) is
-noted_then c s n (Told Cannot) says new answers k h = inr (noted_without s.notes n k (sym (ap (λ (t : Station). is_some (get t.notes k)) answers.1) ∙ h))
-noted_then c s n Request says new answers k h = inr (sym (ap (λ (t : Station). is_some (get t.notes k)) answers.1) ∙ h)
+    notes_are true true (inl (b, may, free, said, is)) = ap (λ (t : ClaimState). t.notes) is
+    notes_are true true (inr (none, said, is)) = ap (λ (t : ClaimState). t.notes) is
+    notes_are true false (said, is) = ap (λ (t : ClaimState). t.notes) is
+    notes_are false d (said, is) = ap (λ (t : ClaimState). t.notes) is
+noted_then c s n (Told Cannot) says new answers k h = inr (noted_without s.notes n k (sym (ap (λ (t : ClaimState). is_some (get t.notes k)) answers.1) ∙ h))
+noted_then c s n Request says new answers k h = inr (sym (ap (λ (t : ClaimState). is_some (get t.notes k)) answers.1) ∙ h)
 
 -- the NAMEs stay
-pub named-set : (cs : List Claiming) (v : ℕ) (c : Claiming) (k : ℕ) → c.claimant ≡ (get_or cs v nobody).claimant → is_named (set cs v c) k ≡ is_named cs k
+pub named-set : (cs : List ClaimerValue) (v : ℕ) (c : ClaimerValue) (k : ℕ) → c.planned ≡ (get_or cs v nobody).planned → is_named (set cs v c) k ≡ is_named cs k
 named-set [] v c k same = refl
-named-set (d ∷ cs) zero c k same = ap (λ (x : Claimant). eqb k x.name || is_named cs k) same
-named-set (d ∷ cs) (suc v) c k same = ap (λ b. eqb k d.claimant.name || b) (named-set cs v c k same)
+named-set (d ∷ cs) zero c k same = ap (λ (x : PlannedUnit). eqb k x.name || is_named cs k) same
+named-set (d ∷ cs) (suc v) c k same = ap (λ b. eqb k d.planned.name || b) (named-set cs v c k same)

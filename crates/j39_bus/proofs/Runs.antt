@@ -7,7 +7,7 @@ use Rattle.std.specs.Option.{is_some}
 use Rattle.std.specs.Ordering.{nat_cmp}
 use Rattle.std.specs.List.{AllByRecursion, slice_get}
 use Rattle.j39_claim.specs.declared.item.Item.{Item}
-use Rattle.j39_claim.specs.ClaimRule.{Claimant}
+use Rattle.j39_claim.specs.ClaimRule.{PlannedUnit}
 use Rattle.j39_plan.specs.declared.plan.Plan.{Plan}
 use Rattle.j39_plan.specs.declared.steps.Step.{Step}
 use Rattle.j39_plan.specs.declared.steps.Step.TheVariants.{Up, Down, Give, Ask, Begin, Emit, Take, Lose, LateSender, LateReceiver, Rest}
@@ -27,10 +27,10 @@ use Rattle.j39_bus.proofs.Steps.{switched_on_keeps, switched_off_keeps, asked_ke
 use Rattle.j39_bus.proofs.Unmoved.{Unmoved, begun_unmoved, emitted_unmoved, taken_unmoved, lost_unmoved, late_sender_unmoved, late_receiver_unmoved, rested_unmoved}
 
 -- of a world
-abbrev KeptIn : List Claimant → World → Type 0
+abbrev KeptIn : List PlannedUnit → World → Type 0
 KeptIn units w = Kept units w.stations w.claims
 
-first_kept : (units : List Claimant) → KeptIn units first
+first_kept : (units : List PlannedUnit) → KeptIn units first
 first_kept units = record {
   holds = λ u on. absurd (true≢false (sym on));
   apart = λ u v a other on_u on_v. absurd (true≢false (sym on_u));
@@ -44,7 +44,7 @@ met : (b : Bool) (e : StepError) (more : Option StepError) → is_some (unless b
 met true e more none = (refl, none)
 met false e more none = absurd (true≢false none)
 
-given_from : (units : List Claimant) → IsClean units → (w : World) → KeptIn units w → (u v : ℕ) → u < length units → v < length units → (w.stations v).on ≡ true
+given_from : (units : List PlannedUnit) → IsClean units → (w : World) → KeptIn units w → (u v : ℕ) → u < length units → v < length units → (w.stations v).on ≡ true
     → (list : List Item) → w.claims u v ≡ list → (new : World) → GivenFrom units w u v list new → KeptIn units new
 given_from units clean w kept u v in_u in_v on [] is new never = absurd never
 given_from units clean w kept u v in_u in_v on (item ∷ rest) is new leads =
@@ -55,7 +55,7 @@ given_from units clean w kept u v in_u in_v on (item ∷ rest) is new leads =
     subst (KeptIn units) (sym e) (given_keeps units w.stations w.claims kept u v other on item rest is says s t)
 
 -- a step that changes neither stations nor claims keeps it
-unmoved_keeps : (units : List Claimant) (w new : World) → KeptIn units w → Unmoved w new → KeptIn units new
+unmoved_keeps : (units : List PlannedUnit) (w new : World) → KeptIn units w → Unmoved w new → KeptIn units new
 unmoved_keeps units w new kept unmoved =
     subst (λ stations. Kept units stations new.claims) (sym unmoved.stations) (subst (Kept units w.stations) (sym unmoved.claims) kept)
 

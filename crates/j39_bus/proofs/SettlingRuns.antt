@@ -8,8 +8,8 @@ use Rattle.j39_claim.specs.AddressSets.{lowest_free}
 use Rattle.j39_claim.specs.declared.item.Say.{Say}
 use Rattle.j39_claim.specs.declared.item.Item.{Item}
 use Rattle.j39_claim.specs.declared.item.Item.TheVariants.{Told, Request}
-use Rattle.j39_claim.specs.ClaimRule.{Claimant, Station, Answers, claim_of}
-use Rattle.j39_claim.specs.ExactAnswer.{Pick, IsLawful, said_after, station_after}
+use Rattle.j39_claim.specs.ClaimRule.{PlannedUnit, ClaimState, Answers, claim_of}
+use Rattle.j39_claim.specs.ExactAnswer.{Pick, IsLawful, said_after, state_after}
 use Rattle.j39_claim.proofs.FreeAddresses.{lowest_free_in}
 use Rattle.j39_claim.proofs.Hearing.{lawful_follows}
 use Rattle.j39_plan.specs.declared.plan.Plan.{Plan}
@@ -37,8 +37,8 @@ least_lawful : IsLawful least
 unfolding least
 least_lawful name lost taken some = lowest_free_in taken some
 
-answered : (c : Claimant) (s : Station) (n : ℕ) (item : Item) → (says : Option Say) × (new : Station) × Answers c s n item says new
-answered c s n (Told say) = (said_after least c s n say, station_after least c s n say, lawful_follows least least_lawful c s n say)
+answered : (c : PlannedUnit) (s : ClaimState) (n : ℕ) (item : Item) → (says : Option Say) × (new : ClaimState) × Answers c s n item says new
+answered c s n (Told say) = (said_after least c s n say, state_after least c s n say, lawful_follows least least_lawful c s n say)
 answered c s n Request = (Some (claim_of s.address), s, (refl, refl))
 
 -- ---- a Give that runs through

@@ -74,20 +74,20 @@ refused_here old mid new orders place d e inside ran same refused = record {
 }
 
 -- what is seen of a bus is seen of each world that it stands for
-pub shown : (b : BusState) (view : View) → view.frames ≡ b.frames → view.units ≡ map (λ c. unit_state c.station) b.units → (IsTrue view.settled ↔ IsQuiet (undelivered b))
+pub shown : (b : BusState) (view : View) → view.frames ≡ b.frames → view.units ≡ map (λ c. unit_state c.state) b.units → (IsTrue view.settled ↔ IsQuiet (undelivered b))
     → view.reports ≡ b.traffic.reports → (plan : Plan) (w : World) → Stands b plan w → Shows plan w view
 shown b view frames units settled reports plan w s = record {
   frames = frames ∙ sym s.frames;
-  units = units ∙ fill_by_all (λ u. unit_state (w.stations u)) (map (λ c. unit_state c.station) b.units) (length plan.units.items) (unit_state nobody.station) count at;
+  units = units ∙ fill_by_all (λ u. unit_state (w.stations u)) (map (λ c. unit_state c.state) b.units) (length plan.units.items) (unit_state nobody.state) count at;
   settled = subst (λ c. IsTrue view.settled ↔ IsQuiet c) (sym s.claims) settled;
   reports = reports ∙ sym s.reports;
 }
   where
-    count : length (map (λ c. unit_state c.station) b.units) ≡ length plan.units.items
-    count = length-map b.units (λ c. unit_state c.station) ∙ sym (length-map b.units (λ c. c.claimant)) ∙ ap length s.planned ∙ length-map plan.units.items claimant_of
+    count : length (map (λ c. unit_state c.state) b.units) ≡ length plan.units.items
+    count = length-map b.units (λ c. unit_state c.state) ∙ sym (length-map b.units (λ c. c.planned)) ∙ ap length s.planned ∙ length-map plan.units.items claimant_of
 
-    at : (k : ℕ) → k < length plan.units.items → get_or (map (λ c. unit_state c.station) b.units) k (unit_state nobody.station) ≡ unit_state (w.stations k)
-    at k inside = get_or-map (λ c. unit_state c.station) b.units k nobody ∙ ap (λ (f : Stations). unit_state (f k)) (sym s.stations)
+    at : (k : ℕ) → k < length plan.units.items → get_or (map (λ c. unit_state c.state) b.units) k (unit_state nobody.state) ≡ unit_state (w.stations k)
+    at k inside = get_or-map (λ c. unit_state c.state) b.units k nobody ∙ ap (λ (f : Stations). unit_state (f k)) (sym s.stations)
 
 -- a run of a new bus, and what is seen at its end
 pub ends_in : (bus new : BusState) (view : View) (orders : List (Option Step)) (plan : Plan) (refused : Option (ℕ × StepError)) → Stands bus plan first

@@ -8,7 +8,7 @@ use Rattle.j39_claim.specs.declared.item.Say.{Say}
 use Rattle.j39_claim.specs.declared.item.Say.TheVariants.{Claim}
 use Rattle.j39_claim.specs.declared.item.Item.{Item}
 use Rattle.j39_claim.specs.declared.item.Item.TheVariants.{Told, Request}
-use Rattle.j39_claim.specs.ClaimRule.{Claimant, Station, claim_of, off, started}
+use Rattle.j39_claim.specs.ClaimRule.{PlannedUnit, ClaimState, claim_of, off, started}
 use Rattle.j39_bus.specs.Claimants.{unit_at}
 use Rattle.j39_bus.specs.World.{Stations, Undelivered, changed, changed_pair}
 use Rattle.j39_bus.specs.Sound.{IsToBeTold}
@@ -17,15 +17,15 @@ use Rattle.j39_bus.proofs.Kept.{Kept, IsSaid, IsHeld, AllNoted}
 use Rattle.j39_bus.proofs.Telling.{still, told, said_more, not_itself}
 use Rattle.j39_bus.proofs.Turns.{Turn}
 
--- what holds of each station after one has changed
-changed_all : (P : ℕ → Station → Type 0) (f : Stations) (u : ℕ) (new : Station) → P u new → ((x : ℕ) → P x (f x)) → (x : ℕ) → P x (changed f u new x)
+-- what holds of each state after one has changed
+changed_all : (P : ℕ → ClaimState → Type 0) (f : Stations) (u : ℕ) (new : ClaimState) → P u new → ((x : ℕ) → P x (f x)) → (x : ℕ) → P x (changed f u new x)
 changed_all P f u new here else' x =
     cond_both (eqb x u) new (f x) (P x) (λ same. subst (λ k. P k new) (sym (eqb-true x u same)) here) (λ _. else' x)
 
-changed_same : (f : Stations) (u : ℕ) (new : Station) → changed f u new u ≡ new
+changed_same : (f : Stations) (u : ℕ) (new : ClaimState) → changed f u new u ≡ new
 changed_same f u new = cond-true (eqb u u) new (f u) (eq-eqb u u refl)
 
-changed_other : (f : Stations) (u : ℕ) (new : Station) (x : ℕ) → x ≢ u → changed f u new x ≡ f x
+changed_other : (f : Stations) (u : ℕ) (new : ClaimState) (x : ℕ) → x ≢ u → changed f u new x ≡ f x
 changed_other f u new x other = cond-false (eqb x u) new (f x) (ne_eqb x u other)
 
 -- two that are on and hold one address
@@ -36,8 +36,8 @@ pub record IsClash (f : Stations) (x y a : ℕ) : Type 0 where
   pub address_x : (f x).address ≡ Some a
   pub address_y : (f y).address ≡ Some a
 
--- after one station has changed they are that one and another, or two others
-clash_cases : (R : ℕ → ℕ → ℕ → Type 0) (swap : (x y a : ℕ) → R x y a → R y x a) (f : Stations) (v : ℕ) (new : Station)
+-- after one state has changed they are that one and another, or two others
+clash_cases : (R : ℕ → ℕ → ℕ → Type 0) (swap : (x y a : ℕ) → R x y a → R y x a) (f : Stations) (v : ℕ) (new : ClaimState)
     → ((x a : ℕ) → x ≢ v → (f x).on ≡ true → (f x).address ≡ Some a → new.address ≡ Some a → R v x a)
     → ((x y a : ℕ) → x ≢ v → y ≢ v → IsClash f x y a → R x y a)
     → (x y a : ℕ) → IsClash (changed f v new) x y a → R x y a
@@ -82,11 +82,11 @@ told_still : (stations : Stations) (claims : Undelivered) (u : ℕ) (items : Lis
 told_still stations claims u items x y a (inl p) = inl (still stations claims u items x y (Told (Claim a)) p)
 told_still stations claims u items x y a (inr p) = inr (still stations claims u items y x (Told (Claim a)) p)
 
-module _ (units : List Claimant) (stations : Stations) (claims : Undelivered) (kept : Kept units stations claims) where
+module _ (units : List PlannedUnit) (stations : Stations) (claims : Undelivered) (kept : Kept units stations claims) where
   pub switched_on_keeps : (u : ℕ) → Kept units (changed stations u (started (unit_at units u))) (told_to_others (changed stations u (started (unit_at units u))) (without_lists_to u claims) u (Told (Claim (unit_at units u).preferred) ∷ []))
   switched_on_keeps u =
-      let p : Claimant = unit_at units u in
-      let new : Station = started p in
+      let p : PlannedUnit = unit_at units u in
+      let new : ClaimState = started p in
       let mid : Undelivered = without_lists_to u claims in
       let items : List Item = Told (Claim p.preferred) ∷ [] in
       record {
@@ -137,7 +137,7 @@ module _ (units : List Claimant) (stations : Stations) (claims : Undelivered) (k
         notes = kept.notes;
       }
 
-  module _ (u v : ℕ) (apart : u ≢ v) (on_v : (stations v).on ≡ true) (item : Item) (rest : List Item) (list : claims u v ≡ item ∷ rest) (says : Option Say) (new : Station) (t : Turn units v (stations v) item says new) where
+  module _ (u v : ℕ) (apart : u ≢ v) (on_v : (stations v).on ≡ true) (item : Item) (rest : List Item) (list : claims u v ≡ item ∷ rest) (says : Option Say) (new : ClaimState) (t : Turn units v (stations v) item says new) where
     mid : Undelivered
     mid = changed_pair claims u v rest
 

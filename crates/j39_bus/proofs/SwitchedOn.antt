@@ -3,8 +3,8 @@ use Rattle.std.proofs.Common.{◌≡◌, ℕ, ◌<◌, List, [], ◌∷◌, leng
 use Rattle.j39_claim.specs.declared.item.Say.{Say}
 use Rattle.j39_claim.specs.declared.item.Say.TheVariants.{Claim}
 use Rattle.j39_claim.specs.declared.item.Item.TheVariants.{Told}
-use Rattle.j39_claim.specs.ClaimRule.{Claimant, off, started}
-use Rattle.j39_claim.specs.Claiming.{Claiming}
+use Rattle.j39_claim.specs.ClaimRule.{PlannedUnit, off, started}
+use Rattle.j39_claim.specs.ClaimerValue.{ClaimerValue}
 use Rattle.j39_bus.specs.declared.letter.Letter.{Letter}
 use Rattle.j39_bus.specs.Claimants.{unit_at}
 use Rattle.j39_bus.specs.Sent.{Sent}
@@ -15,30 +15,30 @@ use Rattle.j39_bus.specs.Letters.{between, without_letters_to, nobody, station_a
 use Rattle.j39_bus.specs.Network.{claimants}
 use Rattle.j39_bus.proofs.Worlds.{any_default, claimants-set, unit_at-claimants, world, world_on}
 
-module _ (cs : List Claiming) (u : ℕ) (inside : u < length cs) (old new : Claiming) (at : old ≡ get_or cs u old) (starts : new ≡ record old { station = started old.claimant }) where
-  same_claimant : new.claimant ≡ (get_or cs u nobody).claimant
-  same_claimant = ap (λ (c : Claiming). c.claimant) (starts) ∙ ap (λ (c : Claiming). c.claimant) (at ∙ any_default cs u old nobody inside)
+module _ (cs : List ClaimerValue) (u : ℕ) (inside : u < length cs) (old new : ClaimerValue) (at : old ≡ get_or cs u old) (starts : new ≡ record old { state = started old.planned }) where
+  same_claimant : new.planned ≡ (get_or cs u nobody).planned
+  same_claimant = ap (λ (c : ClaimerValue). c.planned) (starts) ∙ ap (λ (c : ClaimerValue). c.planned) (at ∙ any_default cs u old nobody inside)
 
   pub claimants_on : claimants (set cs u new) ≡ claimants cs
   claimants_on = claimants-set cs u new same_claimant
 
-  pub on_claimant : new.claimant ≡ (get_or cs u nobody).claimant
+  pub on_claimant : new.planned ≡ (get_or cs u nobody).planned
   on_claimant = same_claimant
 
-  pub switched : (b : World) (ls left : List Letter) (fs : List Sent) → left ≡ without_letters_to u ls → (wire : Wire) → wire ≡ without_lists_to u b.wire → (say : Say) → say ≡ Claim old.claimant.preferred
+  pub switched : (b : World) (ls left : List Letter) (fs : List Sent) → left ≡ without_letters_to u ls → (wire : Wire) → wire ≡ without_lists_to u b.wire → (say : Say) → say ≡ Claim old.planned.preferred
       → (after : World) → after ≡ tell (claimants (set cs u new)) (record (world b (set cs u new) left fs) { wire = wire }) u (Told say ∷ [])
       → after ≡ switched_on (claimants cs) (world b cs ls fs) u
   switched b ls left fs left_is wire wire_is say said after after_is =
-      let planned : old.claimant ≡ unit_at (claimants cs) u = ap (λ (c : Claiming). c.claimant) (at ∙ any_default cs u old nobody inside) ∙ sym (unit_at-claimants cs u) in
-      let station : new.station ≡ started (unit_at (claimants cs) u) = ap (λ (c : Claiming). c.station) starts ∙ ap started planned in
-      let claims : say ≡ Claim (unit_at (claimants cs) u).preferred = said ∙ ap (λ (c : Claimant). Claim c.preferred) planned in
+      let planned : old.planned ≡ unit_at (claimants cs) u = ap (λ (c : ClaimerValue). c.planned) (at ∙ any_default cs u old nobody inside) ∙ sym (unit_at-claimants cs u) in
+      let state : new.state ≡ started (unit_at (claimants cs) u) = ap (λ (c : ClaimerValue). c.state) starts ∙ ap started planned in
+      let claims : say ≡ Claim (unit_at (claimants cs) u).preferred = said ∙ ap (λ (c : PlannedUnit). Claim c.preferred) planned in
       let before : world b (set cs u new) left fs ≡ record b { stations = changed (station_at cs) u (started (unit_at (claimants cs) u)); claims = without_lists_to u (between ls); frames = fs } =
-      (λ i. world b (set cs u new) (left_is i) fs) ∙ world_on b cs ls fs u new inside ∙ (λ i. record b { stations = changed (station_at cs) u (station i); claims = without_lists_to u (between ls); frames = fs }) in
+      (λ i. world b (set cs u new) (left_is i) fs) ∙ world_on b cs ls fs u new inside ∙ (λ i. record b { stations = changed (station_at cs) u (state i); claims = without_lists_to u (between ls); frames = fs }) in
       after_is ∙ (λ i. tell (claimants_on i) (record (before i) { wire = wire_is i }) u (Told (claims i) ∷ []))
 
-module _ (cs : List Claiming) (u : ℕ) (inside : u < length cs) (old new : Claiming) (at : old ≡ get_or cs u old) (stops : new ≡ record old { station = off }) where
-  pub off_claimant : new.claimant ≡ (get_or cs u nobody).claimant
-  off_claimant = ap (λ (c : Claiming). c.claimant) stops ∙ ap (λ (c : Claiming). c.claimant) (at ∙ any_default cs u old nobody inside)
+module _ (cs : List ClaimerValue) (u : ℕ) (inside : u < length cs) (old new : ClaimerValue) (at : old ≡ get_or cs u old) (stops : new ≡ record old { state = off }) where
+  pub off_claimant : new.planned ≡ (get_or cs u nobody).planned
+  off_claimant = ap (λ (c : ClaimerValue). c.planned) stops ∙ ap (λ (c : ClaimerValue). c.planned) (at ∙ any_default cs u old nobody inside)
 
   pub claimants_off : claimants (set cs u new) ≡ claimants cs
   claimants_off = claimants-set cs u new off_claimant
@@ -47,5 +47,5 @@ module _ (cs : List Claiming) (u : ℕ) (inside : u < length cs) (old new : Clai
       → record (world b (set cs u new) left fs) { wire = wire } ≡ switched_off (world b cs ls fs) u
   switched_off_world b ls left fs left_is wire wire_is =
       let before : world b (set cs u new) left fs ≡ record b { stations = changed (station_at cs) u off; claims = without_lists_to u (between ls); frames = fs } =
-      (λ i. world b (set cs u new) (left_is i) fs) ∙ world_on b cs ls fs u new inside ∙ (λ i. record b { stations = changed (station_at cs) u (stops i).station; claims = without_lists_to u (between ls); frames = fs }) in
+      (λ i. world b (set cs u new) (left_is i) fs) ∙ world_on b cs ls fs u new inside ∙ (λ i. record b { stations = changed (station_at cs) u (stops i).state; claims = without_lists_to u (between ls); frames = fs }) in
       λ i. record (before i) { wire = wire_is i }

@@ -4,7 +4,7 @@ use Rattle.std.proofs.lemmas.Bool.{eq-eqb, ne_eqb, eqb-true, cond_both, and_part
 use Rattle.std.proofs.lemmas.List.Elements.{Contains-append_left, Contains-append_right}
 use Rattle.std.specs.List.{Contains, AllByRecursion}
 use Rattle.j39_claim.specs.declared.item.Item.{Item}
-use Rattle.j39_claim.specs.ClaimRule.{Claimant}
+use Rattle.j39_claim.specs.ClaimRule.{PlannedUnit}
 use Rattle.j39_bus.specs.Claimants.{unit_at}
 use Rattle.j39_bus.specs.World.{Stations, Undelivered, hears}
 use Rattle.j39_bus.specs.ClaimSteps.{told_to_others}
@@ -27,7 +27,7 @@ module _ (stations : Stations) (claims : Undelivered) (u : ℕ) (items : List It
       let apart : eqb t u ≡ false = ne_eqb t u other in
       rw (same, on, apart) (Contains-append_right (claims u t) items x in_items)
 
-  pub said_more : (units : List Claimant) → ((s t : ℕ) → AllByRecursion (IsSaid (unit_at units s)) (claims s t)) → AllByRecursion (IsSaid (unit_at units u)) items
+  pub said_more : (units : List PlannedUnit) → ((s t : ℕ) → AllByRecursion (IsSaid (unit_at units s)) (claims s t)) → AllByRecursion (IsSaid (unit_at units u)) items
       → (s t : ℕ) → AllByRecursion (IsSaid (unit_at units s)) (told_to_others stations claims u items s t)
   said_more units old more s t = cond_both (eqb s u && hears stations u t) (claims s t ++ items) (claims s t) (AllByRecursion (IsSaid (unit_at units s)))
       (λ is. all-append (IsSaid (unit_at units s)) (claims s t) items (old s t)

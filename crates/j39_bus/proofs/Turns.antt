@@ -5,25 +5,26 @@ use Rattle.std.specs.Bool.{MatchBool}
 use Rattle.std.specs.Ordering.{nat_cmp, eq_by_cmp}
 use Rattle.std.specs.Cmp.{nat_cmp_total, unsigned_tied}
 use Rattle.std.specs.FinMap.{FinMap, get, insert, remove, get-insert, get-remove}
-use Rattle.j39_claim.specs.Pool.{is_arbitrary, in_pool}
+use Rattle.j39_id.specs.Name.{is_arbitrary}
+use Rattle.j39_id.specs.Addresses.{in_pool}
 use Rattle.j39_claim.specs.declared.item.Say.{Say}
 use Rattle.j39_claim.specs.declared.item.Say.TheVariants.{Claim, Cannot}
 use Rattle.j39_claim.specs.declared.item.Item.{Item}
 use Rattle.j39_claim.specs.declared.item.Item.TheVariants.{Told, Request}
-use Rattle.j39_claim.specs.ClaimRule.{Claimant, Station, Answers, Moves, GivesUp, IsFree, is_address, claim_of}
+use Rattle.j39_claim.specs.ClaimRule.{PlannedUnit, ClaimState, Answers, Moves, GivesUp, IsFree, holds_address, claim_of}
 use Rattle.j39_bus.specs.Claimants.{unit_at}
 use Rattle.j39_bus.proofs.CleanUnits.{IsClean, needs_pool}
 use Rattle.j39_bus.proofs.Kept.{IsOwn, IsSaid, IsHeld, AllNoted}
 use Rattle.j39_bus.proofs.Pool.{one_left}
 
 -- either it says nothing and holds what it held, which the item doesn't claim, or it claims what it holds now
-abbrev pub IsQuietTurn : Station → Item → Option Say → Station → Type 0
+abbrev pub IsQuietTurn : ClaimState → Item → Option Say → ClaimState → Type 0
 IsQuietTurn s item says new = (says ≡ None) × (new.address ≡ s.address) × ((a : ℕ) → s.address ≡ Some a → item ≢ Told (Claim a))
 
-abbrev pub IsClaimTurn : Claimant → Option Say → Station → Type 0
+abbrev pub IsClaimTurn : PlannedUnit → Option Say → ClaimState → Type 0
 IsClaimTurn p says new = (b : ℕ) × (says ≡ Some (Claim b)) × (new.address ≡ Some b) × IsOwn p b
 
-pub record Turn (units : List Claimant) (v : ℕ) (s : Station) (item : Item) (says : Option Say) (new : Station) : Type 0 where
+pub record Turn (units : List PlannedUnit) (v : ℕ) (s : ClaimState) (item : Item) (says : Option Say) (new : ClaimState) : Type 0 where
   pub on : new.on ≡ s.on
   pub notes : AllNoted units v new.notes
   pub outcome : IsQuietTurn s item says new ⊎ IsClaimTurn (unit_at units v) says new
@@ -44,7 +45,7 @@ get_removed notes k n a is =
       | false ↦ λ found. found
     ] (sym (get-remove nat_cmp_total notes k n) ∙ is)
 
-noted_more : (units : List Claimant) (u v a : ℕ) (notes : FinMap nat_cmp ℕ) → u < length units → u ≢ v → IsOwn (unit_at units u) a → AllNoted units v notes → AllNoted units v (insert notes (unit_at units u).name a)
+noted_more : (units : List PlannedUnit) (u v a : ℕ) (notes : FinMap nat_cmp ℕ) → u < length units → u ≢ v → IsOwn (unit_at units u) a → AllNoted units v notes → AllNoted units v (insert notes (unit_at units u).name a)
 noted_more units u v a notes inside other own old n b is =
     elim (get_inserted notes (unit_at units u).name a n b is) [
       | inl same ↦ record { place = u; inside = inside; other = other; name = sym same.0; own = λ fixed. sym same.1 ∙ own fixed }
@@ -52,7 +53,7 @@ noted_more units u v a notes inside other own old n b is =
     ]
 
 -- units at two places differ in NAME, and fixed ones in address
-names_differ : (units : List Claimant) → IsClean units → (u v : ℕ) → u < length units → v < length units → u ≢ v → (unit_at units u).name ≢ (unit_at units v).name
+names_differ : (units : List PlannedUnit) → IsClean units → (u v : ℕ) → u < length units → v < length units → u ≢ v → (unit_at units u).name ≢ (unit_at units v).name
 names_differ units clean u v in_u in_v other same =
     elim (cases_order u v) [
       | inl is ↦ other is
@@ -60,7 +61,7 @@ names_differ units clean u v in_u in_v other same =
       | inr (inr above) ↦ clean.names v u above in_u (sym same)
     ]
 
-addresses_differ : (units : List Claimant) → IsClean units → (u v : ℕ) → u < length units → v < length units → u ≢ v → is_arbitrary (unit_at units u).name ≡ false → is_arbitrary (unit_at units v).name ≡ false → (unit_at units u).preferred ≢ (unit_at units v).preferred
+addresses_differ : (units : List PlannedUnit) → IsClean units → (u v : ℕ) → u < length units → v < length units → u ≢ v → is_arbitrary (unit_at units u).name ≡ false → is_arbitrary (unit_at units v).name ≡ false → (unit_at units u).preferred ≢ (unit_at units v).preferred
 addresses_differ units clean u v in_u in_v other fixed_u fixed_v same =
     elim (cases_order u v) [
       | inl is ↦ other is
@@ -69,7 +70,7 @@ addresses_differ units clean u v in_u in_v other fixed_u fixed_v same =
     ]
 
 -- a unit has no note of itself
-no_own : (units : List Claimant) → IsClean units → (v : ℕ) → v < length units → (notes : FinMap nat_cmp ℕ) → AllNoted units v notes → get notes (unit_at units v).name ≡ None
+no_own : (units : List PlannedUnit) → IsClean units → (v : ℕ) → v < length units → (notes : FinMap nat_cmp ℕ) → AllNoted units v notes → get notes (unit_at units v).name ≡ None
 no_own units clean v in_v notes all =
     elim (get notes (unit_at units v).name) as (λ o. get notes (unit_at units v).name ≡ o → o ≡ None) [
       | None ↦ λ _. refl
@@ -78,7 +79,7 @@ no_own units clean v in_v notes all =
     ] refl
 
 -- a unit that may need the pool finds a free address in it
-pub free_left : (units : List Claimant) → IsClean units → (v : ℕ) → v < length units → is_arbitrary (unit_at units v).name ≡ true → (s : Station) → AllNoted units v s.notes → (b : ℕ) × IsFree s b
+pub free_left : (units : List PlannedUnit) → IsClean units → (v : ℕ) → v < length units → is_arbitrary (unit_at units v).name ≡ true → (s : ClaimState) → AllNoted units v s.notes → (b : ℕ) × IsFree s b
 free_left units clean v in_v arbitrary s all =
     let (b, ok, left) = one_left s.notes units v clean.room in_v (or_left (is_arbitrary (unit_at units v).name) (in_pool (unit_at units v).preferred) arbitrary) (no_own units clean v in_v s.notes all) in (
       b,
@@ -89,7 +90,7 @@ free_left units clean v in_v arbitrary s all =
       },
     )
   where
-    needs : (p : Claimant) (b : ℕ) → IsOwn p b → in_pool b ≡ true → needs_pool p ≡ true
+    needs : (p : PlannedUnit) (b : ℕ) → IsOwn p b → in_pool b ≡ true → needs_pool p ≡ true
     needs p b own ok =
         elim (cases_Bool (is_arbitrary p.name)) [
           | inl free ↦ or_left (is_arbitrary p.name) (in_pool p.preferred) free
@@ -100,24 +101,24 @@ free_left units clean v in_v arbitrary s all =
 fixed_below : (m n : ℕ) → m < n → n < 2 ^ 64 → is_arbitrary n ≡ false → is_arbitrary m ≡ false
 fixed_below m n below range fixed = ne_eqb (m / 2 ^ 63 % 2) 1 (λ one. eqb-false (n / 2 ^ 63 % 2) 1 fixed (omega arith))
 
-is_address-true : (o : Option ℕ) (a : ℕ) → is_address o a ≡ true → o ≡ Some a
-is_address-true None a h = absurd (true≢false (sym h))
-is_address-true (Some b) a h = ap Some (eqb-true b a h)
+holds_address-true : (o : Option ℕ) (a : ℕ) → holds_address o a ≡ true → o ≡ Some a
+holds_address-true None a h = absurd (true≢false (sym h))
+holds_address-true (Some b) a h = ap Some (eqb-true b a h)
 
-is_address-false : (o : Option ℕ) (a : ℕ) → is_address o a ≡ false → o ≢ Some a
-is_address-false None a h e = absurd (cc)
-is_address-false (Some b) a h e = eqb-false b a h (cc)
+holds_address-false : (o : Option ℕ) (a : ℕ) → holds_address o a ≡ false → o ≢ Some a
+holds_address-false None a h e = absurd (cc)
+holds_address-false (Some b) a h e = eqb-false b a h (cc)
 
-module _ (units : List Claimant) (clean : IsClean units) (u v : ℕ) (in_u : u < length units) (in_v : v < length units) (other : u ≢ v) (s : Station) (held : IsHeld (unit_at units v) s.address) (all : AllNoted units v s.notes) where
+module _ (units : List PlannedUnit) (clean : IsClean units) (u v : ℕ) (in_u : u < length units) (in_v : v < length units) (other : u ≢ v) (s : ClaimState) (held : IsHeld (unit_at units v) s.address) (all : AllNoted units v s.notes) where
   -- to lose an address is to find another
-  loses : (a : ℕ) → s.address ≡ Some a → IsOwn (unit_at units u) a → (unit_at units u).name < (unit_at units v).name → (noted : Station) → noted.on ≡ s.on → AllNoted units v noted.notes → (says : Option Say) (new : Station) → (Moves (unit_at units v) noted says new ⊎ GivesUp (unit_at units v) noted says new) → Turn units v s (Told (Claim a)) says new
+  loses : (a : ℕ) → s.address ≡ Some a → IsOwn (unit_at units u) a → (unit_at units u).name < (unit_at units v).name → (noted : ClaimState) → noted.on ≡ s.on → AllNoted units v noted.notes → (says : Option Say) (new : ClaimState) → (Moves (unit_at units v) noted says new ⊎ GivesUp (unit_at units v) noted says new) → Turn units v s (Told (Claim a)) says new
   loses a has own below noted on known says new lost =
       elim lost [
         | inl moves ↦
             let (b, arbitrary, free, said, is) = moves in
             record {
               on = ap (λ t. t.on) is ∙ on;
-              notes = subst (λ (t : Station). AllNoted units v t.notes) (sym is) known;
+              notes = subst (λ (t : ClaimState). AllNoted units v t.notes) (sym is) known;
               outcome = inr (b, said, ap (λ t. t.address) is, λ fixed. absurd (true≢false (sym arbitrary ∙ fixed)));
             }
         | inr gives_up ↦
@@ -132,19 +133,19 @@ module _ (units : List Claimant) (clean : IsClean units) (u v : ℕ) (in_u : u <
             ])
       ]
 
-  claimed : (a : ℕ) → IsOwn (unit_at units u) a → (says : Option Say) (new : Station) → Answers (unit_at units v) s (unit_at units u).name (Told (Claim a)) says new → Turn units v s (Told (Claim a)) says new
+  claimed : (a : ℕ) → IsOwn (unit_at units u) a → (says : Option Say) (new : ClaimState) → Answers (unit_at units v) s (unit_at units u).name (Told (Claim a)) says new → Turn units v s (Told (Claim a)) says new
   claimed a own says new answers =
-      let noted : Station = record s { notes = insert s.notes (unit_at units u).name a } in
+      let noted : ClaimState = record s { notes = insert s.notes (unit_at units u).name a } in
       let known : AllNoted units v noted.notes = noted_more units u v a s.notes in_u other own all in
-      elim (is_address s.address a) as (λ e. is_address s.address a ≡ e → MatchBool e
+      elim (holds_address s.address a) as (λ e. holds_address s.address a ≡ e → MatchBool e
       (MatchBool (ltb (unit_at units u).name (unit_at units v).name) (Moves (unit_at units v) noted says new ⊎ GivesUp (unit_at units v) noted says new) ((says ≡ Some (Claim a)) × (new ≡ noted)))
       ((says ≡ None) × (new ≡ noted)) → Turn units v s (Told (Claim a)) says new) [
-        | true ↦ λ has. let is = is_address-true s.address a has in
+        | true ↦ λ has. let is = holds_address-true s.address a has in
             elim (ltb (unit_at units u).name (unit_at units v).name) as (λ e. ltb (unit_at units u).name (unit_at units v).name ≡ e → MatchBool e (Moves (unit_at units v) noted says new ⊎ GivesUp (unit_at units v) noted says new) ((says ≡ Some (Claim a)) × (new ≡ noted)) → Turn units v s (Told (Claim a)) says new) [
               | true ↦ λ below lost. loses a is own (ltb-true (unit_at units u).name (unit_at units v).name below) noted refl known says new lost
               | false ↦ λ _ stays. record {
                 on = ap (λ t. t.on) stays.1;
-                notes = subst (λ (t : Station). AllNoted units v t.notes) (sym stays.1) known;
+                notes = subst (λ (t : ClaimState). AllNoted units v t.notes) (sym stays.1) known;
                 outcome = inr (
                   a,
                   stays.0,
@@ -158,23 +159,23 @@ module _ (units : List Claimant) (clean : IsClean units) (u v : ℕ) (in_u : u <
             ] refl
         | false ↦ λ not_held silent. record {
           on = ap (λ t. t.on) silent.1;
-          notes = subst (λ (t : Station). AllNoted units v t.notes) (sym silent.1) known;
+          notes = subst (λ (t : ClaimState). AllNoted units v t.notes) (sym silent.1) known;
           outcome = inl (
             silent.0,
             ap (λ t. t.address) silent.1,
             λ b is same.
-                let e : b ≡ a = sym (cc) in is_address-false s.address a not_held (is ∙ ap Some e),
+                let e : b ≡ a = sym (cc) in holds_address-false s.address a not_held (is ∙ ap Some e),
           );
         }
       ] refl answers
 
-  pub turn : (item : Item) → IsSaid (unit_at units u) item → (says : Option Say) (new : Station) → Answers (unit_at units v) s (unit_at units u).name item says new → Turn units v s item says new
+  pub turn : (item : Item) → IsSaid (unit_at units u) item → (says : Option Say) (new : ClaimState) → Answers (unit_at units v) s (unit_at units u).name item says new → Turn units v s item says new
   turn (Told (Claim a)) own says new answers = claimed a own says new answers
   turn (Told Cannot) never says new answers = absurd never
   turn Request _ says new answers =
       let (b, holds, own_b) = held in
       record {
         on = ap (λ t. t.on) answers.1;
-        notes = subst (λ (t : Station). AllNoted units v t.notes) (sym answers.1) all;
+        notes = subst (λ (t : ClaimState). AllNoted units v t.notes) (sym answers.1) all;
         outcome = inr (b, answers.0 ∙ ap (λ o. Some (claim_of o)) holds, ap (λ t. t.address) answers.1 ∙ holds, own_b);
       }

@@ -1,4 +1,4 @@
--- The steps of transfers change no station, and nothing of what claimants have told each other.
+-- The steps of transfers change no state, and nothing of what claimants have told each other.
 use Rattle.std.proofs.Common.{◌≡◌, ℕ, List, [], ◌∷◌, refl, sym, subst, Option, Some, None}
 use Rattle.j39_bus.specs.declared.wired.Wired.{Wired}
 use Rattle.j39_bus.specs.declared.wired.Wired.TheVariants as wired

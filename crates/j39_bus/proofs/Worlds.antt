@@ -3,8 +3,8 @@ use Rattle.std.proofs.Common.{◌≡◌, ℕ, zero, suc, ◌<◌, Bool, true, fa
 use Rattle.std.proofs.lemmas.Bool.{cases_eq, eq-eqb, ne_eqb}
 use Rattle.std.specs.List.{remove}
 use Rattle.j39_claim.specs.declared.item.Item.{Item}
-use Rattle.j39_claim.specs.ClaimRule.{Claimant, Station}
-use Rattle.j39_claim.specs.Claiming.{Claiming}
+use Rattle.j39_claim.specs.ClaimRule.{PlannedUnit, ClaimState}
+use Rattle.j39_claim.specs.ClaimerValue.{ClaimerValue}
 use Rattle.j39_bus.specs.declared.letter.Letter.{Letter}
 use Rattle.j39_bus.specs.Claimants.{unit_at}
 use Rattle.j39_bus.specs.Sent.{Sent, frame_of}
@@ -19,18 +19,18 @@ any_default [] i d e inside = absurd (omega arith)
 any_default (x ∷ xs) zero d e inside = refl
 any_default (x ∷ xs) (suc i) d e inside = any_default xs i d e (omega arith)
 
-pub unit_at-claimants : (cs : List Claiming) (u : ℕ) → unit_at (claimants cs) u ≡ (get_or cs u nobody).claimant
+pub unit_at-claimants : (cs : List ClaimerValue) (u : ℕ) → unit_at (claimants cs) u ≡ (get_or cs u nobody).planned
 unit_at-claimants [] u = refl
 unit_at-claimants (c ∷ cs) zero = refl
 unit_at-claimants (c ∷ cs) (suc u) = unit_at-claimants cs u
 
 -- a world with these units, letters and frames
-abbrev pub world : World → List Claiming → List Letter → List Sent → World
+abbrev pub world : World → List ClaimerValue → List Letter → List Sent → World
 world b cs ls fs = record b { stations = station_at cs; claims = between ls; frames = fs }
 
 -- after a unit has told the others
-pub world_told : (b : World) (cs : List Claiming) (ls : List Letter) (fs : List Sent) (u : ℕ) (item : Item) (name : ℕ) (held : Option ℕ)
-    → name ≡ (get_or cs u nobody).claimant.name → held ≡ (station_at cs u).address
+pub world_told : (b : World) (cs : List ClaimerValue) (ls : List Letter) (fs : List Sent) (u : ℕ) (item : Item) (name : ℕ) (held : Option ℕ)
+    → name ≡ (get_or cs u nobody).planned.name → held ≡ (station_at cs u).address
     → world b cs (ls ++ letters_to_others 0 cs u item) (fs ++ frame_of name held item ∷ []) ≡ tell (claimants cs) (world b cs ls fs) u (item ∷ [])
 world_told b cs ls fs u item name held name_is held_is = λ i. record b {
   stations = station_at cs;
@@ -39,31 +39,31 @@ world_told b cs ls fs u item name held name_is held_is = λ i. record b {
 }
   where
     same_name : name ≡ (unit_at (claimants cs) u).name
-    same_name = name_is ∙ sym (ap (λ (c : Claimant). c.name) (unit_at-claimants cs u))
+    same_name = name_is ∙ sym (ap (λ (c : PlannedUnit). c.name) (unit_at-claimants cs u))
 
--- one unit's station is another
-pub at_set : (cs : List Claiming) (v : ℕ) (c : Claiming) (x : ℕ) → v < length cs → get_or (set cs v c) x nobody ≡ cond (eqb x v) c (get_or cs x nobody)
+-- one unit's state is another
+pub at_set : (cs : List ClaimerValue) (v : ℕ) (c : ClaimerValue) (x : ℕ) → v < length cs → get_or (set cs v c) x nobody ≡ cond (eqb x v) c (get_or cs x nobody)
 at_set cs v c x inside = elim (cases_eq x v) [
   | inl same ↦ rw (same, eq-eqb v v refl, get_or-set_same)
   | inr other ↦ rw (ne_eqb x v other, get_or-set_other)
 ]
 
-pub station_set : (cs : List Claiming) (v : ℕ) (c : Claiming) (x : ℕ) → v < length cs → station_at (set cs v c) x ≡ changed (station_at cs) v c.station x
-station_set cs v c x inside = ap (λ (e : Claiming). e.station) (at_set cs v c x inside) ∙ out (eqb x v)
+pub station_set : (cs : List ClaimerValue) (v : ℕ) (c : ClaimerValue) (x : ℕ) → v < length cs → station_at (set cs v c) x ≡ changed (station_at cs) v c.state x
+station_set cs v c x inside = ap (λ (e : ClaimerValue). e.state) (at_set cs v c x inside) ∙ out (eqb x v)
   where
-    out : (b : Bool) → (cond b c (get_or cs x nobody)).station ≡ cond b c.station (get_or cs x nobody).station
+    out : (b : Bool) → (cond b c (get_or cs x nobody)).state ≡ cond b c.state (get_or cs x nobody).state
     out true = refl
     out false = refl
 
 -- a unit that has changed claims as before
-pub claimants-set : (cs : List Claiming) (v : ℕ) (c : Claiming) → c.claimant ≡ (get_or cs v nobody).claimant → claimants (set cs v c) ≡ claimants cs
+pub claimants-set : (cs : List ClaimerValue) (v : ℕ) (c : ClaimerValue) → c.planned ≡ (get_or cs v nobody).planned → claimants (set cs v c) ≡ claimants cs
 claimants-set [] v c same = refl
-claimants-set (d ∷ cs) zero c same = ap (λ (x : Claimant). x ∷ claimants cs) same
-claimants-set (d ∷ cs) (suc v) c same = ap (λ (xs : List Claimant). d.claimant ∷ xs) (claimants-set cs v c same)
+claimants-set (d ∷ cs) zero c same = ap (λ (x : PlannedUnit). x ∷ claimants cs) same
+claimants-set (d ∷ cs) (suc v) c same = ap (λ (xs : List PlannedUnit). d.planned ∷ xs) (claimants-set cs v c same)
 
 -- after a unit was switched on, and has not told yet
-pub world_on : (b : World) (cs : List Claiming) (ls : List Letter) (fs : List Sent) (u : ℕ) (c : Claiming) → u < length cs
-    → world b (set cs u c) (without_letters_to u ls) fs ≡ record b { stations = changed (station_at cs) u c.station; claims = without_lists_to u (between ls); frames = fs }
+pub world_on : (b : World) (cs : List ClaimerValue) (ls : List Letter) (fs : List Sent) (u : ℕ) (c : ClaimerValue) → u < length cs
+    → world b (set cs u c) (without_letters_to u ls) fs ≡ record b { stations = changed (station_at cs) u c.state; claims = without_lists_to u (between ls); frames = fs }
 world_on b cs ls fs u c inside = λ i. record b {
   stations = λ x. station_set cs u c x inside i;
   claims = λ s t. lists_left u ls s t i;
@@ -71,16 +71,16 @@ world_on b cs ls fs u c inside = λ i. record b {
 }
 
 -- after a unit has heard the oldest letter of another, and has not answered yet
-pub world_heard : (b : World) (cs : List Claiming) (ls : List Letter) (fs : List Sent) (u v : ℕ) (s : Station) → v < length cs → first_between u v ls < length ls
-    → world b (set cs v (record (get_or cs v nobody) { station = s })) (remove ls (first_between u v ls)) fs ≡ record b { stations = changed (station_at cs) v s; claims = changed_pair (between ls) u v (between (remove ls (first_between u v ls)) u v); frames = fs }
+pub world_heard : (b : World) (cs : List ClaimerValue) (ls : List Letter) (fs : List Sent) (u v : ℕ) (s : ClaimState) → v < length cs → first_between u v ls < length ls
+    → world b (set cs v (record (get_or cs v nobody) { state = s })) (remove ls (first_between u v ls)) fs ≡ record b { stations = changed (station_at cs) v s; claims = changed_pair (between ls) u v (between (remove ls (first_between u v ls)) u v); frames = fs }
 world_heard b cs ls fs u v s inside some = λ i. record b {
-  stations = λ x. station_set cs v (record (get_or cs v nobody) { station = s }) x inside i;
+  stations = λ x. station_set cs v (record (get_or cs v nobody) { state = s }) x inside i;
   claims = λ x y. sym (lists_after u v ls some x y) i;
   frames = fs;
 }
 
 -- to tell nothing changes nothing
-pub told_nothing : (units : List Claimant) (w : World) (u : ℕ) → tell units w u [] ≡ w
+pub told_nothing : (units : List PlannedUnit) (w : World) (u : ℕ) → tell units w u [] ≡ w
 told_nothing units w u = λ i. record w {
   claims = λ s t. either (eqb s u && ((w.stations t).on && not (eqb t u))) (w.claims s t) i;
   frames = append_nil w.frames i;
@@ -91,7 +91,7 @@ told_nothing units w u = λ i. record w {
     either false xs = refl
 
 -- to tell two items is to tell one after the other
-pub told_twice : (units : List Claimant) (w : World) (u : ℕ) (x y : Item) → tell units (tell units w u (x ∷ [])) u (y ∷ []) ≡ tell units w u (x ∷ y ∷ [])
+pub told_twice : (units : List PlannedUnit) (w : World) (u : ℕ) (x y : Item) → tell units (tell units w u (x ∷ [])) u (y ∷ []) ≡ tell units w u (x ∷ y ∷ [])
 told_twice units w u x y = λ i. record w {
   claims = λ s t. both (eqb s u && ((w.stations t).on && not (eqb t u))) (w.claims s t) i;
   frames = appended w.frames (frame_of (unit_at units u).name (w.stations u).address x) (frame_of (unit_at units u).name (w.stations u).address y) i;

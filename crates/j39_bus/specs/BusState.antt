@@ -2,7 +2,7 @@
 use Rattle.std.specs.Prelude.{ℕ, suc, List, [], ◌∷◌, map, slice_index_or, Option, Some, None}
 use Rattle.std.specs.List.{range_with_len}
 use Rattle.j39_claim.specs.declared.item.Item.{Item}
-use Rattle.j39_claim.specs.Claiming.{Claiming}
+use Rattle.j39_claim.specs.ClaimerValue.{ClaimerValue}
 use Rattle.j39_plan.specs.declared.plan.to.To.{To}
 use Rattle.j39_tp.specs.Receiver.{Receiving, fresh}
 use Rattle.j39_tp.specs.declared.receiving.manner.Manner.TheVariants.{Listening}
@@ -37,7 +37,7 @@ pub record Traffic : Type 0 where
 
 pub record BusState : Type 0 where
   -- what each unit claims as and what it is
-  pub units : List Claiming
+  pub units : List ClaimerValue
   -- of each unit to each, what is undelivered, the oldest first
   pub claims : List (List (List Item))
   pub traffic : Traffic

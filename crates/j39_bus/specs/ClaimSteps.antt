@@ -4,7 +4,7 @@ use Rattle.j39_claim.specs.declared.item.Say.{Say}
 use Rattle.j39_claim.specs.declared.item.Say.TheVariants.{Claim}
 use Rattle.j39_claim.specs.declared.item.Item.{Item}
 use Rattle.j39_claim.specs.declared.item.Item.TheVariants.{Told, Request}
-use Rattle.j39_claim.specs.ClaimRule.{Claimant, Station, Answers, claim_of, off, started}
+use Rattle.j39_claim.specs.ClaimRule.{PlannedUnit, ClaimState, Answers, claim_of, off, started}
 use Rattle.j39_bus.specs.Claimants.{unit_at}
 use Rattle.j39_bus.specs.Sent.{frame_of}
 use Rattle.j39_bus.specs.World.{World, Stations, Undelivered, changed, changed_pair, hears}
@@ -15,7 +15,7 @@ told_to_others stations claims u items s t =
     cond (nat_eq s u && hears stations u t) (claims s t ++ items) (claims s t)
 
 -- u tells all others, each item by one frame
-abbrev pub tell : List Claimant → World → ℕ → List Item → World
+abbrev pub tell : List PlannedUnit → World → ℕ → List Item → World
 tell units w u items =
     record w {
       claims = told_to_others w.stations w.claims u items;
@@ -27,7 +27,7 @@ abbrev pub without_lists_to : {X : Type 0} → ℕ → (ℕ → ℕ → List X) 
 without_lists_to u lists s t = cond (nat_eq t u) [] (lists s t)
 
 -- u is switched on with the address that it prefers, and claims it
-abbrev pub switched_on : List Claimant → World → ℕ → World
+abbrev pub switched_on : List PlannedUnit → World → ℕ → World
 switched_on units w u =
     tell units
     (record w {
@@ -48,7 +48,7 @@ switched_off w u =
     }
 
 -- u asks all others for their claims, and sends its own
-abbrev pub asked : List Claimant → World → ℕ → World
+abbrev pub asked : List PlannedUnit → World → ℕ → World
 asked units w u = tell units w u (Request ∷ Told (claim_of (w.stations u).address) ∷ [])
 
 abbrev pub answer_items : Option Say → List Item
@@ -56,15 +56,15 @@ answer_items None = []
 answer_items (Some say) = Told say ∷ []
 
 -- v has heard the oldest item of u, is what it then is, and tells its answer; the rest is still undelivered
-abbrev pub given : List Claimant → World → ℕ → ℕ → List Item → Option Say → Station → World
+abbrev pub given : List PlannedUnit → World → ℕ → ℕ → List Item → Option Say → ClaimState → World
 given units w u v rest says new =
     tell units
     (record w { stations = changed w.stations v new; claims = changed_pair w.claims u v rest })
     v (answer_items says)
 
 -- v hears the oldest of these items of u by the claim rule, with any lawful choice
-abbrev pub GivenFrom : List Claimant → World → ℕ → ℕ → List Item → World → Type 0
+abbrev pub GivenFrom : List PlannedUnit → World → ℕ → ℕ → List Item → World → Type 0
 GivenFrom units w u v [] new = ⊥
 GivenFrom units w u v (item ∷ rest) new =
-    (says : Option Say) × (s : Station) × Answers (unit_at units v) (w.stations v) (unit_at units u).name item says s
+    (says : Option Say) × (s : ClaimState) × Answers (unit_at units v) (w.stations v) (unit_at units u).name item says s
     × (new ≡ given units w u v rest says s)

@@ -1,20 +1,20 @@
 -- What the claim steps need of a plan: what each unit claims as.
 use Rattle.std.specs.Prelude.{ℕ, Bool, nat_lt, List, map, length, slice_index_or}
-use Rattle.j39_claim.specs.ClaimRule.{Claimant}
+use Rattle.j39_claim.specs.ClaimRule.{PlannedUnit}
 use Rattle.j39_plan.specs.declared.plan.Plan.{Plan}
 use Rattle.j39_plan.specs.declared.plan.unit_plan.UnitPlan.{UnitPlan}
 
 -- a unit claims as its NAME, and prefers its planned address
-abbrev pub claimant_of : UnitPlan → Claimant
+abbrev pub claimant_of : UnitPlan → PlannedUnit
 claimant_of p = record { name = p.name; preferred = p.address }
 
 -- the units in their order in the plan
-abbrev pub units_of : Plan → List Claimant
+abbrev pub units_of : Plan → List PlannedUnit
 units_of plan = map claimant_of plan.units.items
 
 -- the unit at a place
-abbrev pub unit_at : List Claimant → ℕ → Claimant
+abbrev pub unit_at : List PlannedUnit → ℕ → PlannedUnit
 unit_at units u = slice_index_or units u (record { name = 0; preferred = 0 })
 
-abbrev pub is_place : List Claimant → ℕ → Bool
+abbrev pub is_place : List PlannedUnit → ℕ → Bool
 is_place units u = nat_lt u (length units)

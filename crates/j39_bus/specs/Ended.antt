@@ -1,7 +1,7 @@
 -- What is seen of a run that ended.
 use Rattle.std.specs.Prelude.{◌≡◌, ◌↔◌, ℕ, Bool, IsTrue, cond, List, [], ◌∷◌, length, map, take, Option, Some, None}
 use Rattle.std.specs.List.{range_with_len, slice_get}
-use Rattle.j39_claim.specs.ClaimRule.{Station}
+use Rattle.j39_claim.specs.ClaimRule.{ClaimState}
 use Rattle.j39_plan.specs.declared.plan.Plan.{Plan}
 use Rattle.j39_plan.specs.declared.steps.Step.{Step}
 use Rattle.j39_bus.specs.declared.step_error.StepError.{StepError}
@@ -19,7 +19,7 @@ holding None = NoAddress
 holding (Some a) = At a
 
 -- what is seen of a unit
-abbrev pub unit_state : Station → UnitState
+abbrev pub unit_state : ClaimState → UnitState
 unit_state s = cond s.on (holding s.address) Off
 
 -- what is seen of a world

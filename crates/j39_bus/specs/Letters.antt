@@ -4,7 +4,7 @@ use Rattle.std.specs.List.{list_all, filter}
 use Rattle.j39_claim.specs.declared.item.Item.{Item}
 use Rattle.j39_claim.specs.declared.item.Item.TheVariants.{Told, Request}
 use Rattle.j39_claim.specs.ClaimRule.{off}
-use Rattle.j39_claim.specs.Claiming.{Claiming}
+use Rattle.j39_claim.specs.ClaimerValue.{ClaimerValue}
 use Rattle.j39_plan.specs.declared.plan.unit_plan.UnitPlan.{UnitPlan}
 use Rattle.j39_bus.specs.Claimants.{claimant_of}
 use Rattle.j39_bus.specs.declared.letter.Letter.{Letter}
@@ -28,21 +28,21 @@ abbrev pub without_letters_to : ℕ → List Letter → List Letter
 without_letters_to u ls = filter (λ l. not (nat_eq l.to u)) ls
 
 -- what stands at a place with no unit
-abbrev pub nobody : Claiming
-nobody = record { claimant = record { name = 0; preferred = 0 }; station = off }
+abbrev pub nobody : ClaimerValue
+nobody = record { planned = record { name = 0; preferred = 0 }; state = off }
 
 -- a planned unit before any step
-abbrev pub unstarted : UnitPlan → Claiming
-unstarted p = record { claimant = claimant_of p; station = off }
+abbrev pub unstarted : UnitPlan → ClaimerValue
+unstarted p = record { planned = claimant_of p; state = off }
 
-abbrev pub station_at : List Claiming → Stations
-station_at cs u = (slice_index_or cs u nobody).station
+abbrev pub station_at : List ClaimerValue → Stations
+station_at cs u = (slice_index_or cs u nobody).state
 
 -- a letter to each of these units that is on and is another, the first at place k
-abbrev pub letters_to_others : ℕ → List Claiming → ℕ → Item → List Letter
+abbrev pub letters_to_others : ℕ → List ClaimerValue → ℕ → Item → List Letter
 letters_to_others k [] from item = []
 letters_to_others k (c ∷ cs) from item =
-    cond (not (nat_eq k from) && c.station.on)
+    cond (not (nat_eq k from) && c.state.on)
     (record { from = from; to = k; item = item } ∷ letters_to_others (k + 1) cs from item)
     (letters_to_others (k + 1) cs from item)
 

@@ -4,8 +4,8 @@ use Rattle.std.specs.List.{list_all, list_any}
 use Rattle.std.specs.FinMap.{get}
 use Rattle.j39_claim.specs.declared.item.Say.{Say}
 use Rattle.j39_claim.specs.declared.item.Item.{Item}
-use Rattle.j39_claim.specs.ClaimRule.{Claimant, Station, Answers}
-use Rattle.j39_claim.specs.Claiming.{Claiming}
+use Rattle.j39_claim.specs.ClaimRule.{PlannedUnit, ClaimState, Answers}
+use Rattle.j39_claim.specs.ClaimerValue.{ClaimerValue}
 use Rattle.j39_tp.specs.inside.Gathered.{Gathers}
 use Rattle.j39_tp.specs.Receiver.{Receiving}
 use Rattle.j39_tp.specs.declared.packet.Packet.{Packet}
@@ -25,8 +25,8 @@ use Rattle.j39_bus.specs.Letters.{nobody, station_at, between, is_inside}
 use Rattle.j39_bus.specs.BusState.{BusState, Transfer, table_of, pair_in, session_at, receiving_at}
 use Rattle.j39_bus.specs.Traffic.{route_of, reported_of, traffic_of, lists_of, values_of, IsTraffic}
 
-abbrev pub claimants : List Claiming → List Claimant
-claimants cs = map (λ c. c.claimant) cs
+abbrev pub claimants : List ClaimerValue → List PlannedUnit
+claimants cs = map (λ c. c.planned) cs
 
 -- what a network does not keep: what each unit took of each, and what each began for each
 pub record Histories : Type 0 where
@@ -77,14 +77,14 @@ state_of net = record {
   frames = map sent_of net.frames.items;
 }
 
-abbrev pub names_of : List Claiming → List ℕ
-names_of cs = map (λ c. c.claimant.name) cs
+abbrev pub names_of : List ClaimerValue → List ℕ
+names_of cs = map (λ c. c.planned.name) cs
 
 -- one of the units has this NAME
-abbrev pub is_named : List Claiming → ℕ → Bool
+abbrev pub is_named : List ClaimerValue → ℕ → Bool
 is_named cs n = list_any (λ m. nat_eq n m) (names_of cs)
 
-pub record IsWellFormed (cs : List Claiming) (ls : List Letter) : Type 0 where
+pub record IsWellFormed (cs : List ClaimerValue) (ls : List Letter) : Type 0 where
   -- few enough units for a note of each
   pub few : length cs ≤ 128
   -- letters go from unit to unit
@@ -128,10 +128,10 @@ abbrev pub IsAllowed : Network → Step → Type 0
 IsAllowed net step = (h : Histories) → refusal_in net h step ≡ None
 
 -- unit v of these has heard the item under the NAME, and is what it then is
-abbrev pub HasAnswered : List Claiming → ℕ → ℕ → Item → Option Say → List Claiming → Type 0
+abbrev pub HasAnswered : List ClaimerValue → ℕ → ℕ → Item → Option Say → List ClaimerValue → Type 0
 HasAnswered cs v name item says new =
-    (s : Station) × (new ≡ slice_set cs v (record (slice_index_or cs v nobody) { station = s }))
-    × Answers (slice_index_or cs v nobody).claimant (station_at cs v) name item says s
+    (s : ClaimState) × (new ≡ slice_set cs v (record (slice_index_or cs v nobody) { state = s }))
+    × Answers (slice_index_or cs v nobody).planned (station_at cs v) name item says s
 
 -- nothing that a contract sees has changed
 pub record IsSameNetwork (old new : Network) : Type 0 where

@@ -5,7 +5,7 @@ use Rattle.j39_signal.specs.Places.{LaysOut}
 use Rattle.j39_signal.specs.Refusals.{HasLayoutFault}
 use Rattle.j39_signal.specs.declared.layout_error.LayoutError.{LayoutError}
 use Rattle.j39_signal.specs.declared.layout_error.LayoutError.TheVariants.{Memory as NoMemory}
-use Rattle.j39_claim.specs.ClaimRule.{Claimant}
+use Rattle.j39_claim.specs.ClaimRule.{PlannedUnit}
 use Rattle.j39_plan.specs.Places.{ValueAt}
 use Rattle.j39_plan.specs.declared.plan.Plan.{Plan}
 use Rattle.j39_plan.specs.declared.plan.group_plan.GroupPlan.{GroupPlan}
@@ -16,16 +16,16 @@ use Rattle.j39_bus.specs.declared.bus_error.BusError.TheVariants.{ChooserCount, 
 use Rattle.j39_bus.specs.Claimants.{units_of, unit_at}
 
 -- the units at these places have one NAME
-pub record HaveOneName (units : List Claimant) (i j : ℕ) : Type 0 where
+pub record HaveOneName (units : List PlannedUnit) (i j : ℕ) : Type 0 where
   pub below : i < j
   pub inside : j < length units
   pub same : (unit_at units i).name ≡ (unit_at units j).name
 
-abbrev pub AreNamesDistinct : List Claimant → Type 0
+abbrev pub AreNamesDistinct : List PlannedUnit → Type 0
 AreNamesDistinct units = (i j : ℕ) → ¬ HaveOneName units i j
 
 -- the places of the first two units of one NAME: the first place is the least, then the second
-pub record IsFirstOfOneName (units : List Claimant) (i j : ℕ) : Type 0 where
+pub record IsFirstOfOneName (units : List PlannedUnit) (i j : ℕ) : Type 0 where
   pub here : HaveOneName units i j
   pub no_earlier : (k l : ℕ) → k < i → ¬ HaveOneName units k l
   pub no_nearer : (l : ℕ) → l < j → ¬ HaveOneName units i l

@@ -5,7 +5,7 @@ use Rattle.j39_tp.specs.declared.sending.outcome.Outcome.TheVariants.{Acked}
 use Rattle.j39_tp.specs.declared.sending.stage.Stage.TheVariants.{Resting}
 use Rattle.j39_plan.specs.declared.plan.to.To.TheVariants.{One}
 use Rattle.j39_bus.specs.Transfers.{Outgoing, Begun, Reported}
-use Rattle.j39_claim.specs.Pool.{is_arbitrary}
+use Rattle.j39_id.specs.Name.{is_arbitrary}
 use Rattle.j39_claim.specs.declared.item.Say.TheVariants.{Claim, Cannot}
 use Rattle.j39_claim.specs.declared.item.Item.TheVariants.{Told}
 use Rattle.j39_plan.specs.declared.plan.Plan.{Plan}

@@ -17,7 +17,7 @@ use Rattle.j39_bus.specs.Run.{refusal, cause_of, takes_memory, RunsThrough}
 -- the bus stands for this world of the plan
 pub record Stands (b : BusState) (plan : Plan) (w : World) : Type 0 where
   -- its units claim as they are planned
-  pub planned : map (λ c. c.claimant) b.units ≡ units_of plan
+  pub planned : map (λ c. c.planned) b.units ≡ units_of plan
   -- they are what the units of the world are
   pub stations : w.stations ≡ station_at b.units
   pub claims : w.claims ≡ undelivered b

@@ -1,7 +1,7 @@
 -- The worlds of a bus. Units are named by place from 0.
 use Rattle.std.specs.Prelude.{ℕ, Bool, cond, not, ◌&&◌, nat_eq, List, [], None}
 use Rattle.j39_claim.specs.declared.item.Item.{Item}
-use Rattle.j39_claim.specs.ClaimRule.{Station, off}
+use Rattle.j39_claim.specs.ClaimRule.{ClaimState, off}
 use Rattle.j39_tp.specs.declared.packet.Packet.{Packet}
 use Rattle.j39_tp.specs.declared.receiving.progress.Progress.TheVariants.{Closed}
 use Rattle.j39_bus.specs.Sent.{Sent}
@@ -9,7 +9,7 @@ use Rattle.j39_bus.specs.Transfers.{Sessions, Wire, Receivers, Begun, Reported}
 
 -- what each unit is
 abbrev pub Stations : Type 0
-Stations = ℕ → Station
+Stations = ℕ → ClaimState
 
 -- what the first unit sent and the second has not heard yet, the oldest first
 abbrev pub Undelivered : Type 0

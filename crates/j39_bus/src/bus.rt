@@ -28,11 +28,11 @@ impl Model for Bus {
     ghost use Rattle.std.specs.Prelude.{length};
     ghost use Rattle.j39_bus.specs.BusState.{BusState};
     ghost use Rattle.std.specs.Coded.{codes};
-    ghost use Rattle.j39_claim.specs.Claiming.{coded_claiming};
+    ghost use Rattle.j39_claim.specs.ClaimerValue.{coded_claimer};
 
     ghost Value = { BusState };
 
-    ghost coded = { Prim.hlevel (codes, coded_claiming) };
+    ghost coded = { Prim.hlevel (codes, coded_claimer) };
 
     ghost use Rattle.j39_bus.specs.Network.{state_of, IsBus};
 

@@ -1,7 +1,7 @@
 //! What a unit answers to what it hears.
 ghost use Rattle.std.specs.Prelude.{◌≡◌, ◌<◌, true, length};
 ghost use Rattle.j39_claim.specs.ClaimRule.{say_of};
-ghost use Rattle.j39_claim.specs.Claiming.{can_note};
+ghost use Rattle.j39_claim.specs.ClaimerValue.{can_note};
 ghost use Rattle.j39_bus.specs.Letters.{station_at};
 ghost use Rattle.j39_bus.specs.Network.{HasAnswered};
 

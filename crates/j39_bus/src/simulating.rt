@@ -14,7 +14,7 @@ use std::alloc::{AllocError, Global};
 
 /// What the unit is.
 fn state_of(claimer: &Claimer) -> UnitState
-    ensures { result ≡ unit_state claimer.now.station }
+    ensures { result ≡ unit_state claimer.now.state }
 {
     if !claimer.is_started() {
         return UnitState::Off;
@@ -27,7 +27,7 @@ fn state_of(claimer: &Claimer) -> UnitState
 
 /// What each unit is.
 fn states_of(alloc: Global, claimers: &[Claimer]) -> Result<Vec<UnitState>, AllocError>
-    ensures { IfOk result (λ states. states.items ≡ map (λ c. unit_state c.station) claimers.now) }
+    ensures { IfOk result (λ states. states.items ≡ map (λ c. unit_state c.state) claimers.now) }
 {
     let mut states = Vec::with_capacity(alloc, claimers.len())?;
     for claimer in claimers {

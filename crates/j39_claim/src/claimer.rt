@@ -61,7 +61,7 @@ impl Claimer {
 
     /// Ends: it is not started, holds no address and has no notes.
     pub fn stop(&mut self)
-        ensures { self.new ≡ record self.old { station = off } }
+        ensures { self.new ≡ record self.old { state = off } }
     {
         self.started = false;
         self.address = None;

@@ -2,7 +2,7 @@ use Rattle.std.proofs.Common.{◌≡◌, ℕ, true, ◌<◌, List, length, map, 
 use Rattle.std.proofs.Math.ListN.{length-set}
 use Rattle.std.specs.List.{remove, list_all}
 use Rattle.j39_claim.specs.declared.item.Item.TheVariants.{Told}
-use Rattle.j39_claim.specs.Claiming.{Claiming, can_note}
+use Rattle.j39_claim.specs.ClaimerValue.{ClaimerValue, can_note}
 use Rattle.j39_bus.specs.declared.letter.Letter.{Letter}
 use Rattle.j39_bus.specs.Letters.{first_between, is_inside, nobody, station_at}
 use Rattle.j39_bus.specs.Network.{world_of, claimants, is_named, IsWellFormed}
@@ -17,27 +17,27 @@ use Rattle.j39_bus.proofs.network.Network.deliver.Goals as goal
 
 pub hear-answer-requires-clause-room : goal.hear-answer-requires-clause-room
 hear-answer-requires-clause-room g c =
-    let cs : List Claiming = c.args.self.now.claimers.items in
-    let name : c.name-name.result ≡ (get_or cs c.args.from nobody).claimant.name =
-    c.name-name.ensures ∙ ap (λ (k : Claiming). k.claimant.name) (c.index.ensures ∙ any_default cs c.args.from c.index.result.now nobody c.requires.from) in
+    let cs : List ClaimerValue = c.args.self.now.claimers.items in
+    let name : c.name-name.result ≡ (get_or cs c.args.from nobody).planned.name =
+    c.name-name.ensures ∙ ap (λ (k : ClaimerValue). k.planned.name) (c.index.ensures ∙ any_default cs c.args.from c.index.result.now nobody c.requires.from) in
     ap (can_note (station_at cs c.args.to).notes) name ∙ can_note_all cs c.args.self.now.letters.items c.args.from c.args.to c.requires.network.claims c.requires.from
 
 pub returns-in-Some-clause-network : goal.returns-in-Some-clause-network
 returns-in-Some-clause-network g c =
-    let cs : List Claiming = c.args.self.now.claimers.items in
+    let cs : List ClaimerValue = c.args.self.now.claimers.items in
     let ls : List Letter = c.args.self.now.letters.items in
-    let new : List Claiming = c.hear-answer.new.claimers.items in
+    let new : List ClaimerValue = c.hear-answer.new.claimers.items in
     let left : List Letter = c.remove-letter.new.self.items in
-    let name : c.name-name.result ≡ (get_or cs c.args.from nobody).claimant.name =
-    c.name-name.ensures ∙ ap (λ (k : Claiming). k.claimant.name) (c.index.ensures ∙ any_default cs c.args.from c.index.result.now nobody c.requires.from) in
+    let name : c.name-name.result ≡ (get_or cs c.args.from nobody).planned.name =
+    c.name-name.ensures ∙ ap (λ (k : ClaimerValue). k.planned.name) (c.index.ensures ∙ any_default cs c.args.from c.index.result.now nobody c.requires.from) in
     let is_one : is_named cs c.name-name.result ≡ true = ap (is_named cs) name ∙ named cs c.args.from c.requires.from in
     let all_inside : list_all (is_inside (length cs)) left ≡ true = ap (list_all (is_inside (length cs))) c.remove-letter.ensures.items ∙ inside-remove (length cs) ls c.first_between-place.result c.requires.network.claims.inside in
     let well : IsWellFormed new left = well_heard cs ls c.requires.network.claims c.args.to c.requires.to c.name-name.result is_one c.remove-letter.result.item (Some c.in-Some.say) new c.in-Some.ensures.rule left all_inside in
-    let place : c.args.to < length new = omega (arith, ap length c.in-Some.ensures.rule.1, length-set cs c.args.to (record (get_or cs c.args.to nobody) { station = c.in-Some.ensures.rule.0 }), c.requires.to) in
+    let place : c.args.to < length new = omega (arith, ap length c.in-Some.ensures.rule.1, length-set cs c.args.to (record (get_or cs c.args.to nobody) { state = c.in-Some.ensures.rule.0 }), c.requires.to) in
     record {
       claims = well_told new left well c.args.to place (Told c.in-Some.say) c.tell.new.self.claimers.items c.tell.new.self.letters.items (ap (λ v. v.items) c.tell.ensures.claimers) c.tell.ensures.letters;
       traffic = same_traffic c.args.self.now c.tell.new.self
-          (ap length (ap (λ v. v.items) c.tell.ensures.claimers) ∙ ap length c.in-Some.ensures.rule.1 ∙ length-set cs c.args.to (record (get_or cs c.args.to nobody) { station = c.in-Some.ensures.rule.0 }))
+          (ap length (ap (λ v. v.items) c.tell.ensures.claimers) ∙ ap length c.in-Some.ensures.rule.1 ∙ length-set cs c.args.to (record (get_or cs c.args.to nobody) { state = c.in-Some.ensures.rule.0 }))
           c.tell.ensures.traffic c.requires.network.traffic;
     }
 
@@ -52,11 +52,11 @@ returns-in-Some-clause-plan g c = record {
 
 pub returns-in-Some-clause-world : goal.returns-in-Some-clause-world
 returns-in-Some-clause-world g c = λ h.
-    let cs : List Claiming = c.args.self.now.claimers.items in
+    let cs : List ClaimerValue = c.args.self.now.claimers.items in
     let ls : List Letter = c.args.self.now.letters.items in
     let place : c.first_between-place.result ≡ first_between c.args.from c.args.to ls = c.first_between-place.ensures.place ∙ ap (first_between c.args.from c.args.to) c.as_slice.ensures.value in
-    let name : c.name-name.result ≡ (get_or cs c.args.from nobody).claimant.name =
-    c.name-name.ensures ∙ ap (λ (k : Claiming). k.claimant.name) (c.index.ensures ∙ any_default cs c.args.from c.index.result.now nobody c.requires.from) in
+    let name : c.name-name.result ≡ (get_or cs c.args.from nobody).planned.name =
+    c.name-name.ensures ∙ ap (λ (k : ClaimerValue). k.planned.name) (c.index.ensures ∙ any_default cs c.args.from c.index.result.now nobody c.requires.from) in
     delivered (world_of h c.args.self.now) cs ls (map sent_of c.args.self.now.frames.items) c.args.from c.args.to c.requires.to c.requires.some
     c.remove-letter.result (c.remove-letter.ensures.value ∙ ap (λ (k : ℕ). get_or ls k c.remove-letter.result) place) c.name-name.result name
     (Some c.in-Some.say) c.hear-answer.new.claimers.items c.in-Some.ensures.rule c.remove-letter.new.self.items (c.remove-letter.ensures.items ∙ ap (remove ls) place)
@@ -64,17 +64,17 @@ returns-in-Some-clause-world g c = λ h.
 
 pub returns-in-None-clause-network : goal.returns-in-None-clause-network
 returns-in-None-clause-network g c =
-    let cs : List Claiming = c.args.self.now.claimers.items in
+    let cs : List ClaimerValue = c.args.self.now.claimers.items in
     let ls : List Letter = c.args.self.now.letters.items in
     let left : List Letter = c.remove-letter.new.self.items in
-    let name : c.name-name.result ≡ (get_or cs c.args.from nobody).claimant.name =
-    c.name-name.ensures ∙ ap (λ (k : Claiming). k.claimant.name) (c.index.ensures ∙ any_default cs c.args.from c.index.result.now nobody c.requires.from) in
+    let name : c.name-name.result ≡ (get_or cs c.args.from nobody).planned.name =
+    c.name-name.ensures ∙ ap (λ (k : ClaimerValue). k.planned.name) (c.index.ensures ∙ any_default cs c.args.from c.index.result.now nobody c.requires.from) in
     let is_one : is_named cs c.name-name.result ≡ true = ap (is_named cs) name ∙ named cs c.args.from c.requires.from in
     let all_inside : list_all (is_inside (length cs)) left ≡ true = ap (list_all (is_inside (length cs))) c.remove-letter.ensures.items ∙ inside-remove (length cs) ls c.first_between-place.result c.requires.network.claims.inside in
     record {
       claims = well_heard cs ls c.requires.network.claims c.args.to c.requires.to c.name-name.result is_one c.remove-letter.result.item None c.hear-answer.new.claimers.items c.in-None.ensures.rule left all_inside;
       traffic = subst (λ (n : ℕ). IsTrafficOf n c.args.self.now.traffic)
-          (sym (ap length c.in-None.ensures.rule.1 ∙ length-set cs c.args.to (record (get_or cs c.args.to nobody) { station = c.in-None.ensures.rule.0 })))
+          (sym (ap length c.in-None.ensures.rule.1 ∙ length-set cs c.args.to (record (get_or cs c.args.to nobody) { state = c.in-None.ensures.rule.0 })))
           c.requires.network.traffic;
     }
 
@@ -87,11 +87,11 @@ returns-in-None-clause-plan g c = record {
 
 pub returns-in-None-clause-world : goal.returns-in-None-clause-world
 returns-in-None-clause-world g c = λ h.
-    let cs : List Claiming = c.args.self.now.claimers.items in
+    let cs : List ClaimerValue = c.args.self.now.claimers.items in
     let ls : List Letter = c.args.self.now.letters.items in
     let place : c.first_between-place.result ≡ first_between c.args.from c.args.to ls = c.first_between-place.ensures.place ∙ ap (first_between c.args.from c.args.to) c.as_slice.ensures.value in
-    let name : c.name-name.result ≡ (get_or cs c.args.from nobody).claimant.name =
-    c.name-name.ensures ∙ ap (λ (k : Claiming). k.claimant.name) (c.index.ensures ∙ any_default cs c.args.from c.index.result.now nobody c.requires.from) in
+    let name : c.name-name.result ≡ (get_or cs c.args.from nobody).planned.name =
+    c.name-name.ensures ∙ ap (λ (k : ClaimerValue). k.planned.name) (c.index.ensures ∙ any_default cs c.args.from c.index.result.now nobody c.requires.from) in
     delivered (world_of h c.args.self.now) cs ls (map sent_of c.args.self.now.frames.items) c.args.from c.args.to c.requires.to c.requires.some
     c.remove-letter.result (c.remove-letter.ensures.value ∙ ap (λ (k : ℕ). get_or ls k c.remove-letter.result) place) c.name-name.result name
     None c.hear-answer.new.claimers.items c.in-None.ensures.rule c.remove-letter.new.self.items (c.remove-letter.ensures.items ∙ ap (remove ls) place)

@@ -1,7 +1,7 @@
 use Rattle.std.proofs.Common.{◌<◌, List, length, map, set, refl, ap, ◌∙◌, arith}
 use Rattle.std.proofs.Math.ListN.{length-set}
 use Rattle.std.specs.Vec.{with_item}
-use Rattle.j39_claim.specs.Claiming.{Claiming}
+use Rattle.j39_claim.specs.ClaimerValue.{ClaimerValue}
 use Rattle.j39_plan.specs.declared.steps.Step.TheVariants.{Down}
 use Rattle.j39_bus.specs.declared.network.Network.{Network}
 use Rattle.j39_bus.specs.BusState.{pair_in}
@@ -27,7 +27,7 @@ index_mut-requires c =
 
 pub returns-clause-network : goal.returns-clause-network
 returns-clause-network c =
-    let cs : List Claiming = c.args.self.now.claimers.items in
+    let cs : List ClaimerValue = c.args.self.now.claimers.items in
     let inside : c.args.unit < length cs = unit_inside _ _ _ (c.requires.allowed nowhere) in
     let new : Network = record c.args.self.now {
       claimers = with_item c.args.self.now.claimers c.args.unit c.stop.new.self;
@@ -36,7 +36,7 @@ returns-clause-network c =
     } in
     let same = off_claimant cs c.args.unit inside c.index_mut.result.now c.stop.new.self c.index_mut.ensures.value c.stop.ensures in
     record {
-      claims = well_on cs c.args.self.now.letters.items c.requires.network.claims c.args.unit inside c.stop.new.self same (ap (λ (k : Claiming). k.station.notes) c.stop.ensures)
+      claims = well_on cs c.args.self.now.letters.items c.requires.network.claims c.args.unit inside c.stop.new.self same (ap (λ (k : ClaimerValue). k.state.notes) c.stop.ensures)
           c.drop_letters_to.new.letters.items c.drop_letters_to.ensures.items;
       traffic = switched_traffic c.args.self.now new (length-set cs c.args.unit c.stop.new.self) c.clear_to.new.self refl
           c.requires.network.traffic c.args.unit c.clear_to.ensures.table c.clear_to.ensures.lists;

@@ -1,6 +1,6 @@
 use Rattle.std.proofs.Common.{◌≡◌, ◌<◌, ◌≤◌, false, true, List, length, nat_lt, sym, ap, ◌∙◌, arith}
 use Rattle.std.proofs.lemmas.Bool.{le-ltb, lt-ltb}
-use Rattle.j39_claim.specs.Claiming.{Claiming}
+use Rattle.j39_claim.specs.ClaimerValue.{ClaimerValue}
 use Rattle.j39_claim.specs.declared.item.Item.{Item}
 use Rattle.j39_claim.specs.declared.item.Item.TheVariants.{Request}
 use Rattle.j39_bus.specs.declared.letter.Letter.{Letter}
@@ -11,19 +11,19 @@ use Rattle.j39_bus.proofs.network.Network.refusal_of_give.Goals as goal
 
 pub returns-then-from-len : goal.returns-then-from-len
 returns-then-from-len c = λ h.
-    let cs : List Claiming = c.args.self.now.claimers.items in
+    let cs : List ClaimerValue = c.args.self.now.claimers.items in
     let past : length cs ≤ c.args.from = omega (arith, c.len.ensures, c.if-from-len.true, c.args.self.now.claimers.ok.0) in
     rw (le-ltb c.args.from (length cs) past)
 
 pub returns-in-Some : goal.returns-in-Some
 returns-in-Some c = λ h.
-    let cs : List Claiming = c.args.self.now.claimers.items in
+    let cs : List ClaimerValue = c.args.self.now.claimers.items in
     let inside : c.args.from < length cs = omega (arith, c.len.ensures, c.if-from-len.false, c.args.self.now.claimers.ok.0) in
     rw (lt-ltb c.args.from (length cs) inside) (earlier _ _ _ _ _ _ c.in-Some.ensures)
 
 pub returns-then-first_between-len : goal.returns-then-first_between-len
 returns-then-first_between-len c = λ h.
-    let cs : List Claiming = c.args.self.now.claimers.items in
+    let cs : List ClaimerValue = c.args.self.now.claimers.items in
     let ls : List Letter = c.args.self.now.letters.items in
     let inside : c.args.from < length cs = omega (arith, c.len.ensures, c.if-from-len.false, c.args.self.now.claimers.ok.0) in
     let place : c.first_between.result ≡ first_between c.args.from c.args.to ls = c.first_between.ensures.place ∙ ap (first_between c.args.from c.args.to) c.as_slice.ensures.value in
@@ -33,7 +33,7 @@ returns-then-first_between-len c = λ h.
 
 pub returns : goal.returns
 returns c = λ h.
-    let cs : List Claiming = c.args.self.now.claimers.items in
+    let cs : List ClaimerValue = c.args.self.now.claimers.items in
     let ls : List Letter = c.args.self.now.letters.items in
     let inside : c.args.from < length cs = omega (arith, c.len.ensures, c.if-from-len.false, c.args.self.now.claimers.ok.0) in
     let place : c.first_between.result ≡ first_between c.args.from c.args.to ls = c.first_between.ensures.place ∙ ap (first_between c.args.from c.args.to) c.as_slice.ensures.value in

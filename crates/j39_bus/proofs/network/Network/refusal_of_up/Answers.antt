@@ -1,7 +1,7 @@
 use Rattle.std.proofs.Common.{◌≡◌, ◌<◌, false, true, not, is_some, List, length, refl, sym, ap, ◌∙◌, arith}
 use Rattle.std.proofs.lemmas.Bool.{lt-ltb}
 use Rattle.std.specs.List.{list_any}
-use Rattle.j39_claim.specs.Claiming.{Claiming}
+use Rattle.j39_claim.specs.ClaimerValue.{ClaimerValue}
 use Rattle.j39_bus.specs.Letters.{station_at}
 use Rattle.j39_bus.specs.Network.{world_of}
 use Rattle.j39_bus.specs.Run.{is_no_transfer_open}
@@ -12,7 +12,7 @@ use Rattle.j39_bus.proofs.network.Network.refusal_of_up.Goals as goal
 pub returns-then-is_transfer_open : goal.returns-then-is_transfer_open
 returns-then-is_transfer_open c = λ h.
     let net = c.args.self.now in
-    let cs : List Claiming = net.claimers.items in
+    let cs : List ClaimerValue = net.claimers.items in
     let inside : c.args.unit < length cs = omega (arith, c.len.ensures, net.claimers.ok.0) in
     let on : (station_at cs c.args.unit).on ≡ false = station_is cs c.args.unit c.index.result.now inside c.index.ensures ∙ sym c.is_started.ensures ∙ c.if-is_started.false in
     let idle : is_no_transfer_open (length cs) (world_of h net) ≡ false =
@@ -22,7 +22,7 @@ returns-then-is_transfer_open c = λ h.
 pub returns : goal.returns
 returns c = λ h.
     let net = c.args.self.now in
-    let cs : List Claiming = net.claimers.items in
+    let cs : List ClaimerValue = net.claimers.items in
     let inside : c.args.unit < length cs = omega (arith, c.len.ensures, net.claimers.ok.0) in
     let on : (station_at cs c.args.unit).on ≡ false = station_is cs c.args.unit c.index.result.now inside c.index.ensures ∙ sym c.is_started.ensures ∙ c.if-is_started.false in
     let idle : is_no_transfer_open (length cs) (world_of h net) ≡ true =

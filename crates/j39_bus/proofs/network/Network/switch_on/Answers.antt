@@ -1,7 +1,7 @@
 use Rattle.std.proofs.Common.{◌<◌, List, length, map, set, ap, ◌∙◌, arith}
 use Rattle.std.proofs.Math.ListN.{length-set}
 use Rattle.j39_claim.specs.declared.item.Item.TheVariants.{Told}
-use Rattle.j39_claim.specs.Claiming.{Claiming}
+use Rattle.j39_claim.specs.ClaimerValue.{ClaimerValue}
 use Rattle.j39_bus.specs.declared.letter.Letter.{Letter}
 use Rattle.j39_bus.specs.Sent.{sent_of}
 use Rattle.j39_bus.proofs.Sendings.{switched_traffic}
@@ -14,13 +14,13 @@ use Rattle.j39_bus.proofs.network.Network.switch_on.Goals as goal
 
 pub returns-clause-network : goal.returns-clause-network
 returns-clause-network c =
-    let cs : List Claiming = c.args.self.now.claimers.items in
+    let cs : List ClaimerValue = c.args.self.now.claimers.items in
     let ls : List Letter = c.args.self.now.letters.items in
-    let old : Claiming = c.index_mut.result.now in
-    let new : Claiming = c.start-say.new.self in
+    let old : ClaimerValue = c.index_mut.result.now in
+    let new : ClaimerValue = c.start-say.new.self in
     let left : List Letter = c.drop_letters_to.new.letters.items in
     let same = on_claimant cs c.args.unit c.requires.place old new c.index_mut.ensures.value c.start-say.ensures.started in
-    let well = well_on cs ls c.requires.network.claims c.args.unit c.requires.place new same (ap (λ (k : Claiming). k.station.notes) c.start-say.ensures.started) left c.drop_letters_to.ensures.items in
+    let well = well_on cs ls c.requires.network.claims c.args.unit c.requires.place new same (ap (λ (k : ClaimerValue). k.state.notes) c.start-say.ensures.started) left c.drop_letters_to.ensures.items in
     let place : c.args.unit < length (set cs c.args.unit new) = omega (arith, length-set cs c.args.unit new, c.requires.place) in
     record {
       claims = well_told (set cs c.args.unit new) left well c.args.unit place (Told c.start-say.result) c.tell.new.self.claimers.items c.tell.new.self.letters.items
@@ -33,8 +33,8 @@ returns-clause-network c =
 pub returns-clause-plan : goal.returns-clause-plan
 returns-clause-plan c = record {
   claimants =
-      let cs : List Claiming = c.args.self.now.claimers.items in
-      ap (λ v. map (λ (k : Claiming). k.claimant) v.items) c.tell.ensures.claimers
+      let cs : List ClaimerValue = c.args.self.now.claimers.items in
+      ap (λ v. map (λ (k : ClaimerValue). k.planned) v.items) c.tell.ensures.claimers
       ∙ claimants_on cs c.args.unit c.requires.place c.index_mut.result.now c.start-say.new.self c.index_mut.ensures.value c.start-say.ensures.started;
   routes = ap (λ t. t.routes.items) c.tell.ensures.traffic;
   windows = ap (λ t. t.windows.items) c.tell.ensures.traffic;
