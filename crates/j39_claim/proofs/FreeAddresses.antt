@@ -35,14 +35,14 @@ one_found p k (suc n) some =
 pooled : (b : ℕ) → 128 ≤ b → b < 128 + 120 → in_pool b ≡ true
 pooled b low high = and_from (leb 128 b) (leb b 247) (le-leb 128 b low) (le-leb b 247 (omega arith))
 
-lowest_free_in : (taken : FinSet nat_cmp) → 0 < free_count taken → IsFreeIn taken (unwrap_or (lowest_free taken) 128)
+pub lowest_free_in : (taken : FinSet nat_cmp) → 0 < free_count taken → IsFreeIn taken (unwrap_or (lowest_free taken) 128)
 unfolding free_count lowest_free
 lowest_free_in taken some =
     let (b, is) = one_found (is_free taken) 128 120 some in
     let (low, high, free) = found (is_free taken) 128 120 b is in
     rw is (record { pool = pooled b low high; free = not-true (contains taken b) free })
 
-next_free_in : (before : ℕ) (taken : FinSet nat_cmp) → 0 < free_count taken → IsFreeIn taken (unwrap_or (next_free before taken) 128)
+pub next_free_in : (before : ℕ) (taken : FinSet nat_cmp) → 0 < free_count taken → IsFreeIn taken (unwrap_or (next_free before taken) 128)
 unfolding free_above
 next_free_in before taken some = by (free_above before taken) refl
   where
