@@ -1,5 +1,6 @@
 """Where the answers of `check` belong."""
 
+import json
 import os
 import re
 import subprocess
@@ -8,7 +9,7 @@ import unittest
 
 import program
 import where
-from tests.support import TOOLS, InFolder, example, examples, run, shown_refusals, text_of
+from tests.support import TOOLS, TOP, InFolder, example, examples, run, shown_refusals, text_of
 
 UNIT = '[[unit]]\nlabel = "{}"\naddress = {}\nname = {{ identity = {} }}\n'
 
@@ -139,6 +140,16 @@ class Where(InFolder):
         )
         said = f"j39plan can't be run: {self.path('j39plan')}: No such file or directory\n"
         self.assertEqual((ended.returncode, ended.stdout, ended.stderr), (69, "", said))
+
+    def test_the_pattern_for_editors(self):
+        """What docs/TOOLS.md gives VS Code finds file, line and text of each answer with a place, and no other."""
+        task = json.loads(re.search(r"```json\n(.*?)```", text_of(os.path.join(TOP, "docs", "TOOLS.md")), re.DOTALL).group(1))
+        pattern = task["tasks"][0]["problemMatcher"]["pattern"]["regexp"]
+        plan = example("findings/several.toml")
+        *findings, count = run("where.py", plan)[1].splitlines()
+        self.assertIsNone(re.match(pattern, count))
+        for line in findings:
+            self.assertEqual(re.match(pattern, line).group(1), plan)
 
     def test_a_missing_file(self):
         status, answer, said = run("where.py", self.path("none.toml"))
