@@ -1,15 +1,15 @@
 -- Sets of addresses as words of 64 bits.
-use Rattle.std.proofs.Common.{◌≡◌, ◌≢◌, ℕ, bit_and, bit_or, zero, suc, ◌+◌, ◌-◌, ◌*◌, ◌/◌, ◌%◌, ◌^◌, ◌<◌, ◌≤◌, Bool, true, false, cond, not, ◌&&◌, ◌||◌, eqb, List, ◌∷◌, length, get_or, set, replicate, min, refl, sym, ap, ◌∙◌, arith, get_or-set_other, get_or-set_same, inl, inr, ◌⊎◌}
+use Rattle.std.proofs.Common.{◌≡◌, ◌≢◌, ℕ, bit_and, bit_or, zero, suc, ◌+◌, ◌-◌, ◌*◌, ◌/◌, ◌%◌, ◌^◌, ◌<◌, ◌≤◌, Bool, true, false, cond, not, ◌&&◌, ◌||◌, eqb, List, [], ◌∷◌, length, get_or, set, replicate, min, max, refl, sym, ap, ◌∙◌, arith, get_or-set_other, get_or-set_same, inl, inr, ◌⊎◌}
 use Rattle.std.proofs.lemmas.Bool.{cases_eq, cases_lt, eq-eqb, ne_eqb}
 use Rattle.std.proofs.lemmas.List.{get_or_past}
 use Rattle.std.proofs.Math.ListN.{length-set}
 use Rattle.std.proofs.lemmas.Nat.{and_le_r}
-use Rattle.std.proofs.lemmas.Nat.Bits.{bit_at-lt, bit_at-zero, bit_at_and, bit_at_not, bit_at_ones, bit_at_set_same, bit_at_set_other, bit_at_clear_same, bit_at_clear_other, shr_and_one}
+use Rattle.std.proofs.lemmas.Nat.Bits.{bit_at-lt, bit_at-zero, bit_at_and, bit_at_or, bit_at_not, bit_at_ones, bit_at_set_same, bit_at_set_other, bit_at_clear_same, bit_at_clear_other, shr_and_one}
 use Rattle.std.specs.List.{filter, list_any, range_with_len}
 use Rattle.std.specs.Int.{bit_at, bit_not, from_bool, w64}
 use Rattle.std.specs.Ordering.{nat_cmp}
 use Rattle.std.specs.Cmp.{nat_cmp_total, unsigned_tied}
-use Rattle.std.specs.FinSet.{empty, contains, insert, remove, same_set, contains-empty, contains-from_list_nat, contains-insert, contains-remove, nat_cmp-IsAntisymmetric}
+use Rattle.std.specs.FinSet.{empty, contains, insert, remove, same_set, contains-empty, contains-from_list_nat, contains-insert, contains-remove, contains-union, union, nat_cmp-IsAntisymmetric}
 use Rattle.j39_claim.specs.AddressSets.{is_free}
 use Rattle.j39_claim.specs.inside.Words.{has_bit, set_of, ArePassing}
 
@@ -139,3 +139,37 @@ free_bits words four fits fits' = record {
   where
     lesser : (d : ℕ) → d < 2 → min d 1 ≡ d
     lesser d small = omega arith
+
+-- the bits of two sets
+abbrev words_or : List ℕ → List ℕ → List ℕ
+words_or ws vs =
+    bit_or (get_or ws 0 0) (get_or vs 0 0) ∷ bit_or (get_or ws 1 0) (get_or vs 1 0) ∷ bit_or (get_or ws 2 0) (get_or vs 2 0) ∷ bit_or (get_or ws 3 0) (get_or vs 3 0) ∷ []
+
+word_or : (ws vs : List ℕ) (k : ℕ) → length ws ≡ 4 → length vs ≡ 4 → get_or (words_or ws vs) k 0 ≡ bit_or (get_or ws k 0) (get_or vs k 0)
+word_or ws vs zero four four' = refl
+word_or ws vs (suc zero) four four' = refl
+word_or ws vs (suc (suc zero)) four four' = refl
+word_or ws vs (suc (suc (suc zero))) four four' = refl
+word_or ws vs (suc (suc (suc (suc k)))) four four' =
+    let past : get_or ws (suc (suc (suc (suc k)))) 0 ≡ 0 = get_or_past ws (suc (suc (suc (suc k)))) 0 (omega arith) in
+    let past' : get_or vs (suc (suc (suc (suc k)))) 0 ≡ 0 = get_or_past vs (suc (suc (suc (suc k)))) 0 (omega arith) in
+    sym (λ i. bit_or (past i) (past' i))
+
+either_is : (d e : ℕ) → d < 2 → e < 2 → eqb (max d e) 1 ≡ (eqb d 1 || eqb e 1)
+either_is zero zero small small' = refl
+either_is zero (suc zero) small small' = refl
+either_is (suc zero) zero small small' = refl
+either_is (suc zero) (suc zero) small small' = refl
+either_is (suc (suc d)) e small small' = absurd (omega arith)
+either_is d (suc (suc e)) small small' = absurd (omega arith)
+
+pub either_bit : (ws vs : List ℕ) → length ws ≡ 4 → length vs ≡ 4 → set_of (words_or ws vs) ≡ union (set_of ws) (set_of vs)
+either_bit ws vs four four' = same_set nat_cmp_total nat_cmp-IsAntisymmetric _ _ (λ q.
+    contains_bit (words_or ws vs) q refl ∙ each q
+    ∙ sym (contains-union nat_cmp_total (set_of ws) (set_of vs) q ∙ (λ i. contains_bit ws q four i || contains_bit vs q four' i)))
+  where
+    each : (q : ℕ) → has_bit (words_or ws vs) q ≡ (has_bit ws q || has_bit vs q)
+    each q =
+        ap (λ w. eqb (bit_at w (q % 64)) 1) (word_or ws vs (q / 64) four four')
+        ∙ ap (λ d. eqb d 1) (bit_at_or (get_or ws (q / 64) 0) (get_or vs (q / 64) 0) (q % 64))
+        ∙ either_is (bit_at (get_or ws (q / 64) 0) (q % 64)) (bit_at (get_or vs (q / 64) 0) (q % 64)) (bit_at-lt (get_or ws (q / 64) 0) (q % 64)) (bit_at-lt (get_or vs (q / 64) 0) (q % 64))

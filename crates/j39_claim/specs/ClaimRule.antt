@@ -3,6 +3,7 @@
 use Rattle.std.specs.Prelude.{◌≡◌, ◌≢◌, ℕ, Bool, true, false, ◌⊎◌, nat_eq, nat_lt, Option, Some, None, MatchBool, if◌then◌else◌}
 use Rattle.std.specs.Ordering.{nat_cmp}
 use Rattle.std.specs.FinMap.{FinMap, empty, get, insert, remove}
+use Rattle.std.specs.FinSet.{FinSet, contains}
 use Rattle.j39_claim.specs.declared.item.Say.{Say}
 use Rattle.j39_claim.specs.declared.item.Say.TheVariants.{Claim, Cannot}
 use Rattle.j39_claim.specs.declared.item.Item.{Item}
@@ -10,10 +11,11 @@ use Rattle.j39_claim.specs.declared.item.Item.TheVariants.{Told, Request}
 use Rattle.j39_id.specs.Name.{is_arbitrary}
 use Rattle.j39_id.specs.Addresses.{is_address, in_pool}
 
--- what is planned of a unit: its NAME, and the address that it prefers
+-- what is planned of a unit: its NAME, the address that it prefers, and the addresses that no unit may choose
 pub record PlannedUnit : Type 0 where
   pub name : ℕ
   pub preferred : ℕ
+  pub kept : FinSet nat_cmp
 
 -- the state of a unit: whether it is on, the address that it holds, and the address that it last heard from each NAME
 pub record ClaimState : Type 0 where
@@ -38,20 +40,21 @@ abbrev pub holds_address : Option ℕ → ℕ → Bool
 holds_address (Some b) a = nat_eq b a
 holds_address None a = false
 
--- a unit may move to b: an address of the pool that no note of it has
-pub record IsFree (s : ClaimState) (b : ℕ) : Type 0 where
+-- a unit may move to b: an address of the pool that no note of it has and that is not kept
+pub record IsFree (c : PlannedUnit) (s : ClaimState) (b : ℕ) : Type 0 where
   pub pool : in_pool b ≡ true
   pub unnoted : (n : ℕ) → get s.notes n ≢ Some b
+  pub unkept : contains c.kept b ≡ false
 
 -- an arbitrary unit moves to any free address and claims it
 abbrev pub Moves : PlannedUnit → ClaimState → Option Say → ClaimState → Type 0
 Moves c s says new =
-    (b : ℕ) × (is_arbitrary c.name ≡ true) × IsFree s b × (says ≡ Some (Claim b)) × (new ≡ record s { address = Some b })
+    (b : ℕ) × (is_arbitrary c.name ≡ true) × IsFree c s b × (says ≡ Some (Claim b)) × (new ≡ record s { address = Some b })
 
 -- a fixed unit, or one with no free address left, holds none and says so
 abbrev pub GivesUp : PlannedUnit → ClaimState → Option Say → ClaimState → Type 0
 GivesUp c s says new =
-    (is_arbitrary c.name ≡ true → (b : ℕ) → ¬ IsFree s b) × (says ≡ Some Cannot) × (new ≡ record s { address = None })
+    (is_arbitrary c.name ≡ true → (b : ℕ) → ¬ IsFree c s b) × (says ≡ Some Cannot) × (new ≡ record s { address = None })
 
 -- what a unit says that hears what NAME n says of itself, and what it is then: a claim is noted first, the smaller NAME keeps
 -- an address, and a NAME that cannot claim is no longer noted

@@ -2,6 +2,8 @@
 use Rattle.std.specs.Prelude.{ℕ, Bool, ◌||◌, nat_lt, Option, is_some, refl}
 use Rattle.std.specs.Ordering.{nat_cmp}
 use Rattle.std.specs.FinMap.{FinMap, get, len, code}
+use Rattle.std.specs.FinSet as set
+use Rattle.std.specs.FinSet.{FinSet}
 use Rattle.std.specs.Coded.{Coded, code_by, coded×, coded_ℕ, coded_bool, coded_option}
 use Rattle.j39_claim.specs.ClaimRule.{PlannedUnit, ClaimState}
 
@@ -14,7 +16,7 @@ abbrev pub can_note : FinMap nat_cmp ℕ → ℕ → Bool
 can_note notes n = is_some (get notes n) || nat_lt (len notes) 128
 
 abbrev pub coded_planned_unit : Coded PlannedUnit
-coded_planned_unit = code_by (ℕ × ℕ) (coded× coded_ℕ coded_ℕ) (λ c. (c.name, c.preferred)) (λ p. record { name = p.0; preferred = p.1 }) (λ _. refl)
+coded_planned_unit = code_by (ℕ × (ℕ × FinSet nat_cmp)) (coded× coded_ℕ (coded× coded_ℕ (set.code coded_ℕ))) (λ c. (c.name, (c.preferred, c.kept))) (λ p. record { name = p.0; preferred = p.1.0; kept = p.1.1 }) (λ _. refl)
 
 abbrev pub coded_claim_state : Coded ClaimState
 coded_claim_state = code_by (Bool × (Option ℕ × FinMap nat_cmp ℕ)) (coded× coded_bool (coded× (coded_option coded_ℕ) (code coded_ℕ coded_ℕ))) (λ s. (s.on, (s.address, s.notes))) (λ p. record { on = p.0; address = p.1.0; notes = p.1.1 }) (λ _. refl)

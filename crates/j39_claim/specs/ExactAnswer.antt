@@ -2,7 +2,7 @@
 use Rattle.std.specs.Prelude.{ℕ, ◌<◌, ◌&&◌, nat_lt, Option, Some, None, IfSome, if◌then◌else◌}
 use Rattle.std.specs.Ordering.{nat_cmp}
 use Rattle.std.specs.FinMap.{FinMap, insert, remove, values}
-use Rattle.std.specs.FinSet.{FinSet, from_list}
+use Rattle.std.specs.FinSet.{FinSet, from_list, union}
 use Rattle.j39_claim.specs.declared.item.Say.{Say}
 use Rattle.j39_claim.specs.declared.item.Say.TheVariants.{Claim, Cannot}
 use Rattle.j39_id.specs.Name.{is_arbitrary}
@@ -21,6 +21,10 @@ IsLawful pick = (name lost : ℕ) (taken : FinSet nat_cmp) → 0 < free_count ta
 abbrev pub noted_addresses : FinMap nat_cmp ℕ → FinSet nat_cmp
 noted_addresses notes = from_list (values notes)
 
+-- what is taken for a unit: the addresses that are noted, and those that are kept
+abbrev pub taken_for : PlannedUnit → FinMap nat_cmp ℕ → FinSet nat_cmp
+taken_for c notes = union (noted_addresses notes) c.kept
+
 -- where a unit moves that loses an address
 abbrev pub moved_to : Pick → ℕ → ℕ → FinSet nat_cmp → Option ℕ
 moved_to pick name lost taken =
@@ -34,7 +38,7 @@ IsFreeMove pick name lost taken = IfSome (moved_to pick name lost taken) (IsFree
 abbrev pub address_after : Pick → PlannedUnit → ClaimState → ℕ → ℕ → Option ℕ
 address_after pick c s n a =
     if holds_address s.address a && nat_lt n c.name
-    then moved_to pick c.name a (noted_addresses (insert s.notes n a))
+    then moved_to pick c.name a (taken_for c (insert s.notes n a))
     else s.address
 
 -- it answers where it held that address

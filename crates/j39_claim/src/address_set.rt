@@ -36,6 +36,25 @@ impl AddressSet {
         AddressSet { words: [0; 4] }
     }
 
+    /// The same set again.
+    pub fn copy(&self) -> Self
+        ensures { result ≡ self.now }
+    {
+        AddressSet { words: self.words }
+    }
+
+    /// The addresses of this set and of another.
+    #[tactic(auto, using(crate::proofs::WordSets::either_bit))]
+    pub(crate) fn union(&self, other: &AddressSet) -> Self
+        ensures { result ≡ set.union self.now other.now }
+    {
+        let [a, b, c, d] = self.words;
+        let [e, f, g, h] = other.words;
+        AddressSet {
+            words: [a | e, b | f, c | g, d | h],
+        }
+    }
+
     /// Whether the address is in the set.
     #[tactic(auto, using(crate::proofs::WordSets::bit_read))]
     pub fn has(&self, address: Address) -> bool

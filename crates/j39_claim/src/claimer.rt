@@ -1,6 +1,6 @@
 //! A unit that claims an address.
 ghost use Rattle.std.specs.Prelude.{◌≡◌, true, false, Some, None, IfSome};
-ghost use Rattle.std.specs.FinMap as map;
+ghost use Rattle.std.specs.FinSet as set;
 ghost use Rattle.j39_claim.specs.AddressSets.{IsFreeIn};
 ghost use Rattle.j39_claim.specs.ClaimRule.{Hears, started, off, claim_of, say_of};
 ghost use Rattle.j39_claim.specs.ClaimerValue.{can_note};
@@ -16,6 +16,7 @@ use std::marker::Model;
 pub struct Claimer {
     name: Name,
     preferred: Address,
+    kept: AddressSet,
     started: bool,
     address: Option<Address>,
     notes: Notes,
@@ -29,7 +30,7 @@ impl Model for Claimer {
 
     ghost coded = { coded_claimer };
 
-    ghost view = { λ a. record { planned = record { name = a.name; preferred = a.preferred }; state = record { on = a.started; address = a.address; notes = a.notes } } };
+    ghost view = { λ a. record { planned = record { name = a.name; preferred = a.preferred; kept = a.kept }; state = record { on = a.started; address = a.address; notes = a.notes } } };
 
     ghost invariant = { λ a. a.started ≡ false → a.address ≡ None };
 }
@@ -37,11 +38,19 @@ impl Model for Claimer {
 impl Claimer {
     /// A unit that is not started. It holds no address and has no notes.
     pub fn new(name: Name, preferred: Address) -> Self
-        ensures { result ≡ record { planned = record { name = name; preferred = preferred }; state = off } }
+        ensures { result ≡ record { planned = record { name = name; preferred = preferred; kept = set.empty }; state = off } }
+    {
+        Claimer::with_kept(name, preferred, AddressSet::new())
+    }
+
+    /// The same, of a unit that never moves to one of the kept addresses.
+    pub fn with_kept(name: Name, preferred: Address, kept: AddressSet) -> Self
+        ensures { result ≡ record { planned = record { name = name; preferred = preferred; kept = kept }; state = off } }
     {
         Claimer {
             name,
             preferred,
+            kept,
             started: false,
             address: None,
             notes: Notes::new(),
@@ -53,9 +62,9 @@ impl Claimer {
         ensures said { result ≡ Say.Claim self.old.planned.preferred }
         ensures started { self.new ≡ record self.old { state = started self.old.planned } }
     {
+        self.stop();
         self.started = true;
         self.address = Some(self.preferred);
-        self.notes = Notes::new();
         Say::Claim(self.preferred)
     }
 
@@ -124,7 +133,8 @@ impl Claimer {
             return None;
         }
         if name < self.name {
-            self.address = moved_to(self.name, claimed, self.notes.addresses(), chooser);
+            let taken = self.notes.addresses().union(&self.kept);
+            self.address = moved_to(self.name, claimed, &taken, chooser);
         }
         Some(claim_of(self.address))
     }

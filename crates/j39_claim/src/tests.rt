@@ -39,6 +39,28 @@ fn moves_upward_from_the_address_that_it_loses(rt: HostRuntime) -> Result<(), Fa
     Ok(())
 }
 
+// What a unit at 130 answers that hears 130 of a smaller NAME, where 128 and 131 are kept.
+fn answer_with_kept(
+    rt: &impl std::process::Abort,
+    chooser: &dyn Choose,
+) -> Result<Option<Say>, Fail> {
+    let mut kept = AddressSet::new();
+    kept.insert(address(128)?);
+    kept.insert(address(131)?);
+    let mut unit = Claimer::with_kept(arbitrary(1), address(130)?, kept.copy());
+    assert!(rt; unit.start() == Say::Claim(address(130)?));
+    let name = Name::from_bits(3);
+    assert!(rt; unit.can_note(name));
+    Ok(unit.hear_claim(name, 130, chooser))
+}
+
+#[test]
+fn moves_to_no_kept_address(rt: HostRuntime) -> Result<(), Fail> {
+    assert!(rt; answer_with_kept(&rt, &Lowest)? == Some(Say::Claim(address(129)?)));
+    assert!(rt; answer_with_kept(&rt, &Upward)? == Some(Say::Claim(address(132)?)));
+    Ok(())
+}
+
 #[test]
 fn upward_goes_round_from_247_to_128(rt: HostRuntime) -> Result<(), Fail> {
     let mut taken = AddressSet::new();
@@ -86,6 +108,8 @@ fn a_fixed_unit_that_loses_its_address_holds_none(rt: HostRuntime) -> Result<(),
     assert!(rt; unit.can_note(Name::from_bits(1)));
     assert!(rt; unit.hear_claim(Name::from_bits(1), 5, &Lowest) == Some(Say::Cannot));
     assert!(rt; unit.address().is_none());
+    unit.stop();
+    assert!(rt; !unit.is_started());
     Ok(())
 }
 

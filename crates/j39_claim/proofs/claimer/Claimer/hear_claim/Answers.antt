@@ -1,7 +1,8 @@
 use Rattle.std.proofs.Common.{rules, ◌≡◌, ◌<◌, Some, ap, ◌∙◌}
 use Rattle.std.specs.FinMap.{insert}
+use Rattle.std.specs.FinSet.{union}
 use Rattle.j39_claim.specs.ClaimRule.{ClaimState, say_of}
-use Rattle.j39_claim.specs.ExactAnswer.{Pick, noted_addresses, said_after, state_after}
+use Rattle.j39_claim.specs.ExactAnswer.{Pick, taken_for, said_after, state_after}
 use Rattle.j39_claim.proofs.Hearing.{heard, same_move}
 use Rattle.j39_claim.proofs.claimer.Claimer.hear_claim.Goals as goal
 use Rattle.j39_claim.proofs.claimer.Claimer.hear_claim.Goals.{then-lt, else-lt}
@@ -16,7 +17,9 @@ returns-clause-rule g c =
     heard picks c.args.self.now.planned c.args.self.now.state c.args.name c.args.address (Some c.claim_of.result) new inside said left
     (λ smaller. elim c.if-lt.branch [
       | then-lt w ↦ same_move picks _ _ _ _ _ _ (λ i. (c.self.view_is i).planned.name) c.in-Some.ensures.value
-          (w.addresses.ensures ∙ ap noted_addresses (c.note.ensures ∙ (λ i. insert (c.self.view_is i).state.notes c.args.name (c.in-Some.ensures.value i))))
+          (w.union-taken.ensures ∙ (λ i. union (w.addresses.ensures i) c.self.inside.kept)
+          ∙ (λ i. taken_for (c.self.view_is i).planned (c.note.ensures i))
+          ∙ ap (taken_for c.args.self.now.planned) (λ i. insert (c.self.view_is i).state.notes c.args.name (c.in-Some.ensures.value i)))
           w.moved_to-self-inside.ensures.free
       | else-lt w ↦ search rules
     ])
