@@ -3,6 +3,8 @@ use Rattle.std.proofs.Common.{◌≡◌, ◌≢◌, ℕ, zero, suc, ◌^◌, ◌
 use Rattle.std.proofs.lemmas.Bool.{cases_lt}
 use Rattle.std.proofs.lemmas.List.Sums.{sum_by-cons}
 use Rattle.std.specs.List.{count_by, slice_get}
+use Rattle.std.specs.Ordering.{nat_cmp}
+use Rattle.std.specs.FinSet.{contains, contains-empty}
 use Rattle.j39_claim.specs.ClaimRule.{PlannedUnit}
 use Rattle.j39_id.specs.Name.{is_arbitrary}
 use Rattle.j39_id.specs.Addresses.{in_pool}
@@ -25,6 +27,8 @@ pub record IsClean (units : List PlannedUnit) : Type 0 where
   pub fixed : (i j : ℕ) → i < j → j < length units → is_arbitrary (unit_at units i).name ≡ false → is_arbitrary (unit_at units j).name ≡ false → (unit_at units i).preferred ≢ (unit_at units j).preferred
   -- 128..247 has an address for each unit that may hold one there
   pub room : count_by needs_pool units ≤ 120
+  -- no address is kept
+  pub unkept : (i b : ℕ) → i < length units → contains (unit_at units i).kept b ≡ false
 
 -- a place of a unit has its plan
 placed : (ps : List UnitPlan) (i : ℕ) → i < length (map claimant_of ps) → (p : UnitPlan) × (slice_get ps i ≡ Some p) × (unit_at (map claimant_of ps) i ≡ claimant_of p)
@@ -66,4 +70,7 @@ clean_units plan clean = record {
     | inl too_many ↦ absurd (clean (TooFewAddresses (needed_addresses plan.units.items)) (refl, too_many))
     | inr few ↦ omega (arith, count plan.units.items)
   ];
+  unkept = λ i b inside.
+      let (p, is, at) = placed plan.units.items i inside in
+      ap (λ (c : PlannedUnit). contains c.kept b) at ∙ contains-empty nat_cmp b;
 }

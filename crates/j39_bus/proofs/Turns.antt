@@ -79,7 +79,7 @@ no_own units clean v in_v notes all =
     ] refl
 
 -- a unit that may need the pool finds a free address in it
-pub free_left : (units : List PlannedUnit) → IsClean units → (v : ℕ) → v < length units → is_arbitrary (unit_at units v).name ≡ true → (s : ClaimState) → AllNoted units v s.notes → (b : ℕ) × IsFree s b
+pub free_left : (units : List PlannedUnit) → IsClean units → (v : ℕ) → v < length units → is_arbitrary (unit_at units v).name ≡ true → (s : ClaimState) → AllNoted units v s.notes → (b : ℕ) × IsFree (unit_at units v) s b
 free_left units clean v in_v arbitrary s all =
     let (b, ok, left) = one_left s.notes units v clean.room in_v (or_left (is_arbitrary (unit_at units v).name) (in_pool (unit_at units v).preferred) arbitrary) (no_own units clean v in_v s.notes all) in (
       b,
@@ -87,6 +87,7 @@ free_left units clean v in_v arbitrary s all =
         pool = ok;
         unnoted = λ n is. let known = all n b is in
             left known.place known.inside (needs (unit_at units known.place) b known.own ok) (ap (λ m. get s.notes m) known.name ∙ is);
+        unkept = clean.unkept v b in_v;
       },
     )
   where

@@ -1,12 +1,13 @@
 -- What the claim steps need of a plan: what each unit claims as.
 use Rattle.std.specs.Prelude.{ℕ, Bool, nat_lt, List, map, length, slice_index_or}
+use Rattle.std.specs.FinSet.{empty}
 use Rattle.j39_claim.specs.ClaimRule.{PlannedUnit}
 use Rattle.j39_plan.specs.declared.plan.Plan.{Plan}
 use Rattle.j39_plan.specs.declared.plan.unit_plan.UnitPlan.{UnitPlan}
 
 -- a unit claims as its NAME, and prefers its planned address
 abbrev pub claimant_of : UnitPlan → PlannedUnit
-claimant_of p = record { name = p.name; preferred = p.address }
+claimant_of p = record { name = p.name; preferred = p.address; kept = empty }
 
 -- the units in their order in the plan
 abbrev pub units_of : Plan → List PlannedUnit
@@ -14,7 +15,7 @@ units_of plan = map claimant_of plan.units.items
 
 -- the unit at a place
 abbrev pub unit_at : List PlannedUnit → ℕ → PlannedUnit
-unit_at units u = slice_index_or units u (record { name = 0; preferred = 0 })
+unit_at units u = slice_index_or units u (record { name = 0; preferred = 0; kept = empty })
 
 abbrev pub is_place : List PlannedUnit → ℕ → Bool
 is_place units u = nat_lt u (length units)

@@ -3,6 +3,7 @@ use Rattle.std.specs.Prelude.{ℕ, suc, ◌+◌, Bool, true, false, cond, not, �
 use Rattle.std.specs.List.{list_all, filter}
 use Rattle.j39_claim.specs.declared.item.Item.{Item}
 use Rattle.j39_claim.specs.declared.item.Item.TheVariants.{Told, Request}
+use Rattle.std.specs.FinSet.{empty}
 use Rattle.j39_claim.specs.ClaimRule.{off}
 use Rattle.j39_claim.specs.ClaimerValue.{ClaimerValue}
 use Rattle.j39_plan.specs.declared.plan.unit_plan.UnitPlan.{UnitPlan}
@@ -29,7 +30,7 @@ without_letters_to u ls = filter (λ l. not (nat_eq l.to u)) ls
 
 -- what stands at a place with no unit
 abbrev pub nobody : ClaimerValue
-nobody = record { planned = record { name = 0; preferred = 0 }; state = off }
+nobody = record { planned = record { name = 0; preferred = 0; kept = empty }; state = off }
 
 -- a planned unit before any step
 abbrev pub unstarted : UnitPlan → ClaimerValue
