@@ -11,7 +11,7 @@ use Rattle.j39_id.specs.FrameLine.{is_separator}
 use Rattle.j39_plan.specs.declared.plan.Plan.{Plan}
 use Rattle.j39_plan.specs.declared.plan.unit_plan.UnitPlan.{UnitPlan}
 use Rattle.j39_plan.specs.declared.steps.Step.{Step}
-use Rattle.j39_plan.specs.declared.steps.Step.TheVariants.{Up, Give, Ask, Begin, Emit, Take, Lose, LateSender, LateReceiver, Rest}
+use Rattle.j39_plan.specs.declared.steps.Step.TheVariants.{Up, Down, Give, Ask, Begin, Emit, Take, Lose, LateSender, LateReceiver, Rest}
 use Rattle.j39_stream.specs.LineFeed.{is_line_feed}
 use Rattle.j39_schedule.specs.declared.line_fault.LineFault.{LineFault}
 use Rattle.j39_schedule.specs.declared.line_fault.LineFault.TheVariants.{LongLine, UnknownWord, WordCount, UnknownLabel, BadNumber, BadHex}
@@ -59,6 +59,7 @@ read_as order = Ok (option_map as_ordered order)
 -- the words that orders begin with
 abbrev pub word_text : OrderWord → List ℕ
 word_text words.Up = codes "up"
+word_text words.Down = codes "down"
 word_text words.Give = codes "give"
 word_text words.Ask = codes "ask"
 word_text words.Begin = codes "begin"
@@ -70,7 +71,7 @@ word_text words.Rest = codes "rest"
 
 abbrev pub order_words : List OrderWord
 order_words =
-    words.Up ∷ words.Give ∷ words.Ask ∷ words.Begin ∷ words.Emit ∷ words.Take ∷ words.Lose ∷ words.Late ∷ words.Rest ∷ []
+    words.Up ∷ words.Down ∷ words.Give ∷ words.Ask ∷ words.Begin ∷ words.Emit ∷ words.Take ∷ words.Lose ∷ words.Late ∷ words.Rest ∷ []
 
 -- the unit of a label, by its place
 unfoldable pub unit_named : Plan → List ℕ → Option ℕ
@@ -107,6 +108,7 @@ with_flow plan number hex = option_map_or (λ n. with_bytes (flow_place plan n) 
 -- what each word orders with the values that it takes
 abbrev pub order_of : Plan → OrderWord → List (List ℕ) → Reading
 order_of plan words.Up (a ∷ []) = with_unit plan a Up
+order_of plan words.Down (a ∷ []) = with_unit plan a Down
 order_of plan words.Give (a ∷ b ∷ []) = with_units plan a b Give
 order_of plan words.Ask (a ∷ []) = with_unit plan a Ask
 order_of plan words.Begin (n ∷ hex ∷ []) = with_flow plan n hex

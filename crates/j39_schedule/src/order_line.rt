@@ -47,6 +47,7 @@ fn order_of(
 {
     match (word, values_of(values)) {
         (OrderWord::Up, Values::One(a)) => Ok(Some(Step::Up(unit(plan, a)?))),
+        (OrderWord::Down, Values::One(a)) => Ok(Some(Step::Down(unit(plan, a)?))),
         (OrderWord::Give, Values::Two(a, b)) => Ok(Some(Step::Give(
             unit(plan, a)?,
             unit(plan, b)?,

@@ -8,6 +8,7 @@ ghost use Rattle.j39_schedule.specs.Schedule.{order_words, word_text};
 #[derive(Clone, Copy, Debug, PartialEq, Eq)]
 pub enum OrderWord {
     Up,
+    Down,
     Give,
     Ask,
     Begin,
@@ -18,8 +19,9 @@ pub enum OrderWord {
     Rest,
 }
 
-const ORDER_WORDS: [OrderWord; 9] = [
+const ORDER_WORDS: [OrderWord; 10] = [
     OrderWord::Up,
+    OrderWord::Down,
     OrderWord::Give,
     OrderWord::Ask,
     OrderWord::Begin,
@@ -43,6 +45,7 @@ impl OrderWord {
     {
         match self {
             OrderWord::Up => "up",
+            OrderWord::Down => "down",
             OrderWord::Give => "give",
             OrderWord::Ask => "ask",
             OrderWord::Begin => "begin",
