@@ -1,0 +1,133 @@
+//! Buses that are stepped.
+
+use j39_bus::{Bus, BusError, StepError};
+use j39_claim::{Choose, Lowest};
+use j39_plan::{Plan, PlanError, Step, read_plan};
+use std::alloc::{AllocError, Global};
+
+/// A step of two units, the first of which sends.
+#[derive(Clone, Copy)]
+pub enum Move {
+    /// This unit is switched on.
+    Up(usize),
+    /// The second unit hears a claim of the first.
+    Give(usize, usize),
+    /// The first unit's flow of this place begins.
+    Begin(usize),
+    Emit,
+    /// The second unit takes a frame of the first.
+    Take(usize, usize),
+    /// That frame is lost.
+    Lose(usize, usize),
+    Rest,
+}
+
+/// A broadcast from where both units are off.
+pub const BROADCAST: [Move; 12] = [
+    Move::Up(0),
+    Move::Up(1),
+    Move::Give(1, 0),
+    Move::Begin(0),
+    Move::Emit,
+    Move::Emit,
+    Move::Emit,
+    Move::Take(0, 1),
+    Move::Take(0, 1),
+    Move::Take(0, 1),
+    Move::Take(0, 1),
+    Move::Rest,
+];
+
+/// A message whose second packet is lost, and sent again.
+pub const MESSAGE: [Move; 19] = [
+    Move::Up(0),
+    Move::Up(1),
+    Move::Give(1, 0),
+    Move::Begin(1),
+    Move::Take(0, 1),
+    Move::Take(1, 0),
+    Move::Emit,
+    Move::Emit,
+    Move::Emit,
+    Move::Take(0, 1),
+    Move::Lose(0, 1),
+    Move::Take(0, 1),
+    Move::Take(1, 0),
+    Move::Emit,
+    Move::Emit,
+    Move::Take(0, 1),
+    Move::Take(0, 1),
+    Move::Take(1, 0),
+    Move::Rest,
+];
+
+const BYTES: [u8; 17] = [0, 1, 2, 3, 4, 5, 6, 7, 8, 9, 10, 11, 12, 13, 14, 15, 16];
+
+fn step_of(alloc: Global, step: Move) -> Result<Step, AllocError> {
+    Ok(match step {
+        Move::Up(unit) => Step::Up(unit),
+        Move::Give(from, to) => Step::Give(from, to),
+        Move::Begin(flow) => Step::Begin(flow, BYTES.as_slice().to_vec(alloc)?),
+        Move::Emit => Step::Emit(0),
+        Move::Take(from, to) => Step::Take(from, to),
+        Move::Lose(from, to) => Step::Lose(from, to),
+        Move::Rest => Step::Rest(0),
+    })
+}
+
+// Whether the buses show the same frames and reports, and whether they are settled.
+fn are_alike(first: &Bus, second: &Bus) -> bool {
+    first.is_settled() == second.is_settled()
+        && first.frames() == second.frames()
+        && first.reports() == second.reports()
+}
+
+// Does the steps on two buses of these choosers. A step that wants memory leaves its bus like the other, and is done again.
+fn are_done(
+    alloc: Global,
+    plan: &Plan,
+    choosers: Vec<Box<dyn Choose>>,
+    other_choosers: Vec<Box<dyn Choose>>,
+    steps: &[Step],
+) -> Result<bool, BusError> {
+    let mut bus = Bus::new(alloc, plan, choosers)?;
+    let mut other = Bus::new(alloc, plan, other_choosers)?;
+    for step in steps {
+        let mut first = bus.step(step);
+        if first == Err(StepError::Memory) && are_alike(&bus, &other) {
+            first = bus.step(step);
+        }
+        let mut second = other.step(step);
+        if second == Err(StepError::Memory) {
+            second = other.step(step);
+        }
+        if first.is_err() || second.is_err() || !are_alike(&bus, &other) {
+            return Ok(false);
+        }
+    }
+    Ok(bus.reports().len() == 1)
+}
+
+/// Whether each move is done, on two buses that are alike after each.
+pub fn is_answered(alloc: Global, plan: &str, moves: &[Move]) -> Result<bool, AllocError> {
+    let plan = match read_plan(alloc, plan.as_bytes()) {
+        Ok(plan) => plan,
+        Err(PlanError::Memory) => return Err(AllocError),
+        Err(_) => return Ok(false),
+    };
+    let mut choosers: Vec<Box<dyn Choose>> = Vec::new(alloc);
+    let mut other_choosers: Vec<Box<dyn Choose>> = Vec::new(alloc);
+    for _ in 0..plan.units.len() {
+        choosers.push(Box::new(alloc, Lowest)?)?;
+        other_choosers.push(Box::new(alloc, Lowest)?)?;
+    }
+    let mut steps = Vec::new(alloc);
+    for step in moves {
+        steps.push(step_of(alloc, *step)?)?;
+    }
+    match are_done(alloc, &plan, choosers, other_choosers, steps.as_slice()) {
+        Err(BusError::Memory) => Err(AllocError),
+        Err(_) => Ok(false),
+        Ok(is_done) => Ok(is_done),
+    }
+}

@@ -1,0 +1,56 @@
+//! Does each row's command, reads its words, checks its plan and steps its bus, and does again what wanted memory: so that
+//! each growth can be refused in turn, as by `rt try --fail-alloc`, and the answers are still the row's.
+#![tactic(auto)]
+
+mod buses;
+mod commands;
+mod plans;
+mod words;
+
+use j39_vectors::{
+    CHECK_OF_A_FINDING, CHECK_OF_A_PLAN, ROWS, RUN_OF_A_BROADCAST, RUN_OF_A_MESSAGE,
+};
+
+fn say(rt: &impl Print, what: &str, is_right: bool) -> Result<(), anyhow::Error> {
+    let answer = if is_right { "right" } else { "wrong" };
+    println!(rt; "{what}: {answer}")?;
+    Ok(())
+}
+
+// Each call is made again where a growth of its own was refused.
+fn main(rt: HostRuntime) -> Result<(), anyhow::Error> {
+    let alloc = rt.alloc();
+    for row in ROWS {
+        let answer = commands::is_answered(alloc, &row);
+        say(
+            &rt,
+            row.name,
+            answer.or_else(|_| commands::is_answered(alloc, &row))?,
+        )?;
+    }
+    for row in [CHECK_OF_A_PLAN, CHECK_OF_A_FINDING] {
+        let answer = plans::comes_back(alloc, &row);
+        say(
+            &rt,
+            "a plan, checked",
+            answer.or_else(|_| plans::comes_back(alloc, &row))?,
+        )?;
+    }
+    for (plan, moves) in [
+        (RUN_OF_A_BROADCAST.plan, buses::BROADCAST.as_slice()),
+        (RUN_OF_A_MESSAGE.plan, &buses::MESSAGE),
+    ] {
+        let answer = buses::is_answered(alloc, plan, moves);
+        say(
+            &rt,
+            "a bus",
+            answer.or_else(|_| buses::is_answered(alloc, plan, moves))?,
+        )?;
+    }
+    let answer = words::are_answered(alloc);
+    say(
+        &rt,
+        "words",
+        answer.or_else(|_| words::are_answered(alloc))?,
+    )
+}
