@@ -93,9 +93,9 @@ pub heard : (pick : Pick) (c : PlannedUnit) (s : ClaimState) (n a : ℕ) (says :
 heard pick c s n a says new inside said left lawful = rw (said, left, lt-ltb a 254 inside) (follows pick c s n a lawful)
 
 -- the same move, said of equal things
-pub same_move : (pick : Pick) (name name' lost lost' : ℕ) (taken taken' : FinSet nat_cmp) → name ≡ name' → lost ≡ lost' → taken ≡ taken'
-    → IsFreeMove pick name lost taken → IsFreeMove pick name' lost' taken'
-same_move pick name name' lost lost' taken taken' e f h move =
+pub same_move : (pick : Pick) (name name' lost lost' : ℕ) (taken taken' : FinSet nat_cmp) → IsFreeMove pick name lost taken → name ≡ name' → lost ≡ lost' → taken ≡ taken'
+    → IsFreeMove pick name' lost' taken'
+same_move pick name name' lost lost' taken taken' move e f h =
     rw (sym e, sym f, sym h) move
 
 -- a lawful pick is free wherever it is made

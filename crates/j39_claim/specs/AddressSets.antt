@@ -1,5 +1,5 @@
 -- What a set of addresses leaves free of the pool.
-use Rattle.std.specs.Prelude.{◌≡◌, ℕ, ◌<◌, MatchOption, Bool, true, false, not, ◌&&◌, nat_lt, List, Option, Some, None, find, count_by}
+use Rattle.std.specs.Prelude.{◌≡◌, ℕ, ◌<◌, MatchOption, Bool, true, false, not, ◌&&◌, nat_lt, Option, Some, None, find, count_by}
 use Rattle.std.specs.Ordering.{nat_cmp}
 use Rattle.std.specs.FinSet.{FinSet, contains}
 use Rattle.j39_id.specs.Addresses.{in_pool, pool}

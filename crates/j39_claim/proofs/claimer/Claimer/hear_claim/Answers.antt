@@ -1,6 +1,5 @@
-use Rattle.std.proofs.Common.{rules, ◌≡◌, ◌<◌, Some, ap, ◌∙◌}
+use Rattle.std.proofs.Common.{rules, ◌≡◌, ◌<◌, Some}
 use Rattle.std.specs.FinMap.{insert}
-use Rattle.std.specs.FinSet.{union}
 use Rattle.j39_claim.specs.ClaimRule.{ClaimState, say_of}
 use Rattle.j39_claim.specs.ExactAnswer.{Pick, taken_for, said_after, state_after}
 use Rattle.j39_claim.proofs.Hearing.{heard, same_move}
@@ -16,10 +15,6 @@ returns-clause-rule g c =
     let inside : c.args.address < 254 = search rules in
     heard picks c.args.self.now.planned c.args.self.now.state c.args.name c.args.address (Some c.claim_of.result) new inside said left
     (λ smaller. elim c.if-lt.branch [
-      | then-lt w ↦ same_move picks _ _ _ _ _ _ (λ i. (c.self.view_is i).planned.name) c.in-Some.ensures.value
-          (w.union-taken.ensures ∙ (λ i. union (w.addresses.ensures i) c.self.inside.kept)
-          ∙ (λ i. taken_for (c.self.view_is i).planned (c.note.ensures i))
-          ∙ ap (taken_for c.args.self.now.planned) (λ i. insert (c.self.view_is i).state.notes c.args.name (c.in-Some.ensures.value i)))
-          w.moved_to-self-inside.ensures.free
+      | then-lt w ↦ same_move picks _ _ _ _ _ (taken_for c.args.self.now.planned (insert c.args.self.now.state.notes c.args.name c.args.address)) w.moved_to-self-inside.ensures.free (λ i. (c.self.view_is i).planned.name) c.in-Some.ensures.value (search rules)
       | else-lt w ↦ search rules
     ])
