@@ -10,7 +10,7 @@ use Rattle.j39_tp.specs.declared.receiving.heard.Heard.TheVariants as heard
 use Rattle.j39_tp.specs.declared.receiving.manner.Manner.TheVariants.{Listening}
 use Rattle.j39_tp.specs.declared.packet.Packet.{Packet}
 use Rattle.j39_tp.specs.declared.receiving.progress.Progress.TheVariants.{Complete}
-use Rattle.j39_log.specs.Listening.{is_complete, completes, after_all}
+use Rattle.j39_log.specs.inside.Listening.{is_complete, completes, after_all}
 use Rattle.j39_log.specs.ReadText.{CarriesNone}
 use Rattle.j39_log.proofs.PairLists.{listened_front, after_more, slice_get_end, in_range}
 

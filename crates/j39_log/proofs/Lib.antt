@@ -1,6 +1,5 @@
 pub mod Completing
 pub mod Indexes
-pub mod LineEnds
 pub mod LogReading
 pub mod Outcomes
 pub mod PairLists

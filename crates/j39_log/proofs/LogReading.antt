@@ -1,138 +1,84 @@
 -- A log that is read line after line.
-use Rattle.std.proofs.Common.{◌≡◌, ℕ, ◌+◌, ◌-◌, ◌<◌, ◌≤◌, List, [], ◌∷◌, ◌++◌, length, take, drop, get_or, All, Option, Some, None, inl, inr, refl, sym, ap, ◌∙◌, subst, arith, append_assoc}
+use Rattle.std.proofs.Common.{◌≡◌, ℕ, ◌+◌, ◌<◌, ◌≤◌, ◌⊎◌, ◌==◌, Bool, true, false, List, [], ◌∷◌, ◌++◌, length, take, Option, Some, None, inl, inr, refl, sym, ap, ◌∙◌, subst, arith, append_assoc}
 use Rattle.std.specs.Io.KnownBytes.{Appends, Consumes}
 use Rattle.std.proofs.KnownBytes.{Appends-trans}
-use Rattle.std.proofs.Math.Seq.{take-add, take-append-add}
-use Rattle.std.proofs.lemmas.List.{append-nil, take-append-drop, take-append-le, take_all, take_more, length-drop, length-take-le}
-use Rattle.std.proofs.lemmas.Bool.{cases_lt}
-use Rattle.std.proofs.lemmas.List.Elements.{All-push}
+use Rattle.std.proofs.Math.Seq.{take-append-add}
+use Rattle.std.proofs.lemmas.List.{append-nil, take-append-le, take_all}
+use Rattle.std.proofs.lemmas.Bool.{cases_lt, cases_Bool}
+use Rattle.j39_id.specs.Lines.{Line, Pending, answer_to, answer_to_end, at_start, behind, behind_all, given, is_line_feed, line_limit, lines, tells, told, told_at_end}
+use Rattle.j39_id.specs.declared.cut.Cut.{Cut}
+use Rattle.j39_id.specs.declared.cut.Cut.TheVariants as cuts
+use Rattle.j39_id.proofs.CutLines.{tells_lines, told-append, behind_all-append}
 use Rattle.j39_plan.specs.declared.plan.Plan.{Plan}
-use Rattle.j39_log.specs.ReadText.{IsLogText, Past, ReadsLine, ReadsLines, count_line, counts_line, nothing_yet}
-use Rattle.j39_log.specs.Recalling.{IsPartly, IsReadTo, Recalls, counted}
 use Rattle.j39_stream.specs.Streams.{AppendsPart}
-use Rattle.j39_log.specs.TextLines.{IsLine, joined, last_line}
+use Rattle.j39_log.specs.ReadText.{IsLogText, Past, ReadsLines, count_line, counts_line, nothing_yet}
+use Rattle.j39_log.specs.inside.Recalling.{HasReadLines, HasWritten, Recalls}
 use Rattle.j39_log.specs.declared.log_reading.Reading.{Reading}
 
--- ---- one more line
+-- ---- lines after lines
 
-reads_more : (plan : Plan) (lines : List (List ℕ)) (past middle end : Past) (line text piece : List ℕ) → ReadsLines plan past lines middle text
-    → ReadsLine plan middle line end piece → ReadsLines plan past (lines ++ line ∷ []) end (text ++ piece)
-reads_more plan [] past middle end line text piece all one =
-    let here : ReadsLine plan past line end piece = subst (λ (p : Past). ReadsLine plan p line end piece) all.0 one in
-    let whole : text ++ piece ≡ piece ++ [] = ap (λ (t : List ℕ). t ++ piece) all.1 ∙ sym (append-nil piece) in
-    (end, piece, [], here, (refl, refl), whole)
-reads_more plan (first ∷ lines) past middle end line text piece all one = (
+reads_on : (plan : Plan) (first more : List Line) (past middle end : Past) (text piece : List ℕ) → ReadsLines plan past first middle text
+    → ReadsLines plan middle more end piece → ReadsLines plan past (first ++ more) end (text ++ piece)
+reads_on plan [] more past middle end text piece all rest =
+    let here : ReadsLines plan past more end piece = subst (λ (p : Past). ReadsLines plan p more end piece) all.0 rest in
+    subst (λ (t : List ℕ). ReadsLines plan past more end (t ++ piece)) (sym all.1) here
+reads_on plan (line ∷ first) more past middle end text piece all rest = (
   all.0,
   all.1,
   all.2 ++ piece,
   all.3,
-  reads_more plan lines all.0 middle end line all.2 piece all.4 one,
+  reads_on plan first more all.0 middle end all.2 piece all.4 rest,
   ap (λ (t : List ℕ). t ++ piece) all.5 ∙ append_assoc all.1 all.2 piece,
 )
 
-joined_more : (lines : List (List ℕ)) (line : List ℕ) → joined (lines ++ line ∷ []) ≡ joined lines ++ (line ++ 10 ∷ [])
-unfolding joined
-joined_more [] line = refl
-joined_more (first ∷ lines) line =
-    ap (λ (t : List ℕ). first ++ (10 ∷ t)) (joined_more lines line) ∙ sym (append_assoc first (10 ∷ joined lines) (line ++ 10 ∷ []))
+pub begun : (plan : Plan) (reading : Reading) → reading.text ≡ [] → Recalls reading nothing_yet → HasReadLines plan [] reading []
+begun plan reading text recalls = record { past = nothing_yet; reports = []; read = (refl, refl); recalls = recalls; text_is = sym text }
 
-none_joined : joined [] ≡ []
-unfolding joined
-none_joined = refl
-
--- ---- places of a log
-
-take_line : (log : List ℕ) (start end : ℕ) → start ≤ end → take end log ≡ take start log ++ take (end - start) (drop start log)
-take_line log start end after =
-    let sum : end ≡ start + (end - start) = omega arith in
-    ap (λ (n : ℕ). take n log) sum ∙ take-add start (end - start) log
-
-take_feed : (log : List ℕ) (end : ℕ) → end < length log → get_or log end 0 ≡ 10 → take (end + 1) log ≡ take end log ++ 10 ∷ []
-take_feed log end less feed = take_more log end 0 less ∙ ap (λ (b : ℕ). take end log ++ b ∷ []) feed
-
-some_line : (line : List ℕ) → 0 < length line → last_line line ≡ line ∷ []
-some_line [] some = absurd (omega arith)
-some_line (b ∷ line) some = refl
-
-no_bytes : IsLine []
-no_bytes = λ k d less. absurd (omega arith)
-
--- ---- where a log was read to
-
-pub begun : (plan : Plan) (log : List ℕ) (reading : Reading) → reading.text ≡ [] → Recalls reading nothing_yet → counted reading ≡ 0 → IsReadTo plan log 0 reading []
-begun plan log reading text recalls count = record {
-  lines = [];
-  past = nothing_yet;
-  reports = [];
-  within = omega arith;
-  cut = record { ended = []; last = []; row = sym (append-nil (joined []) ∙ none_joined); whole = λ k d less. absurd (omega arith); last_whole = no_bytes; lines_are = refl };
-  closed = λ _. (sym none_joined, λ k d less. absurd (omega arith));
-  read = (refl, refl);
-  recalls = recalls;
-  text_is = sym text;
-  count = omega (arith, count);
-}
-
--- a line with its line feed
-pub fed : (plan : Plan) (log : List ℕ) (start end : ℕ) (old new : Reading) (written : List ℕ) → start < length log → start ≤ end → end < length log
-    → IsLine (take (end - start) (drop start log)) → get_or log end 0 ≡ 10
-    → ((past : Past) → Recalls old past → (next : Past) × (piece : List ℕ) × ReadsLine plan past (take (end - start) (drop start log)) next piece × Recalls new next × (new.text ≡ old.text ++ piece))
-    → counted new ≤ counted old + 1 → IsReadTo plan log start old written → IsReadTo plan log (end + 1) new written
-fed plan log start end old new written inside after within line feed step count before =
-    let told = step before.past before.recalls in
-    let closed = before.closed inside in
-    let bytes : List ℕ = take (end - start) (drop start log) in
-    let row : take (end + 1) log ≡ joined (before.lines ++ bytes ∷ []) =
-    take_feed log end within feed ∙ ap (λ (t : List ℕ). t ++ 10 ∷ []) (take_line log start end after ∙ ap (λ (t : List ℕ). t ++ bytes) closed.0)
-    ∙ append_assoc (joined before.lines) bytes (10 ∷ []) ∙ sym (joined_more before.lines bytes) in
-    let whole : All IsLine (before.lines ++ bytes ∷ []) = All-push IsLine before.lines bytes closed.1 line in
-    let old_count = before.count in record {
-      lines = before.lines ++ bytes ∷ [];
-      past = told.0;
-      reports = before.reports ++ told.1;
-      within = omega arith;
-      cut = record { ended = before.lines ++ bytes ∷ []; last = []; row = row ∙ sym (append-nil (joined (before.lines ++ bytes ∷ []))); whole = whole; last_whole = no_bytes; lines_are = sym (append-nil (before.lines ++ bytes ∷ [])) };
-      closed = λ _. (row, whole);
-      read = reads_more plan before.lines nothing_yet before.past told.0 bytes before.reports told.1 before.read told.2;
-      recalls = told.3;
-      text_is = ap (λ (t : List ℕ). t ++ told.1) before.text_is ∙ append_assoc written old.text told.1 ∙ sym (ap (λ (t : List ℕ). written ++ t) told.4);
-      count = omega arith;
+-- what is told next is read
+pub read_next : (plan : Plan) (before next : List Line) (old new : Reading) (written : List ℕ)
+    → ((past : Past) → Recalls old past → (end : Past) × (piece : List ℕ) × ReadsLines plan past next end piece × Recalls new end × (new.text ≡ old.text ++ piece))
+    → HasReadLines plan before old written → HasReadLines plan (before ++ next) new written
+read_next plan before next old new written step all =
+    let one = step all.past all.recalls in record {
+      past = one.0;
+      reports = all.reports ++ one.1;
+      read = reads_on plan before next nothing_yet all.past one.0 all.reports one.1 all.read one.2;
+      recalls = one.3;
+      text_is = ap (λ (t : List ℕ). t ++ one.1) all.text_is ∙ append_assoc written old.text one.1 ∙ sym (ap (λ (t : List ℕ). written ++ t) one.4);
     }
 
--- the last line, which has none
-pub ended : (plan : Plan) (log : List ℕ) (start end : ℕ) (old new : Reading) (written : List ℕ) → start < length log → start ≤ end → end ≡ length log
-    → IsLine (take (end - start) (drop start log))
-    → ((past : Past) → Recalls old past → (next : Past) × (piece : List ℕ) × ReadsLine plan past (take (end - start) (drop start log)) next piece × Recalls new next × (new.text ≡ old.text ++ piece))
-    → counted new ≤ counted old + 1 → IsReadTo plan log start old written → IsReadTo plan log end new written
-ended plan log start end old new written inside after all line step count before =
-    let told = step before.past before.recalls in
-    let closed = before.closed inside in
-    let bytes : List ℕ = take (end - start) (drop start log) in
-    let rest = length-drop start log in
-    let some : length bytes ≡ end - start = length-take-le (end - start) (drop start log) (omega (arith, rest)) in
-    let old_count = before.count in record {
-      lines = before.lines ++ bytes ∷ [];
-      past = told.0;
-      reports = before.reports ++ told.1;
-      within = omega arith;
-      cut = record { ended = before.lines; last = bytes; row = take_line log start end after ∙ ap (λ (t : List ℕ). t ++ bytes) closed.0; whole = closed.1; last_whole = line; lines_are = ap (λ (t : List (List ℕ)). before.lines ++ t) (sym (some_line bytes (omega (arith, some)))) };
-      closed = λ less. absurd (omega arith);
-      read = reads_more plan before.lines nothing_yet before.past told.0 bytes before.reports told.1 before.read told.2;
-      recalls = told.3;
-      text_is = ap (λ (t : List ℕ). t ++ told.1) before.text_is ∙ append_assoc written old.text told.1 ∙ sym (ap (λ (t : List ℕ). written ++ t) told.4);
-      count = omega arith;
-    }
+-- what is told of a part of a piece is read behind what is told of the piece before it
+pub read_part : (plan : Plan) (first old new : Reading) (p q : Pending) (used part : List ℕ) (cut : Cut) (line : List ℕ) → q ≡ behind_all p used → told q part ≡ tells cut line
+    → ((before : List Line) (written : List ℕ) → HasReadLines plan before first written → HasReadLines plan (before ++ told p used) old written)
+    → ((past : Past) → Recalls old past → (end : Past) × (piece : List ℕ) × ReadsLines plan past (tells cut line) end piece × Recalls new end × (new.text ≡ old.text ++ piece))
+    → (before : List Line) (written : List ℕ) → HasReadLines plan before first written → HasReadLines plan (before ++ told p (used ++ part)) new written
+read_part plan first old new p q used part cut line at is so_far step before written start =
+    let here : told p (used ++ part) ≡ told p used ++ tells cut line = told-append p used part ∙ ap (λ (r : Pending). told p used ++ told r part) (sym at) ∙ ap (λ (u : List Line). told p used ++ u) is in
+    let whole : (before ++ told p used) ++ tells cut line ≡ before ++ told p (used ++ part) = append_assoc before (told p used) (tells cut line) ∙ sym (ap (λ (u : List Line). before ++ u) here) in
+    subst (λ (all : List Line). HasReadLines plan all new written) whole (read_next plan (before ++ told p used) (tells cut line) old new written step (so_far before written start))
 
--- a part of what is to be written is written
-pub put : (plan : Plan) (log : List ℕ) (start : ℕ) (old : Reading) (written part text : List ℕ) → old.text ≡ part ++ text → IsReadTo plan log start old written
-    → IsReadTo plan log start (record old { text = text }) (written ++ part)
-put plan log start old written part text parts before = record {
-  lines = before.lines;
+tells_given : (cut : Cut) (p : Pending) → tells cut (given cut p) ≡ tells cut p.held
+tells_given cuts.More p = refl
+tells_given cuts.Line p = refl
+tells_given cuts.Long p = refl
+
+-- what is told of a piece is told of the text behind what was seen before it
+pub more_seen : (plan : Plan) (seen part : List ℕ) (p : Pending) (reading : Reading) (written : List ℕ) → p ≡ behind_all at_start seen
+    → HasReadLines plan (told at_start seen ++ told p part) reading written → HasReadLines plan (told at_start (seen ++ part)) reading written
+more_seen plan seen part p reading written at before =
+    let whole : told at_start seen ++ told p part ≡ told at_start (seen ++ part) = ap (λ (r : Pending). told at_start seen ++ told r part) at ∙ sym (told-append at_start seen part) in
+    subst (λ (all : List Line). HasReadLines plan all reading written) whole before
+
+-- what a cutter tells at the end
+pub tells_end : (cut : Cut) (p : Pending) (line : List ℕ) → cut ≡ answer_to_end p → line ≡ given cut p → tells cut line ≡ told_at_end p
+tells_end cut p line answered gave = ap (tells cut) gave ∙ tells_given cut p ∙ ap (λ (k : Cut). tells k p.held) answered
+
+-- what is to be written is written
+pub put : (plan : Plan) (told_so_far : List Line) (old : Reading) (written text : List ℕ) → text ≡ [] → HasReadLines plan told_so_far old written
+    → HasReadLines plan told_so_far (record old { text = text }) (written ++ old.text)
+put plan told_so_far old written text empty before = record {
   past = before.past;
   reports = before.reports;
-  within = before.within;
-  cut = before.cut;
-  closed = before.closed;
   read = before.read;
   recalls = record {
     heard_all = before.recalls.heard_all;
@@ -141,11 +87,8 @@ put plan log start old written part text parts before = record {
     skipped_are = before.recalls.skipped_are;
     bad_are = before.recalls.bad_are;
   };
-  text_is = before.text_is ∙ ap (λ (t : List ℕ). written ++ t) parts ∙ sym (append_assoc written part text);
-  count = before.count;
+  text_is = before.text_is ∙ sym (append-nil (written ++ old.text)) ∙ sym (ap (λ (t : List ℕ). (written ++ old.text) ++ t) empty);
 }
-
--- ---- the text of what was read
 
 pub same_counts : (reading : Reading) (past : Past) → Recalls reading past → counts_line reading.frames reading.skipped reading.bad ≡ count_line past
 same_counts reading past recalls =
@@ -153,27 +96,28 @@ same_counts reading past recalls =
     ∙ ap (λ (n : ℕ). counts_line (length past.seen) n reading.bad) recalls.skipped_are
     ∙ ap (λ (n : ℕ). counts_line (length past.seen) past.skipped n) recalls.bad_are
 
--- the log so far, with the line of counts
-log_so_far : (plan : Plan) (log : List ℕ) (start : ℕ) (reading : Reading) (written : List ℕ) (before : IsReadTo plan log start reading written)
-    → IsLogText plan (take start log) (before.reports ++ count_line before.past)
-log_so_far plan log start reading written before = record {
-  lines = before.lines;
+pub closed : (plan : Plan) (all : List Line) (reading : Reading) (written text : List ℕ) → text ≡ reading.text ++ counts_line reading.frames reading.skipped reading.bad
+    → HasReadLines plan all reading written → HasWritten plan all (written ++ text)
+closed plan all reading written text ends before = record {
   past = before.past;
   reports = before.reports;
-  cut = before.cut;
   read = before.read;
-  text_is = refl;
+  text_is =
+      ap (λ (t : List ℕ). written ++ t) ends ∙ sym (append_assoc written reading.text (counts_line reading.frames reading.skipped reading.bad))
+      ∙ ap (λ (t : List ℕ). t ++ counts_line reading.frames reading.skipped reading.bad) (sym before.text_is)
+      ∙ ap (λ (t : List ℕ). before.reports ++ t) (same_counts reading before.past before.recalls);
 }
 
 -- the whole text
-pub finished : (plan : Plan) (log : List ℕ) (start : ℕ) (reading : Reading) (written all : List ℕ) → length log ≤ start → (before : IsReadTo plan log start reading written)
-    → all ≡ reading.text ++ count_line before.past → IsLogText plan log (written ++ all)
-finished plan log start reading written all past before ends =
-    let log_is : take start log ≡ log = take_all start log past in
-    let text : before.reports ++ count_line before.past ≡ written ++ all =
-    ap (λ (t : List ℕ). t ++ count_line before.past) before.text_is ∙ append_assoc written reading.text (count_line before.past) ∙ sym (ap (λ (t : List ℕ). written ++ t) ends) in
-    subst (λ (t : List ℕ). IsLogText plan log t) text
-    (subst (λ (l : List ℕ). IsLogText plan l (before.reports ++ count_line before.past)) log_is (log_so_far plan log start reading written before))
+pub finished : (plan : Plan) (log text : List ℕ) → HasWritten plan (told at_start log ++ told_at_end (behind_all at_start log)) text → IsLogText plan log text
+finished plan log text whole = record {
+  past = whole.past;
+  reports = whole.reports;
+  read = subst (λ (all : List Line). ReadsLines plan nothing_yet all whole.past whole.reports) (tells_lines log) whole.read;
+  text_is = whole.text_is;
+}
+
+-- ---- a part of the text
 
 -- some first bytes of a text are no more than it has
 at_most : (n : ℕ) (xs : List ℕ) → (m : ℕ) × (m ≤ length xs) × (take n xs ≡ take m xs)
@@ -183,23 +127,85 @@ at_most n xs =
       | inr past ↦ (length xs, omega arith, take_all n xs past ∙ sym (take_all (length xs) xs (omega arith)))
     ]
 
--- a part of it: what was written, and some first bytes of what was to be written next
-pub partly : (plan : Plan) (log : List ℕ) (start : ℕ) (reading : Reading) (written next tail : List ℕ) (a b c : Option (List ℕ))
-    → (before : IsReadTo plan log start reading written) → reading.text ++ count_line before.past ≡ next ++ tail
-    → Appends a b written → AppendsPart b c next → IsPartly plan log a c
-partly plan log start reading written next tail a b c before ends first second =
+-- what was written, and some first bytes of what was to be written next
+pub part_after : (a b c : Option (List ℕ)) (written next tail text : List ℕ) → text ≡ written ++ (next ++ tail) → Appends a b written → AppendsPart b c next → AppendsPart a c text
+part_after a b c written next tail text ends first second =
     let n = at_most second.0 next in
     let part : Appends b c (take n.0 next) = subst (Appends b c) n.2 second.1 in
+    let cut : take (length written + n.0) text ≡ written ++ take n.0 next =
+    ap (λ (t : List ℕ). take (length written + n.0) t) ends ∙ take-append-add written (next ++ tail) n.0 ∙ ap (λ (t : List ℕ). written ++ t) (take-append-le n.0 next tail n.1) in
+    (length written + n.0, subst (Appends a c) (sym cut) (Appends-trans a b c written (take n.0 next) first part))
+
+-- behind an answer a cutter tells nothing at the end
+none_behind : (p : Pending) (b : ℕ) → (answer_to p b ≡ cuts.More) ⊎ (told_at_end (behind p b) ≡ [])
+none_behind p b =
+    elim (cases_Bool p.told_long) [
+      | inl long ↦ inl (rw long refl)
+      | inr short ↦
+          elim (cases_Bool (is_line_feed b)) [
+            | inl feed ↦ inr (rw feed refl)
+            | inr other ↦
+                elim (cases_Bool (length p.held == line_limit)) [
+                  | inl full ↦ inr (rw (short, other, full) refl)
+                  | inr room ↦ inl (rw (short, other, room) refl)
+                ]
+          ]
+    ]
+
+-- some first bytes of a text have the lines that are told of it
+abbrev HasFront : List ℕ → Type 0
+HasFront seen = (front : List ℕ) × (back : List ℕ) × (seen ≡ front ++ back) × (lines front ≡ told at_start seen)
+
+front_more : (seen : List ℕ) (b : ℕ) → HasFront seen → HasFront (seen ++ b ∷ [])
+front_more seen b before =
+    let p = behind_all at_start seen in
+    let next : told at_start (seen ++ b ∷ []) ≡ told at_start seen ++ (tells (answer_to p b) p.held ++ []) = told-append at_start seen (b ∷ []) in
+    elim (none_behind p b) [
+      | inl more ↦
+          let none : tells (answer_to p b) p.held ++ [] ≡ [] = rw more refl in (
+            before.0,
+            before.1 ++ b ∷ [],
+            ap (λ (t : List ℕ). t ++ b ∷ []) before.2 ∙ append_assoc before.0 before.1 (b ∷ []),
+            before.3 ∙ sym (next ∙ ap (λ (u : List Line). told at_start seen ++ u) none ∙ append-nil (told at_start seen)),
+          )
+      | inr none ↦
+          let end : told_at_end (behind_all at_start (seen ++ b ∷ [])) ≡ [] = ap told_at_end (behind_all-append at_start seen (b ∷ [])) ∙ none in (
+            seen ++ b ∷ [],
+            [],
+            sym (append-nil (seen ++ b ∷ [])),
+            sym (tells_lines (seen ++ b ∷ [])) ∙ ap (λ (u : List Line). told at_start (seen ++ b ∷ []) ++ u) end ∙ append-nil (told at_start (seen ++ b ∷ [])),
+          )
+    ]
+
+fronts : (seen more : List ℕ) → HasFront seen → HasFront (seen ++ more)
+fronts seen [] before = subst HasFront (sym (append-nil seen)) before
+fronts seen (b ∷ more) before = subst HasFront (append_assoc seen (b ∷ []) more) (fronts (seen ++ b ∷ []) more (front_more seen b before))
+
+front_of : (seen : List ℕ) → HasFront seen
+front_of seen = fronts [] seen ([], [], refl, sym (tells_lines []))
+
+-- what was written is some first bytes of the text of a log that begins like this one
+pub partly : (plan : Plan) (seen more : List ℕ) (reading : Reading) (written next tail : List ℕ) (x y a b c : Option (List ℕ))
+    → (before : HasReadLines plan (told at_start seen) reading written) → Consumes x y (seen ++ more) → reading.text ++ count_line before.past ≡ next ++ tail
+    → Appends a b written → AppendsPart b c next
+    → (log : List ℕ) × (rest : List ℕ) × (text : List ℕ) × Consumes x y (log ++ rest) × IsLogText plan log text × AppendsPart a c text
+partly plan seen more reading written next tail x y a b c before consumed ends first second =
+    let front = front_of seen in
     let text : before.reports ++ count_line before.past ≡ written ++ (next ++ tail) =
     ap (λ (t : List ℕ). t ++ count_line before.past) before.text_is ∙ append_assoc written reading.text (count_line before.past) ∙ ap (λ (t : List ℕ). written ++ t) ends in
-    let cut : take (length written + n.0) (before.reports ++ count_line before.past) ≡ written ++ take n.0 next =
-    ap (λ (t : List ℕ). take (length written + n.0) t) text ∙ take-append-add written (next ++ tail) n.0 ∙ ap (λ (t : List ℕ). written ++ t) (take-append-le n.0 next tail n.1) in (
-      take start log,
-      drop start log,
+    let whole : seen ++ more ≡ front.0 ++ (front.1 ++ more) = ap (λ (t : List ℕ). t ++ more) front.2 ∙ append_assoc front.0 front.1 more in
+    let told_text : IsLogText plan front.0 (before.reports ++ count_line before.past) = record {
+      past = before.past;
+      reports = before.reports;
+      read = subst (λ (all : List Line). ReadsLines plan nothing_yet all before.past before.reports) (sym front.3) before.read;
+      text_is = refl;
+    } in (
+      front.0,
+      front.1 ++ more,
       before.reports ++ count_line before.past,
-      sym (take-append-drop start log),
-      log_so_far plan log start reading written before,
-      (length written + n.0, subst (Appends a c) (sym cut) (Appends-trans a b c written (take n.0 next) first part)),
+      subst (Consumes x y) whole consumed,
+      told_text,
+      part_after a b c written next tail (before.reports ++ count_line before.past) text first second,
     )
 
 -- nothing is taken of nothing

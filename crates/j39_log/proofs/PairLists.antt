@@ -11,7 +11,7 @@ use Rattle.j39_tp.specs.Carried.{listened, AreInRange}
 use Rattle.j39_tp.specs.Packets.{InRange}
 use Rattle.j39_tp.specs.Receiver.{Receiving, receives}
 use Rattle.j39_tp.specs.declared.packet.Packet.{Packet}
-use Rattle.j39_log.specs.Listening.{HaveHeard, AreAllInRange, IsInRange, listener_at, place_of, after_all}
+use Rattle.j39_log.specs.inside.Listening.{HaveHeard, AreAllInRange, IsInRange, listener_at, place_of, after_all}
 use Rattle.j39_log.specs.LogPairs.{Seen, heard, heard_of, is_abort, is_heard_by}
 use Rattle.j39_log.specs.declared.role.Role.{Role}
 use Rattle.j39_log.specs.declared.role.Role.TheVariants.{Short, Packet as APacket, Other}

@@ -3,7 +3,7 @@ use Rattle.std.proofs.Common.{◌≡◌, ◌≢◌, ℕ, zero, suc, ◌<◌, Lis
 use Rattle.std.specs.Prelude.{Box, slice_set}
 use Rattle.std.specs.List.{slice_get}
 use Rattle.j39_tp.specs.Receiver.{Receiving}
-use Rattle.j39_log.specs.Listening.{HasListener}
+use Rattle.j39_log.specs.inside.Listening.{HasListener}
 
 get_set_same : {A : Type 0} (xs : List A) (i : ℕ) (y : A) → i < length xs → slice_get (slice_set xs i y) i ≡ Some y
 get_set_same [] i y less = absurd (omega arith)

@@ -1,8 +1,9 @@
 -- What a line of a log is for its reader, and what a frame is.
-use Rattle.std.specs.Prelude.{◌≡◌, ◌≢◌, ℕ, ◌<◌, ◌≤◌, ◌⊎◌, ◌==◌, ◌&&◌, Bool, List, length, Option, Some, None}
+use Rattle.std.specs.Prelude.{◌≡◌, ◌≢◌, ℕ, ◌⊎◌, ◌==◌, ◌&&◌, Bool, List, length, Option, Some, None}
 use Rattle.std.specs.List.{position}
 use Rattle.j39_id.specs.Ident.{pgn_of}
 use Rattle.j39_id.specs.FrameLine.{Spells, HasLineFault}
+use Rattle.j39_id.specs.Lines.{Line, Short, Long}
 use Rattle.j39_id.specs.declared.frame.Frame.{Frame}
 use Rattle.j39_id.specs.declared.line_error.LineError.{LineError}
 use Rattle.j39_id.specs.declared.line_error.LineError.TheVariants.{Empty, ShortIdent}
@@ -16,20 +17,20 @@ use Rattle.j39_log.specs.declared.entry.Entry.TheVariants.{Frame as AFrame, Blan
 use Rattle.j39_log.specs.declared.role.Role.{Role}
 use Rattle.j39_log.specs.declared.role.Role.TheVariants.{Short, Packet as APacket, Other}
 
--- the most bytes of a line
-abbrev pub line_limit : ℕ
-line_limit = 8192
-
 -- a line has another fault than having no word, and than an identifier of three digits
 abbrev pub HasOtherFault : List ℕ → Type 0
 HasOtherFault line = (e : LineError) × HasLineFault line e × (e ≢ Empty) × (e ≢ ShortIdent)
 
 -- what a line of a log is: a frame, nothing, a frame with an 11-bit identifier, or what can't be read
-abbrev pub IsEntry : List ℕ → Entry → Type 0
-IsEntry line (AFrame f) = (length line ≤ line_limit) × Spells line f
-IsEntry line Blank = (length line ≤ line_limit) × HasLineFault line Empty
-IsEntry line Skipped = (length line ≤ line_limit) × HasLineFault line ShortIdent
-IsEntry line Bad = (line_limit < length line) ⊎ HasOtherFault line
+abbrev pub IsEntry : Line → Entry → Type 0
+IsEntry (Short bytes) (AFrame f) = Spells bytes f
+IsEntry (Short bytes) Blank = HasLineFault bytes Empty
+IsEntry (Short bytes) Skipped = HasLineFault bytes ShortIdent
+IsEntry (Short bytes) Bad = HasOtherFault bytes
+IsEntry Long (AFrame f) = ⊥
+IsEntry Long Blank = ⊥
+IsEntry Long Skipped = ⊥
+IsEntry Long Bad = Unit {0}
 
 -- ---- frames
 

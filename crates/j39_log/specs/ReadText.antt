@@ -1,5 +1,6 @@
 -- The text that the read command writes for a plan and a log.
 use Rattle.std.specs.Prelude.{◌≡◌, ℕ, ◌+◌, ◌⊎◌, List, [], ◌∷◌, ◌++◌, length, take, All, codes, Some, None, Option}
+use Rattle.j39_id.specs.Lines.{Line, lines}
 use Rattle.j39_id.specs.declared.frame.Frame.{Frame}
 use Rattle.j39_id.specs.declared.ident.Ident.{Ident}
 use Rattle.j39_plan.specs.Places.{ValueAt}
@@ -12,7 +13,6 @@ use Rattle.j39_text.specs.Labels.{group_label}
 use Rattle.j39_log.specs.LogLines.{IsEntry, IsRole, planned}
 use Rattle.j39_log.specs.LogPairs.{Seen, heard}
 use Rattle.j39_log.specs.LogReports.{report}
-use Rattle.j39_log.specs.TextLines.{IsCut}
 use Rattle.j39_text.specs.Texts.{field}
 use Rattle.j39_log.specs.declared.entry.Entry.{Entry}
 use Rattle.j39_log.specs.declared.entry.Entry.TheVariants.{Frame as AFrame, Blank, Skipped, Bad}
@@ -75,15 +75,15 @@ Follows plan past Blank next text = (next ≡ past) × (text ≡ [])
 Follows plan past Skipped next text = (next ≡ record past { skipped = past.skipped + 1 }) × (text ≡ [])
 Follows plan past Bad next text = (next ≡ record past { bad = past.bad + 1 }) × (text ≡ [])
 
-abbrev pub ReadsLine : Plan → Past → List ℕ → Past → List ℕ → Type 0
+abbrev pub ReadsLine : Plan → Past → Line → Past → List ℕ → Type 0
 ReadsLine plan past line next text = (entry : Entry) × IsEntry line entry × Follows plan past entry next text
 
 -- so do all lines, one after another
-abbrev pub ReadsLines : Plan → Past → List (List ℕ) → Past → List ℕ → Type 0
+abbrev pub ReadsLines : Plan → Past → List Line → Past → List ℕ → Type 0
 ReadsLines plan past [] end text = (end ≡ past) × (text ≡ [])
-ReadsLines plan past (line ∷ lines) end text =
+ReadsLines plan past (line ∷ rest) end text =
     (next : Past) × (front : List ℕ) × (back : List ℕ) × ReadsLine plan past line next front
-    × ReadsLines plan next lines end back × (text ≡ front ++ back)
+    × ReadsLines plan next rest end back × (text ≡ front ++ back)
 
 unfoldable pub counts_line : ℕ → ℕ → ℕ → List ℕ
 counts_line frames skipped bad =
@@ -94,11 +94,9 @@ count_line past = counts_line (length past.seen) past.skipped past.bad
 
 -- what is written of a log: what its lines report, and how many lines there were of each sort
 pub record IsLogText (plan : Plan) (log text : List ℕ) : Type 0 where
-  pub lines : List (List ℕ)
   pub past : Past
   pub reports : List ℕ
-  pub cut : IsCut log lines
-  pub read : ReadsLines plan nothing_yet lines past reports
+  pub read : ReadsLines plan nothing_yet (lines log) past reports
   pub text_is : text ≡ reports ++ count_line past
 
 -- ---- a plan

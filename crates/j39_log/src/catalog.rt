@@ -1,7 +1,7 @@
 //! The groups of a plan as a reader of frames finds them.
 ghost use Rattle.std.specs.Prelude.{◌≡◌, ◌<◌, List, [], ◌∷◌, ◌++◌, length, map, All, OnOk, IfOk, IfErr};
 ghost use Rattle.std.specs.List.{HoldsAt, position};
-ghost use Rattle.j39_log.specs.Listening.{IsBadCatalog, IsCatalogOf, IsIndex, IsNotReadable, layout_of as parts_of};
+ghost use Rattle.j39_log.specs.inside.Listening.{IsBadCatalog, IsCatalogOf, IsIndex, IsNotReadable, layout_of as parts_of};
 ghost use Rattle.j39_log.specs.LogLines.{is_planned_as};
 ghost use Rattle.j39_bus.specs.Opening.{IsSendable};
 ghost use Rattle.j39_plan.specs.declared.plan.group_plan.GroupPlan.{GroupPlan as APlannedGroup};

@@ -1,10 +1,8 @@
-//! What a line of a log is.
+//! What a line of a log is that is not too long.
+ghost use Rattle.j39_id.specs.Lines.{Short};
 ghost use Rattle.j39_log.specs.LogLines.{IsEntry};
 
 use j39_id::{Frame, LineError, read_frame};
-
-// The most bytes of a line.
-const LINE_LIMIT: usize = 8_192;
 
 /// What a line of a log is for its reader.
 #[derive(Drop)]
@@ -14,16 +12,13 @@ pub(crate) enum Entry {
     Blank,
     /// A frame with an 11-bit identifier.
     Skipped,
-    /// It is too long, or it spells no frame.
+    /// It spells no frame.
     Bad,
 }
 
 pub(super) fn entry_of(line: &[u8]) -> Entry
-    ensures { IsEntry line.now result }
+    ensures { IsEntry (Short line.now) result }
 {
-    if line.len() > LINE_LIMIT {
-        return Entry::Bad;
-    }
     match read_frame(line) {
         Ok(frame) => Entry::Frame(frame),
         Err(LineError::Empty) => Entry::Blank,

@@ -2,7 +2,7 @@
 ghost use Rattle.std.specs.Prelude.{◌≡◌, ◌≢◌, ◌<◌, ◌==◌, ◌||◌, ℕ, [], IsTrue, true, vec_len, None, All, OnOk, IfOk, IfSome, IfNone, if◌then◌else◌};
 ghost use Rattle.j39_tp.specs.Receiver.{fresh, receives};
 ghost use Rattle.j39_tp.specs.declared.receiving.manner.Manner.TheVariants.{Listening};
-ghost use Rattle.j39_log.specs.Listening.{HasListener, completes, is_announcement as announces, listener_at, listener_in, place_of as pair_place};
+ghost use Rattle.j39_log.specs.inside.Listening.{HasListener, completes, is_announcement as announces, listener_at, listener_in, place_of as pair_place};
 ghost use Rattle.j39_log.specs.LogPairs.{is_abort as aborts, is_heard_by};
 
 use j39_id::Ident;

@@ -1,13 +1,14 @@
 //! Reading a log line after line.
 ghost use Rattle.std.specs.Prelude.{◌≡◌, ◌+◌, ◌^◌, ◌<◌, ◌≤◌, ℕ, List, [], ◌∷◌, ◌++◌, length, Some, OnOk};
+ghost use Rattle.j39_id.specs.Lines.{Short, tells};
 ghost use Rattle.j39_tp.specs.Packets.{InRange};
 ghost use Rattle.j39_tp.specs.declared.receiving.progress.Progress.TheVariants.{Complete};
-ghost use Rattle.j39_log.specs.Listening.{AreAllInRange, HaveHeard, IsCatalogOf, IsInRange, listener_at, place_of};
-ghost use Rattle.j39_log.specs.Recalling.{Recalls, counted};
+ghost use Rattle.j39_log.specs.inside.Listening.{AreAllInRange, HaveHeard, IsCatalogOf, IsInRange, listener_at, place_of};
+ghost use Rattle.j39_log.specs.inside.Recalling.{Recalls, counted};
 ghost use Rattle.j39_log.specs.LogLines.{IsRole, planned};
 ghost use Rattle.j39_log.specs.LogPairs.{Seen};
 ghost use Rattle.j39_log.specs.LogReports.{report};
-ghost use Rattle.j39_log.specs.ReadText.{Follows, IsFrameReport, IsPlannedReport, IsReport, Past, ReadsLine, counts_line, nothing_yet};
+ghost use Rattle.j39_log.specs.ReadText.{Follows, IsFrameReport, IsPlannedReport, IsReport, Past, ReadsLine, ReadsLines, counts_line, nothing_yet};
 ghost use Rattle.j39_log.specs.declared.entry.Entry.TheVariants.{Frame as AFrame};
 ghost use Rattle.j39_log.specs.declared.role.Role.{Role as ARole};
 ghost use Rattle.j39_log.specs.declared.role.Role.TheVariants.{Packet as APacket};
@@ -17,7 +18,7 @@ use crate::entry::{Entry, entry_of};
 use crate::group_report::write_report;
 use crate::listeners::{Listeners, listen};
 use crate::role::{Role, role_of};
-use j39_id::{Frame, Ident};
+use j39_id::{Cut, Frame, Ident};
 use j39_plan::Plan;
 use j39_text::TextBuffer;
 use j39_tp::{Packet, listener_completes_what_is_carried};
@@ -191,7 +192,7 @@ impl Reading {
         requires catalog { IsCatalogOf plan.now catalog.now }
         requires room { counted self.old < 2 ^ 63 }
         ensures line { OnOk result ((past : Past) → Recalls self.old past → (next : Past) × (piece : List ℕ)
-            × ReadsLine plan.now past line.now next piece × Recalls self.new next × (self.new.text ≡ self.old.text ++ piece)) }
+            × ReadsLine plan.now past (Short line.now) next piece × Recalls self.new next × (self.new.text ≡ self.old.text ++ piece)) }
         ensures count { counted self.new ≤ counted self.old + 1 }
     {
         match entry_of(line) {
@@ -202,6 +203,30 @@ impl Reading {
                 Ok(())
             }
             Entry::Bad => {
+                self.bad += 1;
+                Ok(())
+            }
+        }
+    }
+
+    /// Reads what a cutter tells: a line, a line that is too long, or nothing yet.
+    pub fn read_cut(
+        &mut self,
+        plan: &Plan,
+        catalog: &Catalog,
+        cut: Cut,
+        line: &[u8],
+    ) -> Result<(), AllocError>
+        requires catalog { IsCatalogOf plan.now catalog.now }
+        requires room { counted self.old < 2 ^ 63 }
+        ensures lines { OnOk result ((past : Past) → Recalls self.old past → (next : Past) × (piece : List ℕ)
+            × ReadsLines plan.now past (tells cut line.now) next piece × Recalls self.new next × (self.new.text ≡ self.old.text ++ piece)) }
+        ensures count { counted self.new ≤ counted self.old + 1 }
+    {
+        match cut {
+            Cut::More => Ok(()),
+            Cut::Line => self.read_line(plan, catalog, line),
+            Cut::Long => {
                 self.bad += 1;
                 Ok(())
             }

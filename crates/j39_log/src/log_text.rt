@@ -1,57 +1,46 @@
 //! What the read command writes.
-ghost use Rattle.std.specs.Prelude.{◌≡◌, ◌≢◌, ◌⊎◌, ◌+◌, ◌-◌, ◌<◌, ◌≤◌, ◌^◌, ℕ, List, [], ◌++◌, length, take, drop, slice_index, Ok, Err, IfOk, IfErr, IsErrOf, OnOk, OnErr};
+ghost use Rattle.std.specs.Prelude.{◌≡◌, ◌⊎◌, ◌+◌, ◌<◌, ◌≤◌, ◌^◌, ℕ, List, [], ◌++◌, length, Ok, IfOk, IfErr, IsErrOf, OnOk, OnErr};
 ghost use Rattle.std.specs.Io.KnownBytes.{Appends, Consumes, IsAtEnd};
-ghost use Rattle.j39_log.specs.Listening.{IsCatalogOf};
+ghost use Rattle.j39_id.specs.Lines.{Line, behind_all, told, told_at_end};
+ghost use Rattle.j39_stream.specs.Streams.{AppendsPart, HasFailed, KeepsLimits, PassesLimits};
 ghost use Rattle.j39_log.specs.ReadText.{IsLogText, IsReadText, refused_plan_line};
-ghost use Rattle.j39_log.specs.Recalling.{IsPartly, IsReadTo, counted};
-ghost use Rattle.j39_stream.specs.Streams.{AppendsPart, HasFailed};
-ghost use Rattle.j39_log.specs.TextLines.{IsLine};
+ghost use Rattle.j39_log.specs.inside.Listening.{IsCatalogOf};
+ghost use Rattle.j39_log.specs.inside.Recalling.{HasReadLines, HasWritten, counted};
 
 use crate::catalog::{Catalog, CatalogError};
 use crate::log_reading::Reading;
+use j39_id::Cutter;
 use j39_plan::Plan;
-use j39_stream::{Fault, Sink, Source, Verdict, first_feed, load, put_all};
+use j39_stream::{Fault, Intake, Sink, Source, Verdict, put_all};
 use j39_text::{TextBuffer, group_label};
 use std::alloc::{AllocError, Global};
 
-// How much text is put at once, in whole lines.
-const PIECE: usize = 65_536;
+// The most bytes of a piece of the log.
+const PIECE: usize = 4096;
 
-// Where the line ends that begins there: at its line feed, or with the log.
-fn line_end(log: &[u8], start: usize) -> usize
-    requires { start ≤ length log.now }
-    ensures after { start ≤ result }
-    ensures within { result ≤ length log.now }
-    ensures line { IsLine (take (result - start) (drop start log.now)) }
-    ensures feed { result < length log.now → slice_index log.now result ≡ 10 }
-{
-    match first_feed(&log[start..]) {
-        Some(length) => start + length,
-        None => log.len(),
-    }
-}
-
-// Reads the line that begins there, and answers where the next one does.
-fn read_next(
+// Reads the lines that a piece of the log ends.
+fn read_piece(
     reading: &mut Reading,
+    cutter: &mut Cutter,
     plan: &Plan,
     catalog: &Catalog,
-    log: &[u8],
-    start: usize,
-) -> Result<usize, AllocError>
+    piece: &[u8],
+) -> Result<(), AllocError>
     requires catalog { IsCatalogOf plan.now catalog.now }
-    requires start { start < length log.now }
-    requires room { counted reading.old < 2 ^ 63 }
-    ensures next { IfOk result (λ next. start < next) }
-    ensures read { IfOk result (λ next. (written : List ℕ) → IsReadTo plan.now log.now start reading.old written → IsReadTo plan.now log.now next reading.new written) }
+    requires room { counted reading.old + length piece.now < 2 ^ 63 }
+    ensures pending { OnOk result (cutter.new.pending ≡ behind_all cutter.old.pending piece.now) }
+    ensures lines { OnOk result ((before : List Line) (written : List ℕ) → HasReadLines plan.now before reading.old written
+        → HasReadLines plan.now (before ++ told cutter.old.pending piece.now) reading.new written) }
+    ensures count { OnOk result (counted reading.new ≤ counted reading.old + length piece.now) }
 {
-    let end = line_end(log, start);
-    reading.read_line(plan, catalog, &log[start..end])?;
-    if end < log.len() {
-        Ok(end + 1)
-    } else {
-        Ok(end)
+    let mut rest = piece;
+    while !rest.is_empty() {
+        let step = cutter.advance(rest);
+        let line = step.whole.unwrap_or(cutter.line());
+        reading.read_cut(plan, catalog, step.cut, line)?;
+        rest = &rest[step.used..];
     }
+    Ok(())
 }
 
 // Puts what is to be written, and empties it.
@@ -67,46 +56,54 @@ fn put_text<W: Sink>(sink: &mut W, text: &mut TextBuffer) -> Result<(), Fault>
     Ok(())
 }
 
-// Puts what is to be written once it is a whole piece.
-fn put_piece<W: Sink>(sink: &mut W, text: &mut TextBuffer) -> Result<(), Fault>
-    ensures ok { OnOk result ((part : List ℕ) × Appends (W.taken sink.old) (W.taken sink.new) part × (text.old ≡ part ++ text.new)) }
-    ensures cut { OnErr result (AppendsPart (W.taken sink.old) (W.taken sink.new) text.old) }
-    ensures whole { OnOk result (W.failures sink.new ≡ W.failures sink.old) }
-    ensures device { IfErr result (λ fault. (fault ≡ Fault.Device) × HasFailed (W.failures sink.old) (W.failures sink.new)) }
+// Reads the last line, if the log ends in one, and writes how many lines there were.
+fn close(
+    reading: &mut Reading,
+    cutter: &mut Cutter,
+    plan: &Plan,
+    catalog: &Catalog,
+) -> Result<(), AllocError>
+    requires catalog { IsCatalogOf plan.now catalog.now }
+    requires room { counted reading.old < 2 ^ 63 }
+    ensures { OnOk result ((before : List Line) (written : List ℕ) → HasReadLines plan.now before reading.old written
+        → HasWritten plan.now (before ++ told_at_end cutter.old.pending) (written ++ reading.new.text)) }
 {
-    if text.len() < PIECE {
-        return Ok(());
-    }
-    put_text(sink, text)
+    let cut = cutter.end();
+    reading.read_cut(plan, catalog, cut, cutter.line())?;
+    reading.write_counts()
 }
 
-// Writes what the log says, in pieces.
-fn write_log<W: Sink>(
+// Writes what the log says, a piece of the log after another.
+fn read_log<S: Source, W: Sink>(
     alloc: Global,
     plan: &Plan,
     catalog: &Catalog,
-    log: &[u8],
+    source: &mut S,
     sink: &mut W,
 ) -> Result<(), Fault>
-    requires catalog { IsCatalogOf plan.now catalog.now }
-    requires limit { length log.now ≤ 16777216 }
-    ensures ok { OnOk result ((text : List ℕ) × IsLogText plan.now log.now text × Appends (W.taken sink.old) (W.taken sink.new) text) }
-    ensures cut { OnErr result (IsPartly plan.now log.now (W.taken sink.old) (W.taken sink.new)) }
-    ensures device { IsErrOf result Fault.Device → HasFailed (W.failures sink.old) (W.failures sink.new) }
-    ensures only { result ≢ Err Fault.TooLong }
+    requires { IsCatalogOf plan.now catalog.now }
+    ensures ok { OnOk result ((log : List ℕ) × (text : List ℕ) × Consumes (S.left source.old) (S.left source.new) log × IsAtEnd (S.left source.new)
+        × IsLogText plan.now log text × Appends (W.taken sink.old) (W.taken sink.new) text) }
+    ensures cut { OnErr result ((log : List ℕ) × (rest : List ℕ) × (text : List ℕ) × Consumes (S.left source.old) (S.left source.new) (log ++ rest)
+        × IsLogText plan.now log text × AppendsPart (W.taken sink.old) (W.taken sink.new) text) }
+    ensures limits { OnOk result (KeepsLimits (S.left source.old) (S.left source.new) (S.pulls source.old) (S.pulls source.new)) }
+    ensures long { IsErrOf result Fault.TooLong → PassesLimits (S.left source.old) (S.left source.new) (S.pulls source.old) (S.pulls source.new) }
+    ensures device { IsErrOf result Fault.Device → HasFailed (S.failures source.old) (S.failures source.new)
+        ⊎ HasFailed (W.failures sink.old) (W.failures sink.new) }
 {
     let mut reading = Reading::new(alloc);
-    let mut start = 0;
-    while start < log.len() {
-        let Ok(next) = read_next(&mut reading, plan, catalog, log, start) else {
-            return Err(Fault::Memory);
-        };
-        start = next;
-        put_piece(sink, &mut reading.text)?;
+    let mut cutter = Cutter::new();
+    let mut intake = Intake::new();
+    let mut piece = [0; PIECE];
+    loop {
+        let count = intake.pull(source, &mut piece)?;
+        if count == 0 {
+            break;
+        }
+        read_piece(&mut reading, &mut cutter, plan, catalog, &piece[..count])?;
+        put_text(sink, &mut reading.text)?;
     }
-    let Ok(()) = reading.write_counts() else {
-        return Err(Fault::Memory);
-    };
+    close(&mut reading, &mut cutter, plan, catalog)?;
     put_text(sink, &mut reading.text)
 }
 
@@ -137,7 +134,8 @@ pub fn read_text<S: Source, W: Sink>(
         × Consumes (S.left source.old) (S.left source.new) log
         × IsReadText plan.now log text verdict × Appends (W.taken sink.old) (W.taken sink.new) text) }
     ensures end { result ≡ Ok Verdict.Done → IsAtEnd (S.left source.new) }
-    ensures long { IsErrOf result Fault.TooLong → sink.new ≡ sink.old }
+    ensures limits { OnOk result (KeepsLimits (S.left source.old) (S.left source.new) (S.pulls source.old) (S.pulls source.new)) }
+    ensures long { IsErrOf result Fault.TooLong → PassesLimits (S.left source.old) (S.left source.new) (S.pulls source.old) (S.pulls source.new) }
 
     // A call of the source or of the sink failed.
     ensures device { IsErrOf result Fault.Device → HasFailed (S.failures source.old) (S.failures source.new)
@@ -159,7 +157,6 @@ pub fn read_text<S: Source, W: Sink>(
             return Ok(Verdict::Refused);
         }
     };
-    let log = load(alloc, source)?;
-    write_log(alloc, plan, &catalog, log.as_slice(), sink)?;
+    read_log(alloc, plan, &catalog, source, sink)?;
     Ok(Verdict::Done)
 }

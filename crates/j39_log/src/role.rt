@@ -3,7 +3,7 @@ ghost use Rattle.std.specs.Prelude.{◌↔◌, IsTrue, IfSome, IfNone};
 ghost use Rattle.j39_tp.specs.Packets.{DataReads, InRange, ManagementReads};
 ghost use Rattle.j39_tp.specs.declared.packet.Packet.{Packet as APacket};
 ghost use Rattle.j39_plan.specs.declared.plan.Plan.{Plan};
-ghost use Rattle.j39_log.specs.Listening.{IsCatalogOf, IsInRange};
+ghost use Rattle.j39_log.specs.inside.Listening.{IsCatalogOf, IsInRange};
 ghost use Rattle.j39_log.specs.LogLines.{IsPacket, IsRole, IsSentTo};
 
 use crate::catalog::Catalog;

@@ -4,7 +4,7 @@ use Rattle.std.proofs.lemmas.List.{length-map, map-append}
 use Rattle.std.specs.List.{slice_split}
 use Rattle.j39_plan.specs.declared.plan.Plan.{Plan}
 use Rattle.j39_bus.specs.World.{World}
-use Rattle.j39_stream.specs.LineFeed.{is_line_feed}
+use Rattle.j39_id.specs.Lines.{is_line_feed, line_of}
 use Rattle.j39_run.specs.RunText.{EndsAt, IsWithin, IsSameForContinuations}
 use Rattle.j39_schedule.specs.Schedule.{Reading, line_order, read_as, readings_of}
 use Rattle.j39_run.specs.declared.halt.Halt.{Halt}
@@ -21,15 +21,15 @@ cut_here (x ∷ ended) xs (z ∷ done) y ys same short =
     let (more, is) = cut_here ended xs done y ys rest (omega arith) in
     (more, cc)
 
-readings-append : (plan : Plan) (front more : List ℕ) → readings_of plan (front ++ 10 ∷ more) ≡ map (line_order plan) (slice_split is_line_feed front) ++ readings_of plan more
-readings-append plan front more = ap (map (line_order plan)) (lines-append front more) ∙ map-append (line_order plan) (slice_split is_line_feed front) _
+readings-append : (plan : Plan) (front more : List ℕ) → readings_of plan (front ++ 10 ∷ more) ≡ map (line_order plan) (map line_of (slice_split is_line_feed front)) ++ readings_of plan more
+readings-append plan front more = ap (map (line_order plan)) (lines-append front more) ∙ map-append (line_order plan) (map line_of (slice_split is_line_feed front)) _
 
 module _ (plan : Plan) (front more other : List ℕ) where
   same_until : (done : List Reading) (here : Reading) (behind : List Reading) → readings_of plan (front ++ 10 ∷ more) ≡ done ++ here ∷ behind
       → length done < length (slice_split is_line_feed front) → (rest : List Reading) × (readings_of plan (front ++ 10 ∷ other) ≡ done ++ here ∷ rest)
   same_until done here behind is inside =
-      let ended : List Reading = map (line_order plan) (slice_split is_line_feed front) in
-      let count : length ended ≡ length (slice_split is_line_feed front) = length-map (slice_split is_line_feed front) (line_order plan) in
+      let ended : List Reading = map (line_order plan) (map line_of (slice_split is_line_feed front)) in
+      let count : length ended ≡ length (slice_split is_line_feed front) = length-map (map line_of (slice_split is_line_feed front)) (line_order plan) ∙ length-map (slice_split is_line_feed front) line_of in
       let (rest, same) = cut_here ended (readings_of plan more) done here behind (sym (readings-append plan front more) ∙ is) (omega arith) in
       (rest ++ readings_of plan other, readings-append plan front other ∙ ap (λ (l : List Reading). l ++ readings_of plan other) same ∙ append_assoc done (here ∷ rest) (readings_of plan other))
 

@@ -18,7 +18,7 @@ use Rattle.j39_bus.specs.Sent.{Sent}
 use Rattle.j39_bus.specs.Transfers.{Reported}
 use Rattle.j39_bus.specs.World.{World, first}
 use Rattle.j39_text.specs.Labels.{group_text, unit_label, units_text}
-use Rattle.j39_stream.specs.LineFeed.{is_line_feed}
+use Rattle.j39_id.specs.Lines.{is_line_feed}
 use Rattle.j39_schedule.specs.Schedule.{Reading, read_as, readings_of}
 use Rattle.j39_text.specs.Texts.{field, place_field}
 use Rattle.j39_schedule.specs.declared.line_fault.LineFault.{LineFault}

@@ -1,8 +1,8 @@
 //! The run command with the choosers that a plan names.
-ghost use Rattle.std.specs.Prelude.{◌≡◌, ◌⊎◌, ℕ, List, length, IfOk, IsErrOf};
+ghost use Rattle.std.specs.Prelude.{◌≡◌, ◌⊎◌, ℕ, List, length, IfOk, IsErrOf, OnOk, Some};
 ghost use Rattle.std.specs.Io.KnownBytes.{Appends, Consumes, IsAtEnd};
 ghost use Rattle.j39_run.specs.RunText.{IsRunText};
-ghost use Rattle.j39_stream.specs.Streams.{AppendsPart, HasFailed};
+ghost use Rattle.j39_stream.specs.Streams.{AppendsPart, HasFailed, KeepsLimits, PassesLimits};
 
 use crate::run_text;
 use j39_claim::{Choose, Lowest, Upward};
@@ -20,8 +20,14 @@ pub fn run_planned<S: Source, W: Sink>(
     ensures written { IfOk result (λ verdict. (input : List ℕ) × (text : List ℕ)
         × Consumes (S.left source.old) (S.left source.new) input × (verdict ≡ Verdict.Done → IsAtEnd (S.left source.new))
         × IsRunText plan.now (length plan.now.units.items) input text verdict × Appends (W.taken sink.old) (W.taken sink.new) text) }
+
+    // The text is that of all that the source had left at the call, however much of it was read.
+    ensures whole { IfOk result (λ verdict. (all : List ℕ) → S.left source.old ≡ Some all → (text : List ℕ)
+        × IsRunText plan.now (length plan.now.units.items) all text verdict × Appends (W.taken sink.old) (W.taken sink.new) text) }
     ensures memory { IsErrOf result Fault.Memory → sink.new ≡ sink.old }
-    ensures long { IsErrOf result Fault.TooLong → sink.new ≡ sink.old }
+    ensures limits { OnOk result (KeepsLimits (S.left source.old) (S.left source.new) (S.pulls source.old) (S.pulls source.new)) }
+    ensures long { IsErrOf result Fault.TooLong → (sink.new ≡ sink.old)
+        × PassesLimits (S.left source.old) (S.left source.new) (S.pulls source.old) (S.pulls source.new) }
 
     // A call of the source or of the sink failed. What was written is then a prefix of what the schedule asks for.
     ensures device { IsErrOf result Fault.Device → HasFailed (S.failures source.old) (S.failures source.new)

@@ -1,13 +1,13 @@
 -- The lines of a text and the words of a line, one after another.
-use Rattle.std.proofs.Common.{◌≡◌, ℕ, suc, ◌+◌, ◌-◌, ◌<◌, ◌≤◌, Bool, true, false, cond, not, List, [], ◌∷◌, ◌++◌, length, take, drop, refl, sym, ap, ◌∙◌, subst, arith, inl, inr, Option, Some, None}
+use Rattle.std.proofs.Common.{◌≡◌, ℕ, suc, ◌+◌, ◌-◌, ◌<◌, ◌≤◌, Bool, true, false, cond, not, List, [], ◌∷◌, ◌++◌, length, map, take, drop, refl, sym, ap, ◌∙◌, subst, arith, inl, inr, Option, Some, None}
 use Rattle.std.proofs.lemmas.Bool.{cases_lt, lt-ltb, le-ltb}
-use Rattle.std.proofs.lemmas.List.{drop_all, length-take-le, take_rest}
+use Rattle.std.proofs.lemmas.List.{drop_all, length-take-le, map-append, take_rest}
 use Rattle.std.proofs.lemmas.List.Splits.{slice_split_first}
 use Rattle.std.specs.List.{slice_split, onto_first, position, position_or_len, filter}
 use Rattle.std.specs.Option.{unwrap_or}
 use Rattle.j39_id.specs.FrameLine.{is_separator}
-use Rattle.j39_stream.specs.LineFeed.{is_line_feed}
-use Rattle.j39_schedule.specs.Schedule.{is_word, lines_of, words_of, without_empty_end}
+use Rattle.j39_id.specs.Lines.{is_line_feed, line_of, lines, without_empty_end}
+use Rattle.j39_schedule.specs.Schedule.{is_word, words_of}
 
 -- ---- positions
 
@@ -87,24 +87,27 @@ ended-parts parts text =
     rw is (more_parts parts part rest)
 
 -- the lines that have ended come first
-pub lines-append : (front more : List ℕ) → lines_of (front ++ 10 ∷ more) ≡ slice_split is_line_feed front ++ lines_of more
-unfolding lines_of
-lines-append front more = ap without_empty_end (split-append is_line_feed front 10 more refl) ∙ ended-parts (slice_split is_line_feed front) more
+pub lines-append : (front more : List ℕ) → lines (front ++ 10 ∷ more) ≡ map line_of (slice_split is_line_feed front) ++ lines more
+unfolding lines
+lines-append front more =
+    ap (map line_of) (ap without_empty_end (split-append is_line_feed front 10 more refl) ∙ ended-parts (slice_split is_line_feed front) more)
+    ∙ map-append line_of (slice_split is_line_feed front) _
 
-pub no_lines : (text : List ℕ) → length text ≡ 0 → lines_of text ≡ []
-unfolding lines_of
+pub no_lines : (text : List ℕ) → length text ≡ 0 → lines text ≡ []
+unfolding lines
 no_lines [] is = refl
 no_lines (b ∷ text) is = absurd (omega arith)
 
-pub line_at : (text : List ℕ) (n : ℕ) → position is_line_feed text ≡ Some n → lines_of text ≡ take n text ∷ lines_of (drop (n + 1) text)
-unfolding lines_of
-line_at text n is = ap without_empty_end (split_at is_line_feed text n is) ∙ ended-parts (take n text ∷ []) (drop (n + 1) text)
+pub line_at : (text : List ℕ) (n : ℕ) → position is_line_feed text ≡ Some n → lines text ≡ line_of (take n text) ∷ lines (drop (n + 1) text)
+unfolding lines
+line_at text n is = ap (map line_of) (ap without_empty_end (split_at is_line_feed text n is) ∙ ended-parts (take n text ∷ []) (drop (n + 1) text))
 
-pub last_line : (text : List ℕ) → 0 < length text → position is_line_feed text ≡ None → lines_of text ≡ text ∷ lines_of []
-unfolding lines_of
+pub last_line : (text : List ℕ) → 0 < length text → position is_line_feed text ≡ None → lines text ≡ line_of text ∷ lines []
+unfolding lines
 last_line text some is =
     let full = lt-ltb 0 (length text) some in
-    ap without_empty_end (split_whole is_line_feed text is) ∙ rw full refl
+    let one : without_empty_end (text ∷ []) ≡ text ∷ [] = rw full refl in
+    ap (map line_of) (ap without_empty_end (split_whole is_line_feed text is) ∙ one)
 
 -- ---- words
 

@@ -12,23 +12,13 @@ use Rattle.j39_plan.specs.declared.plan.Plan.{Plan}
 use Rattle.j39_plan.specs.declared.plan.unit_plan.UnitPlan.{UnitPlan}
 use Rattle.j39_plan.specs.declared.steps.Step.{Step}
 use Rattle.j39_plan.specs.declared.steps.Step.TheVariants.{Up, Down, Give, Ask, Begin, Emit, Take, Lose, LateSender, LateReceiver, Rest}
-use Rattle.j39_stream.specs.LineFeed.{is_line_feed}
+use Rattle.j39_id.specs.Lines.{Line, Long, Short, lines}
 use Rattle.j39_schedule.specs.declared.line_fault.LineFault.{LineFault}
 use Rattle.j39_schedule.specs.declared.line_fault.LineFault.TheVariants.{LongLine, UnknownWord, WordCount, UnknownLabel, BadNumber, BadHex}
 use Rattle.j39_schedule.specs.declared.order_word.OrderWord.{OrderWord}
 use Rattle.j39_schedule.specs.declared.order_word.OrderWord.TheVariants as words
 
--- ---- lines and their words
-
--- a last part counts if it isn't empty
-abbrev pub without_empty_end : List (List ℕ) → List (List ℕ)
-without_empty_end [] = []
-without_empty_end (part ∷ []) = if nat_lt 0 (length part) then part ∷ [] else []
-without_empty_end (part ∷ next ∷ parts) = part ∷ without_empty_end (next ∷ parts)
-
--- the parts of a text that line feeds end, and what stands behind the last line feed
-unfoldable pub lines_of : List ℕ → List (List ℕ)
-lines_of text = without_empty_end (slice_split is_line_feed text)
+-- ---- the words of a line
 
 abbrev pub is_word : List ℕ → Bool
 is_word part = nat_lt 0 (length part)
@@ -130,13 +120,11 @@ words_order plan (word ∷ values) =
     if begins_comment word then Ok None
     else option_map_or (λ w. order_of plan w values) (find (λ w. bytes_eq (word_text w) word) order_words) (Err UnknownWord)
 
--- the most bytes that a line may have
-abbrev pub line_limit : ℕ
-line_limit = 8192
-
-unfoldable pub line_order : Plan → List ℕ → Reading
-line_order plan line = if nat_lt line_limit (length line) then Err LongLine else words_order plan (words_of line)
+-- what a line orders
+unfoldable pub line_order : Plan → Line → Reading
+line_order plan Long = Err LongLine
+line_order plan (Short line) = words_order plan (words_of line)
 
 -- what each line of a schedule is read as
 abbrev pub readings_of : Plan → List ℕ → List Reading
-readings_of plan text = map (line_order plan) (lines_of text)
+readings_of plan text = map (line_order plan) (lines text)

@@ -1,14 +1,20 @@
 //! The lines of a text.
 ghost use Rattle.std.specs.Prelude.{◌≡◌, ◌<◌, [], ◌∷◌, length, IfSome, IfNone};
-ghost use Rattle.j39_schedule.specs.Schedule.{lines_of};
+ghost use Rattle.std.specs.List.{position};
+ghost use Rattle.j39_id.specs.Lines.{is_line_feed, line_of, lines};
 
-use j39_stream::first_feed;
+// Where the first line feed stands.
+fn first_feed(text: &[u8]) -> Option<usize>
+    ensures { result ≡ position is_line_feed text.now }
+{
+    text.iter().position(|byte| *byte == b'\n')
+}
 
 /// The first line, and what stands behind its line feed.
 pub fn next_line(text: &[u8]) -> Option<(&[u8], &[u8])>
-    ensures lines { IfSome result (λ found. lines_of text.now ≡ found.0.now ∷ lines_of found.1.now) }
+    ensures lines { IfSome result (λ found. lines text.now ≡ line_of found.0.now ∷ lines found.1.now) }
     ensures shorter { IfSome result (λ found. length found.1.now < length text.now) }
-    ensures none { IfNone result (lines_of text.now ≡ []) }
+    ensures none { IfNone result (lines text.now ≡ []) }
 {
     if text.is_empty() {
         return None;

@@ -1,6 +1,7 @@
 //! Reading a line of a schedule.
 ghost use Rattle.std.specs.Prelude.{◌≡◌, None, Some, position, IfOk, IfErr};
 ghost use Rattle.std.specs.Str.{bytes_eq};
+ghost use Rattle.j39_id.specs.Lines.{line_of};
 ghost use Rattle.j39_schedule.specs.Schedule.{line_order, order_of, unit_named, words_of};
 ghost use Rattle.j39_schedule.specs.Scheduling.{IsReadAs};
 
@@ -76,7 +77,7 @@ fn order_of(
 /// What a line orders: a step, or nothing where it has no words or is a comment.
 #[tactic(auto, unfolding(crate::specs::Schedule::line_order, crate::specs::Schedule::words_order))]
 pub fn read_line(alloc: Global, plan: &Plan, line: &[u8]) -> Result<Option<Step>, Unread>
-    ensures { IsReadAs (line_order plan.now line.now) result }
+    ensures { IsReadAs (line_order plan.now (line_of line.now)) result }
 {
     if line.len() > LINE_LIMIT {
         return Err(Unread::Fault(LineFault::LongLine));

@@ -1,11 +1,11 @@
 -- Facts on the counts of failed calls and on bytes that are written in pieces.
-use Rattle.std.proofs.Common.{◌≡◌, ℕ, ◌+◌, ◌-◌, ◌<◌, ◌≤◌, ◌^◌, List, length, take, drop, Option, Result, Ok, Err, refl, sym, ap, ◌∙◌, inl, inr, arith, subst, ◌++◌}
-use Rattle.std.proofs.lemmas.List.{length-drop, length-take-le, take_at, drop-drop, take-append-drop}
+use Rattle.std.proofs.Common.{◌≡◌, [], ℕ, ◌+◌, ◌-◌, ◌<◌, ◌≤◌, ◌^◌, List, length, take, drop, Option, Result, Ok, Err, refl, sym, ap, ◌∙◌, inl, inr, arith, subst, ◌++◌}
+use Rattle.std.proofs.lemmas.List.{append-nil, length-append, length-drop, length-take-le, take_at, drop-drop, take-append-drop}
 use Rattle.std.proofs.lemmas.Bool.{cases_lt, lt-ltb, ne_eqb}
 use Rattle.std.proofs.Math.Seq.{take-add}
-use Rattle.std.proofs.KnownBytes.{Appends-trans}
-use Rattle.std.specs.Io.KnownBytes.{Appends}
-use Rattle.j39_stream.specs.Streams.{one_more, after_calls, after_put, HasFailed}
+use Rattle.std.proofs.KnownBytes.{Appends-trans, Consumes-trans}
+use Rattle.std.specs.Io.KnownBytes.{Appends, Consumes}
+use Rattle.j39_stream.specs.Streams.{one_more, after_calls, after_put, HasFailed, IsTooLong, KeepsLimits, PassesLimits, input_limit, read_calls}
 use Rattle.j39_stream.specs.declared.failed.Failed.{Failed}
 
 one_more_failed : (n : ℕ) → HasFailed n (one_more n)
@@ -51,3 +51,24 @@ piece_moved input buffer copied at n fits e =
 -- one more call after n calls
 pub calls_more : (old count n : ℕ) → count ≡ after_calls old n → one_more count ≡ after_calls old (n + 1)
 calls_more old count n h = omega arith
+
+-- ---- pieces that are read
+
+-- a call that gave nothing read nothing more
+pub nothing_more : (a b c : Option (List ℕ)) (text buffer : List ℕ) (n : ℕ) → n ≡ 0 → Consumes a b text → Consumes b c (take n buffer) → Consumes a c text
+nothing_more a b c text buffer n none p q =
+    let q' : Consumes b c [] = subst (λ (m : ℕ). Consumes b c (take m buffer)) none q in
+    subst (Consumes a c) (append-nil text) (Consumes-trans a b c text [] p q')
+
+-- the limits are kept where the end is told
+pub kept_limits : (a b : Option (List ℕ)) (text : List ℕ) (old count new calls : ℕ) → Consumes a b text → length text ≤ input_limit → calls < read_calls
+    → count ≡ after_calls old calls → new ≡ one_more count → KeepsLimits a b old new
+kept_limits a b text old count new calls p within fewer before now = (text, p, within, (calls + 1, omega arith, now ∙ calls_more old count calls before))
+
+-- a piece that passes the limit
+pub passed_limit : (a b c : Option (List ℕ)) (text buffer : List ℕ) (bytes n old new : ℕ) → n ≤ length buffer → bytes ≡ length text → input_limit - bytes < n
+    → Consumes a b text → Consumes b c (take n buffer) → PassesLimits a c old new
+passed_limit a b c text buffer bytes n old new some are passes p q =
+    let count = length-take-le n buffer some in
+    let sum = length-append text (take n buffer) in
+    (text ++ take n buffer, Consumes-trans a b c text (take n buffer) p q, inl (omega arith))

@@ -1,3 +1,3 @@
-pub mod LineFeed
+pub mod Intakes
 pub mod Streams
 pub mod Tape

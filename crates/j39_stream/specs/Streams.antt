@@ -1,7 +1,7 @@
 -- What calls of a source and a sink do to their counts, and what was written where a call failed.
 use Rattle.std.specs.Prelude.{◌≡◌, ℕ, ◌+◌, ◌-◌, ◌<◌, ◌≤◌, ◌^◌, ◌==◌, ◌⊎◌, ◌&&◌, ◌||◌, nat_lt, min, max, Bool, if◌then◌else◌, List, length, take, Option, Result, is_ok, not}
 use Rattle.std.specs.Result.{result_unwrap_or}
-use Rattle.std.specs.Io.KnownBytes.{Appends}
+use Rattle.std.specs.Io.KnownBytes.{Appends, Consumes}
 use Rattle.j39_stream.specs.declared.failed.Failed.{Failed}
 
 -- a count after n more calls: it grows up to the largest number of 64 bits
@@ -35,3 +35,24 @@ AppendsPart old new text = (n : ℕ) × Appends old new (take n text)
 abbrev pub IsTooLong : ℕ → ℕ → List ℕ → ℕ → ℕ → Type 0
 IsTooLong limit calls bytes old_pulls new_pulls =
     (limit < length bytes) ⊎ ((calls ≤ length bytes) × (new_pulls ≡ after_calls old_pulls calls))
+
+-- ---- limits
+
+-- the most bytes that an input may have
+abbrev pub input_limit : ℕ
+input_limit = 16777216
+
+-- the most calls that may read an input, the one that tells its end among them
+abbrev pub read_calls : ℕ
+read_calls = 1048576
+
+-- what a source gave between these, in the calls that were counted, keeps the limits
+abbrev pub KeepsLimits : Option (List ℕ) → Option (List ℕ) → ℕ → ℕ → Type 0
+KeepsLimits old new old_pulls new_pulls =
+    (bytes : List ℕ) × Consumes old new bytes × (length bytes ≤ input_limit)
+    × ((n : ℕ) × (n ≤ read_calls) × (new_pulls ≡ after_calls old_pulls n))
+
+-- it passes them
+abbrev pub PassesLimits : Option (List ℕ) → Option (List ℕ) → ℕ → ℕ → Type 0
+PassesLimits old new old_pulls new_pulls =
+    (bytes : List ℕ) × Consumes old new bytes × IsTooLong input_limit read_calls bytes old_pulls new_pulls

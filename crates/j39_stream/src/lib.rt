@@ -4,7 +4,7 @@
 mod failed;
 mod fault;
 mod from_read;
-mod line_feed;
+mod intake;
 mod loading;
 mod pieces;
 mod sink;
@@ -16,7 +16,7 @@ mod writing;
 pub use failed::Failed;
 pub use fault::Fault;
 pub use from_read::FromRead;
-pub use line_feed::first_feed;
+pub use intake::Intake;
 pub use loading::load;
 pub use pieces::{Pieces, Stop};
 pub use sink::Sink;

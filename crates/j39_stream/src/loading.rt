@@ -1,7 +1,7 @@
 //! Reading a whole input.
-ghost use Rattle.std.specs.Prelude.{◌≡◌, ◌≢◌, ℕ, ◌≤◌, List, length, vec_len, IfOk, IsErrOf, Err};
+ghost use Rattle.std.specs.Prelude.{◌≡◌, ◌≢◌, ◌≤◌, vec_len, IfOk, OnOk, IsErrOf, Err};
 ghost use Rattle.std.specs.Io.KnownBytes.{Consumes, IsAtEnd};
-ghost use Rattle.j39_stream.specs.Streams.{HasFailed, IsTooLong, after_calls};
+ghost use Rattle.j39_stream.specs.Streams.{HasFailed, KeepsLimits, PassesLimits};
 
 use crate::{Fault, Source};
 use std::alloc::Global;
@@ -18,9 +18,8 @@ const PIECE: usize = 16_384;
 pub fn load<S: Source>(alloc: Global, source: &mut S) -> Result<Vec<u8>, Fault>
     ensures whole { IfOk result (λ input. Consumes (S.left source.old) (S.left source.new) input.items × IsAtEnd (S.left source.new)) }
     ensures limit { IfOk result (λ input. vec_len input ≤ INPUT_LIMIT) }
-    ensures calls { IfOk result (λ input. (n : ℕ) × (n ≤ READ_CALLS) × (S.pulls source.new ≡ after_calls (S.pulls source.old) n)) }
-    ensures long { IsErrOf result Fault.TooLong → (bytes : List ℕ) × Consumes (S.left source.old) (S.left source.new) bytes
-        × IsTooLong INPUT_LIMIT READ_CALLS bytes (S.pulls source.old) (S.pulls source.new) }
+    ensures limits { OnOk result (KeepsLimits (S.left source.old) (S.left source.new) (S.pulls source.old) (S.pulls source.new)) }
+    ensures long { IsErrOf result Fault.TooLong → PassesLimits (S.left source.old) (S.left source.new) (S.pulls source.old) (S.pulls source.new) }
 
     // A call failed exactly where the answer says so.
     ensures device { IsErrOf result Fault.Device → HasFailed (S.failures source.old) (S.failures source.new) }

@@ -1,6 +1,6 @@
 use Rattle.std.proofs.Common.{ℕ, Some, cond, sym, ap, ◌∙◌}
 use Rattle.std.specs.HashMap.{get}
-use Rattle.j39_log.specs.Listening.{is_same_key}
+use Rattle.j39_log.specs.inside.Listening.{is_same_key}
 use Rattle.j39_log.proofs.Indexes.{absent, present}
 use Rattle.j39_log.proofs.catalog.add_place.Goals as goal
 

@@ -4,7 +4,7 @@ use Rattle.std.proofs.lemmas.List.Elements.{All-more}
 use Rattle.std.proofs.lemmas.Option.{slice_get-get_or}
 use Rattle.j39_signal.specs.LayoutParts.{LayoutParts}
 use Rattle.j39_plan.specs.declared.plan.group_plan.GroupPlan.{GroupPlan}
-use Rattle.j39_log.specs.Listening.{layout_of}
+use Rattle.j39_log.specs.inside.Listening.{layout_of}
 use Rattle.j39_bus.specs.Opening.{IsSendable}
 use Rattle.j39_log.proofs.catalog.layouts_of.Goals as goal
 

@@ -1,7 +1,7 @@
 use Rattle.std.proofs.Common.{◌≡◌, [], sym, ◌∙◌, inl, inr, refl, true, false}
 use Rattle.std.proofs.lemmas.List.{append-nil}
 use Rattle.j39_tp.specs.declared.packet.Packet.{Packet}
-use Rattle.j39_log.specs.Listening.{completes, listener_at, place_of}
+use Rattle.j39_log.specs.inside.Listening.{completes, listener_at, place_of}
 use Rattle.j39_log.specs.ReadText.{heard_before}
 use Rattle.j39_log.proofs.Completing.{carried_there, uncarried_there}
 use Rattle.j39_log.proofs.PairLists.{heard_in_range, heard_itself, turned}

@@ -1,4 +1,6 @@
-use Rattle.std.proofs.Common.{inr}
+use Rattle.std.proofs.Common.{List, ℕ, IfSome, inr, length, subst}
+use Rattle.std.proofs.KnownBytes.{Consumes-whole}
+use Rattle.j39_run.specs.RunText.{IsRunText}
 use Rattle.j39_run.proofs.run.run_text.Goals as goal
 
 pub returns-in_err-put_all-clause-cut : goal.returns-in_err-put_all-clause-cut
@@ -23,3 +25,10 @@ returns-clause-written g c =
       rw c.as_slice.ensures.value at c.in_ok-text.ensures,
       rw c.as_slice-2.ensures at c.in_ok-put_all.ensures.ok,
     )
+
+pub returns-clause-whole : goal.returns-clause-whole
+returns-clause-whole g c all is =
+    let read = c.in_ok-input.ensures.whole in
+    let IsTextOf : List ℕ → Type 0 = λ bytes. IsRunText c.args.plan.now (length c.args.choosers.items) bytes c.in_ok-text.text c.in_ok-text.verdict in
+    let written : IsTextOf c.in_ok-input.input.items = rw c.as_slice.ensures.value at c.in_ok-text.ensures in
+    (c.in_ok-text.text, subst (λ left. IfSome left IsTextOf) is (Consumes-whole _ _ c.in_ok-input.input.items IsTextOf read.0 read.1 written), rw c.as_slice-2.ensures at c.in_ok-put_all.ensures.ok)

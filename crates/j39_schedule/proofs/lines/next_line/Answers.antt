@@ -1,7 +1,7 @@
 use Rattle.std.proofs.Common.{◌<◌, ◌+◌, ◌∷◌, List, ℕ, length, take, sym, ◌∙◌, ap, arith}
 use Rattle.std.proofs.lemmas.Bool.{eqb-true, eqb-false}
 use Rattle.std.proofs.lemmas.List.{take_rest}
-use Rattle.j39_schedule.specs.Schedule.{lines_of}
+use Rattle.j39_id.specs.Lines.{line_of, lines}
 use Rattle.j39_schedule.proofs.Splits.{no_lines, line_at, last_line}
 use Rattle.j39_schedule.proofs.lines.next_line.Goals as goal
 
@@ -11,7 +11,7 @@ returns-then-is_empty-clause-none c = no_lines c.args.text.now (eqb-true (length
 pub returns-in-Some-clause-lines : goal.returns-in-Some-clause-lines
 returns-in-Some-clause-lines c =
     let rest = take_rest c.args.text.now (c.in-Some.end + 1) in
-    line_at c.args.text.now c.in-Some.end (sym c.first_feed.ensures ∙ c.in-Some.is) ∙ ap (λ (r : List ℕ). take c.in-Some.end c.args.text.now ∷ lines_of r) (sym rest)
+    line_at c.args.text.now c.in-Some.end (sym c.first_feed.ensures ∙ c.in-Some.is) ∙ ap (λ (r : List ℕ). line_of (take c.in-Some.end c.args.text.now) ∷ lines r) (sym rest)
 
 pub returns-in-None-clause-lines : goal.returns-in-None-clause-lines
 returns-in-None-clause-lines c =

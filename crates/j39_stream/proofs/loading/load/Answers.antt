@@ -1,11 +1,15 @@
 use Rattle.std.proofs.Common.{◌+◌, ◌++◌, List, ℕ, take, inl, arith, ◌∙◌}
 use Rattle.std.proofs.lemmas.List.{length-append, length-take-le}
 use Rattle.std.proofs.KnownBytes.{Consumes-trans}
-use Rattle.j39_stream.proofs.StreamSteps.{calls_more}
+use Rattle.j39_stream.proofs.StreamSteps.{kept_limits, nothing_more}
 use Rattle.j39_stream.proofs.loading.load.Goals as goal
 
-pub returns-then-count-eq0-clause-calls : goal.returns-then-count-eq0-clause-calls
-returns-then-count-eq0-clause-calls g c = (c.loop.counter + 1, omega arith, c.in-Ok.ensures.pulls ∙ calls_more _ _ _ c.loop.invariant.3)
+pub returns-then-count-eq0-clause-limits : goal.returns-then-count-eq0-clause-limits
+returns-then-count-eq0-clause-limits g c =
+    let len = c.loop.input.ok.0 in
+    kept_limits _ _ c.loop.input.items _ _ _ c.loop.counter
+    (nothing_more _ _ _ c.loop.input.items c.pull.new.buffer c.in-Ok.count c.if-count-eq0.true c.loop.invariant.0 c.in-Ok.ensures.bytes.0)
+    (omega arith) c.loop-test.true c.loop.invariant.3 c.in-Ok.ensures.pulls
 
 pub returns-then-len-count-clause-long : goal.returns-then-len-count-clause-long
 returns-then-len-count-clause-long g c _ =

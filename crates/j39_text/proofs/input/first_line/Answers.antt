@@ -1,6 +1,6 @@
 use Rattle.std.proofs.Common.{sym, ◌∙◌}
-use Rattle.j39_stream.specs.LineFeed.{is_line_feed}
-use Rattle.j39_stream.proofs.FirstLine.{before_found, before_missing}
+use Rattle.j39_id.specs.Lines.{is_line_feed}
+use Rattle.j39_text.proofs.FirstLine.{before_found, before_missing}
 use Rattle.j39_text.proofs.input.first_line.Goals as goal
 
 pub returns-in-Some : goal.returns-in-Some

@@ -2,7 +2,7 @@ use Rattle.std.proofs.Common.{◌≡◌, List, ℕ, ap, ◌∙◌, subst, inr}
 use Rattle.std.proofs.lemmas.Result.{IfOk-weaker}
 use Rattle.std.specs.List.{before_first}
 use Rattle.j39_text.specs.FrameText.{IsFrameText}
-use Rattle.j39_stream.specs.LineFeed.{is_line_feed}
+use Rattle.j39_id.specs.Lines.{is_line_feed}
 use Rattle.j39_text.proofs.input.input_text.Goals as goal
 
 pub returns-clause-written : goal.returns-clause-written

@@ -2,7 +2,7 @@ use Rattle.std.proofs.Common.{ℕ, sym, ap, ◌∙◌, ◌+◌, refl}
 use Rattle.std.proofs.lemmas.List.{length_push}
 use Rattle.std.proofs.lemmas.List.Elements.{All-push}
 use Rattle.std.proofs.lemmas.Result.{IfOk-weaker}
-use Rattle.j39_log.specs.Listening.{IsInRange}
+use Rattle.j39_log.specs.inside.Listening.{IsInRange}
 use Rattle.j39_log.specs.LogPairs.{Seen}
 use Rattle.j39_log.specs.ReadText.{with_frame}
 use Rattle.j39_log.proofs.log_reading.Reading.read_frame.Goals as goal

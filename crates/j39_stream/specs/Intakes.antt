@@ -1,0 +1,20 @@
+-- How much of an input was read, piece by piece.
+use Rattle.std.specs.Prelude.{◌≡◌, ◌≤◌, ℕ, List, Option, length}
+use Rattle.std.specs.Io.KnownBytes.{Consumes}
+use Rattle.j39_stream.specs.Streams.{after_calls, input_limit}
+
+-- how many bytes were read, and by how many calls
+pub record Counts : Type 0 where
+  pub bytes : ℕ
+  pub calls : ℕ
+
+abbrev pub no_counts : Counts
+no_counts = record { bytes = 0; calls = 0 }
+
+-- what was counted is this text: each call gave some of it
+pub record HasRead (old new : Option (List ℕ)) (old_pulls new_pulls : ℕ) (counts : Counts) (text : List ℕ) : Type 0 where
+  pub consumed : Consumes old new text
+  pub bytes_are : counts.bytes ≡ length text
+  pub within : length text ≤ input_limit
+  pub calls_gave : counts.calls ≤ length text
+  pub pulls_are : new_pulls ≡ after_calls old_pulls counts.calls

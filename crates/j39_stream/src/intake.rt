@@ -1,0 +1,69 @@
+//! Reading an input piece by piece, within the limits.
+ghost use Rattle.std.specs.Prelude.{◌≡◌, ◌≢◌, ◌<◌, ◌≤◌, ◌++◌, ℕ, List, Option, length, take, Ok, Err, IfOk, OnOk, IsErrOf};
+ghost use Rattle.std.specs.Io.KnownBytes.{Consumes, IsAtEnd};
+ghost use Rattle.j39_stream.specs.Intakes.{HasRead, no_counts};
+ghost use Rattle.j39_stream.specs.Streams.{HasFailed, KeepsLimits, PassesLimits};
+
+use crate::loading::{INPUT_LIMIT, READ_CALLS};
+use crate::{Fault, Source};
+use std::marker::Model;
+
+/// Counts what is read of an input, and reads no more of it than the limits allow.
+#[derive(Drop)]
+pub struct Intake {
+    bytes: usize,
+    calls: u32,
+}
+
+impl Model for Intake {
+    ghost use Rattle.std.specs.Prelude.{◌≤◌};
+    ghost use Rattle.j39_stream.specs.Intakes.{Counts};
+
+    ghost Value = { Counts };
+
+    ghost view = { λ intake. record { bytes = intake.bytes; calls = intake.calls } };
+
+    ghost invariant = { λ intake. (intake.bytes ≤ 16777216) × (intake.calls ≤ 1048576) };
+}
+
+impl Intake {
+    pub fn new() -> Self
+        ensures { result ≡ no_counts }
+    {
+        Intake { bytes: 0, calls: 0 }
+    }
+
+    /// Reads the next piece, and answers how many bytes it has; 0 is the end.
+    pub fn pull<S: Source>(&mut self, source: &mut S, piece: &mut [u8]) -> Result<usize, Fault>
+        requires { 0 < length piece.old }
+        ensures count { IfOk result (λ n. n ≤ length piece.old) }
+        ensures more { IfOk result (λ n. (first : Option (List ℕ)) (pulls : ℕ) (text : List ℕ) → HasRead first (S.left source.old) pulls (S.pulls source.old) self.old text
+            → 0 < n → HasRead first (S.left source.new) pulls (S.pulls source.new) self.new (text ++ take n piece.new)) }
+        ensures fewer { OnOk result (self.old.calls < self.new.calls × self.new.calls ≤ 1048576) }
+        ensures end { IfOk result (λ n. n ≡ 0 → IsAtEnd (S.left source.new)) }
+        ensures last { IfOk result (λ n. (first : Option (List ℕ)) (pulls : ℕ) (text : List ℕ) → HasRead first (S.left source.old) pulls (S.pulls source.old) self.old text
+            → n ≡ 0 → Consumes first (S.left source.new) text × KeepsLimits first (S.left source.new) pulls (S.pulls source.new)) }
+        ensures long { IsErrOf result Fault.TooLong → (first : Option (List ℕ)) (pulls : ℕ) (text : List ℕ)
+            → HasRead first (S.left source.old) pulls (S.pulls source.old) self.old text → PassesLimits first (S.left source.new) pulls (S.pulls source.new) }
+
+        // What was read before is read still, whatever the answer.
+        ensures kept { (first : Option (List ℕ)) (text : List ℕ) → Consumes first (S.left source.old) text
+            → (more : List ℕ) × Consumes first (S.left source.new) (text ++ more) }
+        ensures device { IsErrOf result Fault.Device → HasFailed (S.failures source.old) (S.failures source.new) }
+        ensures calm { result ≢ Err Fault.Device → S.failures source.new ≡ S.failures source.old }
+        ensures no_memory { result ≢ Err Fault.Memory }
+    {
+        if self.calls == READ_CALLS {
+            return Err(Fault::TooLong);
+        }
+        self.calls += 1;
+        let Ok(count) = source.pull(piece) else {
+            return Err(Fault::Device);
+        };
+        if INPUT_LIMIT - self.bytes < count {
+            return Err(Fault::TooLong);
+        }
+        self.bytes += count;
+        Ok(count)
+    }
+}
