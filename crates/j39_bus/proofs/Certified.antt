@@ -21,7 +21,7 @@ none_in : (x : Item) → ¬ Contains [] x
 none_in x (k, inside, is) = absurd (omega arith)
 
 -- where nothing is undelivered no claim is
-quiet_where_empty : (claims : Undelivered) → ((s t : ℕ) → claims s t ≡ []) → IsQuiet claims
+pub quiet_where_empty : (claims : Undelivered) → ((s t : ℕ) → claims s t ≡ []) → IsQuiet claims
 quiet_where_empty claims empty u v = (
   λ a there. none_in (Told (Claim a)) (subst (λ xs. Contains xs (Told (Claim a))) (empty u v) there),
   λ there. none_in (Told Cannot) (subst (λ xs. Contains xs (Told Cannot)) (empty u v) there),

@@ -55,6 +55,7 @@ mod Lowered
 mod ClaimRuns
 mod Deliveries
 mod SettlingRuns
+mod ConflictShown
 pub mod Certified
 pub mod Simulated
 pub mod GreatestFree

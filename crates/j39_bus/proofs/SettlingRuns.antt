@@ -1,6 +1,6 @@
 -- In each world of a run what is undelivered can be delivered, and all deliveries come to an end.
 use Rattle.std.proofs.Common.{◌≡◌, ◌≢◌, ℕ, ◌<◌, ◌≤◌, Bool, true, false, ltb, List, [], ◌∷◌, length, refl, sym, ap, subst, arith, Option, Some, None}
-use Rattle.std.proofs.lemmas.Bool.{and_parts, and_from, lt-ltb}
+use Rattle.std.proofs.lemmas.Bool.{and_parts, lt-ltb}
 use Rattle.std.proofs.lemmas.List.Elements.{All-head, All-tail}
 use Rattle.std.specs.List.{All}
 use Rattle.std.specs.Option.{is_some, unwrap_or}
@@ -37,7 +37,7 @@ least_lawful : IsLawful least
 unfolding least
 least_lawful name lost taken some = lowest_free_in taken some
 
-answered : (c : PlannedUnit) (s : ClaimState) (n : ℕ) (item : Item) → (says : Option Say) × (new : ClaimState) × Answers c s n item says new
+pub answered : (c : PlannedUnit) (s : ClaimState) (n : ℕ) (item : Item) → (says : Option Say) × (new : ClaimState) × Answers c s n item says new
 answered c s n (Told say) = (said_after least c s n say, state_after least c s n say, lawful_follows least least_lawful c s n say)
 answered c s n Request = (Some (claim_of s.address), s, (refl, refl))
 

@@ -10,6 +10,7 @@ pub mod Resting
 pub mod Run
 pub mod Sound
 pub mod Settling
+pub mod Conflict
 pub mod SoundPlan
 pub mod Letters
 pub mod BusState

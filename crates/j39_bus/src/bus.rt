@@ -42,7 +42,7 @@ impl Model for Bus {
 }
 
 impl Bus {
-    /// Whether no claim is undelivered. A request may be.
+    /// Whether no claim is undelivered, be it of a unit that is off again. A request may be.
     pub fn is_settled(&self) -> bool
         ensures { IsTrue result ↔ IsQuiet (undelivered self.now) }
     {

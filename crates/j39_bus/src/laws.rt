@@ -4,7 +4,10 @@ ghost use Rattle.j39_plan.specs.Findings.{Clean};
 ghost use Rattle.j39_plan.specs.declared.plan.Plan.{Plan as Plans};
 ghost use Rattle.j39_plan.specs.declared.steps.Step.{Step as Steps};
 ghost use Rattle.j39_bus.specs.World.{World, first};
+ghost use Rattle.j39_plan.specs.ConflictRuns.{IsConflictRun};
+ghost use Rattle.j39_plan.specs.declared.checking.finding.Finding.{Finding as Findings};
 ghost use Rattle.j39_bus.specs.Claimants.{units_of};
+ghost use Rattle.j39_bus.specs.Conflict.{LeavesWithoutAddress};
 ghost use Rattle.j39_bus.specs.Opening.{AreNamesDistinct};
 ghost use Rattle.j39_bus.specs.Run.{Run, RunsThrough};
 ghost use Rattle.j39_bus.specs.Settling.{Settles};
@@ -33,6 +36,12 @@ pub fn acknowledged_messages_were_reported()
 /// nothing is undelivered. It says nothing of time.
 pub fn claims_die_down()
     ensures { (plan : Plans) (steps : List Steps) (w : World) → AreNamesDistinct (units_of plan) → Run plan first steps w → Settles plan w }
+{}
+
+/// The steps that show a conflict of two fixed units can be run from the first world, and whoever runs them meets no refusal and
+/// comes to a world in which no claim is undelivered and the unit of the larger NAME is on and holds no address.
+pub fn conflict_runs_show_the_conflict()
+    ensures { (plan : Plans) (finding : Findings) (steps : List Steps) → (c : IsConflictRun plan finding steps) → LeavesWithoutAddress plan steps c.larger }
 {}
 
 /// What a bus runs without a refusal is a run, so that what holds in every run holds of it.

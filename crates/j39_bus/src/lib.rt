@@ -34,8 +34,8 @@ pub use bus_error::BusError;
 pub use certificate::certify;
 pub use ended::{Ended, UnitState};
 pub use laws::{
-    acknowledged_messages_were_reported, addresses_are_sound, claims_die_down, reports_are_sound,
-    runs_through_are_runs,
+    acknowledged_messages_were_reported, addresses_are_sound, claims_die_down,
+    conflict_runs_show_the_conflict, reports_are_sound, runs_through_are_runs,
 };
 pub use report::Report;
 pub use simulating::simulate;
