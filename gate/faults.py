@@ -47,7 +47,7 @@ class Tally:
     def count(self, what, is_well, found):
         self.passed, self.failed = self.passed + is_well, self.failed + (not is_well)
         if not is_well:
-            print(f"faults: {what}: {found}")
+            print(f"{what}: {found}")
 
 
 def outputs(tally):

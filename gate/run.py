@@ -1,6 +1,6 @@
 #!/usr/bin/env python3
-"""Runs the whole gate: rt ci, and then what needs the built program: the tests of the tools and of the pages, devices that
-fail, and refused allocations. The last line is 'N passed, M failed'; the status is 0 where nothing failed.
+"""Runs the whole gate: rt ci, and then what needs the built program: the launcher, the tests of the tools and of the
+pages, devices that fail, and refused allocations. The last line is 'N passed, M failed'; the status is 0 where nothing failed.
 """
 
 import os
@@ -15,7 +15,8 @@ import crates
 
 # The parts behind rt ci: a name, its words from the top, and the minutes that it may take.
 PARTS = (
-    ("tools", ["tools/test"], 15),
+    ("launcher", [sys.executable, "gate/launcher.py"], 10),
+    ("tools", ["tools/test", "--install"], 20),
     ("faults", [sys.executable, "gate/faults.py"], 10),
     ("memory", [sys.executable, "gate/memory.py"], 10),
 )
