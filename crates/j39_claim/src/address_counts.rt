@@ -2,15 +2,20 @@
 ghost use Rattle.std.specs.Prelude.{◌≡◌, ℕ, ◌+◌, ◌<◌, ◌==◌, nat_lt, replicate, slice_index};
 ghost use Rattle.std.specs.FinSet as set;
 ghost use Rattle.std.specs.Int.{from_bool};
+ghost use Rattle.j39_id.specs.Addresses.{null_address};
 
 use crate::AddressSet;
 use j39_id::Address;
+use j39_id::addresses::NULL_ADDRESS;
 use std::marker::Model;
+
+/// How many addresses a unit can hold: all below the null address.
+const ADDRESS_COUNT: usize = NULL_ADDRESS as usize;
 
 /// How many NAMEs are noted at each address, and at which addresses some NAME is.
 #[derive(Drop)]
 pub(crate) struct AddressCounts {
-    counts: [u8; 254],
+    counts: [u8; ADDRESS_COUNT],
     noted: AddressSet,
 }
 
@@ -28,10 +33,10 @@ impl Model for AddressCounts {
 impl AddressCounts {
     #[tactic(auto, using(crate::proofs::Counts::none_counted))]
     pub fn new() -> Self
-        ensures { result ≡ replicate 254 0 }
+        ensures { result ≡ replicate null_address 0 }
     {
         AddressCounts {
-            counts: [0; 254],
+            counts: [0; ADDRESS_COUNT],
             noted: AddressSet::new(),
         }
     }
