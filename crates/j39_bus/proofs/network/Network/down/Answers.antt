@@ -1,4 +1,4 @@
-use Rattle.std.proofs.Common.{◌<◌, List, length, map, set, refl, ap, ◌∙◌, arith}
+use Rattle.std.proofs.Common.{◌<◌, List, length, map, refl, ap, arith}
 use Rattle.std.proofs.Math.ListN.{length-set}
 use Rattle.std.specs.Vec.{with_item}
 use Rattle.j39_claim.specs.ClaimerValue.{ClaimerValue}
