@@ -1,6 +1,8 @@
 //! Source addresses.
 ghost use Rattle.std.specs.Prelude.{◌≡◌, ℕ, ◌<◌, ◌↔◌, IsSome, IfSome};
+ghost use Rattle.j39_id.specs.Addresses.{null_address};
 
+use crate::addresses::NULL_ADDRESS;
 use std::marker::Model;
 
 /// An address that a unit can hold (SAE J1939-81): 0 to 253. 254 is the null address, 255 the global one.
@@ -14,7 +16,7 @@ impl Model for Address {
 
     ghost view = { λ a. a.number };
 
-    ghost invariant = { λ a. a.number < 254 };
+    ghost invariant = { λ a. a.number < null_address };
 
     ghost inverse = { λ n. record { number = n } };
 }
@@ -22,10 +24,10 @@ impl Model for Address {
 impl Address {
     /// The address, or `None` for 254 and 255.
     pub fn new(number: u8) -> Option<Self>
-        ensures valid { IsSome result ↔ (number < 254) }
+        ensures valid { IsSome result ↔ (number < null_address) }
         ensures value { IfSome result (λ a. a ≡ number) }
     {
-        if number < 254 {
+        if number < NULL_ADDRESS {
             Some(Address { number })
         } else {
             None
@@ -35,7 +37,7 @@ impl Address {
     /// The number, 0 to 253.
     pub fn number(self) -> u8
         ensures value { result ≡ self }
-        ensures range { self < 254 }
+        ensures range { self < null_address }
     {
         self.number
     }

@@ -70,6 +70,7 @@ fn append(bytes: &mut ArrayVec<u8, MESSAGE_BYTES>, size: Size, chunk: [u8; 7])
 }
 
 impl Receiver {
+    ghost use Rattle.j39_id.specs.Limits.{message_bytes};
     ghost use Rattle.j39_tp.specs.declared.receiving.manner.Manner.TheVariants.{Answering, Listening};
     ghost use Rattle.j39_tp.specs.Receiver.{fresh, hears, receives, timed_out, gives_up, is_open_at, pgn_at, message_of};
 
@@ -142,7 +143,7 @@ impl Receiver {
     /// The message that was completed last, until the next announcement; else nothing.
     pub fn bytes(&self) -> &[u8]
         ensures value { result.now ≡ message_of self.now.progress self.now.bytes }
-        ensures range { length result.now ≤ 1785 }
+        ensures range { length result.now ≤ message_bytes }
     {
         match self.progress {
             Progress::Complete(_) => self.bytes.as_slice(),
