@@ -16,10 +16,19 @@ abbrev pub can_note : FinMap nat_cmp ℕ → ℕ → Bool
 can_note notes n = is_some (get notes n) || nat_lt (len notes) 128
 
 abbrev pub coded_planned_unit : Coded PlannedUnit
-coded_planned_unit = code_by (ℕ × (ℕ × FinSet nat_cmp)) (coded× coded_ℕ (coded× coded_ℕ (set.code coded_ℕ))) (λ c. (c.name, (c.preferred, c.kept))) (λ p. record { name = p.0; preferred = p.1.0; kept = p.1.1 }) (λ _. refl)
+coded_planned_unit =
+    code_by (ℕ × (ℕ × FinSet nat_cmp)) (coded× coded_ℕ (coded× coded_ℕ (set.code coded_ℕ)))
+    (λ c. (c.name, (c.preferred, c.kept)))
+    (λ p. record { name = p.0; preferred = p.1.0; kept = p.1.1 }) (λ _. refl)
 
 abbrev pub coded_claim_state : Coded ClaimState
-coded_claim_state = code_by (Bool × (Option ℕ × FinMap nat_cmp ℕ)) (coded× coded_bool (coded× (coded_option coded_ℕ) (code coded_ℕ coded_ℕ))) (λ s. (s.on, (s.address, s.notes))) (λ p. record { on = p.0; address = p.1.0; notes = p.1.1 }) (λ _. refl)
+coded_claim_state =
+    code_by (Bool × (Option ℕ × FinMap nat_cmp ℕ)) (coded× coded_bool (coded× (coded_option coded_ℕ) (code coded_ℕ coded_ℕ)))
+    (λ s. (s.on, (s.address, s.notes)))
+    (λ p. record { on = p.0; address = p.1.0; notes = p.1.1 }) (λ _. refl)
 
 abbrev pub coded_claimer : Coded ClaimerValue
-coded_claimer = code_by (PlannedUnit × ClaimState) (coded× coded_planned_unit coded_claim_state) (λ c. (c.planned, c.state)) (λ p. record { planned = p.0; state = p.1 }) (λ _. refl)
+coded_claimer =
+    code_by (PlannedUnit × ClaimState) (coded× coded_planned_unit coded_claim_state)
+    (λ c. (c.planned, c.state))
+    (λ p. record { planned = p.0; state = p.1 }) (λ _. refl)

@@ -7,7 +7,7 @@ use Rattle.j39_claim.specs.declared.item.Say.{Say}
 use Rattle.j39_claim.specs.declared.item.Say.TheVariants.{Claim, Cannot}
 use Rattle.j39_id.specs.Name.{is_arbitrary}
 use Rattle.j39_claim.specs.AddressSets.{free_count, IsFreeIn}
-use Rattle.j39_claim.specs.ClaimRule.{PlannedUnit, ClaimState, claim_of, holds_address}
+use Rattle.j39_claim.specs.ClaimRule.{PlannedUnit, ClaimState, Hears, claim_of, holds_address}
 
 -- the address that is picked for a NAME that loses an address, where these are taken
 abbrev pub Pick : Type 0
@@ -50,3 +50,9 @@ abbrev pub state_after : Pick → PlannedUnit → ClaimState → ℕ → Say →
 state_after pick c s n (Claim a) =
     record { on = s.on; address = address_after pick c s n a; notes = insert s.notes n a }
 state_after pick c s n Cannot = record s { notes = remove s.notes n }
+
+-- whichever free address is picked, the exact answer follows the claim rule
+abbrev pub LawfulPicksFollowTheRule : Type 0
+LawfulPicksFollowTheRule =
+    (pick : Pick) → IsLawful pick → (c : PlannedUnit) (s : ClaimState) (n : ℕ) (say : Say)
+    → Hears c s n say (said_after pick c s n say) (state_after pick c s n say)

@@ -30,7 +30,10 @@ impl Model for Claimer {
 
     ghost coded = { coded_claimer };
 
-    ghost view = { λ a. record { planned = record { name = a.name; preferred = a.preferred; kept = a.kept }; state = record { on = a.started; address = a.address; notes = a.notes } } };
+    ghost view = { λ a. record {
+      planned = record { name = a.name; preferred = a.preferred; kept = a.kept };
+      state = record { on = a.started; address = a.address; notes = a.notes };
+    } };
 
     ghost invariant = { λ a. a.started ≡ false → a.address ≡ None };
 }
