@@ -9,7 +9,7 @@ mod named;
 mod packets;
 mod sweep;
 
-use j39_vectors::{CHECK_OF_A_PLAN, READ_OF_A_MESSAGE, ROWS, RUN_OF_A_MESSAGE};
+use j39_vectors::ROWS;
 
 fn say(rt: &impl Print, what: &str, is_right: bool) -> Result<(), anyhow::Error> {
     let answer = if is_right { "right" } else { "wrong" };
@@ -22,6 +22,12 @@ fn main(rt: HostRuntime) -> Result<(), anyhow::Error> {
     for row in ROWS {
         let what = format!(in alloc; "failing devices of {}", row.name)?;
         say(&rt, what.as_str(), devices::are_told(alloc, &row)?)?;
+    }
+    for row in ROWS {
+        let what = format!(in alloc; "damage to {}", row.name)?;
+        let is_right = sweep::plans_are_answered(alloc, &row)?
+            && sweep::inputs_are_answered(alloc, &row)?;
+        say(&rt, what.as_str(), is_right)?;
     }
     say(
         &rt,
@@ -37,21 +43,6 @@ fn main(rt: HostRuntime) -> Result<(), anyhow::Error> {
         &rt,
         "output of little room",
         limits::stops_where_there_is_no_room(alloc)?,
-    )?;
-    say(
-        &rt,
-        "damaged plans",
-        sweep::plans_are_answered(alloc, &CHECK_OF_A_PLAN)?,
-    )?;
-    say(
-        &rt,
-        "damaged schedules",
-        sweep::inputs_are_answered(alloc, &RUN_OF_A_MESSAGE)?,
-    )?;
-    say(
-        &rt,
-        "damaged logs",
-        sweep::inputs_are_answered(alloc, &READ_OF_A_MESSAGE)?,
     )?;
     say(
         &rt,
