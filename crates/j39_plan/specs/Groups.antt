@@ -2,6 +2,7 @@
 use Rattle.std.specs.Prelude.{◌≡◌, ℕ, List, [], ◌++◌, ◌∷◌, None}
 use Rattle.std.specs.Option.{option_map_or}
 use Rattle.toml.specs.Data.{Data, Members, as_table}
+use Rattle.j39_id.specs.Limits.{message_bytes}
 use Rattle.j39_plan.specs.declared.plan.group_plan.GroupPlan.{GroupPlan}
 use Rattle.j39_plan.specs.declared.reading.key.Key.TheVariants as key
 use Rattle.j39_plan.specs.declared.reading.place.Table.TheVariants as at
@@ -22,7 +23,7 @@ abbrev pub priority_rule : Rule
 priority_rule = number key.Priority 0 7 None
 
 abbrev pub length_rule : Rule
-length_rule = number key.Length 1 1785 None
+length_rule = number key.Length 1 message_bytes None
 
 abbrev pub signal_rule : Rule
 signal_rule = tables key.Signal 64

@@ -3,6 +3,7 @@ use Rattle.std.specs.Prelude.{◌≡◌, ℕ, ◌+◌, ◌-◌, ◌*◌, pos, ne
 use Rattle.std.specs.Str.{bytes_eq}
 use Rattle.std.specs.Option.{option_map_or}
 use Rattle.toml.specs.Data.{Data, Members, as_table}
+use Rattle.j39_id.specs.Limits.{message_bytes}
 use Rattle.j39_signal.specs.declared.kind.Kind.{Kind}
 use Rattle.j39_signal.specs.declared.kind.Kind.TheVariants.{Measured, Discrete, Raw}
 use Rattle.j39_signal.specs.Parts.{SignalParts, IsSignal}
@@ -19,7 +20,7 @@ abbrev pub label_rule : Rule
 label_rule = text key.Label texts.Label None
 
 abbrev pub byte_rule : Rule
-byte_rule = number key.Byte 1 1785 None
+byte_rule = number key.Byte 1 message_bytes None
 
 abbrev pub bit_rule : Rule
 bit_rule = number key.Bit 1 8 (Some 1)

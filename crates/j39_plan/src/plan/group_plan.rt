@@ -1,5 +1,6 @@
 //! A group of a plan.
 ghost use Rattle.std.specs.Prelude.{◌≢◌, ◌≤◌, IsTrue, length as count, All, AllPairs};
+ghost use Rattle.j39_id.specs.Limits.{message_bytes};
 ghost use Rattle.j39_signal.specs.Parts.{IsSignal};
 ghost use Rattle.j39_plan.specs.Labels.{is_label};
 
@@ -21,7 +22,7 @@ pub struct GroupPlan {
     pub ghost label_form: { IsTrue (is_label label.bytes) },
     pub ghost priority_range: { priority ≤ 7 },
     pub ghost length_positive: { 1 ≤ length },
-    pub ghost length_range: { length ≤ 1785 },
+    pub ghost length_range: { length ≤ message_bytes },
     pub ghost signal_count: { count signals.items ≤ 64 },
     pub ghost signal_forms: { All (λ s. IsTrue (is_label s.label.bytes)) signals.items },
     pub ghost signal_ranges: { All (λ s. IsSignal s.start s.bits s.step s.offset) signals.items },

@@ -1,5 +1,6 @@
 //! A unit of a plan.
 ghost use Rattle.std.specs.Prelude.{◌^◌, ◌<◌, ◌≤◌, IsTrue};
+ghost use Rattle.j39_id.specs.Addresses.{null_address};
 ghost use Rattle.j39_plan.specs.Labels.{is_unit_label};
 
 use super::Way;
@@ -17,7 +18,7 @@ pub struct UnitPlan {
     /// How many packets the unit takes in a row, 1 to 255.
     pub window: u8,
     pub ghost label_form: { IsTrue (is_unit_label label.bytes) },
-    pub ghost address_range: { address < 254 },
+    pub ghost address_range: { address < null_address },
     pub ghost name_range: { name < 2 ^ 64 },
     pub ghost window_positive: { 1 ≤ window },
     pub ghost window_range: { window ≤ 255 },

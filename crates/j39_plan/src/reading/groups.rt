@@ -13,6 +13,7 @@ use super::text_kind::TextKind;
 use super::values::{number, short_text};
 use super::{Key, PlanError, Table};
 use crate::GroupPlan;
+use j39_id::limits::MESSAGE_BYTES;
 use std::alloc::Global;
 use toml::Value;
 
@@ -34,7 +35,7 @@ fn group(alloc: Global, index: usize, members: &toml::Table) -> Result<GroupPlan
     let label = short_text(members, table, Key::Label, TextKind::Label, None)?;
     let pgn = number(members, table, Key::Pgn, 0, 0xff_ffff, None)?;
     let priority = number(members, table, Key::Priority, 0, 7, None)?;
-    let length = number(members, table, Key::Length, 1, 1785, None)?;
+    let length = number(members, table, Key::Length, 1, MESSAGE_BYTES as u32, None)?;
     let values = array(members, table, Key::Signal, 64)?;
     let signals = read_each(alloc, &Signals { group: index }, values)?;
     Ok(GroupPlan {

@@ -14,6 +14,7 @@ use super::tables::{only, table_of};
 use super::text_kind::TextKind;
 use super::values::{integer, number, short_text, text};
 use super::{Key, PlanError, Table};
+use j39_id::limits::MESSAGE_BYTES;
 use j39_signal::{Kind, Signal};
 use std::alloc::Global;
 use toml::Value;
@@ -51,7 +52,7 @@ fn signal(table: Table, members: &toml::Table) -> Result<Signal, PlanError>
 {
     only(members, table, &SIGNAL_KEYS)?;
     let label = short_text(members, table, Key::Label, TextKind::Label, None)?;
-    let byte = number(members, table, Key::Byte, 1, 1785, None)?;
+    let byte = number(members, table, Key::Byte, 1, MESSAGE_BYTES as u32, None)?;
     let bit = number(members, table, Key::Bit, 1, 8, Some(1))?;
     let bits = number(members, table, Key::Bits, 1, 64, None)?;
     let kind = kind(members, table)?;

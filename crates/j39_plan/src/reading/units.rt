@@ -1,5 +1,6 @@
 //! The units of a plan.
 ghost use Rattle.std.specs.Prelude.{◌≡◌, ◌<◌, map, codes, IfOk, Some};
+ghost use Rattle.j39_id.specs.Addresses.{null_address};
 ghost use Rattle.toml.specs.View.{view, table_view};
 ghost use Rattle.j39_plan.specs.Schema.{text_of, number_of};
 ghost use Rattle.j39_plan.specs.TableFaults.{key_faults};
@@ -29,7 +30,7 @@ const UNIT_KEYS: [Key; 5] = [
 fn address(members: &toml::Table, table: Table) -> Result<Address, PlanError>
     ensures gives { Gives result (key_faults table (table_view members.now) address_rule)
         (λ a. a ≡ number_of address_rule (table_view members.now)) }
-    ensures range { IfOk result (λ a. a < 254) }
+    ensures range { IfOk result (λ a. a < null_address) }
 {
     let number = number(members, table, Key::Address, 0, 253, None)?;
     match Address::new(number as u8) {
