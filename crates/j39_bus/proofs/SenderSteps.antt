@@ -1,4 +1,5 @@
 -- The steps of senders keep what holds in every world.
+use Rattle.j39_id.specs.Pgn.{is_pdu2}
 use Rattle.std.proofs.Common.{◌≡◌, ◌≢◌, ℕ, Bool, true, false, cond, not, ◌&&◌, ◌||◌, eqb, List, [], ◌∷◌, ◌++◌, length, refl, sym, ap, ◌∙◌, subst, inl, inr, Option, Some, None}
 use Rattle.std.proofs.lemmas.Bool.{cond_both, and_parts, cases_eq, eqb-true, eq-eqb, ne_eqb}
 use Rattle.std.specs.Prelude.{nat_lt}
@@ -19,7 +20,7 @@ use Rattle.j39_plan.specs.declared.plan.to.To.TheVariants.{All, One}
 use Rattle.j39_bus.specs.declared.step_error.StepError.{StepError}
 use Rattle.j39_bus.specs.declared.wired.Wired.{Wired}
 use Rattle.j39_bus.specs.declared.wired.Wired.TheVariants as wired
-use Rattle.j39_bus.specs.Flows.{Flow, dest_of, is_short, names_no_destination, can_go_to}
+use Rattle.j39_bus.specs.Flows.{Flow, dest_of, is_short, can_go_to}
 use Rattle.j39_bus.specs.Resting.{can_rest, is_over_with}
 use Rattle.j39_bus.specs.Run.{count_of, is_unit, is_on, at_ends, unless, begin_refusal}
 use Rattle.j39_bus.specs.Transfers.{Outgoing, outcome_in, is_among, added}
@@ -137,7 +138,7 @@ planned_to plan w units flow count All on can = record {
 }
 planned_to plan w units flow count (One x) on can =
     let ends = and_parts (is_on w flow.sender) (is_on w x) on in
-    let other = and_parts (not (eqb x flow.sender)) (not (names_no_destination flow.group && is_short flow.length)) can in
+    let other = and_parts (not (eqb x flow.sender)) (not (is_pdu2 flow.group && is_short flow.length)) can in
     record {
       unit = units flow.sender ends.0;
       others = λ v among. let same : x ≡ v = sym (among_one x v among) in subst (λ k. (is_unit plan k ≡ true) × (k ≢ flow.sender)) same (units x ends.1, other_place x flow.sender other.0);

@@ -2,7 +2,8 @@
 use Rattle.std.specs.Prelude.{ℕ, Bool, true, ◌&&◌, not, nat_eq, nat_le, List, map, slice_index_or}
 use Rattle.std.specs.List.{slice_get}
 use Rattle.std.specs.Option.{option_map_or}
-use Rattle.j39_id.specs.Pgn.{pf_of}
+use Rattle.j39_id.specs.Limits.{frame_bytes}
+use Rattle.j39_id.specs.Pgn.{is_pdu2}
 use Rattle.j39_tp.specs.declared.sending.dest.Dest.{Dest}
 use Rattle.j39_tp.specs.declared.sending.dest.Dest.TheVariants as dests
 use Rattle.j39_plan.specs.declared.plan.Plan.{Plan}
@@ -46,16 +47,12 @@ dest_of (One v) = dests.One
 
 -- a message of so many bytes is sent in one frame
 abbrev pub is_short : ℕ → Bool
-is_short size = nat_le size 8
-
--- the frames of a group of this number go to all: it has the place of the destination for itself
-abbrev pub names_no_destination : ℕ → Bool
-names_no_destination group = nat_le 240 (pf_of group)
+is_short size = nat_le size frame_bytes
 
 -- a flow to one unit goes to another one, and its group can be sent to one
 abbrev pub can_go_to : Flow → To → Bool
 can_go_to flow All = true
-can_go_to flow (One v) = not (nat_eq v flow.sender) && not (names_no_destination flow.group && is_short flow.length)
+can_go_to flow (One v) = not (nat_eq v flow.sender) && not (is_pdu2 flow.group && is_short flow.length)
 
 abbrev pub can_be_sent : Flow → Bool
 can_be_sent flow = can_go_to flow flow.to

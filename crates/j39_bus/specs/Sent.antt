@@ -1,9 +1,12 @@
 -- The frames that tell of addresses: those of SAE J1939-81, address claimed and cannot claim address, and the request
 -- for them. All go to the global address with priority 6; the identifier's layout is that of SAE J1939-21.
-use Rattle.std.specs.Prelude.{ℕ, ◌+◌, ◌*◌, ◌^◌, List, [], ◌∷◌, Option, Some, None}
+use Rattle.std.specs.Prelude.{ℕ, List, Option, Some, None}
 use Rattle.std.specs.Int.{w64, to_le_bytes}
-use Rattle.j39_id.specs.Ident.{bits}
+use Rattle.j39_id.specs.Addresses.{null_address, global_address}
+use Rattle.j39_id.specs.Ident.{bits, identifier_of}
+use Rattle.j39_id.specs.Services.{request, address_claimed}
 use Rattle.j39_id.specs.declared.frame.Frame.{Frame}
+use Rattle.j39_tp.specs.Packets.{pgn_bytes}
 use Rattle.j39_claim.specs.declared.item.Say.{Say}
 use Rattle.j39_claim.specs.declared.item.Say.TheVariants.{Claim, Cannot}
 use Rattle.j39_claim.specs.declared.item.Item.{Item}
@@ -16,7 +19,7 @@ pub record Sent : Type 0 where
 
 -- the address that a unit sends from: the null address where it holds none
 abbrev pub source_of : Option ℕ → ℕ
-source_of None = 254
+source_of None = null_address
 source_of (Some a) = a
 
 -- the address that a unit says that it claims
@@ -24,15 +27,15 @@ abbrev pub claimed_by : Say → Option ℕ
 claimed_by (Claim a) = Some a
 claimed_by Cannot = None
 
--- the identifier of a group of this PDU format, to all
+-- the identifier of a group that is sent to all
 abbrev pub to_all : ℕ → ℕ → ℕ
-to_all format source = 6 * 2 ^ 26 + format * 2 ^ 16 + 255 * 2 ^ 8 + source
+to_all pgn source = identifier_of 6 pgn global_address source
 
 -- the frame of an item that a unit of this NAME tells which holds this address. A claim carries the NAME, a request the
--- number 60928 of the group that is asked for, each with its least significant byte first
+-- PGN that is asked for, each with its least significant byte first
 abbrev pub frame_of : ℕ → Option ℕ → Item → Sent
-frame_of name held (Told say) = record { identifier = to_all 238 (source_of (claimed_by say)); payload = to_le_bytes w64 name }
-frame_of name held Request = record { identifier = to_all 234 (source_of held); payload = 0 ∷ 238 ∷ 0 ∷ [] }
+frame_of name held (Told say) = record { identifier = to_all address_claimed (source_of (claimed_by say)); payload = to_le_bytes w64 name }
+frame_of name held Request = record { identifier = to_all request (source_of held); payload = pgn_bytes address_claimed }
 
 -- a frame of the program, as it is on the bus
 abbrev pub sent_of : Frame → Sent

@@ -1,11 +1,14 @@
 -- The frames of transfers: identifiers and transport packets of SAE J1939-21.
-use Rattle.std.specs.Prelude.{ℕ, ◌+◌, ◌*◌, ◌^◌, if◌then◌else◌, List}
+use Rattle.std.specs.Prelude.{ℕ, List}
+use Rattle.j39_id.specs.Addresses.{global_address}
+use Rattle.j39_id.specs.Ident.{identifier_of}
+use Rattle.j39_id.specs.Services.{connection_management, data_transfer}
 use Rattle.j39_tp.specs.Packets.{data_of}
 use Rattle.j39_tp.specs.declared.packet.Packet.{Packet}
 use Rattle.j39_tp.specs.declared.packet.Packet.TheVariants.{Dt}
 use Rattle.j39_plan.specs.declared.plan.to.To.{To}
 use Rattle.j39_plan.specs.declared.plan.to.To.TheVariants.{All, One}
-use Rattle.j39_bus.specs.Flows.{Flow, names_no_destination}
+use Rattle.j39_bus.specs.Flows.{Flow}
 use Rattle.j39_bus.specs.Sent.{Sent, source_of}
 use Rattle.j39_bus.specs.World.{Stations}
 
@@ -15,18 +18,13 @@ address_of stations u = source_of (stations u).address
 
 -- the address that a message goes to: the global address, or that of its one receiver
 abbrev pub destination_of : Stations → To → ℕ
-destination_of stations All = 255
+destination_of stations All = global_address
 destination_of stations (One v) = address_of stations v
-
--- the identifier of a group's frame
-abbrev pub identifier_of : ℕ → ℕ → ℕ → ℕ → ℕ
-identifier_of priority group destination source =
-    priority * 2 ^ 26 + group * 2 ^ 8 + (if names_no_destination group then 0 else destination * 2 ^ 8) + source
 
 -- the group of a transport packet: connection management, or data transfer
 abbrev pub group_of : Packet → ℕ
-group_of (Dt number chunk) = 60160
-group_of _ = 60416
+group_of (Dt number chunk) = data_transfer
+group_of _ = connection_management
 
 -- the frame of a transport packet from one address to another, with priority 7
 abbrev pub packet_frame : ℕ → ℕ → Packet → Sent

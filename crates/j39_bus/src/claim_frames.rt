@@ -1,33 +1,28 @@
 //! The frames that tell of addresses.
-ghost use Rattle.std.specs.Prelude.{◌≡◌, ◌+◌, ◌*◌, ◌^◌, ◌<◌, ◌≤◌, length};
+ghost use Rattle.std.specs.Prelude.{◌≡◌, ◌≤◌, length};
 ghost use Rattle.j39_id.specs.Ident.{bits};
+ghost use Rattle.j39_tp.specs.Packets.{pgn_bytes};
 ghost use Rattle.j39_bus.specs.Sent.{source_of, sent_of, frame_of, to_all, claimed_by};
 
 use arrayvec::ArrayVec;
 use j39_claim::{Item, Say};
-use j39_id::{Address, Frame, Ident, Name};
+use j39_id::addresses::{GLOBAL_ADDRESS, NULL_ADDRESS};
+use j39_id::services::{ADDRESS_CLAIMED, REQUEST};
+use j39_id::{Address, Frame, Ident, Name, Pgn};
 
-/// The PDU format of the groups Address Claimed and Cannot Claim (60928).
-const ADDRESS_CLAIMED: u8 = 0xee;
-/// The PDU format of the group Request (59904).
-const REQUEST: u8 = 0xea;
-
-const GLOBAL_ADDRESS: u8 = 255;
-
-const NULL_ADDRESS: u8 = 254;
-
-// The identifier of a group of this PDU format, to all.
-fn to_all(format: u8, source: u8) -> Ident
-    ensures { bits result ≡ to_all format source }
+// The identifier of a group that is sent to all.
+fn to_all(pgn: Pgn, source: u8) -> Ident
+    ensures { bits result ≡ to_all pgn source }
 {
-    Ident {
-        priority: 6,
-        edp: 0,
-        dp: 0,
-        pf: format,
-        ps: GLOBAL_ADDRESS,
-        sa: source,
-    }
+    Ident::new(6, pgn, GLOBAL_ADDRESS, source)
+}
+
+// The three bytes of a PGN, the least significant first.
+fn bytes_of(pgn: Pgn) -> [u8; 3]
+    ensures { result ≡ pgn_bytes pgn }
+{
+    let [low, middle, high, _] = pgn.number().to_le_bytes();
+    [low, middle, high]
 }
 
 pub(crate) fn source_of(held: Option<Address>) -> u8
@@ -68,7 +63,7 @@ pub(crate) fn frame_of(name: Name, held: Option<Address>, item: &Item) -> Frame
         },
         Item::Request => Frame {
             ident: to_all(REQUEST, source_of(held)),
-            payload: payload_of(&[0, ADDRESS_CLAIMED, 0]),
+            payload: payload_of(&bytes_of(ADDRESS_CLAIMED)),
         },
     }
 }

@@ -23,12 +23,10 @@ use crate::network::Network;
 use crate::sessions;
 use crate::transfer_frames::packet_frame;
 use crate::wired::Wired;
+use j39_id::addresses::GLOBAL_ADDRESS;
 use j39_plan::To;
 use j39_tp::Packet;
 use std::alloc::AllocError;
-
-/// The global address.
-const GLOBAL: u8 = 255;
 
 impl Network {
     /// The address that a unit sends from.
@@ -45,7 +43,7 @@ impl Network {
         ensures { result ≡ destination_of (station_at self.now.claimers.items) to }
     {
         match to {
-            To::All => GLOBAL,
+            To::All => GLOBAL_ADDRESS,
             To::One(unit) => self.source(unit),
         }
     }
