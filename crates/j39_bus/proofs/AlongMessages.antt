@@ -4,14 +4,14 @@ use Rattle.std.proofs.lemmas.List.{get_or-map}
 use Rattle.std.specs.Option.{option_map}
 use Rattle.j39_tp.specs.declared.packet.Packet.{Packet}
 use Rattle.j39_bus.specs.declared.transfer.Transfer as made
-use Rattle.j39_bus.specs.declared.wired.Wired.TheVariants as wired
+use Rattle.j39_world.specs.declared.wired.Wired.TheVariants as wired
 use Rattle.j39_bus.specs.BusState.{outgoing_of, session_at}
-use Rattle.j39_bus.specs.Sent.{Sent}
-use Rattle.j39_bus.specs.SentTransfers.{address_of, destination_of, packet_frame}
+use Rattle.j39_world.specs.Sent.{Sent}
+use Rattle.j39_world.specs.SentTransfers.{address_of, destination_of, packet_frame}
 use Rattle.j39_bus.specs.Traffic.{posted_along, transfer_of, values_of}
-use Rattle.j39_bus.specs.Transfers.{Outgoing, Wire}
-use Rattle.j39_bus.specs.TransferSteps.{sent_to, sent_along}
-use Rattle.j39_bus.specs.World.{World}
+use Rattle.j39_world.specs.Transfers.{Outgoing, Wire}
+use Rattle.j39_world.specs.TransferSteps.{sent_to, sent_along}
+use Rattle.j39_world.specs.World.{World}
 use Rattle.j39_bus.proofs.Receivers.{none_some}
 use Rattle.j39_bus.proofs.Sendings.{sent_added}
 use Rattle.j39_bus.proofs.SentMessages.{out}

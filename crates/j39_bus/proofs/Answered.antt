@@ -14,7 +14,7 @@ use Rattle.j39_tp.specs.declared.sending.reaction.Reaction.{Reaction}
 use Rattle.j39_tp.specs.declared.sending.reaction.Reaction.TheVariants as reactions
 use Rattle.j39_tp.specs.declared.sending.stage.Stage.{Stage}
 use Rattle.j39_tp.specs.declared.sending.stage.Stage.TheVariants.{Sending, Waiting, Resting}
-use Rattle.j39_bus.specs.Flows.{dest_of}
+use Rattle.j39_world.specs.Flows.{dest_of}
 use Rattle.j39_tp.specs.declared.receiving.heard.Heard.{Heard}
 use Rattle.j39_tp.specs.declared.receiving.heard.Heard.TheVariants as heards
 use Rattle.j39_tp.specs.declared.receiving.manner.Manner.{Manner}
@@ -26,12 +26,12 @@ use Rattle.j39_tp.specs.declared.receiving.progress.Progress.TheVariants.{Closed
 use Rattle.j39_tp.specs.declared.receiving.reception.Kind.{Kind}
 use Rattle.j39_tp.specs.declared.receiving.reception.Kind.TheVariants.{Broadcast, Directed}
 use Rattle.j39_tp.specs.declared.receiving.reception.Reception.{Reception}
-use Rattle.j39_bus.specs.declared.wired.Wired.TheVariants as wired
+use Rattle.j39_world.specs.declared.wired.Wired.TheVariants as wired
 use Rattle.j39_bus.specs.Traffic.{is_announcement, is_complete}
-use Rattle.j39_bus.specs.Transfers.{Outgoing, Reported, is_among}
-use Rattle.j39_bus.specs.TransferSteps.{Reports, ReportsOne, flow_in, reaction_of, receiver_replies, replied, sender_replies, session_after}
-use Rattle.j39_bus.specs.SentTransfers.{address_of, packet_frame}
-use Rattle.j39_bus.specs.World.{World, changed, changed_pair}
+use Rattle.j39_world.specs.Transfers.{Outgoing, Reported, is_among}
+use Rattle.j39_world.specs.TransferSteps.{Reports, ReportsOne, flow_in, reaction_of, receiver_replies, replied, sender_replies, session_after}
+use Rattle.j39_world.specs.SentTransfers.{address_of, packet_frame}
+use Rattle.j39_world.specs.World.{World, changed, changed_pair}
 
 -- what joins a list that has room for it
 pub extended : {X E : Type 0} (r : Result X E) (cap len : ℕ) (xs new : List ℕ) → new ≡ (if is_ok r then [] ++ xs else []) → OnErr r (cap < len + length xs) → len + length xs ≤ cap → new ≡ xs

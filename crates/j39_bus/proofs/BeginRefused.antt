@@ -6,16 +6,16 @@ use Rattle.std.specs.List.{list_all, range_with_len, slice_get}
 use Rattle.j39_bus.specs.declared.letter.Letter.{Letter}
 use Rattle.j39_bus.specs.declared.network.Network.{Network}
 use Rattle.j39_bus.specs.declared.route.Route.{Route}
-use Rattle.j39_bus.specs.declared.step_error.StepError.TheVariants.{NoSuchFlow, NotStarted, NotSettled, NoAddress, Busy, WrongLength}
+use Rattle.j39_world.specs.declared.step_error.StepError.TheVariants.{NoSuchFlow, NotStarted, NotSettled, NoAddress, Busy, WrongLength}
 use Rattle.j39_bus.specs.declared.transfer.Transfer as made
 use Rattle.j39_bus.specs.BusState.{session_at}
-use Rattle.j39_bus.specs.Flows.{Flow, flows_of, can_be_sent}
+use Rattle.j39_world.specs.Flows.{Flow, flows_of, can_be_sent}
 use Rattle.j39_bus.specs.Letters.{between, is_inside}
 use Rattle.j39_plan.specs.declared.plan.Plan.{Plan}
 use Rattle.j39_bus.specs.Network.{Histories, IsNetwork, IsOf, world_of}
-use Rattle.j39_bus.specs.Run.{at_ends, begin_refusal, has_address, is_nothing_undelivered, is_on, unless}
+use Rattle.j39_world.specs.Run.{at_ends, begin_refusal, has_address, is_nothing_undelivered, is_on, unless}
 use Rattle.j39_bus.specs.Traffic.{IsRoute, route_of, values_of}
-use Rattle.j39_bus.specs.World.{World}
+use Rattle.j39_world.specs.World.{World}
 use Rattle.j39_bus.proofs.AlongMessages.{session_of}
 use Rattle.j39_bus.proofs.Opened.{got}
 use Rattle.j39_bus.proofs.Refused.{nowhere}

@@ -13,19 +13,19 @@ use Rattle.j39_tp.specs.declared.receiving.manner.Manner.TheVariants.{Answering}
 use Rattle.j39_tp.specs.declared.packet.Packet.{Packet}
 use Rattle.j39_bus.specs.declared.route.Route.{Route}
 use Rattle.j39_bus.specs.declared.transfer.Transfer as made
-use Rattle.j39_bus.specs.declared.wired.Wired.{Wired}
+use Rattle.j39_world.specs.declared.wired.Wired.{Wired}
 use Rattle.j39_bus.specs.BusState.{Transfer, outgoing_of, pair_in, places_from, receiver_of, receiving_or, session_at}
-use Rattle.j39_bus.specs.Flows.{Flow, dest_of, is_short, window_at}
+use Rattle.j39_world.specs.Flows.{Flow, dest_of, is_short, window_at}
 use Rattle.j39_bus.specs.Network.{AreGathered, receivers_of}
 use Rattle.j39_bus.specs.Traffic.{AreOpened, AreTransfers, IsInside, IsTable, IsTraffic, IsTransfer, IsTransferOr, is_announcement, is_receiver, is_target, is_target_of, item_frame, posted, transfer_of, values_of}
-use Rattle.j39_bus.specs.Transfers.{settled}
+use Rattle.j39_world.specs.Transfers.{settled}
 use Rattle.j39_tp.specs.Sender.{announcement}
 use Rattle.j39_tp.specs.declared.receiving.progress.Progress.TheVariants.{Closed}
-use Rattle.j39_bus.specs.declared.wired.Wired.TheVariants as wired
-use Rattle.j39_bus.specs.SentTransfers.{address_of, destination_of, packet_frame, short_frame}
-use Rattle.j39_bus.specs.TransferSteps.{targets_of, first_item, first_frame}
+use Rattle.j39_world.specs.declared.wired.Wired.TheVariants as wired
+use Rattle.j39_world.specs.SentTransfers.{address_of, destination_of, packet_frame, short_frame}
+use Rattle.j39_world.specs.TransferSteps.{targets_of, first_item, first_frame}
 use Rattle.j39_bus.proofs.Emitting.{receiver_is}
-use Rattle.j39_bus.specs.World.{Stations, changed}
+use Rattle.j39_world.specs.World.{Stations, changed}
 use Rattle.j39_bus.proofs.Receivers.{Boxed, values, none_some}
 use Rattle.j39_bus.proofs.Tables.{places_tested, one_place}
 

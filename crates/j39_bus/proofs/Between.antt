@@ -6,7 +6,7 @@ use Rattle.std.proofs.lemmas.Cmp.{nat_eq_equiv}
 use Rattle.j39_claim.specs.declared.item.Item.{Item}
 use Rattle.j39_claim.specs.ClaimerValue.{ClaimerValue}
 use Rattle.j39_bus.specs.declared.letter.Letter.{Letter}
-use Rattle.j39_bus.specs.World.{changed_pair}
+use Rattle.j39_world.specs.World.{changed_pair}
 use Rattle.j39_bus.specs.Letters.{between, first_between, letters_to_others, without_letters_to, is_inside, station_at}
 
 pub append_nil : {X : Type 0} (xs : List X) → xs ++ [] ≡ xs

@@ -2,12 +2,12 @@
 use Rattle.std.proofs.Common.{◌≡◌, ℕ, ◌+◌, ◌<◌, ◌≤◌, Bool, true, false, cond, ◌&&◌, eqb, ltb, List, [], get_or, refl, sym, ap, ◌∙◌, subst, arith, inl, inr}
 use Rattle.std.proofs.lemmas.List.{get_or_past}
 use Rattle.std.proofs.lemmas.Bool.{cases_eq, cases_lt, eq-eqb, ne_eqb, lt-ltb, le-ltb}
-use Rattle.j39_bus.specs.declared.wired.Wired.{Wired}
+use Rattle.j39_world.specs.declared.wired.Wired.{Wired}
 use Rattle.j39_bus.specs.BusState.{pair_in}
-use Rattle.j39_bus.specs.ClaimSteps.{without_lists_to}
+use Rattle.j39_world.specs.ClaimSteps.{without_lists_to}
 use Rattle.j39_bus.specs.Traffic.{IsTable, with_pair}
-use Rattle.j39_bus.specs.Transfers.{Wire}
-use Rattle.j39_bus.specs.World.{changed_pair}
+use Rattle.j39_world.specs.Transfers.{Wire}
+use Rattle.j39_world.specs.World.{changed_pair}
 use Rattle.j39_bus.proofs.Lost.{changed_table, changed_lists}
 use Rattle.j39_bus.proofs.Queues.{next_place}
 

@@ -6,10 +6,10 @@ use Rattle.j39_claim.specs.declared.item.Item.{Item}
 use Rattle.j39_claim.specs.ClaimRule.{PlannedUnit, Answers}
 use Rattle.j39_claim.specs.ClaimerValue.{ClaimerValue}
 use Rattle.j39_bus.specs.declared.letter.Letter.{Letter}
-use Rattle.j39_bus.specs.Claimants.{unit_at}
-use Rattle.j39_bus.specs.Sent.{Sent}
-use Rattle.j39_bus.specs.World.{World}
-use Rattle.j39_bus.specs.ClaimSteps.{tell, answer_items, GivenFrom}
+use Rattle.j39_world.specs.Claimants.{unit_at}
+use Rattle.j39_world.specs.Sent.{Sent}
+use Rattle.j39_world.specs.World.{World}
+use Rattle.j39_world.specs.ClaimSteps.{tell, answer_items, GivenFrom}
 use Rattle.j39_bus.specs.Letters.{between, first_between, nobody, station_at}
 use Rattle.j39_bus.specs.Network.{claimants, HasAnswered}
 use Rattle.j39_bus.proofs.Between.{taken_out}

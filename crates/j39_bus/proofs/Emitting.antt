@@ -12,14 +12,14 @@ use Rattle.j39_tp.specs.declared.sending.stage.Stage.{Stage}
 use Rattle.j39_tp.specs.declared.sending.stage.Stage.TheVariants.{Sending, Waiting, Resting}
 use Rattle.j39_bus.specs.declared.transfer.Transfer as made
 use Rattle.j39_bus.specs.declared.wire.Wire as queued
-use Rattle.j39_bus.specs.declared.wired.Wired.{Wired}
-use Rattle.j39_bus.specs.declared.wired.Wired.TheVariants as wired
+use Rattle.j39_world.specs.declared.wired.Wired.{Wired}
+use Rattle.j39_world.specs.declared.wired.Wired.TheVariants as wired
 use Rattle.j39_bus.specs.declared.route.Route.{Route}
 use Rattle.j39_bus.specs.BusState.{receiver_of}
 use Rattle.j39_bus.specs.Traffic.{HasRoomAlong, IsTraffic, KeepsReceivers, KeepsTransfers, is_announcement, is_receiver, receiver_in, room_at, transfer_of}
-use Rattle.j39_bus.specs.Transfers.{Outgoing, Receivers, Sessions}
-use Rattle.j39_bus.specs.TransferSteps.{sent_along}
-use Rattle.j39_bus.specs.World.{World, changed}
+use Rattle.j39_world.specs.Transfers.{Outgoing, Receivers, Sessions}
+use Rattle.j39_world.specs.TransferSteps.{sent_along}
+use Rattle.j39_world.specs.World.{World, changed}
 use Rattle.j39_bus.proofs.Receivers.{Boxed, values, none_some}
 
 -- data, and an Abort, are no announcements

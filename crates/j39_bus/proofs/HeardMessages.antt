@@ -13,10 +13,10 @@ use Rattle.j39_tp.specs.declared.sending.reaction.Reaction.TheVariants as reacti
 use Rattle.j39_tp.specs.declared.sending.stage.Stage.{Stage}
 use Rattle.j39_bus.specs.declared.transfer.Transfer as made
 use Rattle.j39_bus.specs.BusState.{Transfer, places_from}
-use Rattle.j39_bus.specs.Flows.{dest_of, window_at}
+use Rattle.j39_world.specs.Flows.{dest_of, window_at}
 use Rattle.j39_bus.specs.Traffic.{AreAnswering, IsInside, IsTransfer, HasContent, bytes_in, is_receiver, stage_in, transfer_of}
-use Rattle.j39_bus.specs.Transfers.{Outgoing, is_among}
-use Rattle.j39_bus.specs.TransferSteps.{session_hears}
+use Rattle.j39_world.specs.Transfers.{Outgoing, is_among}
+use Rattle.j39_world.specs.TransferSteps.{session_hears}
 use Rattle.j39_bus.proofs.Receivers.{Boxed, none_some}
 use Rattle.j39_bus.proofs.Sendings.{places_valued}
 use Rattle.j39_bus.proofs.SentMessages.{out}

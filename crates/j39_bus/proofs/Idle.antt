@@ -12,14 +12,14 @@ use Rattle.j39_tp.specs.declared.receiving.progress.Progress.{Progress}
 use Rattle.j39_tp.specs.declared.receiving.progress.Progress.TheVariants.{Closed, Open, Complete}
 use Rattle.j39_bus.specs.declared.network.Network.{Network}
 use Rattle.j39_bus.specs.declared.transfer.Transfer as made
-use Rattle.j39_bus.specs.declared.wired.Wired.{Wired}
-use Rattle.j39_bus.specs.declared.wired.Wired.TheVariants as wired
+use Rattle.j39_world.specs.declared.wired.Wired.{Wired}
+use Rattle.j39_world.specs.declared.wired.Wired.TheVariants as wired
 use Rattle.j39_bus.specs.BusState.{Transfer, outgoing_of, pair_in, receiver_of, receiving_or, session_at}
 use Rattle.j39_bus.specs.Network.{AreGathered, Histories, receivers_of, world_of}
-use Rattle.j39_bus.specs.Resting.{can_rest, is_of_sender, is_over_with}
+use Rattle.j39_world.specs.Resting.{can_rest, is_of_sender, is_over_with}
 use Rattle.j39_bus.specs.Traffic.{IsTraffic, IsTransferOr, is_announcement, lists_of, receiver_in, transfer_of, values_of}
-use Rattle.j39_bus.specs.Transfers.{outcome_in, settled}
-use Rattle.j39_bus.specs.World.{changed}
+use Rattle.j39_world.specs.Transfers.{outcome_in, settled}
+use Rattle.j39_world.specs.World.{changed}
 use Rattle.j39_bus.proofs.Receivers.{Boxed}
 
 all_at : (test : ℕ → Bool) (a n : ℕ) → list_all test (range_with_len a n) ≡ true → (k : ℕ) → a ≤ k → k < a + n → test k ≡ true

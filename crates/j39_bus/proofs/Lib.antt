@@ -1,11 +1,3 @@
-pub mod CleanUnits
-pub mod Kept
-pub mod Pool
-pub mod Runs
-pub mod Steps
-pub mod Unmoved
-pub mod Telling
-pub mod Turns
 pub mod Between
 pub mod Settled
 pub mod Worlds
@@ -35,27 +27,5 @@ pub mod Answered
 pub mod Standing
 pub mod Running
 pub mod Opened
-mod Subsequences
-mod Hearings
-mod Exchanges
-mod ExchangeSteps
-mod ExchangeTaken
-mod Places
-mod Orderly
-mod Reporting
-mod KeptWorlds
-mod SenderSteps
-mod ReceiverSteps
-mod SoundRuns
-mod Totals
-mod Changes
-mod Responses
-mod Measure
-mod Lowered
-mod ClaimRuns
-mod Deliveries
-mod SettlingRuns
-mod ConflictShown
-pub mod Certified
 pub mod Simulated
 pub mod GreatestFree

@@ -3,12 +3,12 @@ use Rattle.std.proofs.Common.{nat_lt, ◌≡◌, ℕ, ◌<◌, true, List, [], �
 use Rattle.std.proofs.lemmas.Bool.{true≢false}
 use Rattle.j39_bus.specs.declared.network.Network.{Network}
 use Rattle.j39_bus.specs.declared.wire.Wire.{Wire}
-use Rattle.j39_bus.specs.declared.wired.Wired.{Wired}
+use Rattle.j39_world.specs.declared.wired.Wired.{Wired}
 use Rattle.j39_bus.specs.BusState.{pair_in}
 use Rattle.j39_bus.specs.Network.{Histories, world_of}
 use Rattle.j39_bus.specs.Traffic.{IsTable, IsTraffic, lists_of, with_pair}
-use Rattle.j39_bus.specs.TransferSteps.{LostFrom}
-use Rattle.j39_bus.specs.World.{World, changed_pair}
+use Rattle.j39_world.specs.TransferSteps.{LostFrom}
+use Rattle.j39_world.specs.World.{World, changed_pair}
 use Rattle.j39_bus.proofs.Sendings.{rewired, no_more_dropped}
 use Rattle.j39_bus.proofs.Steady.{IsTrafficOf}
 use Rattle.j39_bus.proofs.Tables.{with_pair_at, with_pair_table}

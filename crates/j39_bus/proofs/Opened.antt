@@ -11,18 +11,18 @@ use Rattle.j39_plan.specs.declared.plan.Plan.{Plan}
 use Rattle.j39_plan.specs.declared.plan.unit_plan.UnitPlan.{UnitPlan}
 use Rattle.j39_bus.specs.declared.letter.Letter.{Letter}
 use Rattle.j39_bus.specs.declared.network.Network.{Network}
-use Rattle.j39_bus.specs.Claimants.{claimant_of, unit_at}
+use Rattle.j39_world.specs.Claimants.{claimant_of, unit_at}
 use Rattle.j39_bus.specs.Letters.{unstarted, station_at, between, is_inside}
 use Rattle.j39_bus.specs.declared.traffic.Traffic as kept
 use Rattle.j39_tp.specs.inside.Gathered.{Gathers}
 use Rattle.j39_bus.specs.BusState.{outgoing_of, pair_in, receiver_of, receiving_or}
-use Rattle.j39_bus.specs.Flows.{flows_of, windows_of}
+use Rattle.j39_world.specs.Flows.{flows_of, windows_of}
 use Rattle.j39_bus.specs.Traffic.{IsTraffic, lists_of, reported_of, route_of, values_of}
-use Rattle.j39_bus.specs.Transfers.{settled}
+use Rattle.j39_world.specs.Transfers.{settled}
 use Rattle.j39_bus.specs.Network.{claimants, state_of, transfers_of, world_of, Histories, HasGathered, IsNetwork, IsWellFormed}
-use Rattle.j39_bus.specs.Sent.{sent_of}
+use Rattle.j39_world.specs.Sent.{sent_of}
 use Rattle.j39_bus.specs.Stands.{Stands}
-use Rattle.j39_bus.specs.World.{first}
+use Rattle.j39_world.specs.World.{first}
 use Rattle.j39_bus.proofs.Standing.{stands}
 
 station_unstarted : (units : List UnitPlan) (u : ℕ) → station_at (map unstarted units) u ≡ off

@@ -8,7 +8,7 @@ use Rattle.std.specs.Vec.{with_item}
 use Rattle.std.specs.declared.alloc.Global.{Global}
 use Rattle.std.specs.declared.vec.Vec.{Vec}
 use Rattle.j39_bus.specs.declared.wire.Wire.{Wire}
-use Rattle.j39_bus.specs.declared.wired.Wired.{Wired}
+use Rattle.j39_world.specs.declared.wired.Wired.{Wired}
 use Rattle.j39_bus.specs.BusState.{pair_in}
 use Rattle.j39_bus.specs.Traffic.{IsTable, Queue, items_in, room_in, is_receiver, added_in, posted, KeepsRoom, lists_of, rooms_of, room_at, room_of, with_pair}
 use Rattle.j39_bus.proofs.Tables.{cell_is, row_is, tabled_set, with_cell_at}

@@ -18,14 +18,14 @@ use Rattle.j39_tp.specs.declared.receiving.progress.Progress.{Progress}
 use Rattle.j39_tp.specs.declared.receiving.progress.Progress.TheVariants.{Closed, Open, Complete}
 use Rattle.j39_bus.specs.declared.route.Route.{Route}
 use Rattle.j39_bus.specs.declared.transfer.Transfer as made
-use Rattle.j39_bus.specs.declared.wired.Wired.{Wired}
-use Rattle.j39_bus.specs.declared.wired.Wired.TheVariants as wired
+use Rattle.j39_world.specs.declared.wired.Wired.{Wired}
+use Rattle.j39_world.specs.declared.wired.Wired.TheVariants as wired
 use Rattle.j39_bus.specs.BusState.{receiver_of, receiving_or}
-use Rattle.j39_bus.specs.Flows.{window_at}
+use Rattle.j39_world.specs.Flows.{window_at}
 use Rattle.j39_bus.specs.Network.{AreGathered, receivers_of}
 use Rattle.j39_bus.specs.Traffic.{AreTransfers, IsTraffic, IsTransferOr, is_announcement, KeepsTransfers, receiver_in, transfer_of, values_of, IsData, is_complete, HasOwnContent}
-use Rattle.j39_bus.specs.Transfers.{settled}
-use Rattle.j39_bus.specs.World.{changed_pair}
+use Rattle.j39_world.specs.Transfers.{settled}
+use Rattle.j39_world.specs.World.{changed_pair}
 use Rattle.j39_bus.proofs.Receivers.{none_some}
 
 -- receivers answer with the windows of their units

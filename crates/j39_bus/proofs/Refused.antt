@@ -9,15 +9,15 @@ use Rattle.j39_plan.specs.declared.plan.Plan.{Plan}
 use Rattle.j39_plan.specs.declared.steps.Step.{Step}
 use Rattle.j39_plan.specs.declared.steps.Step.TheVariants.{Up, Down, Give, Ask, Begin, Emit, Take, Lose, LateSender, LateReceiver, Rest}
 use Rattle.j39_bus.specs.declared.network.Network.{Network}
-use Rattle.j39_bus.specs.declared.step_error.StepError.{StepError}
-use Rattle.j39_bus.specs.declared.step_error.StepError.TheVariants.{UnknownUnit, NoSuchFlow, NotStarted, AlreadyStarted, NothingUndelivered, TransferOpen, NotSettled, NoAddress, Busy, WrongLength, NothingToSend, NoSession, CannotRest, Memory}
+use Rattle.j39_world.specs.declared.step_error.StepError.{StepError}
+use Rattle.j39_world.specs.declared.step_error.StepError.TheVariants.{UnknownUnit, NoSuchFlow, NotStarted, AlreadyStarted, NothingUndelivered, TransferOpen, NotSettled, NoAddress, Busy, WrongLength, NothingToSend, NoSession, CannotRest, Memory}
 use Rattle.j39_tp.specs.Receiver.{is_open_at}
-use Rattle.j39_bus.specs.Flows.{Flow, can_be_sent}
-use Rattle.j39_bus.specs.Resting.{can_rest}
+use Rattle.j39_world.specs.Flows.{Flow, can_be_sent}
+use Rattle.j39_world.specs.Resting.{can_rest}
 use Rattle.j39_bus.specs.Letters.{between, first_between, station_at, nobody}
 use Rattle.j39_bus.specs.Network.{Histories, IsOf, claimants}
-use Rattle.j39_bus.specs.World.{World}
-use Rattle.j39_bus.specs.Run.{at_ends, begin_refusal, both, can_emit, cause_of, has_address, is_no_transfer_open, is_nothing_undelivered, is_on, is_waiting, refusal, refusal_among, unless}
+use Rattle.j39_world.specs.World.{World}
+use Rattle.j39_world.specs.Run.{at_ends, begin_refusal, both, can_emit, cause_of, has_address, is_no_transfer_open, is_nothing_undelivered, is_on, is_waiting, refusal, refusal_among, unless}
 use Rattle.j39_bus.specs.Traffic.{route_of}
 use Rattle.j39_bus.proofs.Rested.{units_count}
 use Rattle.j39_bus.proofs.Between.{nothing_between}

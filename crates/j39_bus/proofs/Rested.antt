@@ -5,8 +5,8 @@ use Rattle.std.proofs.lemmas.List.{length-map}
 use Rattle.std.specs.Option.{option_map}
 use Rattle.j39_claim.specs.ClaimerValue.{ClaimerValue}
 use Rattle.j39_plan.specs.declared.plan.Plan.{Plan}
-use Rattle.j39_bus.specs.Claimants.{claimant_of}
-use Rattle.j39_bus.specs.Run.{count_of, is_no_transfer_open}
+use Rattle.j39_world.specs.Claimants.{claimant_of}
+use Rattle.j39_world.specs.Run.{count_of, is_no_transfer_open}
 use Rattle.j39_bus.specs.declared.transfer.Transfer as made
 use Rattle.j39_bus.proofs.AlongMessages.{session_of}
 use Rattle.std.specs.List.{list_all, list_any, range_with_len}
@@ -16,9 +16,9 @@ use Rattle.j39_tp.specs.declared.receiving.progress.Progress.TheVariants.{Closed
 use Rattle.j39_bus.specs.declared.network.Network.{Network}
 use Rattle.j39_bus.specs.BusState.{outgoing_of, pair_in, receiving_or, session_at}
 use Rattle.j39_bus.specs.Network.{Histories, IsOf, world_of}
-use Rattle.j39_bus.specs.Resting.{is_of_sender, is_of_receiver, is_over_with}
+use Rattle.j39_world.specs.Resting.{is_of_sender, is_of_receiver, is_over_with}
 use Rattle.j39_bus.specs.Traffic.{lists_of, receiver_in, transfer_of, values_of}
-use Rattle.j39_bus.specs.Transfers.{settled}
+use Rattle.j39_world.specs.Transfers.{settled}
 
 open_settled : (p : Progress) → is_open_at (settled p) ≡ is_open_at p
 open_settled Closed = refl

@@ -4,10 +4,10 @@ use Rattle.std.proofs.lemmas.List.{take_more, take_all, take-append-drop, length
 use Rattle.std.proofs.Math.Seq.{drop-cons}
 use Rattle.j39_plan.specs.declared.plan.Plan.{Plan}
 use Rattle.j39_plan.specs.declared.steps.Step.{Step}
-use Rattle.j39_bus.specs.declared.step_error.StepError.{StepError}
-use Rattle.j39_bus.specs.declared.step_error.StepError.TheVariants.{Memory}
-use Rattle.j39_bus.specs.World.{World}
-use Rattle.j39_bus.specs.Run.{cause_of, refusal, takes_memory, Leads, RunsThrough}
+use Rattle.j39_world.specs.declared.step_error.StepError.{StepError}
+use Rattle.j39_world.specs.declared.step_error.StepError.TheVariants.{Memory}
+use Rattle.j39_world.specs.World.{World}
+use Rattle.j39_world.specs.Run.{cause_of, refusal, takes_memory, Leads, RunsThrough}
 use Rattle.j39_bus.specs.BusState.{BusState}
 use Rattle.j39_bus.specs.Stands.{Stands, IsRefusedAt}
 use Rattle.j39_bus.proofs.Standing.{runs_more}

@@ -8,16 +8,16 @@ use Rattle.j39_bus.specs.declared.network.Network.{Network}
 use Rattle.j39_bus.specs.declared.traffic.Traffic as kept
 use Rattle.j39_bus.specs.declared.transfer.Transfer as made
 use Rattle.j39_bus.specs.declared.wire.Wire as queued
-use Rattle.j39_bus.specs.ClaimSteps.{without_lists_to}
-use Rattle.j39_bus.specs.declared.wired.Wired.{Wired}
-use Rattle.j39_bus.specs.declared.wired.Wired.TheVariants as wired
+use Rattle.j39_world.specs.ClaimSteps.{without_lists_to}
+use Rattle.j39_world.specs.declared.wired.Wired.{Wired}
+use Rattle.j39_world.specs.declared.wired.Wired.TheVariants as wired
 use Rattle.j39_bus.specs.BusState.{pair_in, places_from}
-use Rattle.j39_bus.specs.Sent.{Sent}
-use Rattle.j39_bus.specs.SentTransfers.{address_of, packet_frame}
+use Rattle.j39_world.specs.Sent.{Sent}
+use Rattle.j39_world.specs.SentTransfers.{address_of, packet_frame}
 use Rattle.j39_bus.specs.Traffic.{IsTable, IsTraffic, is_announcement, is_receiver, posted, posted_along, lists_of}
-use Rattle.j39_bus.specs.Transfers.{Wire, added, is_among}
-use Rattle.j39_bus.specs.TransferSteps.{replied, sent_to}
-use Rattle.j39_bus.specs.World.{World, changed_pair}
+use Rattle.j39_world.specs.Transfers.{Wire, added, is_among}
+use Rattle.j39_world.specs.TransferSteps.{replied, sent_to}
+use Rattle.j39_world.specs.World.{World, changed_pair}
 use Rattle.j39_bus.proofs.Between.{append_nil}
 use Rattle.j39_bus.proofs.Receivers.{Boxed, values}
 use Rattle.j39_bus.proofs.Tables.{among_places}

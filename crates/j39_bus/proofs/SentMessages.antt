@@ -10,8 +10,8 @@ use Rattle.j39_bus.specs.declared.transfer.Content.{Content}
 use Rattle.j39_bus.specs.declared.transfer.Transfer as made
 use Rattle.j39_bus.specs.BusState.{Transfer, outgoing_of, places_from, session_at, receiver_of}
 use Rattle.j39_bus.specs.Traffic.{IsTransfer, IsTransferOr, HasContent, HasOwnContent, KeepsReceivers, KeepsSessions, KeepsTransfers, bytes_in, stage_in, transfer_of, values_of, receiver_in}
-use Rattle.j39_bus.specs.Transfers.{Outgoing}
-use Rattle.j39_bus.specs.World.{changed, changed_pair}
+use Rattle.j39_world.specs.Transfers.{Outgoing}
+use Rattle.j39_world.specs.World.{changed, changed_pair}
 
 -- a message as a world has it
 abbrev pub out : made.Transfer → Outgoing

@@ -8,7 +8,7 @@ use Rattle.j39_claim.specs.declared.item.Item.{Item}
 use Rattle.j39_claim.specs.declared.item.Item.TheVariants.{Told, Request}
 use Rattle.j39_bus.specs.declared.letter.Letter.{Letter}
 use Rattle.j39_bus.specs.Letters.{between, are_requests, is_request}
-use Rattle.j39_bus.specs.Sound.{IsQuiet}
+use Rattle.j39_world.specs.Sound.{IsQuiet}
 
 -- nothing told is in a list that begins with a request and has it nowhere else
 untold_first : (item : Item) (items : List Item) (say : Say) → is_request item ≡ true → ¬ Contains items (Told say) → ¬ Contains (item ∷ items) (Told say)

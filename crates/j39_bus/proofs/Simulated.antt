@@ -6,14 +6,14 @@ use Rattle.std.proofs.lemmas.List.FromFn.{fill_by_all}
 use Rattle.std.proofs.lemmas.Option.{slice_get-get_or}
 use Rattle.j39_plan.specs.declared.plan.Plan.{Plan}
 use Rattle.j39_plan.specs.declared.steps.Step.{Step}
-use Rattle.j39_bus.specs.declared.step_error.StepError.{StepError}
-use Rattle.j39_bus.specs.declared.step_error.StepError.TheVariants.{Memory}
-use Rattle.j39_bus.specs.World.{World, Stations, first}
-use Rattle.j39_bus.specs.Claimants.{claimant_of}
-use Rattle.j39_bus.specs.Run.{cause_of, refusal, Leads, RunsThrough}
+use Rattle.j39_world.specs.declared.step_error.StepError.{StepError}
+use Rattle.j39_world.specs.declared.step_error.StepError.TheVariants.{Memory}
+use Rattle.j39_world.specs.World.{World, Stations, first}
+use Rattle.j39_world.specs.Claimants.{claimant_of}
+use Rattle.j39_world.specs.Run.{cause_of, refusal, Leads, RunsThrough}
 use Rattle.j39_bus.specs.BusState.{BusState, undelivered}
 use Rattle.j39_bus.specs.Letters.{nobody}
-use Rattle.j39_bus.specs.Sound.{IsQuiet}
+use Rattle.j39_world.specs.Sound.{IsQuiet}
 use Rattle.j39_bus.specs.Stands.{Stands}
 use Rattle.j39_bus.specs.Ended.{View, Shows, EndsIn, steps_of, unit_state}
 use Rattle.j39_bus.specs.Simulating.{HasCome, HasObeyed, IsRefused, IsRefusedAt}

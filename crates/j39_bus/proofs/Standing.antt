@@ -9,14 +9,14 @@ use Rattle.j39_plan.specs.declared.plan.Plan.{Plan}
 use Rattle.j39_bus.specs.declared.letter.Letter.{Letter}
 use Rattle.j39_bus.specs.declared.network.Network.{Network}
 use Rattle.j39_plan.specs.declared.steps.Step.{Step}
-use Rattle.j39_bus.specs.declared.step_error.StepError.{StepError}
-use Rattle.j39_bus.specs.World.{World}
-use Rattle.j39_bus.specs.Run.{cause_of, refusal, refusal_among, Leads, RunsThrough}
+use Rattle.j39_world.specs.declared.step_error.StepError.{StepError}
+use Rattle.j39_world.specs.World.{World}
+use Rattle.j39_world.specs.Run.{cause_of, refusal, refusal_among, Leads, RunsThrough}
 use Rattle.j39_bus.specs.Letters.{between, is_inside}
 use Rattle.j39_bus.specs.BusState.{BusState, table_of, undelivered}
 use Rattle.j39_bus.specs.Stands.{Stands}
 use Rattle.j39_bus.specs.Network.{state_of, world_of, Histories, HasGathered, IsNetwork, IsBus, IsOf, IsAllowed, IsSameNetwork, KeepsPlan, LeadsTo, refusal_in}
-use Rattle.j39_bus.specs.Sent.{sent_of}
+use Rattle.j39_world.specs.Sent.{sent_of}
 use Rattle.j39_bus.specs.Traffic.{route_of, reported_of, values_of}
 use Rattle.j39_bus.proofs.Between.{none_outside}
 use Rattle.j39_bus.proofs.Refused.{length-claimants, refusal_is}

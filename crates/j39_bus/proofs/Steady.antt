@@ -8,15 +8,15 @@ use Rattle.j39_bus.specs.declared.traffic.Traffic as kept
 use Rattle.j39_bus.specs.Letters.{between, station_at}
 use Rattle.j39_bus.specs.BusState.{pair_in, receiving_or, session_at}
 use Rattle.j39_bus.specs.Network.{Histories, HasGathered, IsNetwork, IsSameNetwork, IsWellFormed, KeepsPlan, LeadsTo, AreGathered, claimants, receivers_of, world_of}
-use Rattle.j39_bus.specs.Sent.{sent_of}
-use Rattle.j39_bus.specs.World.{World}
-use Rattle.j39_bus.specs.Run.{Leads}
+use Rattle.j39_world.specs.Sent.{sent_of}
+use Rattle.j39_world.specs.World.{World}
+use Rattle.j39_world.specs.Run.{Leads}
 use Rattle.std.specs.Prelude.{ℕ}
 use Rattle.j39_bus.specs.Traffic.{IsTraffic, KeepsReceivers, lists_of, reported_of, values_of}
 use Rattle.j39_tp.specs.inside.Gathered.{Gathers}
 use Rattle.j39_tp.specs.declared.packet.Packet.{Packet}
 use Rattle.j39_tp.specs.Receiver.{Receiving}
-use Rattle.j39_bus.specs.Transfers.{settled}
+use Rattle.j39_world.specs.Transfers.{settled}
 
 abbrev pub IsTrafficOf : ℕ → kept.Traffic → Type 0
 IsTrafficOf n t = IsTraffic n t.routes.items t.windows.items t.transfers.items (lists_of t.wire)

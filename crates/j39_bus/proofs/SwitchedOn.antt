@@ -6,11 +6,11 @@ use Rattle.j39_claim.specs.declared.item.Item.TheVariants.{Told}
 use Rattle.j39_claim.specs.ClaimRule.{PlannedUnit, off, started}
 use Rattle.j39_claim.specs.ClaimerValue.{ClaimerValue}
 use Rattle.j39_bus.specs.declared.letter.Letter.{Letter}
-use Rattle.j39_bus.specs.Claimants.{unit_at}
-use Rattle.j39_bus.specs.Sent.{Sent}
-use Rattle.j39_bus.specs.Transfers.{Wire}
-use Rattle.j39_bus.specs.World.{World, changed}
-use Rattle.j39_bus.specs.ClaimSteps.{tell, switched_on, switched_off, without_lists_to}
+use Rattle.j39_world.specs.Claimants.{unit_at}
+use Rattle.j39_world.specs.Sent.{Sent}
+use Rattle.j39_world.specs.Transfers.{Wire}
+use Rattle.j39_world.specs.World.{World, changed}
+use Rattle.j39_world.specs.ClaimSteps.{tell, switched_on, switched_off, without_lists_to}
 use Rattle.j39_bus.specs.Letters.{between, without_letters_to, nobody, station_at}
 use Rattle.j39_bus.specs.Network.{claimants}
 use Rattle.j39_bus.proofs.Worlds.{any_default, claimants-set, unit_at-claimants, world, world_on}

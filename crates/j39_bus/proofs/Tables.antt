@@ -6,8 +6,8 @@ use Rattle.std.proofs.lemmas.Bool.{cases_eq, eq-eqb, ne_eqb}
 use Rattle.std.specs.List.{list_any, filter, range_with_len}
 use Rattle.j39_bus.specs.BusState.{pair_in, places_from}
 use Rattle.j39_bus.specs.Traffic.{IsTable, with_pair, is_receiver, posted}
-use Rattle.j39_bus.specs.Transfers.{is_among, added}
-use Rattle.j39_bus.specs.World.{changed_pair}
+use Rattle.j39_world.specs.Transfers.{is_among, added}
+use Rattle.j39_world.specs.World.{changed_pair}
 
 -- a table with another value at a place, and what stands at each place
 module _ {Y : Type 0} (d : Y) (table : List (List Y)) (u v : ℕ) (y : Y) where

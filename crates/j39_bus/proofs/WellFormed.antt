@@ -12,7 +12,7 @@ use Rattle.j39_claim.specs.ClaimRule.{ClaimState}
 use Rattle.j39_claim.specs.ClaimerValue.{ClaimerValue}
 use Rattle.j39_bus.specs.declared.letter.Letter.{Letter}
 use Rattle.j39_bus.specs.Letters.{nobody, station_at, is_inside, letters_to_others, without_letters_to}
-use Rattle.j39_bus.specs.World.{changed}
+use Rattle.j39_world.specs.World.{changed}
 use Rattle.j39_bus.specs.Network.{is_named, IsWellFormed, HasAnswered}
 use Rattle.j39_bus.proofs.Between.{inside-append, inside-told, inside-left}
 use Rattle.j39_bus.proofs.Room.{named-set, noted_then}

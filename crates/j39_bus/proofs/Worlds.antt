@@ -6,10 +6,10 @@ use Rattle.j39_claim.specs.declared.item.Item.{Item}
 use Rattle.j39_claim.specs.ClaimRule.{PlannedUnit, ClaimState}
 use Rattle.j39_claim.specs.ClaimerValue.{ClaimerValue}
 use Rattle.j39_bus.specs.declared.letter.Letter.{Letter}
-use Rattle.j39_bus.specs.Claimants.{unit_at}
-use Rattle.j39_bus.specs.Sent.{Sent, frame_of}
-use Rattle.j39_bus.specs.World.{World, changed, changed_pair}
-use Rattle.j39_bus.specs.ClaimSteps.{tell, without_lists_to}
+use Rattle.j39_world.specs.Claimants.{unit_at}
+use Rattle.j39_world.specs.Sent.{Sent, frame_of}
+use Rattle.j39_world.specs.World.{World, changed, changed_pair}
+use Rattle.j39_world.specs.ClaimSteps.{tell, without_lists_to}
 use Rattle.j39_bus.specs.Letters.{between, letters_to_others, without_letters_to, first_between, nobody, station_at}
 use Rattle.j39_bus.specs.Network.{claimants}
 use Rattle.j39_bus.proofs.Between.{append_nil, between_told, lists_left, lists_after}

@@ -7,11 +7,11 @@ use Rattle.j39_plan.specs.declared.plan.to.To.{To}
 use Rattle.j39_tp.specs.Receiver.{Receiving, fresh}
 use Rattle.j39_tp.specs.declared.receiving.manner.Manner.TheVariants.{Listening}
 use Rattle.j39_tp.specs.declared.sending.stage.Stage.{Stage}
-use Rattle.j39_bus.specs.declared.wired.Wired.{Wired}
-use Rattle.j39_bus.specs.Flows.{Flow}
-use Rattle.j39_bus.specs.Sent.{Sent}
-use Rattle.j39_bus.specs.Transfers.{Outgoing, Sessions, Wire, Reported}
-use Rattle.j39_bus.specs.World.{Undelivered}
+use Rattle.j39_world.specs.declared.wired.Wired.{Wired}
+use Rattle.j39_world.specs.Flows.{Flow}
+use Rattle.j39_world.specs.Sent.{Sent}
+use Rattle.j39_world.specs.Transfers.{Outgoing, Sessions, Wire, Reported}
+use Rattle.j39_world.specs.World.{Undelivered}
 
 -- a message that a unit sends: what a world has of it, and the receiver of each unit that it goes to, by the unit's place
 pub record Transfer : Type 0 where

@@ -4,14 +4,14 @@ use Rattle.std.specs.List.{range_with_len, slice_get}
 use Rattle.j39_claim.specs.ClaimRule.{ClaimState}
 use Rattle.j39_plan.specs.declared.plan.Plan.{Plan}
 use Rattle.j39_plan.specs.declared.steps.Step.{Step}
-use Rattle.j39_bus.specs.declared.step_error.StepError.{StepError}
+use Rattle.j39_world.specs.declared.step_error.StepError.{StepError}
 use Rattle.j39_bus.specs.declared.ended.UnitState.{UnitState}
 use Rattle.j39_bus.specs.declared.ended.UnitState.TheVariants.{Off, NoAddress, At}
-use Rattle.j39_bus.specs.Sent.{Sent}
-use Rattle.j39_bus.specs.Transfers.{Reported}
-use Rattle.j39_bus.specs.World.{World, first}
-use Rattle.j39_bus.specs.Run.{refusal, RunsThrough}
-use Rattle.j39_bus.specs.Sound.{IsQuiet}
+use Rattle.j39_world.specs.Sent.{Sent}
+use Rattle.j39_world.specs.Transfers.{Reported}
+use Rattle.j39_world.specs.World.{World, first}
+use Rattle.j39_world.specs.Run.{refusal, RunsThrough}
+use Rattle.j39_world.specs.Sound.{IsQuiet}
 
 -- what is seen of a unit that is on
 abbrev pub holding : Option ℕ → UnitState

@@ -7,9 +7,9 @@ use Rattle.std.specs.FinSet.{empty}
 use Rattle.j39_claim.specs.ClaimRule.{off}
 use Rattle.j39_claim.specs.ClaimerValue.{ClaimerValue}
 use Rattle.j39_plan.specs.declared.plan.unit_plan.UnitPlan.{UnitPlan}
-use Rattle.j39_bus.specs.Claimants.{claimant_of}
+use Rattle.j39_world.specs.Claimants.{claimant_of}
 use Rattle.j39_bus.specs.declared.letter.Letter.{Letter}
-use Rattle.j39_bus.specs.World.{Stations, Undelivered}
+use Rattle.j39_world.specs.World.{Stations, Undelivered}
 
 abbrev pub is_between : ℕ → ℕ → Letter → Bool
 is_between u v l = nat_eq l.from u && nat_eq l.to v

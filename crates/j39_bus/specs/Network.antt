@@ -13,14 +13,14 @@ use Rattle.j39_plan.specs.declared.plan.Plan.{Plan}
 use Rattle.j39_plan.specs.declared.steps.Step.{Step}
 use Rattle.j39_bus.specs.declared.letter.Letter.{Letter}
 use Rattle.j39_bus.specs.declared.network.Network.{Network}
-use Rattle.j39_bus.specs.declared.step_error.StepError.{StepError}
-use Rattle.j39_bus.specs.Claimants.{units_of}
-use Rattle.j39_bus.specs.Sent.{sent_of}
-use Rattle.j39_bus.specs.World.{World, changed_pair}
-use Rattle.j39_bus.specs.Flows.{Flow, flows_of, windows_of}
-use Rattle.j39_bus.specs.Transfers.{Begun, Receivers, added, settled}
-use Rattle.j39_bus.specs.TransferSteps.{TakenFrom}
-use Rattle.j39_bus.specs.Run.{refusal_among, Leads}
+use Rattle.j39_world.specs.declared.step_error.StepError.{StepError}
+use Rattle.j39_world.specs.Claimants.{units_of}
+use Rattle.j39_world.specs.Sent.{sent_of}
+use Rattle.j39_world.specs.World.{World, changed_pair}
+use Rattle.j39_world.specs.Flows.{Flow, flows_of, windows_of}
+use Rattle.j39_world.specs.Transfers.{Begun, Receivers, added, settled}
+use Rattle.j39_world.specs.TransferSteps.{TakenFrom}
+use Rattle.j39_world.specs.Run.{refusal_among, Leads}
 use Rattle.j39_bus.specs.Letters.{nobody, station_at, between, is_inside}
 use Rattle.j39_bus.specs.BusState.{BusState, Transfer, table_of, pair_in, session_at, receiving_at}
 use Rattle.j39_bus.specs.Traffic.{route_of, reported_of, traffic_of, lists_of, values_of, IsTraffic}

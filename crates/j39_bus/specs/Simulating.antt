@@ -3,12 +3,12 @@ use Rattle.std.specs.Prelude.{◌≡◌, ℕ, List, take, Option, None, Some}
 use Rattle.std.specs.List.{slice_get}
 use Rattle.j39_plan.specs.declared.plan.Plan.{Plan}
 use Rattle.j39_plan.specs.declared.steps.Step.{Step}
-use Rattle.j39_bus.specs.declared.step_error.StepError.{StepError}
+use Rattle.j39_world.specs.declared.step_error.StepError.{StepError}
 use Rattle.j39_bus.specs.BusState.{BusState}
 use Rattle.j39_bus.specs.Ended.{steps_of}
-use Rattle.j39_bus.specs.Run.{refusal, RunsThrough}
+use Rattle.j39_world.specs.Run.{refusal, RunsThrough}
 use Rattle.j39_bus.specs.Stands.{Stands}
-use Rattle.j39_bus.specs.World.{World}
+use Rattle.j39_world.specs.World.{World}
 
 -- the bus has come this far with these orders
 abbrev pub HasObeyed : BusState → List (Option Step) → BusState → Type 0

@@ -4,15 +4,15 @@ use Rattle.j39_tp.specs.inside.Gathered.{Gathers}
 use Rattle.j39_tp.specs.Receiver.{Receiving}
 use Rattle.j39_plan.specs.declared.plan.Plan.{Plan}
 use Rattle.j39_plan.specs.declared.steps.Step.{Step}
-use Rattle.j39_bus.specs.declared.step_error.StepError.{StepError}
-use Rattle.j39_bus.specs.declared.step_error.StepError.TheVariants.{Memory}
-use Rattle.j39_bus.specs.Claimants.{units_of}
-use Rattle.j39_bus.specs.World.{World}
+use Rattle.j39_world.specs.declared.step_error.StepError.{StepError}
+use Rattle.j39_world.specs.declared.step_error.StepError.TheVariants.{Memory}
+use Rattle.j39_world.specs.Claimants.{units_of}
+use Rattle.j39_world.specs.World.{World}
 use Rattle.j39_bus.specs.Letters.{station_at}
 use Rattle.j39_bus.specs.BusState.{BusState, undelivered, wire_of, session_at, receiving_at}
-use Rattle.j39_bus.specs.Flows.{flows_of, windows_of}
-use Rattle.j39_bus.specs.Transfers.{settled}
-use Rattle.j39_bus.specs.Run.{refusal, cause_of, takes_memory, RunsThrough}
+use Rattle.j39_world.specs.Flows.{flows_of, windows_of}
+use Rattle.j39_world.specs.Transfers.{settled}
+use Rattle.j39_world.specs.Run.{refusal, cause_of, takes_memory, RunsThrough}
 
 -- the bus stands for this world of the plan
 pub record Stands (b : BusState) (plan : Plan) (w : World) : Type 0 where

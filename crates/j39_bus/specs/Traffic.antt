@@ -25,15 +25,15 @@ use Rattle.j39_bus.specs.declared.transfer.Content.TheVariants.{Short, Long}
 use Rattle.j39_bus.specs.declared.transfer.Transfer as made
 use Rattle.j39_bus.specs.declared.traffic.Traffic as kept
 use Rattle.j39_bus.specs.declared.wire.Wire as queued
-use Rattle.j39_bus.specs.declared.wired.Wired.{Wired}
-use Rattle.j39_bus.specs.declared.wired.Wired.TheVariants as wired
+use Rattle.j39_world.specs.declared.wired.Wired.{Wired}
+use Rattle.j39_world.specs.declared.wired.Wired.TheVariants as wired
 use Rattle.j39_bus.specs.BusState.{Transfer, Traffic, pair_in, receiver_of, session_at}
-use Rattle.j39_bus.specs.Sent as frames
-use Rattle.j39_bus.specs.SentTransfers.{packet_frame, short_frame}
-use Rattle.j39_bus.specs.Flows.{Flow, dest_of, window_at}
-use Rattle.j39_bus.specs.Transfers.{Outgoing, Reported, settled}
-use Rattle.j39_bus.specs.TransferSteps.{hearing, session_after}
-use Rattle.j39_bus.specs.World.{World, Stations, changed, changed_pair, hears}
+use Rattle.j39_world.specs.Sent as frames
+use Rattle.j39_world.specs.SentTransfers.{packet_frame, short_frame}
+use Rattle.j39_world.specs.Flows.{Flow, dest_of, window_at}
+use Rattle.j39_world.specs.Transfers.{Outgoing, Reported, settled}
+use Rattle.j39_world.specs.TransferSteps.{hearing, session_after}
+use Rattle.j39_world.specs.World.{World, Stations, changed, changed_pair, hears}
 
 -- ---- what contracts see
 

@@ -5,7 +5,7 @@ ghost use Rattle.j39_bus.specs.Traffic.{HasReceivers, HasRoomAlong, IsTable, lis
 
 use crate::transfer::Transfer;
 use crate::wire::Wire;
-use crate::wired::Wired;
+use j39_world::Wired;
 use std::alloc::AllocError;
 
 /// Makes room for one item to each that the message of a unit goes to.

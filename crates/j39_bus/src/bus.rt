@@ -2,10 +2,10 @@
 ghost use Rattle.std.specs.Prelude.{◌≡◌, ◌<◌, ◌↔◌, IsTrue, length, map};
 ghost use Rattle.j39_bus.specs.BusState.{session_at, undelivered};
 ghost use Rattle.j39_bus.specs.Letters.{station_at};
-ghost use Rattle.j39_bus.specs.Sent.{sent_of};
+ghost use Rattle.j39_world.specs.Sent.{sent_of};
 ghost use Rattle.j39_bus.specs.Traffic.{reported_of};
-ghost use Rattle.j39_bus.specs.Transfers.{outcome_in};
-ghost use Rattle.j39_bus.specs.Sound.{IsQuiet};
+ghost use Rattle.j39_world.specs.Transfers.{outcome_in};
+ghost use Rattle.j39_world.specs.Sound.{IsQuiet};
 
 use crate::letter::are_requests;
 use crate::network::Network;

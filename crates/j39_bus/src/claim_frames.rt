@@ -2,7 +2,7 @@
 ghost use Rattle.std.specs.Prelude.{◌≡◌, ◌≤◌, length};
 ghost use Rattle.j39_id.specs.Ident.{bits};
 ghost use Rattle.j39_tp.specs.Packets.{pgn_bytes};
-ghost use Rattle.j39_bus.specs.Sent.{source_of, sent_of, frame_of, to_all, claimed_by};
+ghost use Rattle.j39_world.specs.Sent.{source_of, sent_of, frame_of, to_all, claimed_by};
 
 use arrayvec::ArrayVec;
 use j39_claim::{Item, Say};

@@ -1,6 +1,6 @@
 //! What is seen of a run that ended.
 ghost use Rattle.std.specs.Prelude.{◌≡◌, map};
-ghost use Rattle.j39_bus.specs.Sent.{sent_of};
+ghost use Rattle.j39_world.specs.Sent.{sent_of};
 ghost use Rattle.j39_bus.specs.Traffic.{reported_of};
 
 use crate::Report;
@@ -30,7 +30,7 @@ pub struct Ended {
 impl Model for Ended {
     ghost use Rattle.std.specs.Prelude.{map};
     ghost use Rattle.j39_bus.specs.Ended.{View};
-    ghost use Rattle.j39_bus.specs.Sent.{sent_of};
+    ghost use Rattle.j39_world.specs.Sent.{sent_of};
     ghost use Rattle.j39_bus.specs.Traffic.{reported_of};
 
     ghost Value = { View };

@@ -1,6 +1,6 @@
 //! What the units are, what is undelivered between them, and the frames that they sent.
 ghost use Rattle.std.specs.Prelude.{◌≡◌, ◌<◌, ◌≤◌, ◌+◌, ◌*◌, [], ◌∷◌, ◌++◌, length, vec_len, vec_capacity, OnOk};
-ghost use Rattle.j39_bus.specs.ClaimSteps.{tell};
+ghost use Rattle.j39_world.specs.ClaimSteps.{tell};
 ghost use Rattle.j39_bus.specs.Letters.{letters_to_others};
 
 use crate::claim_frames::frame_of;

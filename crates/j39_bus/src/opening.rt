@@ -1,10 +1,11 @@
 //! A new bus.
 ghost use Rattle.std.specs.Prelude.{◌≡◌, ◌<◌, ℕ, length, map, take, All, IfOk, IfErr, IfSome, IfNone, OnOk};
-ghost use Rattle.j39_bus.specs.Claimants.{claimant_of};
+ghost use Rattle.j39_world.specs.Claimants.{claimant_of};
 ghost use Rattle.j39_bus.specs.Letters.{unstarted};
-ghost use Rattle.j39_bus.specs.Opening.{HaveOneName, AreNamesDistinct, IsFirstOfOneName, IsSendable, IsNotSendable, HasBadGroup, CanOpen, IsNotOpened};
+ghost use Rattle.j39_world.specs.Opening.{HaveOneName, AreNamesDistinct, IsFirstOfOneName, IsSendable, CanOpen, IsNotOpened};
 ghost use Rattle.j39_bus.specs.Stands.{Stands};
-ghost use Rattle.j39_bus.specs.World.{first};
+ghost use Rattle.j39_world.specs.World.{first};
+ghost use Rattle.j39_bus.specs.inside.SendableGroups.{IsNotSendable, HasBadGroup};
 
 use crate::group_fault::GroupFault;
 use crate::network::Network;

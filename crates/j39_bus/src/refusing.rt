@@ -1,10 +1,10 @@
 //! Why steps are refused.
 ghost use Rattle.std.specs.Prelude.{◌≡◌, ◌<◌, true, None, Some, nat_lt, length, is_some};
 ghost use Rattle.j39_plan.specs.declared.steps.Step.TheVariants.{Up, Give, Ask, Begin, Emit, Take, LateSender, LateReceiver, Rest};
-ghost use Rattle.j39_bus.specs.Flows.{can_be_sent};
+ghost use Rattle.j39_world.specs.Flows.{can_be_sent};
 ghost use Rattle.j39_bus.specs.Letters.{station_at};
 ghost use Rattle.j39_bus.specs.Network.{Histories, IsNetwork, refusal_in};
-ghost use Rattle.j39_bus.specs.Run.{at_ends, both, unless};
+ghost use Rattle.j39_world.specs.Run.{at_ends, both, unless};
 ghost use Rattle.j39_bus.specs.Traffic.{IsRoute, route_of};
 
 use crate::letter::first_between;

@@ -4,12 +4,12 @@ ghost use Rattle.std.specs.Option.{option_map, option_and_then};
 ghost use Rattle.j39_tp.specs.Receiver.{hears as receiver_hears, receives, timed_out, gives_up, is_open_at, message_of};
 ghost use Rattle.j39_tp.specs.Sender.{data_next, after_packet, timeout_packet, after_timeout};
 ghost use Rattle.j39_bus.specs.BusState.{session_at, receiving_or};
-ghost use Rattle.j39_bus.specs.Flows.{dest_of};
-ghost use Rattle.j39_bus.specs.Run.{can_emit, is_waiting};
+ghost use Rattle.j39_world.specs.Flows.{dest_of};
+ghost use Rattle.j39_world.specs.Run.{can_emit, is_waiting};
 ghost use Rattle.j39_bus.specs.Traffic.{HasOwnContent, HasReceivers, KeepsReceivers, KeepsSessions, KeepsTransfers, at_stage, receiver_in, values_of};
-ghost use Rattle.j39_bus.specs.TransferSteps.{flow_in, reaction_of, session_after};
-ghost use Rattle.j39_bus.specs.Transfers.{Outgoing, outcome_in};
-ghost use Rattle.j39_bus.specs.World.{changed, changed_pair};
+ghost use Rattle.j39_world.specs.TransferSteps.{flow_in, reaction_of, session_after};
+ghost use Rattle.j39_world.specs.Transfers.{Outgoing, outcome_in};
+ghost use Rattle.j39_world.specs.World.{changed, changed_pair};
 
 use crate::transfer::Transfer;
 use j39_plan::To;

@@ -2,10 +2,10 @@
 ghost use Rattle.std.specs.Prelude.{◌≡◌, ◌≢◌, [], ◌∷◌, OnOk, OnErr, IfOk, IfErr, length, map};
 ghost use Rattle.j39_plan.specs.declared.plan.Plan.{Plan as Plans};
 ghost use Rattle.j39_bus.specs.Ended.{EndsIn, Shows, unit_state};
-ghost use Rattle.j39_bus.specs.Opening.{CanOpen, IsNotOpened};
+ghost use Rattle.j39_world.specs.Opening.{CanOpen, IsNotOpened};
 ghost use Rattle.j39_bus.specs.Simulating.{HasCome, HasObeyed, IsRefused};
 ghost use Rattle.j39_bus.specs.Stands.{Stands};
-ghost use Rattle.j39_bus.specs.World.{World};
+ghost use Rattle.j39_world.specs.World.{World};
 
 use crate::{Bus, BusError, Ended, StepError, UnitState};
 use j39_claim::{Choose, Claimer};

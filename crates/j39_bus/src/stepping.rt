@@ -1,8 +1,8 @@
 //! The steps of a bus.
 ghost use Rattle.std.specs.Prelude.{◌≡◌, true, None, OnOk, OnErr, IfErr, length};
 ghost use Rattle.j39_plan.specs.declared.plan.Plan.{Plan};
-ghost use Rattle.j39_bus.specs.World.{World};
-ghost use Rattle.j39_bus.specs.Run.{refusal, cause_of, takes_memory, Leads, RunsThrough};
+ghost use Rattle.j39_world.specs.World.{World};
+ghost use Rattle.j39_world.specs.Run.{refusal, cause_of, takes_memory, Leads, RunsThrough};
 ghost use Rattle.j39_bus.specs.Stands.{Stands, IsRefusedAt};
 
 use crate::network::Network;

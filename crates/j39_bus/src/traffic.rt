@@ -1,8 +1,8 @@
 //! The messages that units send one another.
 ghost use Rattle.std.specs.Prelude.{◌≡◌, ℕ, ◌<◌, ◌≤◌, None, [], map, length, replicate, slice_index_or, All, IfOk};
 ghost use Rattle.j39_bus.specs.BusState.{pair_in};
-ghost use Rattle.j39_bus.specs.Flows.{flow_of, flows_of, windows_of, window_at};
-ghost use Rattle.j39_bus.specs.Opening.{IsSendable};
+ghost use Rattle.j39_world.specs.Flows.{flow_of, flows_of, windows_of, window_at};
+ghost use Rattle.j39_world.specs.Opening.{IsSendable};
 ghost use Rattle.j39_bus.specs.Traffic.{IsRoute, IsTraffic, lists_of, route_of};
 
 use crate::report::Report;

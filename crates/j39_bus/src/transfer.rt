@@ -3,10 +3,10 @@ ghost use Rattle.std.specs.Prelude.{◌≡◌, ℕ, ◌<◌, ◌≤◌, true, So
 ghost use Rattle.std.specs.List.{list_any};
 ghost use Rattle.std.specs.Option.{option_map};
 
-use crate::wired::Short;
 use j39_id::Pgn;
 use j39_plan::To;
 use j39_tp::{Heard, Outcome, Packet, Phase, Reaction, Receiver, Sender};
+use j39_world::Short;
 
 /// What is sent: a message of one frame, which has ended, or one that a sender of the transport protocol has.
 #[derive(Drop)]
@@ -35,8 +35,8 @@ pub(crate) fn is_transfer_open(transfers: &[Option<Transfer>]) -> bool
 impl Content {
     ghost use Rattle.j39_tp.specs.Sender.{data_next, next_number, after_packet, timeout_packet, after_timeout, hears, outcome_of};
     ghost use Rattle.j39_plan.specs.declared.plan.to.To.{To};
-    ghost use Rattle.j39_bus.specs.Run.{is_waiting_at};
-    ghost use Rattle.j39_bus.specs.Flows.{dest_of};
+    ghost use Rattle.j39_world.specs.Run.{is_waiting_at};
+    ghost use Rattle.j39_world.specs.Flows.{dest_of};
     ghost use Rattle.j39_bus.specs.Traffic.{HasContent, bytes_in, stage_in};
 
     /// The next data packet, if one may be sent now.
@@ -113,7 +113,7 @@ impl Transfer {
     ghost use Rattle.j39_tp.specs.Receiver.{hears as receiver_hears, receives, timed_out, gives_up, is_open_at, message_of};
     ghost use Rattle.j39_tp.specs.Sender.{hears as sender_hears};
     ghost use Rattle.j39_bus.specs.BusState.{receiving_or};
-    ghost use Rattle.j39_bus.specs.Flows.{dest_of};
+    ghost use Rattle.j39_world.specs.Flows.{dest_of};
     ghost use Rattle.j39_bus.specs.Traffic.{HasContent, bytes_in, is_receiver, stage_in, transfer_of};
     ghost use Rattle.j39_tp.specs.declared.sending.reaction.Reaction.TheVariants as reactions;
 

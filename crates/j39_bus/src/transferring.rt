@@ -3,10 +3,10 @@ ghost use Rattle.std.specs.Prelude.{◌≡◌, ℕ, ◌+◌, ◌<◌, ◌≤◌,
 ghost use Rattle.j39_bus.specs.BusState.{session_at};
 ghost use Rattle.j39_bus.specs.Letters.{station_at};
 ghost use Rattle.j39_bus.specs.Network.{Histories, IsNetwork, IsSameNetwork, KeepsPlan, transfers_of, world_of};
-ghost use Rattle.j39_bus.specs.SentTransfers.{address_of, destination_of};
+ghost use Rattle.j39_world.specs.SentTransfers.{address_of, destination_of};
 ghost use Rattle.j39_bus.specs.Traffic.{AreAnswers, HasRoomAlong, IsInside, is_announcement, room_at};
-ghost use Rattle.j39_bus.specs.Transfers.{Outgoing};
-ghost use Rattle.j39_bus.specs.TransferSteps.{packets_in, replied, sent_along};
+ghost use Rattle.j39_world.specs.Transfers.{Outgoing};
+ghost use Rattle.j39_world.specs.TransferSteps.{packets_in, replied, sent_along};
 
 mod beginning;
 mod emitting;
@@ -22,10 +22,10 @@ use crate::letter::post;
 use crate::network::Network;
 use crate::sessions;
 use crate::transfer_frames::packet_frame;
-use crate::wired::Wired;
 use j39_id::addresses::GLOBAL_ADDRESS;
 use j39_plan::To;
 use j39_tp::Packet;
+use j39_world::Wired;
 use std::alloc::AllocError;
 
 impl Network {

@@ -1,13 +1,13 @@
 //! What is on the wire between each two units.
 ghost use Rattle.std.specs.Prelude.{◌≡◌, ℕ, ◌+◌, ◌<◌, ◌≤◌, true, [], ◌∷◌, ◌++◌, drop, not, length, slice_index_or, IfOk, IfSome, IfNone, OnOk};
 ghost use Rattle.j39_bus.specs.BusState.{pair_in};
-ghost use Rattle.j39_bus.specs.ClaimSteps.{without_lists_to};
+ghost use Rattle.j39_world.specs.ClaimSteps.{without_lists_to};
 ghost use Rattle.std.specs.List.{list_any};
-ghost use Rattle.j39_bus.specs.Resting.{is_of_sender, is_of_receiver};
+ghost use Rattle.j39_world.specs.Resting.{is_of_sender, is_of_receiver};
 ghost use Rattle.j39_bus.specs.Traffic.{items_in, room_in, is_receiver, added_in};
 
-use crate::wired::Wired;
 use j39_tp::{Packet, Receiver};
+use j39_world::Wired;
 use std::alloc::{AllocError, Global};
 use std::collections::VecDeque;
 

@@ -4,7 +4,7 @@ use Rattle.j39_plan.specs.declared.plan.Plan.{Plan}
 use Rattle.j39_plan.specs.declared.checking.finding.Finding.{Finding}
 use Rattle.j39_plan.specs.Findings.{Clean}
 use Rattle.j39_plan.specs.Found.{found}
-use Rattle.j39_bus.specs.SoundPlan.{IsSound}
+use Rattle.j39_world.specs.SoundPlan.{IsSound}
 use Rattle.j39_check.specs.FindingLines.{finding_lines}
 use Rattle.j39_text.specs.PlanText.{Describes, IsRefusedText}
 use Rattle.j39_text.specs.Texts.{field}

@@ -8,7 +8,7 @@ use Rattle.j39_plan.specs.declared.plan.Plan.{Plan}
 use Rattle.j39_plan.specs.declared.plan.group_plan.GroupPlan.{GroupPlan}
 use Rattle.j39_tp.specs.Carried.{Carried}
 use Rattle.j39_tp.specs.declared.packet.Packet.{Packet}
-use Rattle.j39_bus.specs.Opening.{IsSendable, IsRefusedGroup}
+use Rattle.j39_world.specs.Opening.{IsSendable, IsRefusedGroup}
 use Rattle.j39_text.specs.Labels.{group_label}
 use Rattle.j39_log.specs.LogLines.{IsEntry, IsRole, planned}
 use Rattle.j39_log.specs.LogPairs.{Seen, heard}

@@ -3,7 +3,7 @@ ghost use Rattle.std.specs.Prelude.{◌≡◌, ◌<◌, List, [], ◌∷◌, ◌
 ghost use Rattle.std.specs.List.{HoldsAt, position};
 ghost use Rattle.j39_log.specs.inside.Listening.{IsBadCatalog, IsCatalogOf, IsIndex, IsNotReadable, layout_of as parts_of};
 ghost use Rattle.j39_log.specs.LogLines.{is_planned_as};
-ghost use Rattle.j39_bus.specs.Opening.{IsSendable};
+ghost use Rattle.j39_world.specs.Opening.{IsSendable};
 ghost use Rattle.j39_plan.specs.declared.plan.group_plan.GroupPlan.{GroupPlan as APlannedGroup};
 
 use j39_id::Pgn;

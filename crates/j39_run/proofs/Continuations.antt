@@ -3,7 +3,7 @@ use Rattle.std.proofs.Common.{◌≡◌, ℕ, ◌<◌, List, [], ◌∷◌, ◌+
 use Rattle.std.proofs.lemmas.List.{length-map, map-append}
 use Rattle.std.specs.List.{slice_split}
 use Rattle.j39_plan.specs.declared.plan.Plan.{Plan}
-use Rattle.j39_bus.specs.World.{World}
+use Rattle.j39_world.specs.World.{World}
 use Rattle.j39_id.specs.Lines.{is_line_feed, line_of}
 use Rattle.j39_run.specs.RunText.{EndsAt, IsWithin, IsSameForContinuations}
 use Rattle.j39_schedule.specs.Schedule.{Reading, line_order, read_as, readings_of}

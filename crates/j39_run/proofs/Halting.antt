@@ -4,12 +4,12 @@ use Rattle.std.proofs.lemmas.List.{append-nil, map-append, take_all}
 use Rattle.std.specs.List.{slice_get}
 use Rattle.j39_plan.specs.declared.plan.Plan.{Plan}
 use Rattle.j39_plan.specs.declared.steps.Step.{Step}
-use Rattle.j39_bus.specs.declared.step_error.StepError.{StepError}
+use Rattle.j39_world.specs.declared.step_error.StepError.{StepError}
 use Rattle.j39_bus.specs.Ended as bus
 use Rattle.j39_bus.specs.Ended.{View, EndsIn, steps_of}
-use Rattle.j39_bus.specs.Opening.{CanOpen}
-use Rattle.j39_bus.specs.Run.{RunsThrough}
-use Rattle.j39_bus.specs.World.{World, first}
+use Rattle.j39_world.specs.Opening.{CanOpen}
+use Rattle.j39_world.specs.Run.{RunsThrough}
+use Rattle.j39_world.specs.World.{World, first}
 use Rattle.j39_run.specs.RunText.{EndsAt, IsRunText, end_text, verdict_of}
 use Rattle.j39_schedule.specs.Schedule.{Reading, read_as, readings_of}
 use Rattle.j39_schedule.specs.Scheduling.{AreReadAs}

@@ -1,6 +1,6 @@
 -- Where the run of a schedule ends.
 use Rattle.std.specs.Prelude.{ℕ, Option, Some, None}
-use Rattle.j39_bus.specs.declared.step_error.StepError.{StepError}
+use Rattle.j39_world.specs.declared.step_error.StepError.{StepError}
 use Rattle.j39_schedule.specs.declared.line_fault.LineFault.{LineFault}
 use Rattle.j39_run.specs.declared.halt.Halt.{Halt}
 use Rattle.j39_run.specs.declared.halt.Halt.TheVariants.{End, Step as AtStep, Line as AtLine}

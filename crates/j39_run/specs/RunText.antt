@@ -5,18 +5,18 @@ use Rattle.hex.specs.Hex.{encode_upper}
 use Rattle.j39_id.specs.FrameLine.{canon_text}
 use Rattle.j39_plan.specs.declared.plan.Plan.{Plan}
 use Rattle.j39_plan.specs.declared.steps.Step.{Step}
-use Rattle.j39_bus.specs.declared.bus_error.BusError.{BusError}
-use Rattle.j39_bus.specs.declared.bus_error.BusError.TheVariants.{ChooserCount, SameName, BadGroup, Memory}
-use Rattle.j39_bus.specs.declared.step_error.StepError.{StepError}
-use Rattle.j39_bus.specs.declared.step_error.StepError.TheVariants as steps
+use Rattle.j39_world.specs.declared.bus_error.BusError.{BusError}
+use Rattle.j39_world.specs.declared.bus_error.BusError.TheVariants.{ChooserCount, SameName, BadGroup, Memory}
+use Rattle.j39_world.specs.declared.step_error.StepError.{StepError}
+use Rattle.j39_world.specs.declared.step_error.StepError.TheVariants as steps
 use Rattle.j39_bus.specs.declared.ended.UnitState.{UnitState}
 use Rattle.j39_bus.specs.declared.ended.UnitState.TheVariants.{Off, NoAddress, At}
 use Rattle.j39_bus.specs.Ended.{View, Shows, steps_of}
-use Rattle.j39_bus.specs.Opening.{CanOpen, IsNotOpened}
-use Rattle.j39_bus.specs.Run.{refusal, RunsThrough}
-use Rattle.j39_bus.specs.Sent.{Sent}
-use Rattle.j39_bus.specs.Transfers.{Reported}
-use Rattle.j39_bus.specs.World.{World, first}
+use Rattle.j39_world.specs.Opening.{CanOpen, IsNotOpened}
+use Rattle.j39_world.specs.Run.{refusal, RunsThrough}
+use Rattle.j39_world.specs.Sent.{Sent}
+use Rattle.j39_world.specs.Transfers.{Reported}
+use Rattle.j39_world.specs.World.{World, first}
 use Rattle.j39_text.specs.Labels.{group_text, unit_label, units_text}
 use Rattle.j39_id.specs.Lines.{is_line_feed}
 use Rattle.j39_schedule.specs.Schedule.{Reading, read_as, readings_of}

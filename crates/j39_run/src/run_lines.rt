@@ -1,6 +1,6 @@
 //! The lines of a run.
 ghost use Rattle.std.specs.Prelude.{◌≡◌, ◌++◌, OnOk, map};
-ghost use Rattle.j39_bus.specs.Sent.{sent_of};
+ghost use Rattle.j39_world.specs.Sent.{sent_of};
 ghost use Rattle.j39_bus.specs.Traffic.{reported_of};
 ghost use Rattle.j39_run.specs.RunText.{end_text, halt_lines, line_cause, refused_line, report_line, report_lines, report_route, sent_line, sent_lines, settled_line, state_text, step_cause, unit_line, unit_lines};
 

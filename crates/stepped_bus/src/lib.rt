@@ -2,8 +2,8 @@
 #![tactic(auto)]
 
 ghost use Rattle.std.specs.Prelude.{take, IfOk};
-ghost use Rattle.j39_bus.specs.Run.{RunsThrough};
-ghost use Rattle.j39_bus.specs.World.{World, first};
+ghost use Rattle.j39_world.specs.Run.{RunsThrough};
+ghost use Rattle.j39_world.specs.World.{World, first};
 
 use j39_bus::{Bus, BusError};
 use j39_claim::Choose;

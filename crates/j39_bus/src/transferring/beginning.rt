@@ -3,26 +3,26 @@ ghost use Rattle.std.specs.Prelude.{◌≡◌, ◌≢◌, ℕ, ◌<◌, ◌≤�
 ghost use Rattle.j39_plan.specs.declared.plan.Plan.{Plan};
 ghost use Rattle.j39_plan.specs.declared.steps.Step.TheVariants.{Begin};
 ghost use Rattle.j39_bus.specs.BusState.{places_from};
-ghost use Rattle.j39_bus.specs.Flows.{can_be_sent};
+ghost use Rattle.j39_world.specs.Flows.{can_be_sent};
 ghost use Rattle.j39_bus.specs.Letters.{station_at};
 ghost use Rattle.j39_tp.specs.Receiver.{fresh};
 ghost use Rattle.j39_tp.specs.declared.receiving.manner.Manner.TheVariants.{Answering};
 ghost use Rattle.j39_tp.specs.declared.packet.Packet.{Packet};
 ghost use Rattle.j39_bus.specs.Network.{AreGathered, Histories, has_begun, transfers_of, IsAllowed, IsNetwork, IsOf, IsSameNetwork, KeepsPlan, LeadsTo, world_of};
-ghost use Rattle.j39_bus.specs.Run.{at_ends};
-ghost use Rattle.j39_bus.specs.Sent.{sent_of};
+ghost use Rattle.j39_world.specs.Run.{at_ends};
+ghost use Rattle.j39_world.specs.Sent.{sent_of};
 ghost use Rattle.j39_bus.specs.Traffic.{AreOpened, HasContent, IsRoute, bytes_in, is_receiver, is_target, item_frame, room_at, route_of, stage_in};
-ghost use Rattle.j39_bus.specs.TransferSteps.{begins, begun_stage, first_item};
+ghost use Rattle.j39_world.specs.TransferSteps.{begins, begun_stage, first_item};
 
 use crate::letter::post;
 use crate::network::Network;
 use crate::route::Route;
 use crate::transfer::{Content, Transfer};
 use crate::transfer_frames::{packet_frame, short_frame};
-use crate::wired::{Short, Wired};
 use j39_id::Frame;
 use j39_plan::To;
 use j39_tp::{Dest, Message, Receiver, Sender};
+use j39_world::{Short, Wired};
 use std::alloc::AllocError;
 
 /// A message of at most so many bytes is sent in one frame.

@@ -4,7 +4,7 @@ ghost use Rattle.j39_plan.specs.declared.plan.Plan.{Plan};
 ghost use Rattle.j39_plan.specs.declared.steps.Step.TheVariants.{LateReceiver};
 ghost use Rattle.j39_bus.specs.Network.{Histories, HasGathered, IsAllowed, IsNetwork, IsOf, IsSameNetwork, KeepsPlan, LeadsTo, world_of};
 ghost use Rattle.j39_bus.specs.Traffic.{room_at};
-ghost use Rattle.j39_bus.specs.TransferSteps.{receiver_timed_out};
+ghost use Rattle.j39_world.specs.TransferSteps.{receiver_timed_out};
 
 use crate::network::Network;
 use crate::sessions;

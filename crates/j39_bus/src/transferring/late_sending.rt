@@ -4,9 +4,9 @@ ghost use Rattle.j39_plan.specs.declared.plan.Plan.{Plan};
 ghost use Rattle.j39_plan.specs.declared.steps.Step.TheVariants.{LateSender};
 ghost use Rattle.j39_bus.specs.Network.{Histories, IsAllowed, IsNetwork, IsOf, IsSameNetwork, KeepsPlan, LeadsTo, transfers_of, world_of};
 ghost use Rattle.j39_bus.specs.BusState.{session_at};
-ghost use Rattle.j39_bus.specs.Run.{is_waiting};
+ghost use Rattle.j39_world.specs.Run.{is_waiting};
 ghost use Rattle.j39_bus.specs.Traffic.{HasRoomAlong, KeepsReceivers};
-ghost use Rattle.j39_bus.specs.TransferSteps.{SenderTimesOut};
+ghost use Rattle.j39_world.specs.TransferSteps.{SenderTimesOut};
 
 use crate::network::Network;
 use crate::sessions;

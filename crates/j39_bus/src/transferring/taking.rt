@@ -7,14 +7,14 @@ ghost use Rattle.j39_tp.specs.inside.Gathered.{HoldsCarried};
 ghost use Rattle.j39_tp.specs.Receiver.{message_of};
 ghost use Rattle.j39_bus.specs.Network.{Histories, HasGathered, IsAllowed, IsNetwork, IsOf, IsSameNetwork, KeepsPlan, LeadsTo, has_taken, world_of, TakesTo, transfers_of};
 ghost use Rattle.j39_bus.specs.Traffic.{HasRoomFor, IsData, KeepsRoom, is_complete, lists_of, packet_heard, room_at};
-ghost use Rattle.j39_bus.specs.TransferSteps.{TakenFrom, hearing, packets_in, reaction_of, receiver_replies, report, sender_replies};
+ghost use Rattle.j39_world.specs.TransferSteps.{TakenFrom, hearing, packets_in, reaction_of, receiver_replies, report, sender_replies};
 
 use crate::letter::post;
 use crate::network::Network;
 use crate::report::Report;
 use crate::sessions;
-use crate::wired::Wired;
 use j39_tp::{Heard, Packet, Reaction, known_ranges, receivers_gather_what_they_hear};
+use j39_world::Wired;
 use std::alloc::AllocError;
 
 /// The longest message.

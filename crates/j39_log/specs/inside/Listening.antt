@@ -15,7 +15,7 @@ use Rattle.j39_tp.specs.declared.packet.Packet.{Packet}
 use Rattle.j39_tp.specs.declared.packet.Packet.TheVariants.{Rts, Bam}
 use Rattle.j39_log.specs.LogLines.{is_planned_as}
 use Rattle.j39_log.specs.LogPairs.{Seen, heard}
-use Rattle.j39_bus.specs.Opening.{IsRefusedGroup}
+use Rattle.j39_world.specs.Opening.{IsRefusedGroup}
 use Rattle.j39_log.specs.ReadText.{IsFirstRefused}
 use Rattle.j39_log.specs.declared.catalog.CatalogError.{CatalogError}
 use Rattle.j39_log.specs.declared.catalog.CatalogError.TheVariants.{BadGroup, Memory as NoRoom}

@@ -2,9 +2,9 @@ use Rattle.std.proofs.Common.{◌≡◌, ◌<◌, ◌≤◌, List, None, length,
 use Rattle.std.proofs.lemmas.List.{take_all}
 use Rattle.j39_plan.specs.declared.plan.Plan.{Plan}
 use Rattle.j39_plan.specs.declared.steps.Step.{Step}
-use Rattle.j39_bus.specs.Run.{refusal, Leads, RunsThrough}
+use Rattle.j39_world.specs.Run.{refusal, Leads, RunsThrough}
 use Rattle.j39_bus.specs.Stands.{Stands}
-use Rattle.j39_bus.specs.World.{World, first}
+use Rattle.j39_world.specs.World.{World, first}
 use Rattle.j39_bus.proofs.Running.{run_more}
 use Rattle.stepped_bus.proofs.steps_done.Goals as goal
 

@@ -1,6 +1,6 @@
 use Rattle.std.proofs.Common.{ℕ, ◌<◌, map}
-use Rattle.j39_bus.specs.Claimants.{claimant_of}
-use Rattle.j39_bus.specs.Opening.{HaveOneName}
+use Rattle.j39_world.specs.Claimants.{claimant_of}
+use Rattle.j39_world.specs.Opening.{HaveOneName}
 use Rattle.j39_bus.proofs.opening.same_name_after.Given as goal
 
 abbrev pub invariant-loop-second : goal.invariant-loop-second

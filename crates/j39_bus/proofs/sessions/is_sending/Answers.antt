@@ -1,5 +1,5 @@
 use Rattle.std.proofs.Common.{ap, sym, ◌∙◌, Some, None}
-use Rattle.j39_bus.specs.Run.{can_emit}
+use Rattle.j39_world.specs.Run.{can_emit}
 use Rattle.j39_bus.proofs.Receivers.{at_value}
 use Rattle.j39_bus.proofs.SentMessages.{own_content, session_here}
 use Rattle.j39_bus.proofs.sessions.is_sending.Goals as goal

@@ -1,9 +1,9 @@
 use Rattle.std.proofs.Common.{Some, None, refl, ap, sym, ◌∙◌}
-use Rattle.j39_bus.specs.World.{changed}
+use Rattle.j39_world.specs.World.{changed}
 use Rattle.j39_bus.specs.BusState.{session_at}
 use Rattle.j39_bus.specs.Traffic.{at_stage, values_of}
-use Rattle.j39_bus.specs.Transfers.{Outgoing}
-use Rattle.j39_bus.specs.Flows.{dest_of}
+use Rattle.j39_world.specs.Transfers.{Outgoing}
+use Rattle.j39_world.specs.Flows.{dest_of}
 use Rattle.j39_bus.proofs.Receivers.{at_value}
 use Rattle.j39_bus.proofs.SentMessages.{own_content, session_here, session_set, staged, keeps_receivers, keeps_form, content_form, with_content}
 use Rattle.j39_tp.specs.Sender.{after_packet}

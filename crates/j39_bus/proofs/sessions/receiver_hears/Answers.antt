@@ -4,7 +4,7 @@ use Rattle.std.specs.Option.{option_map}
 use Rattle.j39_tp.specs.Receiver.{Receiving, receives}
 use Rattle.j39_bus.specs.BusState.{Transfer}
 use Rattle.j39_bus.specs.Traffic.{HasReceivers, receiver_in, transfer_of}
-use Rattle.j39_bus.specs.World.{changed_pair}
+use Rattle.j39_world.specs.World.{changed_pair}
 use Rattle.j39_bus.proofs.HeardMessages.{out_heard, heard_form}
 use Rattle.j39_bus.proofs.Receivers.{Boxed, at_value}
 use Rattle.j39_bus.proofs.SentMessages.{receiver_here, receiver_changed, keeps_sessions, keeps_form}

@@ -1,8 +1,8 @@
 use Rattle.std.proofs.Common.{ap, sym, ◌∙◌, Some, None}
 use Rattle.j39_bus.specs.BusState.{session_at}
 use Rattle.j39_bus.specs.Traffic.{values_of}
-use Rattle.j39_bus.specs.TransferSteps.{reaction_of, session_after}
-use Rattle.j39_bus.specs.World.{changed}
+use Rattle.j39_world.specs.TransferSteps.{reaction_of, session_after}
+use Rattle.j39_world.specs.World.{changed}
 use Rattle.j39_bus.proofs.HeardMessages.{reaction_by, stage_by, out_staged, staged_form}
 use Rattle.j39_bus.proofs.Receivers.{at_value}
 use Rattle.j39_bus.proofs.SentMessages.{out, session_here, session_set, keeps_receivers, keeps_form}

@@ -4,7 +4,7 @@ use Rattle.std.proofs.lemmas.List.Elements.{All-push}
 use Rattle.j39_plan.specs.declared.plan.flow_plan.FlowPlan.{FlowPlan}
 use Rattle.j39_plan.specs.declared.plan.to.To.{To}
 use Rattle.j39_plan.specs.declared.plan.to.To.TheVariants.{All as ToAll, One}
-use Rattle.j39_bus.specs.Flows.{Flow, flow_of}
+use Rattle.j39_world.specs.Flows.{Flow, flow_of}
 use Rattle.j39_bus.specs.Traffic.{IsInside, IsRoute, route_of}
 use Rattle.j39_bus.proofs.traffic.routes_of.Goals as goal
 

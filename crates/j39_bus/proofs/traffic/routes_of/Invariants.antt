@@ -1,5 +1,5 @@
 use Rattle.std.proofs.Common.{◌≡◌, map, take, length, All}
-use Rattle.j39_bus.specs.Flows.{flow_of}
+use Rattle.j39_world.specs.Flows.{flow_of}
 use Rattle.j39_bus.specs.Traffic.{IsRoute, route_of}
 use Rattle.j39_bus.proofs.traffic.routes_of.Given as goal
 

@@ -5,7 +5,7 @@ use Rattle.std.proofs.lemmas.Option.{slice_get-get_or}
 use Rattle.j39_signal.specs.LayoutParts.{LayoutParts}
 use Rattle.j39_plan.specs.declared.plan.group_plan.GroupPlan.{GroupPlan}
 use Rattle.j39_log.specs.inside.Listening.{layout_of}
-use Rattle.j39_bus.specs.Opening.{IsSendable}
+use Rattle.j39_world.specs.Opening.{IsSendable}
 use Rattle.j39_log.proofs.catalog.layouts_of.Goals as goal
 
 pub returns-in-Err-Refused-clause-refused : goal.returns-in-Err-Refused-clause-refused

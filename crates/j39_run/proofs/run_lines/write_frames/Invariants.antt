@@ -1,5 +1,5 @@
 use Rattle.std.proofs.Common.{◌≡◌, ◌++◌, map, drop}
-use Rattle.j39_bus.specs.Sent.{sent_of}
+use Rattle.j39_world.specs.Sent.{sent_of}
 use Rattle.j39_run.specs.RunText.{sent_lines}
 use Rattle.j39_run.proofs.run_lines.write_frames.Given as goal
 

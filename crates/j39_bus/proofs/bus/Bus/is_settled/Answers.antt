@@ -1,7 +1,7 @@
 use Rattle.std.proofs.Common.{◌≡◌, ap, sym, ◌∙◌, subst}
 use Rattle.j39_bus.specs.BusState.{undelivered}
 use Rattle.j39_bus.specs.Letters.{between, are_requests}
-use Rattle.j39_bus.specs.Sound.{IsQuiet}
+use Rattle.j39_world.specs.Sound.{IsQuiet}
 use Rattle.j39_bus.proofs.Settled.{settled}
 use Rattle.j39_bus.proofs.Standing.{undelivered_is}
 use Rattle.j39_bus.proofs.bus.Bus.is_settled.Goals as goal

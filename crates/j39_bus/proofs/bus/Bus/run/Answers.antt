@@ -1,10 +1,10 @@
 use Rattle.std.proofs.Common.{◌≡◌, ◌<◌, ◌≤◌, true, length, ◌∙◌, subst, arith, None}
 use Rattle.j39_plan.specs.declared.plan.Plan.{Plan}
 use Rattle.j39_plan.specs.declared.steps.Step.{Step}
-use Rattle.j39_bus.specs.declared.step_error.StepError.TheVariants.{Memory}
-use Rattle.j39_bus.specs.Run.{cause_of, refusal, takes_memory, Leads}
+use Rattle.j39_world.specs.declared.step_error.StepError.TheVariants.{Memory}
+use Rattle.j39_world.specs.Run.{cause_of, refusal, takes_memory, Leads}
 use Rattle.j39_bus.specs.Stands.{Stands}
-use Rattle.j39_bus.specs.World.{World}
+use Rattle.j39_world.specs.World.{World}
 use Rattle.j39_bus.proofs.Running.{run_more, run_refused, run_all}
 use Rattle.j39_bus.proofs.bus.Bus.run.Goals as goal
 

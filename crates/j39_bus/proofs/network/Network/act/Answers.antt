@@ -2,7 +2,7 @@ use Rattle.std.proofs.Common.{sym, ap, subst, Result, Ok, Err, OnOk, OnErr}
 use Rattle.j39_plan.specs.declared.plan.Plan.{Plan}
 use Rattle.j39_plan.specs.declared.steps.Step.{Step}
 use Rattle.j39_bus.specs.Network.{IsAllowed, IsOf, LeadsTo}
-use Rattle.j39_bus.specs.Run.{takes_memory}
+use Rattle.j39_world.specs.Run.{takes_memory}
 use Rattle.j39_bus.proofs.network.Network.act.Goals as goal
 
 on_err : {X E : Type 0} (r : Result X E) {P : Type 0} → P → OnErr r P

@@ -1,6 +1,6 @@
 use Rattle.std.proofs.Common.{◌<◌, length, ap, ◌∙◌, arith}
 use Rattle.j39_plan.specs.declared.steps.Step.TheVariants.{Ask}
-use Rattle.j39_bus.specs.ClaimSteps.{asked}
+use Rattle.j39_world.specs.ClaimSteps.{asked}
 use Rattle.j39_bus.specs.Network.{world_of}
 use Rattle.j39_bus.proofs.Refused.{nowhere, unit_inside}
 use Rattle.j39_bus.proofs.Standing.{plan_kept}

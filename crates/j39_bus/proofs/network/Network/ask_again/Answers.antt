@@ -1,10 +1,10 @@
 use Rattle.std.proofs.Common.{length, refl, sym, ap, ◌∙◌, subst, arith}
 use Rattle.j39_tp.specs.Receiver.{gives_up, timed_out}
 use Rattle.j39_tp.specs.declared.receiving.manner.Manner.TheVariants.{Answering}
-use Rattle.j39_bus.specs.Flows.{window_at}
+use Rattle.j39_world.specs.Flows.{window_at}
 use Rattle.j39_bus.specs.Network.{AreGathered, receivers_of, transfers_of, world_of}
 use Rattle.j39_bus.specs.Traffic.{lists_of, receiver_in, values_of}
-use Rattle.j39_bus.specs.TransferSteps.{packets_in, replied}
+use Rattle.j39_world.specs.TransferSteps.{packets_in, replied}
 use Rattle.j39_bus.proofs.ReceiverTurns.{answers_in, traffic_turned, receivers_turned, gathered_turned, late_packet, late_progress}
 use Rattle.j39_bus.proofs.network.Network.ask_again.Goals as goal
 

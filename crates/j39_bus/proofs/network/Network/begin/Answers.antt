@@ -3,9 +3,9 @@ use Rattle.std.proofs.lemmas.List.{length-map}
 use Rattle.j39_plan.specs.declared.steps.Step.TheVariants.{Begin}
 use Rattle.j39_bus.specs.BusState.{places_from}
 use Rattle.j39_bus.specs.Network.{Histories, has_begun, world_of}
-use Rattle.j39_bus.specs.Run.{count_of}
+use Rattle.j39_world.specs.Run.{count_of}
 use Rattle.j39_bus.specs.Traffic.{IsRoute, route_of}
-use Rattle.j39_bus.specs.TransferSteps.{BeginsAt, begins}
+use Rattle.j39_world.specs.TransferSteps.{BeginsAt, begins}
 use Rattle.j39_bus.proofs.BeginRefused.{flow_inside, is_idle, is_in_length, planned_flow, route_fits}
 use Rattle.j39_bus.proofs.Refused.{nowhere}
 use Rattle.j39_bus.proofs.Rested.{units_count}

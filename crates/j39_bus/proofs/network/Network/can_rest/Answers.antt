@@ -3,9 +3,9 @@ use Rattle.std.proofs.lemmas.Bool.{and_right}
 use Rattle.std.specs.List.{list_all, range_with_len}
 use Rattle.j39_bus.specs.BusState.{session_at}
 use Rattle.j39_bus.specs.Network.{world_of, transfers_of}
-use Rattle.j39_bus.specs.Resting.{is_over_with}
+use Rattle.j39_world.specs.Resting.{is_over_with}
 use Rattle.j39_bus.specs.Traffic.{values_of}
-use Rattle.j39_bus.specs.Transfers.{outcome_in}
+use Rattle.j39_world.specs.Transfers.{outcome_in}
 use Rattle.j39_bus.proofs.Rested.{all_below, not_below}
 use Rattle.j39_bus.proofs.network.Network.can_rest.Goals as goal
 

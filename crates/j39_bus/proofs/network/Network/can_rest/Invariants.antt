@@ -1,6 +1,6 @@
 use Rattle.std.proofs.Common.{◌≡◌, ℕ, ◌<◌, true}
 use Rattle.j39_bus.specs.Network.{Histories, world_of}
-use Rattle.j39_bus.specs.Resting.{is_over_with}
+use Rattle.j39_world.specs.Resting.{is_over_with}
 use Rattle.j39_bus.proofs.network.Network.can_rest.Given as goal
 
 abbrev pub invariant-loop-other : goal.invariant-loop-other

@@ -6,7 +6,7 @@ use Rattle.j39_claim.specs.ClaimerValue.{ClaimerValue, can_note}
 use Rattle.j39_bus.specs.declared.letter.Letter.{Letter}
 use Rattle.j39_bus.specs.Letters.{first_between, is_inside, nobody, station_at}
 use Rattle.j39_bus.specs.Network.{world_of, claimants, is_named, IsWellFormed}
-use Rattle.j39_bus.specs.Sent.{sent_of}
+use Rattle.j39_world.specs.Sent.{sent_of}
 use Rattle.j39_bus.proofs.Between.{inside-remove}
 use Rattle.j39_bus.proofs.Room.{can_note_all, named}
 use Rattle.j39_bus.proofs.WellFormed.{well_told, well_heard}

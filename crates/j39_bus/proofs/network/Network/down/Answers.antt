@@ -6,7 +6,7 @@ use Rattle.j39_plan.specs.declared.steps.Step.TheVariants.{Down}
 use Rattle.j39_bus.specs.declared.network.Network.{Network}
 use Rattle.j39_bus.specs.BusState.{pair_in}
 use Rattle.j39_bus.specs.Network.{world_of}
-use Rattle.j39_bus.specs.Sent.{sent_of}
+use Rattle.j39_world.specs.Sent.{sent_of}
 use Rattle.j39_bus.specs.Traffic.{lists_of}
 use Rattle.j39_bus.proofs.Refused.{nowhere, unit_inside}
 use Rattle.j39_bus.proofs.Sendings.{switched_traffic}

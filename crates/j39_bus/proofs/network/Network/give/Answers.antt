@@ -1,6 +1,6 @@
 use Rattle.std.proofs.Common.{◌<◌, length, subst, sym, ap, arith}
 use Rattle.j39_plan.specs.declared.steps.Step.TheVariants.{Give}
-use Rattle.j39_bus.specs.ClaimSteps.{GivenFrom}
+use Rattle.j39_world.specs.ClaimSteps.{GivenFrom}
 use Rattle.j39_bus.specs.Letters.{between, first_between}
 use Rattle.j39_bus.specs.Network.{world_of}
 use Rattle.j39_bus.proofs.Refused.{all_met, first_inside, nowhere, pair_inside}

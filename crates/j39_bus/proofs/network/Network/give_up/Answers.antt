@@ -3,8 +3,8 @@ use Rattle.j39_tp.specs.Sender.{timeout_packet, after_timeout}
 use Rattle.j39_bus.specs.BusState.{session_at}
 use Rattle.j39_bus.specs.Network.{transfers_of, world_of}
 use Rattle.j39_bus.specs.Traffic.{at_stage, lists_of, values_of}
-use Rattle.j39_bus.specs.Transfers.{Outgoing}
-use Rattle.j39_bus.specs.World.{changed}
+use Rattle.j39_world.specs.Transfers.{Outgoing}
+use Rattle.j39_world.specs.World.{changed}
 use Rattle.j39_bus.proofs.Emitting.{abort_plain, session_sends, room_kept, traffic_kept, went_on, changed_same}
 use Rattle.j39_bus.proofs.Steady.{receivers_same}
 use Rattle.j39_bus.proofs.network.Network.give_up.Goals as goal

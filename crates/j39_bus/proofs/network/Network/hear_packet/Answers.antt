@@ -2,18 +2,18 @@ use Rattle.std.proofs.Common.{◌≡◌, ◌∷◌, ◌++◌, refl, ap, sym, ◌
 use Rattle.std.specs.List.{list_any}
 use Rattle.j39_tp.specs.declared.receiving.manner.Manner.TheVariants.{Answering}
 use Rattle.j39_tp.specs.declared.packet.Packet.{Packet}
-use Rattle.j39_bus.specs.declared.wired.Wired.TheVariants as wired
-use Rattle.j39_bus.specs.Flows.{window_at}
+use Rattle.j39_world.specs.declared.wired.Wired.TheVariants as wired
+use Rattle.j39_world.specs.Flows.{window_at}
 use Rattle.j39_tp.specs.Receiver.{message_of}
 use Rattle.j39_tp.specs.declared.receiving.heard.Heard.{Heard}
-use Rattle.j39_bus.specs.declared.wired.Wired.{Wired}
+use Rattle.j39_world.specs.declared.wired.Wired.{Wired}
 use Rattle.j39_bus.specs.BusState.{pair_in, receiving_at, session_at}
 use Rattle.j39_bus.specs.Network.{Histories, has_taken, receivers_of, transfers_of, world_of}
-use Rattle.j39_bus.specs.Transfers.{Reported}
-use Rattle.j39_bus.specs.World.{World}
+use Rattle.j39_world.specs.Transfers.{Reported}
+use Rattle.j39_world.specs.World.{World}
 use Rattle.j39_bus.proofs.Between.{append_nil}
 use Rattle.j39_bus.specs.Traffic.{is_announcement, is_complete, lists_of, packet_heard}
-use Rattle.j39_bus.specs.TransferSteps.{TakenFrom, hearing, packets_in, reaction_of, receiver_replies, replied, report, sender_replies}
+use Rattle.j39_world.specs.TransferSteps.{TakenFrom, hearing, packets_in, reaction_of, receiver_replies, replied, report, sender_replies}
 use Rattle.j39_bus.proofs.Answered.{replies_plain, answers_plain, replied_twice, flow_kept, no_report, one_report}
 use Rattle.j39_bus.proofs.network.Network.hear_packet.Goals as goal
 use Rattle.j39_bus.proofs.network.Network.hear_packet.Goals.{then-is_complete, else-is_complete}

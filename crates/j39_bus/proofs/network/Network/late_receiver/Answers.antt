@@ -1,7 +1,7 @@
 use Rattle.std.proofs.Common.{◌<◌, length, ap, ◌∙◌, arith}
 use Rattle.j39_plan.specs.declared.steps.Step.TheVariants.{LateReceiver}
 use Rattle.j39_bus.specs.Network.{world_of}
-use Rattle.j39_bus.specs.TransferSteps.{receiver_timed_out}
+use Rattle.j39_world.specs.TransferSteps.{receiver_timed_out}
 use Rattle.j39_bus.proofs.Refused.{nowhere, pair_inside}
 use Rattle.j39_bus.proofs.Standing.{plan_kept}
 use Rattle.j39_bus.proofs.Steady.{leads_after, plan_same}

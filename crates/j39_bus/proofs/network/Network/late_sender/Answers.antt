@@ -1,7 +1,7 @@
 use Rattle.std.proofs.Common.{◌<◌, length, ap, ◌∙◌, arith}
 use Rattle.j39_plan.specs.declared.steps.Step.TheVariants.{LateSender}
 use Rattle.j39_bus.specs.BusState.{session_at}
-use Rattle.j39_bus.specs.Run.{is_waiting}
+use Rattle.j39_world.specs.Run.{is_waiting}
 use Rattle.j39_bus.specs.Traffic.{values_of}
 use Rattle.j39_bus.proofs.Refused.{all_met, nowhere, unit_inside}
 use Rattle.j39_bus.proofs.Steady.{leads_after, receivers_gathered}

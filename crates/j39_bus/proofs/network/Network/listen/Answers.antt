@@ -6,13 +6,13 @@ use Rattle.j39_tp.specs.inside.Gathered.{Gathers, HoldsCarried}
 use Rattle.j39_tp.specs.Receiver.{Receiving, hears, receives}
 use Rattle.j39_tp.specs.declared.receiving.manner.Manner.TheVariants.{Answering}
 use Rattle.j39_tp.specs.declared.packet.Packet.{Packet}
-use Rattle.j39_bus.specs.declared.wired.Wired.TheVariants as wired
+use Rattle.j39_world.specs.declared.wired.Wired.TheVariants as wired
 use Rattle.j39_bus.specs.BusState.{pair_in, receiving_or}
-use Rattle.j39_bus.specs.Flows.{window_at}
+use Rattle.j39_world.specs.Flows.{window_at}
 use Rattle.j39_bus.specs.Network.{world_of}
 use Rattle.j39_bus.specs.Traffic.{IsTable, is_announcement, is_complete, lists_of, receiver_in}
-use Rattle.j39_bus.specs.TransferSteps.{reaction_of, session_after}
-use Rattle.j39_bus.specs.World.{changed, changed_pair}
+use Rattle.j39_world.specs.TransferSteps.{reaction_of, session_after}
+use Rattle.j39_world.specs.World.{changed, changed_pair}
 use Rattle.j39_bus.proofs.Emitting.{traffic_kept}
 use Rattle.j39_bus.proofs.Lost.{changed_table, changed_lists}
 use Rattle.j39_bus.proofs.ReceiverTurns.{answers_in, traffic_turned, receivers_turned, gathered_turned, heard_answer, heard_progress, tells, data_completes, complete_is, own_of}

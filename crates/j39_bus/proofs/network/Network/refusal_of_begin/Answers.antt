@@ -1,7 +1,7 @@
 use Rattle.std.proofs.Common.{◌≡◌, ◌<◌, ◌==◌, true, false, not, is_some, length, get_or, refl, sym, ap, ◌∙◌, subst, arith, None}
 use Rattle.std.proofs.lemmas.List.{get_or_default}
 use Rattle.std.proofs.lemmas.Bool.{eq-eqb, ne_eqb}
-use Rattle.j39_bus.specs.Flows.{can_be_sent}
+use Rattle.j39_world.specs.Flows.{can_be_sent}
 use Rattle.j39_bus.specs.Network.{world_of}
 use Rattle.j39_bus.specs.Traffic.{IsRoute, route_of}
 use Rattle.j39_bus.proofs.BeginRefused.{refusal_by, settled_by, idle_is}

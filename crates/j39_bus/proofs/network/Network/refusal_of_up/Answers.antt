@@ -4,7 +4,7 @@ use Rattle.std.specs.List.{list_any}
 use Rattle.j39_claim.specs.ClaimerValue.{ClaimerValue}
 use Rattle.j39_bus.specs.Letters.{station_at}
 use Rattle.j39_bus.specs.Network.{world_of}
-use Rattle.j39_bus.specs.Run.{is_no_transfer_open}
+use Rattle.j39_world.specs.Run.{is_no_transfer_open}
 use Rattle.j39_bus.proofs.Refused.{station_is}
 use Rattle.j39_bus.proofs.Rested.{idle_by}
 use Rattle.j39_bus.proofs.network.Network.refusal_of_up.Goals as goal

@@ -1,14 +1,14 @@
 use Rattle.std.proofs.Common.{◌≡◌, false, ◌∷◌, [], ◌++◌, List, length, map, ap, sym, ◌∙◌, subst}
 use Rattle.std.proofs.lemmas.List.{map-append}
 use Rattle.std.specs.List.{list_any}
-use Rattle.j39_bus.specs.declared.wired.Wired.{Wired}
-use Rattle.j39_bus.specs.declared.wired.Wired.TheVariants as wired
+use Rattle.j39_world.specs.declared.wired.Wired.{Wired}
+use Rattle.j39_world.specs.declared.wired.Wired.TheVariants as wired
 use Rattle.j39_bus.specs.BusState.{pair_in}
 use Rattle.j39_bus.specs.Network.{world_of}
-use Rattle.j39_bus.specs.Sent.{Sent, sent_of}
-use Rattle.j39_bus.specs.SentTransfers.{packet_frame}
+use Rattle.j39_world.specs.Sent.{Sent, sent_of}
+use Rattle.j39_world.specs.SentTransfers.{packet_frame}
 use Rattle.j39_bus.specs.Traffic.{IsTable, is_announcement, lists_of}
-use Rattle.j39_bus.specs.TransferSteps.{packets_in, replied}
+use Rattle.j39_world.specs.TransferSteps.{packets_in, replied}
 use Rattle.j39_bus.proofs.Lost.{changed_table, changed_lists}
 use Rattle.j39_bus.proofs.Sendings.{only, rewired, no_more_changed, replied_one}
 use Rattle.j39_bus.proofs.network.Network.reply.Goals as goal

@@ -3,8 +3,8 @@ use Rattle.j39_tp.specs.Receiver.{Receiving, message_of}
 use Rattle.j39_bus.specs.BusState.{receiving_at, receiving_or}
 use Rattle.j39_bus.specs.Network.{transfers_of, world_of}
 use Rattle.j39_bus.specs.Traffic.{receiver_in}
-use Rattle.j39_bus.specs.TransferSteps.{report}
-use Rattle.j39_bus.specs.World.{World}
+use Rattle.j39_world.specs.TransferSteps.{report}
+use Rattle.j39_world.specs.World.{World}
 use Rattle.j39_bus.proofs.Answered.{extended}
 use Rattle.j39_bus.proofs.network.Network.report_message.Goals as goal
 

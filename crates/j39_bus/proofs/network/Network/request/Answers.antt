@@ -3,7 +3,7 @@ use Rattle.j39_claim.specs.declared.item.Item.TheVariants.{Told, Request}
 use Rattle.j39_claim.specs.ClaimRule.{claim_of}
 use Rattle.j39_claim.specs.ClaimerValue.{ClaimerValue}
 use Rattle.j39_bus.specs.declared.letter.Letter.{Letter}
-use Rattle.j39_bus.specs.ClaimSteps.{tell}
+use Rattle.j39_world.specs.ClaimSteps.{tell}
 use Rattle.j39_bus.specs.Letters.{nobody, station_at}
 use Rattle.j39_bus.specs.Network.{claimants, world_of, IsWellFormed}
 use Rattle.j39_bus.proofs.WellFormed.{well_told}

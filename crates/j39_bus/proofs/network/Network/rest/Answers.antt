@@ -1,6 +1,6 @@
 use Rattle.std.proofs.Common.{◌≡◌, ◌<◌, true, length, arith}
 use Rattle.j39_bus.specs.Network.{world_of}
-use Rattle.j39_bus.specs.Resting.{can_rest}
+use Rattle.j39_world.specs.Resting.{can_rest}
 use Rattle.j39_bus.proofs.Idle.{sessions_idle, receivers_idle, gathered_idle, traffic_idle}
 use Rattle.j39_bus.proofs.Refused.{all_met, nowhere, unit_inside}
 use Rattle.j39_bus.proofs.network.Network.rest.Goals as goal

@@ -1,14 +1,14 @@
 use Rattle.std.proofs.Common.{◌≡◌, ◌∷◌, [], ◌++◌, List, length, map, get_or, arith, ap, ◌∙◌, Some, None}
 use Rattle.std.proofs.lemmas.List.{map-append}
 use Rattle.std.specs.Option.{option_map}
-use Rattle.j39_bus.specs.declared.wired.Wired.TheVariants as wired
+use Rattle.j39_world.specs.declared.wired.Wired.TheVariants as wired
 use Rattle.j39_bus.specs.BusState.{pair_in, session_at}
 use Rattle.j39_bus.specs.Network.{world_of}
-use Rattle.j39_bus.specs.Sent.{Sent, sent_of}
-use Rattle.j39_bus.specs.SentTransfers.{packet_frame, destination_of}
+use Rattle.j39_world.specs.Sent.{Sent, sent_of}
+use Rattle.j39_world.specs.SentTransfers.{packet_frame, destination_of}
 use Rattle.j39_bus.specs.Letters.{station_at}
 use Rattle.j39_bus.specs.Traffic.{lists_of, posted_along, values_of}
-use Rattle.j39_bus.specs.Transfers.{Outgoing}
+use Rattle.j39_world.specs.Transfers.{Outgoing}
 use Rattle.j39_bus.proofs.AlongMessages.{sent_as}
 use Rattle.j39_bus.proofs.Sendings.{as_table, rewired, no_more_along}
 use Rattle.j39_bus.proofs.network.Network.send_along.Goals as goal

@@ -1,11 +1,11 @@
 use Rattle.std.proofs.Common.{◌≡◌, length, ap, ◌∙◌, arith, Some}
 use Rattle.j39_tp.specs.Sender.{data_next, after_packet}
 use Rattle.j39_bus.specs.BusState.{session_at}
-use Rattle.j39_bus.specs.Flows.{dest_of}
+use Rattle.j39_world.specs.Flows.{dest_of}
 use Rattle.j39_bus.specs.Network.{transfers_of, world_of}
 use Rattle.j39_bus.specs.Traffic.{at_stage, lists_of, values_of}
-use Rattle.j39_bus.specs.Transfers.{Outgoing}
-use Rattle.j39_bus.specs.World.{changed}
+use Rattle.j39_world.specs.Transfers.{Outgoing}
+use Rattle.j39_world.specs.World.{changed}
 use Rattle.j39_bus.proofs.Emitting.{data_plain, session_sends, room_kept, traffic_kept, went_on, changed_same}
 use Rattle.j39_bus.proofs.Steady.{receivers_same}
 use Rattle.j39_bus.proofs.network.Network.send_next.Goals as goal

@@ -2,14 +2,14 @@ use Rattle.std.proofs.Common.{◌≡◌, ◌<◌, ◌∷◌, [], ◌++◌, List,
 use Rattle.std.proofs.lemmas.List.{map-append}
 use Rattle.j39_tp.specs.Receiver.{Receiving}
 use Rattle.j39_bus.specs.BusState.{pair_in, places_from, session_at}
-use Rattle.j39_bus.specs.Flows.{Flow}
+use Rattle.j39_world.specs.Flows.{Flow}
 use Rattle.j39_bus.specs.Letters.{station_at}
 use Rattle.j39_bus.specs.Network.{transfers_of, world_of}
-use Rattle.j39_bus.specs.Sent.{Sent, sent_of}
+use Rattle.j39_world.specs.Sent.{Sent, sent_of}
 use Rattle.j39_bus.specs.Traffic.{IsTransfer, item_frame, lists_of, posted, route_of}
-use Rattle.j39_bus.specs.Transfers.{Begun, Outgoing, added}
-use Rattle.j39_bus.specs.TransferSteps.{outgoing, targets_of}
-use Rattle.j39_bus.specs.World.{changed}
+use Rattle.j39_world.specs.Transfers.{Begun, Outgoing, added}
+use Rattle.j39_world.specs.TransferSteps.{outgoing, targets_of}
+use Rattle.j39_world.specs.World.{changed}
 use Rattle.j39_bus.specs.declared.transfer.Transfer as made
 use Rattle.j39_bus.proofs.Begun.{targets_are, fresh_all, session_begun, receivers_begun, gathered_begun, begun_traffic, first_framed}
 use Rattle.j39_bus.proofs.Receivers.{values}

@@ -1,6 +1,6 @@
 use Rattle.std.proofs.Common.{◌≡◌, sym, ◌∙◌, subst, ap, length, map, Some, None}
 use Rattle.j39_bus.specs.Network.{world_of}
-use Rattle.j39_bus.specs.Run.{cause_of}
+use Rattle.j39_world.specs.Run.{cause_of}
 use Rattle.j39_bus.specs.Traffic.{route_of}
 use Rattle.j39_bus.proofs.Refused.{IsOwnCause, nowhere, own_cause}
 use Rattle.j39_bus.proofs.network.Network.step.Goals as goal

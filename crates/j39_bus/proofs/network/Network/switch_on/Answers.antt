@@ -3,7 +3,7 @@ use Rattle.std.proofs.Math.ListN.{length-set}
 use Rattle.j39_claim.specs.declared.item.Item.TheVariants.{Told}
 use Rattle.j39_claim.specs.ClaimerValue.{ClaimerValue}
 use Rattle.j39_bus.specs.declared.letter.Letter.{Letter}
-use Rattle.j39_bus.specs.Sent.{sent_of}
+use Rattle.j39_world.specs.Sent.{sent_of}
 use Rattle.j39_bus.proofs.Sendings.{switched_traffic}
 use Rattle.j39_bus.proofs.WellFormed.{well_on, well_told}
 use Rattle.j39_bus.proofs.SwitchedOn.{claimants_on, on_claimant, switched}

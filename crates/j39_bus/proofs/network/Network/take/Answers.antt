@@ -1,10 +1,10 @@
 use Rattle.std.proofs.Common.{◌<◌, true, ◌≡◌, ap, sym, ◌∙◌, subst, List, ℕ, Result, Ok, Err, OnOk, nat_lt, length, arith}
 use Rattle.std.proofs.lemmas.Bool.{true≢false}
-use Rattle.j39_bus.specs.declared.wired.Wired.{Wired}
+use Rattle.j39_world.specs.declared.wired.Wired.{Wired}
 use Rattle.j39_bus.specs.BusState.{pair_in}
 use Rattle.j39_bus.specs.Network.{TakesTo, world_of}
 use Rattle.j39_bus.specs.Traffic.{lists_of}
-use Rattle.j39_bus.specs.TransferSteps.{TakenFrom}
+use Rattle.j39_world.specs.TransferSteps.{TakenFrom}
 use Rattle.j39_bus.proofs.Refused.{all_met, nowhere, pair_inside}
 use Rattle.j39_bus.proofs.network.Network.take.Goals as goal
 

@@ -1,10 +1,10 @@
 use Rattle.std.proofs.Common.{◌∷◌, [], ◌++◌, List, length, map, drop, ap, sym, ◌∙◌, subst}
-use Rattle.j39_bus.specs.declared.wired.Wired.{Wired}
+use Rattle.j39_world.specs.declared.wired.Wired.{Wired}
 use Rattle.j39_bus.specs.BusState.{pair_in}
 use Rattle.j39_bus.specs.Network.{world_of}
 use Rattle.j39_bus.specs.Traffic.{lists_of, reported_of}
-use Rattle.j39_bus.specs.TransferSteps.{TakenFrom, report}
-use Rattle.j39_bus.specs.World.{World}
+use Rattle.j39_world.specs.TransferSteps.{TakenFrom, report}
+use Rattle.j39_world.specs.World.{World}
 use Rattle.j39_bus.proofs.Lost.{changed_lists}
 use Rattle.j39_bus.proofs.network.Network.take_short.Goals as goal
 

@@ -3,9 +3,9 @@ use Rattle.std.proofs.lemmas.List.{map-append}
 use Rattle.j39_claim.specs.ClaimerValue.{ClaimerValue}
 use Rattle.j39_bus.specs.declared.letter.Letter.{Letter}
 use Rattle.j39_bus.specs.Letters.{letters_to_others, nobody}
-use Rattle.j39_bus.specs.Sent.{Sent, sent_of, frame_of}
+use Rattle.j39_world.specs.Sent.{Sent, sent_of, frame_of}
 use Rattle.j39_bus.specs.Network.{world_of}
-use Rattle.j39_bus.specs.World.{World}
+use Rattle.j39_world.specs.World.{World}
 use Rattle.j39_bus.proofs.Worlds.{any_default, world, world_told}
 use Rattle.j39_bus.proofs.network.Network.tell.Goals as goal
 

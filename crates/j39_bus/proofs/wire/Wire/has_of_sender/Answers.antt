@@ -1,6 +1,6 @@
 use Rattle.std.proofs.Common.{sym, ap, ◌∙◌}
 use Rattle.std.specs.List.{list_any}
-use Rattle.j39_bus.specs.Resting.{is_of_sender}
+use Rattle.j39_world.specs.Resting.{is_of_sender}
 use Rattle.j39_bus.proofs.Queues.{in_row, list_is}
 use Rattle.j39_bus.proofs.wire.Wire.has_of_sender.Goals as goal
 

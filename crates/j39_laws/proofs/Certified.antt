@@ -1,0 +1,46 @@
+-- What the laws say together of one plan.
+use Rattle.std.proofs.Common.{◌≡◌, ℕ, List, [], arith, subst}
+use Rattle.std.specs.List.{Contains}
+use Rattle.j39_claim.specs.declared.item.Say.TheVariants.{Claim, Cannot}
+use Rattle.j39_claim.specs.declared.item.Item.{Item}
+use Rattle.j39_claim.specs.declared.item.Item.TheVariants.{Told}
+use Rattle.j39_plan.specs.Findings.{Clean}
+use Rattle.j39_plan.specs.SoundSignals.{SoundSignals}
+use Rattle.j39_plan.specs.declared.plan.Plan.{Plan}
+use Rattle.j39_plan.specs.declared.steps.Step.{Step}
+use Rattle.j39_world.specs.World.{World, Undelivered, first}
+use Rattle.j39_world.specs.Run.{Run}
+use Rattle.j39_world.specs.Claimants.{units_of}
+use Rattle.j39_world.specs.Opening.{AreNamesDistinct}
+use Rattle.j39_world.specs.Settling.{Settles}
+use Rattle.j39_world.specs.Sound.{AreAddressesSound, AreAddressesDifferent, IsQuiet, AreReportsSound, IsAcknowledgedReported}
+use Rattle.j39_world.specs.SoundPlan.{IsSound}
+use Rattle.j39_laws.proofs.CleanUnits.{clean_units}
+
+none_in : (x : Item) → ¬ Contains [] x
+none_in x (k, inside, is) = absurd (omega arith)
+
+-- where nothing is undelivered no claim is
+pub quiet_where_empty : (claims : Undelivered) → ((s t : ℕ) → claims s t ≡ []) → IsQuiet claims
+quiet_where_empty claims empty u v = (
+  λ a there. none_in (Told (Claim a)) (subst (λ xs. Contains xs (Told (Claim a))) (empty u v) there),
+  λ there. none_in (Told Cannot) (subst (λ xs. Contains xs (Told Cannot)) (empty u v) there),
+)
+
+pub sound_by_laws : (plan : Plan) → Clean plan
+    → ((p : Plan) (steps : List Step) (w : World) → Clean p → Run p first steps w → AreAddressesSound p w)
+    → ((p : Plan) (steps : List Step) (w : World) → Clean p → Run p first steps w → IsQuiet w.claims → AreAddressesDifferent w)
+    → ((p : Plan) (steps : List Step) (w : World) → AreNamesDistinct (units_of p) → Run p first steps w → Settles p w)
+    → ((p : Plan) → Clean p → SoundSignals p)
+    → ((p : Plan) (steps : List Step) (w : World) → Run p first steps w → AreReportsSound w)
+    → ((p : Plan) (steps : List Step) (w : World) → Run p first steps w → IsAcknowledgedReported w)
+    → IsSound plan
+sound_by_laws plan clean addresses different settles signals reports acknowledged = record {
+  addresses = λ steps w run. addresses plan steps w clean run;
+  quiet = λ steps w run. different plan steps w clean run;
+  sending = λ steps w run (u, o, is). different plan steps w clean run (quiet_where_empty w.claims ((reports plan steps w run).settled u o is));
+  settles = λ steps w run. settles plan steps w (λ i j one. (clean_units plan clean).names i j one.below one.inside one.same) run;
+  signals = signals plan clean;
+  reports = λ steps w run. reports plan steps w run;
+  acknowledged = λ steps w run. acknowledged plan steps w run;
+}

@@ -1,0 +1,5 @@
+use Rattle.j39_laws.proofs.SoundRuns.{reports_sound}
+use Rattle.j39_laws.proofs.laws.reports_are_sound.Goals as goal
+
+pub returns : goal.returns
+returns c = reports_sound

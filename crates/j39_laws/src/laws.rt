@@ -1,0 +1,50 @@
+//! Laws of all runs of a plan.
+ghost use Rattle.std.specs.Prelude.{List};
+ghost use Rattle.j39_plan.specs.Findings.{Clean};
+ghost use Rattle.j39_plan.specs.declared.plan.Plan.{Plan as Plans};
+ghost use Rattle.j39_plan.specs.declared.steps.Step.{Step as Steps};
+ghost use Rattle.j39_world.specs.World.{World, first};
+ghost use Rattle.j39_plan.specs.ConflictRuns.{IsConflictRun};
+ghost use Rattle.j39_plan.specs.declared.checking.finding.Finding.{Finding as Findings};
+ghost use Rattle.j39_world.specs.Claimants.{units_of};
+ghost use Rattle.j39_world.specs.Conflict.{LeavesWithoutAddress};
+ghost use Rattle.j39_world.specs.Opening.{AreNamesDistinct};
+ghost use Rattle.j39_world.specs.Run.{Run, RunsThrough};
+ghost use Rattle.j39_world.specs.Settling.{Settles};
+ghost use Rattle.j39_world.specs.Sound.{AreAddressesSound, AreAddressesDifferent, IsQuiet, AreReportsSound, IsAcknowledgedReported};
+
+/// In every world of every run of a plan without findings, with all lawful choices, addresses are sound: each unit that is on holds
+/// one, a fixed unit its own, and where no claim is undelivered they are pairwise different.
+pub fn addresses_are_sound()
+    ensures sound { (plan : Plans) (steps : List Steps) (w : World) → Clean plan → Run plan first steps w → AreAddressesSound plan w }
+    ensures different { (plan : Plans) (steps : List Steps) (w : World) → Clean plan → Run plan first steps w → IsQuiet w.claims → AreAddressesDifferent w }
+{}
+
+/// In every world of every run, with all lawful choices and whatever is lost, reports are sound: what a unit reported of another is a
+/// subsequence of what that one began for it, and while a message is sent no claim and no request is undelivered.
+pub fn reports_are_sound()
+    ensures { (plan : Plans) (steps : List Steps) (w : World) → Run plan first steps w → AreReportsSound w }
+{}
+
+/// In every world of every run, a sender that rests acknowledged sends to one unit, and what this unit reported of it last is the message.
+pub fn acknowledged_messages_were_reported()
+    ensures { (plan : Plans) (steps : List Steps) (w : World) → Run plan first steps w → IsAcknowledgedReported w }
+{}
+
+/// From each world of each run of a plan whose NAMEs differ, whoever goes on delivering what claimants have told each other comes to
+/// an end, in whatever order and with whatever lawful choices: no more Gives than a given number run through, and where none does,
+/// nothing is undelivered. It says nothing of time.
+pub fn claims_die_down()
+    ensures { (plan : Plans) (steps : List Steps) (w : World) → AreNamesDistinct (units_of plan) → Run plan first steps w → Settles plan w }
+{}
+
+/// The steps that show a conflict of two fixed units can be run from the first world, and whoever runs them meets no refusal and
+/// comes to a world in which no claim is undelivered and the unit of the larger NAME is on and holds no address.
+pub fn conflict_runs_show_the_conflict()
+    ensures { (plan : Plans) (finding : Findings) (steps : List Steps) → (c : IsConflictRun plan finding steps) → LeavesWithoutAddress plan steps c.larger }
+{}
+
+/// What a bus runs without a refusal is a run, so that what holds in every run holds of it.
+pub fn runs_through_are_runs()
+    ensures { (plan : Plans) (w : World) (steps : List Steps) (after : World) → RunsThrough plan w steps after → Run plan w steps after }
+{}

@@ -1,0 +1,11 @@
+//! What holds in each run of a planned network, and the certificate of a checked plan.
+#![tactic(auto)]
+
+mod certificate;
+mod laws;
+
+pub use certificate::certify;
+pub use laws::{
+    acknowledged_messages_were_reported, addresses_are_sound, claims_die_down,
+    conflict_runs_show_the_conflict, reports_are_sound, runs_through_are_runs,
+};

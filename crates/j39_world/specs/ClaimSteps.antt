@@ -1,0 +1,70 @@
+-- The steps of units that claim addresses (SAE J1939-81, address claim procedures).
+use Rattle.std.specs.Prelude.{◌≡◌, ℕ, cond, ◌&&◌, nat_eq, List, [], ◌∷◌, ◌++◌, map, Option, Some, None}
+use Rattle.j39_claim.specs.declared.item.Say.{Say}
+use Rattle.j39_claim.specs.declared.item.Say.TheVariants.{Claim}
+use Rattle.j39_claim.specs.declared.item.Item.{Item}
+use Rattle.j39_claim.specs.declared.item.Item.TheVariants.{Told, Request}
+use Rattle.j39_claim.specs.ClaimRule.{PlannedUnit, ClaimState, Answers, claim_of, off, started}
+use Rattle.j39_world.specs.Claimants.{unit_at}
+use Rattle.j39_world.specs.Sent.{frame_of}
+use Rattle.j39_world.specs.World.{World, Stations, Undelivered, changed, changed_pair, hears}
+
+-- the items join the list of u to every other unit that is on
+abbrev pub told_to_others : Stations → Undelivered → ℕ → List Item → Undelivered
+told_to_others stations claims u items s t =
+    cond (nat_eq s u && hears stations u t) (claims s t ++ items) (claims s t)
+
+-- u tells all others, each item by one frame
+abbrev pub tell : List PlannedUnit → World → ℕ → List Item → World
+tell units w u items =
+    record w {
+      claims = told_to_others w.stations w.claims u items;
+      frames = w.frames ++ map (frame_of (unit_at units u).name (w.stations u).address) items;
+    }
+
+-- what was undelivered to u is gone
+abbrev pub without_lists_to : {X : Type 0} → ℕ → (ℕ → ℕ → List X) → ℕ → ℕ → List X
+without_lists_to u lists s t = cond (nat_eq t u) [] (lists s t)
+
+-- u is switched on with the address that it prefers, and claims it
+abbrev pub switched_on : List PlannedUnit → World → ℕ → World
+switched_on units w u =
+    tell units
+    (record w {
+      stations = changed w.stations u (started (unit_at units u));
+      claims = without_lists_to u w.claims;
+      wire = without_lists_to u w.wire;
+    })
+    u (Told (Claim (unit_at units u).preferred) ∷ [])
+
+-- u is switched off: what was undelivered to it is gone, what it sent is heard later. Nobody sends a message then, so it has no
+-- session that could end
+abbrev pub switched_off : World → ℕ → World
+switched_off w u =
+    record w {
+      stations = changed w.stations u off;
+      claims = without_lists_to u w.claims;
+      wire = without_lists_to u w.wire;
+    }
+
+-- u asks all others for their claims, and sends its own
+abbrev pub asked : List PlannedUnit → World → ℕ → World
+asked units w u = tell units w u (Request ∷ Told (claim_of (w.stations u).address) ∷ [])
+
+abbrev pub answer_items : Option Say → List Item
+answer_items None = []
+answer_items (Some say) = Told say ∷ []
+
+-- v has heard the oldest item of u, is what it then is, and tells its answer; the rest is still undelivered
+abbrev pub given : List PlannedUnit → World → ℕ → ℕ → List Item → Option Say → ClaimState → World
+given units w u v rest says new =
+    tell units
+    (record w { stations = changed w.stations v new; claims = changed_pair w.claims u v rest })
+    v (answer_items says)
+
+-- v hears the oldest of these items of u by the claim rule, with any lawful choice
+abbrev pub GivenFrom : List PlannedUnit → World → ℕ → ℕ → List Item → World → Type 0
+GivenFrom units w u v [] new = ⊥
+GivenFrom units w u v (item ∷ rest) new =
+    (says : Option Say) × (s : ClaimState) × Answers (unit_at units v) (w.stations v) (unit_at units u).name item says s
+    × (new ≡ given units w u v rest says s)

@@ -1,0 +1,15 @@
+pub mod Claimants
+pub mod Flows
+pub mod Sent
+pub mod Transfers
+pub mod World
+pub mod SentTransfers
+pub mod ClaimSteps
+pub mod TransferSteps
+pub mod Resting
+pub mod Run
+pub mod Sound
+pub mod Settling
+pub mod Conflict
+pub mod SoundPlan
+pub mod Opening

@@ -1,0 +1,58 @@
+-- What holds in every world of every run of a plan without findings: addresses are sound, and so are reports.
+use Rattle.std.specs.Prelude.{◌≡◌, ◌≢◌, ℕ, ◌&&◌, nat_eq, true, false, ◌⊎◌, List, [], ◌∷◌, ◌++◌, map, Some, Contains}
+use Rattle.std.specs.List.{filter}
+use Rattle.j39_tp.specs.declared.sending.outcome.Outcome.TheVariants.{Acked}
+use Rattle.j39_tp.specs.declared.sending.stage.Stage.TheVariants.{Resting}
+use Rattle.j39_plan.specs.declared.plan.to.To.TheVariants.{One}
+use Rattle.j39_world.specs.Transfers.{Outgoing, Begun, Reported}
+use Rattle.j39_id.specs.Name.{is_arbitrary}
+use Rattle.j39_claim.specs.declared.item.Say.TheVariants.{Claim, Cannot}
+use Rattle.j39_claim.specs.declared.item.Item.TheVariants.{Told}
+use Rattle.j39_plan.specs.declared.plan.Plan.{Plan}
+use Rattle.j39_world.specs.Claimants.{units_of, unit_at}
+use Rattle.j39_world.specs.World.{World, Undelivered}
+
+-- a claim of this address is undelivered between the two
+abbrev pub IsToBeTold : Undelivered → ℕ → ℕ → ℕ → Type 0
+IsToBeTold claims u v a = Contains (claims u v) (Told (Claim a)) ⊎ Contains (claims v u) (Told (Claim a))
+
+pub record AreAddressesSound (plan : Plan) (w : World) : Type 0 where
+  -- each unit that is on holds an address, a fixed one its planned address
+  pub holds : (u : ℕ) → (w.stations u).on ≡ true → (a : ℕ) × ((w.stations u).address ≡ Some a)
+      × (is_arbitrary (unit_at (units_of plan) u).name ≡ false → a ≡ (unit_at (units_of plan) u).preferred)
+  -- two units that are on hold one address only while a claim of it is undelivered between them
+  pub apart : (u v a : ℕ) → u ≢ v → (w.stations u).on ≡ true → (w.stations v).on ≡ true
+      → (w.stations u).address ≡ Some a → (w.stations v).address ≡ Some a → IsToBeTold w.claims u v a
+
+-- no claim is undelivered; a request may be
+abbrev pub IsQuiet : Undelivered → Type 0
+IsQuiet claims = (u v : ℕ) → ((a : ℕ) → ¬ Contains (claims u v) (Told (Claim a))) × ¬ Contains (claims u v) (Told Cannot)
+
+-- two units that are on hold different addresses
+abbrev pub AreAddressesDifferent : World → Type 0
+AreAddressesDifferent w = (u v : ℕ) → u ≢ v → (w.stations u).on ≡ true → (w.stations v).on ≡ true → (w.stations u).address ≢ (w.stations v).address
+
+-- ---- reports
+
+-- what one unit reported of another, in order
+abbrev pub reported : List Reported → ℕ → ℕ → List Begun
+reported reports v u =
+    map (λ r. record { flow = r.flow; bytes = r.bytes }) (filter (λ r. nat_eq r.receiver v && nat_eq r.sender u) reports)
+
+-- the second list without some of its elements is the first
+abbrev pub IsSubsequence : List Begun → List Begun → Type 0
+IsSubsequence [] ys = Unit {0}
+IsSubsequence (x ∷ xs) [] = ⊥
+IsSubsequence (x ∷ xs) (y ∷ ys) = ((x ≡ y) × IsSubsequence xs ys) ⊎ IsSubsequence (x ∷ xs) ys
+
+pub record AreReportsSound (w : World) : Type 0 where
+  -- what a unit reports of another was begun by it, in this order, and nothing twice
+  pub begun : (v u : ℕ) → IsSubsequence (reported w.reports v u) (w.begun u v)
+  -- while a unit sends a message nothing is undelivered that could move an address
+  pub settled : (u : ℕ) (o : Outgoing) → w.sessions u ≡ Some o → (s t : ℕ) → w.claims s t ≡ []
+
+-- a sender that rests acknowledged sends to one unit, and the last message that this one reported of it is the sender's
+abbrev pub IsAcknowledgedReported : World → Type 0
+IsAcknowledgedReported w =
+    (u : ℕ) (s : Outgoing) → w.sessions u ≡ Some s → s.stage ≡ Resting Acked
+    → (v : ℕ) × (s.to ≡ One v) × (earlier : List Begun) × (reported w.reports v u ≡ earlier ++ record { flow = s.flow; bytes = s.bytes } ∷ [])

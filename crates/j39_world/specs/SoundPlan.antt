@@ -1,0 +1,33 @@
+-- What a plan without findings has: its addresses, its signals and its reports are sound, and its claims die down.
+use Rattle.std.specs.Prelude.{◌≡◌, ℕ, List, Some}
+use Rattle.j39_plan.specs.SoundSignals.{SoundSignals}
+use Rattle.j39_plan.specs.declared.plan.Plan.{Plan}
+use Rattle.j39_plan.specs.declared.steps.Step.{Step}
+use Rattle.j39_world.specs.Transfers.{Outgoing}
+use Rattle.j39_world.specs.World.{World, first}
+use Rattle.j39_world.specs.Run.{Run}
+use Rattle.j39_world.specs.Settling.{Settles}
+use Rattle.j39_world.specs.Sound.{AreAddressesSound, AreAddressesDifferent, IsQuiet, AreReportsSound, IsAcknowledgedReported}
+
+-- it holds in every world of every run of the plan, with all lawful choices and whatever is lost
+abbrev pub Always : Plan → (World → Type 0) → Type 0
+Always plan Holds = (steps : List Step) (w : World) → Run plan first steps w → Holds w
+
+-- a unit is between the beginning of a message and its rest
+abbrev pub IsSending : World → Type 0
+IsSending w = (u : ℕ) × (o : Outgoing) × (w.sessions u ≡ Some o)
+
+pub record IsSound (plan : Plan) : Type 0 where
+  -- each unit that is on holds an address, a fixed one its planned address; two hold one only while one is still to hear the other's claim
+  pub addresses : Always plan (AreAddressesSound plan)
+  -- where no claim is undelivered, and while any message is sent, no two units hold one address
+  pub quiet : Always plan (λ w. IsQuiet w.claims → AreAddressesDifferent w)
+  pub sending : Always plan (λ w. IsSending w → AreAddressesDifferent w)
+  -- whoever goes on delivering claims comes to an end, where nothing is undelivered
+  pub settles : Always plan (Settles plan)
+  -- whatever is written to a group's signals, each reads back what it was last given
+  pub signals : SoundSignals plan
+  -- what a unit reports of another was begun by that one, in this order, and nothing twice
+  pub reports : Always plan AreReportsSound
+  -- where a sender rests acknowledged, its receiver has reported the message
+  pub acknowledged : Always plan IsAcknowledgedReported

@@ -1,0 +1,10 @@
+//! The worlds of a simulated bus, the steps that lead from one to the next, and what is said of all runs.
+#![tactic(auto)]
+
+mod bus_error;
+mod step_error;
+mod wired;
+
+pub use bus_error::BusError;
+pub use step_error::StepError;
+pub use wired::{Short, Wired};
