@@ -6,7 +6,6 @@ mod bus;
 mod claim_frames;
 mod claiming;
 mod ended;
-mod group_fault;
 mod hearing;
 mod letter;
 mod network;

@@ -2,19 +2,17 @@
 ghost use Rattle.std.specs.Prelude.{◌≡◌, ◌<◌, ℕ, length, map, take, All, IfOk, IfErr, IfSome, IfNone, OnOk};
 ghost use Rattle.j39_world.specs.Claimants.{claimant_of};
 ghost use Rattle.j39_bus.specs.Letters.{unstarted};
-ghost use Rattle.j39_world.specs.Opening.{HaveOneName, AreNamesDistinct, IsFirstOfOneName, IsSendable, CanOpen, IsNotOpened};
+ghost use Rattle.j39_world.specs.Opening.{HaveOneName, AreNamesDistinct, IsFirstOfOneName, CanOpen, IsNotOpened};
 ghost use Rattle.j39_bus.specs.Stands.{Stands};
 ghost use Rattle.j39_world.specs.World.{first};
-ghost use Rattle.j39_bus.specs.inside.SendableGroups.{IsNotSendable, HasBadGroup};
+ghost use Rattle.j39_bus.specs.inside.SendableGroups.{HasBadGroup};
+ghost use Rattle.j39_plan.specs.PlannedGroups.{IsSendable};
 
-use crate::group_fault::GroupFault;
 use crate::network::Network;
 use crate::traffic::Traffic;
 use crate::{Bus, BusError};
 use j39_claim::{Choose, Claimer};
-use j39_id::Pgn;
-use j39_plan::{GroupPlan, Plan, UnitPlan};
-use j39_signal::{Layout, LayoutError};
+use j39_plan::{GroupFault, GroupPlan, Plan, UnitPlan, layout_of};
 use std::alloc::{AllocError, Global};
 
 /// The least place after the first at which the first's NAME stands again.
@@ -45,21 +43,6 @@ fn same_name(units: &[UnitPlan]) -> Option<(usize, usize)>
     None
 }
 
-/// Whether the group can be sent. An error of memory says that it could be but for that.
-fn try_group(alloc: Global, group: &GroupPlan) -> Result<(), GroupFault>
-    ensures ok { OnOk result (IsSendable group.now) }
-    ensures fault { IfErr result (IsNotSendable group.now) }
-{
-    if Pgn::new(group.pgn).is_none() {
-        return Err(GroupFault::Refused);
-    }
-    match Layout::new(alloc, group.length, group.signals.as_slice()) {
-        Ok(_layout) => Ok(()),
-        Err(LayoutError::Memory) => Err(GroupFault::Memory),
-        Err(_other) => Err(GroupFault::Refused),
-    }
-}
-
 /// Looks at all groups, also at those after a refused growth.
 fn try_groups(alloc: Global, groups: &[GroupPlan]) -> Result<(), BusError>
     ensures ok { OnOk result (All IsSendable groups.now) }
@@ -67,8 +50,8 @@ fn try_groups(alloc: Global, groups: &[GroupPlan]) -> Result<(), BusError>
 {
     let mut memory = true;
     for (place, group) in groups.iter().enumerate() {
-        match try_group(alloc, group) {
-            Ok(()) => {}
+        match layout_of(alloc, group) {
+            Ok(_layout) => {}
             Err(GroupFault::Memory) => memory = false,
             Err(GroupFault::Refused) => return Err(BusError::BadGroup(place)),
         }

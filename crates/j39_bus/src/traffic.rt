@@ -2,8 +2,8 @@
 ghost use Rattle.std.specs.Prelude.{◌≡◌, ℕ, ◌<◌, ◌≤◌, None, [], map, length, replicate, slice_index_or, All, IfOk};
 ghost use Rattle.j39_bus.specs.BusState.{pair_in};
 ghost use Rattle.j39_world.specs.Flows.{flow_of, flows_of, windows_of, window_at};
-ghost use Rattle.j39_world.specs.Opening.{IsSendable};
 ghost use Rattle.j39_bus.specs.Traffic.{IsRoute, IsTraffic, lists_of, route_of};
+ghost use Rattle.j39_plan.specs.PlannedGroups.{IsSendable};
 
 use crate::report::Report;
 use crate::route::Route;

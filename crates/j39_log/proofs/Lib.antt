@@ -1,8 +1,8 @@
 pub mod Completing
+pub mod FoundGroups
 pub mod Indexes
 pub mod LogReading
 pub mod Outcomes
 pub mod PairLists
-pub mod PlannedGroups
 pub mod SignalLists
 pub mod Tables

@@ -1,14 +1,13 @@
 -- The text that the read command writes for a plan and a log.
-use Rattle.std.specs.Prelude.{◌≡◌, ℕ, ◌+◌, ◌⊎◌, List, [], ◌∷◌, ◌++◌, length, take, All, codes, Some, None, Option}
+use Rattle.std.specs.Prelude.{◌≡◌, ℕ, ◌+◌, ◌⊎◌, List, [], ◌∷◌, ◌++◌, length, All, codes, Some, None, Option}
 use Rattle.j39_id.specs.Lines.{Line, lines}
 use Rattle.j39_id.specs.declared.frame.Frame.{Frame}
 use Rattle.j39_id.specs.declared.ident.Ident.{Ident}
 use Rattle.j39_plan.specs.Places.{ValueAt}
 use Rattle.j39_plan.specs.declared.plan.Plan.{Plan}
-use Rattle.j39_plan.specs.declared.plan.group_plan.GroupPlan.{GroupPlan}
 use Rattle.j39_tp.specs.Carried.{Carried}
 use Rattle.j39_tp.specs.declared.packet.Packet.{Packet}
-use Rattle.j39_world.specs.Opening.{IsSendable, IsRefusedGroup}
+use Rattle.j39_plan.specs.PlannedGroups.{IsSendable, IsFirstRefused}
 use Rattle.j39_text.specs.Labels.{group_label}
 use Rattle.j39_log.specs.LogLines.{IsEntry, IsRole, planned}
 use Rattle.j39_log.specs.LogPairs.{Seen, heard}
@@ -100,10 +99,6 @@ pub record IsLogText (plan : Plan) (log text : List ℕ) : Type 0 where
   pub text_is : text ≡ reports ++ count_line past
 
 -- ---- a plan
-
--- the first group that is refused
-abbrev pub IsFirstRefused : List GroupPlan → ℕ → Type 0
-IsFirstRefused groups g = All IsSendable (take g groups) × ValueAt IsRefusedGroup groups g
 
 unfoldable pub refused_plan_line : Plan → ℕ → List ℕ
 refused_plan_line plan g = codes "refused plan BadGroup " ++ (group_label plan g ++ 10 ∷ [])

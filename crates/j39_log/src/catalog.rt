@@ -1,14 +1,13 @@
 //! The groups of a plan as a reader of frames finds them.
 ghost use Rattle.std.specs.Prelude.{◌≡◌, ◌<◌, List, [], ◌∷◌, ◌++◌, length, map, All, OnOk, IfOk, IfErr};
 ghost use Rattle.std.specs.List.{HoldsAt, position};
-ghost use Rattle.j39_log.specs.inside.Listening.{IsBadCatalog, IsCatalogOf, IsIndex, IsNotReadable, layout_of as parts_of};
+ghost use Rattle.j39_log.specs.inside.Listening.{IsBadCatalog, IsCatalogOf, IsIndex};
 ghost use Rattle.j39_log.specs.LogLines.{is_planned_as};
-ghost use Rattle.j39_world.specs.Opening.{IsSendable};
+ghost use Rattle.j39_plan.specs.PlannedGroups.{IsSendable, layout_of as parts_of};
 ghost use Rattle.j39_plan.specs.declared.plan.group_plan.GroupPlan.{GroupPlan as APlannedGroup};
 
-use j39_id::Pgn;
-use j39_plan::{GroupPlan, Plan};
-use j39_signal::{Layout, LayoutError};
+use j39_plan::{GroupFault, GroupPlan, Plan, layout_of};
+use j39_signal::Layout;
 use std::alloc::{AllocError, Global};
 use std::collections::HashMap;
 
@@ -21,34 +20,11 @@ pub(crate) enum CatalogError {
     Memory,
 }
 
-/// Why a group has no layout.
-#[derive(Clone, Copy, Debug, PartialEq, Eq)]
-pub(crate) enum GroupError {
-    Refused,
-    Memory,
-}
-
 /// The groups of a plan: their layouts by place, and the first place of each number and length.
 #[derive(Drop)]
 pub(crate) struct Catalog {
     layouts: Vec<Layout>,
     places: HashMap<(u32, usize), usize>,
-}
-
-// The layout of a group whose number is one of a group.
-fn layout_of(alloc: Global, group: &GroupPlan) -> Result<Layout, GroupError>
-    ensures layout { IfOk result (λ layout. layout ≡ parts_of group.now) }
-    ensures readable { OnOk result (IsSendable group.now) }
-    ensures refused { IfErr result (IsNotReadable group.now) }
-{
-    if Pgn::new(group.pgn).is_none() {
-        return Err(GroupError::Refused);
-    }
-    match Layout::new(alloc, group.length, group.signals.as_slice()) {
-        Ok(layout) => Ok(layout),
-        Err(LayoutError::Memory) => Err(GroupError::Memory),
-        Err(_other) => Err(GroupError::Refused),
-    }
 }
 
 // The layouts of the groups, by place.
@@ -65,8 +41,8 @@ fn layouts_of(alloc: Global, groups: &[GroupPlan]) -> Result<Vec<Layout>, Catalo
                     return Err(CatalogError::Memory);
                 };
             }
-            Err(GroupError::Memory) => return Err(CatalogError::Memory),
-            Err(GroupError::Refused) => return Err(CatalogError::BadGroup(place)),
+            Err(GroupFault::Memory) => return Err(CatalogError::Memory),
+            Err(GroupFault::Refused) => return Err(CatalogError::BadGroup(place)),
         }
     }
     Ok(layouts)

@@ -12,6 +12,7 @@ pub mod Growing
 pub mod Labels
 pub mod Outcome
 pub mod Places
+pub mod PlannedGroups
 pub mod Refused
 pub mod Schema
 pub mod Signals

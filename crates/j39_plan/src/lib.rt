@@ -5,6 +5,7 @@ mod checking;
 mod conflict_run;
 mod laws;
 mod plan;
+mod planned_groups;
 mod reading;
 mod steps;
 
@@ -14,6 +15,7 @@ pub use laws::{
     clean_parts, clean_where_none, conflict_runs_are_exact, found_exactly, signals_are_sound,
 };
 pub use plan::{FlowPlan, GroupPlan, Plan, To, UnitPlan, Way};
+pub use planned_groups::{GroupFault, layout_of};
 pub use reading::{Cause, Fault, Key, Place, PlanError, Table, read_plan};
 pub use steps::Step;
 

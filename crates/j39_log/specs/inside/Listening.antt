@@ -2,7 +2,6 @@
 use Rattle.std.specs.Prelude.{◌≡◌, ◌==◌, ◌&&◌, ◌+◌, ◌*◌, ◌<◌, Bool, true, false, ℕ, List, length, map, All, Box, Option, Some, None}
 use Rattle.std.specs.HashMap.{HashMap, get}
 use Rattle.std.specs.List.{position, slice_get}
-use Rattle.j39_signal.specs.LayoutParts.{LayoutParts}
 use Rattle.j39_plan.specs.declared.plan.Plan.{Plan}
 use Rattle.j39_plan.specs.declared.plan.group_plan.GroupPlan.{GroupPlan}
 use Rattle.j39_tp.specs.Carried.{listened}
@@ -15,30 +14,19 @@ use Rattle.j39_tp.specs.declared.packet.Packet.{Packet}
 use Rattle.j39_tp.specs.declared.packet.Packet.TheVariants.{Rts, Bam}
 use Rattle.j39_log.specs.LogLines.{is_planned_as}
 use Rattle.j39_log.specs.LogPairs.{Seen, heard}
-use Rattle.j39_world.specs.Opening.{IsRefusedGroup}
-use Rattle.j39_log.specs.ReadText.{IsFirstRefused}
+use Rattle.j39_plan.specs.PlannedGroups.{IsFirstRefused, layout_of}
 use Rattle.j39_log.specs.declared.catalog.CatalogError.{CatalogError}
-use Rattle.j39_log.specs.declared.catalog.CatalogError.TheVariants.{BadGroup, Memory as NoRoom}
-use Rattle.j39_log.specs.declared.catalog.GroupError.{GroupError}
-use Rattle.j39_log.specs.declared.catalog.GroupError.TheVariants.{Refused, Memory}
+use Rattle.j39_log.specs.declared.catalog.CatalogError.TheVariants.{BadGroup, Memory}
 use Rattle.j39_log.specs.declared.catalog.Catalog.{Catalog}
 use Rattle.j39_log.specs.declared.role.Role.{Role}
 use Rattle.j39_log.specs.declared.role.Role.TheVariants.{Short, Packet as APacket, Other}
 
 -- ---- groups
 
--- why a group can't be read: it is refused, or memory is
-abbrev pub IsNotReadable : GroupPlan → GroupError → Type 0
-IsNotReadable group Refused = IsRefusedGroup group
-IsNotReadable group Memory = Unit {0}
-
+-- the first group that is refused, or memory is
 abbrev pub IsBadCatalog : List GroupPlan → CatalogError → Type 0
 IsBadCatalog groups (BadGroup g) = IsFirstRefused groups g
-IsBadCatalog groups NoRoom = Unit {0}
-
--- the layout of a group
-abbrev pub layout_of : GroupPlan → LayoutParts
-layout_of group = record { length = group.length; signals = group.signals.items }
+IsBadCatalog groups Memory = Unit {0}
 
 abbrev pub is_same_key : ℕ × ℕ → ℕ × ℕ → Bool
 is_same_key k l = k.0 == l.0 && k.1 == l.1

@@ -4,8 +4,7 @@ use Rattle.std.proofs.lemmas.List.Elements.{All-more}
 use Rattle.std.proofs.lemmas.Option.{slice_get-get_or}
 use Rattle.j39_signal.specs.LayoutParts.{LayoutParts}
 use Rattle.j39_plan.specs.declared.plan.group_plan.GroupPlan.{GroupPlan}
-use Rattle.j39_log.specs.inside.Listening.{layout_of}
-use Rattle.j39_world.specs.Opening.{IsSendable}
+use Rattle.j39_plan.specs.PlannedGroups.{IsSendable, layout_of}
 use Rattle.j39_log.proofs.catalog.layouts_of.Goals as goal
 
 pub returns-in-Err-Refused-clause-refused : goal.returns-in-Err-Refused-clause-refused
@@ -26,7 +25,7 @@ loop-place-preserved c =
     let laid : c.in-Ok.layout ≡ layout_of (get_or groups i group) = c.in-Ok.ensures.layout ∙ ap layout_of c.index-groups-place.is in (
       c.in-Ok-push.ensures.items ∙ ap (λ (t : List LayoutParts). t ++ c.in-Ok.layout ∷ []) c.loop-place.invariant.0
           ∙ ap (λ (l : LayoutParts). map layout_of (take i groups) ++ l ∷ []) laid ∙ sym (map_more layout_of groups i group c.loop-place-test.true),
-      All-more IsSendable groups i group c.loop-place-test.true c.loop-place.invariant.1 (subst IsSendable c.index-groups-place.is c.in-Ok.ensures.readable),
+      All-more IsSendable groups i group c.loop-place-test.true c.loop-place.invariant.1 (subst IsSendable c.index-groups-place.is c.in-Ok.ensures.sendable),
     )
 
 pub returns-clause-layouts : goal.returns-clause-layouts

@@ -1,6 +1,5 @@
 use Rattle.std.proofs.Common.{◌≡◌, All, map, take}
-use Rattle.j39_log.specs.inside.Listening.{layout_of}
-use Rattle.j39_world.specs.Opening.{IsSendable}
+use Rattle.j39_plan.specs.PlannedGroups.{IsSendable, layout_of}
 use Rattle.j39_log.proofs.catalog.layouts_of.Given as goal
 
 abbrev pub invariant-loop-place : goal.invariant-loop-place

@@ -2,7 +2,7 @@ use Rattle.std.proofs.Common.{length, sym, ap, ◌∙◌}
 use Rattle.std.proofs.lemmas.Result.{IfOk-weaker}
 use Rattle.j39_signal.specs.LayoutParts.{LayoutParts}
 use Rattle.j39_log.specs.LogReports.{report}
-use Rattle.j39_log.proofs.PlannedGroups.{laid_there, planned_there, report_there}
+use Rattle.j39_log.proofs.FoundGroups.{laid_there, planned_there, report_there}
 use Rattle.j39_log.proofs.log_reading.write_group.Goals as goal
 
 pub write_report-requires-clause-signals : goal.write_report-requires-clause-signals

@@ -7,7 +7,8 @@ use Rattle.std.proofs.lemmas.List.{get_or-map}
 use Rattle.j39_signal.specs.LayoutParts.{LayoutParts}
 use Rattle.j39_plan.specs.declared.plan.Plan.{Plan}
 use Rattle.j39_plan.specs.declared.plan.group_plan.GroupPlan.{GroupPlan}
-use Rattle.j39_log.specs.inside.Listening.{IsCatalogOf, layout_of}
+use Rattle.j39_plan.specs.PlannedGroups.{layout_of}
+use Rattle.j39_log.specs.inside.Listening.{IsCatalogOf}
 use Rattle.j39_log.specs.LogLines.{is_planned_as, planned}
 use Rattle.j39_log.specs.LogReports.{report}
 use Rattle.j39_log.specs.ReadText.{IsReport}
