@@ -15,7 +15,7 @@ use Rattle.j39_world.specs.Opening.{AreNamesDistinct}
 use Rattle.j39_world.specs.Settling.{Settles}
 use Rattle.j39_world.specs.Sound.{AreAddressesSound, AreAddressesDifferent, IsQuiet, AreReportsSound, IsAcknowledgedReported}
 use Rattle.j39_world.specs.SoundPlan.{IsSound}
-use Rattle.j39_laws.proofs.CleanUnits.{clean_units}
+use Rattle.j39_laws.proofs.Addresses.CleanUnits.{clean_units}
 
 none_in : (x : Item) → ¬ Contains [] x
 none_in x (k, inside, is) = absurd (omega arith)
@@ -39,7 +39,7 @@ sound_by_laws plan clean addresses different settles signals reports acknowledge
   addresses = λ steps w run. addresses plan steps w clean run;
   quiet = λ steps w run. different plan steps w clean run;
   sending = λ steps w run (u, o, is). different plan steps w clean run (quiet_where_empty w.claims ((reports plan steps w run).settled u o is));
-  settles = λ steps w run. settles plan steps w (λ i j one. (clean_units plan clean).names i j one.below one.inside one.same) run;
+  settles = λ steps w run. settles plan steps w (clean_units plan clean).names run;
   signals = signals plan clean;
   reports = λ steps w run. reports plan steps w run;
   acknowledged = λ steps w run. acknowledged plan steps w run;

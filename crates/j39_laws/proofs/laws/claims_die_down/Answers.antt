@@ -1,4 +1,4 @@
-use Rattle.j39_laws.proofs.SettlingRuns.{settles}
+use Rattle.j39_laws.proofs.Settling.SettlingRuns.{settles}
 use Rattle.j39_laws.proofs.laws.claims_die_down.Goals as goal
 
 pub returns : goal.returns

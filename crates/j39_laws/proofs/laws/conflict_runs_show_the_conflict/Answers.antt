@@ -1,4 +1,4 @@
-use Rattle.j39_laws.proofs.ConflictShown.{leaves_without_address}
+use Rattle.j39_laws.proofs.Conflicts.ConflictShown.{leaves_without_address}
 use Rattle.j39_laws.proofs.laws.conflict_runs_show_the_conflict.Goals as goal
 
 pub returns : goal.returns

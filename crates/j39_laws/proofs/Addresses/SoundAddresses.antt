@@ -1,0 +1,65 @@
+-- Each world of a run of a clean plan has sound addresses.
+use Rattle.std.proofs.Common.{◌≡◌, ◌≢◌, ◌<◌, ℕ, true, List, [], ◌∷◌, length, refl, sym, ap, ◌∙◌, subst, Option, inl, inr}
+use Rattle.std.proofs.lemmas.Bool.{true≢false}
+use Rattle.std.specs.FinMap.{get-empty}
+use Rattle.std.specs.Ordering.{nat_cmp}
+use Rattle.std.specs.List.{AllByRecursion}
+use Rattle.j39_claim.specs.declared.item.Item.{Item}
+use Rattle.j39_claim.specs.declared.item.Say.{Say}
+use Rattle.j39_claim.specs.ClaimRule.{PlannedUnit, ClaimState, Answers}
+use Rattle.j39_plan.specs.declared.plan.Plan.{Plan}
+use Rattle.j39_world.specs.Claimants.{units_of, unit_at}
+use Rattle.j39_world.specs.Sound.{AreAddressesSound, AreAddressesDifferent, IsQuiet}
+use Rattle.j39_world.specs.SoundPlan.{Always}
+use Rattle.j39_world.specs.World.{World, Stations, Undelivered, first}
+use Rattle.j39_laws.proofs.Addresses.AddressInvariant.{AddressInvariant, IsSaid}
+use Rattle.j39_laws.proofs.Addresses.AddressSteps.{up_keeps, down_keeps, ask_keeps, give_keeps}
+use Rattle.j39_laws.proofs.Addresses.CleanUnits.{IsClean}
+use Rattle.j39_laws.proofs.Addresses.Turns.{turn}
+use Rattle.j39_laws.proofs.Runs.Always.{always}
+use Rattle.j39_laws.proofs.Runs.ClaimInvariants.{IsKeptByClaimSteps, stations_given, claims_given, claim_steps_keep}
+use Rattle.j39_laws.proofs.Runs.Units.{in_units}
+
+at_first : (units : List PlannedUnit) → AddressInvariant units first.stations first.claims
+at_first units = record {
+  holds = λ u on. absurd (true≢false (sym on));
+  apart = λ u v a other on_u on_v. absurd (true≢false (sym on_u));
+  said = λ u v. tt;
+  itself = λ u. refl;
+  notes = λ v n a is. absurd (let e = sym (get-empty {X = ℕ} nat_cmp n) ∙ is in cc);
+}
+
+-- v hears the oldest item of u
+given : (units : List PlannedUnit) → IsClean units → (stations : Stations) (claims : Undelivered) → AddressInvariant units stations claims
+    → (u v : ℕ) → u < length units → v < length units → (stations v).on ≡ true → (item : Item) (rest : List Item) → claims u v ≡ item ∷ rest
+    → (says : Option Say) (new : ClaimState) → Answers (unit_at units v) (stations v) (unit_at units u).name item says new
+    → AddressInvariant units (stations_given stations v new) (claims_given stations claims u v rest says new)
+given units clean stations claims inv u v in_u in_v on item rest list says new answers =
+    let other : u ≢ v = λ same. let none : item ∷ rest ≡ [] = sym list ∙ ap (claims u) (sym same) ∙ inv.itself u in cc in
+    let said : AllByRecursion (IsSaid (unit_at units u)) (item ∷ rest) = subst (AllByRecursion (IsSaid (unit_at units u))) list (inv.said u v) in
+    let t = turn units clean u v in_u in_v other (stations v) (inv.holds v on) (inv.notes v) item said.0 says new answers in
+    give_keeps units stations claims inv u v other on item rest list says new t
+
+claim_steps : (plan : Plan) → IsClean (units_of plan) → IsKeptByClaimSteps plan (AddressInvariant (units_of plan))
+claim_steps plan clean = record {
+  switched_on = λ stations claims inv u unit. up_keeps (units_of plan) stations claims inv u;
+  switched_off = λ stations claims inv u. down_keeps (units_of plan) stations claims inv u;
+  asked = λ stations claims inv u unit on. ask_keeps (units_of plan) stations claims inv u on;
+  given = λ stations claims inv u v unit_u unit_v. given (units_of plan) clean stations claims inv u v (in_units plan u unit_u) (in_units plan v unit_v);
+}
+
+pub addresses_sound : (plan : Plan) → IsClean (units_of plan) → Always plan (AreAddressesSound plan)
+addresses_sound plan clean steps w run =
+    let inv : AddressInvariant (units_of plan) w.stations w.claims =
+    always plan (λ x. AddressInvariant (units_of plan) x.stations x.claims) (at_first (units_of plan))
+    (claim_steps_keep plan (AddressInvariant (units_of plan)) (claim_steps plan clean)) steps w run in
+    record { holds = inv.holds; apart = inv.apart }
+
+-- where no claim is undelivered, no two hold one address
+pub quiet_apart : (plan : Plan) (w : World) → AreAddressesSound plan w → IsQuiet w.claims → AreAddressesDifferent w
+quiet_apart plan w sound quiet u v other on_u on_v same =
+    let (a, holds, own) = sound.holds u on_u in
+    elim (sound.apart u v a other on_u on_v holds (sym same ∙ holds)) [
+      | inl to_v ↦ (quiet u v).0 a to_v
+      | inr to_u ↦ (quiet v u).0 a to_u
+    ]

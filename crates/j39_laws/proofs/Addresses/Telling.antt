@@ -1,0 +1,40 @@
+-- What a unit tells is appended to its lists, and to no others.
+use Rattle.std.proofs.Common.{◌≡◌, ◌≢◌, ℕ, true, false, cond, not, ◌&&◌, eqb, List, [], ◌++◌, refl}
+use Rattle.std.proofs.lemmas.Bool.{eq-eqb, ne_eqb, eqb-true, cond_both, and_parts}
+use Rattle.std.proofs.lemmas.List.Elements.{Contains-append_left, Contains-append_right}
+use Rattle.std.specs.List.{Contains, AllByRecursion}
+use Rattle.j39_claim.specs.declared.item.Item.{Item}
+use Rattle.j39_claim.specs.ClaimRule.{PlannedUnit}
+use Rattle.j39_world.specs.Claimants.{unit_at}
+use Rattle.j39_world.specs.World.{Stations, Undelivered, hears}
+use Rattle.j39_world.specs.ClaimSteps.{told_to_others}
+use Rattle.j39_laws.proofs.Addresses.AddressInvariant.{IsSaid}
+use Rattle.j39_laws.proofs.Runs.Elements.{all-append}
+
+module _ (stations : Stations) (claims : Undelivered) (u : ℕ) (items : List Item) where
+  -- nothing is lost
+  pub still : (s t : ℕ) (x : Item) → Contains (claims s t) x → Contains (told_to_others stations claims u items s t) x
+  still s t x in_old = cond_both (eqb s u && hears stations u t) (claims s t ++ items) (claims s t) (λ xs. Contains xs x)
+      (λ _. Contains-append_left (claims s t) items x in_old) (λ _. in_old)
+
+  -- each other unit that is on is told
+  pub told : (t : ℕ) (x : Item) → (stations t).on ≡ true → t ≢ u → Contains items x → Contains (told_to_others stations claims u items u t) x
+  told t x on other in_items =
+      let same : eqb u u ≡ true = eq-eqb u u refl in
+      let apart : eqb t u ≡ false = ne_eqb t u other in
+      rw (same, on, apart) (Contains-append_right (claims u t) items x in_items)
+
+  pub said_more : (units : List PlannedUnit) → ((s t : ℕ) → AllByRecursion (IsSaid (unit_at units s)) (claims s t))
+      → AllByRecursion (IsSaid (unit_at units u)) items
+      → (s t : ℕ) → AllByRecursion (IsSaid (unit_at units s)) (told_to_others stations claims u items s t)
+  said_more units old more s t = cond_both (eqb s u && hears stations u t) (claims s t ++ items) (claims s t) (AllByRecursion (IsSaid (unit_at units s)))
+      (λ is. all-append (IsSaid (unit_at units s)) (claims s t) items (old s t)
+      (rw (eqb-true s u (and_parts (eqb s u) (hears stations u t) is).0) more))
+      (λ _. old s t)
+
+  pub not_itself : ((s : ℕ) → claims s s ≡ []) → (s : ℕ) → told_to_others stations claims u items s s ≡ []
+  not_itself old s =
+      elim (eqb s u) as (λ e. cond (e && ((stations s).on && not e)) (claims s s ++ items) (claims s s) ≡ []) [
+        | true ↦ elim ((stations s).on) as (λ e. cond (e && false) (claims s s ++ items) (claims s s) ≡ []) [ true ↦ old s | false ↦ old s ]
+        | false ↦ old s
+      ]

@@ -1,0 +1,171 @@
+-- What a unit says to an item, and what it is then.
+use Rattle.std.proofs.Common.{◌≡◌, ◌≢◌, ℕ, ◌<◌, ◌/◌, ◌%◌, ◌^◌, true, false, ◌⊎◌, inl, inr, ltb, List, length, refl, sym, ap, ◌∙◌, subst}
+use Rattle.std.proofs.Common.{arith, Option, Some, None}
+use Rattle.std.proofs.lemmas.Bool.{cases_Bool, cases_eq, cases_order, eqb-false, ne_eqb, ltb-true, or_left, or_right, true≢false}
+use Rattle.std.specs.Bool.{MatchBool}
+use Rattle.std.specs.Ordering.{nat_cmp}
+use Rattle.std.specs.FinMap.{FinMap, get, insert}
+use Rattle.j39_id.specs.Name.{is_arbitrary}
+use Rattle.j39_id.specs.Addresses.{in_pool}
+use Rattle.j39_claim.specs.declared.item.Say.{Say}
+use Rattle.j39_claim.specs.declared.item.Say.TheVariants.{Claim, Cannot}
+use Rattle.j39_claim.specs.declared.item.Item.{Item}
+use Rattle.j39_claim.specs.declared.item.Item.TheVariants.{Told, Request}
+use Rattle.j39_claim.specs.ClaimRule.{PlannedUnit, ClaimState, Answers, Moves, GivesUp, IsFree, holds_address, claim_of}
+use Rattle.j39_world.specs.Claimants.{unit_at}
+use Rattle.j39_laws.proofs.Addresses.CleanUnits.{IsClean, needs_pool}
+use Rattle.j39_laws.proofs.Addresses.AddressInvariant.{IsOwn, IsSaid, IsHeld, AllNoted}
+use Rattle.j39_laws.proofs.Addresses.FreeAddress.{one_left}
+use Rattle.j39_laws.proofs.Addresses.Notes.{inserted_here, inserted_elsewhere, holds_address-true, holds_address-false}
+use Rattle.j39_laws.proofs.Runs.Units.{names_differ}
+
+-- either it says nothing and holds what it held, which the item doesn't claim, or it claims what it holds now
+abbrev pub IsQuietTurn : ClaimState → Item → Option Say → ClaimState → Type 0
+IsQuietTurn s item says new = (says ≡ None) × (new.address ≡ s.address) × ((a : ℕ) → s.address ≡ Some a → item ≢ Told (Claim a))
+
+abbrev pub IsClaimTurn : PlannedUnit → Option Say → ClaimState → Type 0
+IsClaimTurn p says new = (b : ℕ) × (says ≡ Some (Claim b)) × (new.address ≡ Some b) × IsOwn p b
+
+pub record Turn (units : List PlannedUnit) (v : ℕ) (s : ClaimState) (item : Item) (says : Option Say) (new : ClaimState) : Type 0 where
+  pub on : new.on ≡ s.on
+  pub notes : AllNoted units v new.notes
+  pub outcome : IsQuietTurn s item says new ⊎ IsClaimTurn (unit_at units v) says new
+
+noted_more : (units : List PlannedUnit) (u v a : ℕ) (notes : FinMap nat_cmp ℕ) → u < length units → u ≢ v → IsOwn (unit_at units u) a
+    → AllNoted units v notes → AllNoted units v (insert notes (unit_at units u).name a)
+noted_more units u v a notes inside other own old n b is =
+    let m : ℕ = (unit_at units u).name in
+    elim (cases_eq n m) [
+      | inl same ↦
+          let e : Some a ≡ Some b = sym (inserted_here notes m a) ∙ ap (get (insert notes m a)) (sym same) ∙ is in
+          let same_address : a ≡ b = cc in
+          record { place = u; inside = inside; other = other; name = sym same; own = λ fixed. sym same_address ∙ own fixed }
+      | inr apart ↦ old n b (sym (inserted_elsewhere notes m a n apart) ∙ is)
+    ]
+
+-- fixed units at two places differ in address
+addresses_differ : (units : List PlannedUnit) → IsClean units → (u v : ℕ) → u < length units → v < length units → u ≢ v
+    → is_arbitrary (unit_at units u).name ≡ false → is_arbitrary (unit_at units v).name ≡ false
+    → (unit_at units u).preferred ≢ (unit_at units v).preferred
+addresses_differ units clean u v in_u in_v other fixed_u fixed_v same =
+    elim (cases_order u v) [
+      | inl is ↦ other is
+      | inr (inl below) ↦ clean.fixed u v below in_v fixed_u fixed_v same
+      | inr (inr above) ↦ clean.fixed v u above in_u fixed_v fixed_u (sym same)
+    ]
+
+-- a unit has no note of itself
+no_own : (units : List PlannedUnit) → IsClean units → (v : ℕ) → v < length units → (notes : FinMap nat_cmp ℕ) → AllNoted units v notes
+    → get notes (unit_at units v).name ≡ None
+no_own units clean v in_v notes all =
+    elim (get notes (unit_at units v).name) as (λ o. get notes (unit_at units v).name ≡ o → o ≡ None) [
+      | None ↦ λ _. refl
+      | Some a ↦ λ is. let known = all (unit_at units v).name a is in
+          absurd (names_differ units clean.names known.place v known.inside in_v known.other known.name)
+    ] refl
+
+-- a unit that may need the pool finds a free address in it
+pub free_left : (units : List PlannedUnit) → IsClean units → (v : ℕ) → v < length units → is_arbitrary (unit_at units v).name ≡ true
+    → (s : ClaimState) → AllNoted units v s.notes → (b : ℕ) × IsFree (unit_at units v) s b
+free_left units clean v in_v arbitrary s all =
+    let (b, ok, left) = one_left s.notes units v clean.room in_v
+    (or_left (is_arbitrary (unit_at units v).name) (in_pool (unit_at units v).preferred) arbitrary) (no_own units clean v in_v s.notes all) in (
+      b,
+      record {
+        pool = ok;
+        unnoted = λ n is. let known = all n b is in
+            left known.place known.inside (needs (unit_at units known.place) b known.own ok) (ap (λ m. get s.notes m) known.name ∙ is);
+        unkept = clean.unkept v b in_v;
+      },
+    )
+  where
+    needs : (p : PlannedUnit) (b : ℕ) → IsOwn p b → in_pool b ≡ true → needs_pool p ≡ true
+    needs p b own ok =
+        elim (cases_Bool (is_arbitrary p.name)) [
+          | inl free ↦ or_left (is_arbitrary p.name) (in_pool p.preferred) free
+          | inr fixed ↦ or_right (is_arbitrary p.name) (in_pool p.preferred) (ap in_pool (sym (own fixed)) ∙ ok)
+        ]
+
+-- what is below a fixed NAME is fixed
+fixed_below : (m n : ℕ) → m < n → n < 2 ^ 64 → is_arbitrary n ≡ false → is_arbitrary m ≡ false
+fixed_below m n below range fixed = ne_eqb (m / 2 ^ 63 % 2) 1 (λ one. eqb-false (n / 2 ^ 63 % 2) 1 fixed (omega arith))
+
+module _ (units : List PlannedUnit) (clean : IsClean units) (u v : ℕ) (in_u : u < length units) (in_v : v < length units) (other : u ≢ v) (s : ClaimState)
+    (held : IsHeld (unit_at units v) s.address) (all : AllNoted units v s.notes) where
+  -- to lose an address is to find another
+  loses : (a : ℕ) → s.address ≡ Some a → IsOwn (unit_at units u) a → (unit_at units u).name < (unit_at units v).name → (noted : ClaimState)
+      → noted.on ≡ s.on → AllNoted units v noted.notes → (says : Option Say) (new : ClaimState)
+      → (Moves (unit_at units v) noted says new ⊎ GivesUp (unit_at units v) noted says new) → Turn units v s (Told (Claim a)) says new
+  loses a has own below noted on known says new lost =
+      elim lost [
+        | inl moves ↦
+            let (b, arbitrary, free, said, is) = moves in
+            record {
+              on = ap (λ t. t.on) is ∙ on;
+              notes = subst (λ (t : ClaimState). AllNoted units v t.notes) (sym is) known;
+              outcome = inr (b, said, ap (λ t. t.address) is, λ fixed. absurd (true≢false (sym arbitrary ∙ fixed)));
+            }
+        | inr gives_up ↦
+            let (none, said, is) = gives_up in
+            absurd (elim (cases_Bool (is_arbitrary (unit_at units v).name)) [
+              | inl arbitrary ↦ let found = free_left units clean v in_v arbitrary noted known in none arbitrary found.0 found.1
+              | inr fixed ↦
+                  let fixed_u = fixed_below (unit_at units u).name (unit_at units v).name below (clean.range v in_v) fixed in
+                  let (b, holds, own_b) = held in
+                  let same : a ≡ b = cc in
+                  addresses_differ units clean u v in_u in_v other fixed_u fixed (sym (own fixed_u) ∙ same ∙ own_b fixed)
+            ])
+      ]
+
+  claimed : (a : ℕ) → IsOwn (unit_at units u) a → (says : Option Say) (new : ClaimState)
+      → Answers (unit_at units v) s (unit_at units u).name (Told (Claim a)) says new → Turn units v s (Told (Claim a)) says new
+  claimed a own says new answers =
+      let noted : ClaimState = record s { notes = insert s.notes (unit_at units u).name a } in
+      let known : AllNoted units v noted.notes = noted_more units u v a s.notes in_u other own all in
+      elim (holds_address s.address a) as (λ e. holds_address s.address a ≡ e → MatchBool e
+      (MatchBool (ltb (unit_at units u).name (unit_at units v).name) (Moves (unit_at units v) noted says new ⊎ GivesUp (unit_at units v) noted says new)
+      ((says ≡ Some (Claim a)) × (new ≡ noted)))
+      ((says ≡ None) × (new ≡ noted)) → Turn units v s (Told (Claim a)) says new) [
+        | true ↦ λ has. let is = holds_address-true s.address a has in
+            elim (ltb (unit_at units u).name (unit_at units v).name) as
+            (λ e. ltb (unit_at units u).name (unit_at units v).name ≡ e
+            → MatchBool e (Moves (unit_at units v) noted says new ⊎ GivesUp (unit_at units v) noted says new) ((says ≡ Some (Claim a)) × (new ≡ noted))
+            → Turn units v s (Told (Claim a)) says new) [
+              | true ↦ λ below lost. loses a is own (ltb-true (unit_at units u).name (unit_at units v).name below) noted refl known says new lost
+              | false ↦ λ _ stays. record {
+                on = ap (λ t. t.on) stays.1;
+                notes = subst (λ (t : ClaimState). AllNoted units v t.notes) (sym stays.1) known;
+                outcome = inr (
+                  a,
+                  stays.0,
+                  ap (λ t. t.address) stays.1 ∙ is,
+                  λ fixed.
+                      let (b, holds, own_b) = held in
+                      let same : a ≡ b = cc in
+                      same ∙ own_b fixed,
+                );
+              }
+            ] refl
+        | false ↦ λ not_held silent. record {
+          on = ap (λ t. t.on) silent.1;
+          notes = subst (λ (t : ClaimState). AllNoted units v t.notes) (sym silent.1) known;
+          outcome = inl (
+            silent.0,
+            ap (λ t. t.address) silent.1,
+            λ b is same.
+                let e : b ≡ a = sym (cc) in holds_address-false s.address a not_held (is ∙ ap Some e),
+          );
+        }
+      ] refl answers
+
+  pub turn : (item : Item) → IsSaid (unit_at units u) item → (says : Option Say) (new : ClaimState)
+      → Answers (unit_at units v) s (unit_at units u).name item says new → Turn units v s item says new
+  turn (Told (Claim a)) own says new answers = claimed a own says new answers
+  turn (Told Cannot) never says new answers = absurd never
+  turn Request _ says new answers =
+      let (b, holds, own_b) = held in
+      record {
+        on = ap (λ t. t.on) answers.1;
+        notes = subst (λ (t : ClaimState). AllNoted units v t.notes) (sym answers.1) all;
+        outcome = inr (b, answers.0 ∙ ap (λ o. Some (claim_of o)) holds, ap (λ t. t.address) answers.1 ∙ holds, own_b);
+      }

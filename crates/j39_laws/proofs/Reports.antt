@@ -1,0 +1,11 @@
+pub mod Subsequences
+pub mod Hearings
+pub mod Exchanges
+pub mod ExchangeSteps
+pub mod ExchangeTaken
+pub mod Orderly
+pub mod Reporting
+pub mod TransferInvariant
+pub mod SenderSteps
+pub mod ReceiverSteps
+pub mod SoundReports

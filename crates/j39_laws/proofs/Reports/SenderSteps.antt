@@ -1,0 +1,294 @@
+-- The steps of senders keep what holds in every world.
+use Rattle.j39_id.specs.Pgn.{is_pdu2}
+use Rattle.std.proofs.Common.{◌≡◌, ◌≢◌, ℕ, Bool, true, false, cond, not, ◌&&◌, ◌||◌, eqb, List, [], ◌∷◌, ◌++◌, length, refl, sym, ap, ◌∙◌, subst}
+use Rattle.std.proofs.Common.{inl, inr, Option, Some, None}
+use Rattle.std.proofs.lemmas.Bool.{cond_both, and_parts, cases_eq, eqb-true, eq-eqb, ne_eqb}
+use Rattle.std.specs.Prelude.{nat_lt}
+use Rattle.std.specs.Option.{is_some}
+use Rattle.std.specs.List.{filter, list_all, range_with_len}
+use Rattle.j39_tp.specs.Sender as sender
+use Rattle.j39_tp.specs.Chunks.{chunk}
+use Rattle.j39_tp.specs.declared.sending.dest.Dest.{Dest}
+use Rattle.j39_tp.specs.declared.sending.dest.Dest.TheVariants as dests
+use Rattle.j39_tp.specs.declared.sending.outcome.Outcome.TheVariants.{Acked}
+use Rattle.j39_tp.specs.declared.packet.Packet.{Packet}
+use Rattle.j39_tp.specs.declared.packet.Packet.TheVariants.{Dt, Abort}
+use Rattle.j39_tp.specs.declared.sending.stage.Stage.{Stage}
+use Rattle.j39_tp.specs.declared.sending.stage.Stage.TheVariants.{Sending, Waiting, Resting}
+use Rattle.j39_plan.specs.declared.plan.Plan.{Plan}
+use Rattle.j39_plan.specs.declared.plan.to.To.{To}
+use Rattle.j39_plan.specs.declared.plan.to.To.TheVariants.{All, One}
+use Rattle.j39_world.specs.declared.wired.Wired.{Wired}
+use Rattle.j39_world.specs.declared.wired.Wired.TheVariants as wired
+use Rattle.j39_world.specs.Flows.{Flow, dest_of, is_short, can_go_to}
+use Rattle.j39_world.specs.Resting.{can_rest, is_over_with}
+use Rattle.j39_world.specs.Run.{count_of, is_unit, is_on, at_ends, begin_refusal}
+use Rattle.j39_world.specs.Transfers.{Outgoing, Wire, outcome_in, is_among, added}
+use Rattle.j39_world.specs.TransferSteps.{targets_of, sent_along, begun_stage, outgoing, first_item, begins, BeginsAt, Emits, SenderTimesOut, rested}
+use Rattle.j39_world.specs.World.{World, changed, hears}
+use Rattle.j39_world.specs.Sound.{reported}
+use Rattle.j39_tp.specs.HonestPackets.{GoesOn}
+use Rattle.j39_laws.proofs.Reports.Hearings.{either}
+use Rattle.j39_laws.proofs.Reports.Orderly.{IsPlanned, PlannedAt, DeliveredBefore, all_delivered, sessions_keep}
+use Rattle.j39_laws.proofs.Runs.Changed.{changed_each}
+use Rattle.j39_laws.proofs.Runs.Conditions.{met}
+use Rattle.j39_laws.proofs.Runs.Units.{units_all}
+use Rattle.j39_laws.proofs.Reports.Exchanges.{Pair, pair_of, Message, message_for, message_to, begun_of, IsUnacknowledging, Begins, Exchange}
+use Rattle.j39_laws.proofs.Reports.ExchangeSteps.{begins_keeps, goes_on_keeps, back_keeps}
+use Rattle.j39_laws.proofs.Reports.ExchangeTaken.{rests_keeps}
+use Rattle.j39_laws.proofs.Reports.Reporting.{same_messages, AckedAt}
+use Rattle.j39_laws.proofs.Reports.TransferInvariant.{AreExchanges, TransferInvariant}
+
+abbrev message_of : Outgoing → Message
+message_of s = record { group = s.group; begun = begun_of s }
+
+-- an item that u sends is behind those that a sender has still to take
+back_sent : (o : Option Message) (pair : Pair) (b : Bool) (item : Wired) → IsUnacknowledging item → Exchange o pair
+    → Exchange o (record pair { back = cond b (pair.back ++ item ∷ []) pair.back })
+back_sent o pair true item other e = back_keeps o pair (item ∷ []) (other, tt) e
+back_sent o pair false item other e = e
+
+-- ---- a message is begun
+
+begun_to : (b : Bool) (s : Outgoing) (pair : Pair) (item : Wired) → Begins (message_of s) item → Exchange None pair
+    → Exchange (message_for b s) (record pair { wire = cond b (pair.wire ++ item ∷ []) pair.wire; begun = cond b (pair.begun ++ begun_of s ∷ []) pair.begun })
+begun_to true s pair item begins e = begins_keeps (message_of s) pair item begins e
+begun_to false s pair item begins e = e
+
+module _ (w : World) (old : AreExchanges w) (u : ℕ) (o : Outgoing) (item : Wired) (idle : w.sessions u ≡ None) (begins : Begins (message_of o) item)
+    (other : IsUnacknowledging item) where
+  -- all that u sends, and what it began
+  abbrev Begun : ℕ → ℕ → Type 0
+  Begun s t = Exchange (message_to (changed w.sessions u (Some o) s) t)
+      (record (pair_of w s t) { wire = added w.wire u o.targets item s t; begun = added w.begun u o.targets (begun_of o) s t })
+
+  begun_here : (t : ℕ) → Begun u t
+  begun_here t =
+      let e : eqb u u ≡ true = eq-eqb u u refl in
+      let none : Exchange None (pair_of w u t) = subst (λ (x : Option Outgoing). Exchange (message_to x t) (pair_of w u t)) idle (old u t) in
+      rw e (begun_to (is_among o.targets t) o (pair_of w u t) item begins none)
+
+  begun_forth : (s t : ℕ) → Begun s t
+  begun_forth s t = elim (cases_eq s u) [
+    | inl same ↦ subst (λ k. Begun k t) (sym same) (begun_here t)
+    | inr apart ↦ let e : eqb s u ≡ false = ne_eqb s u apart in rw e (old s t)
+  ]
+
+  begun_exchanges : (s t : ℕ) → Exchange (message_to (changed w.sessions u (Some o) s) t)
+      (record (pair_of w s t) {
+        wire = added w.wire u o.targets item s t;
+        back = added w.wire u o.targets item t s;
+        begun = added w.begun u o.targets (begun_of o) s t;
+      })
+  begun_exchanges s t = back_sent (message_to (changed w.sessions u (Some o) s) t)
+      (record (pair_of w s t) { wire = added w.wire u o.targets item s t; begun = added w.begun u o.targets (begun_of o) s t })
+      (eqb t u && is_among o.targets s) item other (begun_forth s t)
+
+announcement_other : (dest : Dest) (group size : ℕ) → IsUnacknowledging (wired.Packet (sender.announcement dest group size))
+announcement_other dests.All group size = tt
+announcement_other dests.One group size = tt
+
+first_begins : (flow : Flow) (bytes : List ℕ) (m : Message) → m.group ≡ flow.group → m.begun.bytes ≡ bytes → Begins m (first_item flow bytes)
+first_begins flow bytes m group is =
+    either (Begins m) (is_short (length bytes)) (wired.Short bytes) (wired.Packet (sender.announcement (dest_of flow.to) flow.group (length bytes))) (sym is)
+    (dest_of flow.to, λ i. sender.announcement (dest_of flow.to) (sym group i) (length (sym is i)))
+
+first_other : (flow : Flow) (bytes : List ℕ) → IsUnacknowledging (first_item flow bytes)
+first_other flow bytes =
+    either IsUnacknowledging (is_short (length bytes)) (wired.Short bytes) (wired.Packet (sender.announcement (dest_of flow.to) flow.group (length bytes))) tt
+    (announcement_other (dest_of flow.to) flow.group (length bytes))
+
+begun_unacked : (dest : Dest) (size : ℕ) → sender.begun dest size ≡ Resting Acked → ⊥
+begun_unacked dests.All size e = cc e
+begun_unacked dests.One size e = cc e
+
+stage_unacked : (flow : Flow) (bytes : List ℕ) → begun_stage flow bytes ≡ Resting Acked → ⊥
+stage_unacked flow bytes =
+    either (λ (x : Stage). x ≡ Resting Acked → ⊥) (is_short (length bytes)) _ (sender.begun (dest_of flow.to) (length bytes)) (λ e. cc e)
+    (begun_unacked (dest_of flow.to) (length bytes))
+
+-- ---- its receivers
+
+among_filtered : (test : ℕ → Bool) (xs : List ℕ) (v : ℕ) → is_among (filter test xs) v ≡ true → test v ≡ true
+among_filtered test [] v is = absurd (cc is)
+among_filtered test (x ∷ xs) v is =
+    elim (test x) as (λ b. test x ≡ b → is_among (cond b (x ∷ filter test xs) (filter test xs)) v ≡ true → test v ≡ true) [
+      | true ↦ λ passes both. elim (eqb v x) as (λ b. eqb v x ≡ b → (b || is_among (filter test xs) v) ≡ true → test v ≡ true) [
+        | true ↦ λ same _. ap test (eqb-true v x same) ∙ passes
+        | false ↦ λ _ more. among_filtered test xs v more
+      ] refl both
+      | false ↦ λ _ more. among_filtered test xs v more
+    ] refl is
+
+pub among_one : (v x : ℕ) → is_among (v ∷ []) x ≡ true → x ≡ v
+among_one v x is =
+    elim (eqb x v) as (λ b. eqb x v ≡ b → (b || false) ≡ true → x ≡ v) [
+      | true ↦ λ same _. eqb-true x v same
+      | false ↦ λ _ e. absurd (cc e)
+    ] refl is
+
+other_place : (x u : ℕ) → not (eqb x u) ≡ true → x ≢ u
+other_place x u e same = let is : eqb x u ≡ true = eq-eqb x u same in let no_more : not true ≡ true = subst (λ b. not b ≡ true) is e in absurd (cc no_more)
+
+same_one : (v x : ℕ) → One v ≡ One x → v ≡ x
+same_one v x e = cc e
+
+planned_to : (plan : Plan) (w : World) → ((x : ℕ) → is_on w x ≡ true → is_unit plan x ≡ true) → (flow : Flow) (count : ℕ) (to : To)
+    → at_ends (is_on w) flow.sender to ≡ true → can_go_to flow to ≡ true
+    → IsPlanned plan flow.sender to (targets_of count w.stations flow.sender to)
+planned_to plan w units flow count All on can = record {
+  unit = units flow.sender on;
+  others = λ v among. let hearing = and_parts (w.stations v).on (not (eqb v flow.sender))
+      (among_filtered (hears w.stations flow.sender) (range_with_len 0 count) v among) in
+      (units v hearing.0, other_place v flow.sender hearing.1);
+  one = λ v e. absurd (cc e);
+}
+planned_to plan w units flow count (One x) on can =
+    let ends = and_parts (is_on w flow.sender) (is_on w x) on in
+    let other = and_parts (not (eqb x flow.sender)) (not (is_pdu2 flow.group && is_short flow.length)) can in
+    record {
+      unit = units flow.sender ends.0;
+      others = λ v among. let same : x ≡ v = sym (among_one x v among) in
+          subst (λ k. (is_unit plan k ≡ true) × (k ≢ flow.sender)) same (units x ends.1, other_place x flow.sender other.0);
+      one = λ v e. ap (λ k. k ∷ []) (same_one x v e);
+    }
+
+no_session : (o : Option Outgoing) → not (is_some o) ≡ true → o ≡ None
+no_session None is = refl
+no_session (Some s) is = absurd (cc is)
+
+module _ (plan : Plan) (w : World) (inv : TransferInvariant plan w) where
+  begins_keep : (f : ℕ) (flow : Flow) (bytes : List ℕ) → begin_refusal (count_of plan) w (Some flow) bytes ≡ None
+      → TransferInvariant plan (begins (count_of plan) w f flow bytes)
+  begins_keep f flow bytes allowed =
+      let sent = met _ _ _ allowed in
+      let on = met _ _ _ sent.1 in
+      let told = met _ _ _ on.1 in
+      let addressed = met _ _ _ told.1 in
+      let free = met _ _ _ addressed.1 in
+      let o : Outgoing = outgoing (count_of plan) w.stations f flow bytes in
+      record {
+        order = sessions_keep plan w.stations w.claims w.sessions inv.order flow.sender (Some o)
+            (planned_to plan w inv.order.units flow (count_of plan) flow.to on.0 sent.0)
+            (all_delivered plan w.stations w.claims w.sessions inv.order told.0);
+        exchanges = begun_exchanges w inv.exchanges flow.sender o (first_item flow bytes) (no_session (w.sessions flow.sender) free.0)
+            (first_begins flow bytes (message_of o) refl refl) (first_other flow bytes);
+        acknowledged = changed_each (λ s (x : Option Outgoing). (t : ℕ) → AckedAt x t (reported w.reports t s)) w.sessions flow.sender (Some o)
+            (λ t acked. absurd (stage_unacked flow bytes acked)) inv.acknowledged;
+      }
+
+  pub begin_keeps : (f : ℕ) (flow : Option Flow) (bytes : List ℕ) → begin_refusal (count_of plan) w flow bytes ≡ None → (new : World)
+      → BeginsAt (count_of plan) w f flow bytes new → TransferInvariant plan new
+  begin_keeps f None bytes allowed new never = absurd never
+  begin_keeps f (Some flow) bytes allowed new e = subst (TransferInvariant plan) (sym e) (begins_keep f flow bytes allowed)
+
+  -- ---- the sender goes on
+
+  -- u sends those that its message goes to a packet that may come after what it began with, and is not acknowledged by that
+  module _ (u : ℕ) (o : Outgoing) (stage : Stage) (p : Packet) (is : w.sessions u ≡ Some o) (goes : GoesOn o.bytes p)
+      (other : IsUnacknowledging (wired.Packet p)) (unacked : stage ≡ Resting Acked → ⊥) where
+    abbrev then : Option Outgoing
+    then = Some (record o { stage = stage })
+
+    abbrev wire_then : Wire
+    wire_then = added w.wire u o.targets (wired.Packet p)
+
+    sent_at : (s t : ℕ) → eqb s u ≡ true → is_among o.targets t ≡ true → message_to (w.sessions s) t ≡ Some (message_of o)
+    sent_at s t same among =
+        ap (λ x. message_to (w.sessions x) t) (eqb-true s u same)
+        ∙ (ap (λ (x : Option Outgoing). message_to x t) is ∙ ap (λ b. message_for b o) among)
+
+    sent_forth : (s t : ℕ) → Exchange (message_to (w.sessions s) t) (record (pair_of w s t) { wire = wire_then s t })
+    sent_forth s t =
+        cond_both (eqb s u && is_among o.targets t) (w.wire s t ++ wired.Packet p ∷ []) (w.wire s t)
+        (λ (list : List Wired). Exchange (message_to (w.sessions s) t) (record (pair_of w s t) { wire = list }))
+        (λ both. let parts = and_parts (eqb s u) (is_among o.targets t) both in
+        let sends : message_to (w.sessions s) t ≡ Some (message_of o) = sent_at s t parts.0 parts.1 in
+        subst (λ (m : Option Message). Exchange m (record (pair_of w s t) { wire = w.wire s t ++ wired.Packet p ∷ [] })) (sym sends)
+        (goes_on_keeps (message_of o) (pair_of w s t) (wired.Packet p ∷ []) (goes, tt)
+        (subst (λ (m : Option Message). Exchange m (pair_of w s t)) sends (inv.exchanges s t))))
+        (λ _. inv.exchanges s t)
+
+    sent_exchanges : (s t : ℕ) → Exchange (message_to (changed w.sessions u then s) t) (record (pair_of w s t) { wire = wire_then s t; back = wire_then t s })
+    sent_exchanges s t =
+        let same = same_messages w.sessions u then (λ x. sym (ap (λ (y : Option Outgoing). message_to y x) is)) s t in
+        subst (λ (m : Option Message). Exchange m (record (pair_of w s t) { wire = wire_then s t; back = wire_then t s })) (sym same)
+        (back_sent (message_to (w.sessions s) t) (record (pair_of w s t) { wire = wire_then s t })
+        (eqb t u && is_among o.targets s) (wired.Packet p) other (sent_forth s t))
+
+    sent_keeps : TransferInvariant plan (record (sent_along w u o p) { sessions = changed w.sessions u then })
+    sent_keeps = record {
+      order = sessions_keep plan w.stations w.claims w.sessions inv.order u then
+          (subst (PlannedAt plan u) is (inv.order.planned u)) (subst (DeliveredBefore w.claims) is (inv.order.delivered u));
+      exchanges = sent_exchanges;
+      acknowledged = changed_each (λ s (x : Option Outgoing). (t : ℕ) → AckedAt x t (reported w.reports t s)) w.sessions u then
+          (λ t acked. absurd (unacked acked)) inv.acknowledged;
+    }
+
+  pub emit_keeps : (u : ℕ) (new : World) → Emits w u new → TransferInvariant plan new
+  emit_keeps u new (o, p, is, next, e) =
+      let data_is = next_data o.bytes o.stage p next in
+      subst (TransferInvariant plan) (sym e) (sent_keeps u o (sender.after_packet (dest_of o.to) o.stage) p is data_is.0 data_is.1
+      (after_unacked (dest_of o.to) o.bytes o.stage p next))
+    where
+      next_data : (bytes : List ℕ) (stage : Stage) (q : Packet) → sender.data_next bytes stage ≡ Some q → GoesOn bytes q × IsUnacknowledging (wired.Packet q)
+      next_data bytes (Sending next last) q same =
+          let here : Dt next (chunk bytes next) ≡ q = cc same in subst (λ (x : Packet). GoesOn bytes x × IsUnacknowledging (wired.Packet x)) here (refl, tt)
+      next_data bytes Waiting q same = absurd (cc same)
+      next_data bytes (Resting outcome) q same = absurd (cc same)
+
+      after_unacked : (dest : Dest) (bytes : List ℕ) (stage : Stage) (q : Packet) → sender.data_next bytes stage ≡ Some q
+          → sender.after_packet dest stage ≡ Resting Acked → ⊥
+      after_unacked dest bytes (Sending next last) q same =
+          either (λ (x : Stage). x ≡ Resting Acked → ⊥) (nat_lt next last) _ (sender.spent dest) (λ f. cc f) (spent_unacked dest)
+        where
+          spent_unacked : (d : Dest) → sender.spent d ≡ Resting Acked → ⊥
+          spent_unacked dests.All f = cc f
+          spent_unacked dests.One f = cc f
+      after_unacked dest bytes Waiting q same = absurd (cc same)
+      after_unacked dest bytes (Resting outcome) q same = absurd (cc same)
+
+  pub late_sender_keeps : (u : ℕ) (new : World) → SenderTimesOut w u new → TransferInvariant plan new
+  late_sender_keeps u new (o, p, is, late, e) =
+      let abort = late_packet o.group o.bytes o.stage p late in
+      subst (TransferInvariant plan) (sym e) (sent_keeps u o (sender.after_timeout o.stage) p is abort.0 abort.1 (late_unacked o.group o.stage p late))
+    where
+      late_packet : (group : ℕ) (bytes : List ℕ) (stage : Stage) (q : Packet) → sender.timeout_packet group stage ≡ Some q
+          → GoesOn bytes q × IsUnacknowledging (wired.Packet q)
+      late_packet group bytes Waiting q same =
+          let here : Abort 3 group ≡ q = cc same in subst (λ (x : Packet). GoesOn bytes x × IsUnacknowledging (wired.Packet x)) here (tt, tt)
+      late_packet group bytes (Sending next last) q same = absurd (cc same)
+      late_packet group bytes (Resting outcome) q same = absurd (cc same)
+
+      late_unacked : (group : ℕ) (stage : Stage) (q : Packet) → sender.timeout_packet group stage ≡ Some q → sender.after_timeout stage ≡ Resting Acked → ⊥
+      late_unacked group Waiting q same f = cc f
+      late_unacked group (Sending next last) q same f = cc f
+      late_unacked group (Resting outcome) q same f = absurd (cc same)
+
+  -- ---- the sender rests
+
+  not_sent : (u t : ℕ) (o : Option Outgoing) → PlannedAt plan u o → is_unit plan t ≡ false → message_to o t ≡ None
+  not_sent u t None planned outside = refl
+  not_sent u t (Some s) planned outside =
+      elim (is_among s.targets t) as (λ b. is_among s.targets t ≡ b → message_for b s ≡ None) [
+        | true ↦ λ among. let inside = (planned.others t among).0 in absurd (cc (inside, outside))
+        | false ↦ λ _. refl
+      ] refl
+
+  rested_here : (u : ℕ) → can_rest (count_of plan) w u ≡ true → (t : ℕ) → Exchange None (pair_of w u t)
+  rested_here u can t =
+      let parts = and_parts (is_some (outcome_in (w.sessions u))) (list_all (is_over_with w u) (range_with_len 0 (count_of plan))) can in
+      elim (is_unit plan t) as (λ b. is_unit plan t ≡ b → Exchange None (pair_of w u t)) [
+        | true ↦ λ inside. rests_keeps (message_to (w.sessions u) t) (pair_of w u t) (units_all plan (is_over_with w u) parts.1 t inside) (inv.exchanges u t)
+        | false ↦ λ outside. subst (λ (m : Option Message). Exchange m (pair_of w u t)) (not_sent u t (w.sessions u) (inv.order.planned u) outside)
+            (inv.exchanges u t)
+      ] refl
+
+  pub rest_keeps : (u : ℕ) → can_rest (count_of plan) w u ≡ true → TransferInvariant plan (rested w u)
+  rest_keeps u can = record {
+    order = sessions_keep plan w.stations w.claims w.sessions inv.order u None tt tt;
+    exchanges = λ s t. changed_each (λ x (y : Option Outgoing). (z : ℕ) → Exchange (message_to y z) (pair_of w x z)) w.sessions u None
+        (rested_here u can) inv.exchanges s t;
+    acknowledged =
+        λ s t. changed_each (λ x (y : Option Outgoing). (z : ℕ) → AckedAt y z (reported w.reports z x)) w.sessions u None (λ z. tt) inv.acknowledged s t;
+  }

@@ -1,0 +1,46 @@
+-- What holds in every world of every run.
+use Rattle.std.proofs.Common.{◌≡◌, List, [], ◌∷◌, refl, sym, subst, Option, Some, None}
+use Rattle.std.specs.Bool.{MatchBool}
+use Rattle.std.specs.Option.{is_some}
+use Rattle.j39_plan.specs.declared.plan.Plan.{Plan}
+use Rattle.j39_plan.specs.declared.steps.Step.{Step}
+use Rattle.j39_world.specs.declared.step_error.StepError.{StepError}
+use Rattle.j39_world.specs.World.{World, first}
+use Rattle.j39_world.specs.Run.{refusal, Leads, Follows, Run, RunsThrough}
+use Rattle.j39_world.specs.SoundPlan.{Always}
+
+-- each step that is not refused keeps it
+abbrev pub IsKeptBySteps : Plan → (World → Type 0) → Type 0
+IsKeptBySteps plan Holds = (w : World) → Holds w → (step : Step) → refusal plan w step ≡ None → (new : World) → Leads plan w step new → Holds new
+
+module _ (plan : Plan) (Holds : World → Type 0) (keeps : IsKeptBySteps plan Holds) where
+  holds_next : (w : World) → Holds w → (step : Step) (new : World) → Follows plan w step new → Holds new
+  holds_next w here step new =
+      elim (refusal plan w step)
+      as (λ (o : Option StepError). refusal plan w step ≡ o → MatchBool (is_some o) (new ≡ w) (Leads plan w step new) → Holds new) [
+        | Some e ↦ λ _ same. subst Holds (sym same) here
+        | None ↦ λ allowed leads. keeps w here step allowed new leads
+      ] refl
+
+  holds_behind : (steps : List Step) (w new : World) → Holds w → Run plan w steps new → Holds new
+  holds_behind [] w new here same = subst Holds (sym same) here
+  holds_behind (step ∷ steps) w new here (mid, follows, more) = holds_behind steps mid new (holds_next w here step mid follows) more
+
+-- what the first world has and each step keeps
+pub always : (plan : Plan) (Holds : World → Type 0) → Holds first → IsKeptBySteps plan Holds → Always plan Holds
+always plan Holds at_first keeps steps w run = holds_behind plan Holds keeps steps first w at_first run
+
+-- ---- steps that are not refused
+
+module _ (plan : Plan) (w : World) (step : Step) (allowed : refusal plan w step ≡ None) (new : World) where
+  pub follows_to_leads : Follows plan w step new → Leads plan w step new
+  follows_to_leads follows = subst (λ (o : Option StepError). MatchBool (is_some o) (new ≡ w) (Leads plan w step new)) allowed follows
+
+  pub leads_to_follows : Leads plan w step new → Follows plan w step new
+  leads_to_follows leads = subst (λ (o : Option StepError). MatchBool (is_some o) (new ≡ w) (Leads plan w step new)) (sym allowed) leads
+
+-- a run without a refusal
+pub through : (plan : Plan) (w : World) (steps : List Step) (after : World) → RunsThrough plan w steps after → Run plan w steps after
+through plan w [] after is = is
+through plan w (step ∷ steps) after (mid, allowed, leads, more) =
+    (mid, leads_to_follows plan w step allowed mid leads, through plan mid steps after more)
