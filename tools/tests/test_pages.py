@@ -44,9 +44,13 @@ class Shown(InFolder):
     def output(self, command):
         """What a command writes, with the built program in the launcher's place and a folder of its own for /tmp."""
         name = os.path.realpath(program.path())
+        environment = {**os.environ, "J39PLAN": name}
+        if name == os.path.realpath(program.BUILT):
+            # The tools find the repository's own program without its name, as a reader's do.
+            del environment["J39PLAN"]
         ended = subprocess.run(
             ["bash", "-c", command.replace("/tmp/", self.folder + "/").replace("./j39plan", name)],
-            cwd=TOP, capture_output=True, text=True, check=False, env={**os.environ, "J39PLAN": name},
+            cwd=TOP, capture_output=True, text=True, check=False, env=environment,
         )
         return ended.stdout.replace(self.folder + "/", "/tmp/")
 
