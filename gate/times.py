@@ -3,7 +3,7 @@
 each program's runs. Parts are timed one at a time, so that they can be run one after another on a busy machine; what
 counts there is their processor time.
 
-usage: times.py run [CRATE..]     times all parts of these crates, or of all, but those that are timed already
+usage: times.py run [CRATE..]     times all parts of these crates, or of all, but those that passed already
        times.py part CRATE PART   times one part: proof, tests, edits or runs
        times.py table             prints the tables of docs/GATE.md
 
@@ -104,7 +104,7 @@ def run(names):
         if names and name not in names:
             continue
         for part in PARTS:
-            if (name, part) in read_times():
+            if read_times().get((name, part), [False])[-1]:
                 continue
             ran = subprocess.run([sys.executable, __file__, "part", name, part], stdin=subprocess.DEVNULL)
             failed += [f"{name} {part}"] * (ran.returncode != 0)
