@@ -62,6 +62,32 @@ def is_built():
     return all(os.path.getmtime(it) <= made for it in files)
 
 
+def copy(name, top):
+    """Copies a crate and what it stands on into a folder: the sources, and what was built of the crates below."""
+    named = crates.needed(name)
+    with open(f"{crates.TOP}/crates.txt", encoding="utf-8") as lines:
+        kept = [it for it in lines if it.partition(":")[0].strip() in named]
+    with open(f"{top}/crates.txt", "w", encoding="utf-8") as file:
+        file.writelines(kept)
+    for it in named:
+        for part in ("src", "specs", "proofs"):
+            bring(f"{crates.folder(it)}/{part}", f"{top}/crates/{it}/{part}", shutil.copy2)
+        if it != name:
+            bring(f"{crates.folder(it)}/out/rlib", f"{top}/crates/{it}/out/rlib", link)
+
+
+def bring(old, new, copy_file):
+    if os.path.isdir(old):
+        shutil.copytree(old, new, copy_function=copy_file)
+
+
+def link(old, new):
+    try:
+        os.link(old, new)
+    except OSError:
+        shutil.copy2(old, new)
+
+
 class Room:
     """A copy of a crate and of what it stands on. rt holds all of these folders while it builds the crate, so crates
     are built side by side only in copies."""
@@ -71,23 +97,9 @@ class Room:
         git = f"{crates.TOP}/.git"
         self.top = tempfile.mkdtemp(prefix=ROOM, dir=git if os.path.isdir(git) else None)
         self.folder = f"{self.top}/crates/{name}"
-        named = crates.needed(name)
-        with open(f"{crates.TOP}/crates.txt", encoding="utf-8") as lines:
-            kept = [it for it in lines if it.partition(":")[0].strip() in named]
-        with open(f"{self.top}/crates.txt", "w", encoding="utf-8") as file:
-            file.writelines(kept)
-        for it in named:
-            for part in ("src", "specs", "proofs"):
-                self.bring(f"{crates.folder(it)}/{part}", f"{self.top}/crates/{it}/{part}", shutil.copy2)
-            if it != name:
-                self.bring(f"{crates.folder(it)}/out/rlib", f"{self.top}/crates/{it}/out/rlib", link)
+        copy(name, self.top)
         if os.path.isdir(f"{crates.folder(name)}/out"):
             shutil.move(f"{crates.folder(name)}/out", f"{self.folder}/out")
-
-    @staticmethod
-    def bring(old, new, copy):
-        if os.path.isdir(old):
-            shutil.copytree(old, new, copy_function=copy)
 
     def close(self):
         """Gives the crate what was built, and removes the copies."""
@@ -101,13 +113,6 @@ def remove_stale_rooms():
     """Removes what builds that were killed have left."""
     for it in glob.glob(f"{crates.TOP}/.git/{ROOM}*"):
         shutil.rmtree(it, ignore_errors=True)
-
-
-def link(old, new):
-    try:
-        os.link(old, new)
-    except OSError:
-        shutil.copy2(old, new)
 
 
 class Build:
