@@ -6,7 +6,7 @@ use Rattle.std.specs.Option.{option_or}
 use Rattle.std.proofs.lemmas.Iterator.Adapters.{position_from-zero}
 use Rattle.j39_plan.specs.declared.plan.group_plan.GroupPlan.{GroupPlan}
 use Rattle.j39_log.specs.inside.Listening.{IsIndex, is_same_key}
-use Rattle.j39_log.specs.LogLines.{is_planned_as}
+use Rattle.j39_log.specs.LogFrames.{is_planned_as}
 
 if_before : (b : Bool) (i : ℕ) (o p : Option ℕ) → cond b (Some i) (option_or o p) ≡ option_or (cond b (Some i) o) p
 if_before true i o p = refl

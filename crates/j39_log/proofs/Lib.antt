@@ -1,8 +1,9 @@
 pub mod Completing
 pub mod FoundGroups
 pub mod Indexes
+pub mod ListenerTables
 pub mod LogReading
+pub mod OneText
 pub mod Outcomes
 pub mod PairLists
 pub mod SignalLists
-pub mod Tables

@@ -1,5 +1,5 @@
 -- What a pair heard, packet after packet, and what its listener is then.
-use Rattle.std.proofs.Common.{◌≡◌, ℕ, zero, suc, ◌<◌, ◌≤◌, Bool, true, false, if◌then◌else◌, List, [], ◌∷◌, ◌++◌, length, All, Option, Some, refl, sym, ap, ◌∙◌, subst, arith, append_assoc, add-one, eq-eqb, ◌==◌, ◌&&◌, ◌||◌}
+use Rattle.std.proofs.Common.{◌≡◌, ℕ, zero, suc, ◌<◌, ◌≤◌, Bool, true, false, if◌then◌else◌, List, [], ◌∷◌, ◌++◌, length, All, Option, Some, None, refl, sym, ap, ◌∙◌, subst, arith, append_assoc, add-one, eq-eqb, ◌==◌, ◌&&◌, ◌||◌}
 use Rattle.std.specs.Prelude.{Box}
 use Rattle.std.specs.List.{slice_get}
 use Rattle.std.proofs.lemmas.List.{append-nil, length_push}
@@ -11,10 +11,8 @@ use Rattle.j39_tp.specs.Carried.{listened, AreInRange}
 use Rattle.j39_tp.specs.Packets.{InRange}
 use Rattle.j39_tp.specs.Receiver.{Receiving, receives}
 use Rattle.j39_tp.specs.declared.packet.Packet.{Packet}
-use Rattle.j39_log.specs.inside.Listening.{HaveHeard, AreAllInRange, IsInRange, listener_at, place_of, after_all}
+use Rattle.j39_log.specs.inside.Listening.{HaveHeard, AreAllInRange, IsInRange, listener_at, slot_of, after_all}
 use Rattle.j39_log.specs.LogPairs.{Seen, heard, heard_of, is_abort, is_heard_by}
-use Rattle.j39_log.specs.declared.role.Role.{Role}
-use Rattle.j39_log.specs.declared.role.Role.TheVariants.{Short, Packet as APacket, Other}
 
 -- ---- one more packet
 
@@ -48,11 +46,11 @@ after_all_more h p =
 
 -- ---- one more frame
 
-pub heard_more : (s d : ℕ) (seen : List Seen) (x : Seen) → heard s d (seen ++ x ∷ []) ≡ heard s d seen ++ heard_of s d x.frame.ident x.role
+pub heard_more : (s d : ℕ) (seen : List Seen) (x : Seen) → heard s d (seen ++ x ∷ []) ≡ heard s d seen ++ heard_of s d x.frame.ident x.packet
 unfolding heard
-heard_more s d [] x = append-nil (heard_of s d x.frame.ident x.role)
+heard_more s d [] x = append-nil (heard_of s d x.frame.ident x.packet)
 heard_more s d (y ∷ seen) x =
-    ap (λ (t : List Packet). heard_of s d y.frame.ident y.role ++ t) (heard_more s d seen x) ∙ sym (append_assoc (heard_of s d y.frame.ident y.role) (heard s d seen) (heard_of s d x.frame.ident x.role))
+    ap (λ (t : List Packet). heard_of s d y.frame.ident y.packet ++ t) (heard_more s d seen x) ∙ sym (append_assoc (heard_of s d y.frame.ident y.packet) (heard s d seen) (heard_of s d x.frame.ident x.packet))
 
 one_turn : (b : Bool) (r : Receiving) (h : List Packet) (p : Packet) → r ≡ after_all h
     → (if b then receives r p else r) ≡ after_all (h ++ (if b then p ∷ [] else []))
@@ -61,27 +59,22 @@ one_turn false r h p e = e ∙ sym (ap after_all (append-nil h))
 
 -- a packet that reaches the listeners of the pairs that hear it
 pub turned : {Z : Type 0} (old new : List (Option (Box Receiving Z))) (seen : List Seen) (f : Frame) (p : Packet)
-    → ((s d : ℕ) → s < 256 → d < 256 → listener_at new (place_of s d) ≡ (if is_heard_by s d f.ident p then receives (listener_at old (place_of s d)) p else listener_at old (place_of s d)))
-    → HaveHeard old seen → HaveHeard new (seen ++ record { frame = f; role = APacket p } ∷ [])
+    → ((s d : ℕ) → s < 256 → d < 256 → listener_at new (slot_of s d) ≡ (if is_heard_by s d f.ident p then receives (listener_at old (slot_of s d)) p else listener_at old (slot_of s d)))
+    → HaveHeard old seen → HaveHeard new (seen ++ record { frame = f; packet = Some p } ∷ [])
 turned old new seen f p turn have s d ls ld =
-    turn s d ls ld ∙ one_turn (is_heard_by s d f.ident p) (listener_at old (place_of s d)) (heard s d seen) p (have s d ls ld)
-    ∙ sym (ap after_all (heard_more s d seen (record { frame = f; role = APacket p })))
+    turn s d ls ld ∙ one_turn (is_heard_by s d f.ident p) (listener_at old (slot_of s d)) (heard s d seen) p (have s d ls ld)
+    ∙ sym (ap after_all (heard_more s d seen (record { frame = f; packet = Some p })))
 
 -- a frame that no pair hears
-pub unheard_short : {Z : Type 0} (table : List (Option (Box Receiving Z))) (seen : List Seen) (f : Frame) (g : ℕ)
-    → HaveHeard table seen → HaveHeard table (seen ++ record { frame = f; role = Short g } ∷ [])
-unheard_short table seen f g have s d ls ld =
-    have s d ls ld ∙ sym (ap after_all (heard_more s d seen (record { frame = f; role = Short g }) ∙ append-nil (heard s d seen)))
-
-pub unheard_other : {Z : Type 0} (table : List (Option (Box Receiving Z))) (seen : List Seen) (f : Frame)
-    → HaveHeard table seen → HaveHeard table (seen ++ record { frame = f; role = Other } ∷ [])
-unheard_other table seen f have s d ls ld =
-    have s d ls ld ∙ sym (ap after_all (heard_more s d seen (record { frame = f; role = Other }) ∙ append-nil (heard s d seen)))
+pub unheard : {Z : Type 0} (table : List (Option (Box Receiving Z))) (seen : List Seen) (f : Frame)
+    → HaveHeard table seen → HaveHeard table (seen ++ record { frame = f; packet = None } ∷ [])
+unheard table seen f have s d ls ld =
+    have s d ls ld ∙ sym (ap after_all (heard_more s d seen (record { frame = f; packet = None }) ∙ append-nil (heard s d seen)))
 
 -- a table before the first frame
 pub nothing_heard : {Z : Type 0} (table : List (Option (Box Receiving Z))) → table ≡ [] → HaveHeard table []
 unfolding heard
-nothing_heard table empty s d ls ld = ap (λ (t : List (Option (Box Receiving _))). listener_at t (place_of s d)) empty
+nothing_heard table empty s d ls ld = ap (λ (t : List (Option (Box Receiving _))). listener_at t (slot_of s d)) empty
 
 -- ---- ranges
 
@@ -92,18 +85,17 @@ if_in_range : (b : Bool) (p : Packet) → InRange p → All InRange (if b then p
 if_in_range true p fits = All-cons InRange p [] fits none_in_range
 if_in_range false p fits = none_in_range
 
-of_in_range : (s d : ℕ) (i : Ident) (role : Role) → IsInRange role → All InRange (heard_of s d i role)
-of_in_range s d i (APacket p) fits = if_in_range (is_heard_by s d i p) p fits
-of_in_range s d i (Short g) fits = none_in_range
-of_in_range s d i Other fits = none_in_range
+of_in_range : (s d : ℕ) (i : Ident) (packet : Option Packet) → IsInRange packet → All InRange (heard_of s d i packet)
+of_in_range s d i (Some p) fits = if_in_range (is_heard_by s d i p) p fits
+of_in_range s d i None fits = none_in_range
 
 pub heard_in_range : (s d : ℕ) (seen : List Seen) → AreAllInRange seen → All InRange (heard s d seen)
 unfolding heard
 heard_in_range s d [] all = none_in_range
 heard_in_range s d (x ∷ seen) all =
-    All-append InRange (heard_of s d x.frame.ident x.role) (heard s d seen)
-    (of_in_range s d x.frame.ident x.role (All-head (λ (y : Seen). IsInRange y.role) x seen all))
-    (heard_in_range s d seen (All-tail (λ (y : Seen). IsInRange y.role) x seen all))
+    All-append InRange (heard_of s d x.frame.ident x.packet) (heard s d seen)
+    (of_in_range s d x.frame.ident x.packet (All-head (λ (y : Seen). IsInRange y.packet) x seen all))
+    (heard_in_range s d seen (All-tail (λ (y : Seen). IsInRange y.packet) x seen all))
 
 pub in_range : (h : List Packet) → All InRange h → AreInRange h
 in_range h all j p here =
@@ -126,9 +118,9 @@ if_true true x y e = refl
 if_true false x y e = cc
 
 pub heard_itself : {Z : Type 0} (old new : List (Option (Box Receiving Z))) (i : Ident) (p : Packet)
-    → ((s d : ℕ) → s < 256 → d < 256 → listener_at new (place_of s d) ≡ (if is_heard_by s d i p then receives (listener_at old (place_of s d)) p else listener_at old (place_of s d)))
-    → listener_at new (place_of i.sa i.ps) ≡ receives (listener_at old (place_of i.sa i.ps)) p
+    → ((s d : ℕ) → s < 256 → d < 256 → listener_at new (slot_of s d) ≡ (if is_heard_by s d i p then receives (listener_at old (slot_of s d)) p else listener_at old (slot_of s d)))
+    → listener_at new (slot_of i.sa i.ps) ≡ receives (listener_at old (slot_of i.sa i.ps)) p
 heard_itself old new i p turn =
     turn i.sa i.ps i.sa_range i.ps_range
-    ∙ if_true (is_heard_by i.sa i.ps i p) (receives (listener_at old (place_of i.sa i.ps)) p) (listener_at old (place_of i.sa i.ps))
+    ∙ if_true (is_heard_by i.sa i.ps i p) (receives (listener_at old (slot_of i.sa i.ps)) p) (listener_at old (slot_of i.sa i.ps))
     (either (i.sa == i.sa && i.ps == i.ps) (is_abort p && (i.ps == i.sa && i.sa == i.ps)) (itself i.sa i.ps))

@@ -1,4 +1,4 @@
-pub mod LogLines
+pub mod LogFrames
 pub mod LogPairs
 pub mod LogReports
 pub mod ReadText

@@ -1,56 +1,50 @@
 -- The text that the read command writes for a plan and a log.
 use Rattle.std.specs.Prelude.{◌≡◌, ℕ, ◌+◌, ◌⊎◌, List, [], ◌∷◌, ◌++◌, length, All, codes, Some, None, Option}
-use Rattle.j39_id.specs.Lines.{Line, lines}
+use Rattle.j39_id.specs.FrameLine.{Spells, HasLineFault}
+use Rattle.j39_id.specs.Lines.{Line, Short, Long, lines}
 use Rattle.j39_id.specs.declared.frame.Frame.{Frame}
 use Rattle.j39_id.specs.declared.ident.Ident.{Ident}
+use Rattle.j39_id.specs.declared.line_error.LineError.{LineError}
+use Rattle.j39_id.specs.declared.line_error.LineError.TheVariants.{Empty, ShortIdent}
 use Rattle.j39_plan.specs.Places.{ValueAt}
+use Rattle.j39_plan.specs.PlannedGroups.{IsSendable, IsFirstRefused}
 use Rattle.j39_plan.specs.declared.plan.Plan.{Plan}
 use Rattle.j39_tp.specs.Carried.{Carried}
 use Rattle.j39_tp.specs.declared.packet.Packet.{Packet}
-use Rattle.j39_plan.specs.PlannedGroups.{IsSendable, IsFirstRefused}
 use Rattle.j39_text.specs.Labels.{group_label}
-use Rattle.j39_log.specs.LogLines.{IsEntry, IsRole, planned}
+use Rattle.j39_text.specs.Texts.{field}
+use Rattle.j39_log.specs.LogFrames.{IsHeardAs, group_of, planned}
 use Rattle.j39_log.specs.LogPairs.{Seen, heard}
 use Rattle.j39_log.specs.LogReports.{report}
-use Rattle.j39_text.specs.Texts.{field}
-use Rattle.j39_log.specs.declared.entry.Entry.{Entry}
-use Rattle.j39_log.specs.declared.entry.Entry.TheVariants.{Frame as AFrame, Blank, Skipped, Bad}
-use Rattle.j39_log.specs.declared.role.Role.{Role}
-use Rattle.j39_log.specs.declared.role.Role.TheVariants.{Short, Packet as APacket, Other}
 use Rattle.j39_stream.specs.declared.verdict.Verdict.{Verdict}
 use Rattle.j39_stream.specs.declared.verdict.Verdict.TheVariants.{Done, Findings, Refused, Unreadable}
 
 -- ---- a frame
 
--- the report of the group at this place of the plan
-abbrev pub IsReport : Plan → ℕ → Ident → List ℕ → List ℕ → Type 0
-IsReport plan g i bytes text = ValueAt (λ group. text ≡ report group i bytes) plan.groups.items g
-
--- the report of a message, where a group is planned of its number and length
-abbrev pub IsPlannedReport : Plan → Option ℕ → Ident → List ℕ → List ℕ → Type 0
-IsPlannedReport plan None i message text = text ≡ []
-IsPlannedReport plan (Some g) i message text = IsReport plan g i message text
+-- the report of these bytes as the group at this place of the plan; nothing where none is planned
+abbrev pub IsGroupReport : Plan → Option ℕ → Ident → List ℕ → List ℕ → Type 0
+IsGroupReport plan None i bytes text = text ≡ []
+IsGroupReport plan (Some g) i bytes text = ValueAt (λ group. text ≡ report group i bytes) plan.groups.items g
 
 -- the list of packets carries no message at this place
 abbrev pub CarriesNone : List Packet → ℕ → Type 0
-CarriesNone h place = (group : ℕ) (message : List ℕ) → ¬ Carried h place group message
+CarriesNone h place = (pgn : ℕ) (message : List ℕ) → ¬ Carried h place pgn message
 
 -- what is written at the last packet of a list: the report of the message that the list carries there
 abbrev pub IsMessageText : Plan → List Packet → ℕ → Ident → List ℕ → Type 0
 IsMessageText plan h place i text =
-    ((group : ℕ) × (message : List ℕ) × Carried h place group message × IsPlannedReport plan (planned plan group (length message)) i message text)
+    ((pgn : ℕ) × (message : List ℕ) × Carried h place pgn message × IsGroupReport plan (planned plan pgn (length message)) i message text)
     ⊎ (CarriesNone h place × (text ≡ []))
 
 -- the packets that the pair of a packet's addresses heard before it
 abbrev pub heard_before : List Seen → Ident → List Packet
 heard_before before i = heard i.sa i.ps before
 
--- what is written at a frame, after these
-abbrev pub IsFrameReport : Plan → List Seen → Frame → Role → List ℕ → Type 0
-IsFrameReport plan before f (Short g) text = IsReport plan g f.ident f.payload.items text
-IsFrameReport plan before f (APacket p) text =
+-- what is written at a frame, after these: the report of its group, or of the message that its packet completes
+abbrev pub IsFrameReport : Plan → List Seen → Frame → Option Packet → List ℕ → Type 0
+IsFrameReport plan before f None text = IsGroupReport plan (group_of plan f) f.ident f.payload.items text
+IsFrameReport plan before f (Some p) text =
     IsMessageText plan (heard_before before f.ident ++ p ∷ []) (length (heard_before before f.ident)) f.ident text
-IsFrameReport plan before f Other text = text ≡ []
 
 -- ---- a log
 
@@ -63,19 +57,29 @@ pub record Past : Type 0 where
 abbrev pub nothing_yet : Past
 nothing_yet = record { seen = []; skipped = 0; bad = 0 }
 
-abbrev pub with_frame : Past → Frame → Role → Past
-with_frame past f role = record past { seen = past.seen ++ record { frame = f; role = role } ∷ [] }
+abbrev pub with_frame : Past → Frame → Option Packet → Past
+with_frame past f packet = record past { seen = past.seen ++ record { frame = f; packet = packet } ∷ [] }
 
--- from what came so far a line leads to this, and this is written of it
-abbrev pub Follows : Plan → Past → Entry → Past → List ℕ → Type 0
-Follows plan past (AFrame f) next text =
-    (role : Role) × IsRole plan f role × IsFrameReport plan past.seen f role text × (next ≡ with_frame past f role)
-Follows plan past Blank next text = (next ≡ past) × (text ≡ [])
-Follows plan past Skipped next text = (next ≡ record past { skipped = past.skipped + 1 }) × (text ≡ [])
-Follows plan past Bad next text = (next ≡ record past { bad = past.bad + 1 }) × (text ≡ [])
+abbrev pub with_bad : Past → Past
+with_bad past = record past { bad = past.bad + 1 }
 
+-- a line that spells no frame counts as bad; one without a word isn't counted, and one of an 11-bit identifier is skipped
+abbrev pub passed_over : LineError → Past → Past
+passed_over Empty past = past
+passed_over ShortIdent past = record past { skipped = past.skipped + 1 }
+passed_over _ past = with_bad past
+
+-- from what came so far a frame leads to this, and this is written at it
+abbrev pub ReadsFrame : Plan → Past → Frame → Past → List ℕ → Type 0
+ReadsFrame plan past f next text =
+    (packet : Option Packet) × IsHeardAs plan f packet × IsFrameReport plan past.seen f packet text × (next ≡ with_frame past f packet)
+
+-- so does a line: as the frame that it spells, or it is passed over
 abbrev pub ReadsLine : Plan → Past → Line → Past → List ℕ → Type 0
-ReadsLine plan past line next text = (entry : Entry) × IsEntry line entry × Follows plan past entry next text
+ReadsLine plan past (Short bytes) next text =
+    ((f : Frame) × Spells bytes f × ReadsFrame plan past f next text)
+    ⊎ ((e : LineError) × HasLineFault bytes e × (next ≡ passed_over e past) × (text ≡ []))
+ReadsLine plan past Long next text = (next ≡ with_bad past) × (text ≡ [])
 
 -- so do all lines, one after another
 abbrev pub ReadsLines : Plan → Past → List Line → Past → List ℕ → Type 0
@@ -109,3 +113,10 @@ IsReadText plan log text Done = All IsSendable plan.groups.items × IsLogText pl
 IsReadText plan log text Refused = (g : ℕ) × IsFirstRefused plan.groups.items g × (text ≡ refused_plan_line plan g) × (log ≡ [])
 IsReadText plan log text Findings = ⊥
 IsReadText plan log text Unreadable = ⊥
+
+-- ---- a law
+
+-- for a plan and a log there is one text, and one verdict
+abbrev pub HasOneText : Type 0
+HasOneText = (plan : Plan) (log text other : List ℕ) (verdict outcome : Verdict)
+    → IsReadText plan log text verdict → IsReadText plan log other outcome → (text ≡ other) × (verdict ≡ outcome)

@@ -2,7 +2,7 @@
 ghost use Rattle.std.specs.Prelude.{◌≡◌, ◌<◌, List, [], ◌∷◌, ◌++◌, length, map, All, OnOk, IfOk, IfErr};
 ghost use Rattle.std.specs.List.{HoldsAt, position};
 ghost use Rattle.j39_log.specs.inside.Listening.{IsBadCatalog, IsCatalogOf, IsIndex};
-ghost use Rattle.j39_log.specs.LogLines.{is_planned_as};
+ghost use Rattle.j39_log.specs.LogFrames.{is_planned_as};
 ghost use Rattle.j39_plan.specs.PlannedGroups.{IsSendable, layout_of as parts_of};
 ghost use Rattle.j39_plan.specs.declared.plan.group_plan.GroupPlan.{GroupPlan as APlannedGroup};
 

@@ -2,11 +2,12 @@
 #![tactic(auto)]
 
 mod catalog;
-mod entry;
 mod group_report;
+mod laws;
 mod listeners;
 mod log_reading;
 mod log_text;
-mod role;
+mod transport;
 
+pub use laws::a_log_has_one_text;
 pub use log_text::read_text;

@@ -2,7 +2,7 @@
 ghost use Rattle.std.specs.Prelude.{◌≡◌, ◌≢◌, ◌<◌, ◌==◌, ◌||◌, ℕ, [], IsTrue, true, vec_len, None, All, OnOk, IfOk, IfSome, IfNone, if◌then◌else◌};
 ghost use Rattle.j39_tp.specs.Receiver.{fresh, receives};
 ghost use Rattle.j39_tp.specs.declared.receiving.manner.Manner.TheVariants.{Listening};
-ghost use Rattle.j39_log.specs.inside.Listening.{HasListener, completes, is_announcement as announces, listener_at, listener_in, place_of as pair_place};
+ghost use Rattle.j39_log.specs.inside.Listening.{HasListener, completes, is_announcement as announces, listener_at, listener_in, slot_of as pair_slot};
 ghost use Rattle.j39_log.specs.LogPairs.{is_abort as aborts, is_heard_by};
 
 use j39_id::Ident;
@@ -21,8 +21,8 @@ pub(crate) struct Listeners {
 }
 
 // Where the listener of a pair stands.
-fn place_of(source: u8, destination: u8) -> usize
-    ensures value { result ≡ pair_place source destination }
+fn slot_of(source: u8, destination: u8) -> usize
+    ensures value { result ≡ pair_slot source destination }
     ensures range { result < 65536 }
 {
     256 * usize::from(source) + usize::from(destination)
@@ -133,12 +133,12 @@ impl Listeners {
 
     /// Whether the packet completes a message of the pair that hears it.
     pub fn hear(&mut self, source: u8, destination: u8, packet: &Packet) -> Result<bool, AllocError>
-        ensures heard { OnOk result (listener_at self.new.table.items (pair_place source destination)
-            ≡ receives (listener_at self.old.table.items (pair_place source destination)) packet.now) }
-        ensures others { (k : ℕ) → k ≢ pair_place source destination → listener_at self.new.table.items k ≡ listener_at self.old.table.items k }
-        ensures told { IfOk result (λ complete. complete ≡ completes (listener_at self.old.table.items (pair_place source destination)) packet.now) }
+        ensures heard { OnOk result (listener_at self.new.table.items (pair_slot source destination)
+            ≡ receives (listener_at self.old.table.items (pair_slot source destination)) packet.now) }
+        ensures others { (k : ℕ) → k ≢ pair_slot source destination → listener_at self.new.table.items k ≡ listener_at self.old.table.items k }
+        ensures told { IfOk result (λ complete. complete ≡ completes (listener_at self.old.table.items (pair_slot source destination)) packet.now) }
     {
-        let place = place_of(source, destination);
+        let place = slot_of(source, destination);
         if is_announcement(packet) {
             self.open(place)?;
         }
@@ -147,10 +147,10 @@ impl Listeners {
 
     /// The listener of a pair.
     pub fn listener(&self, source: u8, destination: u8) -> Option<&Receiver>
-        ensures some { IfSome result (λ listener. listener.now ≡ listener_at self.now.table.items (pair_place source destination)) }
-        ensures none { IfNone result (listener_at self.now.table.items (pair_place source destination) ≡ fresh Listening) }
+        ensures some { IfSome result (λ listener. listener.now ≡ listener_at self.now.table.items (pair_slot source destination)) }
+        ensures none { IfNone result (listener_at self.now.table.items (pair_slot source destination) ≡ fresh Listening) }
     {
-        match self.table.get(place_of(source, destination)) {
+        match self.table.get(slot_of(source, destination)) {
             Some(Some(listener)) => Some(listener),
             _ => None,
         }
@@ -164,11 +164,11 @@ pub(super) fn listen(
     packet: &Packet,
 ) -> Result<bool, AllocError>
     ensures heard { OnOk result ((source destination : ℕ) → source < 256 → destination < 256
-        → listener_at listeners.new.table.items (pair_place source destination)
+        → listener_at listeners.new.table.items (pair_slot source destination)
         ≡ (if is_heard_by source destination ident packet.now
-        then receives (listener_at listeners.old.table.items (pair_place source destination)) packet.now
-        else listener_at listeners.old.table.items (pair_place source destination))) }
-    ensures told { IfOk result (λ complete. complete ≡ completes (listener_at listeners.old.table.items (pair_place ident.sa ident.ps)) packet.now) }
+        then receives (listener_at listeners.old.table.items (pair_slot source destination)) packet.now
+        else listener_at listeners.old.table.items (pair_slot source destination))) }
+    ensures told { IfOk result (λ complete. complete ≡ completes (listener_at listeners.old.table.items (pair_slot ident.sa ident.ps)) packet.now) }
 {
     if is_abort(packet) && ident.sa != ident.ps {
         listeners.hear(ident.ps, ident.sa, packet)?;

@@ -1,24 +1,21 @@
 //! Reading a log line after line.
-ghost use Rattle.std.specs.Prelude.{◌≡◌, ◌+◌, ◌^◌, ◌<◌, ◌≤◌, ℕ, List, [], ◌∷◌, ◌++◌, length, Some, OnOk};
+ghost use Rattle.std.specs.Prelude.{◌≡◌, ◌+◌, ◌^◌, ◌<◌, ◌≤◌, ℕ, List, [], ◌∷◌, ◌++◌, length, Option, Some, OnOk};
 ghost use Rattle.j39_id.specs.Lines.{Short, tells};
 ghost use Rattle.j39_tp.specs.Packets.{InRange};
 ghost use Rattle.j39_tp.specs.declared.receiving.progress.Progress.TheVariants.{Complete};
-ghost use Rattle.j39_log.specs.inside.Listening.{AreAllInRange, HaveHeard, IsCatalogOf, IsInRange, listener_at, place_of};
+ghost use Rattle.j39_log.specs.inside.Listening.{AreAllInRange, HaveHeard, IsCatalogOf, IsInRange, listener_at, slot_of};
 ghost use Rattle.j39_log.specs.inside.Recalling.{Recalls, counted};
-ghost use Rattle.j39_log.specs.LogLines.{IsRole, planned};
+ghost use Rattle.j39_log.specs.LogFrames.{IsHeardAs, planned};
 ghost use Rattle.j39_log.specs.LogPairs.{Seen};
 ghost use Rattle.j39_log.specs.LogReports.{report};
-ghost use Rattle.j39_log.specs.ReadText.{Follows, IsFrameReport, IsPlannedReport, IsReport, Past, ReadsLine, ReadsLines, counts_line, nothing_yet};
-ghost use Rattle.j39_log.specs.declared.entry.Entry.TheVariants.{Frame as AFrame};
-ghost use Rattle.j39_log.specs.declared.role.Role.{Role as ARole};
-ghost use Rattle.j39_log.specs.declared.role.Role.TheVariants.{Packet as APacket};
+ghost use Rattle.j39_log.specs.ReadText.{IsFrameReport, IsGroupReport, Past, ReadsFrame, ReadsLine, ReadsLines, counts_line, nothing_yet, passed_over};
+ghost use Rattle.j39_tp.specs.declared.packet.Packet.{Packet as APacket};
 
 use crate::catalog::Catalog;
-use crate::entry::{Entry, entry_of};
 use crate::group_report::write_report;
 use crate::listeners::{Listeners, listen};
-use crate::role::{Role, role_of};
-use j39_id::{Cut, Frame, Ident};
+use crate::transport::transport_packet;
+use j39_id::{Cut, Frame, Ident, LineError, read_frame};
 use j39_plan::Plan;
 use j39_text::TextBuffer;
 use j39_tp::{Packet, listener_completes_what_is_carried};
@@ -45,7 +42,7 @@ fn write_group(
 ) -> Result<(), AllocError>
     requires catalog { IsCatalogOf plan.now catalog.now }
     requires planned { (pgn : ℕ) × (planned plan.now pgn (length bytes.now) ≡ Some place) }
-    ensures { OnOk result ((piece : List ℕ) × IsReport plan.now place ident bytes.now piece × (text.new ≡ text.old ++ piece)) }
+    ensures { OnOk result ((piece : List ℕ) × IsGroupReport plan.now (Some place) ident bytes.now piece × (text.new ≡ text.old ++ piece)) }
 {
     write_report(
         text,
@@ -66,7 +63,7 @@ fn write_planned(
     bytes: &[u8],
 ) -> Result<(), AllocError>
     requires { IsCatalogOf plan.now catalog.now }
-    ensures { OnOk result ((piece : List ℕ) × IsPlannedReport plan.now (planned plan.now pgn (length bytes.now)) ident bytes.now piece × (text.new ≡ text.old ++ piece)) }
+    ensures { OnOk result ((piece : List ℕ) × IsGroupReport plan.now (planned plan.now pgn (length bytes.now)) ident bytes.now piece × (text.new ≡ text.old ++ piece)) }
 {
     match catalog.place(pgn, bytes.len()) {
         Some(place) => write_group(text, plan, catalog, place, ident, bytes),
@@ -83,11 +80,11 @@ fn write_message(
     ident: Ident,
 ) -> Result<(), AllocError>
     requires catalog { IsCatalogOf plan.now catalog.now }
-    requires complete { (group : ℕ) × ((listener_at listeners.now.table.items (place_of ident.sa ident.ps)).progress ≡ Complete group) }
-    ensures { OnOk result ((group : ℕ) × (message : List ℕ) × (piece : List ℕ)
-        × ((listener_at listeners.now.table.items (place_of ident.sa ident.ps)).progress ≡ Complete group)
-        × ((listener_at listeners.now.table.items (place_of ident.sa ident.ps)).bytes ≡ message)
-        × IsPlannedReport plan.now (planned plan.now group (length message)) ident message piece
+    requires complete { (pgn : ℕ) × ((listener_at listeners.now.table.items (slot_of ident.sa ident.ps)).progress ≡ Complete pgn) }
+    ensures { OnOk result ((pgn : ℕ) × (message : List ℕ) × (piece : List ℕ)
+        × ((listener_at listeners.now.table.items (slot_of ident.sa ident.ps)).progress ≡ Complete pgn)
+        × ((listener_at listeners.now.table.items (slot_of ident.sa ident.ps)).bytes ≡ message)
+        × IsGroupReport plan.now (planned plan.now pgn (length message)) ident message piece
         × (text.new ≡ text.old ++ piece)) }
 {
     let Some(listener) = listeners.listener(ident.sa, ident.ps) else {
@@ -111,9 +108,9 @@ fn write_packet(
     requires catalog { IsCatalogOf plan.now catalog.now }
     requires range { InRange packet.now }
     ensures heard { OnOk result ((seen : List Seen) → HaveHeard listeners.old.table.items seen
-        → HaveHeard listeners.new.table.items (seen ++ record { frame = frame.now; role = APacket packet.now } ∷ [])) }
+        → HaveHeard listeners.new.table.items (seen ++ record { frame = frame.now; packet = Some packet.now } ∷ [])) }
     ensures message { OnOk result ((seen : List Seen) → HaveHeard listeners.old.table.items seen → AreAllInRange seen
-        → (piece : List ℕ) × IsFrameReport plan.now seen frame.now (APacket packet.now) piece × (text.new ≡ text.old ++ piece)) }
+        → (piece : List ℕ) × IsFrameReport plan.now seen frame.now (Some packet.now) piece × (text.new ≡ text.old ++ piece)) }
 {
     listener_completes_what_is_carried();
     if listen(listeners, frame.ident, packet)? {
@@ -132,22 +129,18 @@ fn write_frame(
 ) -> Result<(), AllocError>
     requires { IsCatalogOf plan.now catalog.now }
     ensures { OnOk result ((seen : List Seen) → HaveHeard listeners.old.table.items seen → AreAllInRange seen
-        → (role : ARole) × (piece : List ℕ) × IsRole plan.now frame.now role × IsInRange role
-        × IsFrameReport plan.now seen frame.now role piece
-        × HaveHeard listeners.new.table.items (seen ++ record { frame = frame.now; role = role } ∷ [])
+        → (packet : Option APacket) × (piece : List ℕ) × IsHeardAs plan.now frame.now packet × IsInRange packet
+        × IsFrameReport plan.now seen frame.now packet piece
+        × HaveHeard listeners.new.table.items (seen ++ record { frame = frame.now; packet = packet } ∷ [])
         × (text.new ≡ text.old ++ piece)) }
 {
-    match role_of(catalog, frame) {
-        Role::Short(place) => write_group(
-            text,
-            plan,
-            catalog,
-            place,
-            frame.ident,
-            frame.payload.as_slice(),
-        ),
-        Role::Packet(packet) => write_packet(text, listeners, plan, catalog, frame, &packet),
-        Role::Other => Ok(()),
+    let bytes = frame.payload.as_slice();
+    if let Some(place) = catalog.place(frame.ident.pgn().number(), bytes.len()) {
+        return write_group(text, plan, catalog, place, frame.ident, bytes);
+    }
+    match transport_packet(frame) {
+        Some(packet) => write_packet(text, listeners, plan, catalog, frame, &packet),
+        None => Ok(()),
     }
 }
 
@@ -175,11 +168,25 @@ impl Reading {
         requires catalog { IsCatalogOf plan.now catalog.now }
         requires room { counted self.old < 2 ^ 63 }
         ensures frame { OnOk result ((past : Past) → Recalls self.old past → (next : Past) × (piece : List ℕ)
-            × Follows plan.now past (AFrame frame.now) next piece × Recalls self.new next × (self.new.text ≡ self.old.text ++ piece)) }
+            × ReadsFrame plan.now past frame.now next piece × Recalls self.new next × (self.new.text ≡ self.old.text ++ piece)) }
         ensures count { counted self.new ≤ counted self.old + 1 }
     {
         self.frames += 1;
         write_frame(&mut self.text, &mut self.listeners, plan, catalog, frame)
+    }
+
+    // Counts a line that spells no frame: one of an 11-bit identifier as skipped, and one without a word not at all.
+    fn pass_over(&mut self, error: LineError)
+        requires { counted self.old < 2 ^ 63 }
+        ensures past { (past : Past) → Recalls self.old past → Recalls self.new (passed_over error past) }
+        ensures text { self.new.text ≡ self.old.text }
+        ensures count { counted self.new ≤ counted self.old + 1 }
+    {
+        match error {
+            LineError::Empty => {}
+            LineError::ShortIdent => self.skipped += 1,
+            _other => self.bad += 1,
+        }
     }
 
     /// Reads a line.
@@ -195,15 +202,10 @@ impl Reading {
             × ReadsLine plan.now past (Short line.now) next piece × Recalls self.new next × (self.new.text ≡ self.old.text ++ piece)) }
         ensures count { counted self.new ≤ counted self.old + 1 }
     {
-        match entry_of(line) {
-            Entry::Frame(frame) => self.read_frame(plan, catalog, &frame),
-            Entry::Blank => Ok(()),
-            Entry::Skipped => {
-                self.skipped += 1;
-                Ok(())
-            }
-            Entry::Bad => {
-                self.bad += 1;
+        match read_frame(line) {
+            Ok(frame) => self.read_frame(plan, catalog, &frame),
+            Err(error) => {
+                self.pass_over(error);
                 Ok(())
             }
         }

@@ -1,7 +1,7 @@
 -- One more signal of a layout.
-use Rattle.std.proofs.Common.{◌≡◌, ℕ, ◌+◌, ◌<◌, List, [], ◌∷◌, ◌++◌, length, get_or, take, length-take, sym, ap, ◌∙◌, subst, arith}
+use Rattle.std.proofs.Common.{◌≡◌, ◌≢◌, ℕ, ◌+◌, ◌<◌, List, [], ◌∷◌, ◌++◌, length, get_or, take, length-take, refl, sym, ap, ◌∙◌, subst, arith}
 use Rattle.std.specs.List.{All}
-use Rattle.std.proofs.lemmas.List.{take_more, get_or_default}
+use Rattle.std.proofs.lemmas.List.{take_more, get_or_default, get_or-take}
 use Rattle.std.proofs.lemmas.List.Elements.{All-push}
 use Rattle.std.proofs.lemmas.List.Quantifiers.{all_pairs_push}
 use Rattle.j39_signal.specs.Parts.{SignalParts}
@@ -44,3 +44,27 @@ fault_at bytes signals i s (Overlap j k) h is laid (place, fits, inside, shares)
     first_at bytes signals i k s (λ t. WidthFits t × IsInside bytes t × IsFirstSharer t (take k signals) j) h is laid at
     (fits, inside, subst (λ n. IsFirstSharer s (take n signals) j) (sym at) shares)
 fault_at bytes signals i s Memory h is laid has = absurd has
+
+
+-- ---- signals that lay out a payload have no fault
+
+element : (signals : List SignalParts) (i : ℕ) → i < length signals → SignalParts
+element [] i h = absurd (omega arith)
+element (s ∷ signals) i h = s
+
+pub no_fault : (bytes : ℕ) (signals : List SignalParts) (fault : LayoutError) → fault ≢ Memory → LaysOut bytes signals → HasLayoutFault bytes signals fault → ⊥
+no_fault bytes signals Length other laid has = has (laid.some_bytes, laid.most_bytes)
+no_fault bytes signals (Width i) other laid has =
+    let d = element signals i has.0 in
+    has.2 d (laid.widths i d has.0)
+no_fault bytes signals (Outside i) other laid has =
+    let d = element signals i has.0 in
+    (has.2 d).1 (laid.inside i d has.0)
+no_fault bytes signals (Overlap j i) other laid has =
+    let d = element signals i has.0 in
+    let shares = (has.2 d).2 in
+    let front : length (take i signals) ≡ i = length_front signals i has.0 in
+    let below : j < i = subst (λ (n : ℕ). j < n) front shares.0 in
+    let here : get_or (take i signals) j d ≡ get_or signals j d = get_or-take i signals j d below in
+    laid.apart j i d below has.0 (subst (λ (s : SignalParts). SharesBit s (get_or signals i d)) here (shares.1 d))
+no_fault bytes signals Memory other laid has = other refl

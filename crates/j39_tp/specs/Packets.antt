@@ -130,3 +130,10 @@ ManagementReadsBack = (p : Packet) → IsManagement p → InRange p → IsReadab
 abbrev pub DataReadsBack : Type 0
 DataReadsBack = (number : ℕ) (chunk : List ℕ) → InRange (Dt number chunk) → IsReadable (Dt number chunk)
     → DataReads (data_of (Dt number chunk)) (Dt number chunk)
+
+-- bytes are at most one packet of connection management, and at most one of data
+abbrev pub AreOneManagement : Type 0
+AreOneManagement = (bytes : List ℕ) (p q : Packet) → ManagementReads bytes p → ManagementReads bytes q → p ≡ q
+
+abbrev pub AreOneData : Type 0
+AreOneData = (bytes : List ℕ) (p q : Packet) → DataReads bytes p → DataReads bytes q → p ≡ q

@@ -3,7 +3,7 @@ ghost use Rattle.std.specs.Prelude.{◌≡◌, ℕ, List, [], ◌∷◌, ◌++�
 ghost use Rattle.j39_tp.specs.Carried.{AreInRange, CompletesAt, Carried};
 ghost use Rattle.j39_tp.specs.inside.Gathered.{Gathers, TellsComplete, HoldsCarried};
 ghost use Rattle.j39_tp.specs.HonestPackets.{AnnouncesMessage, GoesOn, TellsLast, CarriesItsMessage};
-ghost use Rattle.j39_tp.specs.Packets.{InRange, ManagementReadsBack, DataReadsBack};
+ghost use Rattle.j39_tp.specs.Packets.{InRange, ManagementReadsBack, DataReadsBack, AreOneManagement, AreOneData};
 ghost use Rattle.j39_tp.specs.Receiver.{Receiving, hears, receives, gives_up};
 
 use crate::{Packet, PacketError, from_cm, from_dt, known_ranges, to_data};
@@ -12,6 +12,12 @@ use crate::{Packet, PacketError, from_cm, from_dt, known_ranges, to_data};
 pub fn sent_packets_read_back()
     ensures management { ManagementReadsBack }
     ensures data { DataReadsBack }
+{}
+
+/// Bytes are read as at most one packet.
+pub fn bytes_are_one_packet()
+    ensures management { AreOneManagement }
+    ensures data { AreOneData }
 {}
 
 /// A listener that hears packets from closed completes a message exactly where they carry one, and then holds that message.

@@ -8,7 +8,7 @@ mod receiving;
 mod sending;
 
 pub use laws::{
-    a_place_carries_one_message, honest_packets_carry_their_message,
+    a_place_carries_one_message, bytes_are_one_packet, honest_packets_carry_their_message,
     listener_completes_what_is_carried, receivers_gather_what_they_hear, sent_packets_read_back,
 };
 pub use message::Message;

@@ -12,14 +12,12 @@ use Rattle.j39_tp.specs.declared.receiving.heard.Heard.TheVariants as heards
 use Rattle.j39_tp.specs.declared.receiving.manner.Manner.TheVariants.{Listening}
 use Rattle.j39_tp.specs.declared.packet.Packet.{Packet}
 use Rattle.j39_tp.specs.declared.packet.Packet.TheVariants.{Rts, Bam}
-use Rattle.j39_log.specs.LogLines.{is_planned_as}
+use Rattle.j39_log.specs.LogFrames.{is_planned_as}
 use Rattle.j39_log.specs.LogPairs.{Seen, heard}
 use Rattle.j39_plan.specs.PlannedGroups.{IsFirstRefused, layout_of}
 use Rattle.j39_log.specs.declared.catalog.CatalogError.{CatalogError}
 use Rattle.j39_log.specs.declared.catalog.CatalogError.TheVariants.{BadGroup, Memory}
 use Rattle.j39_log.specs.declared.catalog.Catalog.{Catalog}
-use Rattle.j39_log.specs.declared.role.Role.{Role}
-use Rattle.j39_log.specs.declared.role.Role.TheVariants.{Short, Packet as APacket, Other}
 
 -- ---- groups
 
@@ -42,11 +40,10 @@ pub record IsCatalogOf (plan : Plan) (catalog : Catalog) : Type 0 where
 
 -- ---- listeners
 
--- the parts of a role's packet are in their ranges
-abbrev pub IsInRange : Role → Type 0
-IsInRange (APacket p) = InRange p
-IsInRange (Short g) = Unit {0}
-IsInRange Other = Unit {0}
+-- the parts of a packet, if there is one, are in their ranges
+abbrev pub IsInRange : Option Packet → Type 0
+IsInRange (Some p) = InRange p
+IsInRange None = Unit {0}
 
 abbrev pub is_announcement : Packet → Bool
 is_announcement (Bam size pgn) = true
@@ -78,8 +75,8 @@ abbrev pub HasListener : {Z : Type 0} → List (Option (Box Receiving Z)) → �
 HasListener {Z} table k = (b : Box Receiving Z) × (slice_get table k ≡ Some (Some b))
 
 -- where the listener of a pair stands
-abbrev pub place_of : ℕ → ℕ → ℕ
-place_of source destination = 256 * source + destination
+abbrev pub slot_of : ℕ → ℕ → ℕ
+slot_of source destination = 256 * source + destination
 
 -- a listener that heard all of these packets
 abbrev pub after_all : List Packet → Receiving
@@ -89,8 +86,8 @@ after_all h = listened h (length h)
 abbrev pub HaveHeard : {Z : Type 0} → List (Option (Box Receiving Z)) → List Seen → Type 0
 HaveHeard table seen =
     (source destination : ℕ) → source < 256 → destination < 256
-    → listener_at table (place_of source destination) ≡ after_all (heard source destination seen)
+    → listener_at table (slot_of source destination) ≡ after_all (heard source destination seen)
 
 -- the parts of all packets are in their ranges
 abbrev pub AreAllInRange : List Seen → Type 0
-AreAllInRange seen = All (λ (s : Seen). IsInRange s.role) seen
+AreAllInRange seen = All (λ (s : Seen). IsInRange s.packet) seen

@@ -1,55 +1,61 @@
-use Rattle.std.proofs.Common.{[], sym, ap, ◌∙◌, length, List, ℕ, refl}
+use Rattle.std.proofs.Common.{◌≡◌, [], ℕ, Option, Some, None, inl, inr, refl, sym, ◌∙◌, subst}
 use Rattle.std.proofs.lemmas.List.{append-nil}
 use Rattle.std.proofs.lemmas.Result.{IfOk-weaker}
-use Rattle.j39_id.specs.Ident.{pgn_of}
-use Rattle.j39_log.specs.LogLines.{planned}
-use Rattle.j39_log.specs.declared.role.Role.TheVariants.{Short, Packet as APacket, Other}
+use Rattle.j39_log.specs.LogFrames.{group_of}
+use Rattle.j39_log.specs.ReadText.{IsGroupReport}
+use Rattle.j39_log.proofs.FoundGroups.{found_for}
 use Rattle.j39_log.proofs.Outcomes.{both_ok}
-use Rattle.j39_log.proofs.PairLists.{unheard_short, unheard_other}
+use Rattle.j39_log.proofs.PairLists.{unheard}
 use Rattle.j39_log.proofs.log_reading.write_frame.Goals as goal
 
-pub write_group-requires-clause-planned : goal.write_group-requires-clause-planned
-write_group-requires-clause-planned c = (
-  pgn_of c.args.frame.now.ident,
-  ap (λ (bytes : List ℕ). planned c.args.plan.now (pgn_of c.args.frame.now.ident) (length bytes)) c.as_slice.ensures.value
-      ∙ c.in-Short.ensures.role c.args.plan.now c.requires,
-)
-
-pub returns-in-Short : goal.returns-in-Short
-returns-in-Short c =
+pub returns-in-Some : goal.returns-in-Some
+returns-in-Some c =
+    let plan = c.args.plan.now in
+    let f = c.args.frame.now in
+    let group : c.place.result ≡ group_of plan f =
+    found_for plan f c.number.result c.as_slice-bytes.result.now c.place.result (c.number.ensures.value ∙ c.pgn.ensures) c.as_slice-bytes.ensures.value (c.place.ensures plan.groups.items c.requires.index) in
+    let planned : group_of plan f ≡ Some c.in-Some.place = sym group ∙ c.in-Some.is in
     IfOk-weaker c.write_group.result _ _
     (λ _ written. λ seen have ranges. (
-      Short c.in-Short.place,
+      None,
       written.0,
-      c.in-Short.ensures.role c.args.plan.now c.requires,
+      inl (λ none. cc (none, planned)),
       tt,
-      rw c.as_slice.ensures.value at written.1,
-      unheard_short c.args.listeners.now.table.items seen c.args.frame.now c.in-Short.place have,
+      subst (λ (place : Option ℕ). IsGroupReport plan place f.ident f.payload.items written.0) (sym planned) (rw c.as_slice-bytes.ensures.value at written.1),
+      unheard c.args.listeners.now.table.items seen f have,
       written.2,
     ))
     c.write_group.ensures
 
-pub returns-in-Packet : goal.returns-in-Packet
-returns-in-Packet c =
+pub returns-in-Some-transport_packet : goal.returns-in-Some-transport_packet
+returns-in-Some-transport_packet c =
+    let plan = c.args.plan.now in
+    let f = c.args.frame.now in
+    let group : c.place.result ≡ group_of plan f =
+    found_for plan f c.number.result c.as_slice-bytes.result.now c.place.result (c.number.ensures.value ∙ c.pgn.ensures) c.as_slice-bytes.ensures.value (c.place.ensures plan.groups.items c.requires.index) in
     both_ok c.write_packet.result _ _ _ c.write_packet.ensures.heard c.write_packet.ensures.message
     (λ heard written. λ seen have ranges.
     let told = written seen have ranges in (
-      APacket c.in-Packet.packet,
+      Some c.in-Some-transport_packet.packet,
       told.0,
-      c.in-Packet.ensures.role c.args.plan.now c.requires,
-      c.in-Packet.ensures.range,
+      (sym group ∙ c.in_default.is, c.in-Some-transport_packet.ensures.found.0),
+      c.in-Some-transport_packet.ensures.found.1,
       told.1,
       heard seen have,
       told.2,
     ))
 
-pub returns-in-Other : goal.returns-in-Other
-returns-in-Other c = λ seen have ranges. (
-  Other,
-  [],
-  c.in-Other.ensures.role c.args.plan.now c.requires,
-  tt,
-  refl,
-  unheard_other c.args.listeners.now.table.items seen c.args.frame.now have,
-  sym (append-nil c.args.text.now),
-)
+pub returns-in-None : goal.returns-in-None
+returns-in-None c = λ seen have ranges.
+    let plan = c.args.plan.now in
+    let f = c.args.frame.now in
+    let group : c.place.result ≡ group_of plan f =
+    found_for plan f c.number.result c.as_slice-bytes.result.now c.place.result (c.number.ensures.value ∙ c.pgn.ensures) c.as_slice-bytes.ensures.value (c.place.ensures plan.groups.items c.requires.index) in (
+      None,
+      [],
+      inr c.in-None.ensures.none,
+      tt,
+      subst (λ (place : Option ℕ). IsGroupReport plan place f.ident f.payload.items []) (sym (sym group ∙ c.in_default.is)) refl,
+      unheard c.args.listeners.now.table.items seen f have,
+      sym (append-nil c.args.text.now),
+    )

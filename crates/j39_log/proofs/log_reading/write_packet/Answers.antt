@@ -1,7 +1,7 @@
 use Rattle.std.proofs.Common.{◌≡◌, [], sym, ◌∙◌, inl, inr, refl, true, false}
 use Rattle.std.proofs.lemmas.List.{append-nil}
 use Rattle.j39_tp.specs.declared.packet.Packet.{Packet}
-use Rattle.j39_log.specs.inside.Listening.{completes, listener_at, place_of}
+use Rattle.j39_log.specs.inside.Listening.{completes, listener_at, slot_of}
 use Rattle.j39_log.specs.ReadText.{heard_before}
 use Rattle.j39_log.proofs.Completing.{carried_there, uncarried_there}
 use Rattle.j39_log.proofs.PairLists.{heard_in_range, heard_itself, turned}
@@ -19,8 +19,8 @@ pub returns-in_ok-write_message-clause-message : goal.returns-in_ok-write_messag
 returns-in_ok-write_message-clause-message c = λ seen have ranges.
     let i = c.args.frame.now.ident in
     let p : Packet = c.args.packet.now in
-    let old = listener_at c.args.listeners.now.table.items (place_of i.sa i.ps) in
-    let new = listener_at c.listen.new.listeners.table.items (place_of i.sa i.ps) in
+    let old = listener_at c.args.listeners.now.table.items (slot_of i.sa i.ps) in
+    let new = listener_at c.listen.new.listeners.table.items (slot_of i.sa i.ps) in
     let told : completes old p ≡ true = sym c.in_ok-listen.ensures.told ∙ c.if-branch.true in
     let written = c.in_ok-write_message.ensures in (
       written.2,
@@ -41,7 +41,7 @@ pub returns-else-branch-clause-message : goal.returns-else-branch-clause-message
 returns-else-branch-clause-message c = λ seen have ranges.
     let i = c.args.frame.now.ident in
     let p : Packet = c.args.packet.now in
-    let old = listener_at c.args.listeners.now.table.items (place_of i.sa i.ps) in
+    let old = listener_at c.args.listeners.now.table.items (slot_of i.sa i.ps) in
     let untold : completes old p ≡ false = sym c.in_ok-listen.ensures.told ∙ c.if-branch.false in (
       [],
       inr (

@@ -1,6 +1,6 @@
 use Rattle.std.proofs.Common.{arith}
 use Rattle.std.proofs.lemmas.Result.{IfOk-weaker}
-use Rattle.j39_log.proofs.Tables.{has_set}
+use Rattle.j39_log.proofs.ListenerTables.{has_set}
 use Rattle.j39_log.proofs.listeners.Listeners.open.Goals as goal
 
 pub returns-clause-open : goal.returns-clause-open

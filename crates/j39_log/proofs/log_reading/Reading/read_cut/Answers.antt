@@ -2,16 +2,15 @@ use Rattle.std.proofs.Common.{◌≡◌, ◌+◌, [], List, refl, sym, ap, subst
 use Rattle.std.proofs.lemmas.List.{append-nil}
 use Rattle.j39_id.specs.Lines.{Line, Long, tells}
 use Rattle.j39_id.specs.declared.cut.Cut.{Cut}
-use Rattle.j39_log.specs.ReadText.{Past, ReadsLines}
-use Rattle.j39_log.specs.declared.entry.Entry.TheVariants.{Bad}
+use Rattle.j39_log.specs.ReadText.{Past, ReadsLines, with_bad}
 use Rattle.j39_log.proofs.log_reading.Reading.read_cut.Goals as goal
 
 pub returns-in-Long-clause-lines : goal.returns-in-Long-clause-lines
 returns-in-Long-clause-lines c = λ past recalls.
-    let next : Past = record past { bad = past.bad + 1 } in (
+    let next : Past = with_bad past in (
       next,
       [],
-      subst (λ (cut : Cut). ReadsLines c.args.plan.now past (tells cut c.args.line.now) next []) (sym c.in-Long.is) (next, [], [], (Bad, tt, (refl, refl)), (refl, refl), refl),
+      subst (λ (cut : Cut). ReadsLines c.args.plan.now past (tells cut c.args.line.now) next []) (sym c.in-Long.is) (next, [], [], (refl, refl), (refl, refl), refl),
       record {
         heard_all = recalls.heard_all;
         ranges = recalls.ranges;

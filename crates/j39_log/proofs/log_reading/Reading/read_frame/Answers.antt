@@ -17,8 +17,8 @@ returns-clause-frame c =
       (told.0, told.2, told.4, refl),
       record {
         heard_all = told.5;
-        ranges = All-push (λ (x : Seen). IsInRange x.role) past.seen (record { frame = c.args.frame.now; role = told.0 }) recalls.ranges told.3;
-        frames_are = ap (λ (n : ℕ). n + 1) recalls.frames_are ∙ sym (length_push past.seen (record { frame = c.args.frame.now; role = told.0 }));
+        ranges = All-push (λ (x : Seen). IsInRange x.packet) past.seen (record { frame = c.args.frame.now; packet = told.0 }) recalls.ranges told.3;
+        frames_are = ap (λ (n : ℕ). n + 1) recalls.frames_are ∙ sym (length_push past.seen (record { frame = c.args.frame.now; packet = told.0 }));
         skipped_are = recalls.skipped_are;
         bad_are = recalls.bad_are;
       },

@@ -1,34 +1,22 @@
-use Rattle.std.proofs.Common.{[], sym, ap, ◌+◌, refl}
+use Rattle.std.proofs.Common.{[], inl, inr, refl, sym, ◌∙◌}
 use Rattle.std.proofs.lemmas.List.{append-nil}
-use Rattle.j39_log.specs.declared.entry.Entry.TheVariants.{Skipped, Bad}
+use Rattle.std.proofs.lemmas.Result.{IfOk-weaker}
+use Rattle.j39_log.specs.ReadText.{passed_over}
 use Rattle.j39_log.proofs.log_reading.Reading.read_line.Goals as goal
 
-pub returns-in-Skipped-clause-line : goal.returns-in-Skipped-clause-line
-returns-in-Skipped-clause-line c = λ past recalls. (
-  record past { skipped = past.skipped + 1 },
-  [],
-  (Skipped, c.in-Skipped.ensures, (refl, refl)),
-  record {
-    heard_all = recalls.heard_all;
-    ranges = recalls.ranges;
-    frames_are = recalls.frames_are;
-    skipped_are = ap (λ n. n + 1) recalls.skipped_are;
-    bad_are = recalls.bad_are;
-  },
-  sym (append-nil c.args.self.now.text),
-)
+pub returns-in-Ok-clause-line : goal.returns-in-Ok-clause-line
+returns-in-Ok-clause-line c =
+    IfOk-weaker c.read_frame-in-Ok.result _ _
+    (λ _ read. λ past recalls.
+    let told = read past recalls in
+    (told.0, told.1, inl (c.in-Ok.frame, c.in-Ok.ensures.found, told.2), told.3, told.4))
+    c.read_frame-in-Ok.ensures.frame
 
-pub returns-in-Bad-clause-line : goal.returns-in-Bad-clause-line
-returns-in-Bad-clause-line c = λ past recalls. (
-  record past { bad = past.bad + 1 },
+pub returns-in-Err-clause-line : goal.returns-in-Err-clause-line
+returns-in-Err-clause-line c = λ past recalls. (
+  passed_over c.in-Err.error past,
   [],
-  (Bad, c.in-Bad.ensures, (refl, refl)),
-  record {
-    heard_all = recalls.heard_all;
-    ranges = recalls.ranges;
-    frames_are = recalls.frames_are;
-    skipped_are = recalls.skipped_are;
-    bad_are = ap (λ n. n + 1) recalls.bad_are;
-  },
-  sym (append-nil c.args.self.now.text),
+  inr (c.in-Err.error, c.in-Err.ensures.refused, refl, refl),
+  c.pass_over.ensures.past past recalls,
+  c.pass_over.ensures.text ∙ sym (append-nil c.args.self.now.text),
 )
