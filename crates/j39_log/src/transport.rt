@@ -4,9 +4,9 @@ ghost use Rattle.j39_tp.specs.Packets.{DataReads, InRange, ManagementReads};
 ghost use Rattle.j39_tp.specs.declared.packet.Packet.{Packet as APacket};
 ghost use Rattle.j39_log.specs.LogFrames.{IsPacket, IsSentTo};
 
+use j39_id::Frame;
 use j39_id::addresses::GLOBAL_ADDRESS;
 use j39_id::services::{CONNECTION_MANAGEMENT, DATA_TRANSFER};
-use j39_id::Frame;
 use j39_tp::{Packet, from_cm, from_dt};
 
 // Whether a packet may be sent to this address: an announcement to all goes to all, and one to a unit doesn't.

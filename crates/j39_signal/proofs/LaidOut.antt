@@ -45,7 +45,6 @@ fault_at bytes signals i s (Overlap j k) h is laid (place, fits, inside, shares)
     (fits, inside, subst (λ n. IsFirstSharer s (take n signals) j) (sym at) shares)
 fault_at bytes signals i s Memory h is laid has = absurd has
 
-
 -- ---- signals that lay out a payload have no fault
 
 element : (signals : List SignalParts) (i : ℕ) → i < length signals → SignalParts

@@ -1,9 +1,12 @@
 -- The text that the frame command writes for a line.
-use Rattle.std.specs.Prelude.{◌≡◌, ℕ, Bool, ◌==◌, ◌||◌, nat_le, nat_lt, ◌&&◌, ◌+◌, ◌*◌, length, slice_index, if◌then◌else◌, List, [], ◌∷◌, ◌++◌, codes, decimal}
+use Rattle.std.specs.Prelude.{◌≡◌, ℕ, Bool, ◌==◌, ◌||◌, ◌&&◌, ◌+◌, ◌*◌, length, slice_index, if◌then◌else◌, List, [], ◌∷◌, ◌++◌, codes, decimal}
 use Rattle.std.specs.Int.{w64, to_be_bytes, from_le_bytes}
 use Rattle.hex.specs.Hex.{encode_upper}
+use Rattle.j39_id.specs.Addresses.{global_address, is_address, null_address}
 use Rattle.j39_id.specs.Ident.{pgn_of}
 use Rattle.j39_id.specs.Name.{fields_of}
+use Rattle.j39_id.specs.Pgn.{is_pdu2}
+use Rattle.j39_id.specs.Services.{address_claimed, request}
 use Rattle.j39_id.specs.FrameLine.{Spells, HasLineFault, canon}
 use Rattle.j39_id.specs.declared.name_fields.NameFields.{NameFields}
 use Rattle.j39_id.specs.declared.ident.Ident.{Ident}
@@ -11,14 +14,12 @@ use Rattle.j39_id.specs.declared.frame.Frame.{Frame}
 use Rattle.j39_id.specs.declared.line_error.LineError.{LineError}
 use Rattle.j39_id.specs.declared.line_error.LineError.TheVariants.{Empty, NoHash, ShortIdent, BadIdent, TooLong, BadData}
 use Rattle.j39_text.specs.Texts.{field}
-use Rattle.j39_text.specs.declared.frame.meaning.Meaning.{Meaning}
-use Rattle.j39_text.specs.declared.frame.meaning.Meaning.TheVariants.{Plain, Claim, Cannot, Request}
 use Rattle.j39_stream.specs.declared.verdict.Verdict.{Verdict}
 use Rattle.j39_stream.specs.declared.verdict.Verdict.TheVariants.{Done, Findings, Refused, Unreadable}
 
--- a frame of a group to all, or to the global address, goes to all
+-- a frame of a group that names no destination, or to the global address, goes to all
 unfoldable pub destination_text : Ident → List ℕ
-destination_text i = if nat_le 240 i.pf || i.ps == 255 then codes "all" else decimal i.ps
+destination_text i = if is_pdu2 (pgn_of i) || i.ps == global_address then codes "all" else decimal i.ps
 
 -- a frame of the extended data page belongs to another protocol
 unfoldable pub page_text : Ident → List ℕ
@@ -32,27 +33,23 @@ route_line i =
 unfoldable pub head_lines : Frame → List ℕ
 head_lines f = codes "frame " ++ (canon f ++ (10 ∷ [] ++ route_line f.ident))
 
--- the group of Address Claimed and Cannot Claim
-abbrev pub address_claimed : ℕ
-address_claimed = 60928
+-- ---- what a frame says besides its route
 
--- the group of requests
-abbrev pub request : ℕ
-request = 59904
-
--- what a frame says besides its route: a NAME is claimed from an address, and given up from the null address
+-- the frame carries the NAME of a unit
 abbrev pub carries_name : Frame → Bool
 carries_name f = f.ident.edp == 0 && (pgn_of f.ident == address_claimed && length f.payload.items == 8)
 
-abbrev pub carries_request : Frame → Bool
-carries_request f = f.ident.edp == 0 && (pgn_of f.ident == request && length f.payload.items == 3)
+-- a unit claims the address that it sends from
+abbrev pub claims_address : Frame → Bool
+claims_address f = carries_name f && is_address f.ident.sa
 
-abbrev pub meaning_of : Frame → Meaning
-meaning_of f =
-    if carries_name f && nat_lt f.ident.sa 254 then Claim
-    else if carries_name f && f.ident.sa == 254 then Cannot
-    else if carries_request f then Request
-    else Plain
+-- a unit can't claim an address: it sends from the null address
+abbrev pub cannot_claim : Frame → Bool
+cannot_claim f = carries_name f && f.ident.sa == null_address
+
+-- a unit asks for a group
+abbrev pub requests_group : Frame → Bool
+requests_group f = f.ident.edp == 0 && (pgn_of f.ident == request && length f.payload.items == 3)
 
 -- the fields of a NAME from the lowest up, in three parts
 unfoldable pub lower_fields : NameFields → List ℕ
@@ -84,16 +81,27 @@ name_in f = from_le_bytes w64 f.payload.items
 abbrev pub requested_group : Frame → ℕ
 requested_group f = slice_index f.payload.items 0 + 256 * slice_index f.payload.items 1 + 65536 * slice_index f.payload.items 2
 
--- what is written of a meaning
-unfoldable pub meaning_lines : Frame → Meaning → List ℕ
-meaning_lines f Plain = []
-meaning_lines f Claim = field (codes "claim ") f.ident.sa ++ (codes " name " ++ name_lines (name_in f))
-meaning_lines f Cannot = codes "cannot name " ++ name_lines (name_in f)
-meaning_lines f Request = field (codes "request ") (requested_group f) ++ 10 ∷ []
+unfoldable pub claim_lines : Frame → List ℕ
+claim_lines f = field (codes "claim ") f.ident.sa ++ (codes " name " ++ name_lines (name_in f))
+
+unfoldable pub cannot_claim_lines : Frame → List ℕ
+cannot_claim_lines f = codes "cannot name " ++ name_lines (name_in f)
+
+unfoldable pub request_line : Frame → List ℕ
+request_line f = field (codes "request ") (requested_group f) ++ 10 ∷ []
+
+unfoldable pub meaning_lines : Frame → List ℕ
+meaning_lines f =
+    if claims_address f then claim_lines f
+    else if cannot_claim f then cannot_claim_lines f
+    else if requests_group f then request_line f
+    else []
+
+-- ---- a line
 
 -- all lines of a frame
 unfoldable pub frame_lines : Frame → List ℕ
-frame_lines f = head_lines f ++ meaning_lines f (meaning_of f)
+frame_lines f = head_lines f ++ meaning_lines f
 
 abbrev pub cause_text : LineError → List ℕ
 cause_text Empty = codes "Empty"
@@ -103,12 +111,19 @@ cause_text BadIdent = codes "BadIdent"
 cause_text TooLong = codes "TooLong"
 cause_text BadData = codes "BadData"
 
-unfoldable pub refused_line : LineError → List ℕ
-refused_line e = codes "refused " ++ (cause_text e ++ 10 ∷ [])
+unfoldable pub refused_frame_line : LineError → List ℕ
+refused_frame_line e = codes "refused " ++ (cause_text e ++ 10 ∷ [])
 
 -- what is written for a line, with the verdict
 abbrev pub IsFrameText : List ℕ → List ℕ → Verdict → Type 0
 IsFrameText line text Done = (f : Frame) × Spells line f × (text ≡ frame_lines f)
-IsFrameText line text Unreadable = (e : LineError) × HasLineFault line e × (text ≡ refused_line e)
+IsFrameText line text Unreadable = (e : LineError) × HasLineFault line e × (text ≡ refused_frame_line e)
 IsFrameText line text Findings = ⊥
 IsFrameText line text Refused = ⊥
+
+-- ---- a law
+
+-- for a line there is one text, and one verdict
+abbrev pub HasOneText : Type 0
+HasOneText = (line text other : List ℕ) (verdict outcome : Verdict)
+    → IsFrameText line text verdict → IsFrameText line other outcome → (text ≡ other) × (verdict ≡ outcome)

@@ -1,7 +1,7 @@
 //! What the frame command writes.
 ghost use Rattle.std.specs.Prelude.{◌≡◌, ◌≢◌, ℕ, List, ◌++◌, IfOk, IsErrOf, OnOk, Err};
 ghost use Rattle.std.specs.Io.KnownBytes.{Appends};
-ghost use Rattle.j39_text.specs.FrameText.{IsFrameText, frame_lines as lines_of, head_lines as heads_of, refused_line as line_of};
+ghost use Rattle.j39_text.specs.FrameText.{IsFrameText, frame_lines as lines_of, head_lines as heads_of, refused_frame_line as line_of};
 ghost use Rattle.j39_stream.specs.Streams.{AppendsPart, HasFailed};
 
 mod meaning;
@@ -32,7 +32,7 @@ fn write_frame(text: &mut TextBuffer, frame: &Frame) -> Result<(), AllocError>
     meaning::write_meaning(text, frame)
 }
 
-#[tactic(auto, unfolding(crate::specs::FrameText::refused_line))]
+#[tactic(auto, unfolding(crate::specs::FrameText::refused_frame_line))]
 fn write_refusal(text: &mut TextBuffer, error: LineError) -> Result<(), AllocError>
     ensures { OnOk result (text.new ≡ text.old ++ line_of error) }
 {

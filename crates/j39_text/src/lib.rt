@@ -4,6 +4,7 @@
 mod frame;
 mod input;
 mod labels;
+mod laws;
 mod plan_file;
 mod text_buffer;
 
@@ -13,5 +14,6 @@ pub use labels::{
     group_label, group_pgn, signal_bits, signal_end, signal_label, unit_address, unit_label,
     write_group, write_units,
 };
+pub use laws::a_line_has_one_text;
 pub use plan_file::plan_text;
 pub use text_buffer::TextBuffer;

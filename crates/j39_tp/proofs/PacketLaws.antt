@@ -45,7 +45,6 @@ management_reads (Dt number chunk) m r k = absurd m
 pub data_reads : (number : ℕ) (chunk : List ℕ) → InRange (Dt number chunk) → IsReadable (Dt number chunk) → DataReads (data_of (Dt number chunk)) (Dt number chunk)
 data_reads number chunk r k = record { eight = omega arith; fields = (refl, k) }
 
-
 -- ---- the same bytes
 
 -- the management packet that the bytes can be, by the first of them

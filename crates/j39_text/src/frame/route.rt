@@ -4,15 +4,16 @@ ghost use Rattle.j39_text.specs.FrameText.{destination_text, page_text, route_li
 
 use crate::TextBuffer;
 use j39_id::Ident;
+use j39_id::addresses::GLOBAL_ADDRESS;
 use std::alloc::AllocError;
 
 /// Writes where a frame goes to: to all, or to an address.
-#[tactic(auto, unfolding(crate::specs::FrameText::destination_text))]
+#[tactic(auto, using(crate::proofs::Destinations::pdu2_kept), unfolding(crate::specs::FrameText::destination_text))]
 pub fn write_destination(text: &mut TextBuffer, ident: Ident) -> Result<(), AllocError>
     ensures { OnOk result (text.new ≡ text.old ++ destination_text ident) }
 {
     match ident.destination() {
-        Some(255) | None => text.word("all"),
+        Some(GLOBAL_ADDRESS) | None => text.word("all"),
         Some(address) => text.number(address),
     }
 }

@@ -3,7 +3,7 @@ use Rattle.std.proofs.lemmas.List.{append-nil, drop_all}
 use Rattle.std.proofs.lemmas.Grind.{common_steps}
 use Rattle.hex.specs.Hex.{upper_digits, encode_with}
 use Rattle.hex.proofs.Pairs.{encode_with-drop}
-use Rattle.j39_text.proofs.Digits.{two_more}
+use Rattle.j39_text.proofs.HexDigits.{two_more}
 use Rattle.j39_text.proofs.text_buffer.TextBuffer.hex.Goals as goal
 
 pub loop-byte-preserved : goal.loop-byte-preserved
