@@ -9,8 +9,8 @@ use Rattle.j39_plan.specs.declared.plan.Plan.{Plan}
 use Rattle.j39_plan.specs.declared.plan.group_plan.GroupPlan.{GroupPlan}
 use Rattle.j39_plan.specs.PlannedGroups.{layout_of}
 use Rattle.j39_log.specs.inside.Listening.{IsCatalogOf}
-use Rattle.j39_log.specs.LogFrames.{group_of, is_planned_as, planned}
-use Rattle.j39_log.specs.LogReports.{report}
+use Rattle.j39_log.specs.LogFrames.{planned_group, is_planned_as, planned}
+use Rattle.j39_log.specs.LogReports.{group_report}
 use Rattle.j39_log.specs.ReadText.{IsGroupReport}
 use Rattle.j39_id.specs.Ident.{pgn_of}
 use Rattle.j39_id.specs.declared.frame.Frame.{Frame}
@@ -40,7 +40,7 @@ laid_there plan catalog place group layout of less here at =
 
 -- its report is that of the place
 pub report_there : (plan : Plan) (place : ℕ) (group : GroupPlan) (i : Ident) (bytes : List ℕ) → place < length plan.groups.items
-    → group ≡ get_or plan.groups.items place group → IsGroupReport plan (Some place) i bytes (report group i bytes)
+    → group ≡ get_or plan.groups.items place group → IsGroupReport plan (Some place) i bytes (group_report group i bytes)
 report_there plan place group i bytes less here = record {
   value = group;
   value_is = slice_get-get_or plan.groups.items place group less ∙ ap Some (sym here);
@@ -49,6 +49,6 @@ report_there plan place group i bytes less here = record {
 
 -- the group that is found for a frame's number and its bytes
 pub found_for : (plan : Plan) (f : Frame) (pgn : ℕ) (bytes : List ℕ) (place : Option ℕ) → pgn ≡ pgn_of f.ident → bytes ≡ f.payload.items
-    → place ≡ planned plan pgn (length bytes) → place ≡ group_of plan f
+    → place ≡ planned plan pgn (length bytes) → place ≡ planned_group plan f
 found_for plan f pgn bytes place number payload found =
     found ∙ ap (λ (n : ℕ). planned plan n (length bytes)) number ∙ ap (λ (xs : List ℕ). planned plan (pgn_of f.ident) (length xs)) payload

@@ -19,9 +19,9 @@ use Rattle.j39_tp.proofs.Tracking.{one_pgn, one_message}
 use Rattle.j39_tp.specs.declared.packet.Packet.{Packet}
 use Rattle.j39_stream.specs.declared.verdict.Verdict.{Verdict}
 use Rattle.j39_stream.specs.declared.verdict.Verdict.TheVariants.{Done, Findings, Refused, Unreadable}
-use Rattle.j39_log.specs.LogFrames.{IsPacket, IsHeardAs, group_of, planned}
+use Rattle.j39_log.specs.LogFrames.{IsPacket, IsHeardAs, planned_group, planned}
 use Rattle.j39_log.specs.LogPairs.{Seen}
-use Rattle.j39_log.specs.LogReports.{report}
+use Rattle.j39_log.specs.LogReports.{group_report}
 use Rattle.j39_log.specs.ReadText.{IsFrameReport, IsGroupReport, IsLogText, IsMessageText, IsReadText, Past, ReadsFrame, ReadsLine, ReadsLines, count_line, heard_before, nothing_yet, passed_over, refused_plan_line, with_frame}
 
 some_same : {A : Type 0} (x y : A) → Some x ≡ Some y → x ≡ y
@@ -51,7 +51,7 @@ one_group_report : (plan : Plan) (place : Option ℕ) (i : Ident) (bytes t u : L
 one_group_report plan None i bytes t u a b = a ∙ sym b
 one_group_report plan (Some g) i bytes t u a b =
     let same : a.value ≡ b.value = some_same a.value b.value (sym a.value_is ∙ b.value_is) in
-    a.meets ∙ ap (λ (group : GroupPlan). report group i bytes) same ∙ sym b.meets
+    a.meets ∙ ap (λ (group : GroupPlan). group_report group i bytes) same ∙ sym b.meets
 
 one_message_text : (plan : Plan) (h : List Packet) (place : ℕ) (i : Ident) (t u : List ℕ)
     → IsMessageText plan h place i t → IsMessageText plan h place i u → t ≡ u
@@ -68,7 +68,7 @@ one_message_text plan h place i t u (inr a) (inr b) = a.1 ∙ sym b.1
 
 one_frame_report : (plan : Plan) (before : List Seen) (f : Frame) (packet : Option Packet) (t u : List ℕ)
     → IsFrameReport plan before f packet t → IsFrameReport plan before f packet u → t ≡ u
-one_frame_report plan before f None t u a b = one_group_report plan (group_of plan f) f.ident f.payload.items t u a b
+one_frame_report plan before f None t u a b = one_group_report plan (planned_group plan f) f.ident f.payload.items t u a b
 one_frame_report plan before f (Some p) t u a b =
     one_message_text plan (heard_before before f.ident ++ p ∷ []) (length (heard_before before f.ident)) f.ident t u a b
 

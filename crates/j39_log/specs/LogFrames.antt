@@ -20,8 +20,8 @@ abbrev pub planned : Plan → ℕ → ℕ → Option ℕ
 planned plan pgn bytes = position (is_planned_as pgn bytes) plan.groups.items
 
 -- the first group that is planned as the frame is sent
-abbrev pub group_of : Plan → Frame → Option ℕ
-group_of plan f = planned plan (pgn_of f.ident) (length f.payload.items)
+abbrev pub planned_group : Plan → Frame → Option ℕ
+planned_group plan f = planned plan (pgn_of f.ident) (length f.payload.items)
 
 -- an announcement to all goes to the global address, and one to a unit to another address
 abbrev pub IsSentTo : Packet → ℕ → Type 0
@@ -37,5 +37,5 @@ IsPacket f p =
 
 -- the transport packet that is heard of a frame; of a frame that is planned as a group none is
 abbrev pub IsHeardAs : Plan → Frame → Option Packet → Type 0
-IsHeardAs plan f (Some p) = (group_of plan f ≡ None) × IsPacket f p
-IsHeardAs plan f None = (group_of plan f ≢ None) ⊎ ((p : Packet) → ¬ IsPacket f p)
+IsHeardAs plan f (Some p) = (planned_group plan f ≡ None) × IsPacket f p
+IsHeardAs plan f None = (planned_group plan f ≢ None) ⊎ ((p : Packet) → ¬ IsPacket f p)

@@ -20,16 +20,16 @@ unit_text (b ∷ unit) = codes " " ++ (b ∷ unit)
 unfoldable pub value_text : List ℕ → ℤ → List ℕ
 value_text unit v = field_text (codes " value ") (signed_decimal v) ++ unit_text unit
 
-unfoldable pub state_text : List ℕ → State → List ℕ
-state_text unit (Value v) = value_text unit v
-state_text unit (Specific n) = field (codes " specific ") n
-state_text unit (Reserved n) = field (codes " reserved ") n
-state_text unit (Fault n) = field (codes " fault ") n
-state_text unit Absent = codes " absent"
+unfoldable pub signal_state_text : List ℕ → State → List ℕ
+signal_state_text unit (Value v) = value_text unit v
+signal_state_text unit (Specific n) = field (codes " specific ") n
+signal_state_text unit (Reserved n) = field (codes " reserved ") n
+signal_state_text unit (Fault n) = field (codes " fault ") n
+signal_state_text unit Absent = codes " absent"
 
 -- a signal that is in this state
 unfoldable pub signal_line : SignalParts → State → List ℕ
-signal_line s state = codes "  " ++ (s.label.bytes ++ (state_text s.unit.bytes state ++ 10 ∷ []))
+signal_line s state = codes "  " ++ (s.label.bytes ++ (signal_state_text s.unit.bytes state ++ 10 ∷ []))
 
 -- what each signal reads in these bytes
 unfoldable pub signal_lines : List SignalParts → List ℕ → List ℕ
@@ -44,5 +44,5 @@ unfoldable pub group_line : GroupPlan → Ident → List ℕ → List ℕ
 group_line group i bytes =
     codes "group " ++ (group.label.bytes ++ (way_text i ++ (codes " bytes " ++ (encode_upper bytes ++ 10 ∷ []))))
 
-unfoldable pub report : GroupPlan → Ident → List ℕ → List ℕ
-report group i bytes = group_line group i bytes ++ signal_lines group.signals.items bytes
+unfoldable pub group_report : GroupPlan → Ident → List ℕ → List ℕ
+group_report group i bytes = group_line group i bytes ++ signal_lines group.signals.items bytes

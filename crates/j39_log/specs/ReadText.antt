@@ -13,9 +13,9 @@ use Rattle.j39_tp.specs.Carried.{Carried}
 use Rattle.j39_tp.specs.declared.packet.Packet.{Packet}
 use Rattle.j39_text.specs.Labels.{group_label}
 use Rattle.j39_text.specs.Texts.{field}
-use Rattle.j39_log.specs.LogFrames.{IsHeardAs, group_of, planned}
+use Rattle.j39_log.specs.LogFrames.{IsHeardAs, planned_group, planned}
 use Rattle.j39_log.specs.LogPairs.{Seen, heard}
-use Rattle.j39_log.specs.LogReports.{report}
+use Rattle.j39_log.specs.LogReports.{group_report}
 use Rattle.j39_stream.specs.declared.verdict.Verdict.{Verdict}
 use Rattle.j39_stream.specs.declared.verdict.Verdict.TheVariants.{Done, Findings, Refused, Unreadable}
 
@@ -24,7 +24,7 @@ use Rattle.j39_stream.specs.declared.verdict.Verdict.TheVariants.{Done, Findings
 -- the report of these bytes as the group at this place of the plan; nothing where none is planned
 abbrev pub IsGroupReport : Plan → Option ℕ → Ident → List ℕ → List ℕ → Type 0
 IsGroupReport plan None i bytes text = text ≡ []
-IsGroupReport plan (Some g) i bytes text = ValueAt (λ group. text ≡ report group i bytes) plan.groups.items g
+IsGroupReport plan (Some g) i bytes text = ValueAt (λ group. text ≡ group_report group i bytes) plan.groups.items g
 
 -- the list of packets carries no message at this place
 abbrev pub CarriesNone : List Packet → ℕ → Type 0
@@ -42,7 +42,7 @@ heard_before before i = heard i.sa i.ps before
 
 -- what is written at a frame, after these: the report of its group, or of the message that its packet completes
 abbrev pub IsFrameReport : Plan → List Seen → Frame → Option Packet → List ℕ → Type 0
-IsFrameReport plan before f None text = IsGroupReport plan (group_of plan f) f.ident f.payload.items text
+IsFrameReport plan before f None text = IsGroupReport plan (planned_group plan f) f.ident f.payload.items text
 IsFrameReport plan before f (Some p) text =
     IsMessageText plan (heard_before before f.ident ++ p ∷ []) (length (heard_before before f.ident)) f.ident text
 
@@ -117,6 +117,6 @@ IsReadText plan log text Unreadable = ⊥
 -- ---- a law
 
 -- for a plan and a log there is one text, and one verdict
-abbrev pub HasOneText : Type 0
-HasOneText = (plan : Plan) (log text other : List ℕ) (verdict outcome : Verdict)
+abbrev pub LogHasOneText : Type 0
+LogHasOneText = (plan : Plan) (log text other : List ℕ) (verdict outcome : Verdict)
     → IsReadText plan log text verdict → IsReadText plan log other outcome → (text ≡ other) × (verdict ≡ outcome)

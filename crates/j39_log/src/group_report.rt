@@ -1,6 +1,6 @@
 //! The lines that report a group.
 ghost use Rattle.std.specs.Prelude.{◌≡◌, ◌++◌, ◌<◌, length, OnOk};
-ghost use Rattle.j39_log.specs.LogReports.{group_line, report, signal_line, signal_lines, state_text, unit_text, value_text, way_text};
+ghost use Rattle.j39_log.specs.LogReports.{group_line, group_report, signal_line, signal_lines, signal_state_text, unit_text, value_text, way_text};
 
 use j39_id::{Ident, Label};
 use j39_plan::GroupPlan;
@@ -27,9 +27,9 @@ fn write_value(text: &mut TextBuffer, unit: &Label, value: i64) -> Result<(), Al
     write_unit(text, unit)
 }
 
-#[tactic(auto, unfolding(crate::specs::LogReports::state_text))]
+#[tactic(auto, unfolding(crate::specs::LogReports::signal_state_text))]
 fn write_state(text: &mut TextBuffer, unit: &Label, state: State) -> Result<(), AllocError>
-    ensures { OnOk result (text.new ≡ text.old ++ state_text unit.now.bytes state) }
+    ensures { OnOk result (text.new ≡ text.old ++ signal_state_text unit.now.bytes state) }
 {
     match state {
         State::Value(value) => write_value(text, unit, value),
@@ -94,7 +94,7 @@ fn write_group_line(
 }
 
 /// Writes who sent which bytes of a group to whom, and what each of its signals reads.
-#[tactic(auto, unfolding(crate::specs::LogReports::report))]
+#[tactic(auto, unfolding(crate::specs::LogReports::group_report))]
 pub(super) fn write_report(
     text: &mut TextBuffer,
     group: &GroupPlan,
@@ -104,7 +104,7 @@ pub(super) fn write_report(
 ) -> Result<(), AllocError>
     requires signals { layout.now.signals ≡ group.now.signals.items }
     requires bytes { length bytes.now ≡ layout.now.length }
-    ensures { OnOk result (text.new ≡ text.old ++ report group.now ident bytes.now) }
+    ensures { OnOk result (text.new ≡ text.old ++ group_report group.now ident bytes.now) }
 {
     write_group_line(text, group, ident, bytes)?;
     write_signals(text, group.signals.as_slice(), layout, bytes)

@@ -7,7 +7,7 @@ use Rattle.std.proofs.lemmas.Nat.{pow_pos}
 use Rattle.std.proofs.lemmas.Nat.Bits.{bit_at_ones}
 use Rattle.std.proofs.lemmas.List.{get_or-replicate, get_or-set_same, get_or-set_other, get_or-map, length-set, length-map, length-replicate}
 use Rattle.j39_signal.specs.Bits.{bit, number_at, raw_of, all_ones, Put}
-use Rattle.j39_signal.specs.Laid.{Laid, Write, Follows, Chain, last_payload, last_raws, given_up}
+use Rattle.j39_signal.specs.Laid.{Laid, Write, IsWrittenFrom, Chain, last_payload, last_raws, given_up}
 use Rattle.j39_signal.specs.Parts.{SignalParts}
 use Rattle.j39_signal.specs.Places.{LaysOut, SharesBit, width_fits}
 use Rattle.j39_signal.specs.State.{Ranges, ranges_of, state_in, state_of, value_of, IsRawOf}
@@ -52,7 +52,7 @@ some_signal (s ∷ ss) i h = s
 
 -- what a payload holds after a write
 held_after : (bytes : ℕ) (signals : List SignalParts) (raws : List ℕ) (old : List ℕ) (w : Write) → AllPairs (λ s t. ¬ SharesBit s t) signals
-    → Laid bytes signals raws old → Follows signals old w → (i : ℕ) → i < length signals → (d : SignalParts)
+    → Laid bytes signals raws old → IsWrittenFrom signals old w → (i : ℕ) → i < length signals → (d : SignalParts)
     → raw_of w.payload (slice_index_or signals i d) ≡ slice_index (slice_set raws w.place w.raw) i
 held_after bytes signals raws old w apart laid follows i h d =
     let counted = laid.counted in
@@ -72,7 +72,7 @@ held_after bytes signals raws old w apart laid follows i h d =
 
 -- a payload is still laid out after a write
 laid_after : (bytes : ℕ) (signals : List SignalParts) (raws : List ℕ) (old : List ℕ) (w : Write) → AllPairs (λ s t. ¬ SharesBit s t) signals
-    → Laid bytes signals raws old → Follows signals old w → Laid bytes signals (slice_set raws w.place w.raw) w.payload
+    → Laid bytes signals raws old → IsWrittenFrom signals old w → Laid bytes signals (slice_set raws w.place w.raw) w.payload
 laid_after bytes signals raws old w apart laid follows =
     let s : SignalParts = some_signal signals w.place follows.0 in
     let put = (follows.1 s).1 in

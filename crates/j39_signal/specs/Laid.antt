@@ -28,13 +28,13 @@ abbrev pub CanPut : SignalParts → ℕ → Type 0
 CanPut s raw = IsValue s raw ⊎ (raw ≡ all_ones s)
 
 -- the write leads on from this payload
-abbrev pub Follows : List SignalParts → List ℕ → Write → Type 0
-Follows signals old w = (w.place < length signals) × HoldsAt (λ s. CanPut s w.raw × Put s w.raw old w.payload) signals w.place
+abbrev pub IsWrittenFrom : List SignalParts → List ℕ → Write → Type 0
+IsWrittenFrom signals old w = (w.place < length signals) × HoldsAt (λ s. CanPut s w.raw × Put s w.raw old w.payload) signals w.place
 
 -- each write leads on from the payload before it
 abbrev pub Chain : List SignalParts → List ℕ → List Write → Type 0
 Chain signals payload [] = Unit {0}
-Chain signals payload (w ∷ ws) = Follows signals payload w × Chain signals w.payload ws
+Chain signals payload (w ∷ ws) = IsWrittenFrom signals payload w × Chain signals w.payload ws
 
 -- the payload after the last write
 abbrev pub last_payload : List ℕ → List Write → List ℕ

@@ -124,6 +124,6 @@ IsFrameText line text Refused = ⊥
 -- ---- a law
 
 -- for a line there is one text, and one verdict
-abbrev pub HasOneText : Type 0
-HasOneText = (line text other : List ℕ) (verdict outcome : Verdict)
+abbrev pub LineHasOneText : Type 0
+LineHasOneText = (line text other : List ℕ) (verdict outcome : Verdict)
     → IsFrameText line text verdict → IsFrameText line other outcome → (text ≡ other) × (verdict ≡ outcome)

@@ -1,7 +1,7 @@
 use Rattle.std.proofs.Common.{◌≡◌, [], ℕ, Option, Some, None, inl, inr, refl, sym, ◌∙◌, subst}
 use Rattle.std.proofs.lemmas.List.{append-nil}
 use Rattle.std.proofs.lemmas.Result.{IfOk-weaker}
-use Rattle.j39_log.specs.LogFrames.{group_of}
+use Rattle.j39_log.specs.LogFrames.{planned_group}
 use Rattle.j39_log.specs.ReadText.{IsGroupReport}
 use Rattle.j39_log.proofs.FoundGroups.{found_for}
 use Rattle.j39_log.proofs.Outcomes.{both_ok}
@@ -12,9 +12,9 @@ pub returns-in-Some : goal.returns-in-Some
 returns-in-Some c =
     let plan = c.args.plan.now in
     let f = c.args.frame.now in
-    let group : c.place.result ≡ group_of plan f =
+    let group : c.place.result ≡ planned_group plan f =
     found_for plan f c.number.result c.as_slice-bytes.result.now c.place.result (c.number.ensures.value ∙ c.pgn.ensures) c.as_slice-bytes.ensures.value (c.place.ensures plan.groups.items c.requires.index) in
-    let planned : group_of plan f ≡ Some c.in-Some.place = sym group ∙ c.in-Some.is in
+    let planned : planned_group plan f ≡ Some c.in-Some.place = sym group ∙ c.in-Some.is in
     IfOk-weaker c.write_group.result _ _
     (λ _ written. λ seen have ranges. (
       None,
@@ -31,7 +31,7 @@ pub returns-in-Some-transport_packet : goal.returns-in-Some-transport_packet
 returns-in-Some-transport_packet c =
     let plan = c.args.plan.now in
     let f = c.args.frame.now in
-    let group : c.place.result ≡ group_of plan f =
+    let group : c.place.result ≡ planned_group plan f =
     found_for plan f c.number.result c.as_slice-bytes.result.now c.place.result (c.number.ensures.value ∙ c.pgn.ensures) c.as_slice-bytes.ensures.value (c.place.ensures plan.groups.items c.requires.index) in
     both_ok c.write_packet.result _ _ _ c.write_packet.ensures.heard c.write_packet.ensures.message
     (λ heard written. λ seen have ranges.
@@ -49,7 +49,7 @@ pub returns-in-None : goal.returns-in-None
 returns-in-None c = λ seen have ranges.
     let plan = c.args.plan.now in
     let f = c.args.frame.now in
-    let group : c.place.result ≡ group_of plan f =
+    let group : c.place.result ≡ planned_group plan f =
     found_for plan f c.number.result c.as_slice-bytes.result.now c.place.result (c.number.ensures.value ∙ c.pgn.ensures) c.as_slice-bytes.ensures.value (c.place.ensures plan.groups.items c.requires.index) in (
       None,
       [],

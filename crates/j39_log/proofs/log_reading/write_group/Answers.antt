@@ -1,7 +1,7 @@
 use Rattle.std.proofs.Common.{length, sym, ap, ◌∙◌}
 use Rattle.std.proofs.lemmas.Result.{IfOk-weaker}
 use Rattle.j39_signal.specs.LayoutParts.{LayoutParts}
-use Rattle.j39_log.specs.LogReports.{report}
+use Rattle.j39_log.specs.LogReports.{group_report}
 use Rattle.j39_log.proofs.FoundGroups.{laid_there, planned_there, report_there}
 use Rattle.j39_log.proofs.log_reading.write_group.Goals as goal
 
@@ -22,7 +22,7 @@ returns c =
     let found = planned_there c.args.plan.now c.requires.planned.0 (length c.args.bytes.now) c.args.place c.index.result.now c.requires.planned.1 c.index.ensures in
     IfOk-weaker c.write_report.result _ _
     (λ _ written. (
-      report c.index.result.now c.args.ident c.args.bytes.now,
+      group_report c.index.result.now c.args.ident c.args.bytes.now,
       report_there c.args.plan.now c.args.place c.index.result.now c.args.ident c.args.bytes.now found.0 c.index.ensures,
       written,
     ))
