@@ -1,18 +1,19 @@
 #!/usr/bin/python3
 """Writes a start-up schedule of a plan: all units are switched on in an order, and every claim is delivered.
 
-The program is asked what the units answer: a schedule is run, and each frame that it sends is a claim that all others have
-still to hear. The schedule that is written ends settled, and a run of it shows which addresses the units hold then.
+What the units answer is played here by the standard's rule of address claims. The program then runs the schedule: it is written
+only where nothing in it is refused and it ends settled, and that run shows which addresses the units hold then.
 """
 
 import argparse
 import sys
 import tempfile
+import tomllib
 
 import program
 
-# More rounds of deliveries than any plan takes in which claims come to an end.
-ROUNDS = 1000
+NULL_ADDRESS = 254
+POOL = range(128, 248)
 
 
 class Refused(Exception):
@@ -41,36 +42,71 @@ def units_of(plan):
     return [line.split()[1] for line in answer_of(plan, []) if line.startswith("unit ")]
 
 
-def started(plan, order):
-    """The steps that switch the units on, and which unit sends which NAME."""
-    steps = [f"up {unit}" for unit in order]
-    names = [payload for _, payload in frames_of(answer_of(plan, steps))]
-    return steps, dict(zip(names, order))
+class Unit:
+    """A unit that is on: what it has claimed, and what it has heard of others."""
+
+    def __init__(self, frame, is_upward, kept):
+        self.name, self.address = claim_of(frame)
+        self.is_upward, self.kept, self.notes = is_upward, kept, {}
+
+    def hear(self, name, address):
+        """Hears a claim; the address that it claims then itself, or None."""
+        self.notes.pop(name, None)
+        if address != NULL_ADDRESS:
+            self.notes[name] = address
+        if address != self.address or address == NULL_ADDRESS:
+            return None
+        if name < self.name:
+            self.address = self.another()
+        return self.address
+
+    def another(self):
+        """The address that it moves to, the null address where there is none."""
+        taken = self.kept.union(self.notes.values())
+        free = [address for address in POOL if address not in taken]
+        if not self.name >> 63 or not free:
+            return NULL_ADDRESS
+        return next((address for address in free if self.is_upward and address > self.address), free[0])
 
 
-def deliveries(order, senders, frames):
-    """The steps by which all others hear these claims, one claim after another."""
-    return [
-        f"give {senders[name]} {hearer}"
-        for _, name in frames
-        for hearer in order
-        if hearer != senders[name]
-    ]
+def claim_of(frame):
+    """The NAME and the address that a frame claims."""
+    identifier, payload = frame
+    return int.from_bytes(bytes.fromhex(payload), "little"), int(identifier[-2:], 16)
+
+
+def units_on(plan, order):
+    """The units, once they are switched on in this order."""
+    with open(plan, "rb") as file:
+        tree = tomllib.load(file)
+    ways = {unit["label"]: unit.get("chooser") == "upward" for unit in tree.get("unit", [])}
+    frames = frames_of(answer_of(plan, [f"up {unit}" for unit in order]))
+    kept = frozenset(tree.get("keep_free", []))
+    return {label: Unit(frame, ways[label], kept) for label, frame in zip(order, frames)}
 
 
 def start_up(plan, order):
     """The steps of a start-up in this order, and what the program answers to them."""
-    steps, senders = started(plan, order)
-    steps += [f"give {later} {earlier}" for at, later in enumerate(order) for earlier in order[:at]]
-    heard = len(order)
-    for _ in range(ROUNDS):
-        lines = answer_of(plan, steps)
-        frames = frames_of(lines)
-        if len(frames) == heard:
-            return steps, lines
-        steps += deliveries(order, senders, frames[heard:])
-        heard = len(frames)
-    raise Refused(f"claims go on after {ROUNDS} rounds")
+    units = units_on(plan, order)
+    steps = [f"up {label}" for label in order]
+    # Who is to hear what from whom: first the earlier units each later one's claim.
+    claims = [
+        (later, units[later].name, units[later].address, order[:at]) for at, later in enumerate(order)
+    ]
+    while claims:
+        answers = []
+        for sender, name, address, hearers in claims:
+            for hearer in hearers:
+                steps.append(f"give {sender} {hearer}")
+                answer = units[hearer].hear(name, address)
+                if answer is not None:
+                    others = [label for label in order if label != hearer]
+                    answers.append((hearer, units[hearer].name, answer, others))
+        claims = answers
+    lines = answer_of(plan, steps)
+    if lines[-1] != "settled":
+        raise Refused("claims are left undelivered")
+    return steps, lines
 
 
 def ordered(units, first):

@@ -5,7 +5,7 @@ import unittest
 import program
 from tests.support import InFolder, example, examples, run
 
-UNIT = '[[unit]]\nlabel = "U{0}"\naddress = {1}\nname = {{ identity = {0}, arbitrary = {2} }}\n'
+UNIT = '[[unit]]\nlabel = "U{0}"\naddress = 200\nchooser = "{1}"\nname = {{ identity = {0}, arbitrary = true }}\n'
 
 
 class Startup(InFolder):
@@ -37,9 +37,10 @@ class Startup(InFolder):
         self.assertEqual(schedule[1:], ["up B", "up A", "give A B", "give B A"])
 
     def test_units_that_all_want_one_address(self):
-        plan = "version = 1\n" + "".join(UNIT.format(number, 200, "true") for number in range(1, 7))
-        _, shown = self.ends(self.write("plan.toml", plan))
-        self.assertEqual(len({line.split()[-1] for line in shown[:-1]}), 6)
+        for chooser, addresses in (("lowest", [200, *range(128, 133)]), ("upward", [*range(200, 206)])):
+            plan = "version = 1\n" + "".join(UNIT.format(number, chooser) for number in range(1, 7))
+            _, shown = self.ends(self.write("plan.toml", plan))
+            self.assertEqual([int(line.split()[-1]) for line in shown[:-1]], addresses)
 
     def test_a_plan_without_units(self):
         schedule, shown = self.ends(self.write("plan.toml", "version = 1\n"))
