@@ -10,7 +10,7 @@ use Rattle.std.specs.Str.{all_ascii_digits}
 use Rattle.std.specs.Str.Parse.{AllDigits, digits_value}
 use Rattle.j39_schedule.specs.Schedule.{is_number}
 
-same_test : (ds : List ℕ) → list_all is_ascii_digit ds ≡ all_ascii_digits ds
+pub same_test : (ds : List ℕ) → list_all is_ascii_digit ds ≡ all_ascii_digits ds
 same_test [] = refl
 same_test (c ∷ ds) = ap (λ b. is_ascii_digit c && b) (same_test ds)
 

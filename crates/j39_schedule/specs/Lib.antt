@@ -1,2 +1,4 @@
 pub mod Schedule
 pub mod Scheduling
+pub mod StepLines
+pub mod inside

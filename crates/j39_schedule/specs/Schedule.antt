@@ -15,8 +15,6 @@ use Rattle.j39_plan.specs.declared.steps.Step.TheVariants.{Up, Down, Give, Ask, 
 use Rattle.j39_id.specs.Lines.{Line, Long, Short, lines}
 use Rattle.j39_schedule.specs.declared.line_fault.LineFault.{LineFault}
 use Rattle.j39_schedule.specs.declared.line_fault.LineFault.TheVariants.{LongLine, UnknownWord, WordCount, UnknownLabel, BadNumber, BadHex}
-use Rattle.j39_schedule.specs.declared.order_word.OrderWord.{OrderWord}
-use Rattle.j39_schedule.specs.declared.order_word.OrderWord.TheVariants as words
 
 -- ---- the words of a line
 
@@ -45,23 +43,6 @@ Reading = Result (Option Ordered) LineFault
 
 abbrev pub read_as : Option Step → Reading
 read_as order = Ok (option_map as_ordered order)
-
--- the words that orders begin with
-abbrev pub word_text : OrderWord → List ℕ
-word_text words.Up = codes "up"
-word_text words.Down = codes "down"
-word_text words.Give = codes "give"
-word_text words.Ask = codes "ask"
-word_text words.Begin = codes "begin"
-word_text words.Emit = codes "emit"
-word_text words.Take = codes "take"
-word_text words.Lose = codes "lose"
-word_text words.Late = codes "late"
-word_text words.Rest = codes "rest"
-
-abbrev pub order_words : List OrderWord
-order_words =
-    words.Up ∷ words.Down ∷ words.Give ∷ words.Ask ∷ words.Begin ∷ words.Emit ∷ words.Take ∷ words.Lose ∷ words.Late ∷ words.Rest ∷ []
 
 -- the unit of a label, by its place
 unfoldable pub unit_named : Plan → List ℕ → Option ℕ
@@ -95,20 +76,40 @@ with_bytes f (Err e) = Err BadHex
 abbrev pub with_flow : Plan → List ℕ → List ℕ → Reading
 with_flow plan number hex = option_map_or (λ n. with_bytes (flow_place plan n) (decode_of hex)) (number_of number) (Err BadNumber)
 
--- what each word orders with the values that it takes
-abbrev pub order_of : Plan → OrderWord → List (List ℕ) → Reading
-order_of plan words.Up (a ∷ []) = with_unit plan a Up
-order_of plan words.Down (a ∷ []) = with_unit plan a Down
-order_of plan words.Give (a ∷ b ∷ []) = with_units plan a b Give
-order_of plan words.Ask (a ∷ []) = with_unit plan a Ask
-order_of plan words.Begin (n ∷ hex ∷ []) = with_flow plan n hex
-order_of plan words.Emit (a ∷ []) = with_unit plan a Emit
-order_of plan words.Take (a ∷ b ∷ []) = with_units plan a b Take
-order_of plan words.Lose (a ∷ b ∷ []) = with_units plan a b Lose
-order_of plan words.Late (a ∷ []) = with_unit plan a LateSender
-order_of plan words.Late (a ∷ b ∷ []) = with_units plan a b LateReceiver
-order_of plan words.Rest (a ∷ []) = with_unit plan a Rest
-order_of plan word values = Err WordCount
+-- what stands behind the word of an order, and what is ordered then
+pub data Order : Type 0 where
+  of_unit : (ℕ → Step) → Order
+  of_units : (ℕ → ℕ → Step) → Order
+  of_unit_or_units : (ℕ → Step) → (ℕ → ℕ → Step) → Order
+  of_message : Order
+
+-- the orders, each with its word
+abbrev pub orders : List (List ℕ × Order)
+orders =
+    (codes "up", of_unit Up)
+    ∷ (codes "down", of_unit Down)
+    ∷ (codes "give", of_units Give)
+    ∷ (codes "ask", of_unit Ask)
+    ∷ (codes "begin", of_message)
+    ∷ (codes "emit", of_unit Emit)
+    ∷ (codes "take", of_units Take)
+    ∷ (codes "lose", of_units Lose)
+    ∷ (codes "late", of_unit_or_units LateSender LateReceiver)
+    ∷ (codes "rest", of_unit Rest)
+    ∷ []
+
+-- the order that begins with a word
+unfoldable pub order_named : List ℕ → Option Order
+order_named word = option_map (λ (named : List ℕ × Order). named.1) (find (λ (named : List ℕ × Order). bytes_eq named.0 word) orders)
+
+-- an order with the values behind its word
+abbrev pub order_of : Plan → Order → List (List ℕ) → Reading
+order_of plan (of_unit step) (a ∷ []) = with_unit plan a step
+order_of plan (of_units step) (a ∷ b ∷ []) = with_units plan a b step
+order_of plan (of_unit_or_units one two) (a ∷ []) = with_unit plan a one
+order_of plan (of_unit_or_units one two) (a ∷ b ∷ []) = with_units plan a b two
+order_of plan of_message (n ∷ hex ∷ []) = with_flow plan n hex
+order_of plan order values = Err WordCount
 
 -- a word that begins with a number sign makes its line a comment
 abbrev pub begins_comment : List ℕ → Bool
@@ -118,7 +119,7 @@ unfoldable pub words_order : Plan → List (List ℕ) → Reading
 words_order plan [] = Ok None
 words_order plan (word ∷ values) =
     if begins_comment word then Ok None
-    else option_map_or (λ w. order_of plan w values) (find (λ w. bytes_eq (word_text w) word) order_words) (Err UnknownWord)
+    else option_map_or (λ order. order_of plan order values) (order_named word) (Err UnknownWord)
 
 -- what a line orders
 unfoldable pub line_order : Plan → Line → Reading

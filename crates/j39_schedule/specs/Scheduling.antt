@@ -1,19 +1,10 @@
 -- What the reader of schedules gives.
-use Rattle.std.specs.Prelude.{◌≡◌, ⊤, ℕ, List, [], ◌∷◌, ◌++◌, map, Option, Some, None, Result, Ok, Err}
+use Rattle.std.specs.Prelude.{◌≡◌, ⊤, List, ◌∷◌, ◌++◌, map, Option, Some, None, Result, Ok, Err}
 use Rattle.j39_plan.specs.declared.steps.Step.{Step}
 use Rattle.j39_schedule.specs.Schedule.{Reading, read_as}
 use Rattle.j39_schedule.specs.declared.line_fault.LineFault.{LineFault}
 use Rattle.j39_schedule.specs.declared.unread.Unread.{Unread}
 use Rattle.j39_schedule.specs.declared.unread.Unread.TheVariants as unread
-use Rattle.j39_schedule.specs.declared.values.Values.{Values}
-use Rattle.j39_schedule.specs.declared.values.Values.TheVariants as values
-
--- the values behind a word are these
-abbrev pub AreValues : List (List ℕ) → Values → Type 0
-AreValues words values.None = words ≡ []
-AreValues words (values.One a) = words ≡ a.now ∷ []
-AreValues words (values.Two a b) = words ≡ a.now ∷ b.now ∷ []
-AreValues words values.More = (a b c : List ℕ) × (more : List (List ℕ)) × (words ≡ a ∷ b ∷ c ∷ more)
 
 -- a line is read so; where memory was refused, nothing is said of it
 abbrev pub IsReadAs : Reading → Result (Option Step) Unread → Type 0

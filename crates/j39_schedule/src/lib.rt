@@ -1,15 +1,19 @@
-//! Schedules: files of orders, one a line.
+//! Schedules: files of orders, one a line; how they are read, and how steps are written as one.
 #![tactic(auto)]
 
 mod beginning;
+mod laws;
 mod line_fault;
 mod line_words;
 mod lines;
 mod order_line;
 mod order_word;
 mod schedule;
+mod step_lines;
 mod unread;
 mod values;
 
+pub use laws::written_steps_read_back;
 pub use line_fault::LineFault;
 pub use schedule::{Schedule, read_schedule};
+pub use step_lines::write_steps;

@@ -4,6 +4,7 @@ ghost use Rattle.std.specs.Str.{bytes_eq};
 ghost use Rattle.j39_id.specs.Lines.{line_of};
 ghost use Rattle.j39_schedule.specs.Schedule.{line_order, order_of, unit_named, words_of};
 ghost use Rattle.j39_schedule.specs.Scheduling.{IsReadAs};
+ghost use Rattle.j39_schedule.specs.inside.OrderWords.{order_word};
 
 use crate::beginning::begin;
 use crate::line_fault::LineFault;
@@ -44,7 +45,7 @@ fn order_of(
     word: OrderWord,
     values: &[u8],
 ) -> Result<Option<Step>, Unread>
-    ensures { IsReadAs (order_of plan.now word (words_of values.now)) result }
+    ensures { IsReadAs (order_of plan.now (order_word word) (words_of values.now)) result }
 {
     match (word, values_of(values)) {
         (OrderWord::Up, Values::One(a)) => Ok(Some(Step::Up(unit(plan, a)?))),

@@ -1,8 +1,9 @@
 //! The words that orders begin with.
-ghost use Rattle.std.specs.Prelude.{◌≡◌};
+ghost use Rattle.std.specs.Prelude.{◌≡◌, option_map};
 ghost use Rattle.std.specs.List.{find};
 ghost use Rattle.std.specs.Str.{bytes_eq};
-ghost use Rattle.j39_schedule.specs.Schedule.{order_words, word_text};
+ghost use Rattle.j39_schedule.specs.Schedule.{order_named};
+ghost use Rattle.j39_schedule.specs.inside.OrderWords.{order_word, word_text};
 
 /// A word that an order begins with.
 #[derive(Clone, Copy, Debug, PartialEq, Eq)]
@@ -34,8 +35,9 @@ const ORDER_WORDS: [OrderWord; 10] = [
 
 impl OrderWord {
     /// The order word that is spelled so.
+    #[tactic(auto, using(crate::proofs::OrderNames::word_of_order))]
     pub fn spelled(text: &[u8]) -> Option<Self>
-        ensures { result ≡ find (λ w. bytes_eq (word_text w) text.now) order_words }
+        ensures { option_map order_word result ≡ order_named text.now }
     {
         first_spelled(&ORDER_WORDS, text)
     }

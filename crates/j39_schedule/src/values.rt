@@ -1,6 +1,6 @@
 //! The values behind the word of an order.
 ghost use Rattle.j39_schedule.specs.Schedule.{words_of};
-ghost use Rattle.j39_schedule.specs.Scheduling.{AreValues};
+ghost use Rattle.j39_schedule.specs.inside.WordValues.{AreValues};
 
 use crate::line_words::next_word;
 

@@ -1,0 +1,37 @@
+-- The words of the code, as the orders of a schedule.
+use Rattle.std.specs.Prelude.{ℕ, List, [], ◌∷◌, codes}
+use Rattle.j39_plan.specs.declared.steps.Step.TheVariants.{Up, Down, Give, Ask, Emit, Take, Lose, LateSender, LateReceiver, Rest}
+use Rattle.j39_schedule.specs.Schedule.{Order, of_unit, of_units, of_unit_or_units, of_message}
+use Rattle.j39_schedule.specs.declared.order_word.OrderWord.{OrderWord}
+use Rattle.j39_schedule.specs.declared.order_word.OrderWord.TheVariants as words
+
+-- how a word is spelled
+abbrev pub word_text : OrderWord → List ℕ
+word_text words.Up = codes "up"
+word_text words.Down = codes "down"
+word_text words.Give = codes "give"
+word_text words.Ask = codes "ask"
+word_text words.Begin = codes "begin"
+word_text words.Emit = codes "emit"
+word_text words.Take = codes "take"
+word_text words.Lose = codes "lose"
+word_text words.Late = codes "late"
+word_text words.Rest = codes "rest"
+
+-- the order that it begins
+abbrev pub order_word : OrderWord → Order
+order_word words.Up = of_unit Up
+order_word words.Down = of_unit Down
+order_word words.Give = of_units Give
+order_word words.Ask = of_unit Ask
+order_word words.Begin = of_message
+order_word words.Emit = of_unit Emit
+order_word words.Take = of_units Take
+order_word words.Lose = of_units Lose
+order_word words.Late = of_unit_or_units LateSender LateReceiver
+order_word words.Rest = of_unit Rest
+
+-- all words, in the order of the orders
+abbrev pub order_words : List OrderWord
+order_words =
+    words.Up ∷ words.Down ∷ words.Give ∷ words.Ask ∷ words.Begin ∷ words.Emit ∷ words.Take ∷ words.Lose ∷ words.Late ∷ words.Rest ∷ []

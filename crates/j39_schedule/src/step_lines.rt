@@ -1,0 +1,70 @@
+//! Writing the steps of a plan as lines of a schedule.
+ghost use Rattle.std.specs.Prelude.{◌≡◌, ◌++◌, OnOk};
+ghost use Rattle.j39_plan.specs.declared.steps.Step.TheVariants.{Begin};
+ghost use Rattle.j39_schedule.specs.StepLines.{step_line, step_lines, step_text, unit_text};
+
+use j39_plan::{Plan, Step};
+use j39_text::{TextBuffer, unit_label, write_units};
+use std::alloc::AllocError;
+
+#[tactic(auto, unfolding(crate::specs::StepLines::unit_text))]
+fn write_unit(text: &mut TextBuffer, word: &str, plan: &Plan, unit: usize) -> Result<(), AllocError>
+    ensures { OnOk result (text.new ≡ text.old ++ unit_text word.now plan.now unit) }
+{
+    text.word(word)?;
+    text.word(unit_label(plan, unit))
+}
+
+#[tactic(auto, unfolding(crate::specs::StepLines::step_text))]
+fn write_begin(
+    text: &mut TextBuffer,
+    plan: &Plan,
+    flow: usize,
+    bytes: &Vec<u8>,
+) -> Result<(), AllocError>
+    ensures { OnOk result (text.new ≡ text.old ++ step_text plan.now (Begin flow bytes.now)) }
+{
+    text.place("begin ", flow)?;
+    text.word(" ")?;
+    text.hex(bytes.as_slice())
+}
+
+#[tactic(auto, unfolding(crate::specs::StepLines::step_text))]
+fn write_step(text: &mut TextBuffer, plan: &Plan, step: &Step) -> Result<(), AllocError>
+    ensures { OnOk result (text.new ≡ text.old ++ step_text plan.now step.now) }
+{
+    match step {
+        Step::Up(unit) => write_unit(text, "up ", plan, *unit),
+        Step::Down(unit) => write_unit(text, "down ", plan, *unit),
+        Step::Give(from, to) => write_units(text, "give ", plan, *from, *to),
+        Step::Ask(unit) => write_unit(text, "ask ", plan, *unit),
+        Step::Begin(flow, bytes) => write_begin(text, plan, *flow, bytes),
+        Step::Emit(unit) => write_unit(text, "emit ", plan, *unit),
+        Step::Take(from, to) => write_units(text, "take ", plan, *from, *to),
+        Step::Lose(from, to) => write_units(text, "lose ", plan, *from, *to),
+        Step::LateSender(unit) => write_unit(text, "late ", plan, *unit),
+        Step::LateReceiver(sender, receiver) => {
+            write_units(text, "late ", plan, *sender, *receiver)
+        }
+        Step::Rest(unit) => write_unit(text, "rest ", plan, *unit),
+    }
+}
+
+#[tactic(auto, unfolding(crate::specs::StepLines::step_line))]
+fn write_line(text: &mut TextBuffer, plan: &Plan, step: &Step) -> Result<(), AllocError>
+    ensures { OnOk result (text.new ≡ text.old ++ step_line plan.now step.now) }
+{
+    text.word("  ")?;
+    write_step(text, plan, step)?;
+    text.end_line()
+}
+
+/// Writes the steps of a plan as lines of a schedule, each after two spaces.
+pub fn write_steps(text: &mut TextBuffer, plan: &Plan, steps: &[Step]) -> Result<(), AllocError>
+    ensures { OnOk result (text.new ≡ text.old ++ step_lines plan.now steps.now) }
+{
+    for step in steps {
+        write_line(text, plan, step)?;
+    }
+    Ok(())
+}
