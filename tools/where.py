@@ -185,19 +185,42 @@ def finding(plan, line):
     return of_two(plan, number, words)
 
 
+def parted(answer):
+    """The answer's lines, each with those below that belong to it: they begin with two spaces."""
+    parts = []
+    for line in answer.splitlines():
+        if line.startswith("  ") and parts:
+            parts[-1].append(line)
+        else:
+            parts.append([line])
+    return parts
+
+
+def compiler_message(file, line, text, below):
+    """As a compiler says it, with the lines that belong to it below."""
+    return [f"{file}:{line}: {text}", *below]
+
+
+def github_annotation(file, line, text, below):
+    """As an annotation of GitHub's CI, which holds the lines that belong to it."""
+    whole = "\n".join([text, *below]).replace("%", "%25").replace("\n", "%0A")
+    return [f"::error file={file},line={line}::{whole}"]
+
+
 def annotate(name, data, answer, form):
     """The answer's lines; those that say what is wrong with their place in the file."""
     plan = Plan(data.decode(errors="replace"))
-    for line in answer.splitlines():
+    for line, *below in parted(answer):
         if line.startswith("refused "):
             at, hint = refusal(plan, data, line)
         elif re.match(r"F\d+ ", line):
             at, hint = finding(plan, line)
         else:
             yield line
+            yield from below
             continue
         shown = f"{line}  ({hint})" if hint else line
-        yield form.format(file=name, line=at, text=shown)
+        yield from form(name, at, shown, below)
 
 
 def main(words=None):
@@ -210,7 +233,7 @@ def main(words=None):
     if status in (1, 2) and answer:
         with open(given.plan, "rb") as file:
             data = file.read()
-        form = "::error file={file},line={line}::{text}" if given.github else "{file}:{line}: {text}"
+        form = github_annotation if given.github else compiler_message
         answer = "".join(f"{line}\n" for line in annotate(given.plan, data, answer, form))
     sys.stdout.write(answer)
     return status

@@ -53,7 +53,18 @@ class Where(InFolder):
     def test_the_second_of_two_is_named(self):
         plan = "version = 1\n\n" + UNIT.format("A", 0, 1) + "\n" + UNIT.format("B", 0, 2)
         hint = "10: F2 SameFixedAddress A B 0  (key address: the same as of A at line 5)"
-        self.assertEqual(self.answer(plan), (1, [hint, "findings 1"]))
+        steps = ["  up B", "  up A", "  give A B", "  give B A"]
+        self.assertEqual(self.answer(plan), (1, [hint, *steps, "findings 1"]))
+
+    def test_an_annotation_holds_the_steps_of_its_finding(self):
+        units = [UNIT.format("A", 0, 1), UNIT.format("B", 0, 2), UNIT.format("C", 1, 1)]
+        status, answer, _ = run("where.py", "--github", name := self.write("plan.toml", "version = 1\n\n" + "\n".join(units)))
+        self.assertEqual(status, 1)
+        first, second, count = answer.splitlines()
+        self.assertTrue(first.startswith(f"::error file={name},line=16::F1 SameName A C  ("), first)
+        self.assertTrue(second.startswith(f"::error file={name},line=10::F2 SameFixedAddress A B 0  ("), second)
+        self.assertTrue(second.endswith(")%0A  up B%0A  up A%0A  give A B%0A  give B A"), second)
+        self.assertEqual(count, "findings 2")
 
     def test_signals_that_overlap(self):
         plan = (
@@ -124,13 +135,13 @@ class Where(InFolder):
                 text = "".join(lines[:at] + [instead] + lines[at + 1:])
                 name = self.write("plan.toml", text)
                 status, answer = program.call(["check", name])
-                shown = list(where.annotate("P", text.encode(), answer, "{file}:{line}: {text}"))
+                shown = list(where.annotate("P", text.encode(), answer, where.compiler_message))
                 self.assertEqual([part.split(": ", 1)[-1].split("  (")[0] for part in shown], answer.splitlines())
                 for part in shown:
                     if found := re.match(r"P:(\d+): ", part):
                         self.assertLessEqual(int(found.group(1)), text.count("\n") + 1)
                     else:
-                        self.assertRegex(part, r"ok |findings ")
+                        self.assertRegex(part, r"ok |findings |  \w")
 
     def test_a_program_that_is_not_there(self):
         environment = {**os.environ, "J39PLAN": self.path("j39plan")}

@@ -1,1 +1,2 @@
 pub mod FindingLists
+pub mod WrittenRuns

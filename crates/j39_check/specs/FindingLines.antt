@@ -1,10 +1,14 @@
--- The lines of findings, with the labels of what they name by places.
-use Rattle.std.specs.Prelude.{ℕ, List, [], ◌∷◌, ◌++◌, codes}
+-- The lines of findings, with the labels of what they name by places, and the runs that show conflicts.
+use Rattle.std.specs.Prelude.{◌≡◌, ℕ, List, [], ◌∷◌, ◌++◌, map, codes, Some, unwrap_or}
+use Rattle.std.specs.Option.{option_map_or}
+use Rattle.j39_plan.specs.ConflictRuns.{conflict_run}
 use Rattle.j39_plan.specs.declared.plan.Plan.{Plan}
 use Rattle.j39_plan.specs.declared.checking.finding.Finding.{Finding}
 use Rattle.j39_plan.specs.declared.checking.finding.Finding.TheVariants.{SameName, SameFixedAddress, TooFewAddresses, BadPgn, SamePgn, SignalWidth, SignalOutside, SignalOverlap, FlowToOne, FlowToSelf, FlowRepeated}
 use Rattle.j39_text.specs.Labels.{group_label, group_pgn, group_text, signal_bits, signal_end, signal_label, unit_address, units_text}
 use Rattle.j39_text.specs.Texts.{field, place_field}
+use Rattle.j39_schedule.specs.Schedule.{read_as, readings_of}
+use Rattle.j39_schedule.specs.StepLines.{step_lines}
 
 -- ---- a finding
 
@@ -30,6 +34,21 @@ finding_text plan (FlowRepeated f h) = place_field (codes "F11 FlowRepeated ") f
 unfoldable pub finding_line : Plan → Finding → List ℕ
 finding_line plan finding = finding_text plan finding ++ 10 ∷ []
 
+-- the steps of the run that shows the conflict of which a finding tells, and nothing for other findings
+unfoldable pub run_lines : Plan → Finding → List ℕ
+run_lines plan finding = option_map_or (step_lines plan) (conflict_run plan finding) []
+
+-- a finding, and the run that shows it
+unfoldable pub finding_report : Plan → Finding → List ℕ
+finding_report plan finding = finding_line plan finding ++ run_lines plan finding
+
 unfoldable pub finding_lines : Plan → List Finding → List ℕ
 finding_lines plan [] = []
-finding_lines plan (finding ∷ findings) = finding_line plan finding ++ finding_lines plan findings
+finding_lines plan (finding ∷ findings) = finding_report plan finding ++ finding_lines plan findings
+
+-- ---- the law
+
+-- the lines behind a finding are a schedule of the steps of its run, one a line
+abbrev pub RunReadsBack : Type 0
+RunReadsBack = (plan : Plan) (finding : Finding)
+    → readings_of plan (run_lines plan finding) ≡ map (λ step. read_as (Some step)) (unwrap_or (conflict_run plan finding) [])

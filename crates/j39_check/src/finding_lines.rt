@@ -2,14 +2,15 @@
 ghost use Rattle.std.specs.Prelude.{◌≡◌, ◌++◌, OnOk};
 ghost use Rattle.j39_plan.specs.declared.checking.finding.Finding.TheVariants.{SameFixedAddress, BadPgn, SamePgn, SignalWidth, SignalOutside, SignalOverlap, FlowRepeated};
 ghost use Rattle.j39_text.specs.Labels.{group_text, units_text};
-ghost use Rattle.j39_check.specs.FindingLines.{finding_line, finding_lines, finding_text, signal_text};
+ghost use Rattle.j39_check.specs.FindingLines.{finding_line, finding_lines, finding_report, finding_text, run_lines, signal_text};
 
-use j39_plan::{Finding, Plan};
+use j39_plan::{Finding, Plan, bad_run};
+use j39_schedule::write_steps;
 use j39_text::{
     TextBuffer, group_label, group_pgn, signal_bits, signal_end, signal_label, unit_address,
     write_group, write_units,
 };
-use std::alloc::AllocError;
+use std::alloc::{AllocError, Global};
 
 #[tactic(auto, unfolding(crate::specs::FindingLines::signal_text))]
 fn write_signal(
@@ -143,8 +144,38 @@ fn write_line(text: &mut TextBuffer, plan: &Plan, finding: Finding) -> Result<()
     text.end_line()
 }
 
-/// Writes a line for each finding.
+/// Writes the steps of the run that shows the finding's conflict, where it tells of one.
+#[tactic(auto, unfolding(crate::specs::FindingLines::run_lines))]
+fn write_run(
+    alloc: Global,
+    text: &mut TextBuffer,
+    plan: &Plan,
+    finding: &Finding,
+) -> Result<(), AllocError>
+    ensures { OnOk result (text.new ≡ text.old ++ run_lines plan.now finding.now) }
+{
+    match bad_run(alloc, plan, finding)? {
+        Some(steps) => write_steps(text, plan, &steps),
+        None => Ok(()),
+    }
+}
+
+#[tactic(auto, unfolding(crate::specs::FindingLines::finding_report))]
+fn write_report(
+    alloc: Global,
+    text: &mut TextBuffer,
+    plan: &Plan,
+    finding: &Finding,
+) -> Result<(), AllocError>
+    ensures { OnOk result (text.new ≡ text.old ++ finding_report plan.now finding.now) }
+{
+    write_line(text, plan, *finding)?;
+    write_run(alloc, text, plan, finding)
+}
+
+/// Writes a line for each finding, and behind that of a conflict the steps of the run that shows it.
 pub(super) fn write_lines(
+    alloc: Global,
     text: &mut TextBuffer,
     plan: &Plan,
     findings: &[Finding],
@@ -152,7 +183,7 @@ pub(super) fn write_lines(
     ensures { OnOk result (text.new ≡ text.old ++ finding_lines plan.now findings.now) }
 {
     for finding in findings {
-        write_line(text, plan, *finding)?;
+        write_report(alloc, text, plan, finding)?;
     }
     Ok(())
 }

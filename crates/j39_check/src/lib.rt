@@ -3,6 +3,8 @@
 
 mod check;
 mod finding_lines;
+mod laws;
 mod plan_report;
 
 pub use check::check_text;
+pub use laws::written_runs_read_back;

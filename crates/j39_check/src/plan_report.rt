@@ -21,13 +21,14 @@ fn write_ok(text: &mut TextBuffer, plan: &Plan) -> Result<(), AllocError>
 
 #[tactic(auto, unfolding(crate::specs::CheckText::findings_text))]
 fn write_findings(
+    alloc: Global,
     text: &mut TextBuffer,
     plan: &Plan,
     findings: &[Finding],
 ) -> Result<(), AllocError>
     ensures { OnOk result (text.new ≡ text.old ++ findings_text plan.now findings.now) }
 {
-    write_lines(text, plan, findings)?;
+    write_lines(alloc, text, plan, findings)?;
     text.field("findings ", findings.len())?;
     text.end_line()
 }
@@ -45,7 +46,7 @@ pub(super) fn report(alloc: Global, plan: Plan) -> Result<(TextBuffer, Verdict),
         }
         Err(Refused { plan, cause }) => match cause {
             RefusedCause::Findings(findings) => {
-                write_findings(&mut text, &plan, &findings)?;
+                write_findings(alloc, &mut text, &plan, &findings)?;
                 Ok((text, Verdict::Findings))
             }
             RefusedCause::Memory => Err(AllocError),

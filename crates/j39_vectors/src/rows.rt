@@ -93,7 +93,13 @@ pub const CHECK_OF_A_FINDING: Row = Row {
     command: Command::Check,
     plan: SHARED,
     input: "",
-    text: "F2 SameFixedAddress A B 0\nfindings 1\n",
+    text: "F2 SameFixedAddress A B 0
+  up B
+  up A
+  give A B
+  give B A
+findings 1
+",
     verdict: Verdict::Findings,
 };
 
