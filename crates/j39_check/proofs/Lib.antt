@@ -1,2 +1,3 @@
 pub mod FindingLists
+pub mod OneText
 pub mod WrittenRuns

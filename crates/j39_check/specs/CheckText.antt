@@ -32,3 +32,18 @@ IsReport plan text Unreadable = ⊥
 abbrev pub IsCheckText : List ℕ → List ℕ → Verdict → Type 0
 IsCheckText bytes text verdict =
     ((plan : Plan) × Describes bytes plan × IsReport plan text verdict) ⊎ (IsRefusedText bytes text × (verdict ≡ Unreadable))
+
+-- ---- laws
+
+-- a plan has one report
+abbrev pub HasOneReport : Plan → Type 0
+HasOneReport plan = (text other : List ℕ) (verdict another : Verdict)
+    → IsReport plan text verdict → IsReport plan other another → (text ≡ other) × (verdict ≡ another)
+
+-- a file that is refused has one line
+abbrev pub HasOneRefusal : List ℕ → Type 0
+HasOneRefusal bytes = (text other : List ℕ) → IsRefusedText bytes text → IsRefusedText bytes other → text ≡ other
+
+-- a file that describes a plan isn't refused
+abbrev pub IsNotRefused : List ℕ → Type 0
+IsNotRefused bytes = (plan : Plan) (text : List ℕ) → Describes bytes plan → ¬ IsRefusedText bytes text
