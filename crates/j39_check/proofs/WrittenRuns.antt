@@ -1,5 +1,5 @@
 -- What is written behind a finding is read as the run that shows its conflict.
-use Rattle.std.proofs.Common.{◌≡◌, ℕ, List, [], ◌∷◌, map, Option, Some, None, refl}
+use Rattle.std.proofs.Common.{◌≡◌, ◌≢◌, ℕ, List, [], ◌∷◌, map, Option, Some, None, refl}
 use Rattle.std.proofs.lemmas.List.Elements.{All-cons, All-nil}
 use Rattle.std.proofs.lemmas.Option.{slice_get_within}
 use Rattle.std.specs.List.{All}
@@ -11,10 +11,11 @@ use Rattle.j39_plan.specs.declared.steps.Step.{Step}
 use Rattle.j39_plan.specs.declared.steps.Step.TheVariants.{Up, Give}
 use Rattle.j39_plan.specs.ConflictRuns.{IsConflictRun, conflict_run, conflict_steps}
 use Rattle.j39_plan.proofs.ConflictLaws.{runs_are_exact}
+use Rattle.j39_laws.proofs.Conflicts.ConflictShown.{leaves_without_address}
 use Rattle.j39_schedule.specs.Schedule.{read_as, readings_of}
 use Rattle.j39_schedule.specs.StepLines.{IsStepOf, IsUnit, step_lines}
 use Rattle.j39_schedule.proofs.WrittenSteps.{steps_read_back}
-use Rattle.j39_check.specs.FindingLines.{run_lines}
+use Rattle.j39_check.specs.FindingLines.{RunShowsConflict, ShowsConflict, run_lines}
 
 steps_of_units : (plan : Plan) (u v : ℕ) → IsUnit plan u → IsUnit plan v → All (IsStepOf plan) (conflict_steps u v)
 steps_of_units plan u v first second =
@@ -41,3 +42,20 @@ pub run_reads_back : (plan : Plan) (finding : Finding)
     → readings_of plan (run_lines plan finding) ≡ map (λ step. read_as (Some step)) (unwrap_or (conflict_run plan finding) [])
 unfolding run_lines
 run_reads_back plan finding = reads plan finding (conflict_run plan finding) refl
+
+shown : (plan : Plan) (finding : Finding) (run : Option (List Step)) → conflict_run plan finding ≡ run → conflict_run plan finding ≢ None
+    → (steps : List Step) × ShowsConflict plan finding steps
+shown plan finding None is some = absurd (some is)
+shown plan finding (Some steps) is some =
+    let run = (runs_are_exact plan finding).sound steps is in
+    let reads = run_reads_back plan finding in (
+      steps,
+      record {
+        lines_are = rw is at reads;
+        run = run;
+        shows = leaves_without_address plan finding steps run;
+      },
+    )
+
+pub run_shows_conflict : RunShowsConflict
+run_shows_conflict plan finding tells = shown plan finding (conflict_run plan finding) refl ((runs_are_exact plan finding).complete tells)

@@ -1,7 +1,9 @@
 -- The lines of findings, with the labels of what they name by places, and the runs that show conflicts.
 use Rattle.std.specs.Prelude.{◌≡◌, ℕ, List, [], ◌∷◌, ◌++◌, map, codes, Some, unwrap_or}
 use Rattle.std.specs.Option.{option_map_or}
-use Rattle.j39_plan.specs.ConflictRuns.{conflict_run}
+use Rattle.j39_plan.specs.ConflictRuns.{IsConflictRun, TellsOfConflict, conflict_run}
+use Rattle.j39_plan.specs.declared.steps.Step.{Step}
+use Rattle.j39_world.specs.Conflict.{LeavesWithoutAddress}
 use Rattle.j39_plan.specs.declared.plan.Plan.{Plan}
 use Rattle.j39_plan.specs.declared.checking.finding.Finding.{Finding}
 use Rattle.j39_plan.specs.declared.checking.finding.Finding.TheVariants.{SameName, SameFixedAddress, TooFewAddresses, BadPgn, SamePgn, SignalWidth, SignalOutside, SignalOverlap, FlowToOne, FlowToSelf, FlowRepeated}
@@ -46,9 +48,19 @@ unfoldable pub finding_lines : Plan → List Finding → List ℕ
 finding_lines plan [] = []
 finding_lines plan (finding ∷ findings) = finding_report plan finding ++ finding_lines plan findings
 
--- ---- the law
+-- ---- laws
 
 -- the lines behind a finding are a schedule of the steps of its run, one a line
 abbrev pub RunReadsBack : Type 0
 RunReadsBack = (plan : Plan) (finding : Finding)
     → readings_of plan (run_lines plan finding) ≡ map (λ step. read_as (Some step)) (unwrap_or (conflict_run plan finding) [])
+
+-- the lines behind a finding order these steps, which show its conflict: whoever runs them leaves a unit on and without an address
+pub record ShowsConflict (plan : Plan) (finding : Finding) (steps : List Step) : Type 0 where
+  pub lines_are : readings_of plan (run_lines plan finding) ≡ map (λ step. read_as (Some step)) steps
+  pub run : IsConflictRun plan finding steps
+  pub shows : LeavesWithoutAddress plan steps run.larger
+
+-- they do so for each finding that tells of a conflict, with some steps
+abbrev pub RunShowsConflict : Type 0
+RunShowsConflict = (plan : Plan) (finding : Finding) → TellsOfConflict plan finding → (steps : List Step) × ShowsConflict plan finding steps

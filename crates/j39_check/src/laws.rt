@@ -2,7 +2,7 @@
 ghost use Rattle.std.specs.Prelude.{ℕ, List};
 ghost use Rattle.j39_plan.specs.declared.plan.Plan.{Plan};
 ghost use Rattle.j39_check.specs.CheckText.{HasOneRefusal, HasOneReport, IsNotRefused};
-ghost use Rattle.j39_check.specs.FindingLines.{RunReadsBack};
+ghost use Rattle.j39_check.specs.FindingLines.{RunReadsBack, RunShowsConflict};
 
 /// A plan has one text of check, with one verdict; so has a file that is refused, and no file that describes a plan is refused.
 pub fn check_has_one_text()
@@ -15,4 +15,10 @@ pub fn check_has_one_text()
 /// finding that tells of no conflict.
 pub fn written_runs_read_back()
     ensures { RunReadsBack }
+{}
+
+/// Below each finding of two fixed units that have one address and different NAMEs stands a schedule that can be run, and whoever
+/// runs it meets no refusal and leaves the unit of the larger NAME on and without an address.
+pub fn written_runs_show_the_conflict()
+    ensures { RunShowsConflict }
 {}

@@ -7,4 +7,4 @@ mod laws;
 mod plan_report;
 
 pub use check::check_text;
-pub use laws::{check_has_one_text, written_runs_read_back};
+pub use laws::{check_has_one_text, written_runs_read_back, written_runs_show_the_conflict};
