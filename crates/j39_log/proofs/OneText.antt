@@ -6,6 +6,7 @@ use Rattle.std.proofs.lemmas.Option.{get_or_from_slice_get, slice_get_within}
 use Rattle.j39_id.proofs.LineLaws.{one_spelled, not_both, one_fault}
 use Rattle.j39_id.specs.FrameLine.{Spells, HasLineFault}
 use Rattle.j39_id.specs.Lines.{Line, Short, Long, lines}
+use Rattle.j39_id.specs.Services.{connection_management, data_transfer}
 use Rattle.j39_id.specs.declared.frame.Frame.{Frame}
 use Rattle.j39_id.specs.declared.ident.Ident.{Ident}
 use Rattle.j39_id.specs.declared.line_error.LineError.{LineError}
@@ -29,7 +30,7 @@ some_same x y e = cc
 
 -- ---- a frame
 
-two_services : (n : ℕ) → n ≡ 60416 → n ≡ 60160 → ⊥
+two_services : (n : ℕ) → n ≡ connection_management → n ≡ data_transfer → ⊥
 two_services n a b = omega (arith, a, b)
 
 one_packet : (f : Frame) (p q : Packet) → IsPacket f p → IsPacket f q → p ≡ q

@@ -6,7 +6,8 @@ use Rattle.std.proofs.lemmas.List.Elements.{All-push}
 use Rattle.std.proofs.lemmas.List.Quantifiers.{all_pairs_push}
 use Rattle.j39_signal.specs.Parts.{SignalParts}
 use Rattle.j39_signal.specs.Places.{WidthFits, IsInside, SharesBit, LaysOut}
-use Rattle.j39_signal.specs.Refusals.{HasFault, HasLayoutFault, IsFirst, IsFirstSharer}
+use Rattle.j39_signal.specs.Refusals.{HasLayoutFault, IsFirst, IsFirstSharer}
+use Rattle.j39_signal.specs.inside.NextFault.{HasFault}
 use Rattle.j39_signal.specs.declared.layout_error.LayoutError.{LayoutError}
 use Rattle.j39_signal.specs.declared.layout_error.LayoutError.TheVariants.{Length, Width, Outside, Overlap, Memory}
 

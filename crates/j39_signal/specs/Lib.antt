@@ -1,7 +1,8 @@
 pub mod Bits
+pub mod Laid
 pub mod LayoutParts
 pub mod Parts
 pub mod Places
 pub mod Refusals
 pub mod State
-pub mod Laid
+pub mod inside

@@ -1,5 +1,5 @@
 -- Why signals make no layout: the first fault, by the signals in rising order.
-use Rattle.std.specs.Prelude.{◌≡◌, ℕ, ◌<◌, ◌≤◌, List, length, take, All}
+use Rattle.std.specs.Prelude.{ℕ, ◌<◌, ◌≤◌, List, length, take, All}
 use Rattle.std.specs.List.{HoldsAt}
 use Rattle.j39_id.specs.Limits.{message_bytes}
 use Rattle.j39_signal.specs.Parts.{SignalParts}
@@ -14,14 +14,6 @@ IsFirst bytes signals i P = (i < length signals) × LaysOut bytes (take i signal
 -- the signal at place j is the first of these that shares a bit with s
 abbrev pub IsFirstSharer : SignalParts → List SignalParts → ℕ → Type 0
 IsFirstSharer s before j = (j < length before) × HoldsAt (λ t. SharesBit t s) before j × All (λ t. ¬ SharesBit t s) (take j before)
-
--- the signal, next after these, has this fault, and no earlier one
-abbrev pub HasFault : ℕ → List SignalParts → SignalParts → LayoutError → Type 0
-HasFault bytes before s Length = ⊥
-HasFault bytes before s (Width i) = (i ≡ length before) × ¬ WidthFits s
-HasFault bytes before s (Outside i) = (i ≡ length before) × WidthFits s × ¬ IsInside bytes s
-HasFault bytes before s (Overlap j i) = (i ≡ length before) × WidthFits s × IsInside bytes s × IsFirstSharer s before j
-HasFault bytes before s Memory = ⊥
 
 -- the length is out of range; or a signal is the first with a fault; or there is no fault and memory was refused
 abbrev pub HasLayoutFault : ℕ → List SignalParts → LayoutError → Type 0

@@ -3,8 +3,9 @@ ghost use Rattle.std.specs.Prelude.{◌≡◌, ℕ, ◌<◌, length, replicate, 
 ghost use Rattle.std.specs.List.{HoldsAt};
 ghost use Rattle.j39_signal.specs.Bits.{Put, raw_of, all_ones};
 ghost use Rattle.j39_signal.specs.Places.{WidthFits, IsInside, SharesBit, LaysOut};
-ghost use Rattle.j39_signal.specs.Refusals.{HasFault, HasLayoutFault};
+ghost use Rattle.j39_signal.specs.Refusals.{HasLayoutFault};
 ghost use Rattle.j39_signal.specs.State.{state_of, RefusesValue, WritesValue};
+ghost use Rattle.j39_signal.specs.inside.NextFault.{HasFault};
 
 use crate::{LayoutError, Signal, State, WriteError};
 use j39_id::limits::MESSAGE_BYTES;
