@@ -1,11 +1,11 @@
 -- Laws of frame lines: a line spells at most one frame, none that is refused does, and the canonical text spells its frame.
-use Rattle.std.proofs.Common.{slice_range, ◌≡◌, ℕ, zero, suc, ◌+◌, ◌-◌, ◌<◌, ◌≤◌, ◌^◌, ◌==◌, ◌||◌, true, false, List, [], ◌∷◌, ◌++◌, length, take, drop, get_or, Option, Some, Result, Ok, Err, subst, refl, sym, ap, ◌∙◌, inl, inr, ◌⊎◌, arith}
+use Rattle.std.proofs.Common.{slice_range, ◌≡◌, ℕ, zero, suc, ◌+◌, ◌-◌, ◌<◌, ◌≤◌, ◌^◌, ◌==◌, ◌||◌, true, false, List, [], ◌∷◌, ◌++◌, length, take, drop, get_or, Option, Some, Result, Ok, Err, refl, sym, ap, ◌∙◌, inl, inr, ◌⊎◌, arith}
 use Rattle.std.specs.List.{AllPass, All, position, position_or_len}
 use Rattle.std.specs.Int.{w32, to_be_bytes, from_be_bytes}
-use Rattle.std.specs.Prelude.{nat_lt, IfOk, IfErr, IsErr}
+use Rattle.std.specs.Prelude.{nat_lt, None, IfOk, IfErr}
 use Rattle.std.specs.Option.{unwrap_or}
 use Rattle.std.specs.Result.{result_unwrap_or}
-use Rattle.std.proofs.lemmas.Bool.{cases_order, both_ways, true≢false, or_cases, eqb-true, false_from_ne_true, lt-ltb}
+use Rattle.std.proofs.lemmas.Bool.{cases_order, both_ways, true≢false, or_cases, eqb-true, false_from_ne_true, le-ltb, lt-ltb}
 use Rattle.std.proofs.lemmas.List.{length-append, get_or_append_left, get_or_at, take_at, drop_at, drop-drop, append-nil}
 use Rattle.std.proofs.lemmas.List.Elements.{All-append, All-cons, All-weaker}
 use Rattle.std.proofs.lemmas.Nat.{from_be_bytes-to_be_bytes_4}
@@ -13,7 +13,8 @@ use Rattle.std.proofs.lemmas.List.Sums.{position_or_len_is}
 use Rattle.hex.specs.Hex.{decode_of, decode_sized, encode_upper, upper_digits, is_hex_digit, IsBytes}
 use Rattle.hex.specs.declared.error.FromHexError.{FromHexError}
 use Rattle.hex.proofs.HexLemmas.{decode_sized-ok, decode_sized-twice, decode_of-ok, decode_of-encode_upper, length-encode_with}
-use Rattle.j39_id.specs.FrameLine.{is_separator, IsLastWord, identifier_of, identifier_of_bytes, WordSpells, LineSpells, Spells, canon_text, is_hash, before_hash, after_hash, Refuses, rank, IsFirstFault, HasLineFault}
+use Rattle.j39_id.specs.FrameLine.{is_separator, IsLastWord, identifier_in, identifier_in_bytes, WordSpells, LineSpells, Spells, canon_text, is_hash, before_hash, after_hash, word_faults, IsFirstFault, HasLineFault}
+use Rattle.j39_id.specs.FirstFault.{first_fault}
 use Rattle.j39_id.specs.Ident.{bits}
 use Rattle.j39_id.specs.declared.frame.Frame.{Frame}
 use Rattle.j39_id.specs.declared.line_error.LineError.{LineError}
@@ -74,12 +75,12 @@ not_blank line w x blank =
 -- ---- a word
 
 -- four bytes that are an identifier's were read
-identifier_bytes : (r : Result (List ℕ) FromHexError) (n : ℕ) → identifier_of_bytes r ≡ Some n → (bytes : List ℕ) × (r ≡ Ok bytes)
+identifier_bytes : (r : Result (List ℕ) FromHexError) (n : ℕ) → identifier_in_bytes r ≡ Some n → (bytes : List ℕ) × (r ≡ Ok bytes)
 identifier_bytes (Ok bytes) n h = (bytes, refl)
 identifier_bytes (Err e) n h = cc h
 
 -- an identifier's digits are eight hex digits
-pub identifier_digits : (digits : List ℕ) (n : ℕ) → identifier_of digits ≡ Some n → (length digits ≡ 8) × AllPass is_hex_digit digits
+pub identifier_digits : (digits : List ℕ) (n : ℕ) → identifier_in digits ≡ Some n → (length digits ≡ 8) × AllPass is_hex_digit digits
 identifier_digits digits n h =
     let r = identifier_bytes (decode_sized digits 4) n h in
     let eight = decode_sized-ok digits 4 r.0 r.1 in
@@ -127,7 +128,7 @@ hash_after digits rest plain =
 pub record IsCut (word : List ℕ) (number : ℕ) (payload : List ℕ) : Type 0 where
   pub place : ℕ
   pub hash : position is_hash word ≡ Some place
-  pub identifier : identifier_of (before_hash word) ≡ Some number
+  pub identifier : identifier_in (before_hash word) ≡ Some number
   pub room : length (after_hash word) ≤ 16
   pub bytes : decode_of (after_hash word) ≡ Ok payload
 
@@ -144,7 +145,7 @@ cut_of word number payload s =
     record {
       place = n;
       hash = ap (position is_hash) s.parts ∙ hash_after s.digits s.rest digits.1;
-      identifier = ap identifier_of front ∙ s.identifier;
+      identifier = ap identifier_in front ∙ s.identifier;
       room = rw back s.room;
       bytes = ap decode_of back ∙ s.bytes;
     }
@@ -158,18 +159,19 @@ same_word word m n p q s t =
       ap (λ (r : Result (List ℕ) FromHexError). result_unwrap_or r []) (sym x.bytes ∙ y.bytes),
     )
 
--- no refusal holds of a word that spells a frame
-pub word_sound : (word : List ℕ) (n : ℕ) (p : List ℕ) → WordSpells word n p → (e : LineError) → Refuses e word → ⊥
-word_sound word n p s Empty h = h
-word_sound word n p s NoHash h = let x = cut_of word n p s in cc (sym x.hash ∙ h)
-word_sound word n p s ShortIdent h =
+-- a word that spells a frame has no fault
+no_fault : (word : List ℕ) (n : ℕ) (p : List ℕ) → WordSpells word n p → first_fault (word_faults word) ≡ None
+no_fault word n p s =
     let x = cut_of word n p s in
-    let eight = identifier_digits (before_hash word) n x.identifier in
-    absurd (omega (arith, eight.0, h.0))
-word_sound word n p s BadIdent h = let x = cut_of word n p s in cc (sym x.identifier ∙ h)
-word_sound word n p s TooLong h = let x = cut_of word n p s in absurd (omega (arith, x.room, h))
-word_sound word n p s BadData h =
-    let x = cut_of word n p s in true≢false (sym (subst (λ (r : Result (List ℕ) FromHexError). IsErr r) x.bytes h))
+    let hash = x.hash in
+    let identifier = x.identifier in
+    let bytes = x.bytes in
+    let eight = (identifier_digits (before_hash word) n identifier).0 in
+    let room : nat_lt 16 (length (after_hash word)) ≡ false = le-ltb 16 (length (after_hash word)) x.room in
+    rw (hash, identifier, eight, room, bytes) refl
+
+pub word_sound : (word : List ℕ) (n : ℕ) (p : List ℕ) → WordSpells word n p → (e : LineError) → IsFirstFault word e → ⊥
+word_sound word n p s e h = cc (sym (no_fault word n p s) ∙ h)
 
 -- ---- a line
 
@@ -180,7 +182,7 @@ one_frame line m n p q x y =
 
 -- a fault of a word isn't that of a line that spells a frame
 fault_of_other : (line w : List ℕ) (n : ℕ) (p : List ℕ) (e : LineError) → LineSpells line n p → IsLastWord line w → IsFirstFault w e → ⊥
-fault_of_other line w n p e x last fault = word_sound w n p (rw (same_last_word line x.0 w x.1 last) at x.2) e fault.holds
+fault_of_other line w n p e x last fault = word_sound w n p (rw (same_last_word line x.0 w x.1 last) at x.2) e fault
 
 -- a line that spells a frame has no fault
 pub spelled_not_refused : (line : List ℕ) (n : ℕ) (p : List ℕ) (e : LineError) → LineSpells line n p → HasLineFault line e → ⊥
@@ -201,35 +203,9 @@ fault_cases line BadIdent h = inr h
 fault_cases line TooLong h = inr h
 fault_cases line BadData h = inr h
 
--- the refusal at a place of their order
-at_rank : ℕ → LineError
-at_rank zero = Empty
-at_rank (suc zero) = NoHash
-at_rank (suc (suc zero)) = ShortIdent
-at_rank (suc (suc (suc zero))) = BadIdent
-at_rank (suc (suc (suc (suc zero)))) = TooLong
-at_rank (suc (suc (suc (suc (suc n))))) = BadData
-
-at_rank-rank : (e : LineError) → at_rank (rank e) ≡ e
-unfolding at_rank
-at_rank-rank Empty = refl
-at_rank-rank NoHash = refl
-at_rank-rank ShortIdent = refl
-at_rank-rank BadIdent = refl
-at_rank-rank TooLong = refl
-at_rank-rank BadData = refl
-
 -- a word has one first fault
 same_fault : (w : List ℕ) (d e : LineError) → IsFirstFault w d → IsFirstFault w e → d ≡ e
-same_fault w d e x y =
-    elim (cases_order (rank d) (rank e)) [
-      | inl same ↦ sym (at_rank-rank d) ∙ ap at_rank same ∙ at_rank-rank e
-      | inr other ↦
-          elim other [
-            | inl less ↦ absurd (y.first d less x.holds)
-            | inr more ↦ absurd (x.first e more y.holds)
-          ]
-    ]
+same_fault w d e x y = cc (sym x ∙ y)
 
 -- a line has one fault
 pub one_fault : (line : List ℕ) (d e : LineError) → HasLineFault line d → HasLineFault line e → d ≡ e
@@ -266,15 +242,15 @@ IsBytes-number n (suc (suc (suc zero))) = omega arith
 IsBytes-number n (suc (suc (suc (suc i)))) = omega arith
 
 -- the eight digits of a number stand for it
-identifier_of-canon : (n : ℕ) → n < 2 ^ 29 → identifier_of (encode_upper (to_be_bytes w32 n)) ≡ Some n
-identifier_of-canon n h =
+identifier_in-canon : (n : ℕ) → n < 2 ^ 29 → identifier_in (encode_upper (to_be_bytes w32 n)) ≡ Some n
+identifier_in-canon n h =
     let bs : List ℕ = to_be_bytes w32 n in
     let len : length (encode_upper bs) ≡ 8 = length-encode_with upper_digits bs in
     let read : decode_sized (encode_upper bs) 4 ≡ Ok bs =
     decode_sized-twice (encode_upper bs) 4 len ∙ decode_of-encode_upper bs (IsBytes-number n) in
     let value : from_be_bytes w32 bs ≡ n = from_be_bytes-to_be_bytes_4 n (omega arith) in
     let fits : nat_lt n (2 ^ 29) ≡ true = lt-ltb n (2 ^ 29) h in
-    ap identifier_of_bytes read ∙ rw (value, fits) refl
+    ap identifier_in_bytes read ∙ rw (value, fits) refl
 
 pub canon_spells : (n : ℕ) (p : List ℕ) → n < 2 ^ 29 → length p ≤ 8 → IsBytes p → LineSpells (canon_text n p) n p
 canon_spells n p h room bytes =
@@ -298,7 +274,7 @@ canon_spells n p h room bytes =
         digits = digits;
         rest = encode_upper p;
         parts = refl;
-        identifier = identifier_of-canon n h;
+        identifier = identifier_in-canon n h;
         room = omega (arith, length-encode_with upper_digits p);
         bytes = decode_of-encode_upper p bytes;
       },

@@ -1,9 +1,10 @@
 -- Frame lines: what spells a frame, the one canonical text, and why a line is refused.
-use Rattle.std.specs.Prelude.{◌≡◌, ℕ, ◌-◌, ◌<◌, ◌≤◌, ◌^◌, ◌==◌, ◌||◌, nat_lt, Bool, true, false, if◌then◌else◌, List, ◌∷◌, ◌++◌, length, slice_index, Option, Some, None, Result, Ok, Err, IsErr}
-use Rattle.std.specs.List.{All, AllPass, position, before_first, after_first}
+use Rattle.std.specs.Prelude.{◌≡◌, ℕ, ◌-◌, ◌<◌, ◌≤◌, ◌^◌, ◌==◌, ◌||◌, ◌&&◌, nat_lt, Bool, true, false, if◌then◌else◌, List, [], ◌∷◌, ◌++◌, length, slice_index, Option, Some, None, is_none, Result, Ok, Err, is_err}
+use Rattle.std.specs.List.{All, AllPass, list_all, position, before_first, after_first}
 use Rattle.std.specs.Int.{w32, to_be_bytes, from_be_bytes}
 use Rattle.hex.specs.Hex.{decode_of, decode_sized, encode_upper, is_hex_digit}
 use Rattle.hex.specs.declared.error.FromHexError.{FromHexError}
+use Rattle.j39_id.specs.FirstFault.{first_fault}
 use Rattle.j39_id.specs.Ident.{bits}
 use Rattle.j39_id.specs.declared.frame.Frame.{Frame}
 use Rattle.j39_id.specs.declared.line_error.LineError.{LineError}
@@ -25,20 +26,20 @@ pub record IsLastWord (line word : List ℕ) : Type 0 where
   pub blank : AllPass is_separator back
 
 -- the number of four bytes, where it is an identifier's
-abbrev pub identifier_of_bytes : Result (List ℕ) FromHexError → Option ℕ
-identifier_of_bytes (Ok bytes) = if nat_lt (from_be_bytes w32 bytes) (2 ^ 29) then Some (from_be_bytes w32 bytes) else None
-identifier_of_bytes (Err e) = None
+abbrev pub identifier_in_bytes : Result (List ℕ) FromHexError → Option ℕ
+identifier_in_bytes (Ok bytes) = if nat_lt (from_be_bytes w32 bytes) (2 ^ 29) then Some (from_be_bytes w32 bytes) else None
+identifier_in_bytes (Err e) = None
 
 -- the number that eight hex digits stand for, where it is an identifier's
-abbrev pub identifier_of : List ℕ → Option ℕ
-identifier_of digits = identifier_of_bytes (decode_sized digits 4)
+abbrev pub identifier_in : List ℕ → Option ℕ
+identifier_in digits = identifier_in_bytes (decode_sized digits 4)
 
 -- a word is the digits of a number, a hash and two digits for each byte
 pub record WordSpells (word : List ℕ) (number : ℕ) (payload : List ℕ) : Type 0 where
   pub digits : List ℕ
   pub rest : List ℕ
   pub parts : word ≡ digits ++ 35 ∷ rest
-  pub identifier : identifier_of digits ≡ Some number
+  pub identifier : identifier_in digits ≡ Some number
   pub room : length rest ≤ 16
   pub bytes : decode_of rest ≡ Ok payload
 
@@ -67,28 +68,18 @@ before_hash word = before_first is_hash word
 abbrev pub after_hash : List ℕ → List ℕ
 after_hash word = after_first is_hash word
 
--- what each refusal says of a word, on its own
-abbrev pub Refuses : LineError → List ℕ → Type 0
-Refuses Empty word = ⊥
-Refuses NoHash word = position is_hash word ≡ None
-Refuses ShortIdent word = (length (before_hash word) ≡ 3) × AllPass is_hex_digit (before_hash word)
-Refuses BadIdent word = identifier_of (before_hash word) ≡ None
-Refuses TooLong word = 16 < length (after_hash word)
-Refuses BadData word = IsErr (decode_of (after_hash word))
+-- the refusals of a word in the order in which they are looked for, each with whether it holds
+abbrev pub word_faults : List ℕ → List (LineError × Bool)
+word_faults word =
+    (NoHash, is_none (position is_hash word))
+    ∷ (ShortIdent, length (before_hash word) == 3 && list_all is_hex_digit (before_hash word))
+    ∷ (BadIdent, is_none (identifier_in (before_hash word)))
+    ∷ (TooLong, nat_lt 16 (length (after_hash word)))
+    ∷ (BadData, is_err (decode_of (after_hash word)))
+    ∷ []
 
--- the order in which the refusals are looked for
-abbrev pub rank : LineError → ℕ
-rank Empty = 0
-rank NoHash = 1
-rank ShortIdent = 2
-rank BadIdent = 3
-rank TooLong = 4
-rank BadData = 5
-
--- this refusal holds of the word and no earlier one does
-pub record IsFirstFault (word : List ℕ) (e : LineError) : Type 0 where
-  pub holds : Refuses e word
-  pub first : (d : LineError) → rank d < rank e → ¬ Refuses d word
+abbrev pub IsFirstFault : List ℕ → LineError → Type 0
+IsFirstFault word e = first_fault (word_faults word) ≡ Some e
 
 -- the line has no word, or its last word has this fault first
 abbrev pub HasLineFault : List ℕ → LineError → Type 0

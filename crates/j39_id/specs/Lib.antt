@@ -1,4 +1,5 @@
 pub mod Addresses
+pub mod FirstFault
 pub mod FrameLine
 pub mod Ident
 pub mod Limits

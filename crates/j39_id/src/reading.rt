@@ -1,9 +1,9 @@
 //! Reading frame lines.
-ghost use Rattle.std.specs.Prelude.{◌≡◌, ℕ, ◌≤◌, ◌↔◌, length, Some, None, Ok, IsOk, IsSome, IfSome, IfNone, IfOk, IfErr, IsTrue};
-ghost use Rattle.std.specs.List.{AllPass, position};
+ghost use Rattle.std.specs.Prelude.{◌≡◌, ◌==◌, ◌&&◌, ℕ, ◌≤◌, ◌↔◌, length, Some, None, Ok, IsOk, IsSome, IfSome, IfNone, IfOk, IfErr, IsTrue};
+ghost use Rattle.std.specs.List.{AllPass, list_all, position};
 ghost use Rattle.hex.specs.Hex.{decode_of, is_hex_digit};
 ghost use Rattle.j39_id.specs.Ident.{bits};
-ghost use Rattle.j39_id.specs.FrameLine.{is_separator as separates, IsLastWord, is_hash, identifier_of, IsFirstFault, WordSpells, Spells, HasLineFault};
+ghost use Rattle.j39_id.specs.FrameLine.{is_separator as separates, IsLastWord, is_hash, identifier_in, IsFirstFault, WordSpells, Spells, HasLineFault};
 
 use crate::hex_digits::decode_digits;
 use crate::{Frame, Ident, LineError};
@@ -36,8 +36,8 @@ fn last_word(line: &[u8]) -> Option<&[u8]>
 
 // The identifier that eight digits spell.
 fn read_ident(digits: &[u8]) -> Option<Ident>
-    ensures found { IfSome result (λ ident. identifier_of digits.now ≡ Some (bits ident)) }
-    ensures none { IfNone result (identifier_of digits.now ≡ None) }
+    ensures found { IfSome result (λ ident. identifier_in digits.now ≡ Some (bits ident)) }
+    ensures none { IfNone result (identifier_in digits.now ≡ None) }
 {
     let mut bytes = [0; 4];
     decode_digits(digits, &mut bytes).ok()?;
@@ -63,14 +63,19 @@ fn first_hash(word: &[u8]) -> Option<usize>
     word.iter().position(|b| *b == b'#')
 }
 
+// Whether all of these are hex digits.
+fn are_digits(text: &[u8]) -> bool
+    ensures { IsTrue result ↔ AllPass is_hex_digit text.now }
+{
+    text.iter()
+        .all(|b| matches!(*b, b'0'..=b'9' | b'A'..=b'F' | b'a'..=b'f'))
+}
+
 // Whether these are the three digits of an 11-bit identifier.
 fn is_short(digits: &[u8]) -> bool
-    ensures { IsTrue result ↔ ((length digits.now ≡ 3) × AllPass is_hex_digit digits.now) }
+    ensures { result ≡ (length digits.now == 3 && list_all is_hex_digit digits.now) }
 {
-    digits.len() == 3
-        && digits
-            .iter()
-            .all(|b| matches!(*b, b'0'..=b'9' | b'A'..=b'F' | b'a'..=b'f'))
+    digits.len() == 3 && are_digits(digits)
 }
 
 // The frame that a word spells.

@@ -4,7 +4,7 @@ use Rattle.j39_tp.specs.Chunks.{chunk}
 use Rattle.j39_tp.specs.Carried.{Carried}
 use Rattle.j39_tp.specs.Sender.{announcement}
 use Rattle.j39_tp.specs.declared.packet.Packet.{Packet}
-use Rattle.j39_tp.specs.declared.packet.Packet.TheVariants.{Rts, Cts, EndAck, Bam, Abort, Dt}
+use Rattle.j39_tp.specs.declared.packet.Packet.TheVariants.{Rts, Bam, Dt}
 use Rattle.j39_tp.specs.declared.sending.dest.Dest.{Dest}
 
 -- the packet is the announcement of the message

@@ -1,5 +1,5 @@
 -- The eight bytes of each transport packet (SAE J1939-21, connection management and data transfer).
-use Rattle.std.specs.Prelude.{◌≡◌, ℕ, ◌+◌, ◌*◌, ◌/◌, ◌%◌, ◌<◌, ◌==◌, ◌||◌, ◌&&◌, not, nat_lt, nat_le, Bool, if◌then◌else◌, List, [], ◌∷◌, length, slice_index, Option, Some, None}
+use Rattle.std.specs.Prelude.{◌≡◌, ℕ, ◌+◌, ◌*◌, ◌/◌, ◌%◌, ◌<◌, ◌==◌, ◌||◌, ◌&&◌, not, nat_lt, nat_le, Bool, List, [], ◌∷◌, length, slice_index}
 use Rattle.j39_id.specs.Limits.{frame_bytes, message_bytes}
 use Rattle.j39_id.specs.Pgn.{IsPgn, is_pgn}
 use Rattle.j39_tp.specs.Chunks.{IsSize, packets_of}
@@ -85,11 +85,6 @@ pub record DataReads (bytes : List ℕ) (p : Packet) : Type 0 where
   pub fields : DataFields bytes p
 
 -- ---- what is refused
-
--- a list of refusals, each with whether it holds, and the first that does
-abbrev pub first_fault : List (PacketError × Bool) → Option PacketError
-first_fault [] = None
-first_fault (fault ∷ rest) = if fault.1 then Some fault.0 else first_fault rest
 
 abbrev pub is_size : ℕ → Bool
 is_size n = nat_lt frame_bytes n && nat_le n message_bytes

@@ -1,8 +1,9 @@
 //! Unpacking bytes into packets.
 ghost use Rattle.std.specs.Prelude.{◌≡◌, ◌+◌, ◌*◌, ◌==◌, not, IfOk, IfErr, if◌then◌else◌};
+ghost use Rattle.j39_id.specs.FirstFault.{first_fault};
 ghost use Rattle.j39_id.specs.Pgn.{is_pgn};
 ghost use Rattle.j39_tp.specs.Chunks.{packets_of};
-ghost use Rattle.j39_tp.specs.Packets.{is_size, InRange, ManagementReads, DataReads, first_fault, management_faults, data_faults};
+ghost use Rattle.j39_tp.specs.Packets.{is_size, InRange, ManagementReads, DataReads, management_faults, data_faults};
 
 use crate::{Packet, PacketError, Size};
 use j39_id::Pgn;
