@@ -1,4 +1,4 @@
-use Rattle.std.proofs.Common.{ℕ, sym, ap, ◌∙◌, ◌+◌, refl}
+use Rattle.std.proofs.Common.{refl, arith}
 use Rattle.std.proofs.lemmas.List.{length_push}
 use Rattle.std.proofs.lemmas.List.Elements.{All-push}
 use Rattle.std.proofs.lemmas.Result.{IfOk-weaker}
@@ -11,14 +11,16 @@ pub returns-clause-frame : goal.returns-clause-frame
 returns-clause-frame c =
     IfOk-weaker c.write_frame.result _ _
     (λ _ written. λ past recalls.
-    let told = written past.seen recalls.heard_all recalls.ranges in (
+    let told = written past.seen recalls.heard_all recalls.ranges in
+    let one_more = length_push past.seen (record { frame = c.args.frame.now; packet = told.0 }) in
+    let before = recalls.frames_are in (
       with_frame past c.args.frame.now told.0,
       told.1,
       (told.0, told.2, told.4, refl),
       record {
         heard_all = told.5;
         ranges = All-push (λ (x : Seen). IsInRange x.packet) past.seen (record { frame = c.args.frame.now; packet = told.0 }) recalls.ranges told.3;
-        frames_are = ap (λ (n : ℕ). n + 1) recalls.frames_are ∙ sym (length_push past.seen (record { frame = c.args.frame.now; packet = told.0 }));
+        frames_are = omega (arith, before, one_more);
         skipped_are = recalls.skipped_are;
         bad_are = recalls.bad_are;
       },
