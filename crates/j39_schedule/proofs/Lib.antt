@@ -1,4 +1,5 @@
 pub mod BegunFlows
+pub mod FirstFault
 pub mod Numbers
 pub mod OrderNames
 pub mod Splits

@@ -85,7 +85,8 @@ units_step plan word step u v inside is few begun other =
 -- ---- the step that begins a message
 
 begin_step : (plan : Plan) (step : Step) (f : ℕ) (bytes : List ℕ) → f < length plan.flows.items → 0 < length bytes
-    → length bytes ≤ 1785 → IsBytes bytes → as_ordered step ≡ begins f bytes → Spells plan (place_field (codes "begin ") f ++ (codes " " ++ encode_upper bytes)) step
+    → length bytes ≤ 1785 → IsBytes bytes → as_ordered step ≡ begins f bytes
+    → Spells plan (place_field (codes "begin ") f ++ (codes " " ++ encode_upper bytes)) step
 unfolding field_text words_order order_named
 begin_step plan step f bytes inside some few are is =
     let known : f < 512 = omega (arith, plan.flow_count) in

@@ -1,3 +1,4 @@
+pub mod LineFaults
 pub mod Schedule
 pub mod Scheduling
 pub mod StepLines

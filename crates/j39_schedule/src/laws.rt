@@ -1,4 +1,5 @@
-//! The law of written steps.
+//! Laws of schedules: the fault that is told of a line, and what is written of steps.
+ghost use Rattle.j39_schedule.specs.LineFaults.{TellsFirstFault};
 ghost use Rattle.j39_schedule.specs.StepLines.{StepReadsBack, StepsReadBack};
 
 /// The words that are written of a step of the plan order this step, and the lines that are written of steps are a schedule
@@ -6,4 +7,9 @@ ghost use Rattle.j39_schedule.specs.StepLines.{StepReadsBack, StepsReadBack};
 pub fn written_steps_read_back()
     ensures step { StepReadsBack }
     ensures steps { StepsReadBack }
+{}
+
+/// The fault that is told of a line is this one exactly where it holds of the line and no earlier one does.
+pub fn first_fault_is_told()
+    ensures { TellsFirstFault }
 {}

@@ -13,7 +13,7 @@ mod step_lines;
 mod unread;
 mod values;
 
-pub use laws::written_steps_read_back;
+pub use laws::{first_fault_is_told, written_steps_read_back};
 pub use line_fault::LineFault;
 pub use schedule::{Schedule, read_schedule};
 pub use step_lines::write_steps;
