@@ -1,16 +1,16 @@
 -- Why a message is not begun.
-use Rattle.std.proofs.Common.{◌≡◌, ℕ, zero, suc, ◌<◌, ◌≤◌, Bool, true, false, not, ◌==◌, ltb, List, [], ◌∷◌, length, map, get_or, refl, sym, ap, ◌∙◌, subst, arith, Option, Some, None, is_some}
+use Rattle.std.proofs.Common.{◌≡◌, ℕ, zero, suc, ◌<◌, ◌≤◌, inl, inr, Bool, true, false, not, ◌==◌, ltb, List, [], ◌∷◌, length, map, get_or, refl, sym, ap, ◌∙◌, subst, arith, Option, Some, None, is_some}
 use Rattle.std.proofs.lemmas.List.{get_or-map, length-map}
-use Rattle.std.proofs.lemmas.Bool.{eq-eqb, eqb-true, ne_eqb, and_parts, ltb-true}
+use Rattle.std.proofs.lemmas.Bool.{cases_Bool, eqb-true, true≢false}
 use Rattle.std.specs.List.{list_all, range_with_len, slice_get}
-use Rattle.j39_bus.specs.declared.letter.Letter.{Letter}
+use Rattle.j39_claim.specs.declared.item.Item.{Item}
+use Rattle.j39_queues.specs.Queued.{IsTable, pair_in}
 use Rattle.j39_bus.specs.declared.network.Network.{Network}
 use Rattle.j39_bus.specs.declared.route.Route.{Route}
 use Rattle.j39_world.specs.declared.step_error.StepError.TheVariants.{NoSuchFlow, NotStarted, NotSettled, NoAddress, Busy, WrongLength}
 use Rattle.j39_bus.specs.declared.transfer.Transfer as made
 use Rattle.j39_bus.specs.BusState.{session_at}
 use Rattle.j39_world.specs.Flows.{Flow, flows_of, can_be_sent}
-use Rattle.j39_bus.specs.Letters.{between, is_inside}
 use Rattle.j39_plan.specs.declared.plan.Plan.{Plan}
 use Rattle.j39_bus.specs.Network.{Histories, IsNetwork, IsOf, world_of}
 use Rattle.j39_world.specs.Run.{at_ends, begin_refusal, has_address, is_nothing_undelivered, is_on, unless}
@@ -18,8 +18,9 @@ use Rattle.j39_bus.specs.Traffic.{IsRoute, route_of, values_of}
 use Rattle.j39_world.specs.World.{World}
 use Rattle.j39_bus.proofs.AlongMessages.{session_of}
 use Rattle.j39_bus.proofs.Opened.{got}
+use Rattle.j39_bus.proofs.Outside.{each_list}
 use Rattle.j39_bus.proofs.Refused.{nowhere}
-use Rattle.j39_bus.proofs.Rested.{all_below, not_below, some_session}
+use Rattle.j39_bus.proofs.Rested.{all_below, some_session}
 
 begin_parts : (a b c d e f : Bool)
     → unless a NoSuchFlow (unless b NotStarted (unless c NotSettled (unless d NoAddress (unless e Busy (unless f WrongLength None))))) ≡ None → (e ≡ true) × (f ≡ true)
@@ -56,15 +57,24 @@ flow_inside n w [] f bytes allowed = absurd (cc allowed)
 flow_inside n w (x ∷ flows) zero bytes allowed = omega arith
 flow_inside n w (x ∷ flows) (suc f) bytes allowed = let less : f < length flows = flow_inside n w flows f bytes allowed in omega arith
 
--- nothing is undelivered where there is no letter
-pub settled_by : (n : ℕ) (ls : List Letter) → list_all (is_inside n) ls ≡ true → is_nothing_undelivered n (between ls) ≡ (length ls == 0)
-settled_by n [] inside = all_below (λ u. list_all (λ v. length (between [] u v) == 0) (range_with_len 0 n)) n (λ u below. all_below (λ v. length (between [] u v) == 0) n (λ v less. refl))
-settled_by n (l ∷ ls) inside =
-    let here = (and_parts (is_inside n l) (list_all (is_inside n) ls) inside).0 in
-    let parts = and_parts (ltb l.from n) (ltb l.to n) here in
-    not_below (λ u. list_all (λ v. length (between (l ∷ ls) u v) == 0) (range_with_len 0 n)) n l.from (ltb-true l.from n parts.0)
-    (not_below (λ v. length (between (l ∷ ls) l.from v) == 0) n l.to (ltb-true l.to n parts.1) (rw (eq-eqb l.from l.from refl, eq-eqb l.to l.to refl) (ne_eqb (suc (length (between ls l.from l.to))) 0 (λ e. absurd (omega arith)))))
-    ∙ sym (ne_eqb (suc (length ls)) 0 (λ e. absurd (omega arith)))
+-- whether anything is undelivered
+pub settled_by : (n : ℕ) (lists : List (List (List Item))) → IsTable n lists → (b : Bool) → (b ≡ true → (u v : ℕ) → pair_in lists u v ≡ []) × (((u v : ℕ) → pair_in lists u v ≡ []) → b ≡ true)
+    → is_nothing_undelivered n (pair_in lists) ≡ b
+settled_by n lists table b (none, all) = elim (cases_Bool b) [
+  | inl empty ↦ nothing (none empty) ∙ sym empty
+  | inr filled ↦ elim (cases_Bool (is_nothing_undelivered n (pair_in lists))) [
+    | inl nothing_there ↦ absurd (true≢false (sym (all (λ u v. is_none (pair_in lists u v) (each_list (λ xs. length xs == 0) refl n lists table nothing_there u v))) ∙ filled))
+    | inr something ↦ something ∙ sym filled
+  ]
+]
+  where
+    nothing : ((u v : ℕ) → pair_in lists u v ≡ []) → is_nothing_undelivered n (pair_in lists) ≡ true
+    nothing empty = all_below (λ u. list_all (λ v. length (pair_in lists u v) == 0) (range_with_len 0 n)) n
+        (λ u below. all_below (λ v. length (pair_in lists u v) == 0) n (λ v less. ap (λ (xs : List Item). length xs == 0) (empty u v)))
+
+    is_none : (xs : List Item) → (length xs == 0) ≡ true → xs ≡ []
+    is_none [] is = refl
+    is_none (x ∷ xs) is = let e : length (x ∷ xs) ≡ 0 = eqb-true (length (x ∷ xs)) 0 is in absurd (omega (arith, e))
 
 -- a unit sends nothing where it has no message
 pub idle_is : (ts : List (Option made.Transfer)) (u : ℕ) → u < length ts → not (is_some (session_at (values_of ts) u)) ≡ not (is_some (get_or ts u None))

@@ -14,10 +14,11 @@ use Rattle.j39_tp.specs.declared.packet.Packet.{Packet}
 use Rattle.j39_bus.specs.declared.route.Route.{Route}
 use Rattle.j39_bus.specs.declared.transfer.Transfer as made
 use Rattle.j39_world.specs.declared.wired.Wired.{Wired}
-use Rattle.j39_bus.specs.BusState.{Transfer, outgoing_of, pair_in, places_from, receiver_of, receiving_or, session_at}
+use Rattle.j39_bus.specs.BusState.{Transfer, outgoing_of, places_from, receiver_of, receiving_or, session_at}
+use Rattle.j39_queues.specs.Queued.{IsTable, pair_in}
 use Rattle.j39_world.specs.Flows.{Flow, dest_of, is_short, window_at}
 use Rattle.j39_bus.specs.Network.{AreGathered, receivers_of}
-use Rattle.j39_bus.specs.Traffic.{AreOpened, AreTransfers, IsInside, IsTable, IsTraffic, IsTransfer, IsTransferOr, is_announcement, is_receiver, is_target, is_target_of, item_frame, posted, transfer_of, values_of}
+use Rattle.j39_bus.specs.Traffic.{AreOpened, AreTransfers, IsInside, IsTraffic, IsTransfer, IsTransferOr, is_announcement, is_receiver, is_target, is_target_of, item_frame, posted, transfer_of, values_of}
 use Rattle.j39_world.specs.Transfers.{settled}
 use Rattle.j39_tp.specs.Sender.{announcement}
 use Rattle.j39_tp.specs.declared.receiving.progress.Progress.TheVariants.{Closed}
@@ -27,7 +28,7 @@ use Rattle.j39_world.specs.TransferSteps.{targets_of, first_item, first_frame}
 use Rattle.j39_bus.proofs.Emitting.{receiver_is}
 use Rattle.j39_world.specs.World.{Stations, changed}
 use Rattle.j39_bus.proofs.Receivers.{Boxed, values, none_some}
-use Rattle.j39_bus.proofs.Tables.{places_tested, one_place}
+use Rattle.j39_bus.proofs.ReceiverPlaces.{places_tested, one_place}
 
 -- a receiver that was made is one, where the message goes
 made_some : (b : Bool) (r : Receiving) → is_some (cond b (Some r) None) ≡ b

@@ -11,12 +11,12 @@ use Rattle.j39_tp.specs.declared.packet.Packet.TheVariants.{Dt, Abort}
 use Rattle.j39_tp.specs.declared.sending.stage.Stage.{Stage}
 use Rattle.j39_tp.specs.declared.sending.stage.Stage.TheVariants.{Sending, Waiting, Resting}
 use Rattle.j39_bus.specs.declared.transfer.Transfer as made
-use Rattle.j39_bus.specs.declared.wire.Wire as queued
 use Rattle.j39_world.specs.declared.wired.Wired.{Wired}
 use Rattle.j39_world.specs.declared.wired.Wired.TheVariants as wired
 use Rattle.j39_bus.specs.declared.route.Route.{Route}
 use Rattle.j39_bus.specs.BusState.{receiver_of}
-use Rattle.j39_bus.specs.Traffic.{HasRoomAlong, IsTraffic, KeepsReceivers, KeepsTransfers, is_announcement, is_receiver, receiver_in, room_at, transfer_of}
+use Rattle.j39_bus.specs.Traffic.{HasRoomAlong, IsTraffic, KeepsReceivers, KeepsTransfers, is_announcement, is_receiver, receiver_in, transfer_of}
+use Rattle.j39_queues.specs.Queued.{Queued, room_at}
 use Rattle.j39_world.specs.Transfers.{Outgoing, Receivers, Sessions}
 use Rattle.j39_world.specs.TransferSteps.{sent_along}
 use Rattle.j39_world.specs.World.{World, changed}
@@ -45,21 +45,21 @@ receiver_is k (None ∷ rs) zero = refl
 receiver_is k (Some b ∷ rs) zero = refl
 receiver_is k (o ∷ rs) (suc v) = receiver_is k rs v
 
-abbrev HasRoomBy : queued.Wire → ℕ → (ℕ → Option Receiving) → Type 0
+abbrev HasRoomBy : Queued Wired → ℕ → (ℕ → Option Receiving) → Type 0
 HasRoomBy wire u receivers = (v : ℕ) → is_some (receivers v) ≡ true → 0 < room_at wire u v
 
-room_by : (wire : queued.Wire) (u : ℕ) (o : Option made.Transfer) → HasRoomAlong wire u o → HasRoomBy wire u (receiver_of (option_map transfer_of o))
+room_by : (wire : Queued Wired) (u : ℕ) (o : Option made.Transfer) → HasRoomAlong wire u o → HasRoomBy wire u (receiver_of (option_map transfer_of o))
 room_by wire u None room v some = absurd (true≢false (sym some))
 room_by wire u (Some t) room v some = room v (sym (receiver_is 0 t.receivers.items v) ∙ some)
 
-room_along : (wire : queued.Wire) (u : ℕ) (o : Option made.Transfer) → HasRoomBy wire u (receiver_of (option_map transfer_of o)) → HasRoomAlong wire u o
+room_along : (wire : Queued Wired) (u : ℕ) (o : Option made.Transfer) → HasRoomBy wire u (receiver_of (option_map transfer_of o)) → HasRoomAlong wire u o
 room_along wire u None room = tt
 room_along wire u (Some t) room = λ v some. room v (receiver_is 0 t.receivers.items v ∙ some)
 
 receivers_by : (ts : List (Option made.Transfer)) (u : ℕ) → u < length ts → (λ v. receiver_in ts v u) ≡ receiver_of (option_map transfer_of (get_or ts u None))
 receivers_by ts u inside = λ i v. receiver_of (get_or-map (option_map transfer_of) ts u None None inside i) v
 
-pub room_kept : (wire : queued.Wire) (u : ℕ) (old new : List (Option made.Transfer)) → u < length old → u < length new → KeepsReceivers old new → HasRoomAlong wire u (get_or old u None) → HasRoomAlong wire u (get_or new u None)
+pub room_kept : (wire : Queued Wired) (u : ℕ) (old new : List (Option made.Transfer)) → u < length old → u < length new → KeepsReceivers old new → HasRoomAlong wire u (get_or old u None) → HasRoomAlong wire u (get_or new u None)
 room_kept wire u old new in_old in_new same room =
     room_along wire u (get_or new u None) (subst (HasRoomBy wire u) (sym (receivers_by old u in_old) ∙ (λ i v. sym same i v u) ∙ receivers_by new u in_new) (room_by wire u (get_or old u None) room))
 

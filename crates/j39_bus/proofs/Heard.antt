@@ -6,7 +6,7 @@ use Rattle.j39_claim.specs.declared.item.Item.{Item}
 use Rattle.j39_claim.specs.declared.item.Item.TheVariants.{Told, Request}
 use Rattle.j39_claim.specs.ClaimRule.{ClaimState, Answers, Hears, say_of, claim_of}
 use Rattle.j39_claim.specs.ClaimerValue.{ClaimerValue}
-use Rattle.j39_bus.specs.Letters.{nobody, station_at}
+use Rattle.j39_bus.specs.Stations.{nobody, station_at}
 use Rattle.j39_bus.specs.Network.{HasAnswered}
 use Rattle.j39_bus.proofs.Worlds.{any_default}
 

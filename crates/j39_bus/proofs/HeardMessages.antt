@@ -20,7 +20,7 @@ use Rattle.j39_world.specs.TransferSteps.{session_hears}
 use Rattle.j39_bus.proofs.Receivers.{Boxed, none_some}
 use Rattle.j39_bus.proofs.Sendings.{places_valued}
 use Rattle.j39_bus.proofs.SentMessages.{out}
-use Rattle.j39_bus.proofs.Tables.{among_places}
+use Rattle.j39_bus.proofs.ReceiverPlaces.{among_places}
 
 -- a receiver changes, and stays
 places_set : (k : ℕ) (rs : List (Option Receiving)) (v : ℕ) (r : Option Receiving) → is_some r ≡ is_some (get_or rs v None) → places_from k (set rs v r) ≡ places_from k rs

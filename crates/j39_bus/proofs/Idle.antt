@@ -14,20 +14,15 @@ use Rattle.j39_bus.specs.declared.network.Network.{Network}
 use Rattle.j39_bus.specs.declared.transfer.Transfer as made
 use Rattle.j39_world.specs.declared.wired.Wired.{Wired}
 use Rattle.j39_world.specs.declared.wired.Wired.TheVariants as wired
-use Rattle.j39_bus.specs.BusState.{Transfer, outgoing_of, pair_in, receiver_of, receiving_or, session_at}
+use Rattle.j39_bus.specs.BusState.{Transfer, outgoing_of, receiver_of, receiving_or, session_at}
+use Rattle.j39_queues.specs.Queued.{pair_in}
 use Rattle.j39_bus.specs.Network.{AreGathered, Histories, receivers_of, world_of}
 use Rattle.j39_world.specs.Resting.{can_rest, is_of_sender, is_over_with}
-use Rattle.j39_bus.specs.Traffic.{IsTraffic, IsTransferOr, is_announcement, lists_of, receiver_in, transfer_of, values_of}
+use Rattle.j39_bus.specs.Traffic.{IsTraffic, IsTransferOr, is_announcement, receiver_in, transfer_of, values_of}
 use Rattle.j39_world.specs.Transfers.{outcome_in, settled}
 use Rattle.j39_world.specs.World.{changed}
+use Rattle.j39_bus.proofs.Outside.{all_at}
 use Rattle.j39_bus.proofs.Receivers.{Boxed}
-
-all_at : (test : ℕ → Bool) (a n : ℕ) → list_all test (range_with_len a n) ≡ true → (k : ℕ) → a ≤ k → k < a + n → test k ≡ true
-all_at test a zero all k from to = absurd (omega arith)
-all_at test a (suc n) all k from to = elim (cases_eq k a) [
-  | inl same ↦ ap test same ∙ (and_parts (test a) (list_all test (range_with_len (a + 1) n)) all).0
-  | inr other ↦ all_at test (a + 1) n (and_parts (test a) (list_all test (range_with_len (a + 1) n)) all).1 k (omega arith) (omega arith)
-]
 
 not_open : (p : Progress) → not (is_open_at (settled p)) ≡ true → settled p ≡ Closed
 not_open Closed is = refl
@@ -54,7 +49,7 @@ no_receiver : (n : ℕ) (windows : List ℕ) (o : Option made.Transfer) → IsTr
 no_receiver n windows None is v past = refl
 no_receiver n windows (Some t) is v past = get_or_past (transfer_of t).receivers v None (omega (arith, length-map t.receivers.items (option_map (λ (b : Boxed). b.value)), is.count, past))
 
-module _ (net : Network) (u : ℕ) (h : Histories) (well : IsTraffic (length net.claimers.items) net.traffic.routes.items net.traffic.windows.items net.traffic.transfers.items (lists_of net.traffic.wire))
+module _ (net : Network) (u : ℕ) (h : Histories) (well : IsTraffic (length net.claimers.items) net.traffic.routes.items net.traffic.windows.items net.traffic.transfers.items net.traffic.wire.lists)
     (inside : u < length net.traffic.transfers.items) (rests : can_rest (length net.claimers.items) (world_of h net) u ≡ true) where
   abbrev n : ℕ
   n = length net.claimers.items
@@ -107,7 +102,7 @@ module _ (net : Network) (u : ℕ) (h : Histories) (well : IsTraffic (length net
         subst (λ (o : Option Transfer). Gathers (h.taken v s) (receiving_or (receiver_of o v)).progress (receiving_or (receiver_of o v)).bytes) (sym e) (gathered v s)
   ]
 
-  pub traffic_idle : IsTraffic n net.traffic.routes.items net.traffic.windows.items idle (lists_of net.traffic.wire)
+  pub traffic_idle : IsTraffic n net.traffic.routes.items net.traffic.windows.items idle net.traffic.wire.lists
   traffic_idle = record {
     windows_count = well.windows_count;
     windows_open = well.windows_open;
@@ -121,15 +116,15 @@ module _ (net : Network) (u : ℕ) (h : Histories) (well : IsTraffic (length net
     };
     table = well.table;
     announced = λ s t some. elim (cases_eq s u) [
-      | inl same ↦ absurd (true≢false (sym some ∙ ap (λ k. list_any is_announcement (pair_in (lists_of net.traffic.wire) k t)) same ∙ silent t))
+      | inl same ↦ absurd (true≢false (sym some ∙ ap (λ k. list_any is_announcement (pair_in net.traffic.wire.lists k t)) same ∙ silent t))
       | inr other ↦ ap (λ o. is_some (receiver_of o t)) (value_at s ∙ (rw (ne_eqb s u other) refl)) ∙ well.announced s t some
     ];
   }
     where
-      silent : (t : ℕ) → list_any is_announcement (pair_in (lists_of net.traffic.wire) u t) ≡ false
+      silent : (t : ℕ) → list_any is_announcement (pair_in net.traffic.wire.lists u t) ≡ false
       silent t = elim (cases_lt t n) [
-        | inl less ↦ no_announcement (pair_in (lists_of net.traffic.wire) u t) (and_parts (list_all (λ x. not (is_of_sender x)) (pair_in (lists_of net.traffic.wire) u t)) _ (and_parts (not (is_open_at (settled (receiving_or (receiver_in ts t u)).progress))) _ (over t less)).1).0
+        | inl less ↦ no_announcement (pair_in net.traffic.wire.lists u t) (and_parts (list_all (λ x. not (is_of_sender x)) (pair_in net.traffic.wire.lists u t)) _ (and_parts (not (is_open_at (settled (receiving_or (receiver_in ts t u)).progress))) _ (over t less)).1).0
         | inr more ↦
-            let none : pair_in (lists_of net.traffic.wire) u t ≡ [] = get_or_past (get_or (lists_of net.traffic.wire) u []) t [] (omega (arith, well.table.columns u (omega (arith, inside, well.transfers.count)), more)) in
+            let none : pair_in net.traffic.wire.lists u t ≡ [] = get_or_past (get_or net.traffic.wire.lists u []) t [] (omega (arith, well.table.columns u (omega (arith, inside, well.transfers.count)), more)) in
             ap (list_any is_announcement) none
       ]

@@ -1,4 +1,3 @@
-pub mod Between
 pub mod Settled
 pub mod Worlds
 pub mod Heard
@@ -8,13 +7,13 @@ pub mod SwitchedOn
 pub mod Delivered
 pub mod Refused
 pub mod Steady
-pub mod Tables
-pub mod Queues
+pub mod ReceiverPlaces
+pub mod Postings
+pub mod Outside
 pub mod Lost
 pub mod Receivers
 pub mod SentMessages
 pub mod Sendings
-pub mod Cleared
 pub mod HeardMessages
 pub mod AlongMessages
 pub mod Emitting

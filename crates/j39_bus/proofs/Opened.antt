@@ -1,7 +1,7 @@
 -- A new bus stands for the first world.
 use Rattle.std.proofs.Common.{◌≡◌, ℕ, zero, suc, ◌<◌, ◌≤◌, List, [], ◌∷◌, length, map, get_or, replicate, refl, sym, ap, ◌∙◌, subst, arith, Some, None}
 use Rattle.std.proofs.lemmas.Bool.{true≢false}
-use Rattle.std.specs.List.{list_all, slice_get}
+use Rattle.std.specs.List.{slice_get}
 use Rattle.std.specs.Option.{is_some}
 use Rattle.std.specs.Ordering.{nat_cmp}
 use Rattle.std.specs.FinMap.{get, get-empty}
@@ -9,15 +9,16 @@ use Rattle.j39_claim.specs.ClaimRule.{PlannedUnit, ClaimState, off}
 use Rattle.j39_claim.specs.ClaimerValue.{ClaimerValue}
 use Rattle.j39_plan.specs.declared.plan.Plan.{Plan}
 use Rattle.j39_plan.specs.declared.plan.unit_plan.UnitPlan.{UnitPlan}
-use Rattle.j39_bus.specs.declared.letter.Letter.{Letter}
+use Rattle.j39_claim.specs.declared.item.Item.{Item}
 use Rattle.j39_bus.specs.declared.network.Network.{Network}
 use Rattle.j39_world.specs.Claimants.{claimant_of, unit_at}
-use Rattle.j39_bus.specs.Letters.{unstarted, station_at, between, is_inside}
+use Rattle.j39_bus.specs.Stations.{unstarted, station_at}
 use Rattle.j39_bus.specs.declared.traffic.Traffic as kept
 use Rattle.j39_tp.specs.inside.Gathered.{Gathers}
-use Rattle.j39_bus.specs.BusState.{outgoing_of, pair_in, receiver_of, receiving_or}
+use Rattle.j39_bus.specs.BusState.{outgoing_of, receiver_of, receiving_or}
+use Rattle.j39_queues.specs.Queued.{IsTable, pair_in}
 use Rattle.j39_world.specs.Flows.{flows_of, windows_of}
-use Rattle.j39_bus.specs.Traffic.{IsTraffic, lists_of, reported_of, route_of, values_of}
+use Rattle.j39_bus.specs.Traffic.{IsTraffic, reported_of, route_of, values_of}
 use Rattle.j39_world.specs.Transfers.{settled}
 use Rattle.j39_bus.specs.Network.{claimants, state_of, transfers_of, world_of, Histories, HasGathered, IsNetwork, IsWellFormed}
 use Rattle.j39_world.specs.Sent.{sent_of}
@@ -41,11 +42,11 @@ length-unstarted (p ∷ units) = omega (arith, length-unstarted units)
 pub length_opened : (units : List UnitPlan) (cs : List ClaimerValue) → cs ≡ map unstarted units → length cs ≡ length units
 length_opened units cs is = ap length is ∙ length-unstarted units
 
--- units that are not started, and no letter
-pub well_opened : (units : List UnitPlan) → length units ≤ 128 → (cs : List ClaimerValue) (ls : List Letter) → cs ≡ map unstarted units → ls ≡ [] → IsWellFormed cs ls
-well_opened units few cs ls cs_is ls_is = record {
+-- units that are not started
+pub well_opened : (units : List UnitPlan) → length units ≤ 128 → (cs : List ClaimerValue) (lists : List (List (List Item))) → cs ≡ map unstarted units → IsTable (length units) lists → IsWellFormed cs lists
+well_opened units few cs lists cs_is table = record {
   few = omega (arith, length_opened units cs cs_is, few);
-  inside = ap (list_all (is_inside (length cs))) ls_is;
+  table = subst (λ (n : ℕ). IsTable n lists) (sym (length_opened units cs cs_is)) table;
   notes = λ v n h. absurd (true≢false (sym h ∙ ap is_some (ap (λ (s : ClaimState). get s.notes n) (ap (λ (l : List ClaimerValue). station_at l v) cs_is ∙ station_unstarted units v) ∙ get-empty nat_cmp n)));
 }
 
@@ -59,20 +60,20 @@ pub record IsFirstTraffic (plan : Plan) (t : kept.Traffic) : Type 0 where
   pub flows : map route_of t.routes.items ≡ flows_of plan
   pub windows : t.windows.items ≡ windows_of plan
   pub transfers : t.transfers.items ≡ replicate (length plan.units.items) None
-  pub wire : (u v : ℕ) → pair_in (lists_of t.wire) u v ≡ []
+  pub wire : (u v : ℕ) → pair_in t.wire.lists u v ≡ []
   pub reports : t.reports.items ≡ []
 
 abbrev no_histories : Histories
 no_histories = record { taken = λ v u. []; begun = λ u v. [] }
 
-pub network_first : (plan : Plan) (net : Network) → net.claimers.items ≡ map unstarted plan.units.items → net.letters.items ≡ [] → IsTraffic (length plan.units.items) net.traffic.routes.items net.traffic.windows.items net.traffic.transfers.items (lists_of net.traffic.wire) → IsNetwork net
-network_first plan net cs_is ls_is fits = record {
-  claims = well_opened plan.units.items plan.unit_count net.claimers.items net.letters.items cs_is ls_is;
-  traffic = subst (λ n. IsTraffic n net.traffic.routes.items net.traffic.windows.items net.traffic.transfers.items (lists_of net.traffic.wire)) (sym (length_opened plan.units.items net.claimers.items cs_is)) fits;
+pub network_first : (plan : Plan) (net : Network) → net.claimers.items ≡ map unstarted plan.units.items → IsTable (length plan.units.items) net.claims.lists → IsTraffic (length plan.units.items) net.traffic.routes.items net.traffic.windows.items net.traffic.transfers.items net.traffic.wire.lists → IsNetwork net
+network_first plan net cs_is table fits = record {
+  claims = well_opened plan.units.items plan.unit_count net.claimers.items net.claims.lists cs_is table;
+  traffic = subst (λ n. IsTraffic n net.traffic.routes.items net.traffic.windows.items net.traffic.transfers.items net.traffic.wire.lists) (sym (length_opened plan.units.items net.claimers.items cs_is)) fits;
 }
 
-pub stands_first : (plan : Plan) (net : Network) → IsNetwork net → net.claimers.items ≡ map unstarted plan.units.items → net.letters.items ≡ [] → net.frames.items ≡ [] → IsFirstTraffic plan net.traffic → Stands (state_of net) plan first
-stands_first plan net well cs_is ls_is fs_is t = subst (Stands (state_of net) plan) at_first
+pub stands_first : (plan : Plan) (net : Network) → IsNetwork net → net.claimers.items ≡ map unstarted plan.units.items → ((u v : ℕ) → pair_in net.claims.lists u v ≡ []) → net.frames.items ≡ [] → IsFirstTraffic plan net.traffic → Stands (state_of net) plan first
+stands_first plan net well cs_is none fs_is t = subst (Stands (state_of net) plan) at_first
     (stands net well plan (record { units = ap claimants cs_is ∙ claimants-unstarted plan.units.items; flows = t.flows; windows = t.windows }) no_histories gathered)
   where
     sent : (u : ℕ) → get_or (transfers_of net) u None ≡ None
@@ -84,7 +85,7 @@ stands_first plan net well cs_is ls_is fs_is t = subst (Stands (state_of net) pl
     at_first : world_of no_histories net ≡ first
     at_first = λ i. record {
       stations = λ u. (ap (λ (l : List ClaimerValue). station_at l u) cs_is ∙ station_unstarted plan.units.items u) i;
-      claims = λ u v. between (ls_is i) u v;
+      claims = λ u v. none u v i;
       sessions = λ u. outgoing_of (sent u i);
       wire = λ u v. t.wire u v i;
       receivers = λ v u. settled (receiving_or (receiver_of (sent u i) v)).progress;

@@ -1,9 +1,9 @@
 -- When a step is refused.
 use Rattle.std.proofs.Common.{◌≡◌, ◌≢◌, inl, inr, ℕ, ◌<◌, ◌==◌, Bool, true, false, not, nat_lt, is_some, List, [], ◌∷◌, length, map, get_or, refl, sym, ap, ◌∙◌, arith, Option, Some, None}
-use Rattle.std.proofs.lemmas.Bool.{and_parts, cases_lt, ltb-true, true≢false}
+use Rattle.std.proofs.lemmas.Bool.{and_parts, cases_lt, eq-eqb, eqb-true, le-ltb, lt-ltb, ltb-true, true≢false}
+use Rattle.std.specs.declared.alloc.Global.{Global}
+use Rattle.std.specs.declared.collections.VecDeque.{VecDeque}
 use Rattle.std.specs.List.{slice_get}
-use Rattle.j39_claim.specs.declared.item.Item.{Item}
-use Rattle.j39_bus.specs.declared.letter.Letter.{Letter}
 use Rattle.j39_claim.specs.ClaimerValue.{ClaimerValue}
 use Rattle.j39_plan.specs.declared.plan.Plan.{Plan}
 use Rattle.j39_plan.specs.declared.steps.Step.{Step}
@@ -14,13 +14,12 @@ use Rattle.j39_world.specs.declared.step_error.StepError.TheVariants.{UnknownUni
 use Rattle.j39_tp.specs.Receiver.{is_open_at}
 use Rattle.j39_world.specs.Flows.{Flow, can_be_sent}
 use Rattle.j39_world.specs.Resting.{can_rest}
-use Rattle.j39_bus.specs.Letters.{between, first_between, station_at, nobody}
+use Rattle.j39_bus.specs.Stations.{station_at, nobody}
 use Rattle.j39_bus.specs.Network.{Histories, IsOf, claimants}
 use Rattle.j39_world.specs.World.{World}
 use Rattle.j39_world.specs.Run.{at_ends, begin_refusal, both, can_emit, cause_of, has_address, is_no_transfer_open, is_nothing_undelivered, is_on, is_waiting, refusal, refusal_among, unless}
 use Rattle.j39_bus.specs.Traffic.{route_of}
 use Rattle.j39_bus.proofs.Rested.{units_count}
-use Rattle.j39_bus.proofs.Between.{nothing_between}
 use Rattle.j39_bus.proofs.Worlds.{any_default}
 
 pub length-claimants : (cs : List ClaimerValue) → length (claimants cs) ≡ length cs
@@ -137,9 +136,12 @@ pair_inside count u v more allowed =
     let units = and_parts (nat_lt u count) (nat_lt v count) (met (both (λ x. nat_lt x count) u v) UnknownUnit more allowed).0 in
     (ltb-true u count units.0, ltb-true v count units.1)
 
--- a list that is not empty has a first letter
-pub first_inside : (u v : ℕ) (ls : List Letter) → nat_lt 0 (length (between ls u v)) ≡ true → first_between u v ls < length ls
-first_inside u v ls some = elim (cases_lt (first_between u v ls) (length ls)) [
-  | inl less ↦ less
-  | inr past ↦ absurd (true≢false (sym some ∙ ap (λ (xs : List Item). nat_lt 0 (length xs)) (nothing_between u v ls past)))
-]
+-- whether there is something in a queue
+pub none_there : {X : Type 0} (q : VecDeque X Global) (xs : List X) → q.items ≡ xs → (q.len == 0) ≡ true → nat_lt 0 (length xs) ≡ false
+none_there q xs is empty = let none : q.len ≡ 0 = eqb-true q.len 0 empty in le-ltb 0 (length xs) (omega (arith, none, q.ok.0, ap length is))
+
+pub some_there : {X : Type 0} (q : VecDeque X Global) (xs : List X) → q.items ≡ xs → (q.len == 0) ≡ false → nat_lt 0 (length xs) ≡ true
+some_there q xs is filled = lt-ltb 0 (length xs) (elim (cases_lt 0 (length xs)) [
+  | inl some ↦ some
+  | inr none ↦ absurd (true≢false (sym (eq-eqb q.len 0 (omega (arith, none, q.ok.0, ap length is))) ∙ filled))
+])

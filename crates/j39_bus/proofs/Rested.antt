@@ -14,10 +14,11 @@ use Rattle.j39_tp.specs.Receiver.{is_open_at}
 use Rattle.j39_tp.specs.declared.receiving.progress.Progress.{Progress}
 use Rattle.j39_tp.specs.declared.receiving.progress.Progress.TheVariants.{Closed, Open, Complete}
 use Rattle.j39_bus.specs.declared.network.Network.{Network}
-use Rattle.j39_bus.specs.BusState.{outgoing_of, pair_in, receiving_or, session_at}
+use Rattle.j39_bus.specs.BusState.{outgoing_of, receiving_or, session_at}
+use Rattle.j39_queues.specs.Queued.{pair_in}
 use Rattle.j39_bus.specs.Network.{Histories, IsOf, world_of}
 use Rattle.j39_world.specs.Resting.{is_of_sender, is_of_receiver, is_over_with}
-use Rattle.j39_bus.specs.Traffic.{lists_of, receiver_in, transfer_of, values_of}
+use Rattle.j39_bus.specs.Traffic.{receiver_in, transfer_of, values_of}
 use Rattle.j39_world.specs.Transfers.{settled}
 
 open_settled : (p : Progress) → is_open_at (settled p) ≡ is_open_at p
@@ -30,11 +31,11 @@ none_of test [] = refl
 none_of test (x ∷ xs) = elim (test x) as (λ b. (not b && list_all (λ x. not (test x)) xs) ≡ not (b || list_any test xs)) [ true ↦ refl | false ↦ none_of test xs ]
 
 pub over_from : (h : Histories) (net : Network) (u v : ℕ) (a b d : Bool) → is_open_at (receiving_or (receiver_in net.traffic.transfers.items v u)).progress ≡ a
-    → list_any is_of_sender (pair_in (lists_of net.traffic.wire) u v) ≡ b → list_any is_of_receiver (pair_in (lists_of net.traffic.wire) v u) ≡ d
+    → list_any is_of_sender (pair_in net.traffic.wire.lists u v) ≡ b → list_any is_of_receiver (pair_in net.traffic.wire.lists v u) ≡ d
     → is_over_with (world_of h net) u v ≡ (not a && (not b && not d))
 over_from h net u v a b d open_is sends answers = λ i.
     not ((open_settled (receiving_or (receiver_in net.traffic.transfers.items v u)).progress ∙ open_is) i)
-    && ((none_of is_of_sender (pair_in (lists_of net.traffic.wire) u v) ∙ ap not sends) i && (none_of is_of_receiver (pair_in (lists_of net.traffic.wire) v u) ∙ ap not answers) i)
+    && ((none_of is_of_sender (pair_in net.traffic.wire.lists u v) ∙ ap not sends) i && (none_of is_of_receiver (pair_in net.traffic.wire.lists v u) ∙ ap not answers) i)
 
 all_from : (test : ℕ → Bool) (a n : ℕ) → ((k : ℕ) → a ≤ k → k < a + n → test k ≡ true) → list_all test (range_with_len a n) ≡ true
 all_from test a zero is = refl

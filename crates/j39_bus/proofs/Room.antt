@@ -13,8 +13,7 @@ use Rattle.j39_claim.specs.declared.item.Item.{Item}
 use Rattle.j39_claim.specs.declared.item.Item.TheVariants.{Told, Request}
 use Rattle.j39_claim.specs.ClaimRule.{PlannedUnit, ClaimState, Answers, holds_address, Moves, GivesUp}
 use Rattle.j39_claim.specs.ClaimerValue.{ClaimerValue, can_note}
-use Rattle.j39_bus.specs.declared.letter.Letter.{Letter}
-use Rattle.j39_bus.specs.Letters.{nobody, station_at}
+use Rattle.j39_bus.specs.Stations.{nobody, station_at}
 use Rattle.j39_bus.specs.Network.{names_of, is_named, IsWellFormed}
 
 nothing : (o : Option ℕ) → (is_some o ≡ true → ⊥) → o ≡ None
@@ -69,7 +68,7 @@ noted_without notes n k h =
     ] (sym (ap is_some (get-remove nat_cmp_total notes n k ∙ ap (λ b. cond b None (get notes k)) (unsigned_tied k n))) ∙ h)
 
 -- each unit can note each
-pub can_note_all : (cs : List ClaimerValue) (ls : List Letter) (u v : ℕ) → IsWellFormed cs ls → u < length cs → can_note (station_at cs v).notes (get_or cs u nobody).planned.name ≡ true
+pub can_note_all : (cs : List ClaimerValue) (ls : List (List (List Item))) (u v : ℕ) → IsWellFormed cs ls → u < length cs → can_note (station_at cs v).notes (get_or cs u nobody).planned.name ≡ true
 can_note_all cs ls u v well inside =
     let n : ℕ = (get_or cs u nobody).planned.name in
     let notes : FinMap nat_cmp ℕ = (station_at cs v).notes in

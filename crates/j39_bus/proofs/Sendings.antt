@@ -7,20 +7,20 @@ use Rattle.j39_bus.specs.declared.route.Route.{Route}
 use Rattle.j39_bus.specs.declared.network.Network.{Network}
 use Rattle.j39_bus.specs.declared.traffic.Traffic as kept
 use Rattle.j39_bus.specs.declared.transfer.Transfer as made
-use Rattle.j39_bus.specs.declared.wire.Wire as queued
 use Rattle.j39_world.specs.ClaimSteps.{without_lists_to}
 use Rattle.j39_world.specs.declared.wired.Wired.{Wired}
 use Rattle.j39_world.specs.declared.wired.Wired.TheVariants as wired
-use Rattle.j39_bus.specs.BusState.{pair_in, places_from}
+use Rattle.j39_bus.specs.BusState.{places_from}
+use Rattle.j39_queues.specs.Queued.{IsTable, Queued, pair_in}
 use Rattle.j39_world.specs.Sent.{Sent}
 use Rattle.j39_world.specs.SentTransfers.{address_of, packet_frame}
-use Rattle.j39_bus.specs.Traffic.{IsTable, IsTraffic, is_announcement, is_receiver, posted, posted_along, lists_of}
+use Rattle.j39_bus.specs.Traffic.{IsTraffic, is_announcement, is_receiver, posted, posted_along}
 use Rattle.j39_world.specs.Transfers.{Wire, added, is_among}
 use Rattle.j39_world.specs.TransferSteps.{replied, sent_to}
 use Rattle.j39_world.specs.World.{World, changed_pair}
-use Rattle.j39_bus.proofs.Between.{append_nil}
+use Rattle.j39_bus.proofs.Worlds.{append_nil}
 use Rattle.j39_bus.proofs.Receivers.{Boxed, values}
-use Rattle.j39_bus.proofs.Tables.{among_places}
+use Rattle.j39_bus.proofs.ReceiverPlaces.{among_places}
 
 -- it has rows of its own number
 pub own_table : {X : Type 0} (n : ℕ) (lists : List (List (List X))) → IsTable n lists → IsTable (length lists) lists
@@ -115,13 +115,13 @@ no_more_without : (f g : Wire) (u : ℕ) → g ≡ without_lists_to u f → HasN
 no_more_without f g u is s t some = cond_both (eqb t u) [] (f s t) (λ xs. list_any is_announcement xs ≡ true → list_any is_announcement (f s t) ≡ true)
     (λ _ any. absurd (true≢false (sym any))) (λ _ any. any) (sym (ap (λ (h : Wire). list_any is_announcement (h s t)) is) ∙ some)
 
-pub switched_traffic : (old new : Network) → length new.claimers.items ≡ length old.claimers.items → (wire : queued.Wire) → new.traffic ≡ record old.traffic { wire = wire }
-    → IsTraffic (length old.claimers.items) old.traffic.routes.items old.traffic.windows.items old.traffic.transfers.items (lists_of old.traffic.wire)
-    → (u : ℕ) → IsTable (length (lists_of old.traffic.wire)) (lists_of wire) → pair_in (lists_of wire) ≡ without_lists_to u (pair_in (lists_of old.traffic.wire))
-    → IsTraffic (length new.claimers.items) new.traffic.routes.items new.traffic.windows.items new.traffic.transfers.items (lists_of new.traffic.wire)
+pub switched_traffic : (old new : Network) → length new.claimers.items ≡ length old.claimers.items → (wire : Queued Wired) → new.traffic ≡ record old.traffic { wire = wire }
+    → IsTraffic (length old.claimers.items) old.traffic.routes.items old.traffic.windows.items old.traffic.transfers.items old.traffic.wire.lists
+    → (u : ℕ) → IsTable (length old.traffic.wire.lists) wire.lists → pair_in wire.lists ≡ without_lists_to u (pair_in old.traffic.wire.lists)
+    → IsTraffic (length new.claimers.items) new.traffic.routes.items new.traffic.windows.items new.traffic.transfers.items new.traffic.wire.lists
 switched_traffic old new count wire is well u table lists_are =
     let n : ℕ = length old.claimers.items in
-    subst (λ (k : ℕ). IsTraffic k new.traffic.routes.items new.traffic.windows.items new.traffic.transfers.items (lists_of new.traffic.wire)) (sym count)
-    (subst (λ (t : kept.Traffic). IsTraffic n t.routes.items t.windows.items t.transfers.items (lists_of t.wire)) (sym is)
-    (rewired n old.traffic.routes.items old.traffic.windows.items old.traffic.transfers.items (lists_of old.traffic.wire) (lists_of wire) well
-    (as_table n (lists_of old.traffic.wire) (lists_of wire) well.table table) (no_more_without (pair_in (lists_of old.traffic.wire)) (pair_in (lists_of wire)) u lists_are)))
+    subst (λ (k : ℕ). IsTraffic k new.traffic.routes.items new.traffic.windows.items new.traffic.transfers.items new.traffic.wire.lists) (sym count)
+    (subst (λ (t : kept.Traffic). IsTraffic n t.routes.items t.windows.items t.transfers.items t.wire.lists) (sym is)
+    (rewired n old.traffic.routes.items old.traffic.windows.items old.traffic.transfers.items old.traffic.wire.lists wire.lists well
+    (as_table n old.traffic.wire.lists wire.lists well.table table) (no_more_without (pair_in old.traffic.wire.lists) (pair_in wire.lists) u lists_are)))

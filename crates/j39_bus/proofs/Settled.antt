@@ -1,55 +1,41 @@
--- No claim is undelivered exactly where all letters are requests.
-use Rattle.std.proofs.Common.{◌≡◌, ℕ, zero, suc, true, false, cond, ◌&&◌, eqb, List, [], ◌∷◌, refl, sym, ap, ◌∙◌, arith}
-use Rattle.std.proofs.lemmas.Bool.{eq-eqb, and_parts, and_from, true≢false}
-use Rattle.std.specs.List.{Contains}
+-- No claim is undelivered exactly where all that is undelivered are requests.
+use Rattle.std.proofs.Common.{◌≡◌, ℕ, zero, suc, Bool, true, false, ◌&&◌, List, [], ◌∷◌, refl, sym, ap, ◌∙◌, arith}
+use Rattle.std.proofs.lemmas.Bool.{and_parts, and_from, true≢false}
+use Rattle.std.specs.List.{Contains, list_all, range_with_len}
 use Rattle.j39_claim.specs.declared.item.Say.{Say}
 use Rattle.j39_claim.specs.declared.item.Say.TheVariants.{Claim, Cannot}
 use Rattle.j39_claim.specs.declared.item.Item.{Item}
 use Rattle.j39_claim.specs.declared.item.Item.TheVariants.{Told, Request}
-use Rattle.j39_bus.specs.declared.letter.Letter.{Letter}
-use Rattle.j39_bus.specs.Letters.{between, are_requests, is_request}
+use Rattle.j39_queues.specs.Queued.{IsTable, pair_in}
 use Rattle.j39_world.specs.Sound.{IsQuiet}
-
--- nothing told is in a list that begins with a request and has it nowhere else
-untold_first : (item : Item) (items : List Item) (say : Say) → is_request item ≡ true → ¬ Contains items (Told say) → ¬ Contains (item ∷ items) (Told say)
-untold_first item items say request none (zero, inside, is) = true≢false (sym request ∙ ap is_request is)
-untold_first item items say request none (suc k, inside, is) = none (k, omega arith, is)
-
-none_in : (x : Item) → ¬ Contains [] x
-none_in x (k, inside, is) = absurd (omega arith)
+use Rattle.j39_bus.specs.inside.Claims.{are_requests, is_request}
+use Rattle.j39_bus.proofs.Outside.{each_list}
+use Rattle.j39_bus.proofs.Rested.{all_below}
 
 -- nothing told is in a list of requests
-untold : (ls : List Letter) (u v : ℕ) (say : Say) → are_requests ls ≡ true → ¬ Contains (between ls u v) (Told say)
-untold [] u v say all = none_in (Told say)
-untold (l ∷ ls) u v say all =
-    let parts = and_parts (is_request l.item) (are_requests ls) all in
-    let rest = untold ls u v say parts.1 in
-    elim (eqb l.from u && eqb l.to v) as (λ b. ¬ Contains (cond b (l.item ∷ between ls u v) (between ls u v)) (Told say)) [
-      | true ↦ untold_first l.item (between ls u v) say parts.0 rest
-      | false ↦ rest
-    ]
+untold : (items : List Item) (say : Say) → are_requests items ≡ true → ¬ Contains items (Told say)
+untold [] say all (k, inside, is) = absurd (omega arith)
+untold (item ∷ items) say all (zero, inside, is) = true≢false (sym (and_parts (is_request item) (are_requests items) all).0 ∙ ap is_request is)
+untold (item ∷ items) say all (suc k, inside, is) = untold items say (and_parts (is_request item) (are_requests items) all).1 (k, omega arith, is)
 
--- a list that is quiet is quiet without its first letter
-quiet_rest : (l : Letter) (ls : List Letter) → IsQuiet (between (l ∷ ls)) → IsQuiet (between ls)
-quiet_rest l ls quiet u v = (λ a there. (quiet u v).0 a (more (Told (Claim a)) there), λ there. (quiet u v).1 (more (Told Cannot) there))
+all_requests : (items : List Item) → ((a : ℕ) → ¬ Contains items (Told (Claim a))) → ¬ Contains items (Told Cannot) → are_requests items ≡ true
+all_requests [] claims cannot = refl
+all_requests (item ∷ items) claims cannot =
+    and_from (is_request item) (are_requests items) (first item refl) (all_requests items (λ a there. claims a (more (Told (Claim a)) there)) (λ there. cannot (more (Told Cannot) there)))
   where
-    more : (x : Item) → Contains (between ls u v) x → Contains (between (l ∷ ls) u v) x
-    more x (k, inside, is) = elim (eqb l.from u && eqb l.to v) as (λ b. Contains (cond b (l.item ∷ between ls u v) (between ls u v)) x) [
-      | true ↦ (suc k, omega arith, is)
-      | false ↦ (k, inside, is)
-    ]
+    more : (x : Item) → Contains items x → Contains (item ∷ items) x
+    more x (k, inside, is) = (suc k, omega arith, is)
 
-all_requests : (ls : List Letter) → IsQuiet (between ls) → are_requests ls ≡ true
-all_requests [] quiet = refl
-all_requests (l ∷ ls) quiet = and_from (is_request l.item) (are_requests ls) (first l.item refl) (all_requests ls (quiet_rest l ls quiet))
-  where
-    here : (x : Item) → l.item ≡ x → Contains (between (l ∷ ls) l.from l.to) x
-    here x is = rw (eq-eqb l.from l.from refl, eq-eqb l.to l.to refl) (0, omega arith, is)
-
-    first : (x : Item) → l.item ≡ x → is_request l.item ≡ true
-    first (Told (Claim a)) is = absurd ((quiet l.from l.to).0 a (here (Told (Claim a)) is))
-    first (Told Cannot) is = absurd ((quiet l.from l.to).1 (here (Told Cannot) is))
+    first : (x : Item) → item ≡ x → is_request item ≡ true
+    first (Told (Claim a)) is = absurd (claims a (0, omega arith, is))
+    first (Told Cannot) is = absurd (cannot (0, omega arith, is))
     first Request is = ap is_request is
 
-pub settled : (ls : List Letter) → (are_requests ls ≡ true → IsQuiet (between ls)) × (IsQuiet (between ls) → are_requests ls ≡ true)
-settled ls = (λ all u v. (λ a. untold ls u v (Claim a) all, untold ls u v Cannot all), all_requests ls)
+pub settled : (n : ℕ) (lists : List (List (List Item))) → IsTable n lists → (b : Bool)
+    → b ≡ list_all (λ u. list_all (λ v. are_requests (pair_in lists u v)) (range_with_len 0 n)) (range_with_len 0 n)
+    → (b ≡ true → IsQuiet (pair_in lists)) × (IsQuiet (pair_in lists) → b ≡ true)
+settled n lists table b is = (
+  λ yes u v. let all = each_list are_requests refl n lists table (sym is ∙ yes) u v in (λ a. untold (pair_in lists u v) (Claim a) all, untold (pair_in lists u v) Cannot all),
+  λ quiet. is ∙ all_below (λ u. list_all (λ v. are_requests (pair_in lists u v)) (range_with_len 0 n)) n
+      (λ u _. all_below (λ v. are_requests (pair_in lists u v)) n (λ v _. all_requests (pair_in lists u v) (quiet u v).0 (quiet u v).1)),
+)

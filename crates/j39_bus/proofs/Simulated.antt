@@ -12,7 +12,7 @@ use Rattle.j39_world.specs.World.{World, Stations, first}
 use Rattle.j39_world.specs.Claimants.{claimant_of}
 use Rattle.j39_world.specs.Run.{cause_of, refusal, Leads, RunsThrough}
 use Rattle.j39_bus.specs.BusState.{BusState, undelivered}
-use Rattle.j39_bus.specs.Letters.{nobody}
+use Rattle.j39_bus.specs.Stations.{nobody}
 use Rattle.j39_world.specs.Sound.{IsQuiet}
 use Rattle.j39_bus.specs.Stands.{Stands}
 use Rattle.j39_bus.specs.Ended.{View, Shows, EndsIn, steps_of, unit_state}

@@ -1,51 +1,23 @@
 -- What a bus stands for, by its network.
 use Rattle.std.proofs.Common.{◌≡◌, ℕ, true, inl, inr, List, [], ◌∷◌, ◌++◌, length, map, get_or, refl, sym, ap, ◌∙◌, subst, arith, None, Result, Ok, Err, OnOk, OnErr, IfErr}
-use Rattle.std.proofs.lemmas.Bool.{cases_lt}
-use Rattle.std.proofs.lemmas.List.{get_or_past}
-use Rattle.std.proofs.lemmas.List.FromFn.{get_or-map-range_with_len, length-map-range_with_len}
-use Rattle.std.specs.List.{range_with_len, list_all}
-use Rattle.j39_claim.specs.declared.item.Item.{Item}
 use Rattle.j39_plan.specs.declared.plan.Plan.{Plan}
-use Rattle.j39_bus.specs.declared.letter.Letter.{Letter}
 use Rattle.j39_bus.specs.declared.network.Network.{Network}
 use Rattle.j39_plan.specs.declared.steps.Step.{Step}
 use Rattle.j39_world.specs.declared.step_error.StepError.{StepError}
 use Rattle.j39_world.specs.World.{World}
 use Rattle.j39_world.specs.Run.{cause_of, refusal, refusal_among, Leads, RunsThrough}
-use Rattle.j39_bus.specs.Letters.{between, is_inside}
-use Rattle.j39_bus.specs.BusState.{BusState, table_of, undelivered}
+use Rattle.j39_bus.specs.BusState.{BusState}
 use Rattle.j39_bus.specs.Stands.{Stands}
 use Rattle.j39_bus.specs.Network.{state_of, world_of, Histories, HasGathered, IsNetwork, IsBus, IsOf, IsAllowed, IsSameNetwork, KeepsPlan, LeadsTo, refusal_in}
 use Rattle.j39_world.specs.Sent.{sent_of}
 use Rattle.j39_bus.specs.Traffic.{route_of, reported_of, values_of}
-use Rattle.j39_bus.proofs.Between.{none_outside}
 use Rattle.j39_bus.proofs.Refused.{length-claimants, refusal_is}
-
--- the lists of the table are those between units
-tabled : (n : ℕ) (ls : List Letter) → list_all (is_inside n) ls ≡ true → (u v : ℕ) → get_or (get_or (table_of n (between ls)) u []) v [] ≡ between ls u v
-tabled n ls inside u v =
-    elim (cases_lt u n) [
-      | inl in_u ↦
-          let row : get_or (table_of n (between ls)) u [] ≡ map (between ls u) (range_with_len 0 n) =
-          get_or-map-range_with_len (λ x. map (between ls x) (range_with_len 0 n)) 0 n u u [] in_u (omega arith) in
-          ap (λ (r : List (List Item)). get_or r v []) row
-          ∙ elim (cases_lt v n) [
-            | inl in_v ↦ get_or-map-range_with_len (between ls u) 0 n v v [] in_v (omega arith)
-            | inr past ↦ get_or_past (map (between ls u) (range_with_len 0 n)) v [] (omega (arith, length-map-range_with_len (between ls u) 0 n)) ∙ sym (none_outside n ls u v inside (inr past))
-          ]
-      | inr past ↦
-          ap (λ (r : List (List Item)). get_or r v []) (get_or_past (table_of n (between ls)) u [] (omega (arith, length-map-range_with_len (λ x. map (between ls x) (range_with_len 0 n)) 0 n)))
-          ∙ sym (none_outside n ls u v inside (inl past))
-    ]
-
-pub undelivered_is : (net : Network) → IsNetwork net → undelivered (state_of net) ≡ between net.letters.items
-undelivered_is net well = λ i u v. tabled (length net.claimers.items) net.letters.items well.claims.inside u v i
 
 -- what contracts see of a network
 pub state_is : (old new : Network) → IsSameNetwork old new → state_of new ≡ state_of old
 state_is old new same = λ i. record {
   units = same.claimers i;
-  claims = table_of (length (same.claimers i)) (between (same.letters i));
+  claims = same.claims i;
   traffic = record {
     flows = map route_of (same.routes i);
     windows = same.windows i;
@@ -61,7 +33,7 @@ pub stands : (net : Network) → IsNetwork net → (plan : Plan) → IsOf plan n
 stands net well plan planned h gathered = record {
   planned = planned.units;
   stations = refl;
-  claims = sym (undelivered_is net well);
+  claims = refl;
   flows = planned.flows;
   windows = planned.windows;
   sessions = refl;
@@ -79,7 +51,7 @@ histories w = record { taken = w.taken; begun = w.begun }
 pub world_is : (net : Network) → IsNetwork net → (plan : Plan) (w : World) → Stands (state_of net) plan w → w ≡ world_of (histories w) net
 world_is net well plan w s = λ i. record {
   stations = s.stations i;
-  claims = (s.claims ∙ undelivered_is net well) i;
+  claims = s.claims i;
   sessions = s.sessions i;
   wire = s.wire i;
   receivers = s.receivers i;

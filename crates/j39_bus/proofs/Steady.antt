@@ -5,21 +5,22 @@ use Rattle.j39_plan.specs.declared.plan.Plan.{Plan}
 use Rattle.j39_plan.specs.declared.steps.Step.{Step}
 use Rattle.j39_bus.specs.declared.network.Network.{Network}
 use Rattle.j39_bus.specs.declared.traffic.Traffic as kept
-use Rattle.j39_bus.specs.Letters.{between, station_at}
-use Rattle.j39_bus.specs.BusState.{pair_in, receiving_or, session_at}
+use Rattle.j39_bus.specs.Stations.{station_at}
+use Rattle.j39_bus.specs.BusState.{receiving_or, session_at}
+use Rattle.j39_queues.specs.Queued.{pair_in}
 use Rattle.j39_bus.specs.Network.{Histories, HasGathered, IsNetwork, IsSameNetwork, IsWellFormed, KeepsPlan, LeadsTo, AreGathered, claimants, receivers_of, world_of}
 use Rattle.j39_world.specs.Sent.{sent_of}
 use Rattle.j39_world.specs.World.{World}
 use Rattle.j39_world.specs.Run.{Leads}
 use Rattle.std.specs.Prelude.{ℕ}
-use Rattle.j39_bus.specs.Traffic.{IsTraffic, KeepsReceivers, lists_of, reported_of, values_of}
+use Rattle.j39_bus.specs.Traffic.{IsTraffic, KeepsReceivers, reported_of, values_of}
 use Rattle.j39_tp.specs.inside.Gathered.{Gathers}
 use Rattle.j39_tp.specs.declared.packet.Packet.{Packet}
 use Rattle.j39_tp.specs.Receiver.{Receiving}
 use Rattle.j39_world.specs.Transfers.{settled}
 
 abbrev pub IsTrafficOf : ℕ → kept.Traffic → Type 0
-IsTrafficOf n t = IsTraffic n t.routes.items t.windows.items t.transfers.items (lists_of t.wire)
+IsTrafficOf n t = IsTraffic n t.routes.items t.windows.items t.transfers.items t.wire.lists
 
 -- traffic that does not change stays in its form
 pub same_traffic : (old new : Network) → length new.claimers.items ≡ length old.claimers.items → new.traffic ≡ old.traffic → IsTrafficOf (length old.claimers.items) old.traffic → IsTrafficOf (length new.claimers.items) new.traffic
@@ -35,7 +36,7 @@ module _ (old new : Network) (same : IsSameNetwork old new) where
   pub world_same : (h : Histories) → world_of h new ≡ world_of h old
   world_same h = λ i. record {
     stations = station_at (same.claimers i);
-    claims = between (same.letters i);
+    claims = pair_in (same.claims i);
     sessions = session_at (values_of (same.transfers i));
     wire = pair_in (same.wire i);
     receivers = receivers_of (values_of (same.transfers i));
@@ -50,11 +51,11 @@ module _ (old new : Network) (same : IsSameNetwork old new) where
 
   pub network_same : IsNetwork old → IsNetwork new
   network_same well = record {
-    claims = subst (λ cs. IsWellFormed cs new.letters.items) (sym same.claimers) (subst (λ ls. IsWellFormed old.claimers.items ls) (sym same.letters) well.claims);
-    traffic = subst (λ cs. IsTraffic (length cs) new.traffic.routes.items new.traffic.windows.items new.traffic.transfers.items (lists_of new.traffic.wire)) (sym same.claimers)
-        (subst (λ rs. IsTraffic (length old.claimers.items) rs new.traffic.windows.items new.traffic.transfers.items (lists_of new.traffic.wire)) (sym same.routes)
-        (subst (λ ws. IsTraffic (length old.claimers.items) old.traffic.routes.items ws new.traffic.transfers.items (lists_of new.traffic.wire)) (sym same.windows)
-        (subst (λ ts. IsTraffic (length old.claimers.items) old.traffic.routes.items old.traffic.windows.items ts (lists_of new.traffic.wire)) (sym same.transfers)
+    claims = subst (λ cs. IsWellFormed cs new.claims.lists) (sym same.claimers) (subst (λ ls. IsWellFormed old.claimers.items ls) (sym same.claims) well.claims);
+    traffic = subst (λ cs. IsTraffic (length cs) new.traffic.routes.items new.traffic.windows.items new.traffic.transfers.items new.traffic.wire.lists) (sym same.claimers)
+        (subst (λ rs. IsTraffic (length old.claimers.items) rs new.traffic.windows.items new.traffic.transfers.items new.traffic.wire.lists) (sym same.routes)
+        (subst (λ ws. IsTraffic (length old.claimers.items) old.traffic.routes.items ws new.traffic.transfers.items new.traffic.wire.lists) (sym same.windows)
+        (subst (λ ts. IsTraffic (length old.claimers.items) old.traffic.routes.items old.traffic.windows.items ts new.traffic.wire.lists) (sym same.transfers)
         (subst (λ ls. IsTraffic (length old.claimers.items) old.traffic.routes.items old.traffic.windows.items old.traffic.transfers.items ls) (sym same.wire) well.traffic))));
   }
 

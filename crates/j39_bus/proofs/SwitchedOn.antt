@@ -5,15 +5,14 @@ use Rattle.j39_claim.specs.declared.item.Say.TheVariants.{Claim}
 use Rattle.j39_claim.specs.declared.item.Item.TheVariants.{Told}
 use Rattle.j39_claim.specs.ClaimRule.{PlannedUnit, off, started}
 use Rattle.j39_claim.specs.ClaimerValue.{ClaimerValue}
-use Rattle.j39_bus.specs.declared.letter.Letter.{Letter}
 use Rattle.j39_world.specs.Claimants.{unit_at}
 use Rattle.j39_world.specs.Sent.{Sent}
 use Rattle.j39_world.specs.Transfers.{Wire}
-use Rattle.j39_world.specs.World.{World, changed}
+use Rattle.j39_world.specs.World.{World, Undelivered, changed}
 use Rattle.j39_world.specs.ClaimSteps.{tell, switched_on, switched_off, without_lists_to}
-use Rattle.j39_bus.specs.Letters.{between, without_letters_to, nobody, station_at}
+use Rattle.j39_bus.specs.Stations.{nobody, station_at}
 use Rattle.j39_bus.specs.Network.{claimants}
-use Rattle.j39_bus.proofs.Worlds.{any_default, claimants-set, unit_at-claimants, world, world_on}
+use Rattle.j39_bus.proofs.Worlds.{any_default, claimants-set, unit_at-claimants, world, world_set}
 
 module _ (cs : List ClaimerValue) (u : ℕ) (inside : u < length cs) (old new : ClaimerValue) (at : old ≡ get_or cs u old) (starts : new ≡ record old { state = started old.planned }) where
   same_claimant : new.planned ≡ (get_or cs u nobody).planned
@@ -25,16 +24,16 @@ module _ (cs : List ClaimerValue) (u : ℕ) (inside : u < length cs) (old new : 
   pub on_claimant : new.planned ≡ (get_or cs u nobody).planned
   on_claimant = same_claimant
 
-  pub switched : (b : World) (ls left : List Letter) (fs : List Sent) → left ≡ without_letters_to u ls → (wire : Wire) → wire ≡ without_lists_to u b.wire → (say : Say) → say ≡ Claim old.planned.preferred
+  pub switched : (b : World) (claims left : Undelivered) (fs : List Sent) → left ≡ without_lists_to u claims → (wire : Wire) → wire ≡ without_lists_to u b.wire → (say : Say) → say ≡ Claim old.planned.preferred
       → (after : World) → after ≡ tell (claimants (set cs u new)) (record (world b (set cs u new) left fs) { wire = wire }) u (Told say ∷ [])
-      → after ≡ switched_on (claimants cs) (world b cs ls fs) u
-  switched b ls left fs left_is wire wire_is say said after after_is =
+      → after ≡ switched_on (claimants cs) (world b cs claims fs) u
+  switched b claims left fs left_is wire wire_is say said after after_is =
       let planned : old.planned ≡ unit_at (claimants cs) u = ap (λ (c : ClaimerValue). c.planned) (at ∙ any_default cs u old nobody inside) ∙ sym (unit_at-claimants cs u) in
       let state : new.state ≡ started (unit_at (claimants cs) u) = ap (λ (c : ClaimerValue). c.state) starts ∙ ap started planned in
-      let claims : say ≡ Claim (unit_at (claimants cs) u).preferred = said ∙ ap (λ (c : PlannedUnit). Claim c.preferred) planned in
-      let before : world b (set cs u new) left fs ≡ record b { stations = changed (station_at cs) u (started (unit_at (claimants cs) u)); claims = without_lists_to u (between ls); frames = fs } =
-      (λ i. world b (set cs u new) (left_is i) fs) ∙ world_on b cs ls fs u new inside ∙ (λ i. record b { stations = changed (station_at cs) u (state i); claims = without_lists_to u (between ls); frames = fs }) in
-      after_is ∙ (λ i. tell (claimants_on i) (record (before i) { wire = wire_is i }) u (Told (claims i) ∷ []))
+      let says : say ≡ Claim (unit_at (claimants cs) u).preferred = said ∙ ap (λ (c : PlannedUnit). Claim c.preferred) planned in
+      let before : world b (set cs u new) left fs ≡ record b { stations = changed (station_at cs) u (started (unit_at (claimants cs) u)); claims = without_lists_to u claims; frames = fs } =
+      (λ i. world b (set cs u new) (left_is i) fs) ∙ world_set b cs (without_lists_to u claims) fs u new inside ∙ (λ i. record b { stations = changed (station_at cs) u (state i); claims = without_lists_to u claims; frames = fs }) in
+      after_is ∙ (λ i. tell (claimants_on i) (record (before i) { wire = wire_is i }) u (Told (says i) ∷ []))
 
 module _ (cs : List ClaimerValue) (u : ℕ) (inside : u < length cs) (old new : ClaimerValue) (at : old ≡ get_or cs u old) (stops : new ≡ record old { state = off }) where
   pub off_claimant : new.planned ≡ (get_or cs u nobody).planned
@@ -43,9 +42,9 @@ module _ (cs : List ClaimerValue) (u : ℕ) (inside : u < length cs) (old new : 
   pub claimants_off : claimants (set cs u new) ≡ claimants cs
   claimants_off = claimants-set cs u new off_claimant
 
-  pub switched_off_world : (b : World) (ls left : List Letter) (fs : List Sent) → left ≡ without_letters_to u ls → (wire : Wire) → wire ≡ without_lists_to u b.wire
-      → record (world b (set cs u new) left fs) { wire = wire } ≡ switched_off (world b cs ls fs) u
-  switched_off_world b ls left fs left_is wire wire_is =
-      let before : world b (set cs u new) left fs ≡ record b { stations = changed (station_at cs) u off; claims = without_lists_to u (between ls); frames = fs } =
-      (λ i. world b (set cs u new) (left_is i) fs) ∙ world_on b cs ls fs u new inside ∙ (λ i. record b { stations = changed (station_at cs) u (stops i).state; claims = without_lists_to u (between ls); frames = fs }) in
+  pub switched_off_world : (b : World) (claims left : Undelivered) (fs : List Sent) → left ≡ without_lists_to u claims → (wire : Wire) → wire ≡ without_lists_to u b.wire
+      → record (world b (set cs u new) left fs) { wire = wire } ≡ switched_off (world b cs claims fs) u
+  switched_off_world b claims left fs left_is wire wire_is =
+      let before : world b (set cs u new) left fs ≡ record b { stations = changed (station_at cs) u off; claims = without_lists_to u claims; frames = fs } =
+      (λ i. world b (set cs u new) (left_is i) fs) ∙ world_set b cs (without_lists_to u claims) fs u new inside ∙ (λ i. record b { stations = changed (station_at cs) u (stops i).state; claims = without_lists_to u claims; frames = fs }) in
       λ i. record (before i) { wire = wire_is i }

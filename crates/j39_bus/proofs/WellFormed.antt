@@ -1,8 +1,7 @@
 -- What changes of a network keep of its form.
-use Rattle.std.proofs.Common.{◌≡◌, ℕ, ◌<◌, true, eqb, List, ◌++◌, length, get_or, set, refl, sym, ap, ◌∙◌, subst, arith, inl, inr, Option}
+use Rattle.std.proofs.Common.{◌≡◌, ℕ, ◌<◌, ◌≤◌, Bool, true, false, not, ◌&&◌, eqb, List, ◌++◌, length, get_or, set, refl, sym, ap, ◌∙◌, subst, arith, inl, inr, Option}
 use Rattle.std.proofs.Math.ListN.{length-set}
-use Rattle.std.proofs.lemmas.Bool.{cases_eq, eq-eqb, ne_eqb, cond-true, cond-false, true≢false}
-use Rattle.std.specs.List.{list_all}
+use Rattle.std.proofs.lemmas.Bool.{cases_eq, eq-eqb, ne_eqb, and_right, cond-true, cond-false, true≢false}
 use Rattle.std.specs.Option.{is_some}
 use Rattle.std.specs.Ordering.{nat_cmp}
 use Rattle.std.specs.FinMap.{empty, get, get-empty}
@@ -10,21 +9,22 @@ use Rattle.j39_claim.specs.declared.item.Say.{Say}
 use Rattle.j39_claim.specs.declared.item.Item.{Item}
 use Rattle.j39_claim.specs.ClaimRule.{ClaimState}
 use Rattle.j39_claim.specs.ClaimerValue.{ClaimerValue}
-use Rattle.j39_bus.specs.declared.letter.Letter.{Letter}
-use Rattle.j39_bus.specs.Letters.{nobody, station_at, is_inside, letters_to_others, without_letters_to}
-use Rattle.j39_world.specs.World.{changed}
+use Rattle.j39_bus.specs.Stations.{nobody, station_at}
+use Rattle.j39_world.specs.World.{changed, hears}
 use Rattle.j39_bus.specs.Network.{is_named, IsWellFormed, HasAnswered}
-use Rattle.j39_bus.proofs.Between.{inside-append, inside-told, inside-left}
+use Rattle.j39_queues.specs.Queued.{IsTable, KeepsRoom, Queued, room_at}
+use Rattle.j39_bus.specs.inside.Claims.{HasRoomForOthers}
 use Rattle.j39_bus.proofs.Room.{named-set, noted_then}
-use Rattle.j39_bus.proofs.Worlds.{station_set}
+use Rattle.std.proofs.lemmas.List.{get_or_past}
+use Rattle.j39_bus.proofs.Worlds.{any_default, station_set}
 
 -- a unit that has noted only units' NAMEs takes the place of another
-well_set : (cs : List ClaimerValue) (ls : List Letter) → IsWellFormed cs ls → (v : ℕ) → v < length cs → (c : ClaimerValue) → c.planned ≡ (get_or cs v nobody).planned
+well_set : (cs : List ClaimerValue) (lists : List (List (List Item))) → IsWellFormed cs lists → (v : ℕ) → v < length cs → (c : ClaimerValue) → c.planned ≡ (get_or cs v nobody).planned
     → ((n : ℕ) → is_some (get c.state.notes n) ≡ true → is_named cs n ≡ true)
-    → (left : List Letter) → list_all (is_inside (length cs)) left ≡ true → IsWellFormed (set cs v c) left
-well_set cs ls well v inside c same notes left all_inside = record {
+    → (left : List (List (List Item))) → IsTable (length cs) left → IsWellFormed (set cs v c) left
+well_set cs lists well v inside c same notes left table = record {
   few = omega (arith, length-set cs v c, well.few);
-  inside = ap (λ n. list_all (is_inside n) left) (length-set cs v c) ∙ all_inside;
+  table = subst (λ (n : ℕ). IsTable n left) (sym (length-set cs v c)) table;
   notes = λ x n h. named-set cs v c n same ∙ old x n (sym (ap (λ (s : ClaimState). is_some (get s.notes n)) (station_set cs v c x inside)) ∙ h);
 }
   where
@@ -35,28 +35,47 @@ well_set cs ls well v inside c same notes left all_inside = record {
     ]
 
 -- a unit tells the others
-pub well_told : (cs : List ClaimerValue) (ls : List Letter) → IsWellFormed cs ls → (u : ℕ) → u < length cs → (item : Item) (same : List ClaimerValue) (more : List Letter) → same ≡ cs → more ≡ ls ++ letters_to_others 0 cs u item → IsWellFormed same more
-well_told cs ls well u inside item same more same_is more_is =
-    subst (λ (l : List ClaimerValue). IsWellFormed l more) (sym same_is) (subst (IsWellFormed cs) (sym more_is) (record {
-      few = well.few;
-      inside = inside-append (length cs) ls (letters_to_others 0 cs u item) well.inside (inside-told (length cs) 0 cs u item inside (omega arith));
-      notes = well.notes;
-    }))
+pub well_told : (cs : List ClaimerValue) (lists : List (List (List Item))) → IsWellFormed cs lists → (same : List ClaimerValue) (more : List (List (List Item))) → same ≡ cs → IsTable (length cs) more → IsWellFormed same more
+well_told cs lists well same more same_is table =
+    subst (λ (l : List ClaimerValue). IsWellFormed l more) (sym same_is) (record { few = well.few; table = table; notes = well.notes })
 
 -- a unit is switched on
-pub well_on : (cs : List ClaimerValue) (ls : List Letter) → IsWellFormed cs ls → (u : ℕ) → u < length cs → (c : ClaimerValue) → c.planned ≡ (get_or cs u nobody).planned
-    → c.state.notes ≡ empty → (left : List Letter) → left ≡ without_letters_to u ls → IsWellFormed (set cs u c) left
-well_on cs ls well u inside c same none left left_is =
-    subst (IsWellFormed (set cs u c)) (sym left_is)
-    (well_set cs ls well u inside c same (λ n h. absurd (true≢false (sym h ∙ ap is_some (ap (λ m. get m n) none ∙ get-empty nat_cmp n)))) (without_letters_to u ls) (inside-left (length cs) u ls well.inside))
+pub well_on : (cs : List ClaimerValue) (lists : List (List (List Item))) → IsWellFormed cs lists → (u : ℕ) → u < length cs → (c : ClaimerValue) → c.planned ≡ (get_or cs u nobody).planned
+    → c.state.notes ≡ empty → (left : List (List (List Item))) → IsTable (length lists) left → IsWellFormed (set cs u c) left
+well_on cs lists well u inside c same none left table =
+    well_set cs lists well u inside c same (λ n h. absurd (true≢false (sym h ∙ ap is_some (ap (λ m. get m n) none ∙ get-empty nat_cmp n)))) left
+    (subst (λ (n : ℕ). IsTable n left) well.table.rows table)
 
 -- a unit has heard an item under one of the NAMEs
-pub well_heard : (cs : List ClaimerValue) (ls : List Letter) → IsWellFormed cs ls → (v : ℕ) → v < length cs → (name : ℕ) → is_named cs name ≡ true → (item : Item) (says : Option Say) (new : List ClaimerValue) → HasAnswered cs v name item says new
-    → (left : List Letter) → list_all (is_inside (length cs)) left ≡ true → IsWellFormed new left
-well_heard cs ls well v inside name is_one item says new (s, is, answers) left all_inside =
+pub well_heard : (cs : List ClaimerValue) (lists : List (List (List Item))) → IsWellFormed cs lists → (v : ℕ) → v < length cs → (name : ℕ) → is_named cs name ≡ true
+    → (item : Item) (says : Option Say) (new : List ClaimerValue) → HasAnswered cs v name item says new
+    → (left : List (List (List Item))) → IsTable (length lists) left → IsWellFormed new left
+well_heard cs lists well v inside name is_one item says new (s, is, answers) left table =
     subst (λ (l : List ClaimerValue). IsWellFormed l left) (sym is)
-    (well_set cs ls well v inside (record (get_or cs v nobody) { state = s }) refl
+    (well_set cs lists well v inside (record (get_or cs v nobody) { state = s }) refl
     (λ n h. elim (noted_then (get_or cs v nobody).planned (station_at cs v) name item says s answers n h) [
       | inl same ↦ rw same is_one
       | inr old ↦ well.notes v n old
-    ]) left all_inside)
+    ]) left (subst (λ (n : ℕ). IsTable n left) well.table.rows table))
+
+-- who hears a unit doesn't rest on that unit
+same_others : (cs : List ClaimerValue) (u : ℕ) (c : ClaimerValue) → u < length cs → (v : ℕ) → hears (station_at (set cs u c)) u v ≡ hears (station_at cs) u v
+same_others cs u c inside v = elim (cases_eq v u) [
+  | inl same ↦ rw (same, eq-eqb u u refl) (and_right (station_at (set cs u c) u).on false refl ∙ sym (and_right (station_at cs u).on false refl))
+  | inr other ↦ ap (λ (s : ClaimState). s.on && not (eqb v u)) (station_set cs u c v inside ∙ cond-false (eqb v u) c.state (station_at cs v) (ne_eqb v u other))
+]
+
+-- there is still room for the others once a unit is another
+pub room_for_others : {X : Type 0} (old new : Queued X) (cs : List ClaimerValue) (u : ℕ) (c : ClaimerValue) (after : List ClaimerValue) → u < length cs → after ≡ set cs u c → KeepsRoom old new
+    → (items : ℕ) → HasRoomForOthers old cs u items → HasRoomForOthers new after u items
+room_for_others old new cs u c after inside is keeps items room v hearing =
+    let heard : hears (station_at cs) u v ≡ true = sym (same_others cs u c inside v) ∙ ap (λ (l : List ClaimerValue). hears (station_at l) u v) (sym is) ∙ hearing in
+    omega (arith, room v heard, keeps u v)
+
+-- whether a unit that was looked at hears another
+pub hears_as : (cs : List ClaimerValue) (u k : ℕ) (c : ClaimerValue) → k < length cs → c ≡ get_or cs k c → (a b : Bool) → c.state.on ≡ a → eqb k u ≡ b → hears (station_at cs) u k ≡ (a && not b)
+hears_as cs u k c inside at a b on same = λ i. (ap (λ (x : ClaimerValue). x.state.on) (sym (at ∙ any_default cs k c nobody inside)) ∙ on) i && not (same i)
+
+-- nobody hears at a place with no unit
+pub hears_none : (cs : List ClaimerValue) (u k : ℕ) → length cs ≤ k → hears (station_at cs) u k ≡ false
+hears_none cs u k past = ap (λ (c : ClaimerValue). c.state.on && not (eqb k u)) (get_or_past cs k nobody (omega (arith, past)))

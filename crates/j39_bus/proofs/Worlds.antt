@@ -1,18 +1,19 @@
 -- The world of a network after each change of it.
 use Rattle.std.proofs.Common.{◌≡◌, ℕ, zero, suc, ◌<◌, Bool, true, false, cond, not, ◌&&◌, eqb, List, [], ◌∷◌, ◌++◌, length, get_or, set, refl, sym, ap, ◌∙◌, arith, inl, inr, Option, get_or-set_other, get_or-set_same}
 use Rattle.std.proofs.lemmas.Bool.{cases_eq, eq-eqb, ne_eqb}
-use Rattle.std.specs.List.{remove}
 use Rattle.j39_claim.specs.declared.item.Item.{Item}
 use Rattle.j39_claim.specs.ClaimRule.{PlannedUnit, ClaimState}
 use Rattle.j39_claim.specs.ClaimerValue.{ClaimerValue}
-use Rattle.j39_bus.specs.declared.letter.Letter.{Letter}
 use Rattle.j39_world.specs.Claimants.{unit_at}
 use Rattle.j39_world.specs.Sent.{Sent, frame_of}
-use Rattle.j39_world.specs.World.{World, changed, changed_pair}
-use Rattle.j39_world.specs.ClaimSteps.{tell, without_lists_to}
-use Rattle.j39_bus.specs.Letters.{between, letters_to_others, without_letters_to, first_between, nobody, station_at}
+use Rattle.j39_world.specs.World.{World, Undelivered, changed}
+use Rattle.j39_world.specs.ClaimSteps.{tell, told_to_others}
+use Rattle.j39_bus.specs.Stations.{nobody, station_at}
 use Rattle.j39_bus.specs.Network.{claimants}
-use Rattle.j39_bus.proofs.Between.{append_nil, between_told, lists_left, lists_after}
+
+pub append_nil : {X : Type 0} (xs : List X) → xs ++ [] ≡ xs
+append_nil [] = refl
+append_nil (x ∷ xs) = ap (λ zs. x ∷ zs) (append_nil xs)
 
 pub any_default : {X : Type 0} (xs : List X) (i : ℕ) (d e : X) → i < length xs → get_or xs i d ≡ get_or xs i e
 any_default [] i d e inside = absurd (omega arith)
@@ -24,17 +25,17 @@ unit_at-claimants [] u = refl
 unit_at-claimants (c ∷ cs) zero = refl
 unit_at-claimants (c ∷ cs) (suc u) = unit_at-claimants cs u
 
--- a world with these units, letters and frames
-abbrev pub world : World → List ClaimerValue → List Letter → List Sent → World
-world b cs ls fs = record b { stations = station_at cs; claims = between ls; frames = fs }
+-- a world with these units, undelivered items and frames
+abbrev pub world : World → List ClaimerValue → Undelivered → List Sent → World
+world b cs claims fs = record b { stations = station_at cs; claims = claims; frames = fs }
 
 -- after a unit has told the others
-pub world_told : (b : World) (cs : List ClaimerValue) (ls : List Letter) (fs : List Sent) (u : ℕ) (item : Item) (name : ℕ) (held : Option ℕ)
-    → name ≡ (get_or cs u nobody).planned.name → held ≡ (station_at cs u).address
-    → world b cs (ls ++ letters_to_others 0 cs u item) (fs ++ frame_of name held item ∷ []) ≡ tell (claimants cs) (world b cs ls fs) u (item ∷ [])
-world_told b cs ls fs u item name held name_is held_is = λ i. record b {
+pub world_told : (b : World) (cs : List ClaimerValue) (claims told : Undelivered) (fs : List Sent) (u : ℕ) (item : Item) (name : ℕ) (held : Option ℕ)
+    → told ≡ told_to_others (station_at cs) claims u (item ∷ []) → name ≡ (get_or cs u nobody).planned.name → held ≡ (station_at cs u).address
+    → world b cs told (fs ++ frame_of name held item ∷ []) ≡ tell (claimants cs) (world b cs claims fs) u (item ∷ [])
+world_told b cs claims told fs u item name held told_is name_is held_is = λ i. record b {
   stations = station_at cs;
-  claims = λ s t. sym (between_told ls cs u item s t) i;
+  claims = told_is i;
   frames = fs ++ frame_of (same_name i) (held_is i) item ∷ [];
 }
   where
@@ -61,23 +62,10 @@ claimants-set [] v c same = refl
 claimants-set (d ∷ cs) zero c same = ap (λ (x : PlannedUnit). x ∷ claimants cs) same
 claimants-set (d ∷ cs) (suc v) c same = ap (λ (xs : List PlannedUnit). d.planned ∷ xs) (claimants-set cs v c same)
 
--- after a unit was switched on, and has not told yet
-pub world_on : (b : World) (cs : List ClaimerValue) (ls : List Letter) (fs : List Sent) (u : ℕ) (c : ClaimerValue) → u < length cs
-    → world b (set cs u c) (without_letters_to u ls) fs ≡ record b { stations = changed (station_at cs) u c.state; claims = without_lists_to u (between ls); frames = fs }
-world_on b cs ls fs u c inside = λ i. record b {
-  stations = λ x. station_set cs u c x inside i;
-  claims = λ s t. lists_left u ls s t i;
-  frames = fs;
-}
-
--- after a unit has heard the oldest letter of another, and has not answered yet
-pub world_heard : (b : World) (cs : List ClaimerValue) (ls : List Letter) (fs : List Sent) (u v : ℕ) (s : ClaimState) → v < length cs → first_between u v ls < length ls
-    → world b (set cs v (record (get_or cs v nobody) { state = s })) (remove ls (first_between u v ls)) fs ≡ record b { stations = changed (station_at cs) v s; claims = changed_pair (between ls) u v (between (remove ls (first_between u v ls)) u v); frames = fs }
-world_heard b cs ls fs u v s inside some = λ i. record b {
-  stations = λ x. station_set cs v (record (get_or cs v nobody) { state = s }) x inside i;
-  claims = λ x y. sym (lists_after u v ls some x y) i;
-  frames = fs;
-}
+-- once one unit is another
+pub world_set : (b : World) (cs : List ClaimerValue) (claims : Undelivered) (fs : List Sent) (u : ℕ) (c : ClaimerValue) → u < length cs
+    → world b (set cs u c) claims fs ≡ record b { stations = changed (station_at cs) u c.state; claims = claims; frames = fs }
+world_set b cs claims fs u c inside = λ i. record b { stations = λ x. station_set cs u c x inside i; claims = claims; frames = fs }
 
 -- to tell nothing changes nothing
 pub told_nothing : (units : List PlannedUnit) (w : World) (u : ℕ) → tell units w u [] ≡ w

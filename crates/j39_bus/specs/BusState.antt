@@ -1,9 +1,9 @@
 -- What contracts see of a bus.
-use Rattle.std.specs.Prelude.{ℕ, suc, List, [], ◌∷◌, map, slice_index_or, Option, Some, None}
-use Rattle.std.specs.List.{range_with_len}
+use Rattle.std.specs.Prelude.{ℕ, suc, List, [], ◌∷◌, slice_index_or, Option, Some, None}
 use Rattle.j39_claim.specs.declared.item.Item.{Item}
 use Rattle.j39_claim.specs.ClaimerValue.{ClaimerValue}
 use Rattle.j39_plan.specs.declared.plan.to.To.{To}
+use Rattle.j39_queues.specs.Queued.{pair_in}
 use Rattle.j39_tp.specs.Receiver.{Receiving, fresh}
 use Rattle.j39_tp.specs.declared.receiving.manner.Manner.TheVariants.{Listening}
 use Rattle.j39_tp.specs.declared.sending.stage.Stage.{Stage}
@@ -44,17 +44,9 @@ pub record BusState : Type 0 where
   -- all frames that were sent, in order
   pub frames : List Sent
 
--- what stands in a table for a pair of units
-abbrev pub pair_in : {X : Type 0} → List (List (List X)) → ℕ → ℕ → List X
-pair_in table u v = slice_index_or (slice_index_or table u []) v []
-
 -- what is undelivered between two units
 abbrev pub undelivered : BusState → Undelivered
 undelivered b = pair_in b.claims
-
--- the lists between each two of n units
-abbrev pub table_of : ℕ → Undelivered → List (List (List Item))
-table_of n claims = map (λ u. map (claims u) (range_with_len 0 n)) (range_with_len 0 n)
 
 -- what is not taken between two units
 abbrev pub wire_of : Traffic → Wire

@@ -1,4 +1,4 @@
-pub mod Letters
+pub mod Stations
 pub mod BusState
 pub mod Traffic
 pub mod Stands

@@ -1,6 +1,6 @@
 -- The world that a network stands for, and what it keeps true.
 use Rattle.std.specs.Prelude.{◌≡◌, ℕ, ◌≤◌, Bool, true, nat_eq, List, [], ◌∷◌, ◌++◌, map, length, Option, None, is_some, slice_index_or, slice_set}
-use Rattle.std.specs.List.{list_all, list_any}
+use Rattle.std.specs.List.{list_any}
 use Rattle.std.specs.FinMap.{get}
 use Rattle.j39_claim.specs.declared.item.Say.{Say}
 use Rattle.j39_claim.specs.declared.item.Item.{Item}
@@ -11,7 +11,6 @@ use Rattle.j39_tp.specs.Receiver.{Receiving}
 use Rattle.j39_tp.specs.declared.packet.Packet.{Packet}
 use Rattle.j39_plan.specs.declared.plan.Plan.{Plan}
 use Rattle.j39_plan.specs.declared.steps.Step.{Step}
-use Rattle.j39_bus.specs.declared.letter.Letter.{Letter}
 use Rattle.j39_bus.specs.declared.network.Network.{Network}
 use Rattle.j39_world.specs.declared.step_error.StepError.{StepError}
 use Rattle.j39_world.specs.Claimants.{units_of}
@@ -21,9 +20,10 @@ use Rattle.j39_world.specs.Flows.{Flow, flows_of, windows_of}
 use Rattle.j39_world.specs.Transfers.{Begun, Receivers, added, settled}
 use Rattle.j39_world.specs.TransferSteps.{TakenFrom}
 use Rattle.j39_world.specs.Run.{refusal_among, Leads}
-use Rattle.j39_bus.specs.Letters.{nobody, station_at, between, is_inside}
-use Rattle.j39_bus.specs.BusState.{BusState, Transfer, table_of, pair_in, session_at, receiving_at}
-use Rattle.j39_bus.specs.Traffic.{route_of, reported_of, traffic_of, lists_of, values_of, IsTraffic}
+use Rattle.j39_bus.specs.Stations.{nobody, station_at}
+use Rattle.j39_bus.specs.BusState.{BusState, Transfer, session_at, receiving_at}
+use Rattle.j39_queues.specs.Queued.{IsTable, pair_in}
+use Rattle.j39_bus.specs.Traffic.{route_of, reported_of, traffic_of, values_of, IsTraffic}
 
 abbrev pub claimants : List ClaimerValue → List PlannedUnit
 claimants cs = map (λ c. c.planned) cs
@@ -52,9 +52,9 @@ receivers_of transfers v u = settled (receiving_at transfers v u).progress
 abbrev pub world_of : Histories → Network → World
 world_of h net = record {
   stations = station_at net.claimers.items;
-  claims = between net.letters.items;
+  claims = pair_in net.claims.lists;
   sessions = session_at (transfers_of net);
-  wire = pair_in (lists_of net.traffic.wire);
+  wire = pair_in net.traffic.wire.lists;
   receivers = receivers_of (transfers_of net);
   taken = h.taken;
   begun = h.begun;
@@ -72,7 +72,7 @@ HasGathered h net = AreGathered h.taken (transfers_of net)
 abbrev pub state_of : Network → BusState
 state_of net = record {
   units = net.claimers.items;
-  claims = table_of (length net.claimers.items) (between net.letters.items);
+  claims = net.claims.lists;
   traffic = traffic_of net.traffic;
   frames = map sent_of net.frames.items;
 }
@@ -84,17 +84,17 @@ names_of cs = map (λ c. c.planned.name) cs
 abbrev pub is_named : List ClaimerValue → ℕ → Bool
 is_named cs n = list_any (λ m. nat_eq n m) (names_of cs)
 
-pub record IsWellFormed (cs : List ClaimerValue) (ls : List Letter) : Type 0 where
+pub record IsWellFormed (cs : List ClaimerValue) (lists : List (List (List Item))) : Type 0 where
   -- few enough units for a note of each
   pub few : length cs ≤ 128
-  -- letters go from unit to unit
-  pub inside : list_all (is_inside (length cs)) ls ≡ true
+  -- there is a list from each unit to each
+  pub table : IsTable (length cs) lists
   -- each unit has noted only NAMEs of these units
   pub notes : (v n : ℕ) → is_some (get (station_at cs v).notes n) ≡ true → is_named cs n ≡ true
 
 pub record IsNetwork (net : Network) : Type 0 where
-  pub claims : IsWellFormed net.claimers.items net.letters.items
-  pub traffic : IsTraffic (length net.claimers.items) net.traffic.routes.items net.traffic.windows.items net.traffic.transfers.items (lists_of net.traffic.wire)
+  pub claims : IsWellFormed net.claimers.items net.claims.lists
+  pub traffic : IsTraffic (length net.claimers.items) net.traffic.routes.items net.traffic.windows.items net.traffic.transfers.items net.traffic.wire.lists
 
 -- the network has the units of the plan, its flows and its windows
 pub record IsOf (plan : Plan) (net : Network) : Type 0 where
@@ -117,7 +117,7 @@ LeadsTo plan old step new =
 abbrev pub TakesTo : Network → ℕ → ℕ → Network → Type 0
 TakesTo old u v new =
     (h : Histories) → HasGathered h old
-    → (after : Histories) × TakenFrom old.traffic.windows.items (world_of h old) u v (pair_in (lists_of old.traffic.wire) u v) (world_of after new) × HasGathered after new
+    → (after : Histories) × TakenFrom old.traffic.windows.items (world_of h old) u v (pair_in old.traffic.wire.lists u v) (world_of after new) × HasGathered after new
 
 -- the first cause for which a step of a network is refused
 abbrev pub refusal_in : Network → Histories → Step → Option StepError
@@ -136,12 +136,12 @@ HasAnswered cs v name item says new =
 -- nothing that a contract sees has changed
 pub record IsSameNetwork (old new : Network) : Type 0 where
   pub claimers : new.claimers.items ≡ old.claimers.items
-  pub letters : new.letters.items ≡ old.letters.items
+  pub claims : new.claims.lists ≡ old.claims.lists
   pub frames : new.frames.items ≡ old.frames.items
   pub routes : new.traffic.routes.items ≡ old.traffic.routes.items
   pub windows : new.traffic.windows.items ≡ old.traffic.windows.items
   pub transfers : new.traffic.transfers.items ≡ old.traffic.transfers.items
-  pub wire : lists_of new.traffic.wire ≡ lists_of old.traffic.wire
+  pub wire : new.traffic.wire.lists ≡ old.traffic.wire.lists
   pub reports : new.traffic.reports.items ≡ old.traffic.reports.items
 
 -- a bus has a network in its form and a chooser for each unit

@@ -8,7 +8,7 @@ use Rattle.j39_world.specs.declared.step_error.StepError.{StepError}
 use Rattle.j39_world.specs.declared.step_error.StepError.TheVariants.{Memory}
 use Rattle.j39_world.specs.Claimants.{units_of}
 use Rattle.j39_world.specs.World.{World}
-use Rattle.j39_bus.specs.Letters.{station_at}
+use Rattle.j39_bus.specs.Stations.{station_at}
 use Rattle.j39_bus.specs.BusState.{BusState, undelivered, wire_of, session_at, receiving_at}
 use Rattle.j39_world.specs.Flows.{flows_of, windows_of}
 use Rattle.j39_world.specs.Transfers.{settled}

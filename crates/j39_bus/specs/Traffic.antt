@@ -2,11 +2,10 @@
 use Rattle.std.specs.Prelude.{◌≡◌, ℕ, ◌-◌, ◌<◌, ◌≤◌, Bool, true, false, cond, ◌&&◌, nat_eq, List, [], map, drop, length, Option, Some, None, is_some, slice_index_or, slice_set, vec_capacity, All, ◌++◌, ◌∷◌}
 use Rattle.std.specs.List.{list_any}
 use Rattle.std.specs.Option.{option_map}
-use Rattle.std.specs.VecDeque.{deque_len, deque_capacity}
 use Rattle.std.specs.declared.alloc.Global.{Global}
 use Rattle.std.specs.declared.boxed.Box.{Box}
 use Rattle.std.specs.declared.vec.Vec.{Vec}
-use Rattle.std.specs.declared.collections.VecDeque.{VecDeque}
+use Rattle.j39_queues.specs.Queued.{IsTable, Queued, pair_in, room_at}
 use Rattle.j39_plan.specs.declared.plan.to.To.{To}
 use Rattle.j39_plan.specs.declared.plan.to.To.TheVariants.{All as ToAll, One as ToOne}
 use Rattle.j39_tp.specs.Receiver.{Receiving, fresh}
@@ -24,10 +23,9 @@ use Rattle.j39_bus.specs.declared.transfer.Content.{Content}
 use Rattle.j39_bus.specs.declared.transfer.Content.TheVariants.{Short, Long}
 use Rattle.j39_bus.specs.declared.transfer.Transfer as made
 use Rattle.j39_bus.specs.declared.traffic.Traffic as kept
-use Rattle.j39_bus.specs.declared.wire.Wire as queued
 use Rattle.j39_world.specs.declared.wired.Wired.{Wired}
 use Rattle.j39_world.specs.declared.wired.Wired.TheVariants as wired
-use Rattle.j39_bus.specs.BusState.{Transfer, Traffic, pair_in, receiver_of, session_at}
+use Rattle.j39_bus.specs.BusState.{Transfer, Traffic, receiver_of, session_at}
 use Rattle.j39_world.specs.Sent as frames
 use Rattle.j39_world.specs.SentTransfers.{packet_frame, short_frame}
 use Rattle.j39_world.specs.Flows.{Flow, dest_of, window_at}
@@ -64,62 +62,18 @@ transfer_of t = record {
   receivers = map (option_map (λ b. b.value)) t.receivers.items;
 }
 
--- a queue of what is on the wire
-abbrev pub Queue : Type 0
-Queue = VecDeque Wired Global
-
-abbrev pub lists_of : queued.Wire → List (List (List Wired))
-lists_of w = map (λ row. map (λ (q : Queue). q.items) row.items) w.rows.items
-
 abbrev pub traffic_of : kept.Traffic → Traffic
 traffic_of t = record {
   flows = map route_of t.routes.items;
   windows = t.windows.items;
   transfers = map (option_map transfer_of) t.transfers.items;
-  wire = lists_of t.wire;
+  wire = t.wire.lists;
   reports = map reported_of t.reports.items;
 }
-
--- ---- queues
-
--- a table of so many rows of so many
-pub record IsTable {X : Type 0} (n : ℕ) (table : List (List (List X))) : Type 0 where
-  pub rows : length table ≡ n
-  pub columns : (u : ℕ) → u < n → length (slice_index_or table u []) ≡ n
-
--- a table with another list for a pair of units
-abbrev pub with_pair : {X : Type 0} → List (List (List X)) → ℕ → ℕ → List X → List (List (List X))
-with_pair table u v xs = slice_set table u (slice_set (slice_index_or table u []) v xs)
-
--- how many more items a queue has room for
-abbrev pub room_of : Queue → ℕ
-room_of q = deque_capacity q - deque_len q
-
--- the items in a row of queues, and the room in each
-abbrev pub items_in : List Queue → List (List Wired)
-items_in row = map (λ (q : Queue). q.items) row
-
-abbrev pub room_in : List Queue → ℕ → ℕ
-room_in row v = slice_index_or (map room_of row) v 0
-
--- how many more items there is room for between two units
-abbrev pub rooms_of : queued.Wire → List (List ℕ)
-rooms_of w = map (λ row. map room_of row.items) w.rows.items
-
-abbrev pub room_at : queued.Wire → ℕ → ℕ → ℕ
-room_at w u v = slice_index_or (slice_index_or (rooms_of w) u []) v 0
-
--- there is at least as much room as before
-abbrev pub KeepsRoom : queued.Wire → queued.Wire → Type 0
-KeepsRoom old new = (u v : ℕ) → room_at old u v ≤ room_at new u v
 
 -- the unit at this place has a receiver
 abbrev pub is_receiver : {X : Type 0} → List (Option X) → ℕ → Bool
 is_receiver receivers v = is_some (slice_index_or receivers v None)
-
--- an item joins the list of each unit that has a receiver
-abbrev pub added_in : {X Y : Type 0} → List (List Y) → List (Option X) → Y → ℕ → List Y
-added_in lists receivers x v = cond (is_receiver receivers v) (slice_index_or lists v [] ++ x ∷ []) (slice_index_or lists v [])
 
 -- what is sent joins the list from u to each unit that has a receiver
 abbrev pub posted : {X Y : Type 0} → (ℕ → ℕ → List Y) → ℕ → List (Option X) → Y → ℕ → ℕ → List Y
@@ -212,7 +166,7 @@ abbrev pub AreAnswers : List Packet → Type 0
 AreAnswers packets = list_any is_announcement (map wired.Packet packets) ≡ false
 
 -- there is room for one more item to each that a message goes to
-abbrev pub HasRoomAlong : queued.Wire → ℕ → Option made.Transfer → Type 0
+abbrev pub HasRoomAlong : Queued Wired → ℕ → Option made.Transfer → Type 0
 HasRoomAlong wire u None = Unit {0}
 HasRoomAlong wire u (Some t) = (v : ℕ) → is_receiver t.receivers.items v ≡ true → 0 < room_at wire u v
 

@@ -1,13 +1,13 @@
 //! A simulated bus.
 ghost use Rattle.std.specs.Prelude.{◌≡◌, ◌<◌, ◌↔◌, IsTrue, length, map};
 ghost use Rattle.j39_bus.specs.BusState.{session_at, undelivered};
-ghost use Rattle.j39_bus.specs.Letters.{station_at};
+ghost use Rattle.j39_bus.specs.Stations.{station_at};
 ghost use Rattle.j39_world.specs.Sent.{sent_of};
 ghost use Rattle.j39_bus.specs.Traffic.{reported_of};
 ghost use Rattle.j39_world.specs.Transfers.{outcome_in};
 ghost use Rattle.j39_world.specs.Sound.{IsQuiet};
 
-use crate::letter::are_requests;
+use crate::claims::are_settled;
 use crate::network::Network;
 use crate::{Report, sessions};
 use j39_claim::Choose;
@@ -46,7 +46,7 @@ impl Bus {
     pub fn is_settled(&self) -> bool
         ensures { IsTrue result ↔ IsQuiet (undelivered self.now) }
     {
-        are_requests(self.network.letters.as_slice())
+        are_settled(&self.network.claims, self.network.claimers.len())
     }
 
     /// Whether the unit is on.

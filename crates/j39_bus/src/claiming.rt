@@ -3,11 +3,11 @@ ghost use Rattle.std.specs.Prelude.{◌≡◌, ◌≢◌, ◌<◌, ◌≤◌, �
 ghost use Rattle.j39_plan.specs.declared.plan.Plan.{Plan};
 ghost use Rattle.j39_plan.specs.declared.steps.Step.TheVariants.{Up, Give, Ask};
 ghost use Rattle.j39_world.specs.ClaimSteps.{switched_on, asked, GivenFrom};
-ghost use Rattle.j39_bus.specs.Letters.{between, first_between};
+ghost use Rattle.j39_bus.specs.inside.Claims.{HasRoomForOthers};
+ghost use Rattle.j39_queues.specs.Queued.{pair_in};
 ghost use Rattle.j39_bus.specs.Network.{Histories, IsAllowed, IsNetwork, IsOf, IsSameNetwork, KeepsPlan, LeadsTo, claimants, world_of};
 
 use crate::hearing::hear;
-use crate::letter::{drop_letters_to, first_between};
 use crate::network::Network;
 use crate::transfer::is_transfer_open;
 use j39_claim::{Choose, Item};
@@ -23,7 +23,7 @@ impl Network {
         ensures leads { OnOk result ((plan : Plan) → IsOf plan self.old → LeadsTo plan self.old (Up unit) self.new) }
         ensures same { OnErr result (IsSameNetwork self.old self.new) }
     {
-        self.reserve(1)?;
+        self.reserve(unit, 1)?;
         self.switch_on(unit);
         Ok(())
     }
@@ -43,7 +43,7 @@ impl Network {
         ensures leads { OnOk result ((plan : Plan) → IsOf plan self.old → LeadsTo plan self.old (Give from to) self.new) }
         ensures same { OnErr result (IsSameNetwork self.old self.new) }
     {
-        self.reserve(1)?;
+        self.reserve(to, 1)?;
         self.deliver(choosers, from, to);
         Ok(())
     }
@@ -57,7 +57,7 @@ impl Network {
         ensures leads { OnOk result ((plan : Plan) → IsOf plan self.old → LeadsTo plan self.old (Ask unit) self.new) }
         ensures same { OnErr result (IsSameNetwork self.old self.new) }
     {
-        self.reserve(2)?;
+        self.reserve(unit, 2)?;
         self.request(unit);
         Ok(())
     }
@@ -65,14 +65,14 @@ impl Network {
     fn switch_on(&mut self, unit: usize)
         requires network { IsNetwork self.old }
         requires place { unit < length self.old.claimers.items }
-        requires letters { vec_len self.old.letters + length self.old.claimers.items ≤ vec_capacity self.old.letters }
+        requires room { HasRoomForOthers self.old.claims self.old.claimers.items unit 1 }
         requires frames { vec_len self.old.frames < vec_capacity self.old.frames }
         ensures network { IsNetwork self.new }
         ensures plan { KeepsPlan self.old self.new }
         ensures traffic { self.new.traffic ≡ record self.old.traffic { wire = self.new.traffic.wire } }
         ensures world { (h : Histories) → world_of h self.new ≡ switched_on (claimants self.old.claimers.items) (world_of h self.old) unit }
     {
-        drop_letters_to(&mut self.letters, unit);
+        self.claims.clear_to(unit);
         self.traffic.wire.clear_to(unit);
         let say = self.claimers[unit].start();
         self.tell(unit, &Item::Told(say));
@@ -83,18 +83,19 @@ impl Network {
         requires choosers { length choosers.now ≡ length self.old.claimers.items }
         requires from { from < length self.old.claimers.items }
         requires to { to < length self.old.claimers.items }
-        requires some { first_between from to self.old.letters.items < length self.old.letters.items }
-        requires letters { vec_len self.old.letters + length self.old.claimers.items ≤ vec_capacity self.old.letters }
+        requires some { 0 < length (pair_in self.old.claims.lists from to) }
+        requires room { HasRoomForOthers self.old.claims self.old.claimers.items to 1 }
         requires frames { vec_len self.old.frames < vec_capacity self.old.frames }
         ensures network { IsNetwork self.new }
         ensures plan { KeepsPlan self.old self.new }
         ensures traffic { self.new.traffic ≡ self.old.traffic }
-        ensures world { (h : Histories) → GivenFrom (claimants self.old.claimers.items) (world_of h self.old) from to (between self.old.letters.items from to) (world_of h self.new) }
+        ensures world { (h : Histories) → GivenFrom (claimants self.old.claimers.items) (world_of h self.old) from to (pair_in self.old.claims.lists from to) (world_of h self.new) }
     {
         let name = self.claimers[from].name();
-        let place = first_between(self.letters.as_slice(), from, to);
-        let letter = self.letters.remove(place);
-        let answer = hear(&mut self.claimers, choosers, to, name, &letter.item);
+        let Some(item) = self.claims.pop(from, to) else {
+            unreachable!()
+        };
+        let answer = hear(&mut self.claimers, choosers, to, name, &item);
         match answer {
             Some(say) => self.tell(to, &Item::Told(say)),
             None => {}
@@ -104,7 +105,7 @@ impl Network {
     fn request(&mut self, unit: usize)
         requires network { IsNetwork self.old }
         requires place { unit < length self.old.claimers.items }
-        requires letters { vec_len self.old.letters + 2 * length self.old.claimers.items ≤ vec_capacity self.old.letters }
+        requires room { HasRoomForOthers self.old.claims self.old.claimers.items unit 2 }
         requires frames { vec_len self.old.frames + 2 ≤ vec_capacity self.old.frames }
         ensures network { IsNetwork self.new }
         ensures plan { KeepsPlan self.old self.new }

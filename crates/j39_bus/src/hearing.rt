@@ -2,7 +2,7 @@
 ghost use Rattle.std.specs.Prelude.{◌≡◌, ◌<◌, true, length};
 ghost use Rattle.j39_claim.specs.ClaimRule.{say_of};
 ghost use Rattle.j39_claim.specs.ClaimerValue.{can_note};
-ghost use Rattle.j39_bus.specs.Letters.{station_at};
+ghost use Rattle.j39_bus.specs.Stations.{station_at};
 ghost use Rattle.j39_bus.specs.Network.{HasAnswered};
 
 use j39_claim::{Choose, Claimer, Item, Say};

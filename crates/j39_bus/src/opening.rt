@@ -1,7 +1,7 @@
 //! A new bus.
 ghost use Rattle.std.specs.Prelude.{◌≡◌, ◌<◌, ℕ, length, map, take, All, IfOk, IfErr, IfSome, IfNone, OnOk};
 ghost use Rattle.j39_world.specs.Claimants.{claimant_of};
-ghost use Rattle.j39_bus.specs.Letters.{unstarted};
+ghost use Rattle.j39_bus.specs.Stations.{unstarted};
 ghost use Rattle.j39_world.specs.Opening.{HaveOneName, AreNamesDistinct, IsFirstOfOneName, CanOpen, IsNotOpened};
 ghost use Rattle.j39_bus.specs.Stands.{Stands};
 ghost use Rattle.j39_world.specs.World.{first};
@@ -13,6 +13,7 @@ use crate::traffic::Traffic;
 use crate::{Bus, BusError};
 use j39_claim::{Choose, Claimer};
 use j39_plan::{GroupFault, GroupPlan, Plan, UnitPlan, layout_of};
+use j39_queues::Queues;
 use std::alloc::{AllocError, Global};
 
 /// The least place after the first at which the first's NAME stands again.
@@ -93,13 +94,16 @@ impl Bus {
         let Ok(claimers) = claimers_of(alloc, plan.units.as_slice()) else {
             return Err(BusError::Memory);
         };
+        let Ok(claims) = Queues::new(alloc, plan.units.len()) else {
+            return Err(BusError::Memory);
+        };
         let Ok(traffic) = Traffic::new(alloc, plan) else {
             return Err(BusError::Memory);
         };
         Ok(Bus {
             network: Network {
                 claimers,
-                letters: Vec::new(alloc),
+                claims,
                 frames: Vec::new(alloc),
                 traffic,
             },

@@ -2,12 +2,11 @@
 ghost use Rattle.std.specs.Prelude.{◌≡◌, ◌<◌, true, None, Some, nat_lt, length, is_some};
 ghost use Rattle.j39_plan.specs.declared.steps.Step.TheVariants.{Up, Give, Ask, Begin, Emit, Take, LateSender, LateReceiver, Rest};
 ghost use Rattle.j39_world.specs.Flows.{can_be_sent};
-ghost use Rattle.j39_bus.specs.Letters.{station_at};
+ghost use Rattle.j39_bus.specs.Stations.{station_at};
 ghost use Rattle.j39_bus.specs.Network.{Histories, IsNetwork, refusal_in};
 ghost use Rattle.j39_world.specs.Run.{at_ends, both, unless};
 ghost use Rattle.j39_bus.specs.Traffic.{IsRoute, route_of};
 
-use crate::letter::first_between;
 use crate::network::Network;
 use crate::route::Route;
 use crate::transfer::is_transfer_open;
@@ -99,7 +98,7 @@ impl Network {
         if let Some(error) = self.refusal_of_unit(to) {
             return Some(error);
         }
-        if first_between(self.letters.as_slice(), from, to) >= self.letters.len() {
+        if self.claims.between(from, to).is_empty() {
             return Some(StepError::NothingUndelivered);
         }
         None
@@ -132,7 +131,7 @@ impl Network {
         if !self.are_started(route) {
             return Some(StepError::NotStarted);
         }
-        if !self.letters.is_empty() {
+        if !self.claims.is_empty() {
             return Some(StepError::NotSettled);
         }
         if !self.have_addresses(route) {
@@ -168,7 +167,7 @@ impl Network {
         if let Some(error) = self.refusal_of_pair(from, to) {
             return Some(error);
         }
-        if self.traffic.wire.oldest(from, to).is_none() {
+        if self.traffic.wire.between(from, to).is_empty() {
             return Some(StepError::NothingUndelivered);
         }
         None

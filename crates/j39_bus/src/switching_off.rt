@@ -3,7 +3,6 @@ ghost use Rattle.j39_plan.specs.declared.plan.Plan.{Plan};
 ghost use Rattle.j39_plan.specs.declared.steps.Step.TheVariants.{Down};
 ghost use Rattle.j39_bus.specs.Network.{IsAllowed, IsNetwork, IsOf, KeepsPlan, LeadsTo};
 
-use crate::letter::drop_letters_to;
 use crate::network::Network;
 
 impl Network {
@@ -15,7 +14,7 @@ impl Network {
         ensures plan { KeepsPlan self.old self.new }
         ensures leads { (plan : Plan) → IsOf plan self.old → LeadsTo plan self.old (Down unit) self.new }
     {
-        drop_letters_to(&mut self.letters, unit);
+        self.claims.clear_to(unit);
         self.traffic.wire.clear_to(unit);
         self.claimers[unit].stop();
     }

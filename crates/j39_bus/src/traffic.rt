@@ -1,16 +1,17 @@
 //! The messages that units send one another.
 ghost use Rattle.std.specs.Prelude.{◌≡◌, ℕ, ◌<◌, ◌≤◌, None, [], map, length, replicate, slice_index_or, All, IfOk};
-ghost use Rattle.j39_bus.specs.BusState.{pair_in};
+ghost use Rattle.j39_queues.specs.Queued.{pair_in};
 ghost use Rattle.j39_world.specs.Flows.{flow_of, flows_of, windows_of, window_at};
-ghost use Rattle.j39_bus.specs.Traffic.{IsRoute, IsTraffic, lists_of, route_of};
+ghost use Rattle.j39_bus.specs.Traffic.{IsRoute, IsTraffic, route_of};
 ghost use Rattle.j39_plan.specs.PlannedGroups.{IsSendable};
 
 use crate::report::Report;
 use crate::route::Route;
 use crate::transfer::Transfer;
-use crate::wire::Wire;
 use j39_id::Pgn;
 use j39_plan::{FlowPlan, GroupPlan, Plan, UnitPlan};
+use j39_queues::Queues;
+use j39_world::Wired;
 use std::alloc::{AllocError, Global};
 
 /// The flows and the windows of a plan, the message that each unit sends, what is not taken yet, and all messages that were
@@ -20,7 +21,7 @@ pub(crate) struct Traffic {
     pub(crate) routes: Vec<Route>,
     pub(crate) windows: Vec<u8>,
     pub(crate) transfers: Vec<Option<Transfer>>,
-    pub(crate) wire: Wire,
+    pub(crate) wire: Queues<Wired>,
     pub(crate) reports: Vec<Report>,
 }
 
@@ -88,14 +89,14 @@ impl Traffic {
         ensures flows { IfOk result (λ t. map route_of t.routes.items ≡ flows_of plan.now) }
         ensures windows { IfOk result (λ t. t.windows.items ≡ windows_of plan.now) }
         ensures transfers { IfOk result (λ t. t.transfers.items ≡ replicate (length plan.now.units.items) None) }
-        ensures wire { IfOk result (λ t. (u v : ℕ) → pair_in (lists_of t.wire) u v ≡ []) }
+        ensures wire { IfOk result (λ t. (u v : ℕ) → pair_in t.wire.lists u v ≡ []) }
         ensures reports { IfOk result (λ t. t.reports.items ≡ []) }
-        ensures fits { IfOk result (λ t. IsTraffic (length plan.now.units.items) t.routes.items t.windows.items t.transfers.items (lists_of t.wire)) }
+        ensures fits { IfOk result (λ t. IsTraffic (length plan.now.units.items) t.routes.items t.windows.items t.transfers.items t.wire.lists) }
     {
         let routes = routes_of(alloc, plan)?;
         let windows = windows_of(alloc, plan.units.as_slice())?;
         let transfers = no_transfers(alloc, plan.units.len())?;
-        let wire = Wire::new(alloc, plan.units.len())?;
+        let wire = Queues::new(alloc, plan.units.len())?;
         Ok(Traffic {
             routes,
             windows,

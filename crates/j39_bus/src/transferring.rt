@@ -1,10 +1,11 @@
 //! The steps of transfers (SAE J1939-21, transport protocol functions), and what they have in common.
 ghost use Rattle.std.specs.Prelude.{◌≡◌, ℕ, ◌+◌, ◌<◌, ◌≤◌, false, Some, None, length, slice_index_or, vec_len, vec_capacity, OnOk};
 ghost use Rattle.j39_bus.specs.BusState.{session_at};
-ghost use Rattle.j39_bus.specs.Letters.{station_at};
+ghost use Rattle.j39_bus.specs.Stations.{station_at};
 ghost use Rattle.j39_bus.specs.Network.{Histories, IsNetwork, IsSameNetwork, KeepsPlan, transfers_of, world_of};
 ghost use Rattle.j39_world.specs.SentTransfers.{address_of, destination_of};
-ghost use Rattle.j39_bus.specs.Traffic.{AreAnswers, HasRoomAlong, IsInside, is_announcement, room_at};
+ghost use Rattle.j39_bus.specs.Traffic.{AreAnswers, HasRoomAlong, IsInside, is_announcement};
+ghost use Rattle.j39_queues.specs.Queued.{room_at};
 ghost use Rattle.j39_world.specs.Transfers.{Outgoing};
 ghost use Rattle.j39_world.specs.TransferSteps.{packets_in, replied, sent_along};
 
@@ -18,8 +19,8 @@ mod taking;
 
 use crate::along::{post_along, reserve_along};
 use crate::claim_frames::source_of;
-use crate::letter::post;
 use crate::network::Network;
+use crate::pushing::post;
 use crate::sessions;
 use crate::transfer_frames::packet_frame;
 use j39_id::addresses::GLOBAL_ADDRESS;

@@ -4,21 +4,23 @@ ghost use Rattle.j39_plan.specs.declared.plan.Plan.{Plan};
 ghost use Rattle.j39_plan.specs.declared.steps.Step.TheVariants.{Begin};
 ghost use Rattle.j39_bus.specs.BusState.{places_from};
 ghost use Rattle.j39_world.specs.Flows.{can_be_sent};
-ghost use Rattle.j39_bus.specs.Letters.{station_at};
+ghost use Rattle.j39_bus.specs.Stations.{station_at};
 ghost use Rattle.j39_tp.specs.Receiver.{fresh};
 ghost use Rattle.j39_tp.specs.declared.receiving.manner.Manner.TheVariants.{Answering};
 ghost use Rattle.j39_tp.specs.declared.packet.Packet.{Packet};
 ghost use Rattle.j39_bus.specs.Network.{AreGathered, Histories, has_begun, transfers_of, IsAllowed, IsNetwork, IsOf, IsSameNetwork, KeepsPlan, LeadsTo, world_of};
 ghost use Rattle.j39_world.specs.Run.{at_ends};
 ghost use Rattle.j39_world.specs.Sent.{sent_of};
-ghost use Rattle.j39_bus.specs.Traffic.{AreOpened, HasContent, IsRoute, bytes_in, is_receiver, is_target, item_frame, room_at, route_of, stage_in};
+ghost use Rattle.j39_bus.specs.Traffic.{AreOpened, HasContent, IsRoute, bytes_in, is_receiver, is_target, item_frame, route_of, stage_in};
+ghost use Rattle.j39_queues.specs.Queued.{room_at};
 ghost use Rattle.j39_world.specs.TransferSteps.{begins, begun_stage, first_item};
 
-use crate::letter::post;
 use crate::network::Network;
+use crate::pushing::post;
 use crate::route::Route;
 use crate::transfer::{Content, Transfer};
 use crate::transfer_frames::{packet_frame, short_frame};
+use crate::wire::{post_each, reserve_each};
 use j39_id::Frame;
 use j39_plan::To;
 use j39_tp::{Dest, Message, Receiver, Sender};
@@ -134,9 +136,7 @@ impl Network {
         ensures frames { OnOk result (vec_len self.new.frames < vec_capacity self.new.frames) }
     {
         let receivers = self.receivers_for(route)?;
-        self.traffic
-            .wire
-            .reserve_each(route.sender, receivers.as_slice())?;
+        reserve_each(&mut self.traffic.wire, route.sender, receivers.as_slice())?;
         self.frames.reserve(1)?;
         Ok(receivers)
     }
@@ -164,9 +164,12 @@ impl Network {
         let destination = self.destination(route.to);
         let (content, item) = opening(route, bytes);
         let frame = frame_of(source, destination, route, &item);
-        self.traffic
-            .wire
-            .post_each(route.sender, receivers.as_slice(), &item);
+        post_each(
+            &mut self.traffic.wire,
+            route.sender,
+            receivers.as_slice(),
+            &item,
+        );
         post(&mut self.frames, frame);
         self.traffic.transfers[route.sender] = Some(Transfer {
             flow,

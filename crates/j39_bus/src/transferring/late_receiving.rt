@@ -3,7 +3,7 @@ ghost use Rattle.std.specs.Prelude.{◌≡◌, ◌≢◌, ◌<◌, length, vec_l
 ghost use Rattle.j39_plan.specs.declared.plan.Plan.{Plan};
 ghost use Rattle.j39_plan.specs.declared.steps.Step.TheVariants.{LateReceiver};
 ghost use Rattle.j39_bus.specs.Network.{Histories, HasGathered, IsAllowed, IsNetwork, IsOf, IsSameNetwork, KeepsPlan, LeadsTo, world_of};
-ghost use Rattle.j39_bus.specs.Traffic.{room_at};
+ghost use Rattle.j39_queues.specs.Queued.{room_at};
 ghost use Rattle.j39_world.specs.TransferSteps.{receiver_timed_out};
 
 use crate::network::Network;

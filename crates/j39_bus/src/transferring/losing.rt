@@ -15,6 +15,6 @@ impl Network {
         ensures plan { KeepsPlan self.old self.new }
         ensures leads { (plan : Plan) → IsOf plan self.old → LeadsTo plan self.old (Lose from to) self.new }
     {
-        self.traffic.wire.drop_oldest(from, to);
+        drop(self.traffic.wire.pop(from, to));
     }
 }

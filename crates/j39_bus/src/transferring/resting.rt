@@ -7,6 +7,7 @@ ghost use Rattle.j39_world.specs.Resting.{can_rest, is_over_with};
 
 use crate::network::Network;
 use crate::sessions;
+use crate::wire::{any_of_receiver, any_of_sender};
 
 impl Network {
     /// The message of the unit has ended, and it may begin another one.
@@ -47,9 +48,9 @@ impl Network {
         if sessions::is_receiving(self.traffic.transfers.as_slice(), unit, other) {
             return false;
         }
-        if self.traffic.wire.has_of_sender(unit, other) {
+        if any_of_sender(self.traffic.wire.between(unit, other)) {
             return false;
         }
-        !self.traffic.wire.has_of_receiver(other, unit)
+        !any_of_receiver(self.traffic.wire.between(other, unit))
     }
 }

@@ -2,17 +2,19 @@
 ghost use Rattle.std.specs.Prelude.{◌≡◌, ◌≢◌, ℕ, ◌+◌, ◌<◌, ◌≤◌, true, [], ◌∷◌, ◌++◌, drop, length, vec_len, vec_capacity, OnOk, OnErr, IfErr};
 ghost use Rattle.j39_plan.specs.declared.plan.Plan.{Plan};
 ghost use Rattle.j39_plan.specs.declared.steps.Step.TheVariants.{Take};
-ghost use Rattle.j39_bus.specs.BusState.{pair_in, receiving_at};
+ghost use Rattle.j39_bus.specs.BusState.{receiving_at};
+ghost use Rattle.j39_queues.specs.Queued.{KeepsRoom, pair_in, room_at};
 ghost use Rattle.j39_tp.specs.inside.Gathered.{HoldsCarried};
 ghost use Rattle.j39_tp.specs.Receiver.{message_of};
 ghost use Rattle.j39_bus.specs.Network.{Histories, HasGathered, IsAllowed, IsNetwork, IsOf, IsSameNetwork, KeepsPlan, LeadsTo, has_taken, world_of, TakesTo, transfers_of};
-ghost use Rattle.j39_bus.specs.Traffic.{HasRoomFor, IsData, KeepsRoom, is_complete, lists_of, packet_heard, room_at};
+ghost use Rattle.j39_bus.specs.Traffic.{HasRoomFor, IsData, is_complete, packet_heard};
 ghost use Rattle.j39_world.specs.TransferSteps.{TakenFrom, hearing, packets_in, reaction_of, receiver_replies, report, sender_replies};
 
-use crate::letter::post;
 use crate::network::Network;
+use crate::pushing::post;
 use crate::report::Report;
 use crate::sessions;
+use crate::wire::oldest;
 use j39_tp::{Heard, Packet, Reaction, known_ranges, receivers_gather_what_they_hear};
 use j39_world::Wired;
 use std::alloc::AllocError;
@@ -61,7 +63,7 @@ impl Network {
         ensures leads { OnOk result ((plan : Plan) → IsOf plan self.old → LeadsTo plan self.old (Take from to) self.new) }
         ensures same { OnErr result (IsSameNetwork self.old self.new) }
     {
-        let Some(oldest) = self.traffic.wire.oldest(from, to) else {
+        let Some(oldest) = oldest(&self.traffic.wire, from, to) else {
             unreachable!()
         };
         let item = oldest.copy();
@@ -72,7 +74,7 @@ impl Network {
         requires network { IsNetwork self.old }
         requires from { from < length self.old.claimers.items }
         requires to { to < length self.old.claimers.items }
-        requires oldest { pair_in (lists_of self.old.traffic.wire) from to ≡ item.now ∷ drop 1 (pair_in (lists_of self.old.traffic.wire) from to) }
+        requires oldest { pair_in self.old.traffic.wire.lists from to ≡ item.now ∷ drop 1 (pair_in self.old.traffic.wire.lists from to) }
         ensures network { IsNetwork self.new }
         ensures plan { KeepsPlan self.old self.new }
         ensures leads { OnOk result (TakesTo self.old from to self.new) }
@@ -88,16 +90,16 @@ impl Network {
         requires network { IsNetwork self.old }
         requires from { from < length self.old.claimers.items }
         requires to { to < length self.old.claimers.items }
-        requires oldest { pair_in (lists_of self.old.traffic.wire) from to ≡ Wired.Short bytes.now ∷ drop 1 (pair_in (lists_of self.old.traffic.wire) from to) }
+        requires oldest { pair_in self.old.traffic.wire.lists from to ≡ Wired.Short bytes.now ∷ drop 1 (pair_in self.old.traffic.wire.lists from to) }
         ensures network { IsNetwork self.new }
         ensures plan { KeepsPlan self.old self.new }
-        ensures world { OnOk result ((h : Histories) → TakenFrom self.old.traffic.windows.items (world_of h self.old) from to (pair_in (lists_of self.old.traffic.wire) from to) (world_of h self.new)) }
+        ensures world { OnOk result ((h : Histories) → TakenFrom self.old.traffic.windows.items (world_of h self.old) from to (pair_in self.old.traffic.wire.lists from to) (world_of h self.new)) }
         ensures transfers { self.new.traffic.transfers ≡ self.old.traffic.transfers }
         ensures same { OnErr result (IsSameNetwork self.old self.new) }
     {
         let copy = Vec::from_slice(*self.frames.allocator(), bytes)?;
         self.traffic.reports.reserve(1)?;
-        self.traffic.wire.drop_oldest(from, to);
+        drop(self.traffic.wire.pop(from, to));
         self.report(from, to, copy);
         Ok(())
     }
@@ -106,10 +108,10 @@ impl Network {
         requires network { IsNetwork self.old }
         requires from { from < length self.old.claimers.items }
         requires to { to < length self.old.claimers.items }
-        requires oldest { pair_in (lists_of self.old.traffic.wire) from to ≡ Wired.Packet packet.now ∷ drop 1 (pair_in (lists_of self.old.traffic.wire) from to) }
+        requires oldest { pair_in self.old.traffic.wire.lists from to ≡ Wired.Packet packet.now ∷ drop 1 (pair_in self.old.traffic.wire.lists from to) }
         ensures network { IsNetwork self.new }
         ensures plan { KeepsPlan self.old self.new }
-        ensures world { OnOk result ((h : Histories) → HasGathered h self.old → TakenFrom self.old.traffic.windows.items (world_of h self.old) from to (pair_in (lists_of self.old.traffic.wire) from to) (world_of (has_taken h to from packet.now) self.new)) }
+        ensures world { OnOk result ((h : Histories) → HasGathered h self.old → TakenFrom self.old.traffic.windows.items (world_of h self.old) from to (pair_in self.old.traffic.wire.lists from to) (world_of (has_taken h to from packet.now) self.new)) }
         ensures gathered { OnOk result ((h : Histories) → HasGathered h self.old → HasGathered (has_taken h to from packet.now) self.new) }
         ensures same { OnErr result (IsSameNetwork self.old self.new) }
     {
@@ -128,7 +130,7 @@ impl Network {
         requires network { IsNetwork self.old }
         requires from { from < length self.old.claimers.items }
         requires to { to < length self.old.claimers.items }
-        requires oldest { pair_in (lists_of self.old.traffic.wire) from to ≡ Wired.Packet packet.now ∷ drop 1 (pair_in (lists_of self.old.traffic.wire) from to) }
+        requires oldest { pair_in self.old.traffic.wire.lists from to ≡ Wired.Packet packet.now ∷ drop 1 (pair_in self.old.traffic.wire.lists from to) }
         requires none { bytes.items ≡ [] }
         requires room { HasRoomFor packet.now bytes }
         requires reports { vec_len self.old.traffic.reports < vec_capacity self.old.traffic.reports }
@@ -136,7 +138,7 @@ impl Network {
         requires frames { vec_len self.old.frames + 2 ≤ vec_capacity self.old.frames }
         ensures network { IsNetwork self.new }
         ensures plan { KeepsPlan self.old self.new }
-        ensures world { (h : Histories) → HasGathered h self.old → TakenFrom self.old.traffic.windows.items (world_of h self.old) from to (pair_in (lists_of self.old.traffic.wire) from to) (world_of (has_taken h to from packet.now) self.new) }
+        ensures world { (h : Histories) → HasGathered h self.old → TakenFrom self.old.traffic.windows.items (world_of h self.old) from to (pair_in self.old.traffic.wire.lists from to) (world_of (has_taken h to from packet.now) self.new) }
         ensures gathered { (h : Histories) → HasGathered h self.old → HasGathered (has_taken h to from packet.now) self.new }
     {
         let (heard, reaction) = self.listen(from, to, packet);
@@ -152,7 +154,7 @@ impl Network {
         requires network { IsNetwork self.old }
         requires from { from < length self.old.claimers.items }
         requires to { to < length self.old.claimers.items }
-        requires oldest { pair_in (lists_of self.old.traffic.wire) from to ≡ Wired.Packet packet.now ∷ drop 1 (pair_in (lists_of self.old.traffic.wire) from to) }
+        requires oldest { pair_in self.old.traffic.wire.lists from to ≡ Wired.Packet packet.now ∷ drop 1 (pair_in self.old.traffic.wire.lists from to) }
         ensures network { IsNetwork self.new }
         ensures plan { KeepsPlan self.old self.new }
         ensures reports { self.new.traffic.reports ≡ self.old.traffic.reports }
@@ -167,7 +169,7 @@ impl Network {
     {
         receivers_gather_what_they_hear();
         known_ranges(packet);
-        self.traffic.wire.drop_oldest(from, to);
+        drop(self.traffic.wire.pop(from, to));
         let heard = sessions::receiver_hears(&mut self.traffic.transfers, from, to, packet);
         let reaction = sessions::sender_hears(&mut self.traffic.transfers, to, from, packet);
         (heard, reaction)
@@ -200,7 +202,7 @@ impl Network {
         requires room { vec_len self.old.traffic.reports < vec_capacity self.old.traffic.reports }
         ensures network { IsNetwork self.new }
         ensures claimers { self.new.claimers ≡ self.old.claimers }
-        ensures letters { self.new.letters ≡ self.old.letters }
+        ensures claims { self.new.claims ≡ self.old.claims }
         ensures frames { self.new.frames ≡ self.old.frames }
         ensures routes { self.new.traffic.routes ≡ self.old.traffic.routes }
         ensures windows { self.new.traffic.windows ≡ self.old.traffic.windows }

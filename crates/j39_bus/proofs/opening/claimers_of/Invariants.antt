@@ -1,5 +1,5 @@
 use Rattle.std.proofs.Common.{◌≡◌, map, take}
-use Rattle.j39_bus.specs.Letters.{unstarted}
+use Rattle.j39_bus.specs.Stations.{unstarted}
 use Rattle.j39_bus.proofs.opening.claimers_of.Given as goal
 
 abbrev pub invariant-loop-unit : goal.invariant-loop-unit

@@ -1,17 +1,16 @@
-use Rattle.std.proofs.Common.{◌≡◌, ap, sym, ◌∙◌, subst}
+use Rattle.std.proofs.Common.{◌≡◌, ap, sym, ◌∙◌, subst, arith}
 use Rattle.j39_bus.specs.BusState.{undelivered}
-use Rattle.j39_bus.specs.Letters.{between, are_requests}
+use Rattle.j39_queues.specs.Queued.{pair_in}
 use Rattle.j39_world.specs.Sound.{IsQuiet}
+use Rattle.j39_bus.proofs.Sendings.{own_table}
 use Rattle.j39_bus.proofs.Settled.{settled}
-use Rattle.j39_bus.proofs.Standing.{undelivered_is}
 use Rattle.j39_bus.proofs.bus.Bus.is_settled.Goals as goal
 
 pub returns : goal.returns
 returns g c =
     let net = c.self.inside.network in
-    let lists : undelivered c.args.self.now ≡ between net.letters.items = ap undelivered (sym c.self.view_is) ∙ undelivered_is net c.self.invariant.network in
-    let tested : c.are_requests.result ≡ are_requests net.letters.items = c.are_requests.ensures ∙ ap are_requests c.as_slice.ensures.value in
-    let (quiet, all) = settled net.letters.items in (
-      λ yes. subst IsQuiet (sym lists) (quiet (sym tested ∙ yes)),
-      λ is_quiet. tested ∙ all (subst IsQuiet lists is_quiet),
+    let lists : undelivered c.args.self.now ≡ pair_in net.claims.lists = ap undelivered (sym c.self.view_is) in
+    let (quiet, all) = settled c.len.result net.claims.lists (rw (c.len.ensures, net.claimers.ok.0) c.self.invariant.network.claims.table) c.are_settled.result c.are_settled.ensures in (
+      λ yes. subst IsQuiet (sym lists) (quiet yes),
+      λ is_quiet. all (subst IsQuiet lists is_quiet),
     )

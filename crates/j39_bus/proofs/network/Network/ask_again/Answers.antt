@@ -3,7 +3,7 @@ use Rattle.j39_tp.specs.Receiver.{gives_up, timed_out}
 use Rattle.j39_tp.specs.declared.receiving.manner.Manner.TheVariants.{Answering}
 use Rattle.j39_world.specs.Flows.{window_at}
 use Rattle.j39_bus.specs.Network.{AreGathered, receivers_of, transfers_of, world_of}
-use Rattle.j39_bus.specs.Traffic.{lists_of, receiver_in, values_of}
+use Rattle.j39_bus.specs.Traffic.{receiver_in, values_of}
 use Rattle.j39_world.specs.TransferSteps.{packets_in, replied}
 use Rattle.j39_bus.proofs.ReceiverTurns.{answers_in, traffic_turned, receivers_turned, gathered_turned, late_packet, late_progress}
 use Rattle.j39_bus.proofs.network.Network.ask_again.Goals as goal
@@ -14,7 +14,7 @@ reply-requires-clause-network c =
     record {
       claims = c.requires.network.claims;
       traffic = traffic_turned net.traffic.transfers.items c.receiver_times_out-packet.new.transfers.items c.args.to c.args.from gives_up c.receiver_times_out-packet.ensures.receiver
-          (length net.claimers.items) net.traffic.routes.items net.traffic.windows.items (lists_of net.traffic.wire) c.requires.network.traffic c.receiver_times_out-packet.ensures.form;
+          (length net.claimers.items) net.traffic.routes.items net.traffic.windows.items net.traffic.wire.lists c.requires.network.traffic c.receiver_times_out-packet.ensures.form;
     }
 
 pub returns-clause-world : goal.returns-clause-world

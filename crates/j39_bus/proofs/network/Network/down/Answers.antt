@@ -4,10 +4,9 @@ use Rattle.std.specs.Vec.{with_item}
 use Rattle.j39_claim.specs.ClaimerValue.{ClaimerValue}
 use Rattle.j39_plan.specs.declared.steps.Step.TheVariants.{Down}
 use Rattle.j39_bus.specs.declared.network.Network.{Network}
-use Rattle.j39_bus.specs.BusState.{pair_in}
+use Rattle.j39_queues.specs.Queued.{pair_in}
 use Rattle.j39_bus.specs.Network.{world_of}
 use Rattle.j39_world.specs.Sent.{sent_of}
-use Rattle.j39_bus.specs.Traffic.{lists_of}
 use Rattle.j39_bus.proofs.Refused.{nowhere, unit_inside}
 use Rattle.j39_bus.proofs.Sendings.{switched_traffic}
 use Rattle.j39_bus.proofs.Steady.{leads_same}
@@ -15,8 +14,13 @@ use Rattle.j39_bus.proofs.SwitchedOn.{claimants_off, off_claimant, switched_off_
 use Rattle.j39_bus.proofs.WellFormed.{well_on}
 use Rattle.j39_bus.proofs.network.Network.down.Goals as goal
 
-pub clear_to-requires-clause-to : goal.clear_to-requires-clause-to
-clear_to-requires-clause-to c =
+pub clear_to-requires : goal.clear_to-requires
+clear_to-requires c =
+    let inside : c.args.unit < length c.args.self.now.claimers.items = unit_inside _ _ _ (c.requires.allowed nowhere) in
+    omega (arith, inside, c.requires.network.claims.table.rows)
+
+pub clear_to-requires-2 : goal.clear_to-requires-2
+clear_to-requires-2 c =
     let inside : c.args.unit < length c.args.self.now.claimers.items = unit_inside _ _ _ (c.requires.allowed nowhere) in
     omega (arith, inside, c.requires.network.traffic.table.rows)
 
@@ -31,15 +35,15 @@ returns-clause-network c =
     let inside : c.args.unit < length cs = unit_inside _ _ _ (c.requires.allowed nowhere) in
     let new : Network = record c.args.self.now {
       claimers = with_item c.args.self.now.claimers c.args.unit c.stop.new.self;
-      letters = c.drop_letters_to.new.letters;
-      traffic = record c.args.self.now.traffic { wire = c.clear_to.new.self };
+      claims = c.clear_to.new.self;
+      traffic = record c.args.self.now.traffic { wire = c.clear_to-2.new.self };
     } in
     let same = off_claimant cs c.args.unit inside c.index_mut.result.now c.stop.new.self c.index_mut.ensures.value c.stop.ensures in
     record {
-      claims = well_on cs c.args.self.now.letters.items c.requires.network.claims c.args.unit inside c.stop.new.self same (ap (λ (k : ClaimerValue). k.state.notes) c.stop.ensures)
-          c.drop_letters_to.new.letters.items c.drop_letters_to.ensures.items;
-      traffic = switched_traffic c.args.self.now new (length-set cs c.args.unit c.stop.new.self) c.clear_to.new.self refl
-          c.requires.network.traffic c.args.unit c.clear_to.ensures.table c.clear_to.ensures.lists;
+      claims = well_on cs c.args.self.now.claims.lists c.requires.network.claims c.args.unit inside c.stop.new.self same (ap (λ (k : ClaimerValue). k.state.notes) c.stop.ensures)
+          c.clear_to.new.self.lists c.clear_to.ensures.table;
+      traffic = switched_traffic c.args.self.now new (length-set cs c.args.unit c.stop.new.self) c.clear_to-2.new.self refl
+          c.requires.network.traffic c.args.unit c.clear_to-2.ensures.table c.clear_to-2.ensures.lists;
     }
 
 pub returns-clause-plan : goal.returns-clause-plan
@@ -57,10 +61,10 @@ returns-clause-leads c = λ plan of.
     let inside : c.args.unit < length net.claimers.items = unit_inside _ _ _ (c.requires.allowed nowhere) in
     let new : Network = record c.args.self.now {
       claimers = with_item c.args.self.now.claimers c.args.unit c.stop.new.self;
-      letters = c.drop_letters_to.new.letters;
-      traffic = record c.args.self.now.traffic { wire = c.clear_to.new.self };
+      claims = c.clear_to.new.self;
+      traffic = record c.args.self.now.traffic { wire = c.clear_to-2.new.self };
     } in
     leads_same plan net (Down c.args.unit) new
     (λ h. switched_off_world net.claimers.items c.args.unit inside c.index_mut.result.now c.stop.new.self c.index_mut.ensures.value c.stop.ensures
-    (world_of h net) net.letters.items c.drop_letters_to.new.letters.items (map sent_of net.frames.items) c.drop_letters_to.ensures.items
-    (pair_in (lists_of c.clear_to.new.self)) c.clear_to.ensures.lists) refl
+    (world_of h net) (pair_in net.claims.lists) (pair_in c.clear_to.new.self.lists) (map sent_of net.frames.items) c.clear_to.ensures.lists
+    (pair_in c.clear_to-2.new.self.lists) c.clear_to-2.ensures.lists) refl

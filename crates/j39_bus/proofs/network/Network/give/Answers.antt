@@ -1,12 +1,17 @@
-use Rattle.std.proofs.Common.{◌<◌, length, subst, sym, ap, arith}
+use Rattle.std.proofs.Common.{◌<◌, List, length, subst, sym, ap, arith}
 use Rattle.j39_plan.specs.declared.steps.Step.TheVariants.{Give}
 use Rattle.j39_world.specs.ClaimSteps.{GivenFrom}
-use Rattle.j39_bus.specs.Letters.{between, first_between}
+use Rattle.std.proofs.lemmas.Bool.{ltb-true}
+use Rattle.j39_claim.specs.declared.item.Item.{Item}
+use Rattle.j39_queues.specs.Queued.{pair_in}
 use Rattle.j39_bus.specs.Network.{world_of}
-use Rattle.j39_bus.proofs.Refused.{all_met, first_inside, nowhere, pair_inside}
+use Rattle.j39_bus.proofs.Refused.{all_met, nowhere, pair_inside}
 use Rattle.j39_bus.proofs.Standing.{plan_kept}
 use Rattle.j39_bus.proofs.Steady.{leads_same, leads_after, plan_same}
 use Rattle.j39_bus.proofs.network.Network.give.Goals as goal
+
+pub reserve-requires-clause-from : goal.reserve-requires-clause-from
+reserve-requires-clause-from g c = (pair_inside _ _ _ _ (c.requires.allowed nowhere)).1
 
 pub deliver-requires-clause-from : goal.deliver-requires-clause-from
 deliver-requires-clause-from g c =
@@ -21,7 +26,7 @@ deliver-requires-clause-to g c =
 pub deliver-requires-clause-some : goal.deliver-requires-clause-some
 deliver-requires-clause-some g c =
     let some = (all_met _ _ _ _ _ _ (c.requires.allowed nowhere)).2 in
-    subst (λ ls. first_between c.args.from c.args.to ls < length ls) (sym c.reserve.ensures.same.letters) (first_inside c.args.from c.args.to c.args.self.now.letters.items some)
+    subst (λ (lists : List (List (List Item))). 0 < length (pair_in lists c.args.from c.args.to)) (sym c.reserve.ensures.same.claims) (ltb-true 0 _ some)
 
 pub returns-clause-leads : goal.returns-clause-leads
 returns-clause-leads g c = λ plan of.
@@ -30,5 +35,5 @@ returns-clause-leads g c = λ plan of.
     let of_mid = plan_kept net mid plan (plan_same net mid c.reserve.ensures.same) of in
     leads_after net mid c.reserve.ensures.same plan (Give c.args.from c.args.to) c.deliver.new.self
     (leads_same plan mid (Give c.args.from c.args.to) c.deliver.new.self
-    (λ h. subst (λ us. GivenFrom us (world_of h mid) c.args.from c.args.to (between mid.letters.items c.args.from c.args.to) (world_of h c.deliver.new.self)) of_mid.units (c.deliver.ensures.world h))
+    (λ h. subst (λ us. GivenFrom us (world_of h mid) c.args.from c.args.to (pair_in mid.claims.lists c.args.from c.args.to) (world_of h c.deliver.new.self)) of_mid.units (c.deliver.ensures.world h))
     (ap (λ t. t.transfers.items) c.deliver.ensures.traffic))

@@ -7,12 +7,13 @@ use Rattle.j39_world.specs.Flows.{window_at}
 use Rattle.j39_tp.specs.Receiver.{message_of}
 use Rattle.j39_tp.specs.declared.receiving.heard.Heard.{Heard}
 use Rattle.j39_world.specs.declared.wired.Wired.{Wired}
-use Rattle.j39_bus.specs.BusState.{pair_in, receiving_at, session_at}
+use Rattle.j39_bus.specs.BusState.{receiving_at, session_at}
+use Rattle.j39_queues.specs.Queued.{pair_in}
 use Rattle.j39_bus.specs.Network.{Histories, has_taken, receivers_of, transfers_of, world_of}
 use Rattle.j39_world.specs.Transfers.{Reported}
 use Rattle.j39_world.specs.World.{World}
-use Rattle.j39_bus.proofs.Between.{append_nil}
-use Rattle.j39_bus.specs.Traffic.{is_announcement, is_complete, lists_of, packet_heard}
+use Rattle.j39_bus.proofs.Worlds.{append_nil}
+use Rattle.j39_bus.specs.Traffic.{is_announcement, is_complete, packet_heard}
 use Rattle.j39_world.specs.TransferSteps.{TakenFrom, hearing, packets_in, reaction_of, receiver_replies, replied, report, sender_replies}
 use Rattle.j39_bus.proofs.Answered.{replies_plain, answers_plain, replied_twice, flow_kept, no_report, one_report}
 use Rattle.j39_bus.proofs.network.Network.hear_packet.Goals as goal
@@ -40,7 +41,7 @@ returns-clause-world c = λ h gathered.
     let p = c.args.packet.now in
     let w : World = world_of h net in
     let windows = net.traffic.windows.items in
-    let lists = lists_of net.traffic.wire in
+    let lists = net.traffic.wire.lists in
     let rest : List Wired = drop 1 (pair_in lists u v) in
     let after : Histories = has_taken h v u p in
     let heard : Heard = (hearing windows w u v p).1 in

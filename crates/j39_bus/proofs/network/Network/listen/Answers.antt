@@ -7,16 +7,16 @@ use Rattle.j39_tp.specs.Receiver.{Receiving, hears, receives}
 use Rattle.j39_tp.specs.declared.receiving.manner.Manner.TheVariants.{Answering}
 use Rattle.j39_tp.specs.declared.packet.Packet.{Packet}
 use Rattle.j39_world.specs.declared.wired.Wired.TheVariants as wired
-use Rattle.j39_bus.specs.BusState.{pair_in, receiving_or}
+use Rattle.j39_bus.specs.BusState.{receiving_or}
+use Rattle.j39_queues.specs.Queued.{IsTable, pair_in}
 use Rattle.j39_world.specs.Flows.{window_at}
 use Rattle.j39_bus.specs.Network.{world_of}
-use Rattle.j39_bus.specs.Traffic.{IsTable, is_announcement, is_complete, lists_of, receiver_in}
+use Rattle.j39_bus.specs.Traffic.{is_announcement, is_complete, receiver_in}
 use Rattle.j39_world.specs.TransferSteps.{reaction_of, session_after}
 use Rattle.j39_world.specs.World.{changed, changed_pair}
 use Rattle.j39_bus.proofs.Emitting.{traffic_kept}
-use Rattle.j39_bus.proofs.Lost.{changed_table, changed_lists}
 use Rattle.j39_bus.proofs.ReceiverTurns.{answers_in, traffic_turned, receivers_turned, gathered_turned, heard_answer, heard_progress, tells, data_completes, complete_is, own_of}
-use Rattle.j39_bus.proofs.Sendings.{rewired, no_more_dropped}
+use Rattle.j39_bus.proofs.Sendings.{as_table, rewired, no_more_dropped}
 use Rattle.j39_bus.proofs.Steady.{receivers_same, receivers_gathered}
 use Rattle.j39_bus.proofs.network.Network.listen.Goals as goal
 
@@ -43,7 +43,7 @@ returns-clause-network c =
     let mid = c.receiver_hears-heard.new.transfers.items in
     let new = c.sender_hears-reaction.new.transfers.items in
     let windows = net.traffic.windows.items in
-    let lists = lists_of net.traffic.wire in
+    let lists = net.traffic.wire.lists in
     let well = c.requires.network.traffic in
     let o = receiver_in old v u in
     let m = Answering (window_at windows v) in
@@ -51,14 +51,14 @@ returns-clause-network c =
     let turned = c.receiver_hears-heard.ensures.receiver in
     let known = answers_in n windows old well.transfers v u (omega (arith, well.transfers.count, c.requires.from)) in
     let announced : is_announcement (wired.Packet p) ≡ true → is_some o ≡ true = λ one. well.announced u v (ap (list_any is_announcement) c.requires.oldest ∙ or_left (is_announcement (wired.Packet p)) (list_any is_announcement (drop 1 (pair_in lists u v))) one) in
-    let wire_is = ap pair_in c.drop_oldest.ensures.lists ∙ changed_lists n lists well.table u v c.requires.from c.requires.to (drop 1 (pair_in lists u v)) in
+    let wire_is = c.pop.ensures.lists in
     let first = traffic_turned old mid v u f turned n net.traffic.routes.items windows lists well c.receiver_hears-heard.ensures.form in
     let second = traffic_kept n net.traffic.routes.items windows mid new lists first c.sender_hears-reaction.ensures.form c.sender_hears-reaction.ensures.receivers in
     record {
       claims = c.requires.network.claims;
-      traffic = rewired n net.traffic.routes.items windows new lists (lists_of c.drop_oldest.new.self) second
-          (subst (IsTable n) (sym c.drop_oldest.ensures.lists) (changed_table n lists well.table u v c.requires.from c.requires.to (drop 1 (pair_in lists u v))))
-          (no_more_dropped (pair_in lists) (pair_in (lists_of c.drop_oldest.new.self)) u v wire_is);
+      traffic = rewired n net.traffic.routes.items windows new lists c.pop.new.self.lists second
+          (as_table n lists c.pop.new.self.lists well.table c.pop.ensures.table)
+          (no_more_dropped (pair_in lists) (pair_in c.pop.new.self.lists) u v wire_is);
     }
 
 pub returns-clause-heard : goal.returns-clause-heard
@@ -72,7 +72,7 @@ returns-clause-heard c = λ h.
     let mid = c.receiver_hears-heard.new.transfers.items in
     let new = c.sender_hears-reaction.new.transfers.items in
     let windows = net.traffic.windows.items in
-    let lists = lists_of net.traffic.wire in
+    let lists = net.traffic.wire.lists in
     let well = c.requires.network.traffic in
     let o = receiver_in old v u in
     let m = Answering (window_at windows v) in
@@ -80,7 +80,7 @@ returns-clause-heard c = λ h.
     let turned = c.receiver_hears-heard.ensures.receiver in
     let known = answers_in n windows old well.transfers v u (omega (arith, well.transfers.count, c.requires.from)) in
     let announced : is_announcement (wired.Packet p) ≡ true → is_some o ≡ true = λ one. well.announced u v (ap (list_any is_announcement) c.requires.oldest ∙ or_left (is_announcement (wired.Packet p)) (list_any is_announcement (drop 1 (pair_in lists u v))) one) in
-    let wire_is = ap pair_in c.drop_oldest.ensures.lists ∙ changed_lists n lists well.table u v c.requires.from c.requires.to (drop 1 (pair_in lists u v)) in
+    let wire_is = c.pop.ensures.lists in
     c.receiver_hears-heard.ensures.heard ∙ heard_answer o m known p announced
 
 pub returns-clause-reaction : goal.returns-clause-reaction
@@ -98,7 +98,7 @@ returns-clause-world c = λ h.
     let mid = c.receiver_hears-heard.new.transfers.items in
     let new = c.sender_hears-reaction.new.transfers.items in
     let windows = net.traffic.windows.items in
-    let lists = lists_of net.traffic.wire in
+    let lists = net.traffic.wire.lists in
     let well = c.requires.network.traffic in
     let o = receiver_in old v u in
     let m = Answering (window_at windows v) in
@@ -106,7 +106,7 @@ returns-clause-world c = λ h.
     let turned = c.receiver_hears-heard.ensures.receiver in
     let known = answers_in n windows old well.transfers v u (omega (arith, well.transfers.count, c.requires.from)) in
     let announced : is_announcement (wired.Packet p) ≡ true → is_some o ≡ true = λ one. well.announced u v (ap (list_any is_announcement) c.requires.oldest ∙ or_left (is_announcement (wired.Packet p)) (list_any is_announcement (drop 1 (pair_in lists u v))) one) in
-    let wire_is = ap pair_in c.drop_oldest.ensures.lists ∙ changed_lists n lists well.table u v c.requires.from c.requires.to (drop 1 (pair_in lists u v)) in
+    let wire_is = c.pop.ensures.lists in
     let kept = c.receiver_hears-heard.ensures.sessions in
     let sessions_are = c.sender_hears-reaction.ensures.session ∙ (λ i. changed (kept i) v (session_after (kept i v) u p)) in
     let receivers_are = receivers_same mid new c.sender_hears-reaction.ensures.receivers ∙ receivers_turned old mid v u f turned _ (heard_progress o m known p announced) in
@@ -123,7 +123,7 @@ returns-clause-gathered c = λ h gathered.
     let mid = c.receiver_hears-heard.new.transfers.items in
     let new = c.sender_hears-reaction.new.transfers.items in
     let windows = net.traffic.windows.items in
-    let lists = lists_of net.traffic.wire in
+    let lists = net.traffic.wire.lists in
     let well = c.requires.network.traffic in
     let o = receiver_in old v u in
     let m = Answering (window_at windows v) in
@@ -131,7 +131,7 @@ returns-clause-gathered c = λ h gathered.
     let turned = c.receiver_hears-heard.ensures.receiver in
     let known = answers_in n windows old well.transfers v u (omega (arith, well.transfers.count, c.requires.from)) in
     let announced : is_announcement (wired.Packet p) ≡ true → is_some o ≡ true = λ one. well.announced u v (ap (list_any is_announcement) c.requires.oldest ∙ or_left (is_announcement (wired.Packet p)) (list_any is_announcement (drop 1 (pair_in lists u v))) one) in
-    let wire_is = ap pair_in c.drop_oldest.ensures.lists ∙ changed_lists n lists well.table u v c.requires.from c.requires.to (drop 1 (pair_in lists u v)) in
+    let wire_is = c.pop.ensures.lists in
     let after : ℕ → ℕ → List Packet = changed_pair h.taken v u (h.taken v u ++ p ∷ []) in
     let same : after v u ≡ h.taken v u ++ p ∷ [] = rw (eq-eqb v v refl, eq-eqb u u refl) refl in
     receivers_gathered mid new c.sender_hears-reaction.ensures.receivers after
@@ -149,7 +149,7 @@ returns-clause-complete c = λ h gathered done.
     let mid = c.receiver_hears-heard.new.transfers.items in
     let new = c.sender_hears-reaction.new.transfers.items in
     let windows = net.traffic.windows.items in
-    let lists = lists_of net.traffic.wire in
+    let lists = net.traffic.wire.lists in
     let well = c.requires.network.traffic in
     let o = receiver_in old v u in
     let m = Answering (window_at windows v) in
@@ -157,7 +157,7 @@ returns-clause-complete c = λ h gathered done.
     let turned = c.receiver_hears-heard.ensures.receiver in
     let known = answers_in n windows old well.transfers v u (omega (arith, well.transfers.count, c.requires.from)) in
     let announced : is_announcement (wired.Packet p) ≡ true → is_some o ≡ true = λ one. well.announced u v (ap (list_any is_announcement) c.requires.oldest ∙ or_left (is_announcement (wired.Packet p)) (list_any is_announcement (drop 1 (pair_in lists u v))) one) in
-    let wire_is = ap pair_in c.drop_oldest.ensures.lists ∙ changed_lists n lists well.table u v c.requires.from c.requires.to (drop 1 (pair_in lists u v)) in
+    let wire_is = c.pop.ensures.lists in
     let r = receiving_or o in
     let by_rule : is_complete (hears r.manner r.progress p).1 ≡ true = ap is_complete (sym c.receiver_hears-heard.ensures.heard) ∙ done in
     let is : receiving_or (receiver_in new v u) ≡ receives r p =
@@ -176,7 +176,7 @@ returns-clause-data c = λ done.
     let mid = c.receiver_hears-heard.new.transfers.items in
     let new = c.sender_hears-reaction.new.transfers.items in
     let windows = net.traffic.windows.items in
-    let lists = lists_of net.traffic.wire in
+    let lists = net.traffic.wire.lists in
     let well = c.requires.network.traffic in
     let o = receiver_in old v u in
     let m = Answering (window_at windows v) in
@@ -184,6 +184,6 @@ returns-clause-data c = λ done.
     let turned = c.receiver_hears-heard.ensures.receiver in
     let known = answers_in n windows old well.transfers v u (omega (arith, well.transfers.count, c.requires.from)) in
     let announced : is_announcement (wired.Packet p) ≡ true → is_some o ≡ true = λ one. well.announced u v (ap (list_any is_announcement) c.requires.oldest ∙ or_left (is_announcement (wired.Packet p)) (list_any is_announcement (drop 1 (pair_in lists u v))) one) in
-    let wire_is = ap pair_in c.drop_oldest.ensures.lists ∙ changed_lists n lists well.table u v c.requires.from c.requires.to (drop 1 (pair_in lists u v)) in
+    let wire_is = c.pop.ensures.lists in
     let r = receiving_or o in
     data_completes r.manner r.progress p (ap is_complete (sym c.receiver_hears-heard.ensures.heard) ∙ done)

@@ -2,7 +2,7 @@ use Rattle.std.proofs.Common.{◌≡◌, ℕ, ◌<◌, cond, length, get_or, Som
 use Rattle.j39_tp.specs.Receiver.{fresh}
 use Rattle.j39_tp.specs.declared.receiving.manner.Manner.TheVariants.{Answering}
 use Rattle.j39_world.specs.Flows.{window_at}
-use Rattle.j39_bus.specs.Letters.{station_at}
+use Rattle.j39_bus.specs.Stations.{station_at}
 use Rattle.j39_bus.specs.Traffic.{is_target, route_of}
 use Rattle.j39_bus.proofs.Receivers.{values}
 use Rattle.j39_bus.proofs.network.Network.receivers_for.Given as goal

@@ -17,7 +17,7 @@ returns-then-not-is_empty c = λ h.
     let at : r ≡ get_or net.traffic.routes.items c.args.flow r = c.in-Some.ensures.lookup.1 ∙ ap (λ rs. get_or rs c.args.flow r) routes_are in
     let sendable : can_be_sent (route_of r) ≡ true = sym c.can_be_sent.ensures ∙ c.if-not-can_be_sent.false in
     let started = sym c.are_started.ensures ∙ c.if-not-are_started.false in
-    let settled = settled_by n net.letters.items c.requires.claims.inside ∙ ap (λ k. k == 0) (sym net.letters.ok.0) ∙ sym c.is_empty.ensures ∙ c.if-not-is_empty.true in
+    let settled = settled_by n net.claims.lists c.requires.claims.table c.is_empty.result c.is_empty.ensures ∙ c.if-not-is_empty.true in
     sym (refusal_by net c.args.flow r inside at n (world_of h net) c.args.bytes.now.items true true false _ _ _ sendable started settled refl refl refl)
 
 pub returns-then-not-have_addresses : goal.returns-then-not-have_addresses
@@ -30,7 +30,7 @@ returns-then-not-have_addresses c = λ h.
     let at : r ≡ get_or net.traffic.routes.items c.args.flow r = c.in-Some.ensures.lookup.1 ∙ ap (λ rs. get_or rs c.args.flow r) routes_are in
     let sendable : can_be_sent (route_of r) ≡ true = sym c.can_be_sent.ensures ∙ c.if-not-can_be_sent.false in
     let started = sym c.are_started.ensures ∙ c.if-not-are_started.false in
-    let settled = settled_by n net.letters.items c.requires.claims.inside ∙ ap (λ k. k == 0) (sym net.letters.ok.0) ∙ sym c.is_empty.ensures ∙ c.if-not-is_empty.false in
+    let settled = settled_by n net.claims.lists c.requires.claims.table c.is_empty.result c.is_empty.ensures ∙ c.if-not-is_empty.false in
     let addressed = sym c.have_addresses.ensures ∙ c.if-not-have_addresses.true in
     sym (refusal_by net c.args.flow r inside at n (world_of h net) c.args.bytes.now.items true true true false _ _ sendable started settled addressed refl refl)
 
@@ -44,7 +44,7 @@ returns-then-is_some c = λ h.
     let at : r ≡ get_or net.traffic.routes.items c.args.flow r = c.in-Some.ensures.lookup.1 ∙ ap (λ rs. get_or rs c.args.flow r) routes_are in
     let sendable : can_be_sent (route_of r) ≡ true = sym c.can_be_sent.ensures ∙ c.if-not-can_be_sent.false in
     let started = sym c.are_started.ensures ∙ c.if-not-are_started.false in
-    let settled = settled_by n net.letters.items c.requires.claims.inside ∙ ap (λ k. k == 0) (sym net.letters.ok.0) ∙ sym c.is_empty.ensures ∙ c.if-not-is_empty.false in
+    let settled = settled_by n net.claims.lists c.requires.claims.table c.is_empty.result c.is_empty.ensures ∙ c.if-not-is_empty.false in
     let addressed = sym c.have_addresses.ensures ∙ c.if-not-have_addresses.false in
     let well : IsRoute n r = subst (IsRoute n) (sym at) (c.requires.traffic.flows c.args.flow r inside) in
     let sender : r.sender < length net.traffic.transfers.items = omega (arith, well.sender, c.requires.traffic.transfers.count) in
@@ -61,7 +61,7 @@ returns-then-len-from c = λ h.
     let at : r ≡ get_or net.traffic.routes.items c.args.flow r = c.in-Some.ensures.lookup.1 ∙ ap (λ rs. get_or rs c.args.flow r) routes_are in
     let sendable : can_be_sent (route_of r) ≡ true = sym c.can_be_sent.ensures ∙ c.if-not-can_be_sent.false in
     let started = sym c.are_started.ensures ∙ c.if-not-are_started.false in
-    let settled = settled_by n net.letters.items c.requires.claims.inside ∙ ap (λ k. k == 0) (sym net.letters.ok.0) ∙ sym c.is_empty.ensures ∙ c.if-not-is_empty.false in
+    let settled = settled_by n net.claims.lists c.requires.claims.table c.is_empty.result c.is_empty.ensures ∙ c.if-not-is_empty.false in
     let addressed = sym c.have_addresses.ensures ∙ c.if-not-have_addresses.false in
     let well : IsRoute n r = subst (IsRoute n) (sym at) (c.requires.traffic.flows c.args.flow r inside) in
     let sender : r.sender < length net.traffic.transfers.items = omega (arith, well.sender, c.requires.traffic.transfers.count) in
@@ -79,7 +79,7 @@ returns c = λ h.
     let at : r ≡ get_or net.traffic.routes.items c.args.flow r = c.in-Some.ensures.lookup.1 ∙ ap (λ rs. get_or rs c.args.flow r) routes_are in
     let sendable : can_be_sent (route_of r) ≡ true = sym c.can_be_sent.ensures ∙ c.if-not-can_be_sent.false in
     let started = sym c.are_started.ensures ∙ c.if-not-are_started.false in
-    let settled = settled_by n net.letters.items c.requires.claims.inside ∙ ap (λ k. k == 0) (sym net.letters.ok.0) ∙ sym c.is_empty.ensures ∙ c.if-not-is_empty.false in
+    let settled = settled_by n net.claims.lists c.requires.claims.table c.is_empty.result c.is_empty.ensures ∙ c.if-not-is_empty.false in
     let addressed = sym c.have_addresses.ensures ∙ c.if-not-have_addresses.false in
     let well : IsRoute n r = subst (IsRoute n) (sym at) (c.requires.traffic.flows c.args.flow r inside) in
     let sender : r.sender < length net.traffic.transfers.items = omega (arith, well.sender, c.requires.traffic.transfers.count) in

@@ -2,7 +2,7 @@ use Rattle.std.proofs.Common.{◌≡◌, ◌<◌, false, true, not, is_some, Lis
 use Rattle.std.proofs.lemmas.Bool.{lt-ltb}
 use Rattle.std.specs.List.{list_any}
 use Rattle.j39_claim.specs.ClaimerValue.{ClaimerValue}
-use Rattle.j39_bus.specs.Letters.{station_at}
+use Rattle.j39_bus.specs.Stations.{station_at}
 use Rattle.j39_bus.specs.Network.{world_of}
 use Rattle.j39_world.specs.Run.{is_no_transfer_open}
 use Rattle.j39_bus.proofs.Refused.{station_is}

@@ -1,27 +1,29 @@
-use Rattle.std.proofs.Common.{◌≡◌, ◌<◌, List, [], ◌∷◌, length, get_or, ap, ◌∙◌, arith}
+use Rattle.std.proofs.Common.{◌≡◌, ◌<◌, List, [], ◌∷◌, length, get_or, ap, ◌∙◌, subst, sym, arith}
 use Rattle.j39_claim.specs.declared.item.Item.TheVariants.{Told, Request}
 use Rattle.j39_claim.specs.ClaimRule.{claim_of}
 use Rattle.j39_claim.specs.ClaimerValue.{ClaimerValue}
-use Rattle.j39_bus.specs.declared.letter.Letter.{Letter}
+use Rattle.j39_queues.specs.Queued.{IsTable}
 use Rattle.j39_world.specs.ClaimSteps.{tell}
-use Rattle.j39_bus.specs.Letters.{nobody, station_at}
-use Rattle.j39_bus.specs.Network.{claimants, world_of, IsWellFormed}
+use Rattle.j39_bus.specs.inside.Claims.{HasRoomForOthers}
+use Rattle.j39_bus.specs.Stations.{nobody, station_at}
+use Rattle.j39_bus.specs.Network.{claimants, world_of}
 use Rattle.j39_bus.proofs.WellFormed.{well_told}
 use Rattle.j39_bus.proofs.Worlds.{any_default, told_twice}
 use Rattle.j39_bus.proofs.Steady.{same_traffic}
 use Rattle.j39_bus.proofs.network.Network.request.Goals as goal
 
+pub tell-requires-2-clause-table : goal.tell-requires-2-clause-table
+tell-requires-2-clause-table c = subst (λ cs. IsTable (length cs) c.tell.new.self.claims.lists) (sym (ap (λ v. v.items) c.tell.ensures.claimers)) c.tell.ensures.table
+
+pub tell-requires-2-clause-room : goal.tell-requires-2-clause-room
+tell-requires-2-clause-room c = subst (λ cs. HasRoomForOthers c.tell.new.self.claims cs c.args.unit 1) (sym (ap (λ v. v.items) c.tell.ensures.claimers)) (c.tell.ensures.room 1 c.requires.room)
+
 pub returns-clause-network : goal.returns-clause-network
 returns-clause-network c = record {
   claims =
-      let cs : List ClaimerValue = c.args.self.now.claimers.items in
-      let ls : List Letter = c.args.self.now.letters.items in
-      let mid : List ClaimerValue = c.tell.new.self.claimers.items in
-      let same : mid ≡ cs = ap (λ v. v.items) c.tell.ensures.claimers in
-      let well : IsWellFormed mid c.tell.new.self.letters.items = well_told cs ls c.requires.network.claims c.args.unit c.requires.place Request mid c.tell.new.self.letters.items same c.tell.ensures.letters in
-      let place : c.args.unit < length mid = omega (arith, ap length same, c.requires.place) in
-      well_told mid c.tell.new.self.letters.items well c.args.unit place (Told c.hear_request-say.result) c.tell-2.new.self.claimers.items c.tell-2.new.self.letters.items
-      (ap (λ v. v.items) c.tell-2.ensures.claimers) c.tell-2.ensures.letters;
+      let same = ap (λ v. v.items) (c.tell-2.ensures.claimers ∙ c.tell.ensures.claimers) in
+      well_told c.args.self.now.claimers.items c.args.self.now.claims.lists c.requires.network.claims c.tell-2.new.self.claimers.items c.tell-2.new.self.claims.lists same
+      (subst (λ cs. IsTable (length cs) c.tell-2.new.self.claims.lists) (ap (λ v. v.items) c.tell.ensures.claimers) c.tell-2.ensures.table);
   traffic = same_traffic c.args.self.now c.tell-2.new.self (ap length (ap (λ v. v.items) (c.tell-2.ensures.claimers ∙ c.tell.ensures.claimers))) (c.tell-2.ensures.traffic ∙ c.tell.ensures.traffic) c.requires.network.traffic;
 }
 

@@ -3,7 +3,7 @@ use Rattle.j39_tp.specs.Sender.{data_next, after_packet}
 use Rattle.j39_bus.specs.BusState.{session_at}
 use Rattle.j39_world.specs.Flows.{dest_of}
 use Rattle.j39_bus.specs.Network.{transfers_of, world_of}
-use Rattle.j39_bus.specs.Traffic.{at_stage, lists_of, values_of}
+use Rattle.j39_bus.specs.Traffic.{at_stage, values_of}
 use Rattle.j39_world.specs.Transfers.{Outgoing}
 use Rattle.j39_world.specs.World.{changed}
 use Rattle.j39_bus.proofs.Emitting.{data_plain, session_sends, room_kept, traffic_kept, went_on, changed_same}
@@ -15,7 +15,7 @@ send_along-requires-clause-network c =
     let net = c.args.self.now in
     record {
       claims = c.requires.network.claims;
-      traffic = traffic_kept (length net.claimers.items) net.traffic.routes.items net.traffic.windows.items net.traffic.transfers.items c.next_packet.new.transfers.items (lists_of net.traffic.wire) c.requires.network.traffic c.next_packet.ensures.form c.next_packet.ensures.receivers;
+      traffic = traffic_kept (length net.claimers.items) net.traffic.routes.items net.traffic.windows.items net.traffic.transfers.items c.next_packet.new.transfers.items net.traffic.wire.lists c.requires.network.traffic c.next_packet.ensures.form c.next_packet.ensures.receivers;
     }
 
 pub send_along-requires-clause-wire : goal.send_along-requires-clause-wire

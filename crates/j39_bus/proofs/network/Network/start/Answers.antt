@@ -1,12 +1,13 @@
 use Rattle.std.proofs.Common.{◌≡◌, ◌<◌, ◌∷◌, [], ◌++◌, List, length, map, ap, sym, ◌∙◌, arith, Some}
 use Rattle.std.proofs.lemmas.List.{map-append}
 use Rattle.j39_tp.specs.Receiver.{Receiving}
-use Rattle.j39_bus.specs.BusState.{pair_in, places_from, session_at}
+use Rattle.j39_bus.specs.BusState.{places_from, session_at}
+use Rattle.j39_queues.specs.Queued.{pair_in}
 use Rattle.j39_world.specs.Flows.{Flow}
-use Rattle.j39_bus.specs.Letters.{station_at}
+use Rattle.j39_bus.specs.Stations.{station_at}
 use Rattle.j39_bus.specs.Network.{transfers_of, world_of}
 use Rattle.j39_world.specs.Sent.{Sent, sent_of}
-use Rattle.j39_bus.specs.Traffic.{IsTransfer, item_frame, lists_of, posted, route_of}
+use Rattle.j39_bus.specs.Traffic.{IsTransfer, item_frame, posted, route_of}
 use Rattle.j39_world.specs.Transfers.{Begun, Outgoing, added}
 use Rattle.j39_world.specs.TransferSteps.{outgoing, targets_of}
 use Rattle.j39_world.specs.World.{changed}
@@ -22,7 +23,7 @@ returns-clause-network c =
     let net = c.args.self.now in
     let n = length net.claimers.items in
     let u = c.args.route.now.sender in
-    let lists = lists_of net.traffic.wire in
+    let lists = net.traffic.wire.lists in
     let windows = net.traffic.windows.items in
     let t : made.Transfer = record { flow = c.args.flow; pgn = c.args.route.now.pgn; to = c.args.route.now.to; content = c.opening-content.result.0; receivers = c.args.receivers } in
     let inside : u < length net.traffic.transfers.items = omega (arith, c.requires.network.traffic.transfers.count, c.requires.route.sender) in
@@ -35,8 +36,8 @@ returns-clause-network c =
     } in
     record {
       claims = c.requires.network.claims;
-      traffic = begun_traffic net.traffic.transfers.items u inside c.requires.idle t n net.traffic.routes.items windows lists (lists_of c.post_each.new.self) form c.requires.network.traffic
-          (as_table n lists (lists_of c.post_each.new.self) c.requires.network.traffic.table c.post_each.ensures.table) c.opening-content.result.1
+      traffic = begun_traffic net.traffic.transfers.items u inside c.requires.idle t n net.traffic.routes.items windows lists c.post_each.new.wire.lists form c.requires.network.traffic
+          (as_table n lists c.post_each.new.wire.lists c.requires.network.traffic.table c.post_each.ensures.table) c.opening-content.result.1
           (c.post_each.ensures.lists ∙ ap (λ rs. posted (pair_in lists) u rs c.opening-content.result.1) c.as_slice.ensures.value);
     }
 
@@ -47,7 +48,7 @@ returns-clause-world c = λ h.
     let u = c.args.route.now.sender in
     let stations = station_at net.claimers.items in
     let flow : Flow = route_of c.args.route.now in
-    let lists = lists_of net.traffic.wire in
+    let lists = net.traffic.wire.lists in
     let windows = net.traffic.windows.items in
     let rs = c.args.receivers.items in
     let sent : List Sent = map sent_of net.frames.items in

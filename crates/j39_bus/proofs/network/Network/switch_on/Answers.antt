@@ -1,33 +1,35 @@
-use Rattle.std.proofs.Common.{◌<◌, List, length, map, set, ap, ◌∙◌, arith}
+use Rattle.std.proofs.Common.{◌<◌, List, length, map, set, ap, sym, ◌∙◌, subst, refl, arith}
 use Rattle.std.proofs.Math.ListN.{length-set}
-use Rattle.j39_claim.specs.declared.item.Item.TheVariants.{Told}
 use Rattle.j39_claim.specs.ClaimerValue.{ClaimerValue}
-use Rattle.j39_bus.specs.declared.letter.Letter.{Letter}
 use Rattle.j39_world.specs.Sent.{sent_of}
 use Rattle.j39_bus.proofs.Sendings.{switched_traffic}
-use Rattle.j39_bus.proofs.WellFormed.{well_on, well_told}
+use Rattle.j39_bus.proofs.WellFormed.{room_for_others, well_on, well_told}
 use Rattle.j39_bus.proofs.SwitchedOn.{claimants_on, on_claimant, switched}
-use Rattle.j39_bus.specs.BusState.{pair_in}
+use Rattle.j39_queues.specs.Queued.{IsTable, pair_in}
 use Rattle.j39_bus.specs.Network.{world_of}
-use Rattle.j39_bus.specs.Traffic.{lists_of}
 use Rattle.j39_bus.proofs.network.Network.switch_on.Goals as goal
+
+pub tell-requires-clause-table : goal.tell-requires-clause-table
+tell-requires-clause-table c =
+    let cs : List ClaimerValue = c.args.self.now.claimers.items in
+    subst (λ n. IsTable n c.clear_to.new.self.lists) (c.requires.network.claims.table.rows ∙ sym (length-set cs c.args.unit c.start-say.new.self)) c.clear_to.ensures.table
+
+pub tell-requires-clause-room : goal.tell-requires-clause-room
+tell-requires-clause-room c =
+    room_for_others c.args.self.now.claims c.clear_to.new.self c.args.self.now.claimers.items c.args.unit c.start-say.new.self _ c.requires.place refl c.clear_to.ensures.room 1 c.requires.room
 
 pub returns-clause-network : goal.returns-clause-network
 returns-clause-network c =
     let cs : List ClaimerValue = c.args.self.now.claimers.items in
-    let ls : List Letter = c.args.self.now.letters.items in
-    let old : ClaimerValue = c.index_mut.result.now in
     let new : ClaimerValue = c.start-say.new.self in
-    let left : List Letter = c.drop_letters_to.new.letters.items in
-    let same = on_claimant cs c.args.unit c.requires.place old new c.index_mut.ensures.value c.start-say.ensures.started in
-    let well = well_on cs ls c.requires.network.claims c.args.unit c.requires.place new same (ap (λ (k : ClaimerValue). k.state.notes) c.start-say.ensures.started) left c.drop_letters_to.ensures.items in
-    let place : c.args.unit < length (set cs c.args.unit new) = omega (arith, length-set cs c.args.unit new, c.requires.place) in
+    let same = on_claimant cs c.args.unit c.requires.place c.index_mut.result.now new c.index_mut.ensures.value c.start-say.ensures.started in
+    let well = well_on cs c.args.self.now.claims.lists c.requires.network.claims c.args.unit c.requires.place new same (ap (λ (k : ClaimerValue). k.state.notes) c.start-say.ensures.started)
+    c.clear_to.new.self.lists c.clear_to.ensures.table in
     record {
-      claims = well_told (set cs c.args.unit new) left well c.args.unit place (Told c.start-say.result) c.tell.new.self.claimers.items c.tell.new.self.letters.items
-          (ap (λ v. v.items) c.tell.ensures.claimers) c.tell.ensures.letters;
+      claims = well_told (set cs c.args.unit new) c.clear_to.new.self.lists well c.tell.new.self.claimers.items c.tell.new.self.claims.lists (ap (λ v. v.items) c.tell.ensures.claimers) c.tell.ensures.table;
       traffic = switched_traffic c.args.self.now c.tell.new.self
-          (ap length (ap (λ v. v.items) c.tell.ensures.claimers) ∙ length-set cs c.args.unit new) c.clear_to.new.self c.tell.ensures.traffic
-          c.requires.network.traffic c.args.unit c.clear_to.ensures.table c.clear_to.ensures.lists;
+          (ap length (ap (λ v. v.items) c.tell.ensures.claimers) ∙ length-set cs c.args.unit new) c.clear_to-2.new.self c.tell.ensures.traffic
+          c.requires.network.traffic c.args.unit c.clear_to-2.ensures.table c.clear_to-2.ensures.lists;
     }
 
 pub returns-clause-plan : goal.returns-clause-plan
@@ -43,6 +45,6 @@ returns-clause-plan c = record {
 pub returns-clause-world : goal.returns-clause-world
 returns-clause-world c = λ h.
     switched c.args.self.now.claimers.items c.args.unit c.requires.place c.index_mut.result.now c.start-say.new.self c.index_mut.ensures.value c.start-say.ensures.started
-    (world_of h c.args.self.now) c.args.self.now.letters.items c.drop_letters_to.new.letters.items (map sent_of c.args.self.now.frames.items) c.drop_letters_to.ensures.items
-    (pair_in (lists_of c.clear_to.new.self)) c.clear_to.ensures.lists
+    (world_of h c.args.self.now) (pair_in c.args.self.now.claims.lists) (pair_in c.clear_to.new.self.lists) (map sent_of c.args.self.now.frames.items) c.clear_to.ensures.lists
+    (pair_in c.clear_to-2.new.self.lists) c.clear_to-2.ensures.lists
     c.start-say.result c.start-say.ensures.said _ (c.tell.ensures.world h)

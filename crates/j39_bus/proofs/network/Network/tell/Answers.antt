@@ -1,11 +1,13 @@
-use Rattle.std.proofs.Common.{◌≡◌, ◌∷◌, [], ◌++◌, List, map, get_or, ap, ◌∙◌}
+use Rattle.std.proofs.Common.{◌≡◌, ◌∷◌, [], ◌++◌, List, length, map, get_or, ap, ◌∙◌, subst, sym, arith}
 use Rattle.std.proofs.lemmas.List.{map-append}
 use Rattle.j39_claim.specs.ClaimerValue.{ClaimerValue}
-use Rattle.j39_bus.specs.declared.letter.Letter.{Letter}
-use Rattle.j39_bus.specs.Letters.{letters_to_others, nobody}
+use Rattle.j39_queues.specs.Queued.{IsTable, pair_in}
+use Rattle.j39_world.specs.ClaimSteps.{told_to_others}
 use Rattle.j39_world.specs.Sent.{Sent, sent_of, frame_of}
+use Rattle.j39_world.specs.World.{Undelivered, World}
+use Rattle.j39_bus.specs.inside.Claims.{HasRoomForOthers}
 use Rattle.j39_bus.specs.Network.{world_of}
-use Rattle.j39_world.specs.World.{World}
+use Rattle.j39_bus.specs.Stations.{nobody, station_at}
 use Rattle.j39_bus.proofs.Worlds.{any_default, world, world_told}
 use Rattle.j39_bus.proofs.network.Network.tell.Goals as goal
 
@@ -13,13 +15,16 @@ pub returns-clause-world : goal.returns-clause-world
 returns-clause-world c = λ h.
     let b : World = world_of h c.args.self.now in
     let cs : List ClaimerValue = c.args.self.now.claimers.items in
-    let ls : List Letter = c.args.self.now.letters.items in
+    let claims : Undelivered = pair_in c.args.self.now.claims.lists in
     let sent : List Sent = map sent_of c.args.self.now.frames.items in
-    let at : c.index-claimer.result.now ≡ get_or cs c.args.from nobody = c.index-claimer.ensures ∙ any_default cs c.args.from c.index-claimer.result.now nobody c.requires.place in
-    let letters : c.post_to_others.new.letters.items ≡ ls ++ letters_to_others 0 cs c.args.from c.args.item.now =
-    c.post_to_others.ensures.items ∙ ap (λ (ks : List ClaimerValue). ls ++ letters_to_others 0 ks c.args.from c.args.item.now) c.as_slice.ensures.value in
+    let at : c.index-claimer.result.now ≡ get_or cs c.args.from nobody = c.index-claimer.ensures ∙ any_default cs c.args.from c.index-claimer.result.now nobody c.requires.from in
+    let told : pair_in c.post_to_others.new.claims.lists ≡ told_to_others (station_at cs) claims c.args.from (c.args.item.now ∷ []) =
+    c.post_to_others.ensures.lists ∙ ap (λ (ks : List ClaimerValue). told_to_others (station_at ks) claims c.args.from (c.args.item.now ∷ [])) c.as_slice.ensures.value in
     let frames : map sent_of c.post.new.list.items ≡ sent ++ frame_of c.name.result c.address.result c.args.item.now ∷ [] =
     ap (map sent_of) c.post.ensures.items ∙ map-append sent_of c.args.self.now.frames.items (c.frame_of-frame.result ∷ []) ∙ ap (λ (f : Sent). sent ++ f ∷ []) c.frame_of-frame.ensures in
-    (λ i. world b cs (letters i) (frames i))
-    ∙ world_told b cs ls sent c.args.from c.args.item.now c.name.result c.address.result
+    (λ i. world b cs (pair_in c.post_to_others.new.claims.lists) (frames i))
+    ∙ world_told b cs claims (pair_in c.post_to_others.new.claims.lists) sent c.args.from c.args.item.now c.name.result c.address.result told
     (c.name.ensures ∙ ap (λ (k : ClaimerValue). k.planned.name) at) (c.address.ensures.address ∙ ap (λ (k : ClaimerValue). k.state.address) at)
+
+pub returns-clause-table : goal.returns-clause-table
+returns-clause-table c = subst (λ n. IsTable n c.post_to_others.new.claims.lists) c.requires.table.rows c.post_to_others.ensures.table

@@ -7,6 +7,9 @@ use Rattle.j39_bus.proofs.Standing.{plan_kept}
 use Rattle.j39_bus.proofs.Steady.{leads_same, leads_after, plan_same}
 use Rattle.j39_bus.proofs.network.Network.up.Goals as goal
 
+pub reserve-requires-clause-from : goal.reserve-requires-clause-from
+reserve-requires-clause-from c = unit_inside _ _ _ (c.requires.allowed nowhere)
+
 pub switch_on-requires-clause-place : goal.switch_on-requires-clause-place
 switch_on-requires-clause-place c =
     let inside : c.args.unit < length c.args.self.now.claimers.items = unit_inside _ _ _ (c.requires.allowed nowhere) in

@@ -1,0 +1,19 @@
+-- What the units of a bus are.
+use Rattle.std.specs.Prelude.{ℕ, List, slice_index_or}
+use Rattle.std.specs.FinSet.{empty}
+use Rattle.j39_claim.specs.ClaimRule.{off}
+use Rattle.j39_claim.specs.ClaimerValue.{ClaimerValue}
+use Rattle.j39_plan.specs.declared.plan.unit_plan.UnitPlan.{UnitPlan}
+use Rattle.j39_world.specs.Claimants.{claimant_of}
+use Rattle.j39_world.specs.World.{Stations}
+
+-- what stands at a place with no unit
+abbrev pub nobody : ClaimerValue
+nobody = record { planned = record { name = 0; preferred = 0; kept = empty }; state = off }
+
+-- a planned unit before any step
+abbrev pub unstarted : UnitPlan → ClaimerValue
+unstarted p = record { planned = claimant_of p; state = off }
+
+abbrev pub station_at : List ClaimerValue → Stations
+station_at cs u = (slice_index_or cs u nobody).state
