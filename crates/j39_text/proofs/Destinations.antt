@@ -1,7 +1,7 @@
 -- Where the frames of a group go.
-use Rattle.std.proofs.Common.{◌≡◌, true, false, nat_le, inl, inr, refl, arith}
+use Rattle.std.proofs.Common.{◌≡◌, nat_le, inl, inr, refl, arith}
 use Rattle.std.proofs.lemmas.Bool.{cases_Bool}
-use Rattle.j39_id.specs.Ident.{pgn_of, group_extension}
+use Rattle.j39_id.specs.Ident.{pgn_of}
 use Rattle.j39_id.specs.Pgn.{is_pdu2, pf_of}
 use Rattle.j39_id.specs.declared.ident.Ident.{Ident}
 

@@ -1,3 +1,3 @@
--- What only private contracts and proofs need.
+-- What private contracts and proofs need, and a law that the proofs of a bus cite.
 pub mod Gathered
 pub mod Held

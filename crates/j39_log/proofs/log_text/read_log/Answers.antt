@@ -1,4 +1,4 @@
-use Rattle.std.proofs.Common.{rules, ◌≡◌, ◌<◌, ◌≤◌, ℕ, List, [], ◌++◌, length, take, inl, inr, refl, sym, ap, ◌∙◌, subst, arith}
+use Rattle.std.proofs.Common.{rules, ◌<◌, ℕ, List, [], ◌++◌, take, inl, inr, refl, sym, ap, ◌∙◌, subst, arith}
 use Rattle.std.specs.Prelude.{IsErrOf}
 use Rattle.std.specs.Io.KnownBytes.{Consumes}
 use Rattle.std.proofs.KnownBytes.{Appends-trans}
@@ -6,10 +6,10 @@ use Rattle.std.proofs.lemmas.List.{append-nil, length-append}
 use Rattle.std.proofs.lemmas.Result.{IfOk-weaker, IfErr-weaker}
 use Rattle.j39_id.specs.Lines.{at_start, behind_all, told, told_at_end}
 use Rattle.j39_id.proofs.CutLines.{behind_all-append}
-use Rattle.j39_stream.specs.Intakes.{Counts, HasRead}
+use Rattle.j39_stream.specs.Intakes.{Counts}
 use Rattle.j39_stream.specs.declared.fault.Fault.TheVariants.{Device, TooLong}
 use Rattle.j39_log.specs.ReadText.{count_line}
-use Rattle.j39_log.specs.inside.Recalling.{HasReadLines, HasWritten}
+use Rattle.j39_log.specs.inside.Recalling.{HasWritten}
 use Rattle.j39_log.proofs.LogReading.{begun, finished, more_seen, none_read, none_taken, part_after, partly, put}
 use Rattle.j39_log.proofs.Outcomes.{failed, on_error}
 use Rattle.j39_log.proofs.log_text.read_log.Goals as goal

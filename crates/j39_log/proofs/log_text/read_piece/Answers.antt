@@ -1,10 +1,9 @@
-use Rattle.std.proofs.Common.{rules, ◌≡◌, ◌+◌, ◌-◌, ◌<◌, ◌≤◌, ◌++◌, [], ℕ, List, Bor, Option, Some, None, length, take, drop, refl, sym, ap, ◌∙◌, arith, append_assoc}
+use Rattle.std.proofs.Common.{rules, ◌≡◌, ◌+◌, ◌-◌, ◌<◌, ◌++◌, [], ℕ, List, Bor, Option, Some, None, length, take, drop, refl, sym, ap, ◌∙◌, arith, append_assoc}
 use Rattle.std.specs.Prelude.{unwrap_or}
 use Rattle.std.specs.Option.{option_copied}
 use Rattle.std.proofs.lemmas.List.{append-nil, length-append, length-drop, length-take-le, take-append-drop, take_rest}
-use Rattle.j39_id.specs.Lines.{Line, behind_all, tells, told}
+use Rattle.j39_id.specs.Lines.{behind_all, tells}
 use Rattle.j39_id.proofs.CutLines.{behind_all-append}
-use Rattle.j39_log.specs.inside.Recalling.{HasReadLines}
 use Rattle.j39_log.proofs.LogReading.{read_part}
 use Rattle.j39_log.proofs.log_text.read_piece.Goals as goal
 

@@ -1,6 +1,6 @@
-use Rattle.std.proofs.Common.{◌≡◌, ◌+◌, [], List, refl, sym, ap, subst}
+use Rattle.std.proofs.Common.{◌+◌, [], refl, sym, ap, subst}
 use Rattle.std.proofs.lemmas.List.{append-nil}
-use Rattle.j39_id.specs.Lines.{Line, Long, tells}
+use Rattle.j39_id.specs.Lines.{tells}
 use Rattle.j39_id.specs.declared.cut.Cut.{Cut}
 use Rattle.j39_log.specs.ReadText.{Past, ReadsLines, with_bad}
 use Rattle.j39_log.proofs.log_reading.Reading.read_cut.Goals as goal
