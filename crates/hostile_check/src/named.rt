@@ -48,9 +48,9 @@ const REFUSED_STEP: [&str; 12] = [
 ];
 
 // The first words of lines of check, and of lines of read.
-const CHECK: [&str; 15] = [
-    "ok", "findings", "F1", "F2", "F3", "F4", "F5", "F6", "F7", "F8", "F9", "F10", "F11", "",
-    "refused",
+const CHECK: [&str; 16] = [
+    "ok", "findings", "F1", "F2", "F3", "F4", "F5", "F6", "F7", "F8", "F9", "F10", "F11", "F12",
+    "", "refused",
 ];
 
 const FRAME: [&str; 7] = [

@@ -5,6 +5,7 @@ use Rattle.std.specs.List.{slice_get}
 use Rattle.std.specs.Option.{is_some}
 use Rattle.std.specs.Ordering.{nat_cmp}
 use Rattle.std.specs.FinMap.{get, get-empty}
+use Rattle.std.specs.FinSet.{FinSet}
 use Rattle.j39_claim.specs.ClaimRule.{PlannedUnit, ClaimState, off}
 use Rattle.j39_claim.specs.ClaimerValue.{ClaimerValue}
 use Rattle.j39_plan.specs.declared.plan.Plan.{Plan}
@@ -26,28 +27,28 @@ use Rattle.j39_bus.specs.Stands.{Stands}
 use Rattle.j39_world.specs.World.{first}
 use Rattle.j39_bus.proofs.Standing.{stands}
 
-station_unstarted : (units : List UnitPlan) (u : ℕ) → station_at (map unstarted units) u ≡ off
-station_unstarted [] u = refl
-station_unstarted (p ∷ units) zero = refl
-station_unstarted (p ∷ units) (suc u) = station_unstarted units u
+station_unstarted : (kept : FinSet nat_cmp) (units : List UnitPlan) (u : ℕ) → station_at (map (unstarted kept) units) u ≡ off
+station_unstarted kept [] u = refl
+station_unstarted kept (p ∷ units) zero = refl
+station_unstarted kept (p ∷ units) (suc u) = station_unstarted kept units u
 
-claimants-unstarted : (units : List UnitPlan) → claimants (map unstarted units) ≡ map claimant_of units
-claimants-unstarted [] = refl
-claimants-unstarted (p ∷ units) = ap (λ (cs : List PlannedUnit). claimant_of p ∷ cs) (claimants-unstarted units)
+claimants-unstarted : (kept : FinSet nat_cmp) (units : List UnitPlan) → claimants (map (unstarted kept) units) ≡ map (claimant_of kept) units
+claimants-unstarted kept [] = refl
+claimants-unstarted kept (p ∷ units) = ap (λ (cs : List PlannedUnit). claimant_of kept p ∷ cs) (claimants-unstarted kept units)
 
-length-unstarted : (units : List UnitPlan) → length (map unstarted units) ≡ length units
-length-unstarted [] = refl
-length-unstarted (p ∷ units) = omega (arith, length-unstarted units)
+length-unstarted : (kept : FinSet nat_cmp) (units : List UnitPlan) → length (map (unstarted kept) units) ≡ length units
+length-unstarted kept [] = refl
+length-unstarted kept (p ∷ units) = omega (arith, length-unstarted kept units)
 
-pub length_opened : (units : List UnitPlan) (cs : List ClaimerValue) → cs ≡ map unstarted units → length cs ≡ length units
-length_opened units cs is = ap length is ∙ length-unstarted units
+pub length_opened : (kept : FinSet nat_cmp) (units : List UnitPlan) (cs : List ClaimerValue) → cs ≡ map (unstarted kept) units → length cs ≡ length units
+length_opened kept units cs is = ap length is ∙ length-unstarted kept units
 
 -- units that are not started
-pub well_opened : (units : List UnitPlan) → length units ≤ 128 → (cs : List ClaimerValue) (lists : List (List (List Item))) → cs ≡ map unstarted units → IsTable (length units) lists → IsWellFormed cs lists
-well_opened units few cs lists cs_is table = record {
-  few = omega (arith, length_opened units cs cs_is, few);
-  table = subst (λ (n : ℕ). IsTable n lists) (sym (length_opened units cs cs_is)) table;
-  notes = λ v n h. absurd (true≢false (sym h ∙ ap is_some (ap (λ (s : ClaimState). get s.notes n) (ap (λ (l : List ClaimerValue). station_at l v) cs_is ∙ station_unstarted units v) ∙ get-empty nat_cmp n)));
+pub well_opened : (kept : FinSet nat_cmp) (units : List UnitPlan) → length units ≤ 128 → (cs : List ClaimerValue) (lists : List (List (List Item))) → cs ≡ map (unstarted kept) units → IsTable (length units) lists → IsWellFormed cs lists
+well_opened kept units few cs lists cs_is table = record {
+  few = omega (arith, length_opened kept units cs cs_is, few);
+  table = subst (λ (n : ℕ). IsTable n lists) (sym (length_opened kept units cs cs_is)) table;
+  notes = λ v n h. absurd (true≢false (sym h ∙ ap is_some (ap (λ (s : ClaimState). get s.notes n) (ap (λ (l : List ClaimerValue). station_at l v) cs_is ∙ station_unstarted kept units v) ∙ get-empty nat_cmp n)));
 }
 
 -- no unit sends anything
@@ -66,15 +67,15 @@ pub record IsFirstTraffic (plan : Plan) (t : kept.Traffic) : Type 0 where
 abbrev no_histories : Histories
 no_histories = record { taken = λ v u. []; begun = λ u v. [] }
 
-pub network_first : (plan : Plan) (net : Network) → net.claimers.items ≡ map unstarted plan.units.items → IsTable (length plan.units.items) net.claims.lists → IsTraffic (length plan.units.items) net.traffic.routes.items net.traffic.windows.items net.traffic.transfers.items net.traffic.wire.lists → IsNetwork net
+pub network_first : (plan : Plan) (net : Network) → net.claimers.items ≡ map (unstarted plan.keep_free) plan.units.items → IsTable (length plan.units.items) net.claims.lists → IsTraffic (length plan.units.items) net.traffic.routes.items net.traffic.windows.items net.traffic.transfers.items net.traffic.wire.lists → IsNetwork net
 network_first plan net cs_is table fits = record {
-  claims = well_opened plan.units.items plan.unit_count net.claimers.items net.claims.lists cs_is table;
-  traffic = subst (λ n. IsTraffic n net.traffic.routes.items net.traffic.windows.items net.traffic.transfers.items net.traffic.wire.lists) (sym (length_opened plan.units.items net.claimers.items cs_is)) fits;
+  claims = well_opened plan.keep_free plan.units.items plan.unit_count net.claimers.items net.claims.lists cs_is table;
+  traffic = subst (λ n. IsTraffic n net.traffic.routes.items net.traffic.windows.items net.traffic.transfers.items net.traffic.wire.lists) (sym (length_opened plan.keep_free plan.units.items net.claimers.items cs_is)) fits;
 }
 
-pub stands_first : (plan : Plan) (net : Network) → IsNetwork net → net.claimers.items ≡ map unstarted plan.units.items → ((u v : ℕ) → pair_in net.claims.lists u v ≡ []) → net.frames.items ≡ [] → IsFirstTraffic plan net.traffic → Stands (state_of net) plan first
+pub stands_first : (plan : Plan) (net : Network) → IsNetwork net → net.claimers.items ≡ map (unstarted plan.keep_free) plan.units.items → ((u v : ℕ) → pair_in net.claims.lists u v ≡ []) → net.frames.items ≡ [] → IsFirstTraffic plan net.traffic → Stands (state_of net) plan first
 stands_first plan net well cs_is none fs_is t = subst (Stands (state_of net) plan) at_first
-    (stands net well plan (record { units = ap claimants cs_is ∙ claimants-unstarted plan.units.items; flows = t.flows; windows = t.windows }) no_histories gathered)
+    (stands net well plan (record { units = ap claimants cs_is ∙ claimants-unstarted plan.keep_free plan.units.items; flows = t.flows; windows = t.windows }) no_histories gathered)
   where
     sent : (u : ℕ) → get_or (transfers_of net) u None ≡ None
     sent u = ap (λ ts. get_or (values_of ts) u None) t.transfers ∙ none_sent (length plan.units.items) u
@@ -84,7 +85,7 @@ stands_first plan net well cs_is none fs_is t = subst (Stands (state_of net) pla
 
     at_first : world_of no_histories net ≡ first
     at_first = λ i. record {
-      stations = λ u. (ap (λ (l : List ClaimerValue). station_at l u) cs_is ∙ station_unstarted plan.units.items u) i;
+      stations = λ u. (ap (λ (l : List ClaimerValue). station_at l u) cs_is ∙ station_unstarted plan.keep_free plan.units.items u) i;
       claims = λ u v. none u v i;
       sessions = λ u. outgoing_of (sent u i);
       wire = λ u v. t.wire u v i;
@@ -96,10 +97,10 @@ stands_first plan net well cs_is none fs_is t = subst (Stands (state_of net) pla
     }
 
 -- the NAME at a place of the plan
-pub named_at : (units : List UnitPlan) (k : ℕ) (p : UnitPlan) → k < length units → p ≡ get_or units k p → (unit_at (map claimant_of units) k).name ≡ p.name
-named_at [] k p inside is = absurd (omega arith)
-named_at (q ∷ units) zero p inside is = ap (λ (u : UnitPlan). u.name) (sym is)
-named_at (q ∷ units) (suc k) p inside is = named_at units k p (omega arith) is
+pub named_at : (kept : FinSet nat_cmp) (units : List UnitPlan) (k : ℕ) (p : UnitPlan) → k < length units → p ≡ get_or units k p → (unit_at (map (claimant_of kept) units) k).name ≡ p.name
+named_at kept [] k p inside is = absurd (omega arith)
+named_at kept (q ∷ units) zero p inside is = ap (λ (u : UnitPlan). u.name) (sym is)
+named_at kept (q ∷ units) (suc k) p inside is = named_at kept units k p (omega arith) is
 
 -- the value at a place
 pub got : {X : Type 0} (xs : List X) (i : ℕ) (x : X) → i < length xs → x ≡ get_or xs i x → slice_get xs i ≡ Some x

@@ -69,7 +69,7 @@ some_session None = refl
 some_session (Some t) = refl
 
 pub units_count : (plan : Plan) (net : Network) → IsOf plan net → count_of plan ≡ length net.claimers.items
-units_count plan net of = sym (length-map plan.units.items claimant_of) ∙ sym (ap length of.units) ∙ length-map net.claimers.items (λ (c : ClaimerValue). c.planned)
+units_count plan net of = sym (length-map plan.units.items (claimant_of plan.keep_free)) ∙ sym (ap length of.units) ∙ length-map net.claimers.items (λ (c : ClaimerValue). c.planned)
 
 pub idle_by : (net : Network) (h : Histories) → length net.traffic.transfers.items ≡ length net.claimers.items
     → is_no_transfer_open (length net.claimers.items) (world_of h net) ≡ not (list_any (λ t. is_some t) net.traffic.transfers.items)

@@ -84,7 +84,7 @@ shown b view frames units settled reports plan w s = record {
 }
   where
     count : length (map (λ c. unit_state c.state) b.units) ≡ length plan.units.items
-    count = length-map b.units (λ c. unit_state c.state) ∙ sym (length-map b.units (λ c. c.planned)) ∙ ap length s.planned ∙ length-map plan.units.items claimant_of
+    count = length-map b.units (λ c. unit_state c.state) ∙ sym (length-map b.units (λ c. c.planned)) ∙ ap length s.planned ∙ length-map plan.units.items (claimant_of plan.keep_free)
 
     at : (k : ℕ) → k < length plan.units.items → get_or (map (λ c. unit_state c.state) b.units) k (unit_state nobody.state) ≡ unit_state (w.stations k)
     at k inside = get_or-map (λ c. unit_state c.state) b.units k nobody ∙ ap (λ (f : Stations). unit_state (f k)) (sym s.stations)

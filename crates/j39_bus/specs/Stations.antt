@@ -1,6 +1,7 @@
 -- What the units of a bus are.
 use Rattle.std.specs.Prelude.{ℕ, List, slice_index_or}
-use Rattle.std.specs.FinSet.{empty}
+use Rattle.std.specs.FinSet.{FinSet, empty}
+use Rattle.std.specs.Ordering.{nat_cmp}
 use Rattle.j39_claim.specs.ClaimRule.{off}
 use Rattle.j39_claim.specs.ClaimerValue.{ClaimerValue}
 use Rattle.j39_plan.specs.declared.plan.unit_plan.UnitPlan.{UnitPlan}
@@ -11,9 +12,9 @@ use Rattle.j39_world.specs.World.{Stations}
 abbrev pub nobody : ClaimerValue
 nobody = record { planned = record { name = 0; preferred = 0; kept = empty }; state = off }
 
--- a planned unit before any step
-abbrev pub unstarted : UnitPlan → ClaimerValue
-unstarted p = record { planned = claimant_of p; state = off }
+-- a planned unit before any step, where these addresses are kept free
+abbrev pub unstarted : FinSet nat_cmp → UnitPlan → ClaimerValue
+unstarted kept p = record { planned = claimant_of kept p; state = off }
 
 abbrev pub station_at : List ClaimerValue → Stations
 station_at cs u = (slice_index_or cs u nobody).state

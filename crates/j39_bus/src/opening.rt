@@ -1,6 +1,6 @@
 //! A new bus.
 ghost use Rattle.std.specs.Prelude.{◌≡◌, ◌<◌, ℕ, length, map, take, All, IfOk, IfErr, IfSome, IfNone, OnOk};
-ghost use Rattle.j39_world.specs.Claimants.{claimant_of};
+ghost use Rattle.j39_world.specs.Claimants.{units_of};
 ghost use Rattle.j39_bus.specs.Stations.{unstarted};
 ghost use Rattle.j39_world.specs.Opening.{HaveOneName, AreNamesDistinct, IsFirstOfOneName, CanOpen, IsNotOpened};
 ghost use Rattle.j39_bus.specs.Stands.{Stands};
@@ -11,17 +11,18 @@ ghost use Rattle.j39_plan.specs.PlannedGroups.{IsSendable};
 use crate::network::Network;
 use crate::traffic::Traffic;
 use crate::{Bus, BusError};
-use j39_claim::{Choose, Claimer};
+use j39_claim::{AddressSet, Choose, Claimer};
 use j39_plan::{GroupFault, GroupPlan, Plan, UnitPlan, layout_of};
 use j39_queues::Queues;
 use std::alloc::{AllocError, Global};
 
 /// The least place after the first at which the first's NAME stands again.
-fn same_name_after(units: &[UnitPlan], first: usize) -> Option<usize>
-    requires { first < length units.now }
-    ensures some { IfSome result (λ second. HaveOneName (map claimant_of units.now) first second × ((k : ℕ) → k < second → ¬ HaveOneName (map claimant_of units.now) first k)) }
-    ensures none { IfNone result ((k : ℕ) → ¬ HaveOneName (map claimant_of units.now) first k) }
+fn same_name_after(plan: &Plan, first: usize) -> Option<usize>
+    requires { first < length plan.now.units.items }
+    ensures some { IfSome result (λ second. HaveOneName (units_of plan.now) first second × ((k : ℕ) → k < second → ¬ HaveOneName (units_of plan.now) first k)) }
+    ensures none { IfNone result ((k : ℕ) → ¬ HaveOneName (units_of plan.now) first k) }
 {
+    let units = plan.units.as_slice();
     let name = units[first].name;
     for second in first + 1..units.len() {
         if units[second].name == name {
@@ -32,12 +33,12 @@ fn same_name_after(units: &[UnitPlan], first: usize) -> Option<usize>
 }
 
 /// The first two places of one NAME.
-fn same_name(units: &[UnitPlan]) -> Option<(usize, usize)>
-    ensures some { IfSome result (λ places. IsFirstOfOneName (map claimant_of units.now) places.0 places.1) }
-    ensures none { IfNone result (AreNamesDistinct (map claimant_of units.now)) }
+fn same_name(plan: &Plan) -> Option<(usize, usize)>
+    ensures some { IfSome result (λ places. IsFirstOfOneName (units_of plan.now) places.0 places.1) }
+    ensures none { IfNone result (AreNamesDistinct (units_of plan.now)) }
 {
-    for first in 0..units.len() {
-        if let Some(second) = same_name_after(units, first) {
+    for first in 0..plan.units.len() {
+        if let Some(second) = same_name_after(plan, first) {
             return Some((first, second));
         }
     }
@@ -64,13 +65,17 @@ fn try_groups(alloc: Global, groups: &[GroupPlan]) -> Result<(), BusError>
     }
 }
 
-/// A unit for each that is planned, none of them started.
-fn claimers_of(alloc: Global, units: &[UnitPlan]) -> Result<Vec<Claimer>, AllocError>
-    ensures { IfOk result (λ claimers. claimers.items ≡ map unstarted units.now) }
+/// A unit for each that is planned, none of them started, where these addresses are kept free.
+fn claimers_of(
+    alloc: Global,
+    kept: &AddressSet,
+    units: &[UnitPlan],
+) -> Result<Vec<Claimer>, AllocError>
+    ensures { IfOk result (λ claimers. claimers.items ≡ map (unstarted kept.now) units.now) }
 {
     let mut claimers = Vec::with_capacity(alloc, units.len())?;
     for unit in units {
-        claimers.push(Claimer::new(unit.name, unit.address))?;
+        claimers.push(Claimer::with_kept(unit.name, unit.address, kept.copy()))?;
     }
     Ok(claimers)
 }
@@ -87,11 +92,11 @@ impl Bus {
         if choosers.len() != plan.units.len() {
             return Err(BusError::ChooserCount);
         }
-        if let Some((first, second)) = same_name(plan.units.as_slice()) {
+        if let Some((first, second)) = same_name(plan) {
             return Err(BusError::SameName(first, second));
         }
         try_groups(alloc, plan.groups.as_slice())?;
-        let Ok(claimers) = claimers_of(alloc, plan.units.as_slice()) else {
+        let Ok(claimers) = claimers_of(alloc, &plan.keep_free, plan.units.as_slice()) else {
             return Err(BusError::Memory);
         };
         let Ok(claims) = Queues::new(alloc, plan.units.len()) else {

@@ -1,6 +1,6 @@
 //! The lines of findings.
 ghost use Rattle.std.specs.Prelude.{◌≡◌, ◌++◌, OnOk};
-ghost use Rattle.j39_plan.specs.declared.checking.finding.Finding.TheVariants.{SameFixedAddress, BadPgn, SamePgn, SignalWidth, SignalOutside, SignalOverlap, FlowRepeated};
+ghost use Rattle.j39_plan.specs.declared.checking.finding.Finding.TheVariants.{SameFixedAddress, BadPgn, SamePgn, SignalWidth, SignalOutside, SignalOverlap, FlowRepeated, KeptAddress};
 ghost use Rattle.j39_text.specs.Labels.{group_text, units_text};
 ghost use Rattle.j39_check.specs.FindingLines.{finding_line, finding_lines, finding_report, finding_text, run_lines, signal_text};
 
@@ -8,7 +8,7 @@ use j39_plan::{Finding, Plan, bad_run};
 use j39_schedule::write_steps;
 use j39_text::{
     TextBuffer, group_label, group_pgn, signal_bits, signal_end, signal_label, unit_address,
-    write_group, write_units,
+    unit_label, write_group, write_units,
 };
 use std::alloc::{AllocError, Global};
 
@@ -118,6 +118,15 @@ fn write_flow_repeated(
 }
 
 #[tactic(auto, unfolding(crate::specs::FindingLines::finding_text))]
+fn write_kept_address(text: &mut TextBuffer, plan: &Plan, unit: usize) -> Result<(), AllocError>
+    ensures { OnOk result (text.new ≡ text.old ++ finding_text plan.now (KeptAddress unit)) }
+{
+    text.word("F12 KeptAddress ")?;
+    text.word(unit_label(plan, unit))?;
+    text.field(" ", unit_address(plan, unit))
+}
+
+#[tactic(auto, unfolding(crate::specs::FindingLines::finding_text))]
 fn write_finding(text: &mut TextBuffer, plan: &Plan, finding: Finding) -> Result<(), AllocError>
     ensures { OnOk result (text.new ≡ text.old ++ finding_text plan.now finding) }
 {
@@ -133,6 +142,7 @@ fn write_finding(text: &mut TextBuffer, plan: &Plan, finding: Finding) -> Result
         Finding::FlowToOne(f) => text.place("F9 FlowToOne ", f),
         Finding::FlowToSelf(f) => text.place("F10 FlowToSelf ", f),
         Finding::FlowRepeated(f, h) => write_flow_repeated(text, plan, f, h),
+        Finding::KeptAddress(i) => write_kept_address(text, plan, i),
     }
 }
 

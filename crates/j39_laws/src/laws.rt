@@ -11,13 +11,19 @@ ghost use Rattle.j39_world.specs.Conflict.{LeavesWithoutAddress};
 ghost use Rattle.j39_world.specs.Opening.{AreNamesDistinct};
 ghost use Rattle.j39_world.specs.Run.{Run, RunsThrough};
 ghost use Rattle.j39_world.specs.Settling.{Settles};
-ghost use Rattle.j39_world.specs.Sound.{AreAddressesSound, AreAddressesDifferent, IsQuiet, AreReportsSound, IsAcknowledgedReported};
+ghost use Rattle.j39_world.specs.Sound.{AreAddressesSound, AreAddressesDifferent, AreKeptFree, IsQuiet, AreReportsSound, IsAcknowledgedReported};
 
 /// In every world of every run of a plan without findings, with all lawful choices, addresses are sound: each unit that is on holds
 /// one, a fixed unit its own, and where no claim is undelivered they are pairwise different.
 pub fn addresses_are_sound()
     ensures sound { (plan : Plans) (steps : List Steps) (w : World) → Clean plan → Run plan first steps w → AreAddressesSound plan w }
     ensures different { (plan : Plans) (steps : List Steps) (w : World) → Clean plan → Run plan first steps w → IsQuiet w.claims → AreAddressesDifferent w }
+{}
+
+/// In every world of every run of a plan without findings, with all lawful choices, no arbitrary unit that is on holds an address
+/// that the plan keeps free.
+pub fn kept_addresses_stay_free()
+    ensures { (plan : Plans) (steps : List Steps) (w : World) → Clean plan → Run plan first steps w → AreKeptFree plan w }
 {}
 
 /// In every world of every run, with all lawful choices and whatever is lost, reports are sound: what a unit reported of another is a

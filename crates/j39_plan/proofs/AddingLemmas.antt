@@ -5,7 +5,7 @@ use Rattle.std.specs.List.{slice_get}
 use Rattle.std.proofs.lemmas.Option.{slice_get-get_or}
 use Rattle.j39_plan.specs.Adding.{Adds}
 use Rattle.j39_plan.specs.Places.{in_each, each, pairs, found_if}
-use Rattle.j39_plan.specs.Found.{unit_findings, group_findings, signal_findings, flow_findings, found}
+use Rattle.j39_plan.specs.Found.{unit_findings, group_findings, signal_findings, flow_findings, kept_findings, found}
 use Rattle.j39_plan.specs.Findings.{Clean}
 use Rattle.j39_plan.specs.declared.plan.Plan.{Plan}
 use Rattle.j39_plan.proofs.FoundLaws.{none_from_clean}
@@ -74,7 +74,7 @@ pub answers_clean : {A : Type 0} (plan : Plan) (r : Result A AllocError) → OnE
 answers_clean plan (Ok done) refused clean = refl
 answers_clean plan (Err e) refused clean = absurd (refused (none_from_clean plan clean))
 
-pub units_some : (plan : Plan) → unit_findings plan.units.items ≢ [] → found plan ≢ []
+pub units_some : (plan : Plan) → unit_findings plan.keep_free plan.units.items ≢ [] → found plan ≢ []
 unfolding found
 units_some plan some = some_left _ _ some
 
@@ -86,9 +86,16 @@ pub signals_some : (plan : Plan) → signal_findings plan.groups.items ≢ [] �
 unfolding found
 signals_some plan some = some_right _ _ (some_right _ _ (some_left _ _ some))
 
-pub flows_some : (plan : Plan) → flow_findings plan.groups.items plan.flows.items ≢ [] → found plan ≢ []
+-- of the flows' findings, and those behind them
+rest_some : (plan : Plan) → flow_findings plan.groups.items plan.flows.items ++ kept_findings plan.keep_free plan.units.items ≢ [] → found plan ≢ []
 unfolding found
-flows_some plan some =
+rest_some plan some =
     let signals = signal_findings plan.groups.items in
-    let flows = flow_findings plan.groups.items plan.flows.items in
-    some_right (unit_findings plan.units.items) _ (some_right (group_findings plan.groups.items) _ (some_right signals flows some))
+    let rest = flow_findings plan.groups.items plan.flows.items ++ kept_findings plan.keep_free plan.units.items in
+    some_right (unit_findings plan.keep_free plan.units.items) _ (some_right (group_findings plan.groups.items) _ (some_right signals rest some))
+
+pub flows_some : (plan : Plan) → flow_findings plan.groups.items plan.flows.items ≢ [] → found plan ≢ []
+flows_some plan some = rest_some plan (some_left _ _ some)
+
+pub kept_some : (plan : Plan) → kept_findings plan.keep_free plan.units.items ≢ [] → found plan ≢ []
+kept_some plan some = rest_some plan (some_right (flow_findings plan.groups.items plan.flows.items) _ some)

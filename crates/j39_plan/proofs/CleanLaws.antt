@@ -3,13 +3,14 @@ use Rattle.std.proofs.Common.{ℕ, ◌+◌, ◌*◌, ◌<◌, List, All, AllPair
 use Rattle.std.proofs.lemmas.Bool.{cases_Bool, cases_lt}
 use Rattle.std.proofs.lemmas.Bool.Decides.{not_from_Decides}
 use Rattle.std.proofs.lemmas.Option.{slice_get-get_or}
-use Rattle.j39_id.specs.Addresses.{pool_size}
+use Rattle.std.specs.FinSet.{contains}
+use Rattle.j39_claim.specs.AddressSets.{free_count}
 use Rattle.j39_id.specs.Pgn.{IsPgn, is_pgn}
 use Rattle.j39_signal.specs.Parts.{SignalParts}
 use Rattle.j39_signal.specs.Places.{WidthFits, IsInside, SharesBit, LaysOut, width_fits}
 use Rattle.j39_plan.specs.declared.plan.Plan.{Plan}
 use Rattle.j39_plan.specs.declared.plan.group_plan.GroupPlan.{GroupPlan}
-use Rattle.j39_plan.specs.declared.checking.finding.Finding.TheVariants.{SameName, SameFixedAddress, TooFewAddresses, BadPgn, SamePgn, SignalWidth, SignalOutside, SignalOverlap, FlowToOne, FlowToSelf, FlowRepeated}
+use Rattle.j39_plan.specs.declared.checking.finding.Finding.TheVariants.{SameName, SameFixedAddress, TooFewAddresses, BadPgn, SamePgn, SignalWidth, SignalOutside, SignalOverlap, FlowToOne, FlowToSelf, FlowRepeated, KeptAddress}
 use Rattle.j39_plan.specs.Places.{ValueAt, PairAt}
 use Rattle.j39_plan.specs.Findings.{CannotBePlanned, Clean}
 use Rattle.j39_plan.specs.CleanParts.{CanBePlanned, CleanParts}
@@ -68,7 +69,11 @@ pub parts_of : (plan : Plan) → Clean plan → CleanParts plan
 parts_of plan clean = record {
   names = no_pair_at _ plan.units.items (λ i j. clean (SameName i j));
   fixed_addresses = λ i j d below less first second same. no_pair_at _ plan.units.items (λ k l. clean (SameFixedAddress k l)) i j d below less (first, second, same);
-  addresses = elim (cases_lt pool_size _) [ inl more ↦ absurd (clean (TooFewAddresses _) (refl, more)) | inr few ↦ few ];
+  addresses = elim (cases_lt (free_count plan.keep_free) _) [ inl more ↦ absurd (clean (TooFewAddresses _) (refl, more)) | inr few ↦ few ];
+  not_kept = λ i d less arbitrary. elim (cases_Bool (contains plan.keep_free (get_or plan.units.items i d).address)) [
+    | inl kept ↦ absurd (none_at _ plan.units.items (λ k. clean (KeptAddress k)) i d less (arbitrary, kept))
+    | inr free ↦ free
+  ];
   groups = λ g d less. planned _ (none_at _ plan.groups.items (λ k. clean (BadPgn k)) g d less);
   pgns = no_pair_at _ plan.groups.items (λ g h. clean (SamePgn g h));
   layouts = layout plan clean;

@@ -7,7 +7,7 @@ use Rattle.std.proofs.lemmas.Option.{same_Some}
 use Rattle.j39_plan.specs.declared.plan.Plan.{Plan}
 use Rattle.j39_plan.specs.declared.plan.unit_plan.UnitPlan.{UnitPlan}
 use Rattle.j39_plan.specs.declared.checking.finding.Finding.{Finding}
-use Rattle.j39_plan.specs.declared.checking.finding.Finding.TheVariants.{SameName, SameFixedAddress, TooFewAddresses, BadPgn, SamePgn, SignalWidth, SignalOutside, SignalOverlap, FlowToOne, FlowToSelf, FlowRepeated}
+use Rattle.j39_plan.specs.declared.checking.finding.Finding.TheVariants.{SameName, SameFixedAddress, TooFewAddresses, BadPgn, SamePgn, SignalWidth, SignalOutside, SignalOverlap, FlowToOne, FlowToSelf, FlowRepeated, KeptAddress}
 use Rattle.j39_plan.specs.declared.steps.Step.{Step}
 use Rattle.j39_plan.specs.Findings.{HaveSameFixedAddress}
 use Rattle.j39_plan.specs.ConflictRuns.{conflict_steps, AreInConflict, TellsOfConflict, IsConflictRun, are_in_conflict, steps_between, run_of_units, run_of_places, conflict_run, RunsAreExact}
@@ -84,6 +84,7 @@ sound plan (SignalOverlap g s t) steps is = cc
 sound plan (FlowToOne f) steps is = cc
 sound plan (FlowToSelf f) steps is = cc
 sound plan (FlowRepeated f h) steps is = cc
+sound plan (KeptAddress i) steps is = cc
 
 given : (plan : Plan) (i j : ℕ) (u v : UnitPlan) → slice_get plan.units.items i ≡ Some u → slice_get plan.units.items j ≡ Some v → i < j
     → HaveSameFixedAddress u v × (u.name ≢ v.name) → run_of_places plan i j ≡ Some (steps_between i j u v)

@@ -4,6 +4,8 @@ use Rattle.std.specs.List.{slice_get, list_any}
 use Rattle.std.proofs.lemmas.Bool.{false≢true, leb-true, le-leb, cases_lt}
 use Rattle.std.proofs.lemmas.Bool.Decides.{Decides-eqb, Decides-and, Decides-or, Decides-not, Decides-like, Decides-ltb}
 use Rattle.std.proofs.lemmas.Option.{none-some, same_Some}
+use Rattle.std.specs.FinSet.{FinSet}
+use Rattle.std.specs.Ordering.{nat_cmp}
 use Rattle.j39_id.specs.Name.{is_arbitrary}
 use Rattle.j39_id.specs.Pgn.{IsPgn, pf_of, is_pgn}
 use Rattle.j39_id.specs.Services.{service_groups}
@@ -16,8 +18,8 @@ use Rattle.j39_plan.specs.declared.plan.group_plan.GroupPlan.{GroupPlan}
 use Rattle.j39_plan.specs.declared.plan.flow_plan.FlowPlan.{FlowPlan}
 use Rattle.j39_plan.specs.declared.plan.to.To.{To}
 use Rattle.j39_plan.specs.declared.plan.to.To.TheVariants.{All, One}
-use Rattle.j39_plan.specs.Findings.{HaveSameName, HaveSameFixedAddress, IsProprietary, CannotBePlanned, HasBadPgn, HaveSamePgn, IsOneFrameToAll, CannotGoToOne, GoesToItsSender, AreOneFlow}
-use Rattle.j39_plan.specs.Found.{have_same_name, have_same_fixed_address, is_proprietary, cannot_be_planned, has_bad_pgn, have_same_pgn, has_other_width, ends_outside, is_one_frame_to_all, is_group_of, is_to_one, is_to, have_same_receiver, cannot_go_to_one, goes_to_its_sender, are_one_flow}
+use Rattle.j39_plan.specs.Findings.{HaveSameName, HaveSameFixedAddress, PrefersKept, IsProprietary, CannotBePlanned, HasBadPgn, HaveSamePgn, IsOneFrameToAll, CannotGoToOne, GoesToItsSender, AreOneFlow}
+use Rattle.j39_plan.specs.Found.{have_same_name, have_same_fixed_address, prefers_kept, is_proprietary, cannot_be_planned, has_bad_pgn, have_same_pgn, has_other_width, ends_outside, is_one_frame_to_all, is_group_of, is_to_one, is_to, have_same_receiver, cannot_go_to_one, goes_to_its_sender, are_one_flow}
 
 Decides-leb : (a b : ℕ) → Decides (nat_le a b) (a ≤ b)
 Decides-leb a b = (leb-true a b, le-leb a b)
@@ -35,6 +37,9 @@ pub Decides-have_same_fixed_address : (u v : UnitPlan) → Decides (have_same_fi
 Decides-have_same_fixed_address u v =
     Decides-like _ (λ h. (h.0, h.1.0, h.1.1)) (λ h. (h.0, (h.1, h.2)))
     (Decides-and _ _ (not_is (is_arbitrary u.name)) (Decides-and _ _ (not_is (is_arbitrary v.name)) (Decides-eqb u.address v.address)))
+
+pub Decides-prefers_kept : (kept : FinSet nat_cmp) (u : UnitPlan) → Decides (prefers_kept kept u) (PrefersKept kept u)
+Decides-prefers_kept kept u = Decides-and _ _ (λ e. e, λ e. e) (λ e. e, λ e. e)
 
 -- ---- groups
 

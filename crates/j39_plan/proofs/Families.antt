@@ -8,14 +8,14 @@ use Rattle.j39_signal.specs.Places.{WidthFits, IsInside, SharesBit, shares_bit}
 use Rattle.j39_plan.specs.declared.plan.Plan.{Plan}
 use Rattle.j39_plan.specs.declared.plan.group_plan.GroupPlan.{GroupPlan}
 use Rattle.j39_plan.specs.declared.checking.finding.Finding.{Finding}
-use Rattle.j39_plan.specs.declared.checking.finding.Finding.TheVariants.{SameName, SameFixedAddress, TooFewAddresses, BadPgn, SamePgn, SignalWidth, SignalOutside, SignalOverlap, FlowToOne, FlowToSelf, FlowRepeated}
+use Rattle.j39_plan.specs.declared.checking.finding.Finding.TheVariants.{SameName, SameFixedAddress, TooFewAddresses, BadPgn, SamePgn, SignalWidth, SignalOutside, SignalOverlap, FlowToOne, FlowToSelf, FlowRepeated, KeptAddress}
 use Rattle.j39_plan.specs.Places.{in_each, each, pairs, ValueAt, PairAt}
-use Rattle.j39_id.specs.Addresses.{pool_size}
-use Rattle.j39_plan.specs.Findings.{HaveSameName, HaveSameFixedAddress, needed_addresses, HasBadPgn, HaveSamePgn, CannotGoToOne, GoesToItsSender, AreOneFlow, Holds, IsBefore, IsBelow, number_of, places_of}
-use Rattle.j39_plan.specs.Found.{too_few_addresses, unit_findings, group_findings, has_other_width, ends_outside, overlap_findings, signal_findings, flow_findings}
+use Rattle.j39_claim.specs.AddressSets.{free_count}
+use Rattle.j39_plan.specs.Findings.{HaveSameName, HaveSameFixedAddress, needed_addresses, HasBadPgn, HaveSamePgn, CannotGoToOne, GoesToItsSender, AreOneFlow, Holds, PrefersKept, IsBefore, IsBelow, number_of, places_of}
+use Rattle.j39_plan.specs.Found.{too_few_addresses, unit_findings, group_findings, has_other_width, ends_outside, overlap_findings, signal_findings, flow_findings, kept_findings}
 use Rattle.j39_plan.proofs.Members.{of_in_each, of_found_if, of_each, of_pairs}
 use Rattle.j39_plan.proofs.Rising.{Rises, Rises-append, Rises-found_if, Rises-in_each, Rises-each, Rises-pairs}
-use Rattle.j39_plan.proofs.Deciding.{Decides-have_same_name, Decides-have_same_fixed_address, Decides-has_bad_pgn, Decides-have_same_pgn, Decides-has_other_width, Decides-ends_outside, Decides-shares_bit, Decides-cannot_go_to_one, Decides-goes_to_its_sender, Decides-are_one_flow}
+use Rattle.j39_plan.proofs.Deciding.{Decides-have_same_name, Decides-have_same_fixed_address, Decides-has_bad_pgn, Decides-have_same_pgn, Decides-has_other_width, Decides-ends_outside, Decides-shares_bit, Decides-cannot_go_to_one, Decides-goes_to_its_sender, Decides-are_one_flow, Decides-prefers_kept}
 
 -- findings of numbers from low to high that hold, in order
 pub record Covers (plan : Plan) (low high : ℕ) (findings : List Finding) : Type 0 where
@@ -95,18 +95,19 @@ of_group n g f made e h = let P : Finding → Type 0 = λ x. IsOfGroup n g x in 
 
 -- ---- units
 
-pub units_covered : (plan : Plan) → Covers plan 1 3 (unit_findings plan.units.items)
+pub units_covered : (plan : Plan) → Covers plan 1 3 (unit_findings plan.keep_free plan.units.items)
 unfolding unit_findings
 units_covered plan =
+    let kept = plan.keep_free in
     let units = plan.units.items in
     Covers-append plan 1 1 2 3 _ _ (omega arith) (omega arith) (omega arith)
     (pairs_family plan 1 HaveSameName Decides-have_same_name SameName units (λ i j h. h) (λ i j. refl) (λ i k l less. inr (refl, inr (refl, inl less))) (λ i j k l less. inr (refl, inl less)))
     (Covers-append plan 2 2 3 3 _ _ (omega arith) (omega arith) (omega arith)
     (pairs_family plan 2 HaveSameFixedAddress Decides-have_same_fixed_address SameFixedAddress units (λ i j h. h) (λ i j. refl) (λ i k l less. inr (refl, inr (refl, inl less))) (λ i j k l less. inr (refl, inl less)))
-    (family plan 3 (too_few_addresses units)
+    (family plan 3 (too_few_addresses kept units)
     (λ f h.
-    let r = of_found_if (nat_lt pool_size (needed_addresses units)) (TooFewAddresses (needed_addresses units)) f h in
-    made plan 3 f (TooFewAddresses (needed_addresses units)) r.1 (refl, (Decides-ltb pool_size (needed_addresses units)).0 r.0) refl)
+    let r = of_found_if (nat_lt (free_count kept) (needed_addresses kept units)) (TooFewAddresses (needed_addresses kept units)) f h in
+    made plan 3 f (TooFewAddresses (needed_addresses kept units)) r.1 (refl, (Decides-ltb (free_count kept) (needed_addresses kept units)).0 r.0) refl)
     (Rises-found_if IsBefore _ _)))
 
 -- ---- groups
@@ -184,3 +185,11 @@ flows_covered plan =
     (Covers-append plan 10 10 11 11 _ _ (omega arith) (omega arith) (omega arith)
     (each_family plan 10 GoesToItsSender Decides-goes_to_its_sender FlowToSelf flows (λ i h. h) (λ i. refl) (λ k l less. inr (refl, inl less)))
     (pairs_family plan 11 AreOneFlow Decides-are_one_flow FlowRepeated flows (λ i j h. h) (λ i j. refl) (λ i k l less. inr (refl, inr (refl, inl less))) (λ i j k l less. inr (refl, inl less))))
+
+-- ---- units at addresses that are kept free
+
+pub kept_covered : (plan : Plan) → Covers plan 12 12 (kept_findings plan.keep_free plan.units.items)
+unfolding kept_findings
+kept_covered plan =
+    each_family plan 12 (PrefersKept plan.keep_free) (Decides-prefers_kept plan.keep_free) KeptAddress plan.units.items (λ i h. h) (λ i. refl)
+    (λ k l less. inr (refl, inl less))

@@ -7,48 +7,54 @@ use Rattle.j39_signal.specs.Places.{WidthFits, IsInside, SharesBit}
 use Rattle.j39_plan.specs.declared.plan.Plan.{Plan}
 use Rattle.j39_plan.specs.declared.plan.group_plan.GroupPlan.{GroupPlan}
 use Rattle.j39_plan.specs.declared.checking.finding.Finding.{Finding}
-use Rattle.j39_plan.specs.declared.checking.finding.Finding.TheVariants.{SameName, SameFixedAddress, TooFewAddresses, BadPgn, SamePgn, SignalWidth, SignalOutside, SignalOverlap, FlowToOne, FlowToSelf, FlowRepeated}
+use Rattle.j39_plan.specs.declared.checking.finding.Finding.TheVariants.{SameName, SameFixedAddress, TooFewAddresses, BadPgn, SamePgn, SignalWidth, SignalOutside, SignalOverlap, FlowToOne, FlowToSelf, FlowRepeated, KeptAddress}
 use Rattle.j39_plan.specs.Places.{in_each, each, pairs}
-use Rattle.j39_id.specs.Addresses.{pool_size}
-use Rattle.j39_plan.specs.Findings.{HaveSameName, HaveSameFixedAddress, needed_addresses, HasBadPgn, HaveSamePgn, CannotGoToOne, GoesToItsSender, AreOneFlow, Holds, IsBefore, AreFindings, Clean}
-use Rattle.j39_plan.specs.Found.{have_same_name, have_same_fixed_address, too_few_addresses, unit_findings, has_bad_pgn, have_same_pgn, group_findings, width_findings, outside_findings, overlap_findings, signal_findings, cannot_go_to_one, goes_to_its_sender, are_one_flow, flow_findings, found}
+use Rattle.j39_claim.specs.AddressSets.{free_count}
+use Rattle.j39_plan.specs.Findings.{HaveSameName, HaveSameFixedAddress, needed_addresses, HasBadPgn, HaveSamePgn, CannotGoToOne, GoesToItsSender, AreOneFlow, PrefersKept, Holds, IsBefore, AreFindings, Clean}
+use Rattle.j39_plan.specs.Found.{have_same_name, have_same_fixed_address, too_few_addresses, unit_findings, has_bad_pgn, have_same_pgn, group_findings, width_findings, outside_findings, overlap_findings, signal_findings, cannot_go_to_one, goes_to_its_sender, are_one_flow, flow_findings, prefers_kept, kept_findings, found}
 use Rattle.j39_plan.proofs.Members.{in_each_of, found_if_of, each_of, pairs_of}
 use Rattle.j39_plan.proofs.Rising.{AllPairs-from_Rises}
-use Rattle.j39_plan.proofs.Deciding.{Decides-have_same_name, Decides-have_same_fixed_address, Decides-has_bad_pgn, Decides-have_same_pgn, Decides-has_other_width, Decides-ends_outside, Decides-shares_bit, Decides-cannot_go_to_one, Decides-goes_to_its_sender, Decides-are_one_flow}
-use Rattle.j39_plan.proofs.Families.{Covers, Covers-append, units_covered, groups_covered, signals_covered, flows_covered}
+use Rattle.j39_plan.proofs.Deciding.{Decides-have_same_name, Decides-have_same_fixed_address, Decides-has_bad_pgn, Decides-have_same_pgn, Decides-has_other_width, Decides-ends_outside, Decides-shares_bit, Decides-cannot_go_to_one, Decides-goes_to_its_sender, Decides-are_one_flow, Decides-prefers_kept}
+use Rattle.j39_plan.proofs.Families.{Covers, Covers-append, units_covered, groups_covered, signals_covered, flows_covered, kept_covered}
 
-found_covered : (plan : Plan) → Covers plan 1 11 (found plan)
+found_covered : (plan : Plan) → Covers plan 1 12 (found plan)
 unfolding found
 found_covered plan =
-    Covers-append plan 1 3 4 11 _ _ (omega arith) (omega arith) (omega arith) (units_covered plan)
-    (Covers-append plan 4 5 6 11 _ _ (omega arith) (omega arith) (omega arith) (groups_covered plan)
-    (Covers-append plan 6 8 9 11 _ _ (omega arith) (omega arith) (omega arith) (signals_covered plan) (flows_covered plan)))
+    Covers-append plan 1 3 4 12 _ _ (omega arith) (omega arith) (omega arith) (units_covered plan)
+    (Covers-append plan 4 5 6 12 _ _ (omega arith) (omega arith) (omega arith) (groups_covered plan)
+    (Covers-append plan 6 8 9 12 _ _ (omega arith) (omega arith) (omega arith) (signals_covered plan)
+    (Covers-append plan 9 11 12 12 _ _ (omega arith) (omega arith) (omega arith) (flows_covered plan) (kept_covered plan))))
 
-in_units : (plan : Plan) (f : Finding) → Contains (unit_findings plan.units.items) f → Contains (found plan) f
+in_units : (plan : Plan) (f : Finding) → Contains (unit_findings plan.keep_free plan.units.items) f → Contains (found plan) f
 unfolding found
-in_units plan f h = Contains-append_left (unit_findings plan.units.items) _ f h
+in_units plan f h = Contains-append_left (unit_findings plan.keep_free plan.units.items) _ f h
 
 in_groups : (plan : Plan) (f : Finding) → Contains (group_findings plan.groups.items) f → Contains (found plan) f
 unfolding found
 in_groups plan f h =
-    let rest = signal_findings plan.groups.items ++ flow_findings plan.groups.items plan.flows.items in
-    Contains-append_right (unit_findings plan.units.items) (group_findings plan.groups.items ++ rest) f (Contains-append_left (group_findings plan.groups.items) rest f h)
+    Contains-append_right (unit_findings plan.keep_free plan.units.items) _ f (Contains-append_left (group_findings plan.groups.items) _ f h)
 
 in_signals : (plan : Plan) (f : Finding) → Contains (signal_findings plan.groups.items) f → Contains (found plan) f
 unfolding found
 in_signals plan f h =
-    let signals = signal_findings plan.groups.items in
-    let flows = flow_findings plan.groups.items plan.flows.items in
-    Contains-append_right (unit_findings plan.units.items) (group_findings plan.groups.items ++ (signals ++ flows)) f
-    (Contains-append_right (group_findings plan.groups.items) (signals ++ flows) f (Contains-append_left signals flows f h))
+    Contains-append_right (unit_findings plan.keep_free plan.units.items) _ f
+    (Contains-append_right (group_findings plan.groups.items) _ f (Contains-append_left (signal_findings plan.groups.items) _ f h))
+
+-- among the flows' findings, and those behind them
+in_rest : (plan : Plan) (f : Finding) → Contains (flow_findings plan.groups.items plan.flows.items ++ kept_findings plan.keep_free plan.units.items) f
+    → Contains (found plan) f
+unfolding found
+in_rest plan f h =
+    Contains-append_right (unit_findings plan.keep_free plan.units.items) _ f
+    (Contains-append_right (group_findings plan.groups.items) _ f (Contains-append_right (signal_findings plan.groups.items) _ f h))
 
 in_flows : (plan : Plan) (f : Finding) → Contains (flow_findings plan.groups.items plan.flows.items) f → Contains (found plan) f
-unfolding found
-in_flows plan f h =
-    let signals = signal_findings plan.groups.items in
-    let flows = flow_findings plan.groups.items plan.flows.items in
-    Contains-append_right (unit_findings plan.units.items) (group_findings plan.groups.items ++ (signals ++ flows)) f
-    (Contains-append_right (group_findings plan.groups.items) (signals ++ flows) f (Contains-append_right signals flows f h))
+in_flows plan f h = in_rest plan f (Contains-append_left (flow_findings plan.groups.items plan.flows.items) _ f h)
+
+kept_found : (plan : Plan) (f : Finding) → Contains (each (prefers_kept plan.keep_free) KeptAddress 0 plan.units.items) f → Contains (found plan) f
+unfolding kept_findings
+kept_found plan f h =
+    in_rest plan f (Contains-append_right (flow_findings plan.groups.items plan.flows.items) (kept_findings plan.keep_free plan.units.items) f h)
 
 of_signal : (plan : Plan) (find : ℕ → GroupPlan → List Finding) (g : ℕ) (group : GroupPlan) (f : Finding) → slice_get plan.groups.items g ≡ Some group
     → Contains (find g group) f → Contains (in_each find 0 plan.groups.items) f
@@ -64,12 +70,12 @@ in_two xs ys zs f h = Contains-append_right xs (ys ++ zs) f (Contains-append_lef
 in_three : (xs ys zs : List Finding) (f : Finding) → Contains zs f → Contains (xs ++ (ys ++ zs)) f
 in_three xs ys zs f h = Contains-append_right xs (ys ++ zs) f (Contains-append_right ys zs f h)
 
-unit_found : (plan : Plan) (f : Finding) → (Contains (pairs have_same_name SameName plan.units.items) f ⊎ (Contains (pairs have_same_fixed_address SameFixedAddress plan.units.items) f ⊎ Contains (too_few_addresses plan.units.items) f)) → Contains (found plan) f
+unit_found : (plan : Plan) (f : Finding) → (Contains (pairs have_same_name SameName plan.units.items) f ⊎ (Contains (pairs have_same_fixed_address SameFixedAddress plan.units.items) f ⊎ Contains (too_few_addresses plan.keep_free plan.units.items) f)) → Contains (found plan) f
 unfolding unit_findings
 unit_found plan f h =
     let names = pairs have_same_name SameName plan.units.items in
     let addresses = pairs have_same_fixed_address SameFixedAddress plan.units.items in
-    let count = too_few_addresses plan.units.items in
+    let count = too_few_addresses plan.keep_free plan.units.items in
     in_units plan f (elim h [
       | inl in_names ↦ in_one names (addresses ++ count) f in_names
       | inr other ↦ elim other [ inl in_addresses ↦ in_two names addresses count f in_addresses | inr in_count ↦ in_three names addresses count f in_count ]
@@ -108,10 +114,11 @@ found_of : (plan : Plan) (f : Finding) → Holds plan f → Contains (found plan
 found_of plan (SameName i j) h = unit_found plan _ (inl (pairs_of HaveSameName Decides-have_same_name SameName plan.units.items i j h))
 found_of plan (SameFixedAddress i j) h = unit_found plan _ (inr (inl (pairs_of HaveSameFixedAddress Decides-have_same_fixed_address SameFixedAddress plan.units.items i j h)))
 found_of plan (TooFewAddresses n) (is, more) =
-    let needed = needed_addresses plan.units.items in
-    let P : ℕ → Type 0 = λ k. Contains (too_few_addresses plan.units.items) (TooFewAddresses k) in
-    let Q : ℕ → Type 0 = λ k. pool_size < k in
-    unit_found plan _ (inr (inr (subst P (sym is) (found_if_of _ (TooFewAddresses needed) ((Decides-ltb pool_size needed).1 (subst Q is more))))))
+    let needed = needed_addresses plan.keep_free plan.units.items in
+    let P : ℕ → Type 0 = λ k. Contains (too_few_addresses plan.keep_free plan.units.items) (TooFewAddresses k) in
+    let Q : ℕ → Type 0 = λ k. free_count plan.keep_free < k in
+    let passes = (Decides-ltb (free_count plan.keep_free) needed).1 (subst Q is more) in
+    unit_found plan _ (inr (inr (subst P (sym is) (found_if_of _ (TooFewAddresses needed) passes))))
 found_of plan (BadPgn g) h = group_found plan _ (inl (each_of HasBadPgn Decides-has_bad_pgn BadPgn plan.groups.items g h))
 found_of plan (SamePgn g k) h = group_found plan _ (inr (pairs_of HaveSamePgn Decides-have_same_pgn SamePgn plan.groups.items g k h))
 found_of plan (SignalWidth g s) h =
@@ -125,6 +132,8 @@ found_of plan (SignalOverlap g s t) h =
     (pairs_of SharesBit Decides-shares_bit (SignalOverlap g) h.value.signals.items s t h.meets))))
 found_of plan (FlowToOne f) h = flow_found plan _ (inl (each_of (CannotGoToOne plan.groups.items) (Decides-cannot_go_to_one plan.groups.items) FlowToOne plan.flows.items f h))
 found_of plan (FlowToSelf f) h = flow_found plan _ (inr (inl (each_of GoesToItsSender Decides-goes_to_its_sender FlowToSelf plan.flows.items f h)))
+found_of plan (KeptAddress i) h =
+    kept_found plan _ (each_of (PrefersKept plan.keep_free) (Decides-prefers_kept plan.keep_free) KeptAddress plan.units.items i h)
 found_of plan (FlowRepeated f k) h = flow_found plan _ (inr (inr (pairs_of AreOneFlow Decides-are_one_flow FlowRepeated plan.flows.items f k h)))
 
 pub are_findings : (plan : Plan) → AreFindings plan (found plan)

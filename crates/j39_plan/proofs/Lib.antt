@@ -6,6 +6,7 @@ pub mod EachElement
 pub mod Families
 pub mod FirstFaults
 pub mod FoundLaws
+pub mod HeadElements
 pub mod Labelled
 pub mod LastWrites
 pub mod Members

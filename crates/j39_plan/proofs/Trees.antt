@@ -13,9 +13,9 @@ use Rattle.j39_plan.specs.declared.reading.plan_error.PlanError.TheVariants as e
 use Rattle.j39_plan.specs.declared.plan.Plan.{Plan}
 use Rattle.j39_plan.specs.Outcome.{GivesGrowing, FailsGrowing}
 use Rattle.j39_plan.specs.Growing.{PlanGrows}
-use Rattle.j39_plan.specs.declared.reading.place.Table.TheVariants as at
-use Rattle.j39_plan.specs.TableFaults.{table_faults, unknown_faults, key_faults}
-use Rattle.j39_plan.specs.Faults.{faults, top_rules}
+use Rattle.j39_plan.specs.Schema.{number_of}
+use Rattle.j39_plan.specs.TableFaults.{unknown_faults, key_faults}
+use Rattle.j39_plan.specs.Faults.{faults, top_faults, is_second}
 use Rattle.j39_plan.specs.Described.{Holds, tree_of, Reads, MayAskForRoom}
 
 pub reads_tree : (r : Result Plan PlanError) (t : Members) (tree : Option Members) → tree ≡ Some t → GivesGrowing (PlanGrows t) r (faults t) (Holds t) → Reads r tree
@@ -42,8 +42,8 @@ unfolding parse_document
 blank_document text blank = rw (blank_lines (length text) text blank)
 
 -- in which the version is missing
-empty_faults : table_faults at.Top top_rules no_members ≢ []
-unfolding unknown_faults key_faults
+empty_faults : top_faults no_members ≢ []
+unfolding unknown_faults key_faults is_second number_of
 empty_faults none = cc
 
 never_blank : (text : List ℕ) (t : Members) → parse_document text ≡ Some t → PlanGrows t → ¬ IsBlank text

@@ -1,6 +1,8 @@
 -- What a clean plan keeps, part by part.
-use Rattle.std.specs.Prelude.{◌≡◌, ◌≢◌, ℕ, ◌<◌, ◌≤◌, All, AllPairs, Contains}
-use Rattle.j39_id.specs.Addresses.{pool_size}
+use Rattle.std.specs.Prelude.{◌≡◌, ◌≢◌, ℕ, true, false, ◌<◌, ◌≤◌, All, AllPairs, Contains}
+use Rattle.std.specs.FinSet.{contains}
+use Rattle.j39_claim.specs.AddressSets.{free_count}
+use Rattle.j39_id.specs.Name.{is_arbitrary}
 use Rattle.j39_id.specs.Pgn.{IsPgn}
 use Rattle.j39_id.specs.Services.{service_groups}
 use Rattle.j39_signal.specs.Places.{LaysOut}
@@ -24,7 +26,8 @@ pub record CanBePlanned (pgn : ℕ) : Type 0 where
 pub record CleanParts (plan : Plan) : Type 0 where
   pub names : AllPairs (λ u v. u.name ≢ v.name) plan.units.items
   pub fixed_addresses : AllPairs HoldApart plan.units.items
-  pub addresses : needed_addresses plan.units.items ≤ pool_size
+  pub addresses : needed_addresses plan.keep_free plan.units.items ≤ free_count plan.keep_free
+  pub not_kept : All (λ u. is_arbitrary u.name ≡ true → contains plan.keep_free u.address ≡ false) plan.units.items
   pub groups : All (λ g. CanBePlanned g.pgn) plan.groups.items
   pub pgns : AllPairs (λ g h. g.pgn ≢ h.pgn) plan.groups.items
   pub layouts : All (λ g. LaysOut g.length g.signals.items) plan.groups.items

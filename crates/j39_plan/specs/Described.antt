@@ -1,5 +1,7 @@
 -- Which plan a file describes, and what reading it answers.
 use Rattle.std.specs.Prelude.{◌≡◌, ℕ, List, [], if◌then◌else◌, IsTrue, Option, Some, None, Result, Ok, Err}
+use Rattle.std.specs.FinSet.{FinSet, empty}
+use Rattle.std.specs.Ordering.{nat_cmp}
 use Rattle.std.specs.Str.{is_utf8}
 use Rattle.toml.specs.Data.{Members}
 use Rattle.toml.specs.Errors.{IsBlank}
@@ -7,16 +9,21 @@ use Rattle.toml.specs.Parse.{parse_document}
 use Rattle.j39_plan.specs.declared.plan.Plan.{Plan}
 use Rattle.j39_plan.specs.declared.reading.plan_error.PlanError.{PlanError}
 use Rattle.j39_plan.specs.declared.reading.plan_error.PlanError.TheVariants as errors
-use Rattle.j39_plan.specs.Schema.{tables_of}
+use Rattle.j39_plan.specs.Schema.{addresses_of, tables_of}
 use Rattle.j39_plan.specs.Elements.{Each}
 use Rattle.j39_plan.specs.Outcome.{first}
 use Rattle.j39_plan.specs.Units.{IsUnitOf}
 use Rattle.j39_plan.specs.Groups.{IsGroupOf}
 use Rattle.j39_plan.specs.Flows.{IsFlowOf}
-use Rattle.j39_plan.specs.Faults.{faults, unit_rule, group_rule, flow_rule, unit_labels, group_labels}
+use Rattle.j39_plan.specs.Faults.{faults, is_second, keep_free_rule, unit_rule, group_rule, flow_rule, unit_labels, group_labels}
 
--- the plan's units, groups and flows are those of the tree
+-- the addresses that a tree keeps free: none, where it isn't of the second version
+abbrev pub keep_free_of : Members → FinSet nat_cmp
+keep_free_of tree = if is_second tree then addresses_of keep_free_rule tree else empty
+
+-- what the plan keeps free, its units, groups and flows are those of the tree
 pub record Holds (tree : Members) (p : Plan) : Type 0 where
+  pub has_keep_free : p.keep_free ≡ keep_free_of tree
   pub has_units : Each IsUnitOf (tables_of unit_rule tree) p.units.items
   pub has_groups : Each IsGroupOf (tables_of group_rule tree) p.groups.items
   pub has_flows : Each (IsFlowOf (group_labels tree) (unit_labels tree)) (tables_of flow_rule tree) p.flows.items

@@ -1,18 +1,27 @@
 -- Every fault of a plan file's tree, in the order in which they are looked for.
-use Rattle.std.specs.Prelude.{ℕ, List, [], ◌∷◌, ◌++◌, None}
+use Rattle.std.specs.Prelude.{ℕ, ◌==◌, List, [], ◌∷◌, ◌++◌, map, Bool, if◌then◌else◌, None}
 use Rattle.toml.specs.Data.{Data, Members}
+use Rattle.j39_id.specs.Addresses.{pool_size}
 use Rattle.j39_plan.specs.declared.reading.key.Key.TheVariants as key
 use Rattle.j39_plan.specs.declared.reading.place.Table.TheVariants as at
 use Rattle.j39_plan.specs.declared.reading.fault.Fault.{Fault}
-use Rattle.j39_plan.specs.Schema.{Rule, number, tables, tables_of}
-use Rattle.j39_plan.specs.TableFaults.{table_faults}
+use Rattle.j39_plan.specs.Schema.{Rule, number, addresses, tables, number_of, tables_of}
+use Rattle.j39_plan.specs.TableFaults.{unknown_faults, keys_faults}
 use Rattle.j39_plan.specs.Elements.{each_faults, labels_of}
 use Rattle.j39_plan.specs.Units.{unit_faults, unit_label}
 use Rattle.j39_plan.specs.Groups.{group_faults, group_label}
 use Rattle.j39_plan.specs.Flows.{flow_faults}
 
 abbrev pub version_rule : Rule
-version_rule = number key.Version 1 1 None
+version_rule = number key.Version 1 2 None
+
+-- the version is the integer 2
+unfoldable pub is_second : Members → Bool
+is_second tree = number_of version_rule tree == 2
+
+-- the addresses that no arbitrary unit may hold
+abbrev pub keep_free_rule : Rule
+keep_free_rule = addresses key.KeepFree pool_size
 
 abbrev pub unit_rule : Rule
 unit_rule = tables key.Unit 128
@@ -23,8 +32,15 @@ group_rule = tables key.Group 256
 abbrev pub flow_rule : Rule
 flow_rule = tables key.Flow 512
 
-abbrev pub top_rules : List Rule
-top_rules = version_rule ∷ unit_rule ∷ group_rule ∷ flow_rule ∷ []
+-- the keys before the arrays of tables: a plan of the first version keeps no address free
+abbrev pub head_rules : Members → List Rule
+head_rules tree = if is_second tree then version_rule ∷ keep_free_rule ∷ [] else version_rule ∷ []
+
+abbrev pub array_rules : List Rule
+array_rules = unit_rule ∷ group_rule ∷ flow_rule ∷ []
+
+abbrev pub top_rules : Members → List Rule
+top_rules tree = head_rules tree ++ array_rules
 
 abbrev pub unit_labels : Members → List (List ℕ)
 unit_labels tree = labels_of unit_label (tables_of unit_rule tree)
@@ -45,6 +61,13 @@ groups_faults tree = each_faults group_faults group_label 0 [] (tables_of group_
 abbrev pub flows_faults : Members → List Fault
 flows_faults tree = each_faults (λ i seen. flow_faults (group_labels tree) (unit_labels tree) i) no_label 0 [] (tables_of flow_rule tree)
 
+-- a key that no rule names, and what stands at the keys before the arrays
+abbrev pub head_faults : Members → List Fault
+head_faults tree = unknown_faults at.Top (map (λ r. r.key) (top_rules tree)) tree ++ keys_faults at.Top tree (head_rules tree)
+
+abbrev pub top_faults : Members → List Fault
+top_faults tree = head_faults tree ++ keys_faults at.Top tree array_rules
+
 -- the top table's keys, then the units, the groups and the flows, each in order
 abbrev pub faults : Members → List Fault
-faults tree = table_faults at.Top top_rules tree ++ (units_faults tree ++ (groups_faults tree ++ flows_faults tree))
+faults tree = top_faults tree ++ (units_faults tree ++ (groups_faults tree ++ flows_faults tree))

@@ -1,7 +1,10 @@
 -- What can be wrong with a plan: each finding as a plain statement on its units, groups, signals and flows, by their
 -- places from 0 (addresses and NAMEs: SAE J1939-81; groups and their destinations: SAE J1939-21; signals: SAE J1939-71).
-use Rattle.std.specs.Prelude.{◌≡◌, ℕ, ◌<◌, ◌≤◌, ◌⊎◌, List, [], ◌∷◌, Bool, false, ◌||◌, count_by, Contains, AllPairs}
-use Rattle.j39_id.specs.Addresses.{in_pool, pool_size}
+use Rattle.std.specs.Prelude.{◌≡◌, ℕ, ◌<◌, ◌≤◌, ◌⊎◌, List, [], ◌∷◌, Bool, true, false, ◌&&◌, ◌||◌, count_by, Contains, AllPairs}
+use Rattle.std.specs.FinSet.{FinSet, contains}
+use Rattle.std.specs.Ordering.{nat_cmp}
+use Rattle.j39_claim.specs.AddressSets.{is_free, free_count}
+use Rattle.j39_id.specs.Addresses.{in_pool}
 use Rattle.j39_id.specs.Limits.{frame_bytes}
 use Rattle.j39_id.specs.Name.{is_arbitrary}
 use Rattle.j39_id.specs.Pgn.{IsPgn, pf_of}
@@ -14,7 +17,7 @@ use Rattle.j39_plan.specs.declared.plan.group_plan.GroupPlan.{GroupPlan}
 use Rattle.j39_plan.specs.declared.plan.flow_plan.FlowPlan.{FlowPlan}
 use Rattle.j39_plan.specs.declared.plan.to.To.TheVariants.{One}
 use Rattle.j39_plan.specs.declared.checking.finding.Finding.{Finding}
-use Rattle.j39_plan.specs.declared.checking.finding.Finding.TheVariants.{SameName, SameFixedAddress, TooFewAddresses, BadPgn, SamePgn, SignalWidth, SignalOutside, SignalOverlap, FlowToOne, FlowToSelf, FlowRepeated}
+use Rattle.j39_plan.specs.declared.checking.finding.Finding.TheVariants.{SameName, SameFixedAddress, TooFewAddresses, BadPgn, SamePgn, SignalWidth, SignalOutside, SignalOverlap, FlowToOne, FlowToSelf, FlowRepeated, KeptAddress}
 
 -- ---- units
 
@@ -28,13 +31,17 @@ HaveSameName u v = u.name ≡ v.name
 abbrev pub HaveSameFixedAddress : UnitPlan → UnitPlan → Type 0
 HaveSameFixedAddress u v = IsFixed u × IsFixed v × (u.address ≡ v.address)
 
--- a unit that may hold an address of the pool: an arbitrary one, or a fixed one that has its own there
-abbrev pub needs_pool_address : UnitPlan → Bool
-needs_pool_address unit = is_arbitrary unit.name || in_pool unit.address
+-- a unit that may hold an address of the pool that isn't kept free: an arbitrary one, or a fixed one that has its own there
+abbrev pub needs_pool_address : FinSet nat_cmp → UnitPlan → Bool
+needs_pool_address kept unit = is_arbitrary unit.name || (in_pool unit.address && is_free kept unit.address)
 
--- how many addresses of the pool the units need
-abbrev pub needed_addresses : List UnitPlan → ℕ
-needed_addresses units = count_by needs_pool_address units
+-- how many of these addresses the units need
+abbrev pub needed_addresses : FinSet nat_cmp → List UnitPlan → ℕ
+needed_addresses kept units = count_by (needs_pool_address kept) units
+
+-- an arbitrary unit that prefers an address that is kept free
+abbrev pub PrefersKept : FinSet nat_cmp → UnitPlan → Type 0
+PrefersKept kept unit = (is_arbitrary unit.name ≡ true) × (contains kept unit.address ≡ true)
 
 -- ---- groups
 
@@ -76,7 +83,7 @@ AreOneFlow f h = (f.group ≡ h.group) × (f.sender ≡ h.sender) × (f.to ≡ h
 abbrev pub Holds : Plan → Finding → Type 0
 Holds plan (SameName i j) = PairAt HaveSameName plan.units.items i j
 Holds plan (SameFixedAddress i j) = PairAt HaveSameFixedAddress plan.units.items i j
-Holds plan (TooFewAddresses n) = (n ≡ needed_addresses plan.units.items) × (pool_size < n)
+Holds plan (TooFewAddresses n) = (n ≡ needed_addresses plan.keep_free plan.units.items) × (free_count plan.keep_free < n)
 Holds plan (BadPgn g) = ValueAt HasBadPgn plan.groups.items g
 Holds plan (SamePgn g h) = PairAt HaveSamePgn plan.groups.items g h
 Holds plan (SignalWidth g s) = ValueAt (λ group. ValueAt (λ signal. ¬ WidthFits signal) group.signals.items s) plan.groups.items g
@@ -85,6 +92,7 @@ Holds plan (SignalOverlap g s t) = ValueAt (λ group. PairAt SharesBit group.sig
 Holds plan (FlowToOne f) = ValueAt (CannotGoToOne plan.groups.items) plan.flows.items f
 Holds plan (FlowToSelf f) = ValueAt GoesToItsSender plan.flows.items f
 Holds plan (FlowRepeated f h) = PairAt AreOneFlow plan.flows.items f h
+Holds plan (KeptAddress i) = ValueAt (PrefersKept plan.keep_free) plan.units.items i
 
 -- nothing is wrong with the plan
 abbrev pub Clean : Plan → Type 0
@@ -105,6 +113,7 @@ number_of (SignalOverlap g s t) = 8
 number_of (FlowToOne f) = 9
 number_of (FlowToSelf f) = 10
 number_of (FlowRepeated f h) = 11
+number_of (KeptAddress i) = 12
 
 -- the places that it names
 abbrev pub places_of : Finding → List ℕ
@@ -119,6 +128,7 @@ places_of (SignalOverlap g s t) = g ∷ s ∷ t ∷ []
 places_of (FlowToOne f) = f ∷ []
 places_of (FlowToSelf f) = f ∷ []
 places_of (FlowRepeated f h) = f ∷ h ∷ []
+places_of (KeptAddress i) = i ∷ []
 
 -- the first place in which two lists differ is smaller in the first list
 abbrev pub IsBelow : List ℕ → List ℕ → Type 0

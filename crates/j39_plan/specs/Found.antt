@@ -1,7 +1,9 @@
 -- The findings of a plan as a list: a test for each statement, and the list of all that pass.
 use Rattle.std.specs.Prelude.{ℕ, List, ◌++◌, Bool, true, false, not, ◌&&◌, ◌||◌, ◌==◌, nat_le, nat_lt, Option, Some, None}
 use Rattle.std.specs.List.{slice_get}
-use Rattle.j39_id.specs.Addresses.{pool_size}
+use Rattle.std.specs.FinSet.{FinSet, contains}
+use Rattle.std.specs.Ordering.{nat_cmp}
+use Rattle.j39_claim.specs.AddressSets.{free_count}
 use Rattle.j39_id.specs.Limits.{frame_bytes}
 use Rattle.j39_id.specs.Name.{is_arbitrary}
 use Rattle.j39_id.specs.Pgn.{is_pgn, is_pdu2}
@@ -17,7 +19,7 @@ use Rattle.j39_plan.specs.declared.plan.flow_plan.FlowPlan.{FlowPlan}
 use Rattle.j39_plan.specs.declared.plan.to.To.{To}
 use Rattle.j39_plan.specs.declared.plan.to.To.TheVariants.{All, One}
 use Rattle.j39_plan.specs.declared.checking.finding.Finding.{Finding}
-use Rattle.j39_plan.specs.declared.checking.finding.Finding.TheVariants.{SameName, SameFixedAddress, TooFewAddresses, BadPgn, SamePgn, SignalWidth, SignalOutside, SignalOverlap, FlowToOne, FlowToSelf, FlowRepeated}
+use Rattle.j39_plan.specs.declared.checking.finding.Finding.TheVariants.{SameName, SameFixedAddress, TooFewAddresses, BadPgn, SamePgn, SignalWidth, SignalOutside, SignalOverlap, FlowToOne, FlowToSelf, FlowRepeated, KeptAddress}
 
 -- ---- units
 
@@ -30,11 +32,20 @@ is_fixed unit = not (is_arbitrary unit.name)
 abbrev pub have_same_fixed_address : UnitPlan → UnitPlan → Bool
 have_same_fixed_address u v = is_fixed u && (is_fixed v && u.address == v.address)
 
-abbrev pub too_few_addresses : List UnitPlan → List Finding
-too_few_addresses units = found_if (nat_lt pool_size (needed_addresses units)) (TooFewAddresses (needed_addresses units))
+abbrev pub too_few_addresses : FinSet nat_cmp → List UnitPlan → List Finding
+too_few_addresses kept units = found_if (nat_lt (free_count kept) (needed_addresses kept units)) (TooFewAddresses (needed_addresses kept units))
 
-unfoldable pub unit_findings : List UnitPlan → List Finding
-unit_findings units = pairs have_same_name SameName units ++ (pairs have_same_fixed_address SameFixedAddress units ++ too_few_addresses units)
+unfoldable pub unit_findings : FinSet nat_cmp → List UnitPlan → List Finding
+unit_findings kept units =
+    pairs have_same_name SameName units ++ (pairs have_same_fixed_address SameFixedAddress units ++ too_few_addresses kept units)
+
+-- ---- units at addresses that are kept free
+
+abbrev pub prefers_kept : FinSet nat_cmp → UnitPlan → Bool
+prefers_kept kept unit = is_arbitrary unit.name && contains kept unit.address
+
+unfoldable pub kept_findings : FinSet nat_cmp → List UnitPlan → List Finding
+kept_findings kept units = each (prefers_kept kept) KeptAddress 0 units
 
 -- ---- groups
 
@@ -109,4 +120,6 @@ flow_findings groups flows = each (cannot_go_to_one groups) FlowToOne 0 flows ++
 -- ---- the whole list
 
 unfoldable pub found : Plan → List Finding
-found plan = unit_findings plan.units.items ++ (group_findings plan.groups.items ++ (signal_findings plan.groups.items ++ flow_findings plan.groups.items plan.flows.items))
+found plan =
+    unit_findings plan.keep_free plan.units.items ++ (group_findings plan.groups.items ++ (signal_findings plan.groups.items
+    ++ (flow_findings plan.groups.items plan.flows.items ++ kept_findings plan.keep_free plan.units.items)))

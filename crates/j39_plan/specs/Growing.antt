@@ -10,7 +10,7 @@ use Rattle.j39_plan.specs.Signals.{signal_faults}
 use Rattle.j39_plan.specs.Units.{unit_faults}
 use Rattle.j39_plan.specs.Groups.{group_rules, signal_rule, group_faults}
 use Rattle.j39_plan.specs.Flows.{flow_faults}
-use Rattle.j39_plan.specs.Faults.{top_rules, unit_rule, group_rule, flow_rule, units_faults, groups_faults, group_labels, unit_labels}
+use Rattle.j39_plan.specs.Faults.{top_faults, unit_rule, group_rule, flow_rule, units_faults, groups_faults, group_labels, unit_labels}
 
 -- the reader of an element asks for none
 abbrev pub NeverGrows : ℕ → Data → Type 0
@@ -30,7 +30,7 @@ GroupElementGrows g d = GroupGrows g (inside d)
 
 -- in a plan, whose top table has no fault, among its units, behind these among its groups, or behind these among its flows
 abbrev pub PlanGrows : Members → Type 0
-PlanGrows tree = (table_faults at.Top top_rules tree ≡ [])
+PlanGrows tree = (top_faults tree ≡ [])
     × (EachGrows unit_faults NeverGrows (tables_of unit_rule tree)
     ⊎ ((units_faults tree ≡ []) × (EachGrows group_faults GroupElementGrows (tables_of group_rule tree)
     ⊎ ((groups_faults tree ≡ []) × EachGrows (λ i seen. flow_faults (group_labels tree) (unit_labels tree) i) NeverGrows (tables_of flow_rule tree)))))

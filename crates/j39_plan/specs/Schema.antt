@@ -1,6 +1,8 @@
 -- What a table asks of its keys: one list of rules, from which both its faults and its values are read.
-use Rattle.std.specs.Prelude.{ℕ, ℤ, pos, negsuc, suc, List, [], Bool, false, if◌then◌else◌, Option, Some, None, option_map, option_and_then, unwrap_or, nat_le}
+use Rattle.std.specs.Prelude.{ℕ, ℤ, pos, negsuc, suc, List, [], ◌∷◌, Bool, false, if◌then◌else◌, Option, Some, None, option_map, option_and_then, unwrap_or, nat_le}
+use Rattle.std.specs.FinSet.{FinSet, from_list}
 use Rattle.std.specs.Option.{option_or}
+use Rattle.std.specs.Ordering.{nat_cmp}
 use Rattle.toml.specs.Data.{Data, string, integer, boolean, array, Items, no_items, item, Members, get_member, as_integer, as_str, as_bool, as_table, as_array}
 use Rattle.j39_plan.specs.declared.reading.key.Key.{Key}
 use Rattle.j39_plan.specs.declared.reading.text_kind.TextKind.{TextKind}
@@ -15,6 +17,7 @@ pub data Kind : Type 0 where
   text_of_kind : TextKind → Kind
   one_table : Kind
   tables_up_to : ℕ → Kind
+  addresses_up_to : ℕ → Kind
 
 -- a key, what its value is to be, and what an absent one stands for: nothing where the key is required
 pub record Rule : Type 0 where
@@ -39,6 +42,9 @@ inner_table k = record { key = k; kind = one_table; default = None }
 
 abbrev pub tables : Key → ℕ → Rule
 tables k limit = record { key = k; kind = tables_up_to limit; default = Some (array no_items) }
+
+abbrev pub addresses : Key → ℕ → Rule
+addresses k limit = record { key = k; kind = addresses_up_to limit; default = Some (array no_items) }
 
 -- ---- values
 
@@ -83,3 +89,15 @@ limited _ ds = no_items
 
 unfoldable pub tables_of : Rule → Members → Items
 tables_of r ms = limited r.kind (unwrap_or (option_and_then as_array (standing r ms)) no_items)
+
+-- the number that an element is, 0 where it is none
+abbrev pub number_in : Data → ℕ
+number_in d = natural (unwrap_or (as_integer d) (pos 0))
+
+abbrev pub numbers_in : Items → List ℕ
+numbers_in no_items = []
+numbers_in (item d ds) = number_in d ∷ numbers_in ds
+
+-- the set of these numbers
+unfoldable pub addresses_of : Rule → Members → FinSet nat_cmp
+addresses_of r ms = from_list (numbers_in (unwrap_or (option_and_then as_array (standing r ms)) no_items))

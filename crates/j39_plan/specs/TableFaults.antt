@@ -2,19 +2,34 @@
 use Rattle.std.specs.Prelude.{ℕ, List, [], ◌∷◌, ◌++◌, Bool, true, ◌&&◌, ◌||◌, if◌then◌else◌, Option, Some, None, map, nat_le, int_lt}
 use Rattle.std.specs.List.{list_any}
 use Rattle.std.specs.Str.{bytes_eq}
-use Rattle.std.specs.Option.{option_map_or}
-use Rattle.toml.specs.Data.{Data, string, integer, boolean, array, table, Members, no_members, member}
+use Rattle.std.specs.FinSet.{FinSet, empty, contains, insert}
+use Rattle.std.specs.Option.{option_or, option_map_or}
+use Rattle.std.specs.Ordering.{nat_cmp}
+use Rattle.j39_id.specs.Addresses.{in_pool}
+use Rattle.toml.specs.Data.{Data, string, integer, boolean, array, table, Items, no_items, item, Members, no_members, member}
 use Rattle.j39_plan.specs.declared.reading.cause.Cause.{Cause}
-use Rattle.j39_plan.specs.declared.reading.cause.Cause.TheVariants.{UnknownKey, Missing, WrongType, Range, TooMany}
+use Rattle.j39_plan.specs.declared.reading.cause.Cause.TheVariants.{UnknownKey, Missing, WrongType, Range, TooMany, Repeated}
 use Rattle.j39_plan.specs.declared.reading.key.Key.{Key}
 use Rattle.j39_plan.specs.declared.reading.place.Table.{Table}
 use Rattle.j39_plan.specs.declared.reading.fault.Fault.{Fault}
 use Rattle.j39_plan.specs.Texts.{takes}
 use Rattle.j39_plan.specs.Words.{word_of}
-use Rattle.j39_plan.specs.Schema.{Kind, integer_in, flag_value, text_of_kind, one_table, tables_up_to, Rule, standing, items_count}
+use Rattle.j39_plan.specs.Schema.{Kind, integer_in, flag_value, text_of_kind, one_table, tables_up_to, addresses_up_to, Rule, natural, standing, items_count, number_in}
 
 abbrev pub fault : Cause → Table → Option Key → Fault
 fault cause at key = record { cause = cause; place = record { table = at; key = key } }
+
+-- the cause for which an element is refused that stands behind those with these numbers: it is to be an address of the pool, and
+-- none of these
+abbrev pub address_cause : FinSet nat_cmp → Data → Option Cause
+address_cause earlier (integer z) =
+    if in_pool (natural z) then (if contains earlier (natural z) then Some Repeated else None) else Some Range
+address_cause earlier _ = Some WrongType
+
+-- the first cause for which one of the elements is refused that stand behind those with these numbers
+abbrev pub addresses_cause : FinSet nat_cmp → Items → Option Cause
+addresses_cause earlier no_items = None
+addresses_cause earlier (item d ds) = option_or (address_cause earlier d) (addresses_cause (insert earlier (number_in d)) ds)
 
 -- the first cause for which a value is refused
 abbrev pub cause_of : Kind → Data → Option Cause
@@ -23,6 +38,7 @@ cause_of flag_value (boolean b) = None
 cause_of (text_of_kind kind) (string s) = if takes kind s then None else Some Range
 cause_of one_table (table ms) = None
 cause_of (tables_up_to limit) (array ds) = if nat_le (items_count ds) limit then None else Some TooMany
+cause_of (addresses_up_to limit) (array ds) = if nat_le (items_count ds) limit then addresses_cause empty ds else Some TooMany
 cause_of _ _ = Some WrongType
 
 -- the cause for which what stands at a key is refused

@@ -8,6 +8,7 @@ use Rattle.j39_plan.specs.declared.reading.cause.Cause.TheVariants as cause
 -- how a key is spelled
 abbrev pub word_of : Key → List ℕ
 word_of key.Version = codes "version"
+word_of key.KeepFree = codes "keep_free"
 word_of key.Unit = codes "unit"
 word_of key.Group = codes "group"
 word_of key.Flow = codes "flow"

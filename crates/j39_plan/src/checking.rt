@@ -7,6 +7,7 @@ mod checked_plan;
 mod finding;
 mod flows;
 mod groups;
+mod kept;
 mod refused;
 mod rules;
 mod signals;
@@ -17,6 +18,7 @@ pub use checked_plan::{CheckedPlan, checked};
 pub use finding::{Finding, Findings};
 use flows::find_in_flows;
 use groups::find_in_groups;
+use kept::find_kept;
 pub use refused::{Refused, RefusedCause};
 use signals::find_in_signals;
 use std::alloc::{AllocError, Global};
@@ -31,10 +33,11 @@ pub fn check(alloc: Global, plan: &Plan) -> Result<Findings, AllocError>
     ensures clean { Clean plan.now → IsOk result }
 {
     let mut findings = Vec::new(alloc);
-    find_in_units(&mut findings, &plan.units)?;
+    find_in_units(&mut findings, &plan.keep_free, &plan.units)?;
     find_in_groups(&mut findings, &plan.groups)?;
     find_in_signals(&mut findings, &plan.groups)?;
     find_in_flows(&mut findings, &plan.groups, &plan.flows)?;
+    find_kept(&mut findings, &plan.keep_free, &plan.units)?;
     Ok(findings)
 }
 

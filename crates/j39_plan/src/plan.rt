@@ -1,5 +1,7 @@
 //! A plan: the units of a network, the groups that they send, and who sends which group to whom.
-ghost use Rattle.std.specs.Prelude.{◌≡◌, ◌≢◌, ℕ, ◌<◌, ◌≤◌, length, All, AllPairs};
+ghost use Rattle.std.specs.Prelude.{◌≡◌, ◌≢◌, ℕ, true, ◌<◌, ◌≤◌, length, All, AllPairs};
+ghost use Rattle.std.specs.FinSet.{contains};
+ghost use Rattle.j39_id.specs.Addresses.{in_pool};
 ghost use Rattle.j39_plan.specs.declared.plan.to.To.TheVariants.{One};
 
 mod flow_plan;
@@ -10,6 +12,7 @@ mod way;
 
 pub use flow_plan::FlowPlan;
 pub use group_plan::GroupPlan;
+use j39_claim::AddressSet;
 pub use to::To;
 pub use unit_plan::UnitPlan;
 pub use way::Way;
@@ -18,9 +21,12 @@ pub use way::Way;
 /// No two units have one label, and no two groups.
 #[derive(Debug, Drop)]
 pub struct Plan {
+    /// Addresses of 128 to 247 that no arbitrary unit may hold.
+    pub keep_free: AddressSet,
     pub units: Vec<UnitPlan>,
     pub groups: Vec<GroupPlan>,
     pub flows: Vec<FlowPlan>,
+    pub ghost keep_free_range: { (a : ℕ) → contains keep_free a ≡ true → in_pool a ≡ true },
     pub ghost unit_count: { length units.items ≤ 128 },
     pub ghost group_count: { length groups.items ≤ 256 },
     pub ghost flow_count: { length flows.items ≤ 512 },

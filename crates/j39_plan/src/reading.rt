@@ -11,6 +11,7 @@ mod elements;
 mod fault;
 mod flows;
 mod groups;
+mod heads;
 mod key;
 mod labels;
 mod names;
@@ -28,23 +29,20 @@ use elements::read_each;
 pub use fault::Fault;
 use flows::Flows;
 use groups::Groups;
+use heads::head;
 pub use key::Key;
 pub use place::{Place, Table};
 pub use plan_error::PlanError;
 use std::alloc::Global;
 use std::str;
-use tables::{array, only};
+use tables::array;
 use units::Units;
-use values::number;
-
-const TOP_KEYS: [Key; 4] = [Key::Version, Key::Unit, Key::Group, Key::Flow];
 
 #[tactic(auto, using(crate::proofs::FirstFaults::faults_after))]
 fn read_top(alloc: Global, members: &toml::Table) -> Result<Plan, PlanError>
     ensures { GivesGrowing (PlanGrows (table_view members.now)) result (faults (table_view members.now)) (Holds (table_view members.now)) }
 {
-    only(members, Table::Top, &TOP_KEYS)?;
-    number(members, Table::Top, Key::Version, 1, 1, None)?;
+    let keep_free = head(members)?;
     let unit_values = array(members, Table::Top, Key::Unit, 128)?;
     let group_values = array(members, Table::Top, Key::Group, 256)?;
     let flow_values = array(members, Table::Top, Key::Flow, 512)?;
@@ -59,13 +57,15 @@ fn read_top(alloc: Global, members: &toml::Table) -> Result<Plan, PlanError>
         flow_values,
     )?;
     Ok(Plan {
+        keep_free,
         units,
         groups,
         flows,
     })
 }
 
-/// The plan that a file describes: TOML of UTF-8 bytes, at most 128 units, 256 groups of 64 signals and 512 flows.
+/// The plan that a file describes: TOML of UTF-8 bytes, at most 128 units, 256 groups of 64 signals and 512 flows. One of
+/// version 2 may keep up to 120 addresses of 128 to 247 free; one of version 1 keeps none.
 ///
 /// Refuses bytes that are no TOML text, and else the first fault, in the order of the file's tables and keys. Takes no
 /// memory of bytes that are no UTF-8, or white space and comments alone.

@@ -1,17 +1,18 @@
 -- What the claim steps need of a plan: what each unit claims as.
 use Rattle.std.specs.Prelude.{ℕ, Bool, nat_lt, List, map, length, slice_index_or}
-use Rattle.std.specs.FinSet.{empty}
+use Rattle.std.specs.FinSet.{FinSet, empty}
+use Rattle.std.specs.Ordering.{nat_cmp}
 use Rattle.j39_claim.specs.ClaimRule.{PlannedUnit}
 use Rattle.j39_plan.specs.declared.plan.Plan.{Plan}
 use Rattle.j39_plan.specs.declared.plan.unit_plan.UnitPlan.{UnitPlan}
 
--- a unit claims as its NAME, and prefers its planned address
-abbrev pub claimant_of : UnitPlan → PlannedUnit
-claimant_of p = record { name = p.name; preferred = p.address; kept = empty }
+-- a unit claims as its NAME, prefers its planned address, and chooses none that is kept free
+abbrev pub claimant_of : FinSet nat_cmp → UnitPlan → PlannedUnit
+claimant_of kept p = record { name = p.name; preferred = p.address; kept = kept }
 
 -- the units in their order in the plan
 abbrev pub units_of : Plan → List PlannedUnit
-units_of plan = map claimant_of plan.units.items
+units_of plan = map (claimant_of plan.keep_free) plan.units.items
 
 -- the unit at a place
 abbrev pub unit_at : List PlannedUnit → ℕ → PlannedUnit

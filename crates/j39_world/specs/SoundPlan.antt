@@ -1,4 +1,5 @@
--- What a plan without findings has: its addresses, its signals and its reports are sound, and its claims die down.
+-- What a plan without findings has: its addresses, its signals and its reports are sound, what it keeps free stays free, and its
+-- claims die down.
 use Rattle.std.specs.Prelude.{◌≡◌, ℕ, List, Some}
 use Rattle.j39_plan.specs.SoundSignals.{SoundSignals}
 use Rattle.j39_plan.specs.declared.plan.Plan.{Plan}
@@ -7,7 +8,7 @@ use Rattle.j39_world.specs.Transfers.{Outgoing}
 use Rattle.j39_world.specs.World.{World, first}
 use Rattle.j39_world.specs.Run.{Run}
 use Rattle.j39_world.specs.Settling.{Settles}
-use Rattle.j39_world.specs.Sound.{AreAddressesSound, AreAddressesDifferent, IsQuiet, AreReportsSound, IsAcknowledgedReported}
+use Rattle.j39_world.specs.Sound.{AreAddressesSound, AreAddressesDifferent, AreKeptFree, IsQuiet, AreReportsSound, IsAcknowledgedReported}
 
 -- it holds in every world of every run of the plan, with all lawful choices and whatever is lost
 abbrev pub Always : Plan → (World → Type 0) → Type 0
@@ -23,6 +24,8 @@ pub record IsSound (plan : Plan) : Type 0 where
   -- where no claim is undelivered, and while any message is sent, no two units hold one address
   pub quiet : Always plan (λ w. IsQuiet w.claims → AreAddressesDifferent w)
   pub sending : Always plan (λ w. IsSending w → AreAddressesDifferent w)
+  -- no arbitrary unit holds an address that is kept free
+  pub kept : Always plan (AreKeptFree plan)
   -- whoever goes on delivering claims comes to an end, where nothing is undelivered
   pub settles : Always plan (Settles plan)
   -- whatever is written to a group's signals, each reads back what it was last given

@@ -2,6 +2,7 @@
 use Rattle.std.proofs.Common.{◌≡◌, ◌≢◌, ℕ, ◌<◌, true, false, List, [], length, Option, Some}
 use Rattle.std.specs.Ordering.{nat_cmp}
 use Rattle.std.specs.FinMap.{FinMap, get}
+use Rattle.std.specs.FinSet.{contains}
 use Rattle.std.specs.List.{AllByRecursion}
 use Rattle.j39_id.specs.Name.{is_arbitrary}
 use Rattle.j39_claim.specs.declared.item.Say.TheVariants.{Claim, Cannot}
@@ -12,9 +13,10 @@ use Rattle.j39_world.specs.Claimants.{unit_at}
 use Rattle.j39_world.specs.World.{Stations, Undelivered}
 use Rattle.j39_world.specs.Sound.{IsToBeTold}
 
--- the unit may claim it: a fixed one only its own
-abbrev pub IsOwn : PlannedUnit → ℕ → Type 0
-IsOwn p a = is_arbitrary p.name ≡ false → a ≡ p.preferred
+-- the unit may claim it: a fixed one only its own, an arbitrary one none that is kept free
+pub record IsOwn (p : PlannedUnit) (a : ℕ) : Type 0 where
+  pub fixed : is_arbitrary p.name ≡ false → a ≡ p.preferred
+  pub unkept : is_arbitrary p.name ≡ true → contains p.kept a ≡ false
 
 -- the unit may say it
 abbrev pub IsSaid : PlannedUnit → Item → Type 0

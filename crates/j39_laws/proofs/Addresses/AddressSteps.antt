@@ -13,7 +13,7 @@ use Rattle.j39_world.specs.Claimants.{unit_at}
 use Rattle.j39_world.specs.World.{Stations, Undelivered, changed, changed_pair}
 use Rattle.j39_world.specs.Sound.{IsToBeTold}
 use Rattle.j39_world.specs.ClaimSteps.{told_to_others, without_lists_to, answer_items}
-use Rattle.j39_laws.proofs.Addresses.AddressInvariant.{AddressInvariant, IsSaid, IsHeld, AllNoted}
+use Rattle.j39_laws.proofs.Addresses.AddressInvariant.{AddressInvariant, IsOwn, IsSaid, IsHeld, AllNoted}
 use Rattle.j39_laws.proofs.Addresses.Telling.{still, told, said_more, not_itself}
 use Rattle.j39_laws.proofs.Addresses.Turns.{Turn}
 use Rattle.j39_laws.proofs.Runs.Changed.{changed_here, changed_elsewhere, changed_each}
@@ -94,9 +94,10 @@ module _ (units : List PlannedUnit) (stations : Stations) (claims : Undelivered)
     without_itself : (s : ℕ) → without s s ≡ []
     without_itself s = cond_both (eqb s u) [] (claims s s) (λ xs. xs ≡ []) (λ _. refl) (λ _. inv.itself s)
 
-    pub up_keeps : let new : Stations = changed stations u (started (unit_at units u)) in
+    pub up_keeps : IsOwn (unit_at units u) (unit_at units u).preferred
+        → let new : Stations = changed stations u (started (unit_at units u)) in
         AddressInvariant units new (told_to_others new without u (Told (Claim (unit_at units u).preferred) ∷ []))
-    up_keeps =
+    up_keeps own =
         let p : PlannedUnit = unit_at units u in
         let items : List Item = Told (Claim p.preferred) ∷ [] in
         let now : Stations = changed stations u (started p) in
@@ -108,13 +109,13 @@ module _ (units : List PlannedUnit) (stations : Stations) (claims : Undelivered)
         inl (told now without u items z (Told (Claim b)) on z_other (in_one p.preferred b same)) in
         record {
           holds = changed_each (λ x s. s.on ≡ true → IsHeld (unit_at units x) s.address) stations u (started p)
-              (λ _. (p.preferred, refl, λ _. refl)) inv.holds;
+              (λ _. (p.preferred, refl, own)) inv.holds;
           apart = λ x y a other on_x on_y address_x address_y.
               clash_cases (IsToBeTold after) (swapped after) stations u (started p) told_other
               (λ z t b z_other t_other c.
               told_still now without u items z t b (without_still claims u z t b z_other t_other (clash_told z t b c)))
               x y a (record { apart = other; one = record { on = on_x; address = address_x }; other = record { on = on_y; address = address_y } });
-          said = said_more now without u items units without_said ((λ _. refl), tt);
+          said = said_more now without u items units without_said (own, tt);
           itself = not_itself now without u items without_itself;
           notes = changed_each (λ x s. AllNoted units x s.notes) stations u (started p)
               (λ n a is. absurd (let e = sym (get-empty {X = ℕ} nat_cmp n) ∙ is in cc)) inv.notes;

@@ -1,18 +1,22 @@
--- Each world of a run of a clean plan has sound addresses.
-use Rattle.std.proofs.Common.{◌≡◌, ◌≢◌, ◌<◌, ℕ, true, List, [], ◌∷◌, length, refl, sym, ap, ◌∙◌, subst, Option, inl, inr}
+-- Each world of a run of a clean plan has sound addresses, and none that is kept free is held.
+use Rattle.std.proofs.Common.{◌≡◌, ◌≢◌, ◌<◌, ℕ, zero, suc, true, map, List, [], ◌∷◌, length, refl, sym, ap, ◌∙◌, subst, Option, inl, inr}
 use Rattle.std.proofs.lemmas.Bool.{true≢false}
+use Rattle.std.proofs.lemmas.Option.{same_Some}
 use Rattle.std.specs.FinMap.{get-empty}
+use Rattle.std.specs.FinSet.{FinSet, contains}
 use Rattle.std.specs.Ordering.{nat_cmp}
 use Rattle.std.specs.List.{AllByRecursion}
 use Rattle.j39_claim.specs.declared.item.Item.{Item}
 use Rattle.j39_claim.specs.declared.item.Say.{Say}
 use Rattle.j39_claim.specs.ClaimRule.{PlannedUnit, ClaimState, Answers}
+use Rattle.j39_id.specs.Name.{is_arbitrary}
 use Rattle.j39_plan.specs.declared.plan.Plan.{Plan}
-use Rattle.j39_world.specs.Claimants.{units_of, unit_at}
-use Rattle.j39_world.specs.Sound.{AreAddressesSound, AreAddressesDifferent, IsQuiet}
+use Rattle.j39_plan.specs.declared.plan.unit_plan.UnitPlan.{UnitPlan}
+use Rattle.j39_world.specs.Claimants.{claimant_of, units_of, unit_at}
+use Rattle.j39_world.specs.Sound.{AreAddressesSound, AreAddressesDifferent, AreKeptFree, IsQuiet}
 use Rattle.j39_world.specs.SoundPlan.{Always}
 use Rattle.j39_world.specs.World.{World, Stations, Undelivered, first}
-use Rattle.j39_laws.proofs.Addresses.AddressInvariant.{AddressInvariant, IsSaid}
+use Rattle.j39_laws.proofs.Addresses.AddressInvariant.{AddressInvariant, IsOwn, IsSaid}
 use Rattle.j39_laws.proofs.Addresses.AddressSteps.{up_keeps, down_keeps, ask_keeps, give_keeps}
 use Rattle.j39_laws.proofs.Addresses.CleanUnits.{IsClean}
 use Rattle.j39_laws.proofs.Addresses.Turns.{turn}
@@ -40,20 +44,45 @@ given units clean stations claims inv u v in_u in_v on item rest list says new a
     let t = turn units clean u v in_u in_v other (stations v) (inv.holds v on) (inv.notes v) item said.0 says new answers in
     give_keeps units stations claims inv u v other on item rest list says new t
 
+-- a unit may claim the address that it prefers
+prefers_own : (units : List PlannedUnit) → IsClean units → (u : ℕ) → u < length units → IsOwn (unit_at units u) (unit_at units u).preferred
+prefers_own units clean u inside = record { fixed = λ _. refl; unkept = clean.unkept u inside }
+
 claim_steps : (plan : Plan) → IsClean (units_of plan) → IsKeptByClaimSteps plan (AddressInvariant (units_of plan))
 claim_steps plan clean = record {
-  switched_on = λ stations claims inv u unit. up_keeps (units_of plan) stations claims inv u;
+  switched_on = λ stations claims inv u unit. up_keeps (units_of plan) stations claims inv u
+      (prefers_own (units_of plan) clean u (in_units plan u unit));
   switched_off = λ stations claims inv u. down_keeps (units_of plan) stations claims inv u;
   asked = λ stations claims inv u unit on. ask_keeps (units_of plan) stations claims inv u on;
   given = λ stations claims inv u v unit_u unit_v. given (units_of plan) clean stations claims inv u v (in_units plan u unit_u) (in_units plan v unit_v);
 }
 
+invariant : (plan : Plan) → IsClean (units_of plan) → Always plan (λ w. AddressInvariant (units_of plan) w.stations w.claims)
+invariant plan clean =
+    always plan (λ x. AddressInvariant (units_of plan) x.stations x.claims) (at_first (units_of plan))
+    (claim_steps_keep plan (AddressInvariant (units_of plan)) (claim_steps plan clean))
+
 pub addresses_sound : (plan : Plan) → IsClean (units_of plan) → Always plan (AreAddressesSound plan)
 addresses_sound plan clean steps w run =
-    let inv : AddressInvariant (units_of plan) w.stations w.claims =
-    always plan (λ x. AddressInvariant (units_of plan) x.stations x.claims) (at_first (units_of plan))
-    (claim_steps_keep plan (AddressInvariant (units_of plan)) (claim_steps plan clean)) steps w run in
-    record { holds = inv.holds; apart = inv.apart }
+    let inv = invariant plan clean steps w run in
+    record {
+      holds = λ u on. let (a, is, own) = inv.holds u on in (a, is, own.fixed);
+      apart = inv.apart;
+    }
+
+-- what an arbitrary unit of a plan may not choose
+kept_at : (kept : FinSet nat_cmp) (ps : List UnitPlan) (u : ℕ) → is_arbitrary (unit_at (map (claimant_of kept) ps) u).name ≡ true
+    → (unit_at (map (claimant_of kept) ps) u).kept ≡ kept
+kept_at kept [] u arbitrary = absurd (true≢false (sym arbitrary))
+kept_at kept (p ∷ ps) zero arbitrary = refl
+kept_at kept (p ∷ ps) (suc u) arbitrary = kept_at kept ps u arbitrary
+
+pub kept_free : (plan : Plan) → IsClean (units_of plan) → Always plan (AreKeptFree plan)
+kept_free plan clean steps w run u a on arbitrary is =
+    let (b, holds, own) = (invariant plan clean steps w run).holds u on in
+    let same : b ≡ a = same_Some _ _ (sym holds ∙ is) in
+    sym (ap (λ k. contains k a) (kept_at plan.keep_free plan.units.items u arbitrary))
+    ∙ (ap (contains (unit_at (units_of plan) u).kept) (sym same) ∙ own.unkept arbitrary)
 
 -- where no claim is undelivered, no two hold one address
 pub quiet_apart : (plan : Plan) (w : World) → AreAddressesSound plan w → IsQuiet w.claims → AreAddressesDifferent w

@@ -1,16 +1,18 @@
 -- What a unit says to an item, and what it is then.
-use Rattle.std.proofs.Common.{◌≡◌, ◌≢◌, ℕ, ◌<◌, ◌/◌, ◌%◌, ◌^◌, true, false, ◌⊎◌, inl, inr, ltb, List, length, refl, sym, ap, ◌∙◌, subst}
+use Rattle.std.proofs.Common.{◌≡◌, ◌≢◌, ℕ, ◌<◌, ◌/◌, ◌%◌, ◌^◌, Bool, true, false, ◌&&◌, ◌⊎◌, inl, inr, ltb, List, length, refl, sym, ap, ◌∙◌, subst}
 use Rattle.std.proofs.Common.{arith, Option, Some, None}
 use Rattle.std.proofs.lemmas.Bool.{cases_Bool, cases_eq, cases_order, eqb-false, ne_eqb, ltb-true, or_left, or_right, true≢false}
 use Rattle.std.specs.Bool.{MatchBool}
 use Rattle.std.specs.Ordering.{nat_cmp}
 use Rattle.std.specs.FinMap.{FinMap, get, insert}
+use Rattle.std.specs.FinSet.{contains}
 use Rattle.j39_id.specs.Name.{is_arbitrary}
 use Rattle.j39_id.specs.Addresses.{in_pool}
 use Rattle.j39_claim.specs.declared.item.Say.{Say}
 use Rattle.j39_claim.specs.declared.item.Say.TheVariants.{Claim, Cannot}
 use Rattle.j39_claim.specs.declared.item.Item.{Item}
 use Rattle.j39_claim.specs.declared.item.Item.TheVariants.{Told, Request}
+use Rattle.j39_claim.specs.AddressSets.{is_free}
 use Rattle.j39_claim.specs.ClaimRule.{PlannedUnit, ClaimState, Answers, Moves, GivesUp, IsFree, holds_address, claim_of}
 use Rattle.j39_world.specs.Claimants.{unit_at}
 use Rattle.j39_laws.proofs.Addresses.CleanUnits.{IsClean, needs_pool}
@@ -39,7 +41,7 @@ noted_more units u v a notes inside other own old n b is =
       | inl same ↦
           let e : Some a ≡ Some b = sym (inserted_here notes m a) ∙ ap (get (insert notes m a)) (sym same) ∙ is in
           let same_address : a ≡ b = cc in
-          record { place = u; inside = inside; other = other; name = sym same; own = λ fixed. sym same_address ∙ own fixed }
+          record { place = u; inside = inside; other = other; name = sym same; own = subst (IsOwn (unit_at units u)) same_address own }
       | inr apart ↦ old n b (sym (inserted_elsewhere notes m a n apart) ∙ is)
     ]
 
@@ -68,22 +70,26 @@ no_own units clean v in_v notes all =
 pub free_left : (units : List PlannedUnit) → IsClean units → (v : ℕ) → v < length units → is_arbitrary (unit_at units v).name ≡ true
     → (s : ClaimState) → AllNoted units v s.notes → (b : ℕ) × IsFree (unit_at units v) s b
 free_left units clean v in_v arbitrary s all =
-    let (b, ok, left) = one_left s.notes units v clean.room in_v
-    (or_left (is_arbitrary (unit_at units v).name) (in_pool (unit_at units v).preferred) arbitrary) (no_own units clean v in_v s.notes all) in (
+    let p : PlannedUnit = unit_at units v in
+    let needs_one : needs_pool p ≡ true = or_left (is_arbitrary p.name) (in_pool p.preferred && is_free p.kept p.preferred) arbitrary in
+    let (b, ok, free, left) = one_left clean.kept_free s.notes units v clean.room in_v needs_one (no_own units clean v in_v s.notes all) in
+    let unkept : (u : ℕ) → u < length units → contains (unit_at units u).kept b ≡ false = λ u inside. ap (λ k. contains k b) (clean.kept u inside) ∙ free in (
       b,
       record {
         pool = ok;
         unnoted = λ n is. let known = all n b is in
-            left known.place known.inside (needs (unit_at units known.place) b known.own ok) (ap (λ m. get s.notes m) known.name ∙ is);
-        unkept = clean.unkept v b in_v;
+            left known.place known.inside (needs (unit_at units known.place) b known.own ok (unkept known.place known.inside))
+            (ap (λ m. get s.notes m) known.name ∙ is);
+        unkept = unkept v in_v;
       },
     )
   where
-    needs : (p : PlannedUnit) (b : ℕ) → IsOwn p b → in_pool b ≡ true → needs_pool p ≡ true
-    needs p b own ok =
+    needs : (p : PlannedUnit) (b : ℕ) → IsOwn p b → in_pool b ≡ true → contains p.kept b ≡ false → needs_pool p ≡ true
+    needs p b own ok free =
+        let has : Bool = in_pool p.preferred && is_free p.kept p.preferred in
         elim (cases_Bool (is_arbitrary p.name)) [
-          | inl free ↦ or_left (is_arbitrary p.name) (in_pool p.preferred) free
-          | inr fixed ↦ or_right (is_arbitrary p.name) (in_pool p.preferred) (ap in_pool (sym (own fixed)) ∙ ok)
+          | inl arbitrary ↦ or_left (is_arbitrary p.name) has arbitrary
+          | inr fixed ↦ or_right (is_arbitrary p.name) has (ap (λ a. in_pool a && is_free p.kept a) (sym (own.fixed fixed)) ∙ rw (ok, free) refl)
         ]
 
 -- what is below a fixed NAME is fixed
@@ -100,10 +106,11 @@ module _ (units : List PlannedUnit) (clean : IsClean units) (u v : ℕ) (in_u : 
       elim lost [
         | inl moves ↦
             let (b, arbitrary, free, said, is) = moves in
+            let own_b : IsOwn (unit_at units v) b = record { fixed = λ fixed. absurd (true≢false (sym arbitrary ∙ fixed)); unkept = λ _. free.unkept } in
             record {
               on = ap (λ t. t.on) is ∙ on;
               notes = subst (λ (t : ClaimState). AllNoted units v t.notes) (sym is) known;
-              outcome = inr (b, said, ap (λ t. t.address) is, λ fixed. absurd (true≢false (sym arbitrary ∙ fixed)));
+              outcome = inr (b, said, ap (λ t. t.address) is, own_b);
             }
         | inr gives_up ↦
             let (none, said, is) = gives_up in
@@ -113,7 +120,7 @@ module _ (units : List PlannedUnit) (clean : IsClean units) (u v : ℕ) (in_u : 
                   let fixed_u = fixed_below (unit_at units u).name (unit_at units v).name below (clean.range v in_v) fixed in
                   let (b, holds, own_b) = held in
                   let same : a ≡ b = cc in
-                  addresses_differ units clean u v in_u in_v other fixed_u fixed (sym (own fixed_u) ∙ same ∙ own_b fixed)
+                  addresses_differ units clean u v in_u in_v other fixed_u fixed (sym (own.fixed fixed_u) ∙ same ∙ own_b.fixed fixed)
             ])
       ]
 
@@ -139,10 +146,9 @@ module _ (units : List PlannedUnit) (clean : IsClean units) (u v : ℕ) (in_u : 
                   a,
                   stays.0,
                   ap (λ t. t.address) stays.1 ∙ is,
-                  λ fixed.
-                      let (b, holds, own_b) = held in
+                  let (b, holds, own_b) = held in
                       let same : a ≡ b = cc in
-                      same ∙ own_b fixed,
+                      subst (IsOwn (unit_at units v)) (sym same) own_b,
                 );
               }
             ] refl

@@ -3,6 +3,8 @@ use Rattle.std.proofs.Common.{◌≡◌, ◌≢◌, ℕ, zero, suc, ◌+◌, ◌
 use Rattle.std.proofs.Common.{map, refl, sym, ap, ◌∙◌, subst, arith, Option, Some, None}
 use Rattle.std.proofs.lemmas.Bool.{MatchBool-at_true, cases_eq, and_from, and_left, and_right, cond_both, cond-true, cond-false, eq-eqb, ne_eqb}
 use Rattle.std.proofs.lemmas.Bool.{lt-ltb, true≢false}
+use Rattle.std.specs.FinSet.{FinSet}
+use Rattle.std.specs.Ordering.{nat_cmp}
 use Rattle.std.specs.List.{list_all, range_with_len, slice_get}
 use Rattle.std.specs.Option.{is_some}
 use Rattle.j39_id.specs.Name.{is_arbitrary}
@@ -281,10 +283,11 @@ module _ (plan : Plan) (l s : ℕ) (unit_l : is_unit plan l ≡ true) (unit_s : 
 
 -- ---- the units of which a finding tells
 
-found : (ps : List UnitPlan) (i : ℕ) (p : UnitPlan) → slice_get ps i ≡ Some p → (i < length ps) × (unit_at (map claimant_of ps) i ≡ claimant_of p)
-found [] i p is = absurd (cc)
-found (q ∷ ps) zero p is = let same : q ≡ p = cc in (omega arith, ap claimant_of same)
-found (q ∷ ps) (suc i) p is = let rest = found ps i p is in (omega (arith, rest.0), rest.1)
+found : (kept : FinSet nat_cmp) (ps : List UnitPlan) (i : ℕ) (p : UnitPlan) → slice_get ps i ≡ Some p
+    → (i < length ps) × (unit_at (map (claimant_of kept) ps) i ≡ claimant_of kept p)
+found kept [] i p is = absurd (cc)
+found kept (q ∷ ps) zero p is = let same : q ≡ p = cc in (omega arith, ap (claimant_of kept) same)
+found kept (q ∷ ps) (suc i) p is = let rest = found kept ps i p is in (omega (arith, rest.0), rest.1)
 
 -- of two units that are in conflict, at these places in one order or the other
 pub record AreFixedAlike (plan : Plan) (l s : ℕ) : Type 0 where
@@ -329,8 +332,8 @@ pub leaves_without_address : (plan : Plan) (finding : Finding) (steps : List Ste
     → LeavesWithoutAddress plan steps c.larger
 leaves_without_address plan finding steps c =
     let a = alike plan finding steps c in
-    let (in_l, at_l) = found plan.units.items c.larger a.one a.one_is in
-    let (in_s, at_s) = found plan.units.items c.smaller a.other a.other_is in
+    let (in_l, at_l) = found plan.keep_free plan.units.items c.larger a.one a.one_is in
+    let (in_s, at_s) = found plan.keep_free plan.units.items c.smaller a.other a.other_is in
     let unit_l : is_unit plan c.larger ≡ true = lt-ltb c.larger (count_of plan) in_l in
     let unit_s : is_unit plan c.smaller ≡ true = lt-ltb c.smaller (count_of plan) in_s in
     let fixed : is_arbitrary (unit_at (units_of plan) c.larger).name ≡ false =

@@ -20,7 +20,7 @@ unit_below : (plan : Plan) (u : ℕ) → is_unit plan u ≡ true → u < count_o
 unit_below plan u unit = ltb-true u (count_of plan) unit
 
 pub in_units : (plan : Plan) (u : ℕ) → is_unit plan u ≡ true → u < length (units_of plan)
-in_units plan u unit = let below : u < count_of plan = unit_below plan u unit in omega (arith, length-map plan.units.items claimant_of)
+in_units plan u unit = let below : u < count_of plan = unit_below plan u unit in omega (arith, length-map plan.units.items (claimant_of plan.keep_free))
 
 -- a test that all pass
 range_all : (test : ℕ → Bool) (a n : ℕ) → list_all test (range_with_len a n) ≡ true → (x : ℕ) → a ≤ x → x < a + n → test x ≡ true

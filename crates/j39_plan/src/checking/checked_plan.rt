@@ -17,10 +17,15 @@ pub struct CheckedPlan {
 }
 
 impl Model for CheckedPlan {
+    ghost use Rattle.std.specs.Coded.{codes, coded_ℕ};
+    ghost use Rattle.std.specs.FinSet as set;
+    ghost use Rattle.std.specs.Ordering.{nat_cmp};
     ghost use Rattle.j39_plan.specs.declared.plan.Plan.{Plan as Planned};
     ghost use Rattle.j39_plan.specs.Findings.{Clean};
 
     ghost Value = { Planned };
+
+    ghost coded = { Prim.hlevel (codes, set.code {R = nat_cmp} coded_ℕ) };
 
     ghost view = { λ c. c.plan };
 

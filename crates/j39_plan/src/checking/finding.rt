@@ -8,7 +8,7 @@ pub enum Finding {
     SameName(usize, usize),
     /// F2: two fixed units have one address.
     SameFixedAddress(usize, usize),
-    /// F3: this many units need an address of 128 to 247, and there are fewer.
+    /// F3: this many units need an address of 128 to 247 that isn't kept free, and there are fewer.
     TooFewAddresses(usize),
     /// F4: the group's PGN is none, or one that may not be planned.
     BadPgn(usize),
@@ -26,6 +26,8 @@ pub enum Finding {
     FlowToSelf(usize),
     /// F11: two flows have one group, sender and receiver.
     FlowRepeated(usize, usize),
+    /// F12: the arbitrary unit prefers an address that is kept free.
+    KeptAddress(usize),
 }
 
 /// Everything that is wrong with a plan, in order.

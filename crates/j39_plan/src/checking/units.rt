@@ -7,7 +7,8 @@ ghost use Rattle.j39_plan.specs.Found.{have_same_name, have_same_fixed_address, 
 use crate::checking::finding::Finding;
 use crate::checking::rules::{PairRule, find_pairs, push_if};
 use crate::plan::UnitPlan;
-use j39_id::addresses::{POOL_SIZE, is_in_pool};
+use j39_claim::AddressSet;
+use j39_id::addresses::is_in_pool;
 use std::alloc::AllocError;
 
 #[derive(Clone, Copy)]
@@ -54,28 +55,32 @@ impl PairRule<UnitPlan> for SameFixedAddress {
     }
 }
 
-// An arbitrary unit needs some address of the pool, and a fixed one keeps its own there.
-fn needs_pool_address(unit: &UnitPlan) -> bool
-    ensures { result ≡ needs_pool_address unit.now }
+// An arbitrary unit needs some address of the pool that isn't kept free, and a fixed one has its own there.
+fn needs_pool_address(kept: &AddressSet, unit: &UnitPlan) -> bool
+    ensures { result ≡ needs_pool_address kept.now unit.now }
 {
-    unit.name.is_arbitrary() || is_in_pool(unit.address.number())
+    unit.name.is_arbitrary() || is_in_pool(unit.address.number()) && !kept.has(unit.address)
 }
 
-fn needed_addresses(units: &[UnitPlan]) -> usize
-    ensures { result ≡ needed_addresses units.now }
+fn needed_addresses(kept: &AddressSet, units: &[UnitPlan]) -> usize
+    ensures { result ≡ needed_addresses kept.now units.now }
 {
-    units.iter().filter(|unit| needs_pool_address(unit)).count()
+    units
+        .iter()
+        .filter(|unit| needs_pool_address(kept, unit))
+        .count()
 }
 
-pub fn find_in_units(findings: &mut Vec<Finding>, units: &[UnitPlan]) -> Result<(), AllocError>
-    ensures { Adds result findings.old.items findings.new.items (unit_findings units.now) }
+pub fn find_in_units(
+    findings: &mut Vec<Finding>,
+    kept: &AddressSet,
+    units: &[UnitPlan],
+) -> Result<(), AllocError>
+    ensures { Adds result findings.old.items findings.new.items (unit_findings kept.now units.now) }
 {
     find_pairs(findings, &SameName, units)?;
     find_pairs(findings, &SameFixedAddress, units)?;
-    let needed = needed_addresses(units);
-    push_if(
-        findings,
-        needed > POOL_SIZE,
-        Finding::TooFewAddresses(needed),
-    )
+    let needed = needed_addresses(kept, units);
+    let room = kept.free_count();
+    push_if(findings, needed > room, Finding::TooFewAddresses(needed))
 }

@@ -14,7 +14,8 @@ pub enum Cause {
     Range,
     /// An array has more elements than are allowed.
     TooMany,
-    /// A label is that of an earlier unit, of an earlier group or of an earlier signal of its group.
+    /// A label is that of an earlier unit, of an earlier group or of an earlier signal of its group, or an address is kept
+    /// free twice.
     Repeated,
     /// A flow names no group or no unit of the plan.
     UnknownLabel,

@@ -5,6 +5,7 @@ ghost use Rattle.std.specs.Prelude.{◌≡◌};
 #[derive(Clone, Copy, Debug, PartialEq, Eq)]
 pub enum Key {
     Version,
+    KeepFree,
     Unit,
     Group,
     Flow,
@@ -45,6 +46,7 @@ impl Key {
     {
         match self {
             Key::Version => "version",
+            Key::KeepFree => "keep_free",
             Key::Unit => "unit",
             Key::Group => "group",
             Key::Flow => "flow",

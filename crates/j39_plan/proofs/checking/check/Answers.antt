@@ -3,7 +3,7 @@ use Rattle.j39_plan.specs.declared.checking.finding.Finding.{Finding}
 use Rattle.j39_plan.specs.Findings.{AreFindings}
 use Rattle.j39_plan.specs.Found.{found}
 use Rattle.j39_plan.proofs.FoundLaws.{are_findings}
-use Rattle.j39_plan.proofs.AddingLemmas.{on_err, answers_clean, units_some, groups_some, signals_some, flows_some}
+use Rattle.j39_plan.proofs.AddingLemmas.{on_err, answers_clean, units_some, groups_some, signals_some, flows_some, kept_some}
 use Rattle.j39_plan.proofs.checking.check.Goals as goal
 
 pub returns-in_err-find_in_units-clause-memory : goal.returns-in_err-find_in_units-clause-memory
@@ -30,6 +30,15 @@ returns-in_err-find_in_flows-clause-memory c = on_err _ _ _ c.from_residual-in_e
 pub returns-in_err-find_in_flows-clause-clean : goal.returns-in_err-find_in_flows-clause-clean
 returns-in_err-find_in_flows-clause-clean c = answers_clean c.args.plan.now _ (on_err _ _ _ c.from_residual-in_err-find_in_flows.ensures.1 (flows_some c.args.plan.now (rw (c.deref-4.ensures.value, c.deref-5.ensures.value) at c.in_err-find_in_flows.ensures)))
 
+pub returns-in_err-find_kept-clause-memory : goal.returns-in_err-find_kept-clause-memory
+returns-in_err-find_kept-clause-memory c =
+    on_err _ _ _ c.from_residual-in_err-find_kept.ensures.1 (kept_some c.args.plan.now (rw (c.deref-6.ensures.value) at c.in_err-find_kept.ensures))
+
+pub returns-in_err-find_kept-clause-clean : goal.returns-in_err-find_kept-clause-clean
+returns-in_err-find_kept-clause-clean c =
+    let some = kept_some c.args.plan.now (rw (c.deref-6.ensures.value) at c.in_err-find_kept.ensures) in
+    answers_clean c.args.plan.now _ (on_err _ _ _ c.from_residual-in_err-find_kept.ensures.1 some)
+
 pub returns-clause-list : goal.returns-clause-list
 unfolding found
 returns-clause-list c = search (rules, append_assoc)
@@ -37,6 +46,6 @@ returns-clause-list c = search (rules, append_assoc)
 pub returns-clause-exact : goal.returns-clause-exact
 unfolding found
 returns-clause-exact c =
-    let listed : c.find_in_flows.new.findings.items ≡ found c.args.plan.now = search (rules, append_assoc) in
+    let listed : c.find_kept.new.findings.items ≡ found c.args.plan.now = search (rules, append_assoc) in
     let P : List Finding → Type 0 = AreFindings c.args.plan.now in
     subst P (sym listed) (are_findings c.args.plan.now)

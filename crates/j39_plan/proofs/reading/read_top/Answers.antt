@@ -23,7 +23,7 @@ returns-in_err-flows c =
     let no_groups = rw c.in_ok-group_values.ensures.1 at c.in_ok-groups.ensures.0 in
     let told : FailsGrowing (EachGrows (λ i seen. flow_faults (group_texts c.in_ok-groups.groups.items) (unit_texts c.in_ok-units.units.items) i) NeverGrows (items_view c.in_ok-flow_values.flow_values.now)) c.in_err-flows.field-0.0 (each_faults (λ i seen. flow_faults (group_texts c.in_ok-groups.groups.items) (unit_texts c.in_ok-units.units.items) i) no_label 0 [] (items_view c.in_ok-flow_values.flow_values.now)) = rw (c.deref.ensures.value, c.deref-2.ensures.value) at c.in_err-flows.ensures in
     let fails = rw (groups, units, c.in_ok-group_values.ensures.1, c.in_ok-unit_values.ensures.1, c.in_ok-flow_values.ensures.1) at told in
-    rw (p.1, p.2, c.in_ok-only.ensures.0, c.in_ok-number.ensures.gives.0, c.in_ok-unit_values.ensures.0, c.in_ok-group_values.ensures.0, c.in_ok-flow_values.ensures.0, no_units, no_groups)
+    rw (p.1, p.2, c.in_ok-keep_free.ensures.gives.0, c.in_ok-unit_values.ensures.0, c.in_ok-group_values.ensures.0, c.in_ok-flow_values.ensures.0, no_units, no_groups)
     (fails_on _ _ c.in_err-flows.field-0.0 _ _ (λ grows. (refl, inr (refl, inr (refl, grows)))) (λ f is. is) fails)
 
 pub invariant_of-result-clause-unit_count : goal.invariant_of-result-clause-unit_count
@@ -58,8 +58,9 @@ returns c =
     let no_groups = rw c.in_ok-group_values.ensures.1 at c.in_ok-groups.ensures.0 in
     let told : (each_faults (λ i seen. flow_faults (group_texts c.in_ok-groups.groups.items) (unit_texts c.in_ok-units.units.items) i) no_label 0 [] (items_view c.in_ok-flow_values.flow_values.now) ≡ []) × Each (IsFlowOf (group_texts c.in_ok-groups.groups.items) (unit_texts c.in_ok-units.units.items)) (items_view c.in_ok-flow_values.flow_values.now) c.in_ok-flows.flows.items = rw (c.deref.ensures.value, c.deref-2.ensures.value) at c.in_ok-flows.ensures in
     let flows = rw (groups, units, c.in_ok-group_values.ensures.1, c.in_ok-unit_values.ensures.1, c.in_ok-flow_values.ensures.1) at told in (
-      rw (c.in_ok-only.ensures.0, c.in_ok-number.ensures.gives.0, c.in_ok-unit_values.ensures.0, c.in_ok-group_values.ensures.0, c.in_ok-flow_values.ensures.0, no_units, no_groups) flows.0,
+      rw (c.in_ok-keep_free.ensures.gives.0, c.in_ok-unit_values.ensures.0, c.in_ok-group_values.ensures.0, c.in_ok-flow_values.ensures.0, no_units, no_groups) flows.0,
       record {
+        has_keep_free = c.in_ok-keep_free.ensures.gives.1;
         has_units = rw c.in_ok-unit_values.ensures.1 at c.in_ok-units.ensures.1;
         has_groups = rw c.in_ok-group_values.ensures.1 at c.in_ok-groups.ensures.1;
         has_flows = flows.1;

@@ -13,5 +13,5 @@ returns-in_err-find_pairs-2 c = refuses _ _ _ _ _ c.from_residual-in_err-find_pa
 pub returns : goal.returns
 unfolding unit_findings
 returns c =
-    let counted = rw c.needed_addresses-needed.ensures at c.push_if.ensures in
+    let counted = rw (c.needed_addresses-needed.ensures, c.free_count-room.ensures) at c.push_if.ensures in
     adds_behind _ _ _ _ _ _ c.in_ok-find_pairs.ensures (adds_behind _ _ _ _ _ _ c.in_ok-find_pairs-2.ensures counted)
