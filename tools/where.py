@@ -24,6 +24,7 @@ KEYS = {
     "F7": ("signal", "byte", "the signal ends behind the group's length"),
     "F9": ("flow", "to", "a frame of this group goes to all"),
     "F10": ("flow", "to", "the sender itself"),
+    "F12": ("unit", "address", "kept free: a unit with arbitrary = true may not hold it"),
 }
 
 
@@ -51,7 +52,10 @@ class Plan:
     def listed(self, place):
         """The keys that the table at a place may have, with what the schema says of each."""
         names = [part for part in place if isinstance(part, str)]
-        return (self.schema["definitions"][names[-1]] if names else self.schema)["properties"]
+        listed = (self.schema["definitions"][names[-1]] if names else self.schema)["properties"]
+        if names or self.places.spelled.get(("version",)) == "2":
+            return listed
+        return {key: rule for key, rule in listed.items() if key != "keep_free"}
 
     def tables_with(self, key):
         """The tables that may have a key."""
@@ -68,6 +72,8 @@ class Plan:
             return f"{rule['type']} {rule['const']}"
         if "minimum" in rule:
             return f"{rule['type']} {rule['minimum']}..{rule['maximum']}"
+        if rule.get("items", {}).get("type") == "integer":
+            return f"an array of integers {rule['items']['minimum']}..{rule['items']['maximum']}, each once"
         kinds = {"array": "an array of tables", "object": "a table", "boolean": "true or false"}
         return kinds.get(rule.get("type")) or f"a text, {rule['description']}"
 
@@ -104,10 +110,27 @@ def unknown_key(plan, place):
     for key in plan.places.keys(place):
         if key in listed:
             continue
+        if place == () and key == "keep_free":
+            return plan.line((key,)), "key keep_free: only with version = 2"
         tables = plan.tables_with(key)
         hint = likely(key, listed) or (f" belongs to {' or '.join(tables)}" if tables else " isn't listed")
         return plan.line(place + (key,)), f"key {key}{hint}"
     return plan.line(place), None
+
+
+def kept_fault(plan, key):
+    """The place in an array of addresses of the first that is out of range or there twice, if one is."""
+    spelled, at, seen = plan.places.spelled, 1, set()
+    while (key, at) in spelled:
+        try:
+            number = int(spelled[key, at], 0)
+        except ValueError:
+            return (at,)
+        if number in seen or number not in range(128, 248):
+            return (at,)
+        seen.add(number)
+        at += 1
+    return ()
 
 
 def value_fault(plan, place, key, cause):
@@ -115,6 +138,8 @@ def value_fault(plan, place, key, cause):
     if cause == "TooMany":
         most = plan.listed(place)[key]["maxItems"]
         return plan.line(place + (key, most + 1)), f"key {key}: at most {most}"
+    if key == "keep_free":
+        return plan.line(place + (key,) + kept_fault(plan, key)), f"key {key}: {plan.wanted(place, key)}"
     spelled = plan.places.spelled.get(place + (key,), "")
     shown = f"{key} = {spelled}" if 0 < len(spelled) < 50 and "\n" not in spelled else f"key {key}"
     return plan.line(place + (key,)), f"{shown}: {plan.wanted(place, key)}"
@@ -145,7 +170,7 @@ def refusal(plan, data, line):
         return plan.line(place), "a table is wanted"
     if cause == "Missing":
         return plan.line(place), f"key {key} isn't there: {plan.wanted(place, key)}"
-    if cause in ("Repeated", "UnknownLabel"):
+    if cause in ("Repeated", "UnknownLabel") and key != "keep_free":
         return label_fault(plan, place, key, cause)
     return value_fault(plan, place, key, cause)
 
@@ -155,6 +180,8 @@ def of_one(plan, number, words):
     kind, key, hint = KEYS[number]
     if kind == "flow":
         place = ("flow", int(words[0]))
+    elif kind == "unit":
+        place = plan.labelled(("unit",), words[0])
     else:
         place = plan.labelled(("group",), words[0])
         if kind == "signal":
@@ -179,7 +206,7 @@ def finding(plan, line):
     """Line and hint of a finding."""
     number, _, *words = line.split()
     if number == "F3":
-        return plan.line(("unit", 1)), "units with arbitrary = true, and others at 128..247"
+        return plan.line(("unit", 1)), "units with arbitrary = true, and others at addresses of 128..247 that aren't kept free"
     if number in KEYS:
         return of_one(plan, number, words)
     return of_two(plan, number, words)

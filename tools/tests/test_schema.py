@@ -48,6 +48,9 @@ class Schema(InFolder):
                 self.assertEqual((rule["minimum"], rule["maximum"]), tuple(map(int, found.groups())), (table, key))
             elif found := re.match(r"array of tables, at most (\d+)", kind):
                 self.assertEqual(rule["maxItems"], int(found.group(1)), (table, key))
+            elif found := re.match(r"array of at most (\d+) integers (\d+)\.\.(\d+), each once", kind):
+                bounds = (rule["maxItems"], rule["items"]["minimum"], rule["items"]["maximum"])
+                self.assertEqual((bounds, rule["uniqueItems"]), (tuple(map(int, found.groups())), True), (table, key))
             elif words := re.findall(r'`"(\w+)"`', kind):
                 self.assertEqual(rule["enum"], words, (table, key))
 
@@ -81,6 +84,16 @@ class Validated(InFolder):
         for plan, refused in shown_refusals():
             if not refused.startswith(tuple(f"refused {word}" for word in UNSAID)):
                 self.assertNotEqual(self.faults(plan), [], plan)
+
+    def test_it_agrees_with_the_program_on_the_addresses_kept_free(self):
+        for head in (
+            "version = 1\nkeep_free = []", "version = 2\nkeep_free = []", "version = 3", "version = 2", "keep_free = []",
+            "version = 2\nkeep_free = 128", "version = 2\nkeep_free = [127]", "version = 2\nkeep_free = [128, 247]",
+            "version = 2\nkeep_free = [248]", "version = 2\nkeep_free = [128, 128]", 'version = 2\nkeep_free = ["128"]',
+            f"version = 2\nkeep_free = {list(range(128, 248))}", f"version = 2\nkeep_free = {list(range(128, 249))}",
+        ):
+            status, _ = program.call(["check", self.write("plan.toml", head + "\n")])
+            self.assertEqual(self.faults(head) == [], status != 2, head)
 
     def test_it_agrees_with_the_program_on_each_bound(self):
         plan = {

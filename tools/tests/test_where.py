@@ -40,6 +40,7 @@ class Where(InFolder):
             ("f07_signal_outside", "byte = 8", "key byte"),
             ("f09_flow_to_one", 'to = "CLUSTER"', "key to"),
             ("f10_flow_to_self", 'to = "ENGINE"', "key to"),
+            ("f12_kept_address", "address = 240", "key address"),
         ]:
             plan = example(f"findings/{name}.toml")
             status, answer, _ = run("where.py", plan)
@@ -75,7 +76,7 @@ class Where(InFolder):
         self.assertEqual(self.answer(plan)[1][0], "12: F8 SignalOverlap G S T  (shares a bit with S at line 7)")
 
     def test_each_shown_refusal_has_its_line(self):
-        lines = [4, 2, 3, 9, 3, 11, 3, 2, 5, 4, 15, 9, 16]
+        lines = [4, 2, 3, 9, 2, 3, 11, 3, 2, 5, 4, 15, 9, 2, 16]
         shown = shown_refusals()
         self.assertEqual(len(shown), len(lines))
         for (plan, refused), line in zip(shown, lines):
@@ -114,6 +115,19 @@ class Where(InFolder):
     def test_too_many(self):
         plan = "version = 1\n" + "".join(UNIT.format(f"U{n}", n % 100, n) for n in range(129))
         self.assertEqual(self.answer(plan)[1], ["514: refused TooMany top key unit  (key unit: at most 128)"])
+
+    def test_addresses_that_are_kept_free(self):
+        plan = "version = 2\nkeep_free = [\n  240,\n  241,\n  {},\n]\n"
+        wanted = "(key keep_free: an array of integers 128..247, each once)"
+        for element, cause in (("240", "Repeated"), ("127", "Range"), ('"242"', "WrongType")):
+            answer = [f"5: refused {cause} top key keep_free  {wanted}"]
+            self.assertEqual(self.answer(plan.format(element)), (2, answer))
+        self.assertEqual(self.answer("version = 2\nkeep_free = 240\n"), (2, [f"2: refused WrongType top key keep_free  {wanted}"]))
+        hint = "(key keep_free: only with version = 2)"
+        self.assertEqual(self.answer("version = 1\nkeep_free = []\n"), (2, [f"2: refused UnknownKey top  {hint}"]))
+        unit = UNIT.format("A", 241, 1).replace("identity = 1", "identity = 1, arbitrary = true")
+        hint = "(key address: kept free: a unit with arbitrary = true may not hold it)"
+        self.assertEqual(self.answer(plan.format("242") + unit)[1][0], f"9: F12 KeptAddress A 241  {hint}")
 
     def test_bytes_that_are_no_text(self):
         with open(self.path("plan.toml"), "wb") as file:
