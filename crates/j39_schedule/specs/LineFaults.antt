@@ -1,19 +1,14 @@
--- Why a line of a schedule can't be read: what each fault says on its own, and which of them is told.
-use Rattle.std.specs.Prelude.{◌≡◌, ◌↔◌, ℕ, ◌<◌, ◌==◌, ◌||◌, not, Bool, true, false, List, [], ◌∷◌, length, is_some, Some, None, Err, IsErr}
+-- Why a line of a schedule can't be read.
+use Rattle.std.specs.Prelude.{◌≡◌, ℕ, ◌==◌, ◌||◌, not, Bool, true, if◌then◌else◌, List, [], ◌∷◌, length, take, drop, Option, Some, None, is_none, is_err}
 use Rattle.std.specs.List.{list_any}
+use Rattle.std.specs.Result.{result_err}
 use Rattle.hex.specs.Hex.{decode_of}
+use Rattle.j39_id.specs.FirstFault.{first_fault}
 use Rattle.j39_id.specs.Lines.{Line, Long, Short}
 use Rattle.j39_plan.specs.declared.plan.Plan.{Plan}
 use Rattle.j39_schedule.specs.Schedule.{Order, of_unit, of_units, of_unit_or_units, of_message, begins_comment, line_order, number_of, order_named, unit_named, words_of}
 use Rattle.j39_schedule.specs.declared.line_fault.LineFault.{LineFault}
 use Rattle.j39_schedule.specs.declared.line_fault.LineFault.TheVariants.{LongLine, UnknownWord, WordCount, UnknownLabel, BadNumber, BadHex}
-
--- the line is no comment, and has this word first and these values behind it
-pub record HasWords (line : Line) (word : List ℕ) (values : List (List ℕ)) : Type 0 where
-  pub text : List ℕ
-  pub line_is : line ≡ Short text
-  pub words_are : words_of text ≡ word ∷ values
-  pub no_comment : begins_comment word ≡ false
 
 -- how many values an order takes
 abbrev pub takes : Order → ℕ → Bool
@@ -22,44 +17,41 @@ takes (of_units step) count = count == 2
 takes (of_unit_or_units one two) count = count == 1 || count == 2
 takes of_message count = count == 2
 
--- which of them are labels
+-- which of them are labels, which a number, and which hex digits
 abbrev pub labels_in : Order → List (List ℕ) → List (List ℕ)
 labels_in of_message values = []
 labels_in order values = values
 
-abbrev pub names_none : Plan → List ℕ → Bool
-names_none plan label = not (is_some (unit_named plan label))
+abbrev pub numbers_in : Order → List (List ℕ) → List (List ℕ)
+numbers_in of_message values = take 1 values
+numbers_in order values = []
 
--- what a fault says of an order and its values
-abbrev pub BreaksValues : LineFault → Plan → Order → List (List ℕ) → Type 0
-BreaksValues WordCount plan order values = takes order (length values) ≡ false
-BreaksValues UnknownLabel plan order values = list_any (names_none plan) (labels_in order values) ≡ true
-BreaksValues BadNumber plan of_message (number ∷ values) = number_of number ≡ None
-BreaksValues BadHex plan of_message (number ∷ hex ∷ values) = IsErr (decode_of hex)
-BreaksValues _ _ _ _ = ⊥
+abbrev pub digits_in : Order → List (List ℕ) → List (List ℕ)
+digits_in of_message values = drop 1 values
+digits_in order values = []
 
--- what a fault says of a line
-abbrev pub Breaks : LineFault → Plan → Line → Type 0
-Breaks LongLine plan line = line ≡ Long
-Breaks UnknownWord plan line = (word : List ℕ) × (values : List (List ℕ)) × HasWords line word values × (order_named word ≡ None)
-Breaks fault plan line =
-    (word : List ℕ) × (values : List (List ℕ)) × (order : Order) × HasWords line word values × (order_named word ≡ Some order)
-    × BreaksValues fault plan order values
+-- the faults of an order's values, in the order in which they are looked for, each with whether it holds
+abbrev pub values_faults : Plan → Order → List (List ℕ) → List (LineFault × Bool)
+values_faults plan order values =
+    (WordCount, not (takes order (length values)))
+    ∷ (UnknownLabel, list_any (λ label. is_none (unit_named plan label)) (labels_in order values))
+    ∷ (BadNumber, list_any (λ number. is_none (number_of number)) (numbers_in order values))
+    ∷ (BadHex, list_any (λ digits. is_err (decode_of digits)) (digits_in order values))
+    ∷ []
 
--- the order in which the faults are looked for
-abbrev pub fault_rank : LineFault → ℕ
-fault_rank LongLine = 0
-fault_rank UnknownWord = 1
-fault_rank WordCount = 2
-fault_rank UnknownLabel = 3
-fault_rank BadNumber = 4
-fault_rank BadHex = 5
+abbrev pub order_faults : Plan → Option Order → List (List ℕ) → List (LineFault × Bool)
+order_faults plan None values = (UnknownWord, true) ∷ []
+order_faults plan (Some order) values = values_faults plan order values
 
--- the line has this fault, and no earlier one
-pub record IsFirstBroken (plan : Plan) (line : Line) (fault : LineFault) : Type 0 where
-  pub holds : Breaks fault plan line
-  pub first : (earlier : LineFault) → fault_rank earlier < fault_rank fault → ¬ Breaks earlier plan line
+-- a line without words and a comment have none
+abbrev pub words_faults : Plan → List (List ℕ) → List (LineFault × Bool)
+words_faults plan [] = []
+words_faults plan (word ∷ values) = if begins_comment word then [] else order_faults plan (order_named word) values
 
--- the law: the fault that is told of a line is its first
+abbrev pub line_faults : Plan → Line → List (LineFault × Bool)
+line_faults plan Long = (LongLine, true) ∷ []
+line_faults plan (Short line) = words_faults plan (words_of line)
+
+-- the law: what is told of a line is its first fault, if it has one
 abbrev pub TellsFirstFault : Type 0
-TellsFirstFault = (plan : Plan) (line : Line) (fault : LineFault) → (line_order plan line ≡ Err fault) ↔ IsFirstBroken plan line fault
+TellsFirstFault = (plan : Plan) (line : Line) → result_err (line_order plan line) ≡ first_fault (line_faults plan line)

@@ -9,7 +9,7 @@ pub fn written_steps_read_back()
     ensures steps { StepsReadBack }
 {}
 
-/// The fault that is told of a line is this one exactly where it holds of the line and no earlier one does.
+/// The fault that is told of a line is the first of its faults that holds, and none is told where none holds.
 pub fn first_fault_is_told()
     ensures { TellsFirstFault }
 {}
