@@ -19,6 +19,3 @@ pub use j39_stream::{
 pub use j39_text::{frame_text, input_text, plan_text};
 pub use orders::{Order, WordsFault};
 pub use program::run_program;
-
-#[cfg(test)]
-mod tests;

@@ -29,6 +29,3 @@ pub use ended::{Ended, UnitState};
 pub use j39_world::{BusError, StepError};
 pub use report::Report;
 pub use simulating::simulate;
-
-#[cfg(test)]
-mod tests;

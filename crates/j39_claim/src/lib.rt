@@ -10,8 +10,6 @@ mod item;
 mod laws;
 mod lowest;
 mod notes;
-#[cfg(test)]
-mod tests;
 mod upward;
 
 pub use address_set::AddressSet;

@@ -36,6 +36,3 @@ pub use name_fields::{NameError, NameField, NameFields};
 pub use pgn::Pgn;
 pub use printing::print_frame;
 pub use reading::read_frame;
-
-#[cfg(test)]
-mod tests;

@@ -40,6 +40,3 @@ pub fn check(alloc: Global, plan: &Plan) -> Result<Findings, AllocError>
     find_kept(&mut findings, &plan.keep_free, &plan.units)?;
     Ok(findings)
 }
-
-#[cfg(test)]
-mod tests;

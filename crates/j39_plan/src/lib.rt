@@ -18,6 +18,3 @@ pub use plan::{FlowPlan, GroupPlan, Plan, To, UnitPlan, Way};
 pub use planned_groups::{GroupFault, layout_of};
 pub use reading::{Cause, Fault, Key, Place, PlanError, Table, read_plan};
 pub use steps::Step;
-
-#[cfg(test)]
-mod tests;

@@ -10,8 +10,6 @@ mod payload;
 mod scaling;
 mod signal;
 mod state;
-#[cfg(test)]
-mod tests;
 mod write_error;
 
 pub use kind::Kind;

@@ -15,6 +15,3 @@ pub use message::Message;
 pub use packet::{Packet, PacketError, Size, from_cm, from_dt, known_ranges, to_data};
 pub use receiving::{Heard, Receiver};
 pub use sending::{Busy, Dest, Outcome, Phase, Reaction, Sender};
-
-#[cfg(test)]
-mod tests;

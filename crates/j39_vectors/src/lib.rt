@@ -13,8 +13,20 @@ pub use rows::{
 };
 
 #[cfg(test)]
+mod buses;
+#[cfg(test)]
 mod choosers;
+#[cfg(test)]
+mod claims;
 #[cfg(test)]
 mod groups;
 #[cfg(test)]
+mod identifiers;
+#[cfg(test)]
+mod plans;
+#[cfg(test)]
 mod signals;
+#[cfg(test)]
+mod transfers;
+#[cfg(test)]
+mod words;

@@ -1,6 +1,7 @@
 //! Signals and layouts on worked payloads.
 use crate::groups::{Laid, Row, ccvs, eec1, et1, hours, signals, vd};
-use j39_signal::{Kind, Layout, LayoutError, State, WriteError};
+use j39_id::Label;
+use j39_signal::{Kind, Layout, LayoutError, Signal, State, WriteError};
 use std::test::Fail;
 
 #[test]
@@ -128,5 +129,69 @@ fn discrete_signals_of_one_byte_stand_alone(rt: HostRuntime) -> Result<(), Fail>
     assert_eq!(rt; group.read("SPN595")?, State::Value(1));
     assert_eq!(rt; group.read("SPN597")?, State::Value(0));
     assert_eq!(rt; group.read("SPN70")?, State::Absent);
+    Ok(())
+}
+
+fn wide(start: u16, bits: u8, kind: Kind) -> Result<Signal, Fail> {
+    let label = Label::from("SPN110").ok().ok_or("a long label")?;
+    let unit = Label::from("degC").ok().ok_or("a long unit")?;
+    Ok(Signal::new(label, start, bits, kind, 2, -40, unit).ok_or("no signal")?)
+}
+
+#[test]
+fn parts_are_read_as_given(rt: HostRuntime) -> Result<(), Fail> {
+    let signal = wide(8, 16, Kind::Measured)?;
+    let texts = (signal.label().as_str(), signal.unit().as_str());
+    assert_eq!(rt; texts, ("SPN110", "degC"));
+    assert_eq!(rt; (signal.start(), signal.bits()), (8, 16));
+    assert_eq!(rt; (signal.step(), signal.offset()), (2, -40));
+    assert_eq!(rt; signal.kind(), Kind::Measured);
+    assert!(rt; signal.width_fits() && signal.is_inside(3) && !signal.is_inside(2));
+    Ok(())
+}
+
+#[test]
+fn signals_share_a_bit_where_they_overlap(rt: HostRuntime) -> Result<(), Fail> {
+    let (low, high) = (wide(0, 4, Kind::Raw)?, wide(4, 4, Kind::Raw)?);
+    let middle = wide(3, 2, Kind::Discrete)?;
+    let shared = (
+        low.shares_bit(&high),
+        low.shares_bit(&middle),
+        middle.shares_bit(&high),
+    );
+    assert_eq!(rt; shared, (false, true, true));
+    Ok(())
+}
+
+#[test]
+fn the_longest_payload_is_laid_out(rt: HostRuntime) -> Result<(), Fail> {
+    let last = [wide(14272, 8, Kind::Raw)?];
+    for (length, refusal) in [
+        (1785, None),
+        (1786, Some(LayoutError::Length)),
+        (1784, Some(LayoutError::Outside(0))),
+    ] {
+        assert_eq!(rt; Layout::new(rt.alloc(), length, &last).err(), refusal);
+    }
+    Ok(())
+}
+
+#[test]
+fn a_signal_is_given_up(rt: HostRuntime) -> Result<(), Fail> {
+    let layout = Layout::new(rt.alloc(), 1, &[wide(0, 8, Kind::Measured)?])?;
+    assert_eq!(rt; (layout.length(), layout.count()), (1, 1));
+    let mut payload = layout.blank(rt.alloc())?;
+    assert_eq!(rt; layout.write(&mut payload, 0, 10), Ok(()));
+    layout.write_absent(&mut payload, 0);
+    assert_eq!(rt; layout.read(&payload, 0), State::Absent);
+    Ok(())
+}
+
+#[test]
+fn faults_have_texts(rt: HostRuntime) -> Result<(), Fail> {
+    let overlap = format!(in rt.alloc(); "{}", LayoutError::Overlap(1, 2))?;
+    assert_eq!(rt; overlap.as_str(), "signals 1 and 2 share a bit");
+    let step = format!(in rt.alloc(); "{}", WriteError::NotOnStep)?;
+    assert_eq!(rt; step.as_str(), "the value is not on a step");
     Ok(())
 }

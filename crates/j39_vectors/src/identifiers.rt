@@ -1,13 +1,13 @@
 //! Worked examples of identifiers, NAMEs, frame lines and the lines of a stream.
 ghost use Rattle.std.specs.Prelude.{◌<◌};
 
-use crate::addresses::{GLOBAL_ADDRESS, NULL_ADDRESS, is_in_pool};
-use crate::{
+use arrayvec::ArrayVec;
+use j39_id::addresses::{GLOBAL_ADDRESS, NULL_ADDRESS, is_in_pool};
+use j39_id::{
     Address, Cut, Cutter, Frame, Ident, Label, LineError, Name, NameError, NameField, NameFields,
     Pgn, a_cutter_tells_the_lines, canonical_text_spells, names_and_bytes_are_inverse, one_reading,
     print_frame, read_frame, services,
 };
-use arrayvec::ArrayVec;
 use std::test::Fail;
 
 #[test]

@@ -1,0 +1,199 @@
+//! Plans as they are read and checked.
+use j39_plan::{
+    Cause, Finding, FlowPlan, GroupPlan, Key, Refused, RefusedCause, Step, To, UnitPlan, Way,
+    bad_run, checked, read_plan,
+};
+use j39_signal::{Kind, Signal};
+use std::process::Abort;
+use std::test::Fail;
+
+const NETWORK: &[u8] = b"version = 1
+
+[[unit]]
+label = \"A\"
+address = 0
+name = { identity = 1 }
+
+[[unit]]
+label = \"B\"
+address = 200
+chooser = \"upward\"
+window = 2
+name = { identity = 2, manufacturer = 100, ecu = 1, function_instance = 2, function = 3, system = 4, system_instance = 5, industry = 1, arbitrary = true }
+
+[[group]]
+label = \"ET1\"
+pgn = 65262
+priority = 6
+length = 8
+
+[[group.signal]]
+label = \"SPN110\"
+byte = 1
+bits = 8
+kind = \"measured\"
+offset = -40
+unit = \"degC\"
+
+[[group.signal]]
+label = \"SPN595\"
+byte = 4
+bit = 3
+bits = 2
+kind = \"discrete\"
+step = 5
+
+[[flow]]
+group = \"ET1\"
+from = \"B\"
+to = \"all\"
+
+[[flow]]
+group = \"ET1\"
+from = \"A\"
+to = \"B\"
+";
+
+// Two fixed units at one address, and one more of the second's NAME.
+const SHARED: &[u8] = b"version = 1
+
+[[unit]]
+label = \"A\"
+address = 0
+name = { identity = 1 }
+
+[[unit]]
+label = \"B\"
+address = 0
+name = { identity = 2 }
+
+[[unit]]
+label = \"C\"
+address = 0
+name = { identity = 2 }
+";
+
+fn is_unit(
+    rt: &impl Abort,
+    unit: &UnitPlan,
+    label: &str,
+    address: u8,
+    way: Way,
+    window: u8,
+    name: u64,
+) {
+    assert_eq!(rt; unit.label.as_str(), label);
+    assert_eq!(rt; (unit.address.number(), unit.window), (address, window));
+    assert_eq!(rt; unit.way, way);
+    assert_eq!(rt; unit.name.to_bits(), name);
+}
+
+fn is_signal(
+    rt: &impl Abort,
+    signal: &Signal,
+    label: &str,
+    place: (u16, u8),
+    kind: Kind,
+    scale: (i64, i64),
+    unit: &str,
+) {
+    assert_eq!(rt; signal.label().as_str(), label);
+    assert_eq!(rt; (signal.start(), signal.bits()), place);
+    assert_eq!(rt; signal.kind(), kind);
+    assert_eq!(rt; (signal.step(), signal.offset()), scale);
+    assert_eq!(rt; signal.unit().as_str(), unit);
+}
+
+fn is_temperature(rt: &impl Abort, group: &GroupPlan) -> Result<(), Fail> {
+    assert_eq!(rt; group.label.as_str(), "ET1");
+    assert_eq!(rt; (group.pgn, group.priority, group.length), (65262, 6, 8));
+    let [first, second] = group.signals.as_slice() else {
+        return Err("not two signals").map_err(Fail::from);
+    };
+    is_signal(
+        rt,
+        first,
+        "SPN110",
+        (0, 8),
+        Kind::Measured,
+        (1, -40),
+        "degC",
+    );
+    is_signal(rt, second, "SPN595", (26, 2), Kind::Discrete, (5, 0), "");
+    Ok(())
+}
+
+#[test]
+fn a_network_is_read_whole(rt: HostRuntime) -> Result<(), Fail> {
+    let plan = read_plan(rt.alloc(), NETWORK)?;
+    let ([first, second], [group]) = (plan.units.as_slice(), plan.groups.as_slice()) else {
+        return Err("not two units and a group").map_err(Fail::from);
+    };
+    is_unit(&rt, first, "A", 0, Way::Lowest, 255, 1);
+    is_unit(&rt, second, "B", 200, Way::Upward, 2, 0x9508_0311_0c80_0002);
+    is_temperature(&rt, group)?;
+    let to_all = FlowPlan {
+        group: 0,
+        sender: 1,
+        to: To::All,
+    };
+    let to_one = FlowPlan {
+        group: 0,
+        sender: 0,
+        to: To::One(1),
+    };
+    assert!(rt; plan.flows.as_slice() == [to_all, to_one].as_slice());
+    Ok(())
+}
+
+#[test]
+fn a_clean_plan_is_checked(rt: HostRuntime) -> Result<(), Fail> {
+    let file = b"version = 1\n[[unit]]\nlabel = \"A\"\naddress = 0\nname = { identity = 1 }\n";
+    match checked(rt.alloc(), read_plan(rt.alloc(), file)?) {
+        Ok(checked) => assert_eq!(rt; checked.plan().units.len(), 1),
+        Err(_) => Err("it is refused")?,
+    }
+    Ok(())
+}
+
+#[test]
+fn a_plan_with_findings_is_handed_back(rt: HostRuntime) -> Result<(), Fail> {
+    let refused = checked(rt.alloc(), read_plan(rt.alloc(), SHARED)?).err();
+    let Refused { plan, cause } = refused.ok_or("it is not refused")?;
+    assert_eq!(rt; plan.units.len(), 3);
+    let RefusedCause::Findings(findings) = cause else {
+        return Err("no memory").map_err(Fail::from);
+    };
+    let expected = [
+        Finding::SameName(1, 2),
+        Finding::SameFixedAddress(0, 1),
+        Finding::SameFixedAddress(0, 2),
+        Finding::SameFixedAddress(1, 2),
+    ];
+    assert_eq!(rt; findings.as_slice(), expected.as_slice());
+    Ok(())
+}
+
+#[test]
+fn a_conflict_is_shown_by_four_steps(rt: HostRuntime) -> Result<(), Fail> {
+    let alloc = rt.alloc();
+    let plan = read_plan(alloc, SHARED)?;
+    let steps = bad_run(alloc, &plan, &Finding::SameFixedAddress(0, 1))?;
+    let expected = [Step::Up(1), Step::Up(0), Step::Give(0, 1), Step::Give(1, 0)];
+    assert!(rt; steps.ok_or("there is no run")?.as_slice() == expected.as_slice());
+    for finding in [
+        Finding::SameFixedAddress(1, 0),
+        Finding::SameFixedAddress(1, 2),
+        Finding::SameFixedAddress(0, 3),
+        Finding::SameName(1, 2),
+    ] {
+        assert!(rt; bad_run(alloc, &plan, &finding)?.is_none());
+    }
+    Ok(())
+}
+
+#[test]
+fn causes_and_keys_have_words(rt: HostRuntime) {
+    assert_eq!(rt; Cause::UnknownLabel.word(), "UnknownLabel");
+    assert_eq!(rt; Key::FunctionInstance.word(), "function_instance");
+}
