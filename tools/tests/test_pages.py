@@ -119,6 +119,22 @@ class Names(InFolder):
         self.assertEqual(sorted(there ^ shown), [])
 
 
+    def test_numbers_of_services_have_one_home(self):
+        """The number of a group by which the network runs stands in j39_id alone, once as code and once as a definition."""
+        homes = ["crates/j39_id/specs/Services.antt", "crates/j39_id/src/services.rt"]
+        numbers = re.findall(r"= (\d{2})(\d{3})\n", text_of(os.path.join(TOP, homes[0])))
+        self.assertEqual(len(numbers), 6)
+        files = {
+            name: text_of(os.path.join(TOP, name))
+            for part in ("src", "specs")
+            for name in glob.glob(f"crates/*/{part}/**/*.*t", root_dir=TOP, recursive=True)
+            if "j39_vectors" not in name
+        }
+        for high, low in numbers:
+            number = re.compile(rf"^(?!\s*(?://|--)).*\b{high}_?{low}\b", re.MULTILINE)
+            self.assertEqual(sorted(name for name in files if number.search(files[name])), homes, high + low)
+
+
 def source_of(crate):
     """The sources of a crate; a trait's functions are as public as it is."""
     names = glob.glob(os.path.join(TOP, "crates", crate, "src", "**", "*.rt"), recursive=True)
