@@ -189,12 +189,8 @@ fn large_plan(alloc: Global, units: u8) -> Result<String, Fail> {
     Ok(text)
 }
 
-#[test]
-fn one_unit_sends_to_127(rt: HostRuntime) -> Result<(), Fail> {
-    let alloc = rt.alloc();
-    let plan = read_plan(alloc, large_plan(alloc, 128)?.as_bytes())?;
-    let choosers = choosers_of(alloc, &plan)?;
-    let mut bus = Bus::new(alloc, &plan, choosers)?;
+// All units are switched on, and each hears the claims of those after it.
+fn claims(alloc: Global) -> Result<Vec<Step>, AllocError> {
     let mut steps = Vec::new(alloc);
     for unit in 0..128 {
         steps.push(Step::Up(unit))?;
@@ -202,22 +198,35 @@ fn one_unit_sends_to_127(rt: HostRuntime) -> Result<(), Fail> {
             steps.push(Step::Give(unit, to))?;
         }
     }
+    Ok(steps)
+}
+
+// The first unit's packets are sent, and each other one takes them all.
+fn packets(alloc: Global) -> Result<Vec<Step>, AllocError> {
+    let mut steps = Vec::new(alloc);
     steps.push(Step::Begin(0, vec![in alloc; 9; 1785]?))?;
     for _ in 0..255 {
         steps.push(Step::Emit(0))?;
     }
-    for unit in 1..128 {
-        for _ in 0..256 {
-            steps.push(Step::Take(0, unit))?;
-        }
+    for place in 0..127 * 256 {
+        steps.push(Step::Take(0, 1 + place / 256))?;
     }
-    steps.push(Step::Rest(0))?;
-    assert_eq!(rt; bus.run(steps.as_slice()), Ok(()));
+    Ok(steps)
+}
+
+#[test]
+fn one_unit_sends_to_127(rt: HostRuntime) -> Result<(), Fail> {
+    let alloc = rt.alloc();
+    let plan = read_plan(alloc, large_plan(alloc, 128)?.as_bytes())?;
+    let choosers = choosers_of(alloc, &plan)?;
+    let mut bus = Bus::new(alloc, &plan, choosers)?;
+    assert_eq!(rt; bus.run(claims(alloc)?.as_slice()), Ok(()));
+    assert_eq!(rt; bus.run(packets(alloc)?.as_slice()), Ok(()));
+    assert_eq!(rt; bus.step(&Step::Rest(0)), Ok(()));
     assert_eq!(rt; (bus.reports().len(), bus.frames().len()), (127, 128 + 256));
     for (place, report) in bus.reports().iter().enumerate() {
-        assert_eq!(rt; Some(report.receiver), place.checked_add(1));
-        assert_eq!(rt; report.bytes.len(), 1785);
-        assert!(rt; report.bytes.iter().all(|byte| *byte == 9));
+        let is_whole = report.bytes.len() == 1785 && report.bytes.iter().all(|byte| *byte == 9);
+        assert!(rt; is_whole && place.checked_add(1) == Some(report.receiver));
     }
     Ok(())
 }
