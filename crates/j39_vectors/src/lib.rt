@@ -27,6 +27,8 @@ mod plans;
 #[cfg(test)]
 mod signals;
 #[cfg(test)]
+mod steps;
+#[cfg(test)]
 mod transfers;
 #[cfg(test)]
 mod words;

@@ -1,0 +1,43 @@
+//! Steps as lines of a schedule.
+
+use crate::rows::CHECK_OF_A_PLAN;
+use j39_plan::{Step, read_plan};
+use j39_schedule::write_steps;
+use j39_text::TextBuffer;
+use std::test::Fail;
+
+const LINES: &str = "  up A
+  down A
+  give A B
+  ask B
+  begin 2 00FF1A
+  emit A
+  take A B
+  lose B A
+  late A
+  late A B
+  rest A
+";
+
+#[test]
+fn each_step_has_its_line(rt: HostRuntime) -> Result<(), Fail> {
+    let alloc = rt.alloc();
+    let plan = read_plan(alloc, CHECK_OF_A_PLAN.plan.as_bytes())?;
+    let steps = vec![in alloc;
+        Step::Up(0),
+        Step::Down(0),
+        Step::Give(0, 1),
+        Step::Ask(1),
+        Step::Begin(1, vec![in alloc; 0x00, 0xFF, 0x1A]?),
+        Step::Emit(0),
+        Step::Take(0, 1),
+        Step::Lose(1, 0),
+        Step::LateSender(0),
+        Step::LateReceiver(0, 1),
+        Step::Rest(0),
+    ]?;
+    let mut text = TextBuffer::new(alloc);
+    write_steps(&mut text, &plan, steps.as_slice())?;
+    assert!(rt; text.as_slice() == LINES.as_bytes());
+    Ok(())
+}
