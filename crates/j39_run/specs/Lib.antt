@@ -1,2 +1,3 @@
-pub mod Halting
 pub mod RunText
+pub mod Views
+pub mod inside

@@ -1,5 +1,5 @@
 -- The text that the run command writes for a plan and a schedule.
-use Rattle.std.specs.Prelude.{◌≡◌, ◌⊎◌, ℕ, ◌+◌, ◌<◌, Bool, if◌then◌else◌, List, [], ◌∷◌, ◌++◌, length, map, codes, Option, Some, Err}
+use Rattle.std.specs.Prelude.{◌≡◌, ◌⊎◌, ℕ, ◌+◌, ◌<◌, Bool, if◌then◌else◌, List, [], ◌∷◌, ◌++◌, length, map, codes, Option, Some, None, Err}
 use Rattle.std.specs.List.{slice_split}
 use Rattle.hex.specs.Hex.{encode_upper}
 use Rattle.j39_id.specs.FrameLine.{canon_text}
@@ -9,20 +9,20 @@ use Rattle.j39_world.specs.declared.bus_error.BusError.{BusError}
 use Rattle.j39_world.specs.declared.bus_error.BusError.TheVariants.{ChooserCount, SameName, BadGroup, Memory}
 use Rattle.j39_world.specs.declared.step_error.StepError.{StepError}
 use Rattle.j39_world.specs.declared.step_error.StepError.TheVariants as steps
-use Rattle.j39_bus.specs.declared.ended.UnitState.{UnitState}
-use Rattle.j39_bus.specs.declared.ended.UnitState.TheVariants.{Off, NoAddress, At}
-use Rattle.j39_bus.specs.Ended.{View, Shows, steps_of}
 use Rattle.j39_world.specs.Opening.{CanOpen, IsNotOpened}
 use Rattle.j39_world.specs.Run.{refusal, RunsThrough}
 use Rattle.j39_world.specs.Sent.{Sent}
 use Rattle.j39_world.specs.Transfers.{Reported}
 use Rattle.j39_world.specs.World.{World, first}
 use Rattle.j39_text.specs.Labels.{group_text, unit_label, units_text}
-use Rattle.j39_id.specs.Lines.{is_line_feed}
+use Rattle.j39_id.specs.Lines.{at_start, is_line_feed, told}
 use Rattle.j39_schedule.specs.Schedule.{Reading, read_as, readings_of}
 use Rattle.j39_text.specs.Texts.{field, place_field}
 use Rattle.j39_schedule.specs.declared.line_fault.LineFault.{LineFault}
 use Rattle.j39_schedule.specs.declared.line_fault.LineFault.TheVariants as lines
+use Rattle.j39_run.specs.Views.{View, Shows}
+use Rattle.j39_run.specs.declared.unit_state.UnitState.{UnitState}
+use Rattle.j39_run.specs.declared.unit_state.UnitState.TheVariants.{Off, NoAddress, At}
 use Rattle.j39_run.specs.declared.halt.Halt.{Halt}
 use Rattle.j39_run.specs.declared.halt.Halt.TheVariants.{End, Step as AtStep, Line as AtLine}
 use Rattle.j39_stream.specs.declared.verdict.Verdict.{Verdict}
@@ -41,6 +41,12 @@ abbrev pub IsRefusedPlan : Plan → ℕ → List ℕ → Type 0
 IsRefusedPlan plan choosers text = (error : BusError) × IsNotOpened choosers plan error × IsPlanRefusal plan error text
 
 -- ---- where a run of the schedule ends
+
+-- the steps among orders, of which some order nothing
+abbrev pub steps_of : List (Option Step) → List Step
+steps_of [] = []
+steps_of (None ∷ orders) = steps_of orders
+steps_of (Some step ∷ orders) = step ∷ steps_of orders
 
 -- a run through the orders of these readings, with some lawful choices, comes to this world, and ends there: after all of
 -- them, at a step that is refused, or at a line that can't be read
@@ -131,18 +137,24 @@ unfoldable pub report_lines : Plan → List Reported → List ℕ
 report_lines plan [] = []
 report_lines plan (r ∷ reports) = report_line plan r ++ report_lines plan reports
 
+-- what stands behind the frames
+unfoldable pub closing_text : Plan → View → Halt → List ℕ
+closing_text plan view halt =
+    halt_lines halt ++ (unit_lines plan 0 view.units ++ (settled_line view.settled ++ report_lines plan view.reports))
+
 unfoldable pub end_text : Plan → View → Halt → List ℕ
-end_text plan view halt =
-    sent_lines view.frames ++ (halt_lines halt ++ (unit_lines plan 0 view.units
-    ++ (settled_line view.settled ++ report_lines plan view.reports)))
+end_text plan view halt = sent_lines view.frames ++ closing_text plan view halt
 
 -- ---- the text
 
+-- the text of a bus that runs the schedule, and of a run that ends so
+abbrev pub IsBusText : Plan → List ℕ → Halt → List ℕ → Type 0
+IsBusText plan bytes halt text =
+    (w : World) × (view : View) × EndsAt plan (readings_of plan bytes) w halt × Shows plan w view × (text ≡ end_text plan view halt)
+
 -- the text of a run of the schedule that ends so
 abbrev pub IsTextOf : Plan → ℕ → List ℕ → Halt → List ℕ → Type 0
-IsTextOf plan choosers bytes halt text =
-    CanOpen choosers plan
-    × ((w : World) × (view : View) × EndsAt plan (readings_of plan bytes) w halt × Shows plan w view × (text ≡ end_text plan view halt))
+IsTextOf plan choosers bytes halt text = CanOpen choosers plan × IsBusText plan bytes halt text
 
 -- what is written for a plan with this many choosers and the bytes of a schedule, with the verdict
 abbrev pub IsRunText : Plan → ℕ → List ℕ → List ℕ → Verdict → Type 0
@@ -163,3 +175,9 @@ abbrev pub IsSameForContinuations : Type 0
 IsSameForContinuations =
     (plan : Plan) (choosers : ℕ) (front more other : List ℕ) (halt : Halt) (text : List ℕ) → IsWithin (length (slice_split is_line_feed front)) halt
     → IsTextOf plan choosers (front ++ 10 ∷ more) halt text → IsTextOf plan choosers (front ++ 10 ∷ other) halt text
+
+-- so it is where a line is refused that a cutter tells of what came, be it ended or too long before it has ended
+abbrev pub IsSameOnceTold : Type 0
+IsSameOnceTold =
+    (plan : Plan) (choosers : ℕ) (front more other : List ℕ) (halt : Halt) (text : List ℕ) → IsWithin (length (told at_start front)) halt
+    → IsTextOf plan choosers (front ++ more) halt text → IsTextOf plan choosers (front ++ other) halt text

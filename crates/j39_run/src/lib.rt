@@ -1,12 +1,18 @@
 //! The run command: a schedule on a simulated bus of a plan.
 #![tactic(auto)]
 
+mod closing;
+mod feed;
 mod halt;
 mod laws;
+mod next;
 mod planned;
+mod putting;
+mod refusal;
 mod run;
 mod run_lines;
-mod run_report;
+mod running;
+mod unit_state;
 
 pub use laws::refused_lines_end_the_text;
 pub use planned::run_planned;

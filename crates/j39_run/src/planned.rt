@@ -1,5 +1,5 @@
 //! The run command with the choosers that a plan names.
-ghost use Rattle.std.specs.Prelude.{◌≡◌, ◌⊎◌, ℕ, List, length, IfOk, IsErrOf, OnOk, Some};
+ghost use Rattle.std.specs.Prelude.{◌≡◌, ◌⊎◌, ◌++◌, ℕ, List, length, IfOk, IsErrOf, OnErr, OnOk, Some};
 ghost use Rattle.std.specs.Io.KnownBytes.{Appends, Consumes, IsAtEnd};
 ghost use Rattle.j39_run.specs.RunText.{IsRunText};
 ghost use Rattle.j39_stream.specs.Streams.{AppendsPart, HasFailed, KeepsLimits, PassesLimits};
@@ -24,17 +24,17 @@ pub fn run_planned<S: Source, W: Sink>(
     // The text is that of all that the source had left at the call, however much of it was read.
     ensures whole { IfOk result (λ verdict. (all : List ℕ) → S.left source.old ≡ Some all → (text : List ℕ)
         × IsRunText plan.now (length plan.now.units.items) all text verdict × Appends (W.taken sink.old) (W.taken sink.new) text) }
-    ensures memory { IsErrOf result Fault.Memory → sink.new ≡ sink.old }
     ensures limits { OnOk result (KeepsLimits (S.left source.old) (S.left source.new) (S.pulls source.old) (S.pulls source.new)) }
-    ensures long { IsErrOf result Fault.TooLong → (sink.new ≡ sink.old)
-        × PassesLimits (S.left source.old) (S.left source.new) (S.pulls source.old) (S.pulls source.new) }
+    ensures long { IsErrOf result Fault.TooLong → PassesLimits (S.left source.old) (S.left source.new) (S.pulls source.old) (S.pulls source.new) }
 
-    // A call of the source or of the sink failed. What was written is then a prefix of what the schedule asks for.
+    // A call of the source or of the sink failed.
     ensures device { IsErrOf result Fault.Device → HasFailed (S.failures source.old) (S.failures source.new)
         ⊎ HasFailed (W.failures sink.old) (W.failures sink.new) }
-    ensures cut { IsErrOf result Fault.Device → (sink.new ≡ sink.old) ⊎ ((input : List ℕ) × (text : List ℕ) × (verdict : Verdict)
-        × Consumes (S.left source.old) (S.left source.new) input
-        × IsRunText plan.now (length plan.now.units.items) input text verdict × AppendsPart (W.taken sink.old) (W.taken sink.new) text) }
+
+    // What was written is then a prefix of what a schedule asks for that begins like this one.
+    ensures cut { OnErr result ((sink.new ≡ sink.old) ⊎ ((input : List ℕ) × (rest : List ℕ) × (text : List ℕ) × (verdict : Verdict)
+        × Consumes (S.left source.old) (S.left source.new) (input ++ rest)
+        × IsRunText plan.now (length plan.now.units.items) input text verdict × AppendsPart (W.taken sink.old) (W.taken sink.new) text)) }
 {
     let mut choosers: Vec<Box<dyn Choose>> = Vec::with_capacity(alloc, plan.units.len())?;
     for unit in &plan.units {

@@ -1,11 +1,15 @@
 //! The lines of a run.
-ghost use Rattle.std.specs.Prelude.{◌≡◌, ◌++◌, OnOk, map};
+ghost use Rattle.std.specs.Prelude.{◌≡◌, ◌++◌, OnOk, drop, length, map};
+ghost use Rattle.std.specs.List.{range_with_len};
+ghost use Rattle.j39_bus.specs.Stations.{station_at};
 ghost use Rattle.j39_world.specs.Sent.{sent_of};
 ghost use Rattle.j39_bus.specs.Traffic.{reported_of};
-ghost use Rattle.j39_run.specs.RunText.{end_text, halt_lines, line_cause, refused_line, report_line, report_lines, report_route, sent_line, sent_lines, settled_line, state_text, step_cause, unit_line, unit_lines};
+ghost use Rattle.j39_run.specs.Views.{unit_state};
+ghost use Rattle.j39_run.specs.RunText.{halt_lines, line_cause, refused_line, report_line, report_lines, report_route, sent_line, sent_lines, settled_line, state_text, step_cause, unit_line, unit_lines};
 
 use crate::halt::Halt;
-use j39_bus::{Ended, Report, StepError, UnitState};
+use crate::unit_state::{UnitState, state_of};
+use j39_bus::{Bus, Report, StepError};
 use j39_id::{Frame, print_frame};
 use j39_plan::Plan;
 use j39_schedule::LineFault;
@@ -20,11 +24,12 @@ fn write_frame(text: &mut TextBuffer, frame: &Frame) -> Result<(), AllocError>
     text.end_line()
 }
 
-fn write_frames(text: &mut TextBuffer, frames: &[Frame]) -> Result<(), AllocError>
-    ensures { OnOk result (text.new ≡ text.old ++ sent_lines (map sent_of frames.now)) }
+/// Writes the frames from this place on.
+pub fn write_frames(text: &mut TextBuffer, frames: &[Frame], from: usize) -> Result<(), AllocError>
+    ensures { OnOk result (text.new ≡ text.old ++ sent_lines (map sent_of (drop from frames.now))) }
 {
-    for frame in frames {
-        write_frame(text, frame)?;
+    for place in from..frames.len() {
+        write_frame(text, &frames[place])?;
     }
     Ok(())
 }
@@ -73,7 +78,7 @@ fn write_refused(text: &mut TextBuffer, place: usize, cause: &str) -> Result<(),
     text.end_line()
 }
 
-fn write_halt(text: &mut TextBuffer, halt: Halt) -> Result<(), AllocError>
+pub fn write_halt(text: &mut TextBuffer, halt: Halt) -> Result<(), AllocError>
     ensures { OnOk result (text.new ≡ text.old ++ halt_lines halt) }
 {
     match halt {
@@ -109,16 +114,17 @@ fn write_unit(
     text.end_line()
 }
 
-fn write_units(text: &mut TextBuffer, plan: &Plan, states: &[UnitState]) -> Result<(), AllocError>
-    ensures { OnOk result (text.new ≡ text.old ++ unit_lines plan.now 0 states.now) }
+pub fn write_units(text: &mut TextBuffer, plan: &Plan, bus: &Bus) -> Result<(), AllocError>
+    requires { length bus.now.units ≡ length plan.now.units.items }
+    ensures { OnOk result (text.new ≡ text.old ++ unit_lines plan.now 0 (map (λ u. unit_state (station_at bus.now.units u)) (range_with_len 0 (length plan.now.units.items)))) }
 {
-    for (unit, state) in states.iter().enumerate() {
-        write_unit(text, plan, unit, *state)?;
+    for unit in 0..plan.units.len() {
+        write_unit(text, plan, unit, state_of(bus, unit))?;
     }
     Ok(())
 }
 
-fn settled_line(settled: bool) -> &'static str
+pub fn settled_line(settled: bool) -> &'static str
     ensures { result.now ≡ settled_line settled }
 {
     if settled {
@@ -149,28 +155,15 @@ fn write_report(text: &mut TextBuffer, plan: &Plan, report: &Report) -> Result<(
     text.end_line()
 }
 
-fn write_reports(text: &mut TextBuffer, plan: &Plan, reports: &[Report]) -> Result<(), AllocError>
+pub fn write_reports(
+    text: &mut TextBuffer,
+    plan: &Plan,
+    reports: &[Report],
+) -> Result<(), AllocError>
     ensures { OnOk result (text.new ≡ text.old ++ report_lines plan.now (map reported_of reports.now)) }
 {
     for report in reports {
         write_report(text, plan, report)?;
     }
     Ok(())
-}
-
-/// Writes what is seen at the end of a run, and where it ended.
-#[tactic(auto, unfolding(crate::specs::RunText::end_text))]
-pub fn write_end(
-    text: &mut TextBuffer,
-    plan: &Plan,
-    ended: &Ended,
-    halt: Halt,
-) -> Result<(), AllocError>
-    ensures { OnOk result (text.new ≡ text.old ++ end_text plan.now ended.now halt) }
-{
-    write_frames(text, ended.frames())?;
-    write_halt(text, halt)?;
-    write_units(text, plan, ended.units())?;
-    text.word(settled_line(ended.is_settled()))?;
-    write_reports(text, plan, ended.reports())
 }

@@ -93,22 +93,6 @@ lines-append front more =
     ap (map line_of) (ap without_empty_end (split-append is_line_feed front 10 more refl) ∙ ended-parts (slice_split is_line_feed front) more)
     ∙ map-append line_of (slice_split is_line_feed front) _
 
-pub no_lines : (text : List ℕ) → length text ≡ 0 → lines text ≡ []
-unfolding lines
-no_lines [] is = refl
-no_lines (b ∷ text) is = absurd (omega arith)
-
-pub line_at : (text : List ℕ) (n : ℕ) → position is_line_feed text ≡ Some n → lines text ≡ line_of (take n text) ∷ lines (drop (n + 1) text)
-unfolding lines
-line_at text n is = ap (map line_of) (ap without_empty_end (split_at is_line_feed text n is) ∙ ended-parts (take n text ∷ []) (drop (n + 1) text))
-
-pub last_line : (text : List ℕ) → 0 < length text → position is_line_feed text ≡ None → lines text ≡ line_of text ∷ lines []
-unfolding lines
-last_line text some is =
-    let full = lt-ltb 0 (length text) some in
-    let one : without_empty_end (text ∷ []) ≡ text ∷ [] = rw full refl in
-    ap (map line_of) (ap without_empty_end (split_whole is_line_feed text is) ∙ one)
-
 -- ---- words
 
 abbrev begins_word : ℕ → Bool

@@ -5,15 +5,14 @@ mod beginning;
 mod laws;
 mod line_fault;
 mod line_words;
-mod lines;
 mod order_line;
 mod order_word;
-mod schedule;
 mod step_lines;
 mod unread;
 mod values;
 
 pub use laws::{first_fault_is_told, written_steps_read_back};
 pub use line_fault::LineFault;
-pub use schedule::{Schedule, read_schedule};
+pub use order_line::read_line;
 pub use step_lines::write_steps;
+pub use unread::Unread;

@@ -1,7 +1,7 @@
 //! Reading a line of a schedule.
 ghost use Rattle.std.specs.Prelude.{◌≡◌, None, Some, position, IfOk, IfErr};
 ghost use Rattle.std.specs.Str.{bytes_eq};
-ghost use Rattle.j39_id.specs.Lines.{line_of};
+ghost use Rattle.j39_id.specs.Lines.{Short};
 ghost use Rattle.j39_schedule.specs.Schedule.{line_order, order_of, unit_named, words_of};
 ghost use Rattle.j39_schedule.specs.Scheduling.{IsReadAs};
 ghost use Rattle.j39_schedule.specs.inside.OrderWords.{order_word};
@@ -14,9 +14,6 @@ use crate::unread::Unread;
 use crate::values::{Values, values_of};
 use j39_plan::{Plan, Step};
 use std::alloc::Global;
-
-/// The most bytes that a line may have.
-const LINE_LIMIT: usize = 8192;
 
 fn unit_place(plan: &Plan, label: &[u8]) -> Option<usize>
     ensures { result ≡ position (λ u. bytes_eq u.label.bytes label.now) plan.now.units.items }
@@ -75,14 +72,11 @@ fn order_of(
     }
 }
 
-/// What a line orders: a step, or nothing where it has no words or is a comment.
+/// What a line that isn't too long orders: a step, or nothing where it has no words or is a comment.
 #[tactic(auto, unfolding(crate::specs::Schedule::line_order, crate::specs::Schedule::words_order))]
 pub fn read_line(alloc: Global, plan: &Plan, line: &[u8]) -> Result<Option<Step>, Unread>
-    ensures { IsReadAs (line_order plan.now (line_of line.now)) result }
+    ensures { IsReadAs (line_order plan.now (Short line.now)) result }
 {
-    if line.len() > LINE_LIMIT {
-        return Err(Unread::Fault(LineFault::LongLine));
-    }
     let Some((word, values)) = next_word(line) else {
         return Ok(None);
     };

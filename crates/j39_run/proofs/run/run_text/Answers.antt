@@ -1,34 +1,38 @@
-use Rattle.std.proofs.Common.{List, ℕ, IfSome, inr, length, subst}
-use Rattle.std.proofs.KnownBytes.{Consumes-whole}
-use Rattle.j39_run.specs.RunText.{IsRunText}
+use Rattle.std.proofs.Common.{[], ◌≡◌, ◌≤◌, arith, inr, length}
+use Rattle.std.proofs.lemmas.Result.{IfErr-weaker, IfOk-weaker}
+use Rattle.j39_stream.proofs.Parts.{none_read}
+use Rattle.j39_run.proofs.Texts.{bus_text, cut_text, refused_cut, refused_text, refused_whole, whole_text}
 use Rattle.j39_run.proofs.run.run_text.Goals as goal
 
-pub returns-in_err-put_all-clause-cut : goal.returns-in_err-put_all-clause-cut
-returns-in_err-put_all-clause-cut g c err =
-    let read = c.in_ok-input.ensures.whole in
-    inr (
-      c.in_ok-input.input.items,
-      c.in_ok-text.text,
-      c.in_ok-text.verdict,
-      read.0,
-      rw c.as_slice.ensures.value at c.in_ok-text.ensures,
-      rw c.as_slice-2.ensures at c.in_err-put_all.ensures.cut,
-    )
+pub returns-in-Ok-clause-written : goal.returns-in-Ok-clause-written
+returns-in-Ok-clause-written g c =
+    IfOk-weaker c.run_bus.result _ _
+    (λ verdict ran. bus_text c.args.plan.now (length c.args.choosers.items) c.in-Ok.ensures.ok _ _ _ _ verdict ran)
+    c.run_bus.ensures.done
 
-pub returns-clause-written : goal.returns-clause-written
-returns-clause-written g c =
-    let read = c.in_ok-input.ensures.whole in (
-      c.in_ok-input.input.items,
-      c.in_ok-text.text,
-      read.0,
-      λ _. read.1,
-      rw c.as_slice.ensures.value at c.in_ok-text.ensures,
-      rw c.as_slice-2.ensures at c.in_ok-put_all.ensures.ok,
-    )
+pub returns-in-Ok-clause-whole : goal.returns-in-Ok-clause-whole
+returns-in-Ok-clause-whole g c =
+    IfOk-weaker c.run_bus.result _ _
+    (λ verdict ran. whole_text c.args.plan.now (length c.args.choosers.items) c.in-Ok.ensures.ok _ _ _ _ verdict ran)
+    c.run_bus.ensures.done
 
-pub returns-clause-whole : goal.returns-clause-whole
-returns-clause-whole g c all is =
-    let read = c.in_ok-input.ensures.whole in
-    let IsTextOf : List ℕ → Type 0 = λ bytes. IsRunText c.args.plan.now (length c.args.choosers.items) bytes c.in_ok-text.text c.in_ok-text.verdict in
-    let written : IsTextOf c.in_ok-input.input.items = rw c.as_slice.ensures.value at c.in_ok-text.ensures in
-    (c.in_ok-text.text, subst (λ left. IfSome left IsTextOf) is (Consumes-whole _ _ c.in_ok-input.input.items IsTextOf read.0 read.1 written), rw c.as_slice-2.ensures at c.in_ok-put_all.ensures.ok)
+pub returns-in-Ok-clause-cut : goal.returns-in-Ok-clause-cut
+returns-in-Ok-clause-cut g c =
+    IfErr-weaker c.run_bus.result _ _ (λ _ cut. inr (cut_text c.args.plan.now (length c.args.choosers.items) c.in-Ok.ensures.ok _ _ _ _ cut)) c.run_bus.ensures.cut
+
+pub returns-in-Err-clause-written : goal.returns-in-Err-clause-written
+returns-in-Err-clause-written g c =
+    refused_text c.args.plan.now (length c.args.choosers.items) c.in-Err.error c.in-Err.ensures.refused _ _ _ c.refuse.result c.refuse.ensures.verdict c.refuse.ensures.ok
+
+pub returns-in-Err-clause-whole : goal.returns-in-Err-clause-whole
+returns-in-Err-clause-whole g c =
+    refused_whole c.args.plan.now (length c.args.choosers.items) c.in-Err.error c.in-Err.ensures.refused _ _ _ c.refuse.result c.refuse.ensures.verdict c.refuse.ensures.ok
+
+pub returns-in-Err-clause-cut : goal.returns-in-Err-clause-cut
+returns-in-Err-clause-cut g c =
+    refused_cut c.args.plan.now (length c.args.choosers.items) c.in-Err.error c.in-Err.ensures.refused _ _ _ c.refuse.result
+    c.refuse.ensures.memory c.refuse.ensures.cut c.refuse.ensures.fits
+
+pub returns-in-Err-clause-limits : goal.returns-in-Err-clause-limits
+returns-in-Err-clause-limits g c =
+    IfOk-weaker c.refuse.result _ _ (λ _ _. ([], none_read (g.S.Source.left c.args.source.now), omega arith, (0, omega arith, omega arith))) c.refuse.ensures.verdict

@@ -1,16 +1,19 @@
-use Rattle.std.proofs.Common.{append_assoc}
-use Rattle.std.proofs.lemmas.List.{append-nil, drop_all}
+use Rattle.std.proofs.Common.{◌≡◌, ◌<◌, ◌≤◌, length, append_assoc, arith, ap}
+use Rattle.std.proofs.lemmas.List.{append-nil}
+use Rattle.j39_bus.specs.Stations.{station_at}
 use Rattle.j39_run.specs.RunText.{unit_lines}
-use Rattle.j39_run.proofs.RunLists.{units_from}
+use Rattle.j39_run.specs.Views.{unit_state}
+use Rattle.j39_run.proofs.RunLists.{no_units, units_from}
 use Rattle.j39_run.proofs.run_lines.write_units.Goals as goal
 
 pub loop-unit-preserved : goal.loop-unit-preserved
-loop-unit-preserved c =
-    let next = units_from c.args.plan.now c.args.states.now c.loop-unit.unit c.index-states-unit.result c.loop-unit-test.true in
-    rw (c.in_ok-write_unit.ensures, append_assoc, c.index-states-unit.is) (rw next at c.loop-unit.invariant)
+loop-unit-preserved g c =
+    let inside : c.loop-unit.unit < length c.args.plan.now.units.items = omega arith in
+    let next = units_from c.args.plan.now (λ u. unit_state (station_at c.args.bus.now.units u)) c.loop-unit.unit (length c.args.plan.now.units.items) inside in
+    rw (c.in_ok-write_unit.ensures, append_assoc, c.state_of.ensures) (rw next at c.loop-unit.invariant)
 
 pub returns : goal.returns
-unfolding unit_lines
-returns c =
-    let done = drop_all c.loop-unit.unit c.args.states.now c.loop-unit-test.false in
+returns g c =
+    let past : length c.args.plan.now.units.items ≤ c.loop-unit.unit = omega arith in
+    let done = no_units c.args.plan.now (λ u. unit_state (station_at c.args.bus.now.units u)) c.loop-unit.unit (length c.args.plan.now.units.items) past in
     rw (done, append-nil) at c.loop-unit.invariant

@@ -1,0 +1,161 @@
+-- What was done of a schedule, line after line, and the text of it.
+use Rattle.std.proofs.Common.{◌≡◌, ◌↔◌, IsTrue, ℕ, ◌+◌, Bool, List, [], ◌∷◌, ◌++◌, length, map, drop, refl, sym, ap, ◌∙◌, subst, arith, append_assoc, Option, Some, None, Err, true, false}
+use Rattle.std.proofs.lemmas.List.{append-nil, length-append, length-map, map-append}
+use Rattle.std.specs.Io.KnownBytes.{Appends}
+use Rattle.std.specs.List.{range_with_len}
+use Rattle.j39_id.specs.Lines.{Line, lines}
+use Rattle.j39_id.specs.declared.frame.Frame.{Frame}
+use Rattle.j39_plan.specs.declared.plan.Plan.{Plan}
+use Rattle.j39_plan.specs.declared.steps.Step.{Step}
+use Rattle.j39_world.specs.declared.step_error.StepError.{StepError}
+use Rattle.j39_bus.specs.BusState.{BusState, undelivered}
+use Rattle.j39_world.specs.Claimants.{claimant_of}
+use Rattle.j39_bus.specs.Stations.{station_at}
+use Rattle.j39_world.specs.Run.{Leads, RunsThrough, refusal}
+use Rattle.j39_world.specs.Sent.{sent_of}
+use Rattle.j39_world.specs.Sound.{IsQuiet}
+use Rattle.j39_bus.specs.Stands.{Stands}
+use Rattle.j39_world.specs.World.{Stations, World, first}
+use Rattle.j39_schedule.specs.Schedule.{Reading, line_order, read_as, readings_of}
+use Rattle.j39_schedule.specs.declared.line_fault.LineFault.{LineFault}
+use Rattle.j39_stream.specs.Streams.{AppendsPart}
+use Rattle.j39_stream.proofs.Parts.{part_after}
+use Rattle.j39_run.specs.RunText.{EndsAt, IsBusText, closing_text, end_text, sent_lines, steps_of}
+use Rattle.j39_run.specs.Views.{Shows, View, unit_state}
+use Rattle.j39_run.specs.declared.halt.Halt.{Halt}
+use Rattle.j39_run.specs.declared.halt.Halt.TheVariants.{End, Step as AtStep, Line as AtLine}
+use Rattle.j39_run.specs.inside.Doing.{HasDone}
+use Rattle.j39_run.proofs.Frames.{lines_grow}
+use Rattle.j39_run.proofs.Quiet.{quiet_test}
+
+-- ---- line after line
+
+steps-append : (os ps : List (Option Step)) → steps_of (os ++ ps) ≡ steps_of os ++ steps_of ps
+steps-append [] ps = refl
+steps-append (None ∷ os) ps = steps-append os ps
+steps-append (Some step ∷ os) ps = ap (λ (l : List Step). step ∷ l) (steps-append os ps)
+
+runs-append : (plan : Plan) (w : World) (done : List Step) (mid : World) (more : List Step) (after : World) → RunsThrough plan w done mid → RunsThrough plan mid more after → RunsThrough plan w (done ++ more) after
+runs-append plan w [] mid more after ran runs = subst (λ (v : World). RunsThrough plan v more after) ran runs
+runs-append plan w (s ∷ done) mid more after (next, may, goes, ran) runs = (next, may, goes, runs-append plan next done mid more after ran runs)
+
+pub nothing_done : (plan : Plan) (b : BusState) → Stands b plan first → HasDone plan b [] 0 [] []
+unfolding sent_lines
+nothing_done plan b s = record { orders = []; read = refl; count = refl; world = first; ran = refl; stands = s; shown = ap sent_lines s.frames }
+
+-- one more line
+one_more : (plan : Plan) (old new : BusState) (ls : List Line) (l : Line) (order : Option Step) (place : ℕ) (written text more : List ℕ) (after : World)
+    → (h : HasDone plan old ls place written text) → line_order plan l ≡ read_as order → RunsThrough plan h.world (steps_of (order ∷ [])) after → Stands new plan after
+    → written ++ more ≡ sent_lines new.frames → HasDone plan new (ls ++ l ∷ []) (place + 1) written more
+one_more plan old new ls l order place written text more after h is runs s shown = record {
+  orders = h.orders ++ order ∷ [];
+  read = map-append (line_order plan) ls (l ∷ []) ∙ ap (λ (r : List Reading). r ++ line_order plan l ∷ []) h.read ∙ ap (λ (r : Reading). map read_as h.orders ++ r ∷ []) is
+      ∙ sym (map-append read_as h.orders (order ∷ []));
+  count = length-append h.orders (order ∷ []) ∙ ap (λ (n : ℕ). n + 1) h.count;
+  world = after;
+  ran = subst (λ (steps : List Step). RunsThrough plan first steps after) (sym (steps-append h.orders (order ∷ []))) (runs-append plan first (steps_of h.orders) h.world (steps_of (order ∷ [])) after h.ran runs);
+  stands = s;
+  shown = shown;
+}
+
+pub blank_done : (plan : Plan) (b : BusState) (ls : List Line) (l : Line) (place : ℕ) (written text : List ℕ) → HasDone plan b ls place written text
+    → line_order plan l ≡ read_as None → HasDone plan b (ls ++ l ∷ []) (place + 1) written text
+blank_done plan b ls l place written text h is = one_more plan b b ls l None place written text text h.world h is refl h.stands h.shown
+
+pub step_done : (plan : Plan) (old new : BusState) (ls : List Line) (l : Line) (step : Step) (place shown : ℕ) (written text more : List ℕ) (before now : List Frame)
+    → HasDone plan old ls place written text → line_order plan l ≡ read_as (Some step)
+    → ((p : Plan) (w : World) → Stands old p w → (refusal p w step ≡ None) × ((after : World) × Leads p w step after × Stands new p after))
+    → map sent_of before ≡ old.frames → map sent_of now ≡ new.frames → shown ≡ length before → more ≡ text ++ sent_lines (map sent_of (drop shown now))
+    → HasDone plan new (ls ++ l ∷ []) (place + 1) written more
+step_done plan old new ls l step place shown written text more before now h is done had has at more_is =
+    let (allowed, (after, leads, s)) = done plan h.world h.stands in
+    let sent : List ℕ = sent_lines (map sent_of (drop shown now)) in
+    let all : written ++ more ≡ sent_lines new.frames =
+    ap (λ (t : List ℕ). written ++ t) more_is ∙ sym (append_assoc written text sent) ∙ ap (λ (t : List ℕ). t ++ sent) h.shown
+    ∙ lines_grow plan old new h.world after step before now shown h.stands leads s had has at in
+    one_more plan old new ls l (Some step) place written text more after h is (after, allowed, leads, refl) s all
+
+-- what was to be written is written
+pub put_done : (plan : Plan) (b : BusState) (ls : List Line) (place : ℕ) (written text rest : List ℕ) → rest ≡ [] → HasDone plan b ls place written text
+    → HasDone plan b ls place (written ++ text) rest
+put_done plan b ls place written text rest empty h = record {
+  orders = h.orders;
+  read = h.read;
+  count = h.count;
+  world = h.world;
+  ran = h.ran;
+  stands = h.stands;
+  shown = ap (λ (t : List ℕ). (written ++ text) ++ t) empty ∙ append-nil (written ++ text) ∙ h.shown;
+}
+
+-- ---- what is seen
+
+pub unit_count : (b : BusState) (plan : Plan) (w : World) → Stands b plan w → length b.units ≡ length plan.units.items
+unit_count b plan w s = sym (length-map b.units (λ c. c.planned)) ∙ ap length s.planned ∙ length-map plan.units.items claimant_of
+
+abbrev pub seen_of : Plan → BusState → Bool → View
+seen_of plan b settled = record {
+  frames = b.frames;
+  units = map (λ u. unit_state (station_at b.units u)) (range_with_len 0 (length plan.units.items));
+  settled = settled;
+  reports = b.traffic.reports;
+}
+
+pub shown : (plan : Plan) (b : BusState) (settled : Bool) → (IsTrue settled ↔ IsQuiet (undelivered b)) → (w : World) → Stands b plan w → Shows plan w (seen_of plan b settled)
+shown plan b settled quiet w s = record {
+  frames = sym s.frames;
+  units = ap (λ (f : Stations). map (λ u. unit_state (f u)) (range_with_len 0 (length plan.units.items))) (sym s.stations);
+  settled = subst (λ c. IsTrue settled ↔ IsQuiet c) (sym s.claims) quiet;
+  reports = sym s.reports;
+}
+
+-- there is something to be seen
+pub some_view : (plan : Plan) (b : BusState) → (view : View) × ((w : World) → Stands b plan w → Shows plan w view)
+some_view plan b = let (settled, quiet) = quiet_test b in (seen_of plan b settled, shown plan b settled quiet)
+
+-- ---- the text
+
+module _ (plan : Plan) (b : BusState) (ls : List Line) (place : ℕ) (written text : List ℕ) (h : HasDone plan b ls place written text) (view : View) (shows : (w : World) → Stands b plan w → Shows plan w view) where
+  written_so : (halt : Halt) → written ++ (text ++ closing_text plan view halt) ≡ end_text plan view halt
+  unfolding end_text
+  written_so halt =
+      let frames : b.frames ≡ view.frames = sym h.stands.frames ∙ sym (shows h.world h.stands).frames in
+      sym (append_assoc written text (closing_text plan view halt)) ∙ ap (λ (t : List ℕ). t ++ closing_text plan view halt) (h.shown ∙ ap sent_lines frames)
+
+  text_at : (input : List ℕ) (halt : Halt) → EndsAt plan (readings_of plan input) h.world halt → IsBusText plan input halt (written ++ (text ++ closing_text plan view halt))
+  text_at input halt ends = (h.world, view, ends, shows h.world h.stands, written_so halt)
+
+  -- all lines are done
+  pub end_done : (input : List ℕ) → ls ≡ lines input → IsBusText plan input End (written ++ (text ++ closing_text plan view End))
+  end_done input all = text_at input End (h.orders, ap (map (line_order plan)) (sym all) ∙ h.read, h.ran)
+
+  readings_at : (input : List ℕ) (l : Line) (rest : List Line) → lines input ≡ (ls ++ l ∷ []) ++ rest
+      → readings_of plan input ≡ map read_as h.orders ++ line_order plan l ∷ map (line_order plan) rest
+  readings_at input l rest is =
+      ap (map (line_order plan)) (is ∙ append_assoc ls (l ∷ []) rest) ∙ map-append (line_order plan) ls (l ∷ rest)
+      ∙ ap (λ (r : List Reading). r ++ line_order plan l ∷ map (line_order plan) rest) h.read
+
+  -- the next line can't be read
+  pub line_refused : (input : List ℕ) (l : Line) (rest : List Line) (fault : LineFault) → lines input ≡ (ls ++ l ∷ []) ++ rest → line_order plan l ≡ Err fault
+      → IsBusText plan input (AtLine place fault) (written ++ (text ++ closing_text plan view (AtLine place fault)))
+  line_refused input l rest fault is bad =
+      text_at input (AtLine place fault)
+      (h.orders, map (line_order plan) rest, readings_at input l rest is ∙ ap (λ (r : Reading). map read_as h.orders ++ r ∷ map (line_order plan) rest) bad, h.count, h.ran)
+
+  -- its step is refused
+  pub step_refused : (input : List ℕ) (l : Line) (rest : List Line) (step : Step) (cause : StepError) → lines input ≡ (ls ++ l ∷ []) ++ rest → line_order plan l ≡ read_as (Some step)
+      → ((w : World) → Stands b plan w → refusal plan w step ≡ Some cause) → IsBusText plan input (AtStep place cause) (written ++ (text ++ closing_text plan view (AtStep place cause)))
+  step_refused input l rest step cause is good refuses =
+      text_at input (AtStep place cause)
+      (h.orders, step, map (line_order plan) rest, readings_at input l rest is ∙ ap (λ (r : Reading). map read_as h.orders ++ r ∷ map (line_order plan) rest) good, h.count, h.ran, refuses h.world h.stands)
+
+-- what was written, and some first bytes of what was to be written next, are some first bytes of a text
+pub partly : (plan : Plan) (b : BusState) (ls : List Line) (place : ℕ) (written text input : List ℕ) (x y z : Option (List ℕ)) → HasDone plan b ls place written text → ls ≡ lines input
+    → Appends x y written → AppendsPart y z text → (whole : List ℕ) × IsBusText plan input End whole × AppendsPart x z whole
+partly plan b ls place written text input x y z h all first_part next_part =
+    let (view, shows) = some_view plan b in
+    let closing : List ℕ = closing_text plan view End in (
+      written ++ (text ++ closing),
+      end_done plan b ls place written text h view shows input all,
+      part_after x y z written text closing (written ++ (text ++ closing)) refl first_part next_part,
+    )

@@ -1,0 +1,146 @@
+-- How a run of a schedule ends, and what stands written where it is cut off.
+use Rattle.std.proofs.Common.{◌≡◌, ◌≢◌, ℕ, ◌+◌, List, [], ◌∷◌, ◌++◌, length, refl, sym, ap, ◌∙◌, subst, append_assoc, arith, ◌≤◌, Option, Some, Err, Ok, Result, IfOk, OnOk, OnErr}
+use Rattle.std.specs.Prelude.{IsErrOf}
+use Rattle.std.proofs.KnownBytes.{Appends-trans}
+use Rattle.std.proofs.lemmas.List.{append-nil, length-map}
+use Rattle.std.specs.Io.KnownBytes.{Appends, Consumes, IsAtEnd}
+use Rattle.j39_id.specs.Lines.{Line, lines}
+use Rattle.j39_plan.specs.declared.plan.Plan.{Plan}
+use Rattle.j39_plan.specs.declared.steps.Step.{Step}
+use Rattle.j39_world.specs.declared.step_error.StepError.{StepError}
+use Rattle.j39_world.specs.declared.step_error.StepError.TheVariants.{Memory as NoMemory}
+use Rattle.j39_bus.specs.BusState.{BusState}
+use Rattle.j39_world.specs.Run.{cause_of, refusal}
+use Rattle.j39_bus.specs.Stands.{Stands}
+use Rattle.j39_world.specs.World.{World}
+use Rattle.j39_schedule.specs.Schedule.{line_order, read_as}
+use Rattle.j39_schedule.specs.declared.line_fault.LineFault.{LineFault}
+use Rattle.j39_stream.specs.Streams.{AppendsPart, KeepsLimits, input_limit}
+use Rattle.j39_stream.specs.declared.fault.Fault.{Fault}
+use Rattle.j39_stream.specs.declared.fault.Fault.TheVariants.{Memory, Device, TooLong}
+use Rattle.j39_stream.specs.declared.verdict.Verdict.{Verdict}
+use Rattle.j39_stream.specs.declared.verdict.Verdict.TheVariants.{Done}
+use Rattle.j39_stream.proofs.Parts.{none_taken, part_after}
+use Rattle.j39_run.specs.RunText.{IsBusText, closing_text, verdict_of}
+use Rattle.j39_run.specs.Views.{Shows, View}
+use Rattle.j39_run.specs.declared.halt.Halt.{Halt}
+use Rattle.j39_run.specs.declared.halt.Halt.TheVariants.{End, Step as AtStep, Line as AtLine}
+use Rattle.j39_run.specs.inside.Doing.{HasDone}
+use Rattle.j39_run.specs.inside.Ending.{HasRunTo}
+use Rattle.j39_run.specs.inside.Feeding.{Feeding, IsFed}
+use Rattle.j39_run.proofs.Done.{end_done, line_refused, partly, step_refused}
+use Rattle.j39_run.proofs.Reading.{BeginWith, few_lines, input_of}
+
+-- ---- answers
+
+pub both : {X E : Type 0} (r : Result X E) (A : X → Type 0) (B : Type 0) (C : X → Type 0) → IfOk r A → OnOk r B → ((x : X) → A x → B → C x) → IfOk r C
+both (Ok x) A B C a b follows = follows x a b
+both (Err e) A B C a b follows = tt
+
+pub by_fault : {X : Type 0} (r : Result X Fault) (A : Type 0) → (IsErrOf r Memory → A) → (IsErrOf r Device → A) → r ≢ Err TooLong → OnErr r A
+by_fault (Ok x) A memory device fits = tt
+by_fault (Err Memory) A memory device fits = memory refl
+by_fault (Err Device) A memory device fits = device refl
+by_fault (Err TooLong) A memory device fits = absurd (fits refl)
+
+-- what holds whatever the error
+pub on_error : {X E : Type 0} (r : Result X E) (A : Type 0) → A → OnErr r A
+on_error (Ok x) A a = tt
+on_error (Err e) A a = a
+
+pub cause_named : (e : StepError) → e ≢ NoMemory → cause_of e ≡ Some e
+cause_named NoMemory other = absurd (other refl)
+cause_named e other = refl
+
+-- ---- counts
+
+pub few_done : (plan : Plan) (b : BusState) (ls : List Line) (place : ℕ) (written text : List ℕ) → HasDone plan b ls place written text
+    → (first now : Option (List ℕ)) (p q : ℕ) (f : Feeding) (seen : List ℕ) → IsFed first now p q f seen ls → place ≤ input_limit + 1
+few_done plan b ls place written text h first now p q f seen fed =
+    let few = few_lines first now p q f seen ls fed in
+    let count = sym (length-map ls (line_order plan)) ∙ ap length h.read ∙ length-map h.orders read_as ∙ h.count in
+    omega (arith, few, count)
+
+-- ---- cut off
+
+-- what was written is some first bytes of the text of a schedule that begins like this one
+abbrev pub CutOff : Plan → Option (List ℕ) → Option (List ℕ) → Option (List ℕ) → Option (List ℕ) → Type 0
+CutOff plan old new taken_old taken_new =
+    (input : List ℕ) × (rest : List ℕ) × (text : List ℕ) × (halt : Halt) × Consumes old new (input ++ rest)
+    × IsBusText plan input halt text × AppendsPart taken_old taken_new text
+
+pub cut_off : (plan : Plan) (b : BusState) (ls : List Line) (place : ℕ) (written text : List ℕ) (first now then : Option (List ℕ)) (p q : ℕ) (f : Feeding) (seen : List ℕ) (x y z : Option (List ℕ))
+    → IsFed first now p q f seen ls → ((t : List ℕ) → Consumes first now t → (more : List ℕ) × Consumes first then (t ++ more)) → HasDone plan b ls place written text
+    → Appends x y written → AppendsPart y z text → CutOff plan first then x z
+cut_off plan b ls place written text first now then p q f seen x y z fed kept h taken part =
+    let (input, rest, consumed, is) = input_of first now then p q f seen ls fed kept in
+    let (whole, is_text, some) = partly plan b ls place written text input x y z h is taken part in
+    (input, rest, whole, End, consumed, is_text, some)
+
+-- ---- ended
+
+-- the text that a run has which ends so
+abbrev pub Closes : Plan → BusState → Halt → List ℕ → List ℕ → Option (List ℕ) → List ℕ → Type 0
+Closes plan b halt written text now input =
+    (view : View) → ((w : World) → Stands b plan w → Shows plan w view) → (more : List ℕ) → (IsAtEnd now → more ≡ [])
+    → IsBusText plan (input ++ more) halt (written ++ (text ++ closing_text plan view halt))
+
+module _ (plan : Plan) (b : BusState) (halt : Halt) (written text : List ℕ) (first now x y z : Option (List ℕ)) (input : List ℕ) (consumed : Consumes first now input)
+    (closes : Closes plan b halt written text now input) (taken : Appends x y written) (r : Result Verdict Fault) where
+  pub stopped : IfOk r (λ verdict. verdict ≡ verdict_of halt) → (verdict_of halt ≡ Done → IsAtEnd now)
+      → OnOk r ((view : View) × Appends y z (text ++ closing_text plan view halt) × ((w : World) → Stands b plan w → Shows plan w view))
+      → IfOk r (HasRunTo plan first now x z)
+  stopped judged end closed =
+      both r (λ verdict. verdict ≡ verdict_of halt) _ (HasRunTo plan first now x z) judged closed
+      (λ verdict is (view, appended, shows). record {
+        input = input;
+        text = written ++ (text ++ closing_text plan view halt);
+        halt = halt;
+        consumed = consumed;
+        written = Appends-trans x y z written (text ++ closing_text plan view halt) taken appended;
+        judged = is;
+        end = λ done. end (sym is ∙ done);
+        is_text = closes view shows;
+      })
+
+  pub stopped_short : CutOff plan first now x y → (IsErrOf r Memory → z ≡ y)
+      → (IsErrOf r Device → (view : View) × AppendsPart y z (text ++ closing_text plan view halt) × ((w : World) → Stands b plan w → Shows plan w view))
+      → r ≢ Err TooLong → OnErr r (CutOff plan first now x z)
+  stopped_short before same part fits =
+      by_fault r (CutOff plan first now x z) (λ is. subst (CutOff plan first now x) (sym (same is)) before)
+      (λ is.
+      let (view, some, shows) = part is in
+      let whole : List ℕ = written ++ (text ++ closing_text plan view halt) in
+      let none : input ++ [] ≡ input = append-nil input in (
+        input,
+        [],
+        whole,
+        halt,
+        subst (Consumes first now) (sym none) consumed,
+        subst (λ (t : List ℕ). IsBusText plan t halt whole) none (closes view shows [] (λ _. refl)),
+        part_after x y z written (text ++ closing_text plan view halt) [] whole (ap (λ (t : List ℕ). written ++ t) (sym (append-nil (text ++ closing_text plan view halt)))) taken some,
+      ))
+      fits
+
+-- at a line that can't be read
+pub closes_line : (plan : Plan) (b : BusState) (ls more : List Line) (l : Line) (place : ℕ) (written text : List ℕ) (fault : LineFault) (first now : Option (List ℕ)) (p q : ℕ)
+    → HasDone plan b ls place written text → more ≡ l ∷ [] → line_order plan l ≡ Err fault → (begins : BeginWith first now p q (ls ++ more))
+    → Closes plan b (AtLine place fault) written text now begins.0
+closes_line plan b ls more l place written text fault first now p q h is bad begins view shows behind at_end =
+    let (rest, row) = begins.3 behind at_end in
+    line_refused plan b ls place written text h view shows (begins.0 ++ behind) l rest fault (row ∙ ap (λ (m : List Line). (ls ++ m) ++ rest) is) bad
+
+-- at a line whose step is refused
+pub closes_step : (plan : Plan) (b : BusState) (ls more : List Line) (l : Line) (place : ℕ) (written text : List ℕ) (step : Step) (cause : StepError) (first now : Option (List ℕ)) (p q : ℕ)
+    → HasDone plan b ls place written text → more ≡ l ∷ [] → line_order plan l ≡ read_as (Some step) → ((w : World) → Stands b plan w → refusal plan w step ≡ Some cause)
+    → (begins : BeginWith first now p q (ls ++ more)) → Closes plan b (AtStep place cause) written text now begins.0
+closes_step plan b ls more l place written text step cause first now p q h is good refuses begins view shows behind at_end =
+    let (rest, row) = begins.3 behind at_end in
+    step_refused plan b ls place written text h view shows (begins.0 ++ behind) l rest step cause (row ∙ ap (λ (m : List Line). (ls ++ m) ++ rest) is) good refuses
+
+-- at the end
+pub closes_end : (plan : Plan) (b : BusState) (ls : List Line) (place : ℕ) (written text seen : List ℕ) (now : Option (List ℕ)) → HasDone plan b ls place written text
+    → ls ≡ lines seen → IsAtEnd now → Closes plan b End written text now seen
+closes_end plan b ls place written text seen now h all end view shows behind at_end =
+    let none : seen ++ behind ≡ seen = ap (λ (t : List ℕ). seen ++ t) (at_end end) ∙ append-nil seen in
+    subst (λ (t : List ℕ). IsBusText plan t End (written ++ (text ++ closing_text plan view End))) (sym none) (end_done plan b ls place written text h view shows seen all)

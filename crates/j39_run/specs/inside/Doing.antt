@@ -1,0 +1,21 @@
+-- How far a run of a schedule has come.
+use Rattle.std.specs.Prelude.{◌≡◌, ℕ, List, [], ◌++◌, length, map, Option}
+use Rattle.j39_id.specs.Lines.{Line}
+use Rattle.j39_plan.specs.declared.plan.Plan.{Plan}
+use Rattle.j39_plan.specs.declared.steps.Step.{Step}
+use Rattle.j39_bus.specs.BusState.{BusState}
+use Rattle.j39_world.specs.Run.{RunsThrough}
+use Rattle.j39_bus.specs.Stands.{Stands}
+use Rattle.j39_world.specs.World.{World, first}
+use Rattle.j39_schedule.specs.Schedule.{line_order, read_as}
+use Rattle.j39_run.specs.RunText.{sent_lines, steps_of}
+
+-- what these lines order was done by the bus, none of it refused; of its frames this is written, and this is to be written
+pub record HasDone (plan : Plan) (b : BusState) (ls : List Line) (place : ℕ) (written text : List ℕ) : Type 0 where
+  pub orders : List (Option Step)
+  pub read : map (line_order plan) ls ≡ map read_as orders
+  pub count : length orders ≡ place
+  pub world : World
+  pub ran : RunsThrough plan first (steps_of orders) world
+  pub stands : Stands b plan world
+  pub shown : written ++ text ≡ sent_lines b.frames
