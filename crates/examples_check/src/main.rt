@@ -3,6 +3,7 @@
 
 mod cases;
 mod outcome;
+mod pieces;
 mod rows;
 mod stage;
 

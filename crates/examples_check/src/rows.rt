@@ -4,6 +4,7 @@
 //! is a frame line. Standard error stays empty, and the status is one of the program's output.
 
 use crate::outcome::perform;
+use crate::pieces::are_as_shown;
 use crate::stage::Stage;
 use std::fs;
 use std::rt::Files;
@@ -69,7 +70,29 @@ fn words_of<R: Files + AllocGlobal>(
     Ok(words)
 }
 
-// Runs a row and says whether it wrote what is shown.
+// Whether a schedule or a log is answered so too where some bytes of it come at a time.
+fn is_shown_in_pieces<R: Files + AllocGlobal>(
+    rt: &R,
+    folder: &str,
+    kind: Kind,
+    name: &str,
+    wanted: &[u8],
+) -> Result<bool, anyhow::Error> {
+    if kind.command != "run" && kind.command != "read" {
+        return Ok(true);
+    }
+    let plan = format!(in rt.alloc(); "{folder}{}", plan_of(rt, name)?)?;
+    let input = format!(in rt.alloc(); "{folder}{name}{}", kind.ending)?;
+    Ok(are_as_shown(
+        rt.alloc(),
+        kind.command == "run",
+        fs::read(rt, plan.as_str())?.as_slice(),
+        fs::read(rt, input.as_str())?.as_slice(),
+        wanted,
+    )?)
+}
+
+// Runs a row and says whether it wrote what is shown, however its input comes.
 fn run_row<R: Files + Print + AllocGlobal>(
     rt: &R,
     folder: &str,
@@ -81,7 +104,8 @@ fn run_row<R: Files + Print + AllocGlobal>(
     let shown = format!(in rt.alloc(); "{folder}{name}{}", kind.shown)?;
     let wanted = fs::read(rt, shown.as_str())?;
     let is_as_shown = outcome.output.as_slice() == wanted.as_slice()
-        && outcome.complaints.is_empty();
+        && outcome.complaints.is_empty()
+        && is_shown_in_pieces(rt, folder, kind, name, wanted.as_slice())?;
     let answer = if is_as_shown { "as shown" } else { "other" };
     println!(rt; "{shown}: {answer}, status {}", outcome.status)?;
     Ok(())

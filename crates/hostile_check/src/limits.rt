@@ -1,7 +1,9 @@
 //! Limits of an input and of an output.
-ghost use Rattle.std.specs.Prelude.{◌<◌};
+ghost use Rattle.std.specs.Prelude.{◌<◌, ◌≤◌, length};
 
+use crate::attempt::{Given, NEVER, attempted};
 use j39_app::{Fault, Pieces, Stop, Verdict, frame_text, load};
+use j39_vectors::{Command, RUN_OF_A_BROADCAST};
 use std::alloc::{AllocError, Global};
 
 const BYTES: usize = 16_777_216;
@@ -55,5 +57,59 @@ pub fn stops_where_there_is_no_room(alloc: Global) -> Result<bool, AllocError> {
         is_answered(alloc, TEXT.len(), 1, Ok(Verdict::Done))?
             && is_answered(alloc, 6, BYTES, Err(Fault::Device))?
             && is_answered(alloc, 0, BYTES, Err(Fault::Device))?,
+    )
+}
+
+// Whether a schedule of this length that begins so, and goes on with empty lines, is answered so, and whether this is what
+// is written of it first, or all where it is too long.
+fn is_run(
+    alloc: Global,
+    first: &[u8],
+    size: usize,
+    outcome: Result<Verdict, Fault>,
+    written: &[u8],
+) -> Result<bool, AllocError>
+    requires { length first.now ≤ size }
+{
+    let mut schedule = vec![in alloc; b'\n'; size]?;
+    schedule[..first.len()].copy_from_slice(first);
+    let given = Given {
+        command: Command::Run,
+        plan: RUN_OF_A_BROADCAST.plan.as_bytes(),
+        input: schedule.as_slice(),
+    };
+    let attempt = attempted(alloc, given, 4_096, 4_096, NEVER)?;
+    let is_all = outcome != Err(Fault::TooLong) || attempt.written.len() == written.len();
+    Ok(attempt.outcome == outcome && attempt.written.starts_with(written) && is_all)
+}
+
+const UP: &[u8] = b"up A\n";
+
+const CLAIM: &[u8] = b"18EEFF00#0100000000000000\n";
+
+/// What was sent before a schedule turned out too long stays written, without what closes a run.
+pub fn keeps_what_was_sent(alloc: Global) -> Result<bool, AllocError> {
+    Ok(
+        is_run(alloc, UP, BYTES, Ok(Verdict::Done), CLAIM)?
+            && is_run(alloc, UP, BYTES + 1, Err(Fault::TooLong), CLAIM)?,
+    )
+}
+
+/// Behind a refused line nothing is read.
+pub fn stops_at_a_refused_line(alloc: Global) -> Result<bool, AllocError> {
+    Ok(
+        is_run(
+            alloc,
+            b"jump\n",
+            BYTES + 1,
+            Ok(Verdict::Unreadable),
+            b"refused line 1 UnknownWord\n",
+        )? && is_run(
+            alloc,
+            b"rest A\n",
+            BYTES + 1,
+            Ok(Verdict::Refused),
+            b"refused line 1 NotStarted\n",
+        )?,
     )
 }

@@ -41,6 +41,16 @@ fn main(rt: HostRuntime) -> Result<(), anyhow::Error> {
     )?;
     say(
         &rt,
+        "schedule that turns out too long",
+        limits::keeps_what_was_sent(alloc)?,
+    )?;
+    say(
+        &rt,
+        "schedule refused at its first line",
+        limits::stops_at_a_refused_line(alloc)?,
+    )?;
+    say(
+        &rt,
         "output of little room",
         limits::stops_where_there_is_no_room(alloc)?,
     )?;
