@@ -11,7 +11,7 @@ use crate::{
 };
 use std::env::Env;
 use std::fmt::Display;
-use std::io::{BufWriter, ErrorKind};
+use std::io::ErrorKind;
 use std::process::ExitCode;
 use std::rt::Files;
 use std::{env, fs, io};
@@ -87,12 +87,9 @@ fn perform<R: Input + Files + AllocGlobal, W: Sink>(
     }
 }
 
-// Does what the words order, on standard output.
+// Does what the words order, on standard output. Each put is handed on at once: the commands put many lines at a time.
 fn answer<R: Input + Print + Files + AllocGlobal>(rt: &R, order: &Order) -> Result<Verdict, Fault> {
-    let Ok(output) = BufWriter::new(rt.alloc(), io::writer(rt)) else {
-        return Err(Fault::Memory);
-    };
-    let mut sink = ToWrite::new(output);
+    let mut sink = ToWrite::new(io::writer(rt));
     let outcome = perform(rt, order, &mut sink);
     let flushed = sink.flush();
     let verdict = outcome?;
