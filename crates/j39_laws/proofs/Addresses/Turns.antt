@@ -1,8 +1,7 @@
 -- What a unit says to an item, and what it is then.
-use Rattle.std.proofs.Common.{◌≡◌, ◌≢◌, ℕ, ◌<◌, ◌/◌, ◌%◌, ◌^◌, Bool, true, false, ◌&&◌, ◌⊎◌, inl, inr, ltb, List, length, refl, sym, ap, ◌∙◌, subst}
-use Rattle.std.proofs.Common.{arith, Option, Some, None}
-use Rattle.std.proofs.lemmas.Bool.{cases_Bool, cases_eq, cases_order, eqb-false, ne_eqb, ltb-true, or_left, or_right, true≢false}
-use Rattle.std.specs.Bool.{MatchBool}
+use Rattle.std.proofs.Common.{◌≡◌, ◌≢◌, ℕ, ◌<◌, ◌/◌, ◌%◌, ◌^◌, true, false, ◌⊎◌, inl, inr, List, length, refl, sym, ap, ◌∙◌, subst}
+use Rattle.std.proofs.Common.{arith, ◌&&◌, Bool, Option, Some, None}
+use Rattle.std.proofs.lemmas.Bool.{cases_Bool, cases_eq, cases_order, eqb-false, ne_eqb, or_left, or_right, true≢false}
 use Rattle.std.specs.Ordering.{nat_cmp}
 use Rattle.std.specs.FinMap.{FinMap, get, insert}
 use Rattle.std.specs.FinSet.{contains}
@@ -13,12 +12,12 @@ use Rattle.j39_claim.specs.declared.item.Say.TheVariants.{Claim, Cannot}
 use Rattle.j39_claim.specs.declared.item.Item.{Item}
 use Rattle.j39_claim.specs.declared.item.Item.TheVariants.{Told, Request}
 use Rattle.j39_claim.specs.AddressSets.{is_free}
-use Rattle.j39_claim.specs.ClaimRule.{PlannedUnit, ClaimState, Answers, Moves, GivesUp, IsFree, holds_address, claim_of}
+use Rattle.j39_claim.specs.ClaimRule.{PlannedUnit, ClaimState, Answers, IsFree, claim_of}
 use Rattle.j39_world.specs.Claimants.{unit_at}
 use Rattle.j39_laws.proofs.Addresses.CleanUnits.{IsClean, needs_pool}
 use Rattle.j39_laws.proofs.Addresses.AddressInvariant.{IsOwn, IsSaid, IsHeld, AllNoted}
 use Rattle.j39_laws.proofs.Addresses.FreeAddress.{one_left}
-use Rattle.j39_laws.proofs.Addresses.Notes.{inserted_here, inserted_elsewhere, holds_address-true, holds_address-false}
+use Rattle.j39_laws.proofs.Addresses.Notes.{inserted_here, inserted_elsewhere, noted, IsLost, claim_cases}
 use Rattle.j39_laws.proofs.Runs.Units.{names_differ}
 
 -- either it says nothing and holds what it held, which the item doesn't claim, or it claims what it holds now
@@ -71,13 +70,15 @@ pub free_left : (units : List PlannedUnit) → IsClean units → (v : ℕ) → v
     → (s : ClaimState) → AllNoted units v s.notes → (b : ℕ) × IsFree (unit_at units v) s b
 free_left units clean v in_v arbitrary s all =
     let p : PlannedUnit = unit_at units v in
-    let needs_one : needs_pool p ≡ true = or_left (is_arbitrary p.name) (in_pool p.preferred && is_free p.kept p.preferred) arbitrary in
-    let (b, ok, free, left) = one_left clean.kept_free s.notes units v clean.room in_v needs_one (no_own units clean v in_v s.notes all) in
-    let unkept : (u : ℕ) → u < length units → contains (unit_at units u).kept b ≡ false = λ u inside. ap (λ k. contains k b) (clean.kept u inside) ∙ free in (
+    let needed : needs_pool p ≡ true = or_left (is_arbitrary p.name) (in_pool p.preferred && is_free p.kept p.preferred) arbitrary in
+    let (b, ok, free, left) = one_left clean.kept_free s.notes units v clean.room in_v needed (no_own units clean v in_v s.notes all) in
+    let unkept : (u : ℕ) → u < length units → contains (unit_at units u).kept b ≡ false =
+    λ u inside. ap (λ k. contains k b) (clean.kept u inside) ∙ free in (
       b,
       record {
         pool = ok;
-        unnoted = λ n is. let known = all n b is in
+        unnoted = λ n is.
+            let known = all n b is in
             left known.place known.inside (needs (unit_at units known.place) b known.own ok (unkept known.place known.inside))
             (ap (λ m. get s.notes m) known.name ∙ is);
         unkept = unkept v in_v;
@@ -98,71 +99,51 @@ fixed_below m n below range fixed = ne_eqb (m / 2 ^ 63 % 2) 1 (λ one. eqb-false
 
 module _ (units : List PlannedUnit) (clean : IsClean units) (u v : ℕ) (in_u : u < length units) (in_v : v < length units) (other : u ≢ v) (s : ClaimState)
     (held : IsHeld (unit_at units v) s.address) (all : AllNoted units v s.notes) where
+  -- what it then is, where it has noted a
+  turn_with : (a : ℕ) → IsOwn (unit_at units u) a → (says : Option Say) (new : ClaimState) → new.on ≡ s.on
+      → new.notes ≡ insert s.notes (unit_at units u).name a
+      → IsQuietTurn s (Told (Claim a)) says new ⊎ IsClaimTurn (unit_at units v) says new → Turn units v s (Told (Claim a)) says new
+  turn_with a own says new on notes outcome = record {
+    on = on;
+    notes = subst (AllNoted units v) (sym notes) (noted_more units u v a s.notes in_u other own all);
+    outcome = outcome;
+  }
+
+  -- what it holds is its own
+  own_held : (a : ℕ) → s.address ≡ Some a → IsOwn (unit_at units v) a
+  own_held a has =
+      let (b, holds, own_b) = held in
+      let same : a ≡ b = cc in
+      subst (IsOwn (unit_at units v)) (sym same) own_b
+
   -- to lose an address is to find another
-  loses : (a : ℕ) → s.address ≡ Some a → IsOwn (unit_at units u) a → (unit_at units u).name < (unit_at units v).name → (noted : ClaimState)
-      → noted.on ≡ s.on → AllNoted units v noted.notes → (says : Option Say) (new : ClaimState)
-      → (Moves (unit_at units v) noted says new ⊎ GivesUp (unit_at units v) noted says new) → Turn units v s (Told (Claim a)) says new
-  loses a has own below noted on known says new lost =
-      elim lost [
-        | inl moves ↦
-            let (b, arbitrary, free, said, is) = moves in
-            let own_b : IsOwn (unit_at units v) b = record { fixed = λ fixed. absurd (true≢false (sym arbitrary ∙ fixed)); unkept = λ _. free.unkept } in
-            record {
-              on = ap (λ t. t.on) is ∙ on;
-              notes = subst (λ (t : ClaimState). AllNoted units v t.notes) (sym is) known;
-              outcome = inr (b, said, ap (λ t. t.address) is, own_b);
-            }
-        | inr gives_up ↦
-            let (none, said, is) = gives_up in
-            absurd (elim (cases_Bool (is_arbitrary (unit_at units v).name)) [
-              | inl arbitrary ↦ let found = free_left units clean v in_v arbitrary noted known in none arbitrary found.0 found.1
-              | inr fixed ↦
-                  let fixed_u = fixed_below (unit_at units u).name (unit_at units v).name below (clean.range v in_v) fixed in
-                  let (b, holds, own_b) = held in
-                  let same : a ≡ b = cc in
-                  addresses_differ units clean u v in_u in_v other fixed_u fixed (sym (own.fixed fixed_u) ∙ same ∙ own_b.fixed fixed)
-            ])
-      ]
+  loses : (a : ℕ) → IsOwn (unit_at units u) a → (says : Option Say) (new : ClaimState) → s.address ≡ Some a
+      → (unit_at units u).name < (unit_at units v).name → IsLost (unit_at units v) s (unit_at units u).name a says new
+      → Turn units v s (Told (Claim a)) says new
+  loses a own says new has below (inl (b, arbitrary, free, said, is)) =
+      turn_with a own says new (ap (λ t. t.on) is) (ap (λ t. t.notes) is)
+      (inr (b, said, ap (λ t. t.address) is, record { fixed = λ fixed. absurd (true≢false (sym arbitrary ∙ fixed)); unkept = λ _. free.unkept }))
+  loses a own says new has below (inr (none, said, is)) =
+      let n : ℕ = (unit_at units u).name in
+      absurd (elim (cases_Bool (is_arbitrary (unit_at units v).name)) [
+        | inl arbitrary ↦
+            let (b, free) = free_left units clean v in_v arbitrary (noted s n a) (noted_more units u v a s.notes in_u other own all) in
+            none arbitrary b free
+        | inr fixed ↦
+            let fixed_u = fixed_below n (unit_at units v).name below (clean.range v in_v) fixed in
+            addresses_differ units clean u v in_u in_v other fixed_u fixed (sym (own.fixed fixed_u) ∙ (own_held a has).fixed fixed)
+      ])
 
   claimed : (a : ℕ) → IsOwn (unit_at units u) a → (says : Option Say) (new : ClaimState)
       → Answers (unit_at units v) s (unit_at units u).name (Told (Claim a)) says new → Turn units v s (Told (Claim a)) says new
-  claimed a own says new answers =
-      let noted : ClaimState = record s { notes = insert s.notes (unit_at units u).name a } in
-      let known : AllNoted units v noted.notes = noted_more units u v a s.notes in_u other own all in
-      elim (holds_address s.address a) as (λ e. holds_address s.address a ≡ e → MatchBool e
-      (MatchBool (ltb (unit_at units u).name (unit_at units v).name) (Moves (unit_at units v) noted says new ⊎ GivesUp (unit_at units v) noted says new)
-      ((says ≡ Some (Claim a)) × (new ≡ noted)))
-      ((says ≡ None) × (new ≡ noted)) → Turn units v s (Told (Claim a)) says new) [
-        | true ↦ λ has. let is = holds_address-true s.address a has in
-            elim (ltb (unit_at units u).name (unit_at units v).name) as
-            (λ e. ltb (unit_at units u).name (unit_at units v).name ≡ e
-            → MatchBool e (Moves (unit_at units v) noted says new ⊎ GivesUp (unit_at units v) noted says new) ((says ≡ Some (Claim a)) × (new ≡ noted))
-            → Turn units v s (Told (Claim a)) says new) [
-              | true ↦ λ below lost. loses a is own (ltb-true (unit_at units u).name (unit_at units v).name below) noted refl known says new lost
-              | false ↦ λ _ stays. record {
-                on = ap (λ t. t.on) stays.1;
-                notes = subst (λ (t : ClaimState). AllNoted units v t.notes) (sym stays.1) known;
-                outcome = inr (
-                  a,
-                  stays.0,
-                  ap (λ t. t.address) stays.1 ∙ is,
-                  let (b, holds, own_b) = held in
-                      let same : a ≡ b = cc in
-                      subst (IsOwn (unit_at units v)) (sym same) own_b,
-                );
-              }
-            ] refl
-        | false ↦ λ not_held silent. record {
-          on = ap (λ t. t.on) silent.1;
-          notes = subst (λ (t : ClaimState). AllNoted units v t.notes) (sym silent.1) known;
-          outcome = inl (
-            silent.0,
-            ap (λ t. t.address) silent.1,
-            λ b is same.
-                let e : b ≡ a = sym (cc) in holds_address-false s.address a not_held (is ∙ ap Some e),
-          );
-        }
-      ] refl answers
+  claimed a own says new =
+      claim_cases (unit_at units v) s (unit_at units u).name a says new (Turn units v s (Told (Claim a)) says new)
+      (loses a own says new)
+      (λ has _ (said, is).
+      turn_with a own says new (ap (λ t. t.on) is) (ap (λ t. t.notes) is) (inr (a, said, ap (λ t. t.address) is ∙ has, own_held a has)))
+      (λ not_held (said, is).
+      turn_with a own says new (ap (λ t. t.on) is) (ap (λ t. t.notes) is)
+      (inl (said, ap (λ t. t.address) is, λ b has same. let e : b ≡ a = sym (cc) in not_held (has ∙ ap Some e))))
 
   pub turn : (item : Item) → IsSaid (unit_at units u) item → (says : Option Say) (new : ClaimState)
       → Answers (unit_at units v) s (unit_at units u).name item says new → Turn units v s item says new

@@ -1,16 +1,15 @@
 -- What a unit says to an item and what it then is, as far as it matters to how claims die down.
-use Rattle.std.proofs.Common.{◌≡◌, ◌≢◌, ℕ, ◌<◌, ◌≤◌, true, false, ◌⊎◌, inl, inr, ltb, refl, sym, ap, ◌∙◌, subst, arith, Option, Some, None}
-use Rattle.std.proofs.lemmas.Bool.{cases_eq, ltb-true, ltb-false}
-use Rattle.std.specs.Bool.{MatchBool}
+use Rattle.std.proofs.Common.{◌≡◌, ◌≢◌, ℕ, ◌<◌, ◌⊎◌, inl, inr, refl, sym, ap, ◌∙◌, subst, arith, Option, Some, None}
+use Rattle.std.proofs.lemmas.Bool.{cases_eq}
 use Rattle.std.specs.Ordering.{nat_cmp}
 use Rattle.std.specs.FinMap.{FinMap, get, insert, remove}
 use Rattle.j39_claim.specs.declared.item.Say.{Say}
 use Rattle.j39_claim.specs.declared.item.Say.TheVariants.{Claim, Cannot}
 use Rattle.j39_claim.specs.declared.item.Item.{Item}
 use Rattle.j39_claim.specs.declared.item.Item.TheVariants.{Told, Request}
-use Rattle.j39_claim.specs.ClaimRule.{PlannedUnit, ClaimState, Answers, Moves, GivesUp, holds_address, claim_of}
+use Rattle.j39_claim.specs.ClaimRule.{PlannedUnit, ClaimState, Answers, claim_of}
 use Rattle.j39_world.specs.Sent.{claimed_by}
-use Rattle.j39_laws.proofs.Addresses.Notes.{inserted_here, inserted_elsewhere, removed_here, removed_elsewhere, holds_address-true, holds_address-false}
+use Rattle.j39_laws.proofs.Addresses.Notes.{inserted_here, inserted_elsewhere, removed_here, removed_elsewhere, noted, IsLost, claim_cases}
 
 -- a unit of this NAME doesn't hold what it noted for a smaller one
 pub record IsUnclashed (name : ℕ) (s : ClaimState) : Type 0 where
@@ -52,12 +51,8 @@ pub record Response (c : PlannedUnit) (s : ClaimState) (n : ℕ) (item : Item) (
 -- ---- what a unit is that has noted a claim of an address
 
 module _ (c : PlannedUnit) (s : ClaimState) (unclashed : IsUnclashed c.name s) (n : ℕ) (other : n ≢ c.name) where
-  noted_with : ℕ → ClaimState
-  noted_with a = record s { notes = insert s.notes n a }
-
   -- one that it doesn't hold
-  unclashed_after : (a : ℕ) → s.address ≢ Some a → IsUnclashed c.name (noted_with a)
-  unfolding noted_with
+  unclashed_after : (a : ℕ) → s.address ≢ Some a → IsUnclashed c.name (noted s n a)
   unclashed_after a not_held = record {
     unnoted = λ m b smaller held is. elim (cases_eq m n) [
       | inl same ↦
@@ -68,72 +63,49 @@ module _ (c : PlannedUnit) (s : ClaimState) (unclashed : IsUnclashed c.name s) (
   }
 
   -- one of a larger NAME
-  unclashed_kept : (a : ℕ) → c.name < n → IsUnclashed c.name (noted_with a)
-  unfolding noted_with
-  unclashed_kept a larger = record {
+  unclashed_still : (a : ℕ) → c.name < n → IsUnclashed c.name (noted s n a)
+  unclashed_still a larger = record {
     unnoted = λ m b smaller held is.
         let apart : m ≢ n = omega arith in
         unclashed.unnoted m b smaller held (sym (inserted_elsewhere s.notes n a m apart) ∙ is);
   }
 
-  loses : (a : ℕ) → s.address ≡ Some a → n < c.name → (says : Option Say) (new : ClaimState)
-      → Moves c (noted_with a) says new ⊎ GivesUp c (noted_with a) says new → Response c s n (Told (Claim a)) says new
-  unfolding noted_with
-  loses a held smaller says new (inl (b, arbitrary, free, said, is)) = subst (Response c s n (Told (Claim a)) says) (sym is) (record {
-    on = refl;
-    unclashed = record { unnoted = λ m x below holds found. free.unnoted m (found ∙ sym holds) };
-    noted = inserted_here s.notes n a;
-    others = inserted_elsewhere s.notes n a;
-    outcome = inr (inr (record {
-      say = Claim b;
-      said = said;
-      holds = refl;
-      smaller = smaller;
-      lost = a;
-      cause = refl;
-      unnoted = unclashed.unnoted n a smaller held;
-    }));
-  })
-  loses a held smaller says new (inr (none, said, is)) = subst (Response c s n (Told (Claim a)) says) (sym is) (record {
-    on = refl;
-    unclashed = record { unnoted = λ m x below holds found. absurd (cc) };
-    noted = inserted_here s.notes n a;
-    others = inserted_elsewhere s.notes n a;
-    outcome =
-        inr (inr (record { say = Cannot; said = said; holds = refl; smaller = smaller; lost = a; cause = refl; unnoted = unclashed.unnoted n a smaller held }));
+  -- what it then is, where it has noted a
+  response_with : (a : ℕ) (says : Option Say) (new is : ClaimState) → new ≡ is → is.on ≡ s.on → is.notes ≡ insert s.notes n a → IsUnclashed c.name is
+      → IsSilent s says is ⊎ (Repeats c s n (Told (Claim a)) says is ⊎ Loses c s n (Told (Claim a)) says is) → Response c s n (Told (Claim a)) says new
+  response_with a says new is same on notes clear outcome = subst (Response c s n (Told (Claim a)) says) (sym same) (record {
+    on = on;
+    unclashed = clear;
+    noted = ap (λ x. get x n) notes ∙ inserted_here s.notes n a;
+    others = λ m apart. ap (λ x. get x m) notes ∙ inserted_elsewhere s.notes n a m apart;
+    outcome = outcome;
   })
 
+  -- it says what it then holds
+  lost_to : (a : ℕ) (says : Option Say) (new : ClaimState) (say : Say) → s.address ≡ Some a → n < c.name → says ≡ Some say → claimed_by say ≡ new.address
+      → Loses c s n (Told (Claim a)) says new
+  lost_to a says new say held smaller said holds =
+      record { say = say; said = said; holds = holds; smaller = smaller; lost = a; cause = refl; unnoted = unclashed.unnoted n a smaller held }
+
+  loses : (a : ℕ) (says : Option Say) (new : ClaimState) → s.address ≡ Some a → n < c.name → IsLost c s n a says new → Response c s n (Told (Claim a)) says new
+  loses a says new held smaller (inl (b, arbitrary, free, said, is)) =
+      response_with a says new (record (noted s n a) { address = Some b }) is refl refl
+      (record { unnoted = λ m x below holds found. free.unnoted m (found ∙ sym holds) })
+      (inr (inr (lost_to a says (record (noted s n a) { address = Some b }) (Claim b) held smaller said refl)))
+  loses a says new held smaller (inr (none, said, is)) =
+      response_with a says new (record (noted s n a) { address = None }) is refl refl
+      (record { unnoted = λ m x below holds found. absurd (cc) })
+      (inr (inr (lost_to a says (record (noted s n a) { address = None }) Cannot held smaller said refl)))
+
   claimed : (a : ℕ) (says : Option Say) (new : ClaimState) → Answers c s n (Told (Claim a)) says new → Response c s n (Told (Claim a)) says new
-  unfolding noted_with
-  claimed a says new answers =
-      elim (holds_address s.address a) as (λ e. holds_address s.address a ≡ e → MatchBool e
-      (MatchBool (ltb n c.name) (Moves c (noted_with a) says new ⊎ GivesUp c (noted_with a) says new) ((says ≡ Some (Claim a)) × (new ≡ noted_with a)))
-      ((says ≡ None) × (new ≡ noted_with a)) → Response c s n (Told (Claim a)) says new) [
-        | true ↦ λ has.
-            let held = holds_address-true s.address a has in
-            elim (ltb n c.name) as (λ e. ltb n c.name ≡ e
-            → MatchBool e (Moves c (noted_with a) says new ⊎ GivesUp c (noted_with a) says new) ((says ≡ Some (Claim a)) × (new ≡ noted_with a))
-            → Response c s n (Told (Claim a)) says new) [
-              | true ↦ λ smaller lost. loses a held (ltb-true n c.name smaller) says new lost
-              | false ↦ λ not_smaller stays.
-                  let least : c.name ≤ n = ltb-false n c.name not_smaller in
-                  let larger : c.name < n = omega arith in
-                  subst (Response c s n (Told (Claim a)) says) (sym stays.1) (record {
-                    on = refl;
-                    unclashed = unclashed_kept a larger;
-                    noted = inserted_here s.notes n a;
-                    others = inserted_elsewhere s.notes n a;
-                    outcome = inr (inl (record { say = Claim a; said = stays.0; holds = sym held; address = refl; cause = inr (larger, Claim a, refl) }));
-                  })
-            ] refl
-        | false ↦ λ not_held silent. subst (Response c s n (Told (Claim a)) says) (sym silent.1) (record {
-          on = refl;
-          unclashed = unclashed_after a (holds_address-false s.address a not_held);
-          noted = inserted_here s.notes n a;
-          others = inserted_elsewhere s.notes n a;
-          outcome = inl (silent.0, refl);
-        })
-      ] refl answers
+  claimed a says new =
+      claim_cases c s n a says new (Response c s n (Told (Claim a)) says new)
+      (loses a says new)
+      (λ held least (said, is).
+      let larger : c.name < n = omega arith in
+      response_with a says new (noted s n a) is refl refl (unclashed_still a larger)
+      (inr (inl (record { say = Claim a; said = said; holds = sym held; address = refl; cause = inr (larger, Claim a, refl) }))))
+      (λ not_held (said, is). response_with a says new (noted s n a) is refl refl (unclashed_after a not_held) (inl (said, refl)))
 
   says_held : (o : Option ℕ) → claimed_by (claim_of o) ≡ o
   says_held None = refl
