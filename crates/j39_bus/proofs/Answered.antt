@@ -157,4 +157,4 @@ plain_sender dests.One group size stage (Dt number chunk) = refl
 
 pub answers_plain : (o : Option Outgoing) (u : ℕ) (p : Packet) → IsPlainly (reaction_of o u p)
 answers_plain None u p = refl
-answers_plain (Some s) u p = choose_stage (is_among s.targets u) (sender_hears (dest_of s.to) s.group (length s.bytes) s.stage p) (s.stage, reactions.Nothing) (plain_sender (dest_of s.to) s.group (length s.bytes) s.stage p) refl
+answers_plain (Some s) u p = choose_stage (is_among s.targets u) (sender_hears (dest_of s.to) s.pgn (length s.bytes) s.stage p) (s.stage, reactions.Nothing) (plain_sender (dest_of s.to) s.pgn (length s.bytes) s.stage p) refl

@@ -13,7 +13,7 @@ use Rattle.j39_bus.specs.BusState.{session_at}
 use Rattle.j39_world.specs.Flows.{Flow, flows_of, can_be_sent}
 use Rattle.j39_plan.specs.declared.plan.Plan.{Plan}
 use Rattle.j39_bus.specs.Network.{Histories, IsNetwork, IsOf, world_of}
-use Rattle.j39_world.specs.Run.{at_ends, begin_refusal, has_address, is_nothing_undelivered, is_on, unless}
+use Rattle.j39_world.specs.Run.{at_ends, begin_refusal, has_address, is_nothing_undelivered, is_on, refuse_unless}
 use Rattle.j39_bus.specs.Traffic.{IsRoute, route_of, values_of}
 use Rattle.j39_world.specs.World.{World}
 use Rattle.j39_bus.proofs.AlongMessages.{session_of}
@@ -23,7 +23,7 @@ use Rattle.j39_bus.proofs.Refused.{nowhere}
 use Rattle.j39_bus.proofs.Rested.{all_below, some_session}
 
 begin_parts : (a b c d e f : Bool)
-    → unless a NoSuchFlow (unless b NotStarted (unless c NotSettled (unless d NoAddress (unless e Busy (unless f WrongLength None))))) ≡ None → (e ≡ true) × (f ≡ true)
+    → refuse_unless a NoSuchFlow (refuse_unless b NotStarted (refuse_unless c NotSettled (refuse_unless d NoAddress (refuse_unless e Busy (refuse_unless f WrongLength None))))) ≡ None → (e ≡ true) × (f ≡ true)
 begin_parts true true true true true true is = (refl, refl)
 begin_parts true true true true true false is = absurd (cc is)
 begin_parts true true true true false f is = absurd (cc is)
@@ -40,10 +40,10 @@ module _ (net : Network) (f : ℕ) (r : Route) (inside : f < length net.traffic.
   pub refusal_by : (n : ℕ) (w : World) (bytes : List ℕ) (x y a b c d : Bool) → can_be_sent (route_of r) ≡ x → at_ends (is_on w) r.sender r.to ≡ y
       → is_nothing_undelivered n w.claims ≡ a → at_ends (has_address w) r.sender r.to ≡ b → not (is_some (w.sessions r.sender)) ≡ c → (length bytes == r.length) ≡ d
       → begin_refusal n w (slice_get (map route_of net.traffic.routes.items) f) bytes
-      ≡ unless x NoSuchFlow (unless y NotStarted (unless a NotSettled (unless b NoAddress (unless c Busy (unless d WrongLength None)))))
+      ≡ refuse_unless x NoSuchFlow (refuse_unless y NotStarted (refuse_unless a NotSettled (refuse_unless b NoAddress (refuse_unless c Busy (refuse_unless d WrongLength None)))))
   refusal_by n w bytes x y a b c d sendable started a_is b_is c_is d_is =
       ap (λ (o : Option Flow). begin_refusal n w o bytes) flow_is
-      ∙ (λ i. unless (sendable i) NoSuchFlow (unless (started i) NotStarted (unless (a_is i) NotSettled (unless (b_is i) NoAddress (unless (c_is i) Busy (unless (d_is i) WrongLength None))))))
+      ∙ (λ i. refuse_unless (sendable i) NoSuchFlow (refuse_unless (started i) NotStarted (refuse_unless (a_is i) NotSettled (refuse_unless (b_is i) NoAddress (refuse_unless (c_is i) Busy (refuse_unless (d_is i) WrongLength None))))))
 
   pub begin_met : (n : ℕ) (w : World) (bytes : List ℕ) → begin_refusal n w (slice_get (map route_of net.traffic.routes.items) f) bytes ≡ None
       → (not (is_some (w.sessions r.sender)) ≡ true) × ((length bytes == r.length) ≡ true)

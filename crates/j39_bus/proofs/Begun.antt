@@ -19,7 +19,7 @@ use Rattle.j39_queues.specs.Queued.{IsTable, pair_in}
 use Rattle.j39_world.specs.Flows.{Flow, dest_of, is_short, window_at}
 use Rattle.j39_bus.specs.Network.{AreGathered, receivers_of}
 use Rattle.j39_bus.specs.Traffic.{AreOpened, AreTransfers, IsInside, IsTraffic, IsTransfer, IsTransferOr, is_announcement, is_receiver, is_target, is_target_of, item_frame, posted, transfer_of, values_of}
-use Rattle.j39_world.specs.Transfers.{settled}
+use Rattle.j39_world.specs.Transfers.{closed_if_complete}
 use Rattle.j39_tp.specs.Sender.{announcement}
 use Rattle.j39_tp.specs.declared.receiving.progress.Progress.TheVariants.{Closed}
 use Rattle.j39_world.specs.declared.wired.Wired.TheVariants as wired
@@ -83,18 +83,18 @@ module _ (ts : List (Option made.Transfer)) (u : ℕ) (inside : u < length ts) (
       at s = ap outgoing_of (value_at s) ∙ elim (eqb s u) as (λ e. outgoing_of (cond e (Some (transfer_of new)) (get_or (values_of ts) s None)) ≡ cond e (outgoing_of (Some (transfer_of new))) (outgoing_of (get_or (values_of ts) s None))) [ true ↦ refl | false ↦ refl ]
 
   module _ (windows : List ℕ) (known : (v : ℕ) (r : Receiving) → get_or (transfer_of new).receivers v None ≡ Some r → r ≡ fresh (Answering (window_at windows v))) where
-    closed : (v : ℕ) (o : Option Receiving) → get_or (transfer_of new).receivers v None ≡ o → (settled (receiving_or o).progress ≡ Closed) × ((h : List Packet) → Gathers h (receiving_or o).progress (receiving_or o).bytes)
+    closed : (v : ℕ) (o : Option Receiving) → get_or (transfer_of new).receivers v None ≡ o → (closed_if_complete (receiving_or o).progress ≡ Closed) × ((h : List Packet) → Gathers h (receiving_or o).progress (receiving_or o).bytes)
     closed v None is = (refl, λ h. tt)
     closed v (Some r) is =
         let e : r ≡ fresh (Answering (window_at windows v)) = known v r is in
-        (ap (λ (x : Receiving). settled x.progress) e, λ h. subst (λ (x : Receiving). Gathers h x.progress x.bytes) (sym e) tt)
+        (ap (λ (x : Receiving). closed_if_complete x.progress) e, λ h. subst (λ (x : Receiving). Gathers h x.progress x.bytes) (sym e) tt)
 
     pub receivers_begun : receivers_of (values_of (set ts u (Some new))) ≡ receivers_of (values_of ts)
     receivers_begun = λ i v s. at v s i
       where
         at : (v s : ℕ) → receivers_of (values_of (set ts u (Some new))) v s ≡ receivers_of (values_of ts) v s
-        at v s = ap (λ o. settled (receiving_or (receiver_of o v)).progress) (value_at s) ∙ elim (cases_eq s u) [
-          | inl same ↦ rw (same, eq-eqb u u refl) ((closed v (get_or (transfer_of new).receivers v None) refl).0 ∙ ap (λ o. settled (receiving_or (receiver_of o v)).progress) (sym was_none))
+        at v s = ap (λ o. closed_if_complete (receiving_or (receiver_of o v)).progress) (value_at s) ∙ elim (cases_eq s u) [
+          | inl same ↦ rw (same, eq-eqb u u refl) ((closed v (get_or (transfer_of new).receivers v None) refl).0 ∙ ap (λ o. closed_if_complete (receiving_or (receiver_of o v)).progress) (sym was_none))
           | inr other ↦ rw (ne_eqb s u other) refl
         ]
 
@@ -150,7 +150,7 @@ module _ (ts : List (Option made.Transfer)) (u : ℕ) (inside : u < length ts) (
 pub first_framed : (stations : Stations) (flow : Flow) (bytes : List ℕ) → item_frame (address_of stations flow.sender) (destination_of stations flow.to) flow (first_item flow bytes) ≡ first_frame stations flow bytes
 first_framed stations flow bytes = by (is_short (length bytes))
   where
-    by : (b : Bool) → item_frame (address_of stations flow.sender) (destination_of stations flow.to) flow (if b then wired.Short bytes else wired.Packet (announcement (dest_of flow.to) flow.group (length bytes)))
-        ≡ (if b then short_frame (address_of stations flow.sender) (destination_of stations flow.to) flow bytes else packet_frame (address_of stations flow.sender) (destination_of stations flow.to) (announcement (dest_of flow.to) flow.group (length bytes)))
+    by : (b : Bool) → item_frame (address_of stations flow.sender) (destination_of stations flow.to) flow (if b then wired.Short bytes else wired.Packet (announcement (dest_of flow.to) flow.pgn (length bytes)))
+        ≡ (if b then short_frame (address_of stations flow.sender) (destination_of stations flow.to) flow bytes else packet_frame (address_of stations flow.sender) (destination_of stations flow.to) (announcement (dest_of flow.to) flow.pgn (length bytes)))
     by true = refl
     by false = refl

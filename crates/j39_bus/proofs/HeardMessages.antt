@@ -38,7 +38,7 @@ still_some f (Some x) = refl
 
 -- a message as a world has it, by what contracts see of it
 abbrev seen : Transfer → Outgoing
-seen t = record { flow = t.flow; group = t.group; to = t.to; targets = places_from 0 t.receivers; bytes = t.bytes; stage = t.stage }
+seen t = record { flow = t.flow; pgn = t.pgn; to = t.to; targets = places_from 0 t.receivers; bytes = t.bytes; stage = t.stage }
 
 module _ (t new : made.Transfer) (v : ℕ) (f : Receiving → Receiving) (after : transfer_of new ≡ record (transfer_of t) { receivers = set (transfer_of t).receivers v (option_map f (get_or (transfer_of t).receivers v None)) }) where
   pub out_heard : out new ≡ out t
@@ -65,7 +65,7 @@ module _ (t new : made.Transfer) (v : ℕ) (f : Receiving → Receiving) (after 
     to = subst (λ x. IsInside n x) (sym (ap (λ (x : Transfer). x.to) after)) is.to;
     count = sym (length-map new.receivers.items (option_map (λ (b : Boxed). b.value))) ∙ ap (λ (x : Transfer). length x.receivers) after
         ∙ length-set (transfer_of t).receivers v (option_map f (get_or (transfer_of t).receivers v None)) ∙ length-map t.receivers.items (option_map (λ (b : Boxed). b.value)) ∙ is.count;
-    content = subst (λ x. HasContent new.pgn new.to x) (sym content) (subst (λ x. HasContent new.pgn x t.content) (sym (ap (λ (x : Transfer). x.to) after)) (subst (λ x. HasContent x t.to t.content) (sym (ap (λ (x : Transfer). x.group) after)) is.content));
+    content = subst (λ x. HasContent new.pgn new.to x) (sym content) (subst (λ x. HasContent new.pgn x t.content) (sym (ap (λ (x : Transfer). x.to) after)) (subst (λ x. HasContent x t.to t.content) (sym (ap (λ (x : Transfer). x.pgn) after)) is.content));
     answering = answering windows keeps inside is.answering;
   }
 

@@ -19,12 +19,12 @@ use Rattle.j39_queues.specs.Queued.{pair_in}
 use Rattle.j39_bus.specs.Network.{AreGathered, Histories, receivers_of, world_of}
 use Rattle.j39_world.specs.Resting.{can_rest, is_of_sender, is_over_with}
 use Rattle.j39_bus.specs.Traffic.{IsTraffic, IsTransferOr, is_announcement, receiver_in, transfer_of, values_of}
-use Rattle.j39_world.specs.Transfers.{outcome_in, settled}
+use Rattle.j39_world.specs.Transfers.{outcome_in, closed_if_complete}
 use Rattle.j39_world.specs.World.{changed}
 use Rattle.j39_bus.proofs.Outside.{all_at}
 use Rattle.j39_bus.proofs.Receivers.{Boxed}
 
-not_open : (p : Progress) → not (is_open_at (settled p)) ≡ true → settled p ≡ Closed
+not_open : (p : Progress) → not (is_open_at (closed_if_complete p)) ≡ true → closed_if_complete p ≡ Closed
 not_open Closed is = refl
 not_open (Open r) is = absurd (true≢false (sym is))
 not_open (Complete group) is = refl
@@ -63,12 +63,12 @@ module _ (net : Network) (u : ℕ) (h : Histories) (well : IsTraffic (length net
   over : (v : ℕ) → v < n → is_over_with (world_of h net) u v ≡ true
   over v below = all_at (is_over_with (world_of h net) u) 0 n (and_parts (is_some (outcome_in (session_at (values_of ts) u))) (list_all (is_over_with (world_of h net) u) (range_with_len 0 n)) rests).1 v (omega arith) (omega arith)
 
-  closed : (v : ℕ) → settled (receiving_or (receiver_in ts v u)).progress ≡ Closed
+  closed : (v : ℕ) → closed_if_complete (receiving_or (receiver_in ts v u)).progress ≡ Closed
   closed v = elim (cases_lt v n) [
-    | inl less ↦ not_open (receiving_or (receiver_in ts v u)).progress (and_parts (not (is_open_at (settled (receiving_or (receiver_in ts v u)).progress))) _ (over v less)).0
+    | inl less ↦ not_open (receiving_or (receiver_in ts v u)).progress (and_parts (not (is_open_at (closed_if_complete (receiving_or (receiver_in ts v u)).progress))) _ (over v less)).0
     | inr more ↦
         let e : receiver_in ts v u ≡ None = ap (λ o. receiver_of o v) (get_or-map (option_map transfer_of) ts u None None inside) ∙ no_receiver n net.traffic.windows.items (get_or ts u None) (well.transfers.each u) v more in
-        ap (λ o. settled (receiving_or o).progress) e
+        ap (λ o. closed_if_complete (receiving_or o).progress) e
   ]
 
   value_at : (s : ℕ) → get_or (values_of idle) s None ≡ cond (eqb s u) None (get_or (values_of ts) s None)
@@ -87,7 +87,7 @@ module _ (net : Network) (u : ℕ) (h : Histories) (well : IsTraffic (length net
   receivers_idle = λ i v s. at v s i
     where
       at : (v s : ℕ) → receivers_of (values_of idle) v s ≡ receivers_of (values_of ts) v s
-      at v s = ap (λ o. settled (receiving_or (receiver_of o v)).progress) (value_at s) ∙ elim (cases_eq s u) [
+      at v s = ap (λ o. closed_if_complete (receiving_or (receiver_of o v)).progress) (value_at s) ∙ elim (cases_eq s u) [
         | inl same ↦ rw (same, eq-eqb u u refl) (sym (closed v))
         | inr other ↦ rw (ne_eqb s u other) refl
       ]
@@ -123,7 +123,7 @@ module _ (net : Network) (u : ℕ) (h : Histories) (well : IsTraffic (length net
     where
       silent : (t : ℕ) → list_any is_announcement (pair_in net.traffic.wire.lists u t) ≡ false
       silent t = elim (cases_lt t n) [
-        | inl less ↦ no_announcement (pair_in net.traffic.wire.lists u t) (and_parts (list_all (λ x. not (is_of_sender x)) (pair_in net.traffic.wire.lists u t)) _ (and_parts (not (is_open_at (settled (receiving_or (receiver_in ts t u)).progress))) _ (over t less)).1).0
+        | inl less ↦ no_announcement (pair_in net.traffic.wire.lists u t) (and_parts (list_all (λ x. not (is_of_sender x)) (pair_in net.traffic.wire.lists u t)) _ (and_parts (not (is_open_at (closed_if_complete (receiving_or (receiver_in ts t u)).progress))) _ (over t less)).1).0
         | inr more ↦
             let none : pair_in net.traffic.wire.lists u t ≡ [] = get_or_past (get_or net.traffic.wire.lists u []) t [] (omega (arith, well.table.columns u (omega (arith, inside, well.transfers.count)), more)) in
             ap (list_any is_announcement) none

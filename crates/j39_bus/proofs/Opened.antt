@@ -20,7 +20,7 @@ use Rattle.j39_bus.specs.BusState.{outgoing_of, receiver_of, receiving_or}
 use Rattle.j39_queues.specs.Queued.{IsTable, pair_in}
 use Rattle.j39_world.specs.Flows.{flows_of, windows_of}
 use Rattle.j39_bus.specs.Traffic.{IsTraffic, reported_of, route_of, values_of}
-use Rattle.j39_world.specs.Transfers.{settled}
+use Rattle.j39_world.specs.Transfers.{closed_if_complete}
 use Rattle.j39_bus.specs.Network.{claimants, state_of, transfers_of, world_of, Histories, HasGathered, IsNetwork, IsWellFormed}
 use Rattle.j39_world.specs.Sent.{sent_of}
 use Rattle.j39_bus.specs.Stands.{Stands}
@@ -89,7 +89,7 @@ stands_first plan net well cs_is none fs_is t = subst (Stands (state_of net) pla
       claims = λ u v. none u v i;
       sessions = λ u. outgoing_of (sent u i);
       wire = λ u v. t.wire u v i;
-      receivers = λ v u. settled (receiving_or (receiver_of (sent u i) v)).progress;
+      receivers = λ v u. closed_if_complete (receiving_or (receiver_of (sent u i) v)).progress;
       taken = λ v u. [];
       begun = λ u v. [];
       reports = map reported_of (t.reports i);

@@ -24,7 +24,7 @@ use Rattle.j39_bus.specs.BusState.{receiver_of, receiving_or}
 use Rattle.j39_world.specs.Flows.{window_at}
 use Rattle.j39_bus.specs.Network.{AreGathered, receivers_of}
 use Rattle.j39_bus.specs.Traffic.{AreTransfers, IsTraffic, IsTransferOr, is_announcement, KeepsTransfers, receiver_in, transfer_of, values_of, IsData, is_complete, HasOwnContent}
-use Rattle.j39_world.specs.Transfers.{settled}
+use Rattle.j39_world.specs.Transfers.{closed_if_complete}
 use Rattle.j39_world.specs.World.{changed_pair}
 use Rattle.j39_bus.proofs.Receivers.{none_some}
 
@@ -59,11 +59,11 @@ module _ (old new : List (Option made.Transfer)) (v u : ℕ) (f : Receiving → 
     announced = λ s x some. some_kept x s ∙ well.announced s x some;
   }
 
-  pub receivers_turned : (g : Progress) → settled (receiving_or (option_map f (receiver_in old v u))).progress ≡ g → receivers_of (values_of new) ≡ changed_pair (receivers_of (values_of old)) v u g
+  pub receivers_turned : (g : Progress) → closed_if_complete (receiving_or (option_map f (receiver_in old v u))).progress ≡ g → receivers_of (values_of new) ≡ changed_pair (receivers_of (values_of old)) v u g
   receivers_turned g settles = λ i x s. turned x s i
     where
       turned : (x s : ℕ) → receivers_of (values_of new) x s ≡ changed_pair (receivers_of (values_of old)) v u g x s
-      turned x s = ap (λ o. settled (receiving_or o).progress) (at x s)
+      turned x s = ap (λ o. closed_if_complete (receiving_or o).progress) (at x s)
           ∙ elim (cases_Bool (eqb x v && eqb s u)) [ inl both ↦ rw both settles | inr other ↦ rw other refl ]
 
   pub gathered_turned : (taken after : ℕ → ℕ → List Packet) → ((x s : ℕ) → (eqb x v && eqb s u) ≡ false → after x s ≡ taken x s)
@@ -86,12 +86,12 @@ module _ (old new : List (Option made.Transfer)) (v u : ℕ) (f : Receiving → 
 
 -- ---- what a world sees of it: a receiver whose message is complete is closed
 
-late_settled : (m : Manner) (p : Progress) → (settled (timed_out m p).0 ≡ settled (timed_out m (settled p)).0) × ((timed_out m p).1 ≡ (timed_out m (settled p)).1)
+late_settled : (m : Manner) (p : Progress) → (closed_if_complete (timed_out m p).0 ≡ closed_if_complete (timed_out m (closed_if_complete p)).0) × ((timed_out m p).1 ≡ (timed_out m (closed_if_complete p)).1)
 late_settled m Closed = (refl, refl)
 late_settled m (Open r) = (refl, refl)
 late_settled m (Complete group) = (refl, refl)
 
-heard_settled : (m : Manner) (p : Progress) (packet : Packet) → (settled (hears m p packet).0 ≡ settled (hears m (settled p) packet).0) × ((hears m p packet).1 ≡ (hears m (settled p) packet).1)
+heard_settled : (m : Manner) (p : Progress) (packet : Packet) → (closed_if_complete (hears m p packet).0 ≡ closed_if_complete (hears m (closed_if_complete p) packet).0) × ((hears m p packet).1 ≡ (hears m (closed_if_complete p) packet).1)
 heard_settled m Closed packet = (refl, refl)
 heard_settled m (Open r) packet = (refl, refl)
 heard_settled m (Complete group) (Rts size limit pgn) = (refl, refl)
@@ -103,23 +103,23 @@ heard_settled m (Complete group) (Dt number chunk) = (refl, refl)
 
 module _ (o : Option Receiving) (m : Manner) (known : (r : Receiving) → o ≡ Some r → r.manner ≡ m) where
   abbrev was : Progress
-  was = settled (receiving_or o).progress
+  was = closed_if_complete (receiving_or o).progress
 
-  late_by : (x : Option Receiving) → o ≡ x → ((timed_out (receiving_or x).manner (receiving_or x).progress).1 ≡ (timed_out m (settled (receiving_or x).progress)).1) × (settled (receiving_or (option_map gives_up x)).progress ≡ settled (timed_out m (settled (receiving_or x).progress)).0)
+  late_by : (x : Option Receiving) → o ≡ x → ((timed_out (receiving_or x).manner (receiving_or x).progress).1 ≡ (timed_out m (closed_if_complete (receiving_or x).progress)).1) × (closed_if_complete (receiving_or (option_map gives_up x)).progress ≡ closed_if_complete (timed_out m (closed_if_complete (receiving_or x).progress)).0)
   late_by None is = (refl, refl)
   late_by (Some r) is =
       let e : r.manner ≡ m = known r is in
       let at = late_settled m r.progress in
-      (ap (λ k. (timed_out k r.progress).1) e ∙ at.1, ap (λ k. settled (timed_out k r.progress).0) e ∙ at.0)
+      (ap (λ k. (timed_out k r.progress).1) e ∙ at.1, ap (λ k. closed_if_complete (timed_out k r.progress).0) e ∙ at.0)
 
   pub late_packet : (timed_out (receiving_or o).manner (receiving_or o).progress).1 ≡ (timed_out m was).1
   late_packet = (late_by o refl).0
 
-  pub late_progress : settled (receiving_or (option_map gives_up o)).progress ≡ settled (timed_out m was).0
+  pub late_progress : closed_if_complete (receiving_or (option_map gives_up o)).progress ≡ closed_if_complete (timed_out m was).0
   late_progress = (late_by o refl).1
 
 -- a unit without a receiver hears no announcement
-heard_none : (m : Manner) (p : Packet) → (is_announcement (wired.Packet p) ≡ true → ⊥) → ((hears Listening Closed p).1 ≡ (hears m Closed p).1) × (Closed ≡ settled (hears m Closed p).0)
+heard_none : (m : Manner) (p : Packet) → (is_announcement (wired.Packet p) ≡ true → ⊥) → ((hears Listening Closed p).1 ≡ (hears m Closed p).1) × (Closed ≡ closed_if_complete (hears m Closed p).0)
 heard_none m (Rts size limit pgn) plain = absurd (plain refl)
 heard_none m (Cts count first pgn) plain = (refl, refl)
 heard_none m (EndAck size pgn) plain = (refl, refl)
@@ -128,18 +128,18 @@ heard_none m (Abort reason pgn) plain = (refl, refl)
 heard_none m (Dt number chunk) plain = (refl, refl)
 
 module _ (o : Option Receiving) (m : Manner) (known : (r : Receiving) → o ≡ Some r → r.manner ≡ m) (p : Packet) (announced : is_announcement (wired.Packet p) ≡ true → is_some o ≡ true) where
-  heard_by : (x : Option Receiving) → o ≡ x → ((hears (receiving_or x).manner (receiving_or x).progress p).1 ≡ (hears m (settled (receiving_or x).progress) p).1)
-      × (settled (receiving_or (option_map (λ (r : Receiving). receives r p) x)).progress ≡ settled (hears m (settled (receiving_or x).progress) p).0)
+  heard_by : (x : Option Receiving) → o ≡ x → ((hears (receiving_or x).manner (receiving_or x).progress p).1 ≡ (hears m (closed_if_complete (receiving_or x).progress) p).1)
+      × (closed_if_complete (receiving_or (option_map (λ (r : Receiving). receives r p) x)).progress ≡ closed_if_complete (hears m (closed_if_complete (receiving_or x).progress) p).0)
   heard_by None is = heard_none m p (λ told. true≢false (sym (announced told) ∙ ap is_some is))
   heard_by (Some r) is =
       let e : r.manner ≡ m = known r is in
       let at = heard_settled m r.progress p in
-      (ap (λ k. (hears k r.progress p).1) e ∙ at.1, ap (λ k. settled (hears k r.progress p).0) e ∙ at.0)
+      (ap (λ k. (hears k r.progress p).1) e ∙ at.1, ap (λ k. closed_if_complete (hears k r.progress p).0) e ∙ at.0)
 
-  pub heard_answer : (hears (receiving_or o).manner (receiving_or o).progress p).1 ≡ (hears m (settled (receiving_or o).progress) p).1
+  pub heard_answer : (hears (receiving_or o).manner (receiving_or o).progress p).1 ≡ (hears m (closed_if_complete (receiving_or o).progress) p).1
   heard_answer = (heard_by o refl).0
 
-  pub heard_progress : settled (receiving_or (option_map (λ (r : Receiving). receives r p) o)).progress ≡ settled (hears m (settled (receiving_or o).progress) p).0
+  pub heard_progress : closed_if_complete (receiving_or (option_map (λ (r : Receiving). receives r p) o)).progress ≡ closed_if_complete (hears m (closed_if_complete (receiving_or o).progress) p).0
   heard_progress = (heard_by o refl).1
 
 -- ---- a message is complete

@@ -17,7 +17,7 @@ use Rattle.j39_world.specs.Resting.{can_rest}
 use Rattle.j39_bus.specs.Stations.{station_at, nobody}
 use Rattle.j39_bus.specs.Network.{Histories, IsOf, claimants}
 use Rattle.j39_world.specs.World.{World}
-use Rattle.j39_world.specs.Run.{at_ends, begin_refusal, both, can_emit, cause_of, has_address, is_no_transfer_open, is_nothing_undelivered, is_on, is_waiting, refusal, refusal_among, unless}
+use Rattle.j39_world.specs.Run.{at_ends, begin_refusal, both, can_emit, cause_of, has_address, is_no_transfer_open, is_nothing_undelivered, is_on, is_waiting, refusal, refusal_among, refuse_unless}
 use Rattle.j39_bus.specs.Traffic.{route_of}
 use Rattle.j39_bus.proofs.Rested.{units_count}
 use Rattle.j39_bus.proofs.Worlds.{any_default}
@@ -32,38 +32,38 @@ station_is cs u c inside at = ap (λ (x : ClaimerValue). x.state.on) (sym (at �
 
 -- ---- the conditions of a step in turn
 
-pub met : (b : Bool) (e : StepError) (more : Option StepError) → unless b e more ≡ None → (b ≡ true) × (more ≡ None)
+pub met : (b : Bool) (e : StepError) (more : Option StepError) → refuse_unless b e more ≡ None → (b ≡ true) × (more ≡ None)
 met true e more none = (refl, none)
 met false e more some = absurd (cc some)
 
 module _ (a b : Bool) (e f : StepError) where
   -- a cause of the first two conditions is one of all
-  pub earlier : (x : StepError) (more : Option StepError) → Some x ≡ unless a e (unless b f None) → Some x ≡ unless a e (unless b f more)
-  earlier x more is = elim a as (λ a. Some x ≡ unless a e (unless b f None) → Some x ≡ unless a e (unless b f more)) [
-    | true ↦ elim b as (λ b. Some x ≡ unless b f None → Some x ≡ unless b f more) [ true ↦ λ none. absurd (cc none) | false ↦ λ here. here ]
+  pub earlier : (x : StepError) (more : Option StepError) → Some x ≡ refuse_unless a e (refuse_unless b f None) → Some x ≡ refuse_unless a e (refuse_unless b f more)
+  earlier x more is = elim a as (λ a. Some x ≡ refuse_unless a e (refuse_unless b f None) → Some x ≡ refuse_unless a e (refuse_unless b f more)) [
+    | true ↦ elim b as (λ b. Some x ≡ refuse_unless b f None → Some x ≡ refuse_unless b f more) [ true ↦ λ none. absurd (cc none) | false ↦ λ here. here ]
     | false ↦ λ here. here
   ] is
 
   -- where the first two are met
-  pub both_met : None ≡ unless a e (unless b f None) → (a ≡ true) × (b ≡ true)
-  both_met is = elim a as (λ a. None ≡ unless a e (unless b f None) → (a ≡ true) × (b ≡ true)) [
-    | true ↦ elim b as (λ b. None ≡ unless b f None → (true ≡ true) × (b ≡ true)) [ true ↦ λ none. (refl, refl) | false ↦ λ some. absurd (cc some) ]
+  pub both_met : None ≡ refuse_unless a e (refuse_unless b f None) → (a ≡ true) × (b ≡ true)
+  both_met is = elim a as (λ a. None ≡ refuse_unless a e (refuse_unless b f None) → (a ≡ true) × (b ≡ true)) [
+    | true ↦ elim b as (λ b. None ≡ refuse_unless b f None → (true ≡ true) × (b ≡ true)) [ true ↦ λ none. (refl, refl) | false ↦ λ some. absurd (cc some) ]
     | false ↦ λ some. absurd (cc some)
   ] is
 
   -- what is left where they are
-  pub later : (more : Option StepError) → None ≡ unless a e (unless b f None) → more ≡ unless a e (unless b f more)
+  pub later : (more : Option StepError) → None ≡ refuse_unless a e (refuse_unless b f None) → more ≡ refuse_unless a e (refuse_unless b f more)
   later more is = let met = both_met is in rw (met.0, met.1) refl
 
   -- where they are, it is the third's
-  pub third : (c x : Bool) (g : StepError) → c ≡ x → None ≡ unless a e (unless b f None) → unless x g None ≡ unless a e (unless b f (unless c g None))
-  third c x g c_is is = ap (λ y. unless y g None) (sym c_is) ∙ later (unless c g None) is
+  pub third : (c x : Bool) (g : StepError) → c ≡ x → None ≡ refuse_unless a e (refuse_unless b f None) → refuse_unless x g None ≡ refuse_unless a e (refuse_unless b f (refuse_unless c g None))
+  third c x g c_is is = ap (λ y. refuse_unless y g None) (sym c_is) ∙ later (refuse_unless c g None) is
 
   -- where three are met
-  pub all_met : (c : Bool) (g : StepError) → unless a e (unless b f (unless c g None)) ≡ None → (a ≡ true) × (b ≡ true) × (c ≡ true)
-  all_met c g is = elim a as (λ a. unless a e (unless b f (unless c g None)) ≡ None → (a ≡ true) × (b ≡ true) × (c ≡ true)) [
-    | true ↦ elim b as (λ b. unless b f (unless c g None) ≡ None → (true ≡ true) × (b ≡ true) × (c ≡ true)) [
-      | true ↦ elim c as (λ c. unless c g None ≡ None → (true ≡ true) × (true ≡ true) × (c ≡ true)) [ true ↦ λ none. (refl, refl, refl) | false ↦ λ some. absurd (cc some) ]
+  pub all_met : (c : Bool) (g : StepError) → refuse_unless a e (refuse_unless b f (refuse_unless c g None)) ≡ None → (a ≡ true) × (b ≡ true) × (c ≡ true)
+  all_met c g is = elim a as (λ a. refuse_unless a e (refuse_unless b f (refuse_unless c g None)) ≡ None → (a ≡ true) × (b ≡ true) × (c ≡ true)) [
+    | true ↦ elim b as (λ b. refuse_unless b f (refuse_unless c g None) ≡ None → (true ≡ true) × (b ≡ true) × (c ≡ true)) [
+      | true ↦ elim c as (λ c. refuse_unless c g None ≡ None → (true ≡ true) × (true ≡ true) × (c ≡ true)) [ true ↦ λ none. (refl, refl, refl) | false ↦ λ some. absurd (cc some) ]
       | false ↦ λ some. absurd (cc some)
     ]
     | false ↦ λ some. absurd (cc some)
@@ -75,14 +75,14 @@ abbrev pub IsOwnCause : Option StepError → Type 0
 IsOwnCause None = Unit {0}
 IsOwnCause (Some e) = Some e ≡ cause_of e
 
-own_of : (a b c : Bool) (e f g : StepError) → Some e ≡ cause_of e → Some f ≡ cause_of f → Some g ≡ cause_of g → IsOwnCause (unless a e (unless b f (unless c g None)))
+own_of : (a b c : Bool) (e f g : StepError) → Some e ≡ cause_of e → Some f ≡ cause_of f → Some g ≡ cause_of g → IsOwnCause (refuse_unless a e (refuse_unless b f (refuse_unless c g None)))
 own_of true true true e f g x y z = tt
 own_of true true false e f g x y z = z
 own_of true false c e f g x y z = y
 own_of false b c e f g x y z = x
 
 own_begin : (a b c d e f : Bool)
-    → IsOwnCause (unless a NoSuchFlow (unless b NotStarted (unless c NotSettled (unless d NoAddress (unless e Busy (unless f WrongLength None))))))
+    → IsOwnCause (refuse_unless a NoSuchFlow (refuse_unless b NotStarted (refuse_unless c NotSettled (refuse_unless d NoAddress (refuse_unless e Busy (refuse_unless f WrongLength None))))))
 own_begin true true true true true true = tt
 own_begin true true true true true false = refl
 own_begin true true true true false f = refl
@@ -128,10 +128,10 @@ refusal_is plan net of w step = λ i. refusal_among (units_count plan net of i) 
 abbrev pub nowhere : Histories
 nowhere = record { taken = λ v u. []; begun = λ u v. [] }
 
-pub unit_inside : (count u : ℕ) (more : Option StepError) → unless (nat_lt u count) UnknownUnit more ≡ None → u < count
+pub unit_inside : (count u : ℕ) (more : Option StepError) → refuse_unless (nat_lt u count) UnknownUnit more ≡ None → u < count
 unit_inside count u more allowed = ltb-true u count (met (nat_lt u count) UnknownUnit more allowed).0
 
-pub pair_inside : (count u v : ℕ) (more : Option StepError) → unless (both (λ x. nat_lt x count) u v) UnknownUnit more ≡ None → (u < count) × (v < count)
+pub pair_inside : (count u v : ℕ) (more : Option StepError) → refuse_unless (both (λ x. nat_lt x count) u v) UnknownUnit more ≡ None → (u < count) × (v < count)
 pair_inside count u v more allowed =
     let units = and_parts (nat_lt u count) (nat_lt v count) (met (both (λ x. nat_lt x count) u v) UnknownUnit more allowed).0 in
     (ltb-true u count units.0, ltb-true v count units.1)

@@ -19,9 +19,9 @@ use Rattle.j39_queues.specs.Queued.{pair_in}
 use Rattle.j39_bus.specs.Network.{Histories, IsOf, world_of}
 use Rattle.j39_world.specs.Resting.{is_of_sender, is_of_receiver, is_over_with}
 use Rattle.j39_bus.specs.Traffic.{receiver_in, transfer_of, values_of}
-use Rattle.j39_world.specs.Transfers.{settled}
+use Rattle.j39_world.specs.Transfers.{closed_if_complete}
 
-open_settled : (p : Progress) → is_open_at (settled p) ≡ is_open_at p
+open_settled : (p : Progress) → is_open_at (closed_if_complete p) ≡ is_open_at p
 open_settled Closed = refl
 open_settled (Open r) = refl
 open_settled (Complete group) = refl

@@ -7,7 +7,7 @@ use Rattle.j39_plan.specs.declared.steps.Step.{Step}
 use Rattle.j39_world.specs.declared.step_error.StepError.{StepError}
 use Rattle.j39_world.specs.declared.step_error.StepError.TheVariants.{Memory}
 use Rattle.j39_world.specs.World.{World}
-use Rattle.j39_world.specs.Run.{cause_of, refusal, takes_memory, Leads, RunsThrough}
+use Rattle.j39_world.specs.Run.{cause_of, refusal, takes_memory, StepsTo, RunsThrough}
 use Rattle.j39_bus.specs.BusState.{BusState}
 use Rattle.j39_bus.specs.Stands.{Stands, IsRefusedAt}
 use Rattle.j39_bus.proofs.Standing.{runs_more}
@@ -17,7 +17,7 @@ abbrev pub HasRun : BusState → List Step → BusState → Type 0
 HasRun old steps new = (plan : Plan) (w : World) → Stands old plan w → (after : World) × RunsThrough plan w steps after × Stands new plan after
 
 module _ (old mid new : BusState) (steps : List Step) (place : ℕ) (d : Step) (inside : place < length steps) (ran : HasRun old (take place steps) mid) where
-  pub run_more : ((plan : Plan) (w : World) → Stands mid plan w → (refusal plan w (get_or steps place d) ≡ None) × ((after : World) × Leads plan w (get_or steps place d) after × Stands new plan after))
+  pub run_more : ((plan : Plan) (w : World) → Stands mid plan w → (refusal plan w (get_or steps place d) ≡ None) × ((after : World) × StepsTo plan w (get_or steps place d) after × Stands new plan after))
       → HasRun old (take (place + 1) steps) new
   run_more done = λ plan w s.
       let (before, runs, s') = ran plan w s in

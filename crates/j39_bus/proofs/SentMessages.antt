@@ -15,7 +15,7 @@ use Rattle.j39_world.specs.World.{changed, changed_pair}
 
 -- a message as a world has it
 abbrev pub out : made.Transfer → Outgoing
-out t = record { flow = t.flow; group = t.pgn; to = t.to; targets = places_from 0 (transfer_of t).receivers; bytes = bytes_in t.content; stage = stage_in t.content }
+out t = record { flow = t.flow; pgn = t.pgn; to = t.to; targets = places_from 0 (transfer_of t).receivers; bytes = bytes_in t.content; stage = stage_in t.content }
 
 module _ (ts : List (Option made.Transfer)) (u : ℕ) (t : made.Transfer) (inside : u < length ts) (at : get_or ts u None ≡ Some t) where
   pub value_here : get_or (values_of ts) u None ≡ Some (transfer_of t)

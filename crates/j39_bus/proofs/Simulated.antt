@@ -10,7 +10,7 @@ use Rattle.j39_world.specs.declared.step_error.StepError.{StepError}
 use Rattle.j39_world.specs.declared.step_error.StepError.TheVariants.{Memory}
 use Rattle.j39_world.specs.World.{World, Stations, first}
 use Rattle.j39_world.specs.Claimants.{claimant_of}
-use Rattle.j39_world.specs.Run.{cause_of, refusal, Leads, RunsThrough}
+use Rattle.j39_world.specs.Run.{cause_of, refusal, StepsTo, RunsThrough}
 use Rattle.j39_bus.specs.BusState.{BusState, undelivered}
 use Rattle.j39_bus.specs.Stations.{nobody}
 use Rattle.j39_world.specs.Sound.{IsQuiet}
@@ -30,7 +30,7 @@ runs-append plan w (s ∷ done) mid more after (next, may, goes, ran) runs = (ne
 
 -- a step is obeyed where the bus does it
 pub obeyed_step : {X : Type 0} (result : Result X StepError) (old new : BusState) (order : Option Step) (step : Step) → order ≡ Some step
-    → OnOk result ((plan : Plan) (w : World) → Stands old plan w → (refusal plan w step ≡ None) × ((after : World) × Leads plan w step after × Stands new plan after))
+    → OnOk result ((plan : Plan) (w : World) → Stands old plan w → (refusal plan w step ≡ None) × ((after : World) × StepsTo plan w step after × Stands new plan after))
     → OnOk result (HasObeyed old (order ∷ []) new)
 obeyed_step (Err e) old new order step is h = tt
 obeyed_step (Ok x) old new order step is h =

@@ -5,7 +5,7 @@ use Rattle.j39_bus.specs.declared.network.Network.{Network}
 use Rattle.j39_plan.specs.declared.steps.Step.{Step}
 use Rattle.j39_world.specs.declared.step_error.StepError.{StepError}
 use Rattle.j39_world.specs.World.{World}
-use Rattle.j39_world.specs.Run.{cause_of, refusal, refusal_among, Leads, RunsThrough}
+use Rattle.j39_world.specs.Run.{cause_of, refusal, refusal_among, StepsTo, RunsThrough}
 use Rattle.j39_bus.specs.BusState.{BusState}
 use Rattle.j39_bus.specs.Stands.{Stands}
 use Rattle.j39_bus.specs.Network.{state_of, world_of, Histories, HasGathered, IsNetwork, IsBus, IsOf, IsAllowed, IsSameNetwork, KeepsPlan, LeadsTo, refusal_in}
@@ -76,16 +76,16 @@ module _ {X : Type 0} (old new : Network) (b : BusState) (is_state : state_of ol
 
   -- what a step of the network does, the bus does
   pub step_done : IsNetwork new → KeepsPlan old new → OnOk result (IsAllowed old step) → OnOk result ((plan : Plan) → IsOf plan old → LeadsTo plan old step new)
-      → OnOk result ((plan : Plan) (w : World) → Stands b plan w → (refusal plan w step ≡ None) × ((after : World) × Leads plan w step after × Stands (state_of new) plan after))
+      → OnOk result ((plan : Plan) (w : World) → Stands b plan w → (refusal plan w step ≡ None) × ((after : World) × StepsTo plan w step after × Stands (state_of new) plan after))
   step_done well_new keeps may h = elim result as (λ (r : Result X StepError). OnOk r (IsAllowed old step) → OnOk r ((plan : Plan) → IsOf plan old → LeadsTo plan old step new)
-      → OnOk r ((plan : Plan) (w : World) → Stands b plan w → (refusal plan w step ≡ None) × ((after : World) × Leads plan w step after × Stands (state_of new) plan after))) [
+      → OnOk r ((plan : Plan) (w : World) → Stands b plan w → (refusal plan w step ≡ None) × ((after : World) × StepsTo plan w step after × Stands (state_of new) plan after))) [
         | Ok x ↦ λ allowed done plan w s.
             let s' : Stands (state_of old) plan w = here plan w s in
             let is : w ≡ world_of (histories w) old = world_is old well plan w s' in
             let of : IsOf plan old = plan_is old plan w s' in
             let (after, leads, gathered) = done plan of (histories w) s'.gathered in (
               refused_by plan w s' ∙ allowed (histories w),
-              (world_of after new, subst (λ (v : World). Leads plan v step (world_of after new)) (sym is) leads, stands new well_new plan (plan_kept old new plan keeps of) after gathered),
+              (world_of after new, subst (λ (v : World). StepsTo plan v step (world_of after new)) (sym is) leads, stands new well_new plan (plan_kept old new plan keeps of) after gathered),
             )
         | Err e ↦ λ _ _. tt
       ] may h
@@ -117,6 +117,6 @@ pub still_units : (old new : Network) (b : BusState) → state_of old ≡ b → 
 still_units old new b is keeps = omega (arith, ap length keeps.claimants, length-claimants old.claimers.items, length-claimants new.claimers.items, ap (λ (v : BusState). length v.units) is)
 
 -- one more step of a run
-pub runs_more : (plan : Plan) (w : World) (done : List Step) (mid : World) (step : Step) (after : World) → RunsThrough plan w done mid → refusal plan mid step ≡ None → Leads plan mid step after → RunsThrough plan w (done ++ step ∷ []) after
-runs_more plan w [] mid step after ran allowed leads = (after, ap (λ (v : World). refusal plan v step) (sym ran) ∙ allowed, subst (λ (v : World). Leads plan v step after) ran leads, refl)
+pub runs_more : (plan : Plan) (w : World) (done : List Step) (mid : World) (step : Step) (after : World) → RunsThrough plan w done mid → refusal plan mid step ≡ None → StepsTo plan mid step after → RunsThrough plan w (done ++ step ∷ []) after
+runs_more plan w [] mid step after ran allowed leads = (after, ap (λ (v : World). refusal plan v step) (sym ran) ∙ allowed, subst (λ (v : World). StepsTo plan v step after) ran leads, refl)
 runs_more plan w (s ∷ done) mid step after (next, may, goes, ran) allowed leads = (next, may, goes, runs_more plan next done mid step after ran allowed leads)

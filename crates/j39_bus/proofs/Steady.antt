@@ -11,13 +11,13 @@ use Rattle.j39_queues.specs.Queued.{pair_in}
 use Rattle.j39_bus.specs.Network.{Histories, HasGathered, IsNetwork, IsSameNetwork, IsWellFormed, KeepsPlan, LeadsTo, AreGathered, claimants, receivers_of, world_of}
 use Rattle.j39_world.specs.Sent.{sent_of}
 use Rattle.j39_world.specs.World.{World}
-use Rattle.j39_world.specs.Run.{Leads}
+use Rattle.j39_world.specs.Run.{StepsTo}
 use Rattle.std.specs.Prelude.{ℕ}
 use Rattle.j39_bus.specs.Traffic.{IsTraffic, KeepsReceivers, reported_of, values_of}
 use Rattle.j39_tp.specs.inside.Gathered.{Gathers}
 use Rattle.j39_tp.specs.declared.packet.Packet.{Packet}
 use Rattle.j39_tp.specs.Receiver.{Receiving}
-use Rattle.j39_world.specs.Transfers.{settled}
+use Rattle.j39_world.specs.Transfers.{closed_if_complete}
 
 abbrev pub IsTrafficOf : ℕ → kept.Traffic → Type 0
 IsTrafficOf n t = IsTraffic n t.routes.items t.windows.items t.transfers.items t.wire.lists
@@ -28,7 +28,7 @@ same_traffic old new count same well =
     subst (λ (n : ℕ). IsTrafficOf n new.traffic) (sym count) (subst (λ (t : kept.Traffic). IsTrafficOf (length old.claimers.items) t) (sym same) well)
 
 -- a step that changes no transfer and no history
-pub leads_same : (plan : Plan) (old : Network) (step : Step) (new : Network) → ((h : Histories) → Leads plan (world_of h old) step (world_of h new)) → new.traffic.transfers.items ≡ old.traffic.transfers.items → LeadsTo plan old step new
+pub leads_same : (plan : Plan) (old : Network) (step : Step) (new : Network) → ((h : Histories) → StepsTo plan (world_of h old) step (world_of h new)) → new.traffic.transfers.items ≡ old.traffic.transfers.items → LeadsTo plan old step new
 leads_same plan old step new leads same = λ h gathered. (h, leads h, subst (λ ts. AreGathered h.taken (values_of ts)) (sym same) gathered)
 
 -- ---- a network of which nothing that is seen has changed
@@ -68,12 +68,12 @@ module _ (old new : Network) (same : IsSameNetwork old new) where
   pub leads_after : (plan : Plan) (step : Step) (after : Network) → LeadsTo plan new step after → LeadsTo plan old step after
   leads_after plan step after leads h gathered =
       let (next, goes, has) = leads h (gathered_same h gathered) in
-      (next, subst (λ (w : World). Leads plan w step (world_of next after)) (world_same h) goes, has)
+      (next, subst (λ (w : World). StepsTo plan w step (world_of next after)) (world_same h) goes, has)
 
 -- receivers that do not change
 module _ (old new : List (Option made.Transfer)) (same : KeepsReceivers old new) where
   pub receivers_same : receivers_of (values_of new) ≡ receivers_of (values_of old)
-  receivers_same = λ i v u. settled (receiving_or (same i v u)).progress
+  receivers_same = λ i v u. closed_if_complete (receiving_or (same i v u)).progress
 
   pub receivers_gathered : (taken : ℕ → ℕ → List Packet) → AreGathered taken (values_of old) → AreGathered taken (values_of new)
   receivers_gathered taken gathered = subst (λ (r : ℕ → ℕ → Option Receiving). (v u : ℕ) → Gathers (taken v u) (receiving_or (r v u)).progress (receiving_or (r v u)).bytes) (sym same) gathered

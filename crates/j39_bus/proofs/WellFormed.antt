@@ -10,7 +10,7 @@ use Rattle.j39_claim.specs.declared.item.Item.{Item}
 use Rattle.j39_claim.specs.ClaimRule.{ClaimState}
 use Rattle.j39_claim.specs.ClaimerValue.{ClaimerValue}
 use Rattle.j39_bus.specs.Stations.{nobody, station_at}
-use Rattle.j39_world.specs.World.{changed, hears}
+use Rattle.j39_world.specs.World.{changed, is_other_on}
 use Rattle.j39_bus.specs.Network.{is_named, IsWellFormed, HasAnswered}
 use Rattle.j39_queues.specs.Queued.{IsTable, KeepsRoom, Queued, room_at}
 use Rattle.j39_bus.specs.inside.Claims.{HasRoomForOthers}

@@ -16,7 +16,7 @@ use Rattle.j39_world.specs.World.{Undelivered}
 -- a message that a unit sends: what a world has of it, and the receiver of each unit that it goes to, by the unit's place
 pub record Transfer : Type 0 where
   pub flow : ℕ
-  pub group : ℕ
+  pub pgn : ℕ
   pub to : To
   pub bytes : List ℕ
   pub stage : Stage
@@ -62,7 +62,7 @@ places_from k (Some x ∷ rest) = k ∷ places_from (suc k) rest
 abbrev pub outgoing_of : Option Transfer → Option Outgoing
 outgoing_of None = None
 outgoing_of (Some t) =
-    Some (record { flow = t.flow; group = t.group; to = t.to; targets = places_from 0 t.receivers; bytes = t.bytes; stage = t.stage })
+    Some (record { flow = t.flow; pgn = t.pgn; to = t.to; targets = places_from 0 t.receivers; bytes = t.bytes; stage = t.stage })
 
 abbrev pub session_at : List (Option Transfer) → Sessions
 session_at transfers u = outgoing_of (slice_index_or transfers u None)

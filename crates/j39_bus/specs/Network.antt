@@ -17,9 +17,9 @@ use Rattle.j39_world.specs.Claimants.{units_of}
 use Rattle.j39_world.specs.Sent.{sent_of}
 use Rattle.j39_world.specs.World.{World, changed_pair}
 use Rattle.j39_world.specs.Flows.{Flow, flows_of, windows_of}
-use Rattle.j39_world.specs.Transfers.{Begun, Receivers, added, settled}
+use Rattle.j39_world.specs.Transfers.{Begun, Receivers, added, closed_if_complete}
 use Rattle.j39_world.specs.TransferSteps.{TakenFrom}
-use Rattle.j39_world.specs.Run.{refusal_among, Leads}
+use Rattle.j39_world.specs.Run.{refusal_among, StepsTo}
 use Rattle.j39_bus.specs.Stations.{nobody, station_at}
 use Rattle.j39_bus.specs.BusState.{BusState, Transfer, session_at, receiving_at}
 use Rattle.j39_queues.specs.Queued.{IsTable, pair_in}
@@ -47,7 +47,7 @@ transfers_of net = values_of net.traffic.transfers.items
 
 -- each receiver's progress, where one whose message is complete is closed
 abbrev pub receivers_of : List (Option Transfer) → Receivers
-receivers_of transfers v u = settled (receiving_at transfers v u).progress
+receivers_of transfers v u = closed_if_complete (receiving_at transfers v u).progress
 
 abbrev pub world_of : Histories → Network → World
 world_of h net = record {
@@ -111,7 +111,7 @@ pub record KeepsPlan (old new : Network) : Type 0 where
 -- a step of the plan leads from one network to another, whatever histories the first has
 abbrev pub LeadsTo : Plan → Network → Step → Network → Type 0
 LeadsTo plan old step new =
-    (h : Histories) → HasGathered h old → (after : Histories) × Leads plan (world_of h old) step (world_of after new) × HasGathered after new
+    (h : Histories) → HasGathered h old → (after : Histories) × StepsTo plan (world_of h old) step (world_of after new) × HasGathered after new
 
 -- v takes the oldest that u has for it, whatever histories the network has
 abbrev pub TakesTo : Network → ℕ → ℕ → Network → Type 0

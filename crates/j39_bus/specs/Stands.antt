@@ -11,7 +11,7 @@ use Rattle.j39_world.specs.World.{World}
 use Rattle.j39_bus.specs.Stations.{station_at}
 use Rattle.j39_bus.specs.BusState.{BusState, undelivered, wire_of, session_at, receiving_at}
 use Rattle.j39_world.specs.Flows.{flows_of, windows_of}
-use Rattle.j39_world.specs.Transfers.{settled}
+use Rattle.j39_world.specs.Transfers.{closed_if_complete}
 use Rattle.j39_world.specs.Run.{refusal, cause_of, takes_memory, RunsThrough}
 
 -- the bus stands for this world of the plan
@@ -26,7 +26,7 @@ pub record Stands (b : BusState) (plan : Plan) (w : World) : Type 0 where
   pub windows : b.traffic.windows ≡ windows_of plan
   pub sessions : w.sessions ≡ session_at b.traffic.transfers
   pub wire : w.wire ≡ wire_of b.traffic
-  pub receivers : w.receivers ≡ (λ v u. settled (receiving_at b.traffic.transfers v u).progress)
+  pub receivers : w.receivers ≡ (λ v u. closed_if_complete (receiving_at b.traffic.transfers v u).progress)
   -- what a receiver holds is what it took of the message that is announced last
   pub gathered : (v u : ℕ) → let r : Receiving = receiving_at b.traffic.transfers v u in Gathers (w.taken v u) r.progress r.bytes
   pub reports : w.reports ≡ b.traffic.reports

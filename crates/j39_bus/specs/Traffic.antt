@@ -29,14 +29,14 @@ use Rattle.j39_bus.specs.BusState.{Transfer, Traffic, receiver_of, session_at}
 use Rattle.j39_world.specs.Sent as frames
 use Rattle.j39_world.specs.SentTransfers.{packet_frame, short_frame}
 use Rattle.j39_world.specs.Flows.{Flow, dest_of, window_at}
-use Rattle.j39_world.specs.Transfers.{Outgoing, Reported, settled}
+use Rattle.j39_world.specs.Transfers.{Outgoing, Reported, closed_if_complete}
 use Rattle.j39_world.specs.TransferSteps.{hearing, session_after}
-use Rattle.j39_world.specs.World.{World, Stations, changed, changed_pair, hears}
+use Rattle.j39_world.specs.World.{World, Stations, changed, changed_pair, is_other_on}
 
 -- ---- what contracts see
 
 abbrev pub route_of : Route → Flow
-route_of r = record { group = r.pgn; priority = r.priority; length = r.length; sender = r.sender; to = r.to }
+route_of r = record { pgn = r.pgn; priority = r.priority; length = r.length; sender = r.sender; to = r.to }
 
 abbrev pub reported_of : Report → Reported
 reported_of r = record { receiver = r.receiver; sender = r.sender; flow = r.flow; bytes = r.bytes.items }
@@ -55,7 +55,7 @@ stage_in (Long (Some s)) = s.stage
 abbrev pub transfer_of : made.Transfer → Transfer
 transfer_of t = record {
   flow = t.flow;
-  group = t.pgn;
+  pgn = t.pgn;
   to = t.to;
   bytes = bytes_in t.content;
   stage = stage_in t.content;
@@ -192,7 +192,7 @@ item_frame source destination flow (wired.Packet p) = packet_frame source destin
 
 -- a message of the flow goes to the unit
 abbrev pub is_target_of : Stations → ℕ → To → ℕ → Bool
-is_target_of stations u ToAll v = hears stations u v
+is_target_of stations u ToAll v = is_other_on stations u v
 is_target_of stations u (ToOne one) v = nat_eq v one
 
 abbrev pub is_target : Stations → Flow → ℕ → Bool
@@ -219,7 +219,7 @@ abbrev pub packet_heard : List ℕ → World → ℕ → ℕ → Packet → Worl
 packet_heard windows w u v p = record w {
   sessions = changed w.sessions v (session_after (w.sessions v) u p);
   wire = changed_pair w.wire u v (drop 1 (w.wire u v));
-  receivers = changed_pair w.receivers v u (settled (hearing windows w u v p).0);
+  receivers = changed_pair w.receivers v u (closed_if_complete (hearing windows w u v p).0);
   taken = changed_pair w.taken v u (w.taken v u ++ p ∷ []);
 }
 

@@ -105,7 +105,7 @@ pub(crate) fn next_packet(transfers: &mut Vec<Option<Transfer>>, unit: usize) ->
 pub(crate) fn time_out(transfers: &mut Vec<Option<Transfer>>, unit: usize) -> Option<Packet>
     requires unit { unit < length transfers.old.items }
     requires content { HasOwnContent (slice_index_or transfers.old.items unit None) }
-    ensures packet { result ≡ option_and_then (λ (s : Outgoing). timeout_packet s.group s.stage) (session_at (values_of transfers.old.items) unit) }
+    ensures packet { result ≡ option_and_then (λ (s : Outgoing). timeout_packet s.pgn s.stage) (session_at (values_of transfers.old.items) unit) }
     ensures session { session_at (values_of transfers.new.items) ≡ changed (session_at (values_of transfers.old.items)) unit (at_stage (λ s. after_timeout s.stage) (session_at (values_of transfers.old.items) unit)) }
     ensures receivers { KeepsReceivers transfers.old.items transfers.new.items }
     ensures form { KeepsTransfers transfers.old.items transfers.new.items }

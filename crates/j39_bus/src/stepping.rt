@@ -2,7 +2,7 @@
 ghost use Rattle.std.specs.Prelude.{◌≡◌, true, None, OnOk, OnErr, IfErr, length};
 ghost use Rattle.j39_plan.specs.declared.plan.Plan.{Plan};
 ghost use Rattle.j39_world.specs.World.{World};
-ghost use Rattle.j39_world.specs.Run.{refusal, cause_of, takes_memory, Leads, RunsThrough};
+ghost use Rattle.j39_world.specs.Run.{refusal, cause_of, takes_memory, StepsTo, RunsThrough};
 ghost use Rattle.j39_bus.specs.Stands.{Stands, IsRefusedAt};
 
 use crate::network::Network;
@@ -80,7 +80,7 @@ impl Bus {
     /// `StepError`. Want of memory comes only where no cause holds, and never for `Down`, `Lose` and `Rest`; it changes nothing either.
     pub fn step(&mut self, step: &Step) -> Result<(), StepError>
         ensures ok { OnOk result ((plan : Plan) (w : World) → Stands self.old plan w
-            → (refusal plan w step.now ≡ None) × ((after : World) × Leads plan w step.now after × Stands self.new plan after)) }
+            → (refusal plan w step.now ≡ None) × ((after : World) × StepsTo plan w step.now after × Stands self.new plan after)) }
         ensures refused { IfErr result (λ e. (plan : Plan) (w : World) → Stands self.old plan w → refusal plan w step.now ≡ cause_of e) }
         ensures memory { IfErr result (λ e. e ≡ StepError.Memory → takes_memory step.now ≡ true) }
         ensures same { OnErr result (self.new ≡ self.old) }

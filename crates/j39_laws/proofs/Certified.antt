@@ -39,7 +39,7 @@ pub sound_by_laws : (plan : Plan) → Clean plan
 sound_by_laws plan clean addresses different kept settles signals reports acknowledged = record {
   addresses = λ steps w run. addresses plan steps w clean run;
   quiet = λ steps w run. different plan steps w clean run;
-  sending = λ steps w run (u, o, is). different plan steps w clean run (quiet_where_empty w.claims ((reports plan steps w run).settled u o is));
+  sending = λ steps w run (u, o, is). different plan steps w clean run (quiet_where_empty w.claims ((reports plan steps w run).delivered u o is));
   kept = λ steps w run. kept plan steps w clean run;
   settles = λ steps w run. settles plan steps w (clean_units plan clean).names run;
   signals = signals plan clean;

@@ -11,7 +11,7 @@ use Rattle.j39_world.specs.declared.step_error.StepError.{StepError}
 use Rattle.j39_bus.specs.BusState.{BusState, undelivered}
 use Rattle.j39_world.specs.Claimants.{claimant_of}
 use Rattle.j39_bus.specs.Stations.{station_at}
-use Rattle.j39_world.specs.Run.{Leads, RunsThrough, refusal}
+use Rattle.j39_world.specs.Run.{StepsTo, RunsThrough, refusal}
 use Rattle.j39_world.specs.Sent.{sent_of}
 use Rattle.j39_world.specs.Sound.{IsQuiet}
 use Rattle.j39_bus.specs.Stands.{Stands}
@@ -64,7 +64,7 @@ blank_done plan b ls l place written text h is = one_more plan b b ls l None pla
 
 pub step_done : (plan : Plan) (old new : BusState) (ls : List Line) (l : Line) (step : Step) (place shown : ℕ) (written text more : List ℕ) (before now : List Frame)
     → HasDone plan old ls place written text → line_order plan l ≡ read_as (Some step)
-    → ((p : Plan) (w : World) → Stands old p w → (refusal p w step ≡ None) × ((after : World) × Leads p w step after × Stands new p after))
+    → ((p : Plan) (w : World) → Stands old p w → (refusal p w step ≡ None) × ((after : World) × StepsTo p w step after × Stands new p after))
     → map sent_of before ≡ old.frames → map sent_of now ≡ new.frames → shown ≡ length before → more ≡ text ++ sent_lines (map sent_of (drop shown now))
     → HasDone plan new (ls ++ l ∷ []) (place + 1) written more
 step_done plan old new ls l step place shown written text more before now h is done had has at more_is =

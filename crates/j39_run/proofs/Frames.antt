@@ -14,7 +14,7 @@ use Rattle.j39_bus.specs.BusState.{BusState}
 use Rattle.j39_world.specs.Claimants.{units_of}
 use Rattle.j39_world.specs.ClaimSteps.{GivenFrom}
 use Rattle.j39_world.specs.Flows.{Flow, flows_of, windows_of}
-use Rattle.j39_world.specs.Run.{Leads, count_of}
+use Rattle.j39_world.specs.Run.{StepsTo, count_of}
 use Rattle.j39_world.specs.Sent.{Sent, sent_of}
 use Rattle.j39_bus.specs.Stands.{Stands}
 use Rattle.j39_world.specs.TransferSteps.{BeginsAt, LostFrom, TakenFrom}
@@ -51,7 +51,7 @@ lose_grows : (w : World) (u v : ℕ) (items : List Wired) (after : World) → Lo
 lose_grows w u v [] after leads = absurd leads
 lose_grows w u v (item ∷ rest) after is = sends_none w after (ap (λ (x : World). x.frames) is)
 
-step_grows : (plan : Plan) (w : World) (step : Step) (after : World) → Leads plan w step after → Grows w after
+step_grows : (plan : Plan) (w : World) (step : Step) (after : World) → StepsTo plan w step after → Grows w after
 step_grows plan w (Up u) after is = sends w after _ (ap (λ (x : World). x.frames) is)
 step_grows plan w (Down u) after is = sends_none w after (ap (λ (x : World). x.frames) is)
 step_grows plan w (Give u v) after leads = given_grows (units_of plan) w u v (w.claims u v) after leads
@@ -73,7 +73,7 @@ sent_lines-append (x ∷ xs) ys = ap (λ (t : List ℕ). sent_line x ++ t) (sent
 
 -- the lines of the frames that a step added stand behind those of the frames before it
 pub lines_grow : (plan : Plan) (old new : BusState) (w after : World) (step : Step) (before now : List Frame) (place : ℕ)
-    → Stands old plan w → Leads plan w step after → Stands new plan after → map sent_of before ≡ old.frames → map sent_of now ≡ new.frames → place ≡ length before
+    → Stands old plan w → StepsTo plan w step after → Stands new plan after → map sent_of before ≡ old.frames → map sent_of now ≡ new.frames → place ≡ length before
     → sent_lines old.frames ++ sent_lines (map sent_of (drop place now)) ≡ sent_lines new.frames
 lines_grow plan old new w after step before now place s leads s' had has at =
     let (more, is) = step_grows plan w step after leads in

@@ -7,12 +7,12 @@ use Rattle.j39_claim.specs.declared.item.Item.TheVariants.{Told, Request}
 use Rattle.j39_claim.specs.ClaimRule.{PlannedUnit, ClaimState, Answers, claim_of, off, started}
 use Rattle.j39_world.specs.Claimants.{unit_at}
 use Rattle.j39_world.specs.Sent.{frame_of}
-use Rattle.j39_world.specs.World.{World, Stations, Undelivered, changed, changed_pair, hears}
+use Rattle.j39_world.specs.World.{World, Stations, Undelivered, changed, changed_pair, is_other_on}
 
 -- the items join the list of u to every other unit that is on
 abbrev pub told_to_others : Stations → Undelivered → ℕ → List Item → Undelivered
 told_to_others stations claims u items s t =
-    cond (nat_eq s u && hears stations u t) (claims s t ++ items) (claims s t)
+    cond (nat_eq s u && is_other_on stations u t) (claims s t ++ items) (claims s t)
 
 -- u tells all others, each item by one frame
 abbrev pub tell : List PlannedUnit → World → ℕ → List Item → World

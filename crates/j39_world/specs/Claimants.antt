@@ -1,5 +1,5 @@
 -- What the claim steps need of a plan: what each unit claims as.
-use Rattle.std.specs.Prelude.{ℕ, Bool, nat_lt, List, map, length, slice_index_or}
+use Rattle.std.specs.Prelude.{ℕ, List, map, slice_index_or}
 use Rattle.std.specs.FinSet.{FinSet, empty}
 use Rattle.std.specs.Ordering.{nat_cmp}
 use Rattle.j39_claim.specs.ClaimRule.{PlannedUnit}
@@ -17,6 +17,3 @@ units_of plan = map (claimant_of plan.keep_free) plan.units.items
 -- the unit at a place
 abbrev pub unit_at : List PlannedUnit → ℕ → PlannedUnit
 unit_at units u = slice_index_or units u (record { name = 0; preferred = 0; kept = empty })
-
-abbrev pub is_place : List PlannedUnit → ℕ → Bool
-is_place units u = nat_lt u (length units)

@@ -12,9 +12,9 @@ use Rattle.j39_plan.specs.declared.plan.group_plan.GroupPlan.{GroupPlan}
 use Rattle.j39_plan.specs.declared.plan.to.To.{To}
 use Rattle.j39_plan.specs.declared.plan.to.To.TheVariants.{All, One}
 
--- a flow, with the number, the priority and the length of its group
+-- a flow, with the PGN, the priority and the length of its group
 pub record Flow : Type 0 where
-  pub group : ℕ
+  pub pgn : ℕ
   pub priority : ℕ
   pub length : ℕ
   pub sender : ℕ
@@ -23,7 +23,7 @@ pub record Flow : Type 0 where
 -- a planned flow; it names its group by place
 abbrev pub flow_of : List GroupPlan → FlowPlan → Flow
 flow_of groups f = record {
-  group = option_map_or (λ (g : GroupPlan). g.pgn) (slice_get groups f.group) 0;
+  pgn = option_map_or (λ (g : GroupPlan). g.pgn) (slice_get groups f.group) 0;
   priority = option_map_or (λ (g : GroupPlan). g.priority) (slice_get groups f.group) 0;
   length = option_map_or (λ (g : GroupPlan). g.length) (slice_get groups f.group) 0;
   sender = f.sender;
@@ -52,7 +52,7 @@ is_short size = nat_le size frame_bytes
 -- a flow to one unit goes to another one, and its group can be sent to one
 abbrev pub can_go_to : Flow → To → Bool
 can_go_to flow All = true
-can_go_to flow (One v) = not (nat_eq v flow.sender) && not (is_pdu2 flow.group && is_short flow.length)
+can_go_to flow (One v) = not (nat_eq v flow.sender) && not (is_pdu2 flow.pgn && is_short flow.length)
 
 abbrev pub can_be_sent : Flow → Bool
 can_be_sent flow = can_go_to flow flow.to

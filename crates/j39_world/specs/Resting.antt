@@ -10,15 +10,15 @@ use Rattle.j39_world.specs.World.{World}
 
 -- what a sender sends its receivers, and an Abort, which may be of either
 abbrev pub is_of_sender : Wired → Bool
-is_of_sender (wired.Packet (Cts count first group)) = false
-is_of_sender (wired.Packet (EndAck size group)) = false
+is_of_sender (wired.Packet (Cts count first pgn)) = false
+is_of_sender (wired.Packet (EndAck size pgn)) = false
 is_of_sender _ = true
 
 -- what a receiver answers, and an Abort
 abbrev pub is_of_receiver : Wired → Bool
-is_of_receiver (wired.Packet (Cts count first group)) = true
-is_of_receiver (wired.Packet (EndAck size group)) = true
-is_of_receiver (wired.Packet (Abort reason group)) = true
+is_of_receiver (wired.Packet (Cts count first pgn)) = true
+is_of_receiver (wired.Packet (EndAck size pgn)) = true
+is_of_receiver (wired.Packet (Abort reason pgn)) = true
 is_of_receiver _ = false
 
 -- nothing of a message of u to v is open or undelivered

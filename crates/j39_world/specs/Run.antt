@@ -11,7 +11,8 @@ use Rattle.j39_plan.specs.declared.plan.to.To.TheVariants.{All, One}
 use Rattle.j39_plan.specs.declared.steps.Step.{Step}
 use Rattle.j39_plan.specs.declared.steps.Step.TheVariants.{Up, Down, Give, Ask, Begin, Emit, Take, Lose, LateSender, LateReceiver, Rest}
 use Rattle.j39_world.specs.declared.step_error.StepError.{StepError}
-use Rattle.j39_world.specs.declared.step_error.StepError.TheVariants.{UnknownUnit, NoSuchFlow, NotStarted, AlreadyStarted, NothingUndelivered, TransferOpen, NotSettled, NoAddress, Busy, WrongLength, NothingToSend, NoSession, CannotRest, Memory}
+use Rattle.j39_world.specs.declared.step_error.StepError.TheVariants.{UnknownUnit, NoSuchFlow, NotStarted, AlreadyStarted, NothingUndelivered, TransferOpen, NotSettled, NoAddress}
+use Rattle.j39_world.specs.declared.step_error.StepError.TheVariants.{Busy, WrongLength, NothingToSend, NoSession, CannotRest, Memory}
 use Rattle.j39_world.specs.Claimants.{units_of}
 use Rattle.j39_world.specs.Flows.{Flow, flows_of, windows_of, can_be_sent}
 use Rattle.j39_world.specs.Transfers.{Outgoing}
@@ -65,64 +66,64 @@ is_waiting (Some s) = is_waiting_at s.stage
 
 -- ---- refusals
 
--- this cause where the condition is not met, else what else there is
-abbrev pub unless : Bool → StepError → Option StepError → Option StepError
-unless met e more = cond met more (Some e)
+-- this cause where the condition doesn't hold, else what else there is
+abbrev pub refuse_unless : Bool → StepError → Option StepError → Option StepError
+refuse_unless holds e more = cond holds more (Some e)
 
 abbrev pub begin_refusal : ℕ → World → Option Flow → List ℕ → Option StepError
 begin_refusal count w None bytes = Some NoSuchFlow
 begin_refusal count w (Some flow) bytes =
-    unless (can_be_sent flow) NoSuchFlow (
-    unless (at_ends (is_on w) flow.sender flow.to) NotStarted (
-    unless (is_nothing_undelivered count w.claims) NotSettled (
-    unless (at_ends (has_address w) flow.sender flow.to) NoAddress (
-    unless (not (is_some (w.sessions flow.sender))) Busy (
-    unless (length bytes == flow.length) WrongLength None)))))
+    refuse_unless (can_be_sent flow) NoSuchFlow (
+    refuse_unless (at_ends (is_on w) flow.sender flow.to) NotStarted (
+    refuse_unless (is_nothing_undelivered count w.claims) NotSettled (
+    refuse_unless (at_ends (has_address w) flow.sender flow.to) NoAddress (
+    refuse_unless (not (is_some (w.sessions flow.sender))) Busy (
+    refuse_unless (length bytes == flow.length) WrongLength None)))))
 
 -- the first cause in the numbered order for which a step is refused, among so many units with these flows; want of memory is
 -- none of the world's
 abbrev pub refusal_among : ℕ → List Flow → World → Step → Option StepError
 refusal_among count flows w (Up u) =
-    unless (nat_lt u count) UnknownUnit (
-    unless (not (is_on w u)) AlreadyStarted (
-    unless (is_no_transfer_open count w) TransferOpen None))
+    refuse_unless (nat_lt u count) UnknownUnit (
+    refuse_unless (not (is_on w u)) AlreadyStarted (
+    refuse_unless (is_no_transfer_open count w) TransferOpen None))
 refusal_among count flows w (Down u) =
-    unless (nat_lt u count) UnknownUnit (
-    unless (is_on w u) NotStarted (
-    unless (is_no_transfer_open count w) TransferOpen None))
+    refuse_unless (nat_lt u count) UnknownUnit (
+    refuse_unless (is_on w u) NotStarted (
+    refuse_unless (is_no_transfer_open count w) TransferOpen None))
 refusal_among count flows w (Give u v) =
-    unless (both (λ x. nat_lt x count) u v) UnknownUnit (
-    unless (is_on w v) NotStarted (
-    unless (nat_lt 0 (length (w.claims u v))) NothingUndelivered None))
+    refuse_unless (both (λ x. nat_lt x count) u v) UnknownUnit (
+    refuse_unless (is_on w v) NotStarted (
+    refuse_unless (nat_lt 0 (length (w.claims u v))) NothingUndelivered None))
 refusal_among count flows w (Ask u) =
-    unless (nat_lt u count) UnknownUnit (
-    unless (is_on w u) NotStarted (
-    unless (is_no_transfer_open count w) TransferOpen None))
+    refuse_unless (nat_lt u count) UnknownUnit (
+    refuse_unless (is_on w u) NotStarted (
+    refuse_unless (is_no_transfer_open count w) TransferOpen None))
 refusal_among count flows w (Begin f bytes) = begin_refusal count w (slice_get flows f) bytes.items
 refusal_among count flows w (Emit u) =
-    unless (nat_lt u count) UnknownUnit (
-    unless (is_on w u) NotStarted (
-    unless (can_emit (w.sessions u)) NothingToSend None))
+    refuse_unless (nat_lt u count) UnknownUnit (
+    refuse_unless (is_on w u) NotStarted (
+    refuse_unless (can_emit (w.sessions u)) NothingToSend None))
 refusal_among count flows w (Take u v) =
-    unless (both (λ x. nat_lt x count) u v) UnknownUnit (
-    unless (both (is_on w) u v) NotStarted (
-    unless (nat_lt 0 (length (w.wire u v))) NothingUndelivered None))
+    refuse_unless (both (λ x. nat_lt x count) u v) UnknownUnit (
+    refuse_unless (both (is_on w) u v) NotStarted (
+    refuse_unless (nat_lt 0 (length (w.wire u v))) NothingUndelivered None))
 refusal_among count flows w (Lose u v) =
-    unless (both (λ x. nat_lt x count) u v) UnknownUnit (
-    unless (both (is_on w) u v) NotStarted (
-    unless (nat_lt 0 (length (w.wire u v))) NothingUndelivered None))
+    refuse_unless (both (λ x. nat_lt x count) u v) UnknownUnit (
+    refuse_unless (both (is_on w) u v) NotStarted (
+    refuse_unless (nat_lt 0 (length (w.wire u v))) NothingUndelivered None))
 refusal_among count flows w (LateSender u) =
-    unless (nat_lt u count) UnknownUnit (
-    unless (is_on w u) NotStarted (
-    unless (is_waiting (w.sessions u)) NoSession None))
+    refuse_unless (nat_lt u count) UnknownUnit (
+    refuse_unless (is_on w u) NotStarted (
+    refuse_unless (is_waiting (w.sessions u)) NoSession None))
 refusal_among count flows w (LateReceiver u v) =
-    unless (both (λ x. nat_lt x count) u v) UnknownUnit (
-    unless (both (is_on w) u v) NotStarted (
-    unless (is_open_at (w.receivers v u)) NoSession None))
+    refuse_unless (both (λ x. nat_lt x count) u v) UnknownUnit (
+    refuse_unless (both (is_on w) u v) NotStarted (
+    refuse_unless (is_open_at (w.receivers v u)) NoSession None))
 refusal_among count flows w (Rest u) =
-    unless (nat_lt u count) UnknownUnit (
-    unless (is_on w u) NotStarted (
-    unless (can_rest count w u) CannotRest None))
+    refuse_unless (nat_lt u count) UnknownUnit (
+    refuse_unless (is_on w u) NotStarted (
+    refuse_unless (can_rest count w u) CannotRest None))
 
 abbrev pub refusal : Plan → World → Step → Option StepError
 refusal plan w step = refusal_among (count_of plan) (flows_of plan) w step
@@ -142,22 +143,22 @@ takes_memory _ = true
 -- ---- steps and runs
 
 -- the step leads from one world to another, by some lawful choice
-abbrev pub Leads : Plan → World → Step → World → Type 0
-Leads plan w (Up u) new = new ≡ switched_on (units_of plan) w u
-Leads plan w (Down u) new = new ≡ switched_off w u
-Leads plan w (Give u v) new = GivenFrom (units_of plan) w u v (w.claims u v) new
-Leads plan w (Ask u) new = new ≡ asked (units_of plan) w u
-Leads plan w (Begin f bytes) new = BeginsAt (count_of plan) w f (slice_get (flows_of plan) f) bytes.items new
-Leads plan w (Emit u) new = Emits w u new
-Leads plan w (Take u v) new = TakenFrom (windows_of plan) w u v (w.wire u v) new
-Leads plan w (Lose u v) new = LostFrom w u v (w.wire u v) new
-Leads plan w (LateSender u) new = SenderTimesOut w u new
-Leads plan w (LateReceiver u v) new = new ≡ receiver_timed_out (windows_of plan) w u v
-Leads plan w (Rest u) new = new ≡ rested w u
+abbrev pub StepsTo : Plan → World → Step → World → Type 0
+StepsTo plan w (Up u) new = new ≡ switched_on (units_of plan) w u
+StepsTo plan w (Down u) new = new ≡ switched_off w u
+StepsTo plan w (Give u v) new = GivenFrom (units_of plan) w u v (w.claims u v) new
+StepsTo plan w (Ask u) new = new ≡ asked (units_of plan) w u
+StepsTo plan w (Begin f bytes) new = BeginsAt (count_of plan) w f (slice_get (flows_of plan) f) bytes.items new
+StepsTo plan w (Emit u) new = Emits w u new
+StepsTo plan w (Take u v) new = TakenFrom (windows_of plan) w u v (w.wire u v) new
+StepsTo plan w (Lose u v) new = LostFrom w u v (w.wire u v) new
+StepsTo plan w (LateSender u) new = SenderTimesOut w u new
+StepsTo plan w (LateReceiver u v) new = new ≡ receiver_timed_out (windows_of plan) w u v
+StepsTo plan w (Rest u) new = new ≡ rested w u
 
 -- what follows a world by a step: a refused step leaves it
 abbrev pub Follows : Plan → World → Step → World → Type 0
-Follows plan w step new = MatchBool (is_some (refusal plan w step)) (new ≡ w) (Leads plan w step new)
+Follows plan w step new = MatchBool (is_some (refusal plan w step)) (new ≡ w) (StepsTo plan w step new)
 
 -- a run of these steps goes from one world to another
 abbrev pub Run : Plan → World → List Step → World → Type 0
@@ -168,4 +169,4 @@ Run plan w (step ∷ steps) new = (mid : World) × Follows plan w step mid × Ru
 abbrev pub RunsThrough : Plan → World → List Step → World → Type 0
 RunsThrough plan w [] new = new ≡ w
 RunsThrough plan w (step ∷ steps) new =
-    (mid : World) × (refusal plan w step ≡ None) × Leads plan w step mid × RunsThrough plan mid steps new
+    (mid : World) × (refusal plan w step ≡ None) × StepsTo plan w step mid × RunsThrough plan mid steps new

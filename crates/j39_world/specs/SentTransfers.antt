@@ -33,4 +33,4 @@ packet_frame source destination p = record { identifier = identifier_of 7 (group
 -- the frame of a message of at most eight bytes, with its group's priority
 abbrev pub short_frame : ℕ → ℕ → Flow → List ℕ → Sent
 short_frame source destination flow bytes =
-    record { identifier = identifier_of flow.priority flow.group destination source; payload = bytes }
+    record { identifier = identifier_of flow.priority flow.pgn destination source; payload = bytes }

@@ -56,7 +56,7 @@ pub record AreReportsSound (w : World) : Type 0 where
   -- what a unit reports of another was begun by it, in this order, and nothing twice
   pub begun : (v u : ℕ) → IsSubsequence (reported w.reports v u) (w.begun u v)
   -- while a unit sends a message nothing is undelivered that could move an address
-  pub settled : (u : ℕ) (o : Outgoing) → w.sessions u ≡ Some o → (s t : ℕ) → w.claims s t ≡ []
+  pub delivered : (u : ℕ) (o : Outgoing) → w.sessions u ≡ Some o → (s t : ℕ) → w.claims s t ≡ []
 
 -- a sender that rests acknowledged sends to one unit, and the last message that this one reported of it is the sender's
 abbrev pub IsAcknowledgedReported : World → Type 0

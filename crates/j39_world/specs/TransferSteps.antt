@@ -22,8 +22,8 @@ use Rattle.j39_world.specs.declared.wired.Wired.TheVariants as wired
 use Rattle.j39_world.specs.Flows.{Flow, dest_of, is_short, window_at}
 use Rattle.j39_world.specs.Sent as frames
 use Rattle.j39_world.specs.SentTransfers.{address_of, destination_of, packet_frame, short_frame}
-use Rattle.j39_world.specs.Transfers.{Outgoing, Reported, is_among, added, settled}
-use Rattle.j39_world.specs.World.{World, Stations, changed, changed_pair, hears}
+use Rattle.j39_world.specs.Transfers.{Outgoing, Reported, is_among, added, closed_if_complete}
+use Rattle.j39_world.specs.World.{World, Stations, changed, changed_pair, is_other_on}
 
 -- ---- what is sent
 
@@ -48,7 +48,7 @@ replied w v u packets =
 
 -- its receivers: the one unit, or every other unit that is on
 abbrev pub targets_of : ℕ → Stations → ℕ → To → List ℕ
-targets_of count stations u All = filter (hears stations u) (range_with_len 0 count)
+targets_of count stations u All = filter (is_other_on stations u) (range_with_len 0 count)
 targets_of count stations u (One v) = v ∷ []
 
 -- one of one frame has ended
@@ -58,7 +58,7 @@ begun_stage flow bytes = if is_short (length bytes) then Resting Sent else sende
 abbrev pub outgoing : ℕ → Stations → ℕ → Flow → List ℕ → Outgoing
 outgoing count stations f flow bytes = record {
   flow = f;
-  group = flow.group;
+  pgn = flow.pgn;
   to = flow.to;
   targets = targets_of count stations flow.sender flow.to;
   bytes = bytes;
@@ -69,14 +69,14 @@ outgoing count stations f flow bytes = record {
 abbrev pub first_item : Flow → List ℕ → Wired
 first_item flow bytes =
     if is_short (length bytes) then wired.Short bytes
-    else wired.Packet (sender.announcement (dest_of flow.to) flow.group (length bytes))
+    else wired.Packet (sender.announcement (dest_of flow.to) flow.pgn (length bytes))
 
 abbrev pub first_frame : Stations → Flow → List ℕ → frames.Sent
 first_frame stations flow bytes =
     let source : ℕ = address_of stations flow.sender in
     let destination : ℕ = destination_of stations flow.to in
     if is_short (length bytes) then short_frame source destination flow bytes
-    else packet_frame source destination (sender.announcement (dest_of flow.to) flow.group (length bytes))
+    else packet_frame source destination (sender.announcement (dest_of flow.to) flow.pgn (length bytes))
 
 -- the sender of flow f begins to send these bytes
 abbrev pub begins : ℕ → World → ℕ → Flow → List ℕ → World
@@ -102,7 +102,7 @@ Emits w u new =
 -- u hears nothing in time, and gives its message up
 abbrev pub SenderTimesOut : World → ℕ → World → Type 0
 SenderTimesOut w u new =
-    (s : Outgoing) × (p : Packet) × (w.sessions u ≡ Some s) × (sender.timeout_packet s.group s.stage ≡ Some p)
+    (s : Outgoing) × (p : Packet) × (w.sessions u ≡ Some s) × (sender.timeout_packet s.pgn s.stage ≡ Some p)
     × (new ≡ record (sent_along w u s p) { sessions = changed w.sessions u (Some (record s { stage = sender.after_timeout s.stage })) })
 
 -- u is idle again
@@ -114,7 +114,7 @@ rested w u = record w { sessions = changed w.sessions u None }
 -- a sender hears its receivers alone
 abbrev pub session_hears : Outgoing → ℕ → Packet → Stage × Reaction
 session_hears s u p =
-    if is_among s.targets u then sender.hears (dest_of s.to) s.group (length s.bytes) s.stage p else (s.stage, reactions.Nothing)
+    if is_among s.targets u then sender.hears (dest_of s.to) s.pgn (length s.bytes) s.stage p else (s.stage, reactions.Nothing)
 
 abbrev pub session_after : Option Outgoing → ℕ → Packet → Option Outgoing
 session_after None u p = None
@@ -148,7 +148,7 @@ hearing windows w u v p = receiver.hears (Answering (window_at windows v)) (w.re
 -- the report of a message that is complete by a packet: the one that all packets carry which v took from u
 abbrev pub ReportsOne : World → ℕ → ℕ → Packet → List Reported → Type 0
 ReportsOne w u v p reports =
-    (group : ℕ) × (bytes : List ℕ) × Carried (w.taken v u ++ p ∷ []) (length (w.taken v u)) group bytes
+    (pgn : ℕ) × (bytes : List ℕ) × Carried (w.taken v u ++ p ∷ []) (length (w.taken v u)) pgn bytes
     × (reports ≡ report w u v bytes ∷ [])
 
 abbrev pub Reports : World → ℕ → ℕ → Packet → Heard → List Reported → Type 0
@@ -164,7 +164,7 @@ packet_taken windows w u v rest p reports =
     (record w {
       sessions = changed w.sessions v (session_after (w.sessions v) u p);
       wire = changed_pair w.wire u v rest;
-      receivers = changed_pair w.receivers v u (settled heard.0);
+      receivers = changed_pair w.receivers v u (closed_if_complete heard.0);
       taken = changed_pair w.taken v u (w.taken v u ++ p ∷ []);
       reports = w.reports ++ reports;
     })
@@ -194,4 +194,4 @@ packets_in (Some p) = p ∷ []
 abbrev pub receiver_timed_out : List ℕ → World → ℕ → ℕ → World
 receiver_timed_out windows w u v =
     let late : Progress × Option Packet = receiver.timed_out (Answering (window_at windows v)) (w.receivers v u) in
-    replied (record w { receivers = changed_pair w.receivers v u (settled late.0) }) v u (packets_in late.1)
+    replied (record w { receivers = changed_pair w.receivers v u (closed_if_complete late.0) }) v u (packets_in late.1)

@@ -9,11 +9,11 @@ use Rattle.j39_tp.specs.Sender.{outcome_of}
 use Rattle.j39_plan.specs.declared.plan.to.To.{To}
 use Rattle.j39_world.specs.declared.wired.Wired.{Wired}
 
--- a message that a unit sends, from its beginning until the unit rests: the place of its flow, the number of its group,
+-- a message that a unit sends, from its beginning until the unit rests: the place of its flow, its PGN,
 -- whom it goes to, its receivers in rising order, its bytes, and how far it is. One of one frame is at its end at once
 pub record Outgoing : Type 0 where
   pub flow : ℕ
-  pub group : ℕ
+  pub pgn : ℕ
   pub to : To
   pub targets : List ℕ
   pub bytes : List ℕ
@@ -51,10 +51,10 @@ abbrev pub added : {X : Type 0} → (ℕ → ℕ → List X) → ℕ → List �
 added f u targets x s t = cond (nat_eq s u && is_among targets t) (f s t ++ x ∷ []) (f s t)
 
 -- a receiver whose message is complete is closed
-abbrev pub settled : Progress → Progress
-settled (Complete group) = Closed
-settled (Open r) = Open r
-settled Closed = Closed
+abbrev pub closed_if_complete : Progress → Progress
+closed_if_complete (Complete pgn) = Closed
+closed_if_complete (Open r) = Open r
+closed_if_complete Closed = Closed
 
 -- how a message ended, until its unit rests
 abbrev pub outcome_in : Option Outgoing → Option Outcome

@@ -5,7 +5,7 @@ use Rattle.j39_claim.specs.declared.item.Item.{Item}
 use Rattle.j39_claim.specs.declared.item.Item.TheVariants.{Told, Request}
 use Rattle.j39_claim.specs.ClaimerValue.{ClaimerValue}
 use Rattle.j39_queues.specs.Queued.{Queued, room_at}
-use Rattle.j39_world.specs.World.{hears}
+use Rattle.j39_world.specs.World.{is_other_on}
 use Rattle.j39_bus.specs.Stations.{station_at}
 
 abbrev pub is_request : Item → Bool

@@ -6,7 +6,7 @@ use Rattle.std.specs.List.{Contains, AllByRecursion}
 use Rattle.j39_claim.specs.declared.item.Item.{Item}
 use Rattle.j39_claim.specs.ClaimRule.{PlannedUnit}
 use Rattle.j39_world.specs.Claimants.{unit_at}
-use Rattle.j39_world.specs.World.{Stations, Undelivered, hears}
+use Rattle.j39_world.specs.World.{Stations, Undelivered, is_other_on}
 use Rattle.j39_world.specs.ClaimSteps.{told_to_others}
 use Rattle.j39_laws.proofs.Addresses.AddressInvariant.{IsSaid}
 use Rattle.j39_laws.proofs.Runs.Elements.{all-append}
@@ -14,7 +14,7 @@ use Rattle.j39_laws.proofs.Runs.Elements.{all-append}
 module _ (stations : Stations) (claims : Undelivered) (u : ℕ) (items : List Item) where
   -- nothing is lost
   pub still : (s t : ℕ) (x : Item) → Contains (claims s t) x → Contains (told_to_others stations claims u items s t) x
-  still s t x in_old = cond_both (eqb s u && hears stations u t) (claims s t ++ items) (claims s t) (λ xs. Contains xs x)
+  still s t x in_old = cond_both (eqb s u && is_other_on stations u t) (claims s t ++ items) (claims s t) (λ xs. Contains xs x)
       (λ _. Contains-append_left (claims s t) items x in_old) (λ _. in_old)
 
   -- each other unit that is on is told
@@ -27,9 +27,9 @@ module _ (stations : Stations) (claims : Undelivered) (u : ℕ) (items : List It
   pub said_more : (units : List PlannedUnit) → ((s t : ℕ) → AllByRecursion (IsSaid (unit_at units s)) (claims s t))
       → AllByRecursion (IsSaid (unit_at units u)) items
       → (s t : ℕ) → AllByRecursion (IsSaid (unit_at units s)) (told_to_others stations claims u items s t)
-  said_more units old more s t = cond_both (eqb s u && hears stations u t) (claims s t ++ items) (claims s t) (AllByRecursion (IsSaid (unit_at units s)))
+  said_more units old more s t = cond_both (eqb s u && is_other_on stations u t) (claims s t ++ items) (claims s t) (AllByRecursion (IsSaid (unit_at units s)))
       (λ is. all-append (IsSaid (unit_at units s)) (claims s t) items (old s t)
-      (rw (eqb-true s u (and_parts (eqb s u) (hears stations u t) is).0) more))
+      (rw (eqb-true s u (and_parts (eqb s u) (is_other_on stations u t) is).0) more))
       (λ _. old s t)
 
   pub not_itself : ((s : ℕ) → claims s s ≡ []) → (s : ℕ) → told_to_others stations claims u items s s ≡ []

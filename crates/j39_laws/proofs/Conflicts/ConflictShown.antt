@@ -26,20 +26,20 @@ use Rattle.j39_world.specs.Claimants.{claimant_of, units_of, unit_at}
 use Rattle.j39_world.specs.ClaimSteps.{GivenFrom, switched_on, given, told_to_others, without_lists_to, answer_items}
 use Rattle.j39_world.specs.Conflict.{IsLeftWithoutAddress, LeavesWithoutAddress}
 use Rattle.j39_world.specs.Run.{count_of, is_unit, both, is_on, is_no_transfer_open, refusal, Run, RunsThrough}
-use Rattle.j39_world.specs.World.{World, Stations, Undelivered, first, changed, changed_pair, hears}
+use Rattle.j39_world.specs.World.{World, Stations, Undelivered, first, changed, changed_pair, is_other_on}
 use Rattle.j39_laws.proofs.Certified.{quiet_where_empty}
 use Rattle.j39_laws.proofs.Settling.SettlingRuns.{answered}
 use Rattle.j39_laws.proofs.Runs.Changed.{IsElsewhere, changed_here, changed_elsewhere, pair_here_or_elsewhere, pair_here, pair_elsewhere}
 use Rattle.j39_laws.proofs.Runs.Always.{follows_to_leads, leads_to_follows}
-use Rattle.j39_laws.proofs.Runs.Conditions.{all_met}
+use Rattle.j39_laws.proofs.Runs.Conditions.{not_refused}
 
 -- ---- who is told, where few are on
 
 module _ (stations : Stations) (claims : Undelivered) (u : ℕ) (items : List Item) where
-  not_told : (s t : ℕ) → hears stations u t ≡ false → told_to_others stations claims u items s t ≡ claims s t
-  not_told s t deaf = cond-false (eqb s u && hears stations u t) (claims s t ++ items) (claims s t) (and_right (eqb s u) (hears stations u t) deaf)
+  not_told : (s t : ℕ) → is_other_on stations u t ≡ false → told_to_others stations claims u items s t ≡ claims s t
+  not_told s t deaf = cond-false (eqb s u && is_other_on stations u t) (claims s t ++ items) (claims s t) (and_right (eqb s u) (is_other_on stations u t) deaf)
 
-  is_deaf : (t : ℕ) → (t ≢ u → (stations t).on ≡ false) → hears stations u t ≡ false
+  is_deaf : (t : ℕ) → (t ≢ u → (stations t).on ≡ false) → is_other_on stations u t ≡ false
   is_deaf t off = elim (cases_eq t u) [
     | inl same ↦ let e : eqb t u ≡ true = eq-eqb t u same in and_right (stations t).on (not (eqb t u)) (rw e refl)
     | inr other ↦ and_left (stations t).on (not (eqb t u)) (off other)
@@ -53,13 +53,14 @@ module _ (stations : Stations) (claims : Undelivered) (u : ℕ) (items : List It
     -- where one other is on, this one is told
     one_told : (stations v).on ≡ true → told_to_others stations claims u items u v ≡ claims u v ++ items
     one_told on =
-        let here : (eqb u u && hears stations u v) ≡ true =
-        and_from (eqb u u) (hears stations u v) (eq-eqb u u refl) (and_from (stations v).on (not (eqb v u)) on (ap not (ne_eqb v u apart))) in
-        cond-true (eqb u u && hears stations u v) (claims u v ++ items) (claims u v) here
+        let here : (eqb u u && is_other_on stations u v) ≡ true =
+        and_from (eqb u u) (is_other_on stations u v) (eq-eqb u u refl) (and_from (stations v).on (not (eqb v u)) on (ap not (ne_eqb v u apart))) in
+        cond-true (eqb u u && is_other_on stations u v) (claims u v ++ items) (claims u v) here
 
     no_other_told : (s t : ℕ) → IsElsewhere u v s t → told_to_others stations claims u items s t ≡ claims s t
     no_other_told s t elsewhere = elim (cases_eq s u) [
-      | inr other ↦ cond-false (eqb s u && hears stations u t) (claims s t ++ items) (claims s t) (and_left (eqb s u) (hears stations u t) (ne_eqb s u other))
+      | inr other ↦ cond-false (eqb s u && is_other_on stations u t) (claims s t ++ items) (claims s t)
+          (and_left (eqb s u) (is_other_on stations u t) (ne_eqb s u other))
       | inl same ↦ not_told s t (is_deaf t (λ not_u. off t not_u (elsewhere same)))
     ]
 
@@ -125,7 +126,7 @@ module _ (plan : Plan) (l s : ℕ) (unit_l : is_unit plan l ≡ true) (unit_s : 
   nothing false xs is = is
 
   up_l : refusal plan first (Up l) ≡ None
-  up_l = all_met (is_unit plan l) true (is_no_transfer_open (count_of plan) first) UnknownUnit AlreadyStarted TransferOpen unit_l refl
+  up_l = not_refused (is_unit plan l) true (is_no_transfer_open (count_of plan) first) UnknownUnit AlreadyStarted TransferOpen unit_l refl
       (none_open (count_of plan) first (λ u. refl))
 
   one_on : IsOneOn (switched_on (units_of plan) first l)
@@ -142,7 +143,7 @@ module _ (plan : Plan) (l s : ℕ) (unit_l : is_unit plan l ≡ true) (unit_s : 
       }
 
   up_s : (w : World) → IsOneOn w → refusal plan w (Up s) ≡ None
-  up_s w is = all_met (is_unit plan s) (not (is_on w s)) (is_no_transfer_open (count_of plan) w) UnknownUnit AlreadyStarted TransferOpen
+  up_s w is = not_refused (is_unit plan s) (not (is_on w s)) (is_no_transfer_open (count_of plan) w) UnknownUnit AlreadyStarted TransferOpen
       unit_s (ap not (is.off s (λ e. apart (sym e)))) (none_open (count_of plan) w is.silent)
 
   still_one : (w : World) → IsOneOn w → (switched_on (units_of plan) w s).stations l ≡ started loser
@@ -170,7 +171,7 @@ module _ (plan : Plan) (l s : ℕ) (unit_l : is_unit plan l ≡ true) (unit_s : 
       → refusal plan w (Give from to) ≡ None
   gives w item from to is unit_from unit_to on_to =
       let some : ltb 0 (length (w.claims from to)) ≡ true = lt-ltb 0 (length (w.claims from to)) (rw is.list (omega arith)) in
-      all_met (both (is_unit plan) from to) (is_on w to) (ltb 0 (length (w.claims from to))) UnknownUnit NotStarted NothingUndelivered
+      not_refused (both (is_unit plan) from to) (is_on w to) (ltb 0 (length (w.claims from to))) UnknownUnit NotStarted NothingUndelivered
       (and_from (is_unit plan from) (is_unit plan to) unit_from unit_to) on_to some
 
   -- after the oldest item was heard nothing is undelivered
@@ -227,7 +228,7 @@ module _ (plan : Plan) (l s : ℕ) (unit_l : is_unit plan l ≡ true) (unit_s : 
       let at_l : changed w.stations s st l ≡ w.stations l = changed_elsewhere w.stations s st l apart in
       subst (IsLeftWithoutAddress l) (sym e) (record {
         quiet = quiet_where_empty (told_to_others (changed w.stations s st) mid s (answer_items says))
-            (λ x y. cond_both (eqb x s && hears (changed w.stations s st) s y) (mid x y ++ answer_items says) (mid x y) (λ xs. xs ≡ [])
+            (λ x y. cond_both (eqb x s && is_other_on (changed w.stations s st) s y) (mid x y ++ answer_items says) (mid x y) (λ xs. xs ≡ [])
             (λ _. both_none (mid x y) (answer_items says) (none x y) silent) (λ _. none x y));
         on = ap (λ (x : ClaimState). x.on) at_l ∙ is.two.on_l;
         without = ap (λ (x : ClaimState). x.address) at_l ∙ is.without;

@@ -12,7 +12,7 @@ use Rattle.j39_tp.specs.declared.receiving.progress.Progress.{Progress}
 use Rattle.j39_world.specs.declared.wired.Wired.{Wired}
 use Rattle.j39_world.specs.declared.wired.Wired.TheVariants as wired
 use Rattle.j39_world.specs.Resting.{is_of_sender, is_of_receiver}
-use Rattle.j39_world.specs.Transfers.{settled}
+use Rattle.j39_world.specs.Transfers.{closed_if_complete}
 use Rattle.j39_tp.specs.HonestPackets.{AnnouncesMessage}
 use Rattle.j39_tp.proofs.Honest.{tells_first, tells_more, carried_is}
 use Rattle.j39_laws.proofs.Runs.Elements.{all_tested}
@@ -50,7 +50,7 @@ short_taken (Some m) pair bytes rest is (inr (inr e)) = absurd (subst (AllByRecu
 
 -- what the receiver is then
 abbrev pub receiver_after : ℕ → Pair → Packet → Progress
-receiver_after window pair p = settled (hears (Answering window) pair.receiver p).0
+receiver_after window pair p = closed_if_complete (hears (Answering window) pair.receiver p).0
 
 abbrev pub heard_of : ℕ → Pair → Packet → Heard
 heard_of window pair p = (hears (Answering window) pair.receiver p).1
@@ -65,7 +65,7 @@ pub record Completes (o : Option Message) (window : ℕ) (pair : Pair) (p : Pack
   pub told : TellsMessage (heard_of window pair p)
   pub message : Message
   pub is : o ≡ Some message
-  pub carried : (group : ℕ) (bytes : List ℕ) → Carried (pair.taken ++ p ∷ []) (length pair.taken) group bytes → bytes ≡ message.begun.bytes
+  pub carried : (pgn : ℕ) (bytes : List ℕ) → Carried (pair.taken ++ p ∷ []) (length pair.taken) pgn bytes → bytes ≡ message.begun.bytes
   pub keeps : (back : List Wired) → Exchange o (record pair {
     wire = rest;
     back = back;
@@ -86,11 +86,11 @@ idle_taken window pair p rest e wire =
 ahead_taken : (m : Message) (window : ℕ) (pair : Pair) (p : Packet) (rest : List Wired) → IsAhead m pair → BeginsOnce m (wired.Packet p ∷ rest)
     → Takes (Some m) window pair p rest
 ahead_taken m window pair p rest e (inl here) =
-    let opens : AnnouncesMessage m.group m.begun.bytes p = here.0 in
+    let opens : AnnouncesMessage m.pgn m.begun.bytes p = here.0 in
     inl (record {
       told = subst (λ (q : Packet). TellsNothing (hears (Answering window) pair.receiver q).1) (sym opens.1)
-          (announcement_told window pair.receiver opens.0 m.group (length m.begun.bytes));
-      keeps = inr (inl (record { wire = here.1; gathers = tells_first pair.taken m.group m.begun.bytes p opens; back = e.back; unreported = e.unreported }));
+          (announcement_told window pair.receiver opens.0 m.pgn (length m.begun.bytes));
+      keeps = inr (inl (record { wire = here.1; gathers = tells_first pair.taken m.pgn m.begun.bytes p opens; back = e.back; unreported = e.unreported }));
     })
 ahead_taken m window pair p rest e (inr later) =
     let heard = closed_told window pair.receiver p e.closed (goes_on_unannounced m.begun.bytes p later.0) in
@@ -103,7 +103,7 @@ under_way_taken m window pair p rest e wire = elim (hears_told window pair.recei
     told = told;
     keeps = inr (inl (record {
       wire = wire.1;
-      gathers = tells_more pair.taken m.group m.begun.bytes p wire.0 e.gathers;
+      gathers = tells_more pair.taken m.pgn m.begun.bytes p wire.0 e.gathers;
       back = e.back;
       unreported = e.unreported;
     }));
@@ -112,7 +112,7 @@ under_way_taken m window pair p rest e wire = elim (hears_told window pair.recei
     told = told.0;
     message = m;
     is = refl;
-    carried = λ group bytes c. (carried_is pair.taken p m.group m.begun.bytes e.gathers wire.0 group bytes c).1;
+    carried = λ pgn bytes c. (carried_is pair.taken p m.pgn m.begun.bytes e.gathers wire.0 pgn bytes c).1;
     keeps =
         λ back. inr (inr (record { wire = wire.1; closed = told.1; back = inr (pair.reports, refl); part = part_with m pair.begun pair.reports e.unreported }));
   })

@@ -36,14 +36,14 @@ pair_of w u v = record {
 
 -- what a sender sends to one of its receivers
 pub record Message : Type 0 where
-  pub group : ℕ
+  pub pgn : ℕ
   pub begun : Begun
 
 abbrev pub begun_of : Outgoing → Begun
 begun_of s = record { flow = s.flow; bytes = s.bytes }
 
 abbrev pub message_for : Bool → Outgoing → Option Message
-message_for b s = if b then Some (record { group = s.group; begun = begun_of s }) else None
+message_for b s = if b then Some (record { pgn = s.pgn; begun = begun_of s }) else None
 
 abbrev pub message_to : Option Outgoing → ℕ → Option Message
 message_to None v = None
@@ -64,7 +64,7 @@ IsUnacknowledging _ = Unit {0}
 -- it is what the message begins with: all of it, or its announcement
 abbrev pub Begins : Message → Wired → Type 0
 Begins m (wired.Short bytes) = bytes ≡ m.begun.bytes
-Begins m (wired.Packet p) = AnnouncesMessage m.group m.begun.bytes p
+Begins m (wired.Packet p) = AnnouncesMessage m.pgn m.begun.bytes p
 
 -- it may come after that
 abbrev pub ComesAfter : Message → Wired → Type 0
@@ -106,7 +106,7 @@ pub record IsAhead (m : Message) (pair : Pair) : Type 0 where
 -- its announcement was taken
 pub record IsUnderWay (m : Message) (pair : Pair) : Type 0 where
   pub wire : AllByRecursion (ComesAfter m) pair.wire
-  pub gathers : TellsLast pair.taken m.group m.begun.bytes
+  pub gathers : TellsLast pair.taken m.pgn m.begun.bytes
   pub back : AllByRecursion IsUnacknowledging pair.back
   pub unreported : IsUnreported m pair.begun pair.reports
 

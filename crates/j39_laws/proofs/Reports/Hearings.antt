@@ -27,7 +27,7 @@ use Rattle.j39_tp.specs.declared.sending.stage.Stage.TheVariants.{Sending, Waiti
 use Rattle.j39_plan.specs.declared.plan.to.To.{To}
 use Rattle.j39_plan.specs.declared.plan.to.To.TheVariants as tos
 use Rattle.j39_world.specs.Flows.{dest_of}
-use Rattle.j39_world.specs.Transfers.{Outgoing, is_among, settled}
+use Rattle.j39_world.specs.Transfers.{Outgoing, is_among, closed_if_complete}
 use Rattle.j39_world.specs.TransferSteps.{session_hears, reaction_of, receiver_replies, sender_replies, packets_in}
 
 -- a CTS or an Abort: no part of a message, and no acknowledgement
@@ -64,7 +64,7 @@ TellsMessage _ = ⊥
 
 -- nothing is told, or a message, and then the receiver is closed
 abbrev pub IsTold : Progress × Heard → Type 0
-IsTold x = TellsNothing x.1 ⊎ (TellsMessage x.1 × (is_open_at (settled x.0) ≡ false))
+IsTold x = TellsNothing x.1 ⊎ (TellsMessage x.1 × (is_open_at (closed_if_complete x.0) ≡ false))
 
 pub either : {X : Type 0} (P : X → Type 0) (b : Bool) (x y : X) → P x → P y → P (if b then x else y)
 either P true x y p q = p
@@ -104,20 +104,20 @@ hears_told window pr (Cts count first pgn) = inl tt
 hears_told window pr (EndAck size pgn) = inl tt
 hears_told window (Open r) (Dt number seven) = takes_told window r number
 hears_told window Closed (Dt number seven) = inl tt
-hears_told window (Complete group) (Dt number seven) = inl tt
+hears_told window (Complete done) (Dt number seven) = inl tt
 hears_told window (Open r) (Abort reason pgn) = either IsTold (receiver.is_directed r.kind && pgn == r.pgn) _ _ (inl tt) (inl tt)
 hears_told window Closed (Abort reason pgn) = inl tt
-hears_told window (Complete group) (Abort reason pgn) = inl tt
+hears_told window (Complete done) (Abort reason pgn) = inl tt
 
 -- an announcement completes nothing
-pub announcement_told : (window : ℕ) (pr : Progress) (dest : Dest) (group size : ℕ)
-    → TellsNothing (receiver.hears (Answering window) pr (sender.announcement dest group size)).1
-announcement_told window pr All group size = tt
-announcement_told window pr One group size = tt
+pub announcement_told : (window : ℕ) (pr : Progress) (dest : Dest) (own size : ℕ)
+    → TellsNothing (receiver.hears (Answering window) pr (sender.announcement dest own size)).1
+announcement_told window pr All own size = tt
+announcement_told window pr One own size = tt
 
 -- a closed receiver stays closed, but for an announcement
 pub closed_told : (window : ℕ) (pr : Progress) (p : Packet) → is_open_at pr ≡ false → IsNoAnnouncement p
-    → TellsNothing (receiver.hears (Answering window) pr p).1 × (is_open_at (settled (receiver.hears (Answering window) pr p).0) ≡ false)
+    → TellsNothing (receiver.hears (Answering window) pr p).1 × (is_open_at (closed_if_complete (receiver.hears (Answering window) pr p).0) ≡ false)
 closed_told window pr (Rts size limit pgn) closed other = absurd other
 closed_told window pr (Bam size pgn) closed other = absurd other
 closed_told window (Open r) p closed other = absurd (cc closed)
@@ -125,10 +125,10 @@ closed_told window Closed (Cts count first pgn) closed other = (tt, refl)
 closed_told window Closed (EndAck size pgn) closed other = (tt, refl)
 closed_told window Closed (Abort reason pgn) closed other = (tt, refl)
 closed_told window Closed (Dt number seven) closed other = (tt, refl)
-closed_told window (Complete group) (Cts count first pgn) closed other = (tt, refl)
-closed_told window (Complete group) (EndAck size pgn) closed other = (tt, refl)
-closed_told window (Complete group) (Abort reason pgn) closed other = (tt, refl)
-closed_told window (Complete group) (Dt number seven) closed other = (tt, refl)
+closed_told window (Complete done) (Cts count first pgn) closed other = (tt, refl)
+closed_told window (Complete done) (EndAck size pgn) closed other = (tt, refl)
+closed_told window (Complete done) (Abort reason pgn) closed other = (tt, refl)
+closed_told window (Complete done) (Dt number seven) closed other = (tt, refl)
 
 -- what it replies
 pub replies_aside : (h : Heard) → TellsNothing h → AllByRecursion IsAside (receiver_replies h)
@@ -153,35 +153,35 @@ times_out_aside window Directed r = (asks_aside window 3 r, tt)
 pub timed_out_aside : (window : ℕ) (pr : Progress) → AllByRecursion IsAside (packets_in (receiver.timed_out (Answering window) pr).1)
 timed_out_aside window (Open r) = times_out_aside window r.kind r
 timed_out_aside window Closed = tt
-timed_out_aside window (Complete group) = tt
+timed_out_aside window (Complete done) = tt
 
 -- ---- a sender
 
 abbrev pub RepliesAside : Stage × Reaction → Type 0
 RepliesAside x = AllByRecursion IsAside (sender_replies x.1)
 
-cleared_aside : (group packets count first : ℕ) (stage : Stage) → RepliesAside (sender.cleared group packets count first stage)
-cleared_aside group packets count first (Sending next last) = (tt, tt)
-cleared_aside group packets count first Waiting = either RepliesAside (nat_lt 0 count && (nat_le 1 first && nat_le first packets)) _ _ tt tt
-cleared_aside group packets count first (Resting outcome) = tt
+cleared_aside : (own packets count first : ℕ) (stage : Stage) → RepliesAside (sender.cleared own packets count first stage)
+cleared_aside own packets count first (Sending next last) = (tt, tt)
+cleared_aside own packets count first Waiting = either RepliesAside (nat_lt 0 count && (nat_le 1 first && nat_le first packets)) _ _ tt tt
+cleared_aside own packets count first (Resting outcome) = tt
 
 ended_aside : (outcome : Outcome) (stage : Stage) → RepliesAside (sender.ended outcome stage)
 ended_aside outcome (Sending next last) = tt
 ended_aside outcome Waiting = tt
 ended_aside outcome (Resting was) = tt
 
-sender_aside : (dest : Dest) (group size : ℕ) (stage : Stage) (p : Packet) → RepliesAside (sender.hears dest group size stage p)
-sender_aside All group size stage p = tt
-sender_aside One group size stage (Cts count first pgn) = either RepliesAside (pgn == group) _ _ (cleared_aside group (packets_of size) count first stage) tt
-sender_aside One group size stage (EndAck received pgn) = either RepliesAside (pgn == group && received == size) _ _ (ended_aside Acked stage) tt
-sender_aside One group size stage (Abort reason pgn) = either RepliesAside (pgn == group) _ _ (ended_aside (Aborted reason) stage) tt
-sender_aside One group size stage (Rts announced limit pgn) = tt
-sender_aside One group size stage (Bam announced pgn) = tt
-sender_aside One group size stage (Dt number seven) = tt
+sender_aside : (dest : Dest) (own size : ℕ) (stage : Stage) (p : Packet) → RepliesAside (sender.hears dest own size stage p)
+sender_aside All own size stage p = tt
+sender_aside One own size stage (Cts count first pgn) = either RepliesAside (pgn == own) _ _ (cleared_aside own (packets_of size) count first stage) tt
+sender_aside One own size stage (EndAck received pgn) = either RepliesAside (pgn == own && received == size) _ _ (ended_aside Acked stage) tt
+sender_aside One own size stage (Abort reason pgn) = either RepliesAside (pgn == own) _ _ (ended_aside (Aborted reason) stage) tt
+sender_aside One own size stage (Rts announced limit pgn) = tt
+sender_aside One own size stage (Bam announced pgn) = tt
+sender_aside One own size stage (Dt number seven) = tt
 
 pub reaction_aside : (o : Option Outgoing) (u : ℕ) (p : Packet) → AllByRecursion IsAside (sender_replies (reaction_of o u p))
 reaction_aside None u p = tt
-reaction_aside (Some s) u p = either RepliesAside (is_among s.targets u) _ _ (sender_aside _ s.group (length s.bytes) s.stage p) tt
+reaction_aside (Some s) u p = either RepliesAside (is_among s.targets u) _ _ (sender_aside _ s.pgn (length s.bytes) s.stage p) tt
 
 -- a packet acknowledges
 abbrev pub Acknowledges : Packet → Type 0
@@ -192,28 +192,28 @@ Acknowledges _ = ⊥
 abbrev pub AckedBy : Dest → Stage → Packet → Stage × Reaction → Type 0
 AckedBy dest stage p x = x.0 ≡ Resting Acked → (stage ≡ Resting Acked) ⊎ (Acknowledges p × (dest ≡ One))
 
-cleared_acked : (group packets count first pgn : ℕ) (stage : Stage) → AckedBy One stage (Cts count first pgn) (sender.cleared group packets count first stage)
-cleared_acked group packets count first pgn (Sending next last) = λ e. absurd (cc e)
-cleared_acked group packets count first pgn Waiting =
+cleared_acked : (own packets count first pgn : ℕ) (stage : Stage) → AckedBy One stage (Cts count first pgn) (sender.cleared own packets count first stage)
+cleared_acked own packets count first pgn (Sending next last) = λ e. absurd (cc e)
+cleared_acked own packets count first pgn Waiting =
     either (AckedBy One Waiting (Cts count first pgn)) (nat_lt 0 count && (nat_le 1 first && nat_le first packets)) _ _ (λ e. absurd (cc e))
     (λ e. absurd (cc e))
-cleared_acked group packets count first pgn (Resting outcome) = λ e. inl e
+cleared_acked own packets count first pgn (Resting outcome) = λ e. inl e
 
 ended_acked : (reason pgn : ℕ) (stage : Stage) → AckedBy One stage (Abort reason pgn) (sender.ended (Aborted reason) stage)
 ended_acked reason pgn (Sending next last) = λ e. absurd (cc e)
 ended_acked reason pgn Waiting = λ e. absurd (cc e)
 ended_acked reason pgn (Resting was) = λ e. inl e
 
-sender_acked : (dest : Dest) (group size : ℕ) (stage : Stage) (p : Packet) → AckedBy dest stage p (sender.hears dest group size stage p)
-sender_acked All group size stage p = λ e. inl e
-sender_acked One group size stage (Cts count first pgn) =
-    either (AckedBy One stage (Cts count first pgn)) (pgn == group) _ _ (cleared_acked group (packets_of size) count first pgn stage) (λ e. inl e)
-sender_acked One group size stage (EndAck received pgn) = λ _. inr (tt, refl)
-sender_acked One group size stage (Abort reason pgn) =
-    either (AckedBy One stage (Abort reason pgn)) (pgn == group) _ _ (ended_acked reason pgn stage) (λ e. inl e)
-sender_acked One group size stage (Rts announced limit pgn) = λ e. inl e
-sender_acked One group size stage (Bam announced pgn) = λ e. inl e
-sender_acked One group size stage (Dt number seven) = λ e. inl e
+sender_acked : (dest : Dest) (own size : ℕ) (stage : Stage) (p : Packet) → AckedBy dest stage p (sender.hears dest own size stage p)
+sender_acked All own size stage p = λ e. inl e
+sender_acked One own size stage (Cts count first pgn) =
+    either (AckedBy One stage (Cts count first pgn)) (pgn == own) _ _ (cleared_acked own (packets_of size) count first pgn stage) (λ e. inl e)
+sender_acked One own size stage (EndAck received pgn) = λ _. inr (tt, refl)
+sender_acked One own size stage (Abort reason pgn) =
+    either (AckedBy One stage (Abort reason pgn)) (pgn == own) _ _ (ended_acked reason pgn stage) (λ e. inl e)
+sender_acked One own size stage (Rts announced limit pgn) = λ e. inl e
+sender_acked One own size stage (Bam announced pgn) = λ e. inl e
+sender_acked One own size stage (Dt number seven) = λ e. inl e
 
 -- by one of its receivers
 pub record IsAckedBy (s : Outgoing) (u : ℕ) (p : Packet) : Type 0 where
@@ -228,7 +228,7 @@ if_acked s u p x by true among e = elim (by e) [ inl was ↦ inl was | inr now �
 if_acked s u p x by false among e = inl e
 
 pub session_acked : (s : Outgoing) (u : ℕ) (p : Packet) → (session_hears s u p).0 ≡ Resting Acked → (s.stage ≡ Resting Acked) ⊎ IsAckedBy s u p
-session_acked s u p e = if_acked s u p _ (sender_acked (dest_of s.to) s.group (length s.bytes) s.stage p) (is_among s.targets u) refl e
+session_acked s u p e = if_acked s u p _ (sender_acked (dest_of s.to) s.pgn (length s.bytes) s.stage p) (is_among s.targets u) refl e
 
 pub directed_to : (to : To) → dest_of to ≡ One → (v : ℕ) × (to ≡ tos.One v)
 directed_to tos.All e = absurd (cc e)

@@ -14,7 +14,7 @@ use Rattle.j39_plan.specs.declared.plan.Plan.{Plan}
 use Rattle.j39_world.specs.declared.wired.Wired.{Wired}
 use Rattle.j39_world.specs.declared.wired.Wired.TheVariants as wired
 use Rattle.j39_world.specs.Flows.{window_at}
-use Rattle.j39_world.specs.Transfers.{Outgoing, Begun, Reported, Wire, is_among, settled}
+use Rattle.j39_world.specs.Transfers.{Outgoing, Begun, Reported, Wire, is_among, closed_if_complete}
 use Rattle.j39_world.specs.TransferSteps.{session_after, reaction_of, receiver_replies, sender_replies, flow_in, report, hearing, ReportsOne}
 use Rattle.j39_world.specs.TransferSteps.{Reports, packet_taken, TakenFrom, LostFrom, packets_in, receiver_timed_out}
 use Rattle.j39_world.specs.World.{World, changed, changed_pair}
@@ -60,7 +60,7 @@ module _ (plan : Plan) (w : World) (inv : TransferInvariant plan w) where
   pub late_receiver_keeps : (windows : List ℕ) (u v : ℕ) → is_open_at (w.receivers v u) ≡ true → TransferInvariant plan (receiver_timed_out windows w u v)
   late_receiver_keeps windows u v open_is =
       let late = receiver.timed_out (Answering (window_at windows v)) (w.receivers v u) in
-      let then : Progress = settled late.0 in
+      let then : Progress = closed_if_complete late.0 in
       let sent : List Packet = packets_in late.1 in
       let aside : AllByRecursion IsAside sent = hearings.timed_out_aside (window_at windows v) (w.receivers v u) in
       let base : ℕ → ℕ → Pair = λ s t. record (pair_of w s t) { receiver = changed_pair w.receivers v u then t s } in
@@ -146,7 +146,7 @@ module _ (plan : Plan) (w : World) (inv : TransferInvariant plan w) where
     base reports s t = record {
       wire = [];
       back = [];
-      receiver = changed_pair w.receivers v u (settled told.0) t s;
+      receiver = changed_pair w.receivers v u (closed_if_complete told.0) t s;
       taken = changed_pair w.taken v u (w.taken v u ++ p ∷ []) t s;
       begun = w.begun s t;
       reports = reported (w.reports ++ reports) t s;
@@ -177,7 +177,7 @@ module _ (plan : Plan) (w : World) (inv : TransferInvariant plan w) where
         let e : record (base reports s t) { wire = less s t; back = w.wire t s } ≡ pair_of w s t =
         λ i. record (pair_of w s t) {
           wire = pair_elsewhere w.wire u v rest s t apart i;
-          receiver = pair_elsewhere w.receivers v u (settled told.0) t s (elsewhere s t apart) i;
+          receiver = pair_elsewhere w.receivers v u (closed_if_complete told.0) t s (elsewhere s t apart) i;
           taken = pair_elsewhere w.taken v u (w.taken v u ++ p ∷ []) t s (elsewhere s t apart) i;
           reports = same i;
         } in
@@ -190,10 +190,10 @@ module _ (plan : Plan) (w : World) (inv : TransferInvariant plan w) where
         let none : (s' t' : ℕ) → reported (w.reports ++ []) t' s' ≡ reported w.reports t' s' = λ s' t'. reported_none w.reports t' s' in
         let here : Exchange (message u v) (record (base [] u v) { wire = less u v; back = w.wire v u }) =
         (let e : record (base [] u v) { wire = less u v; back = w.wire v u }
-        ≡ record (pair_of w u v) { wire = rest; receiver = settled told.0; taken = w.taken v u ++ p ∷ [] } =
+        ≡ record (pair_of w u v) { wire = rest; receiver = closed_if_complete told.0; taken = w.taken v u ++ p ∷ [] } =
         λ i. record (pair_of w u v) {
           wire = pair_here w.wire u v rest i;
-          receiver = pair_here w.receivers v u (settled told.0) i;
+          receiver = pair_here w.receivers v u (closed_if_complete told.0) i;
           taken = pair_here w.taken v u (w.taken v u ++ p ∷ []) i;
           reports = none u v i;
         } in
@@ -237,14 +237,14 @@ module _ (plan : Plan) (w : World) (inv : TransferInvariant plan w) where
           ≡ record (pair_of w u v) {
             wire = rest;
             back = more v u;
-            receiver = settled told.0;
+            receiver = closed_if_complete told.0;
             taken = w.taken v u ++ p ∷ [];
             reports = reported w.reports v u ++ c.message.begun ∷ [];
           } =
           λ i. record (pair_of w u v) {
             wire = wire_is i;
             back = more v u;
-            receiver = pair_here w.receivers v u (settled told.0) i;
+            receiver = pair_here w.receivers v u (closed_if_complete told.0) i;
             taken = pair_here w.taken v u (w.taken v u ++ p ∷ []) i;
             reports = one_reported i;
           } in
@@ -275,7 +275,7 @@ module _ (plan : Plan) (w : World) (inv : TransferInvariant plan w) where
     acked_by : (o : Outgoing) → w.sessions v ≡ Some o → Acknowledges p → is_among o.targets u ≡ true → EndsWith (reported w.reports u v) (begun_of o)
     acked_by o open_is acks among =
         let ack = acknowledgement p acks in
-        let m : Message = record { group = o.group; begun = begun_of o } in
+        let m : Message = record { pgn = o.pgn; begun = begun_of o } in
         let sends : message v u ≡ Some m = ap (λ (x : Option Outgoing). message_to x u) open_is ∙ ap (λ b. message_for b o) among in
         acknowledged_reported m (pair_of w v u) ack.0 ack.1 rest (subst (λ (x : Option Message). Exchange x (pair_of w v u)) sends (inv.exchanges v u))
         (is ∙ ap (λ (q : Packet). wired.Packet q ∷ rest) ack.2)

@@ -25,13 +25,13 @@ use Rattle.j39_world.specs.Resting.{can_rest, is_over_with}
 use Rattle.j39_world.specs.Run.{count_of, is_unit, is_on, at_ends, begin_refusal}
 use Rattle.j39_world.specs.Transfers.{Outgoing, Wire, outcome_in, is_among, added}
 use Rattle.j39_world.specs.TransferSteps.{targets_of, sent_along, begun_stage, outgoing, first_item, begins, BeginsAt, Emits, SenderTimesOut, rested}
-use Rattle.j39_world.specs.World.{World, changed, hears}
+use Rattle.j39_world.specs.World.{World, changed, is_other_on}
 use Rattle.j39_world.specs.Sound.{reported}
 use Rattle.j39_tp.specs.HonestPackets.{GoesOn}
 use Rattle.j39_laws.proofs.Reports.Hearings.{either}
 use Rattle.j39_laws.proofs.Reports.Orderly.{IsPlanned, PlannedAt, DeliveredBefore, all_delivered, sessions_keep}
 use Rattle.j39_laws.proofs.Runs.Changed.{changed_each}
-use Rattle.j39_laws.proofs.Runs.Conditions.{met}
+use Rattle.j39_laws.proofs.Runs.Conditions.{first_holds}
 use Rattle.j39_laws.proofs.Runs.Units.{units_all}
 use Rattle.j39_laws.proofs.Reports.Exchanges.{Pair, pair_of, Message, message_for, message_to, begun_of, IsUnacknowledging, Begins, Exchange}
 use Rattle.j39_laws.proofs.Reports.ExchangeSteps.{begins_keeps, goes_on_keeps, back_keeps}
@@ -40,7 +40,7 @@ use Rattle.j39_laws.proofs.Reports.Reporting.{same_messages, AckedAt}
 use Rattle.j39_laws.proofs.Reports.TransferInvariant.{AreExchanges, TransferInvariant}
 
 abbrev message_of : Outgoing → Message
-message_of s = record { group = s.group; begun = begun_of s }
+message_of s = record { pgn = s.pgn; begun = begun_of s }
 
 -- an item that u sends is behind those that a sender has still to take
 back_sent : (o : Option Message) (pair : Pair) (b : Bool) (item : Wired) → IsUnacknowledging item → Exchange o pair
@@ -84,19 +84,19 @@ module _ (w : World) (old : AreExchanges w) (u : ℕ) (o : Outgoing) (item : Wir
       (record (pair_of w s t) { wire = added w.wire u o.targets item s t; begun = added w.begun u o.targets (begun_of o) s t })
       (eqb t u && is_among o.targets s) item other (begun_forth s t)
 
-announcement_other : (dest : Dest) (group size : ℕ) → IsUnacknowledging (wired.Packet (sender.announcement dest group size))
-announcement_other dests.All group size = tt
-announcement_other dests.One group size = tt
+announcement_other : (dest : Dest) (pgn size : ℕ) → IsUnacknowledging (wired.Packet (sender.announcement dest pgn size))
+announcement_other dests.All pgn size = tt
+announcement_other dests.One pgn size = tt
 
-first_begins : (flow : Flow) (bytes : List ℕ) (m : Message) → m.group ≡ flow.group → m.begun.bytes ≡ bytes → Begins m (first_item flow bytes)
-first_begins flow bytes m group is =
-    either (Begins m) (is_short (length bytes)) (wired.Short bytes) (wired.Packet (sender.announcement (dest_of flow.to) flow.group (length bytes))) (sym is)
-    (dest_of flow.to, λ i. sender.announcement (dest_of flow.to) (sym group i) (length (sym is i)))
+first_begins : (flow : Flow) (bytes : List ℕ) (m : Message) → m.pgn ≡ flow.pgn → m.begun.bytes ≡ bytes → Begins m (first_item flow bytes)
+first_begins flow bytes m pgn is =
+    either (Begins m) (is_short (length bytes)) (wired.Short bytes) (wired.Packet (sender.announcement (dest_of flow.to) flow.pgn (length bytes))) (sym is)
+    (dest_of flow.to, λ i. sender.announcement (dest_of flow.to) (sym pgn i) (length (sym is i)))
 
 first_other : (flow : Flow) (bytes : List ℕ) → IsUnacknowledging (first_item flow bytes)
 first_other flow bytes =
-    either IsUnacknowledging (is_short (length bytes)) (wired.Short bytes) (wired.Packet (sender.announcement (dest_of flow.to) flow.group (length bytes))) tt
-    (announcement_other (dest_of flow.to) flow.group (length bytes))
+    either IsUnacknowledging (is_short (length bytes)) (wired.Short bytes) (wired.Packet (sender.announcement (dest_of flow.to) flow.pgn (length bytes))) tt
+    (announcement_other (dest_of flow.to) flow.pgn (length bytes))
 
 begun_unacked : (dest : Dest) (size : ℕ) → sender.begun dest size ≡ Resting Acked → ⊥
 begun_unacked dests.All size e = cc e
@@ -139,13 +139,13 @@ planned_to : (plan : Plan) (w : World) → ((x : ℕ) → is_on w x ≡ true →
 planned_to plan w units flow count All on can = record {
   unit = units flow.sender on;
   others = λ v among. let hearing = and_parts (w.stations v).on (not (eqb v flow.sender))
-      (among_filtered (hears w.stations flow.sender) (range_with_len 0 count) v among) in
+      (among_filtered (is_other_on w.stations flow.sender) (range_with_len 0 count) v among) in
       (units v hearing.0, other_place v flow.sender hearing.1);
   one = λ v e. absurd (cc e);
 }
 planned_to plan w units flow count (One x) on can =
     let ends = and_parts (is_on w flow.sender) (is_on w x) on in
-    let other = and_parts (not (eqb x flow.sender)) (not (is_pdu2 flow.group && is_short flow.length)) can in
+    let other = and_parts (not (eqb x flow.sender)) (not (is_pdu2 flow.pgn && is_short flow.length)) can in
     record {
       unit = units flow.sender ends.0;
       others = λ v among. let same : x ≡ v = sym (among_one x v among) in
@@ -161,11 +161,11 @@ module _ (plan : Plan) (w : World) (inv : TransferInvariant plan w) where
   begins_keep : (f : ℕ) (flow : Flow) (bytes : List ℕ) → begin_refusal (count_of plan) w (Some flow) bytes ≡ None
       → TransferInvariant plan (begins (count_of plan) w f flow bytes)
   begins_keep f flow bytes allowed =
-      let sent = met _ _ _ allowed in
-      let on = met _ _ _ sent.1 in
-      let told = met _ _ _ on.1 in
-      let addressed = met _ _ _ told.1 in
-      let free = met _ _ _ addressed.1 in
+      let sent = first_holds _ _ _ allowed in
+      let on = first_holds _ _ _ sent.1 in
+      let told = first_holds _ _ _ on.1 in
+      let addressed = first_holds _ _ _ told.1 in
+      let free = first_holds _ _ _ addressed.1 in
       let o : Outgoing = outgoing (count_of plan) w.stations f flow bytes in
       record {
         order = sessions_keep plan w.stations w.claims w.sessions inv.order flow.sender (Some o)
@@ -250,20 +250,20 @@ module _ (plan : Plan) (w : World) (inv : TransferInvariant plan w) where
 
   pub late_sender_keeps : (u : ℕ) (new : World) → SenderTimesOut w u new → TransferInvariant plan new
   late_sender_keeps u new (o, p, is, late, e) =
-      let abort = late_packet o.group o.bytes o.stage p late in
-      subst (TransferInvariant plan) (sym e) (sent_keeps u o (sender.after_timeout o.stage) p is abort.0 abort.1 (late_unacked o.group o.stage p late))
+      let abort = late_packet o.pgn o.bytes o.stage p late in
+      subst (TransferInvariant plan) (sym e) (sent_keeps u o (sender.after_timeout o.stage) p is abort.0 abort.1 (late_unacked o.pgn o.stage p late))
     where
-      late_packet : (group : ℕ) (bytes : List ℕ) (stage : Stage) (q : Packet) → sender.timeout_packet group stage ≡ Some q
+      late_packet : (pgn : ℕ) (bytes : List ℕ) (stage : Stage) (q : Packet) → sender.timeout_packet pgn stage ≡ Some q
           → GoesOn bytes q × IsUnacknowledging (wired.Packet q)
-      late_packet group bytes Waiting q same =
-          let here : Abort 3 group ≡ q = cc same in subst (λ (x : Packet). GoesOn bytes x × IsUnacknowledging (wired.Packet x)) here (tt, tt)
-      late_packet group bytes (Sending next last) q same = absurd (cc same)
-      late_packet group bytes (Resting outcome) q same = absurd (cc same)
+      late_packet pgn bytes Waiting q same =
+          let here : Abort 3 pgn ≡ q = cc same in subst (λ (x : Packet). GoesOn bytes x × IsUnacknowledging (wired.Packet x)) here (tt, tt)
+      late_packet pgn bytes (Sending next last) q same = absurd (cc same)
+      late_packet pgn bytes (Resting outcome) q same = absurd (cc same)
 
-      late_unacked : (group : ℕ) (stage : Stage) (q : Packet) → sender.timeout_packet group stage ≡ Some q → sender.after_timeout stage ≡ Resting Acked → ⊥
-      late_unacked group Waiting q same f = cc f
-      late_unacked group (Sending next last) q same f = cc f
-      late_unacked group (Resting outcome) q same f = absurd (cc same)
+      late_unacked : (pgn : ℕ) (stage : Stage) (q : Packet) → sender.timeout_packet pgn stage ≡ Some q → sender.after_timeout stage ≡ Resting Acked → ⊥
+      late_unacked pgn Waiting q same f = cc f
+      late_unacked pgn (Sending next last) q same f = cc f
+      late_unacked pgn (Resting outcome) q same f = absurd (cc same)
 
   -- ---- the sender rests
 

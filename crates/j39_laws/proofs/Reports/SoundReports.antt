@@ -25,7 +25,7 @@ use Rattle.j39_laws.proofs.Reports.Reporting.{AckedAt}
 use Rattle.j39_laws.proofs.Reports.SenderSteps.{begin_keeps, emit_keeps, late_sender_keeps, rest_keeps}
 use Rattle.j39_laws.proofs.Reports.TransferInvariant.{AreExchanges, TransferInvariant}
 use Rattle.j39_laws.proofs.Runs.Always.{IsKeptBySteps, always}
-use Rattle.j39_laws.proofs.Runs.Conditions.{met_all}
+use Rattle.j39_laws.proofs.Runs.Conditions.{three_hold}
 use Rattle.j39_laws.proofs.Runs.Units.{AreUnitsOn, AreBetweenUnits, units_all, units_on, without_lists_empty, told_between}
 
 at_first : (plan : Plan) → TransferInvariant plan first
@@ -119,17 +119,17 @@ module _ (plan : Plan) (w : World) (inv : TransferInvariant plan w) where
 
 steps_keep : (plan : Plan) → IsKeptBySteps plan (TransferInvariant plan)
 steps_keep plan w inv (Up u) allowed new e =
-    let asks = met_all _ _ _ _ _ _ allowed in
+    let asks = three_hold _ _ _ _ _ _ allowed in
     subst (TransferInvariant plan) (sym e) (up_keeps plan w inv u asks.0 asks.2)
 steps_keep plan w inv (Down u) allowed new e =
-    let asks = met_all _ _ _ _ _ _ allowed in
+    let asks = three_hold _ _ _ _ _ _ allowed in
     subst (TransferInvariant plan) (sym e) (down_keeps plan w inv u asks.0 asks.2)
 steps_keep plan w inv (Give u v) allowed new leads =
-    let asks = met_all _ _ _ _ _ _ allowed in
+    let asks = three_hold _ _ _ _ _ _ allowed in
     let units = and_parts (is_unit plan u) (is_unit plan v) asks.0 in
     give_keeps plan w inv u v units.0 units.1 asks.2 (w.claims u v) new leads
 steps_keep plan w inv (Ask u) allowed new e =
-    let asks = met_all _ _ _ _ _ _ allowed in
+    let asks = three_hold _ _ _ _ _ _ allowed in
     subst (TransferInvariant plan) (sym e) (ask_keeps plan w inv u asks.0 asks.2)
 steps_keep plan w inv (Begin f bytes) allowed new leads = begin_keeps plan w inv f (slice_get (flows_of plan) f) bytes.items allowed new leads
 steps_keep plan w inv (Emit u) allowed new leads = emit_keeps plan w inv u new leads
@@ -137,8 +137,8 @@ steps_keep plan w inv (Take u v) allowed new leads = take_keeps plan w inv (wind
 steps_keep plan w inv (Lose u v) allowed new leads = lose_keeps plan w inv u v (w.wire u v) refl new leads
 steps_keep plan w inv (LateSender u) allowed new leads = late_sender_keeps plan w inv u new leads
 steps_keep plan w inv (LateReceiver u v) allowed new e =
-    subst (TransferInvariant plan) (sym e) (late_receiver_keeps plan w inv (windows_of plan) u v (met_all _ _ _ _ _ _ allowed).2)
-steps_keep plan w inv (Rest u) allowed new e = subst (TransferInvariant plan) (sym e) (rest_keeps plan w inv u (met_all _ _ _ _ _ _ allowed).2)
+    subst (TransferInvariant plan) (sym e) (late_receiver_keeps plan w inv (windows_of plan) u v (three_hold _ _ _ _ _ _ allowed).2)
+steps_keep plan w inv (Rest u) allowed new e = subst (TransferInvariant plan) (sym e) (rest_keeps plan w inv u (three_hold _ _ _ _ _ _ allowed).2)
 
 transfers_keep : (plan : Plan) → Always plan (TransferInvariant plan)
 transfers_keep plan = always plan (TransferInvariant plan) (at_first plan) (steps_keep plan)
@@ -148,7 +148,7 @@ reports_sound plan steps w run =
     let inv = transfers_keep plan steps w run in
     record {
       begun = λ v u. is_part (message_to (w.sessions u) v) (pair_of w u v) (inv.exchanges u v);
-      settled = λ u o is. subst (DeliveredBefore w.claims) is (inv.order.delivered u);
+      delivered = λ u o is. subst (DeliveredBefore w.claims) is (inv.order.delivered u);
     }
 
 pub acknowledged_reported : (plan : Plan) → Always plan IsAcknowledgedReported

@@ -6,18 +6,18 @@ use Rattle.j39_plan.specs.declared.plan.Plan.{Plan}
 use Rattle.j39_plan.specs.declared.steps.Step.{Step}
 use Rattle.j39_world.specs.declared.step_error.StepError.{StepError}
 use Rattle.j39_world.specs.World.{World, first}
-use Rattle.j39_world.specs.Run.{refusal, Leads, Follows, Run, RunsThrough}
+use Rattle.j39_world.specs.Run.{refusal, StepsTo, Follows, Run, RunsThrough}
 use Rattle.j39_world.specs.SoundPlan.{Always}
 
 -- each step that is not refused keeps it
 abbrev pub IsKeptBySteps : Plan → (World → Type 0) → Type 0
-IsKeptBySteps plan Holds = (w : World) → Holds w → (step : Step) → refusal plan w step ≡ None → (new : World) → Leads plan w step new → Holds new
+IsKeptBySteps plan Holds = (w : World) → Holds w → (step : Step) → refusal plan w step ≡ None → (new : World) → StepsTo plan w step new → Holds new
 
 module _ (plan : Plan) (Holds : World → Type 0) (keeps : IsKeptBySteps plan Holds) where
   holds_next : (w : World) → Holds w → (step : Step) (new : World) → Follows plan w step new → Holds new
   holds_next w here step new =
       elim (refusal plan w step)
-      as (λ (o : Option StepError). refusal plan w step ≡ o → MatchBool (is_some o) (new ≡ w) (Leads plan w step new) → Holds new) [
+      as (λ (o : Option StepError). refusal plan w step ≡ o → MatchBool (is_some o) (new ≡ w) (StepsTo plan w step new) → Holds new) [
         | Some e ↦ λ _ same. subst Holds (sym same) here
         | None ↦ λ allowed leads. keeps w here step allowed new leads
       ] refl
@@ -33,11 +33,11 @@ always plan Holds at_first keeps steps w run = holds_behind plan Holds keeps ste
 -- ---- steps that are not refused
 
 module _ (plan : Plan) (w : World) (step : Step) (allowed : refusal plan w step ≡ None) (new : World) where
-  pub follows_to_leads : Follows plan w step new → Leads plan w step new
-  follows_to_leads follows = subst (λ (o : Option StepError). MatchBool (is_some o) (new ≡ w) (Leads plan w step new)) allowed follows
+  pub follows_to_leads : Follows plan w step new → StepsTo plan w step new
+  follows_to_leads follows = subst (λ (o : Option StepError). MatchBool (is_some o) (new ≡ w) (StepsTo plan w step new)) allowed follows
 
-  pub leads_to_follows : Leads plan w step new → Follows plan w step new
-  leads_to_follows leads = subst (λ (o : Option StepError). MatchBool (is_some o) (new ≡ w) (Leads plan w step new)) (sym allowed) leads
+  pub leads_to_follows : StepsTo plan w step new → Follows plan w step new
+  leads_to_follows leads = subst (λ (o : Option StepError). MatchBool (is_some o) (new ≡ w) (StepsTo plan w step new)) (sym allowed) leads
 
 -- a run without a refusal
 pub through : (plan : Plan) (w : World) (steps : List Step) (after : World) → RunsThrough plan w steps after → Run plan w steps after

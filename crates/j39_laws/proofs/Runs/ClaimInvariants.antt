@@ -18,7 +18,7 @@ use Rattle.j39_world.specs.ClaimSteps.{GivenFrom, told_to_others, without_lists_
 use Rattle.j39_world.specs.TransferSteps.{BeginsAt, TakenFrom, LostFrom}
 use Rattle.j39_world.specs.Run.{count_of, is_unit}
 use Rattle.j39_laws.proofs.Runs.Always.{IsKeptBySteps}
-use Rattle.j39_laws.proofs.Runs.Conditions.{met}
+use Rattle.j39_laws.proofs.Runs.Conditions.{first_holds}
 
 -- a property of what units are and what is undelivered between them
 abbrev pub ClaimProperty : Type 1
@@ -75,15 +75,15 @@ module _ (plan : Plan) (Holds : ClaimProperty) (keeps : IsKeptByClaimSteps plan 
   -- ---- each step
 
   pub claim_steps_keep : IsKeptBySteps plan HoldsIn
-  claim_steps_keep w here (Up u) allowed new e = subst HoldsIn (sym e) (keeps.switched_on w.stations w.claims here u (met _ _ _ allowed).0)
+  claim_steps_keep w here (Up u) allowed new e = subst HoldsIn (sym e) (keeps.switched_on w.stations w.claims here u (first_holds _ _ _ allowed).0)
   claim_steps_keep w here (Down u) allowed new e = subst HoldsIn (sym e) (keeps.switched_off w.stations w.claims here u)
   claim_steps_keep w here (Give u v) allowed new leads =
-      let known = met _ _ _ allowed in
+      let known = first_holds _ _ _ allowed in
       let units = and_parts (is_unit plan u) (is_unit plan v) known.0 in
-      given_from w here u v units.0 units.1 (met _ _ _ known.1).0 (w.claims u v) refl new leads
+      given_from w here u v units.0 units.1 (first_holds _ _ _ known.1).0 (w.claims u v) refl new leads
   claim_steps_keep w here (Ask u) allowed new e =
-      let known = met _ _ _ allowed in
-      subst HoldsIn (sym e) (keeps.asked w.stations w.claims here u known.0 (met _ _ _ known.1).0)
+      let known = first_holds _ _ _ allowed in
+      subst HoldsIn (sym e) (keeps.asked w.stations w.claims here u known.0 (first_holds _ _ _ known.1).0)
   claim_steps_keep w here (Begin f bytes) allowed new leads = begun w here (count_of plan) f (slice_get (flows_of plan) f) bytes.items new leads
   claim_steps_keep w here (Emit u) allowed new (s, p, session, next, e) = subst HoldsIn (sym e) here
   claim_steps_keep w here (Take u v) allowed new leads = taken w here (windows_of plan) u v (w.wire u v) new leads

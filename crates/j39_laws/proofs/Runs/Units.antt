@@ -11,7 +11,7 @@ use Rattle.j39_world.specs.Claimants.{units_of, unit_at, claimant_of}
 use Rattle.j39_world.specs.ClaimSteps.{told_to_others, without_lists_to}
 use Rattle.j39_world.specs.Opening.{AreNamesDistinct}
 use Rattle.j39_world.specs.Run.{count_of, is_unit, both}
-use Rattle.j39_world.specs.World.{Stations, Undelivered, changed, hears}
+use Rattle.j39_world.specs.World.{Stations, Undelivered, changed, is_other_on}
 use Rattle.j39_laws.proofs.Runs.Changed.{changed_each}
 
 -- ---- places of units
@@ -72,8 +72,8 @@ not_both false b e f g = cc e
 pub told_between : (plan : Plan) (stations : Stations) → AreUnitsOn plan stations → (claims : Undelivered) → AreBetweenUnits plan claims
     → (u : ℕ) → is_unit plan u ≡ true → (items : List Item) → AreBetweenUnits plan (told_to_others stations claims u items)
 told_between plan stations on claims between u unit items s t outside =
-    cond_both (eqb s u && hears stations u t) (claims s t ++ items) (claims s t) (λ (xs : List Item). xs ≡ [])
-    (λ is. let parts = and_parts (eqb s u) (hears stations u t) is in
+    cond_both (eqb s u && is_other_on stations u t) (claims s t ++ items) (claims s t) (λ (xs : List Item). xs ≡ [])
+    (λ is. let parts = and_parts (eqb s u) (is_other_on stations u t) is in
     let hearing = and_parts (stations t).on (not (eqb t u)) parts.1 in
     let unit_s : is_unit plan s ≡ true = subst (λ k. is_unit plan k ≡ true) (sym (eqb-true s u parts.0)) unit in
     absurd (not_both (is_unit plan s) (is_unit plan t) unit_s (on t hearing.0) outside))

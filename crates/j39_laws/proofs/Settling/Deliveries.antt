@@ -14,7 +14,7 @@ use Rattle.j39_world.specs.ClaimSteps.{told_to_others, without_lists_to, answer_
 use Rattle.j39_world.specs.Opening.{AreNamesDistinct}
 use Rattle.j39_world.specs.Run.{is_unit}
 use Rattle.j39_world.specs.SoundPlan.{Always}
-use Rattle.j39_world.specs.World.{Stations, Undelivered, changed, changed_pair, hears}
+use Rattle.j39_world.specs.World.{Stations, Undelivered, changed, changed_pair, is_other_on}
 use Rattle.j39_laws.proofs.Addresses.Telling.{not_itself}
 use Rattle.j39_laws.proofs.Runs.Always.{IsKeptBySteps, always}
 use Rattle.j39_laws.proofs.Runs.Changed.{changed_here, changed_elsewhere, changed_each}
@@ -39,8 +39,8 @@ pub record AreDeliverable (plan : Plan) (stations : Stations) (claims : Undelive
 told_off : (stations : Stations) (claims : Undelivered) (u : ℕ) (items : List Item) (s t : ℕ) → (stations t).on ≡ false
     → told_to_others stations claims u items s t ≡ claims s t
 told_off stations claims u items s t off =
-    let deaf : hears stations u t ≡ false = and_left (stations t).on (not (eqb t u)) off in
-    cond-false (eqb s u && hears stations u t) (claims s t ++ items) (claims s t) (and_right (eqb s u) (hears stations u t) deaf)
+    let deaf : is_other_on stations u t ≡ false = and_left (stations t).on (not (eqb t u)) off in
+    cond-false (eqb s u && is_other_on stations u t) (claims s t ++ items) (claims s t) (and_right (eqb s u) (is_other_on stations u t) deaf)
 
 -- where one is switched on or stays on, the units that are off are others, and were off
 still_off : (stations : Stations) (u : ℕ) (new : ClaimState) → new.on ≡ true → (t : ℕ) → (changed stations u new t).on ≡ false → (stations t).on ≡ false

@@ -9,7 +9,7 @@ use Rattle.j39_claim.specs.declared.item.Item.{Item}
 use Rattle.j39_claim.specs.declared.item.Item.TheVariants.{Told, Request}
 use Rattle.j39_claim.specs.ClaimRule.{PlannedUnit, ClaimState}
 use Rattle.j39_world.specs.Claimants.{unit_at}
-use Rattle.j39_world.specs.World.{Stations, Undelivered, changed, changed_pair, hears}
+use Rattle.j39_world.specs.World.{Stations, Undelivered, changed, changed_pair, is_other_on}
 use Rattle.j39_world.specs.ClaimSteps.{told_to_others, answer_items}
 use Rattle.j39_laws.proofs.Settling.Totals.{total, total-rise, total-two, total-le, total-less}
 use Rattle.j39_world.specs.Sent.{claimed_by}
@@ -126,9 +126,9 @@ module _ (units : List PlannedUnit) (stations : Stations) (claims : Undelivered)
   unfolding told
   told_itself =
       let e : eqb v v ≡ true = eq-eqb v v refl in
-      let silent : (eqb v v && hears (changed stations v new) v v) ≡ false =
-      and_right (eqb v v) (hears (changed stations v new) v v) (and_right (changed stations v new v).on (not (eqb v v)) (rw e refl)) in
-      cond-false (eqb v v && hears (changed stations v new) v v) (changed_pair claims u v rest v v ++ answer_items says)
+      let silent : (eqb v v && is_other_on (changed stations v new) v v) ≡ false =
+      and_right (eqb v v) (is_other_on (changed stations v new) v v) (and_right (changed stations v new v).on (not (eqb v v)) (rw e refl)) in
+      cond-false (eqb v v && is_other_on (changed stations v new) v v) (changed_pair claims u v rest v v ++ answer_items says)
       (changed_pair claims u v rest v v) silent
       ∙ pair_elsewhere claims u v rest v v (λ e' _. apart (sym e'))
 
@@ -158,7 +158,8 @@ module _ (units : List PlannedUnit) (stations : Stations) (claims : Undelivered)
         let same_list : changed_pair claims u v rest v t ≡ claims v t = pair_elsewhere claims u v rest v t (λ e _. apart (sym e)) in
         let now : (changed stations v new v).address ≡ new.address = ap (λ (x : ClaimState). x.address) (changed_here stations v new) in
         let more : c * differ held new.address ≤ rise = rises t in_t in
-        cond_both (eqb v v && hears (changed stations v new) v t) (changed_pair claims u v rest v t ++ answer_items says) (changed_pair claims u v rest v t)
+        cond_both (eqb v v && is_other_on (changed stations v new) v t) (changed_pair claims u v rest v t ++ answer_items says)
+        (changed_pair claims u v rest v t)
         (λ (xs : List Item). load c q w (get (changed stations v new t).notes n) xs (changed stations v new v).address
         ≤ load c q w noted (claims v t) held + (rise + answers))
         (λ _.

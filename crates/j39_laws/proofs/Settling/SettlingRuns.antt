@@ -19,11 +19,11 @@ use Rattle.j39_world.specs.declared.step_error.StepError.TheVariants.{UnknownUni
 use Rattle.j39_world.specs.Claimants.{units_of, unit_at}
 use Rattle.j39_world.specs.ClaimSteps.{GivenFrom, given}
 use Rattle.j39_world.specs.Opening.{AreNamesDistinct}
-use Rattle.j39_world.specs.Run.{is_unit, both, is_on, refusal, Leads, RunsThrough}
+use Rattle.j39_world.specs.Run.{is_unit, both, is_on, refusal, StepsTo, RunsThrough}
 use Rattle.j39_world.specs.Settling.{IsGive, Settles}
 use Rattle.j39_world.specs.SoundPlan.{Always}
 use Rattle.j39_world.specs.World.{World}
-use Rattle.j39_laws.proofs.Runs.Conditions.{met_all, all_met}
+use Rattle.j39_laws.proofs.Runs.Conditions.{three_hold, not_refused}
 use Rattle.j39_laws.proofs.Runs.Units.{in_units, names_differ}
 use Rattle.j39_laws.proofs.Settling.Deliveries.{AreDeliverable, apart, responds, deliverable_steps, deliverable}
 use Rattle.j39_laws.proofs.Settling.Lowered.{lowered}
@@ -56,10 +56,10 @@ module _ (plan : Plan) (distinct : AreNamesDistinct (units_of plan)) (w : World)
       (λ i in_i not_u. names_differ (units_of plan) distinct i u in_i (in_units plan u unit_u) not_u)
       item rest is says s (responds plan distinct w.stations w.claims old u v unit_u unit_v on item rest is says s answers))
 
-  give_lowers : (u v : ℕ) → refusal plan w (Give u v) ≡ None → (new : World) → Leads plan w (Give u v) new
+  give_lowers : (u v : ℕ) → refusal plan w (Give u v) ≡ None → (new : World) → StepsTo plan w (Give u v) new
       → measure (units_of plan) new.stations new.claims < measure (units_of plan) w.stations w.claims
   give_lowers u v allowed new leads =
-      let asks = met_all _ _ _ _ _ _ allowed in
+      let asks = three_hold _ _ _ _ _ _ allowed in
       let units = and_parts (is_unit plan u) (is_unit plan v) asks.0 in
       lowered_from u v units.0 units.1 asks.1 (w.claims u v) refl new leads
 
@@ -73,7 +73,7 @@ module _ (plan : Plan) (distinct : AreNamesDistinct (units_of plan)) (w : World)
       let (says, s, answers) = answered (unit_at (units_of plan) v) (w.stations v) (unit_at (units_of plan) u).name item in
       let after : World = given (units_of plan) w u v rest says s in
       let leads : GivenFrom (units_of plan) w u v (item ∷ rest) after = (says, s, answers, refl) in
-      let allowed = all_met (both (is_unit plan) u v) (is_on w v) (ltb 0 (length (w.claims u v))) UnknownUnit NotStarted NothingUndelivered units on long in
+      let allowed = not_refused (both (is_unit plan) u v) (is_on w v) (ltb 0 (length (w.claims u v))) UnknownUnit NotStarted NothingUndelivered units on long in
       (after, (after, allowed, subst (λ (xs : List Item). GivenFrom (units_of plan) w u v xs after) (sym is) leads, refl))
     where
       true_unless : (b : Bool) → (b ≡ false → ⊥) → b ≡ true
@@ -84,7 +84,7 @@ module _ (plan : Plan) (distinct : AreNamesDistinct (units_of plan)) (w : World)
 
 module _ (plan : Plan) (distinct : AreNamesDistinct (units_of plan)) where
   one_less : (step : Step) → IsGive step → (w : World) → AreDeliverable plan w.stations w.claims → refusal plan w step ≡ None → (new : World)
-      → Leads plan w step new
+      → StepsTo plan w step new
       → measure (units_of plan) new.stations new.claims < measure (units_of plan) w.stations w.claims
   one_less (Give u v) is w old allowed new leads = give_lowers plan distinct w old u v allowed new leads
   one_less (Up u) never w old allowed new leads = absurd never

@@ -2,7 +2,7 @@ use Rattle.std.proofs.Common.{◌≡◌, ◌<◌, ◌≤◌, List, None, length,
 use Rattle.std.proofs.lemmas.List.{take_all}
 use Rattle.j39_plan.specs.declared.plan.Plan.{Plan}
 use Rattle.j39_plan.specs.declared.steps.Step.{Step}
-use Rattle.j39_world.specs.Run.{refusal, Leads, RunsThrough}
+use Rattle.j39_world.specs.Run.{refusal, StepsTo, RunsThrough}
 use Rattle.j39_bus.specs.Stands.{Stands}
 use Rattle.j39_world.specs.World.{World, first}
 use Rattle.j39_bus.proofs.Running.{run_more}
@@ -16,7 +16,7 @@ loop-place-preserved g c =
     let inside : c.loop-place.place < length c.args.steps.now = omega arith in
     run_more c.in_ok-bus.bus c.loop-place.bus c.step.new.self c.args.steps.now c.loop-place.place c.index-steps-place.result inside c.loop-place.invariant
     (subst (λ (d : Step). (plan : Plan) (w : World) → Stands c.loop-place.bus plan w
-    → (refusal plan w d ≡ None) × ((after : World) × Leads plan w d after × Stands c.step.new.self plan after)) c.index-steps-place.is c.in_default.ensures.ok)
+    → (refusal plan w d ≡ None) × ((after : World) × StepsTo plan w d after × Stands c.step.new.self plan after)) c.index-steps-place.is c.in_default.ensures.ok)
 
 pub returns : goal.returns
 returns g c =

@@ -2,7 +2,7 @@ use Rattle.std.proofs.Common.{◌≡◌, ◌+◌, ◌<◌, ◌≤◌, ℕ, Bool,
 use Rattle.std.proofs.lemmas.Bool.{and_right, eq-eqb, ne_eqb}
 use Rattle.j39_claim.specs.declared.item.Item.{Item}
 use Rattle.j39_queues.specs.Queued.{IsTable, Queued, pair_in, room_at}
-use Rattle.j39_world.specs.World.{hears}
+use Rattle.j39_world.specs.World.{is_other_on}
 use Rattle.j39_bus.specs.Stations.{station_at}
 use Rattle.j39_bus.proofs.Postings.{IsPosted, IsRoomLeft, posted_all, posted_more, posted_none, posted_past, room_here, room_more, room_none, room_past}
 use Rattle.j39_bus.proofs.WellFormed.{hears_as, hears_none}

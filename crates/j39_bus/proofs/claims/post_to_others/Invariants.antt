@@ -1,6 +1,6 @@
 use Rattle.std.proofs.Common.{length}
 use Rattle.j39_queues.specs.Queued.{IsTable, pair_in}
-use Rattle.j39_world.specs.World.{hears}
+use Rattle.j39_world.specs.World.{is_other_on}
 use Rattle.j39_bus.specs.Stations.{station_at}
 use Rattle.j39_bus.proofs.Postings.{IsPosted, IsRoomLeft}
 use Rattle.j39_bus.proofs.claims.post_to_others.Given as goal

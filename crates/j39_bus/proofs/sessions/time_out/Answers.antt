@@ -12,7 +12,7 @@ use Rattle.j39_bus.proofs.sessions.time_out.Goals as goal
 pub returns-in-Some-clause-packet : goal.returns-in-Some-clause-packet
 returns-in-Some-clause-packet c =
     c.late.ensures.packet c.in-Some.transfer.pgn c.in-Some.transfer.to (own_content c.args.transfers.now.items c.args.unit c.in-Some.transfer c.requires.unit (at_value c.args.transfers.now.items c.args.unit c.index_mut.result.now (Some c.in-Some.transfer) None c.requires.unit c.index_mut.ensures.value c.in-Some.is) c.requires.content)
-    ∙ ap (option_and_then (λ (s : Outgoing). timeout_packet s.group s.stage)) (sym (session_here c.args.transfers.now.items c.args.unit c.in-Some.transfer c.requires.unit (at_value c.args.transfers.now.items c.args.unit c.index_mut.result.now (Some c.in-Some.transfer) None c.requires.unit c.index_mut.ensures.value c.in-Some.is)))
+    ∙ ap (option_and_then (λ (s : Outgoing). timeout_packet s.pgn s.stage)) (sym (session_here c.args.transfers.now.items c.args.unit c.in-Some.transfer c.requires.unit (at_value c.args.transfers.now.items c.args.unit c.index_mut.result.now (Some c.in-Some.transfer) None c.requires.unit c.index_mut.ensures.value c.in-Some.is)))
 
 pub returns-in-Some-clause-session : goal.returns-in-Some-clause-session
 returns-in-Some-clause-session c =

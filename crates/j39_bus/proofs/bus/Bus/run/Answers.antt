@@ -2,7 +2,7 @@ use Rattle.std.proofs.Common.{◌≡◌, ◌<◌, ◌≤◌, true, length, ◌�
 use Rattle.j39_plan.specs.declared.plan.Plan.{Plan}
 use Rattle.j39_plan.specs.declared.steps.Step.{Step}
 use Rattle.j39_world.specs.declared.step_error.StepError.TheVariants.{Memory}
-use Rattle.j39_world.specs.Run.{cause_of, refusal, takes_memory, Leads}
+use Rattle.j39_world.specs.Run.{cause_of, refusal, takes_memory, StepsTo}
 use Rattle.j39_bus.specs.Stands.{Stands}
 use Rattle.j39_world.specs.World.{World}
 use Rattle.j39_bus.proofs.Running.{run_more, run_refused, run_all}
@@ -20,7 +20,7 @@ loop-place-preserved g c =
     let inside : c.loop-place.place < length c.args.steps.now = omega arith in
     record {
       ran = run_more c.args.self.now c.loop-place.self c.step.new.self c.args.steps.now c.loop-place.place c.index-steps-place.result inside c.loop-place.invariant.ran
-          (subst (λ (d : Step). (plan : Plan) (w : World) → Stands c.loop-place.self plan w → (refusal plan w d ≡ None) × ((after : World) × Leads plan w d after × Stands c.step.new.self plan after)) c.index-steps-place.is c.in_default.ensures.ok);
+          (subst (λ (d : Step). (plan : Plan) (w : World) → Stands c.loop-place.self plan w → (refusal plan w d ≡ None) × ((after : World) × StepsTo plan w d after × Stands c.step.new.self plan after)) c.index-steps-place.is c.in_default.ensures.ok);
       units = c.step.ensures.units ∙ c.loop-place.invariant.units;
     }
 

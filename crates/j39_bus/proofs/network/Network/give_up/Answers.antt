@@ -26,14 +26,14 @@ send_along-requires-clause-wire c =
 
 pub send_along-requires-clause-data : goal.send_along-requires-clause-data
 send_along-requires-clause-data c =
-    let (s, is, next) = session_sends (λ (s : Outgoing). timeout_packet s.group s.stage) (session_at (transfers_of c.args.self.now) c.args.unit) c.in-Some.packet c.in-Some.ensures.packet in
-    abort_plain s.group s.stage c.in-Some.packet next
+    let (s, is, next) = session_sends (λ (s : Outgoing). timeout_packet s.pgn s.stage) (session_at (transfers_of c.args.self.now) c.args.unit) c.in-Some.packet c.in-Some.ensures.packet in
+    abort_plain s.pgn s.stage c.in-Some.packet next
 
 pub returns-in-Some-clause-world : goal.returns-in-Some-clause-world
 returns-in-Some-clause-world c = λ h.
     let net = c.args.self.now in
     let old = session_at (transfers_of net) in
-    let (s, is, next) = session_sends (λ (s : Outgoing). timeout_packet s.group s.stage) (session_at (transfers_of c.args.self.now) c.args.unit) c.in-Some.packet c.in-Some.ensures.packet in
+    let (s, is, next) = session_sends (λ (s : Outgoing). timeout_packet s.pgn s.stage) (session_at (transfers_of c.args.self.now) c.args.unit) c.in-Some.packet c.in-Some.ensures.packet in
     let sessions_are : session_at (values_of c.time_out.new.transfers.items) ≡ changed old c.args.unit (Some (record s { stage = after_timeout s.stage })) =
     c.time_out.ensures.session ∙ ap (λ o. changed old c.args.unit (at_stage (λ (s : Outgoing). after_timeout s.stage) o)) is in
     let here : session_at (values_of c.time_out.new.transfers.items) c.args.unit ≡ Some (record s { stage = after_timeout s.stage }) = ap (λ f. f c.args.unit) sessions_are ∙ changed_same old c.args.unit _ in (

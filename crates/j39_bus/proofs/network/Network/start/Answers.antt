@@ -58,7 +58,7 @@ returns-clause-world c = λ h.
     let known = fresh_all n windows stations flow rs c.requires.receivers in
     let targets : targets_of n stations flow.sender flow.to ≡ places_from 0 (values rs) = targets_are n windows stations flow rs c.requires.receivers c.requires.route.receiver in
     let out_is : out t ≡ outgoing n stations c.args.flow flow c.args.bytes.now =
-    λ i. record { flow = c.args.flow; group = c.args.route.now.pgn; to = c.args.route.now.to; targets = sym targets i; bytes = c.opening-content.ensures.bytes i; stage = c.opening-content.ensures.stage i } in
+    λ i. record { flow = c.args.flow; pgn = c.args.route.now.pgn; to = c.args.route.now.to; targets = sym targets i; bytes = c.opening-content.ensures.bytes i; stage = c.opening-content.ensures.stage i } in
     let sessions_are = session_begun net.traffic.transfers.items u inside c.requires.idle t ∙ ap (λ (o : Outgoing). changed (session_at (transfers_of net)) u (Some o)) out_is in
     let wire_is = c.post_each.ensures.lists ∙ ap (λ xs. posted (pair_in lists) u xs c.opening-content.result.1) c.as_slice.ensures.value
     ∙ posted_valued (pair_in lists) u rs c.opening-content.result.1 ∙ (λ i. added (pair_in lists) u (sym targets i) (c.opening-content.ensures.item i)) in
