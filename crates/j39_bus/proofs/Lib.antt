@@ -26,5 +26,3 @@ pub mod Answered
 pub mod Standing
 pub mod Running
 pub mod Opened
-pub mod Simulated
-pub mod GreatestFree

@@ -3,6 +3,4 @@ pub mod BusState
 pub mod Traffic
 pub mod Stands
 pub mod Network
-pub mod Ended
-pub mod Simulating
 pub mod inside

@@ -1,4 +1,4 @@
-use Rattle.j39_bus.proofs.GreatestFree.{greatest_free_in}
+use Rattle.j39_vectors.proofs.GreatestFree.{greatest_free_in}
 use Rattle.j39_vectors.proofs.choosers.GreatestChoose.choose.Goals as goal
 
 pub returns-clause-free : goal.returns-clause-free
