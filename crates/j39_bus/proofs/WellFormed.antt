@@ -59,7 +59,7 @@ well_heard cs lists well v inside name is_one item says new (s, is, answers) lef
     ]) left (subst (λ (n : ℕ). IsTable n left) well.table.rows table))
 
 -- who hears a unit doesn't rest on that unit
-same_others : (cs : List ClaimerValue) (u : ℕ) (c : ClaimerValue) → u < length cs → (v : ℕ) → hears (station_at (set cs u c)) u v ≡ hears (station_at cs) u v
+same_others : (cs : List ClaimerValue) (u : ℕ) (c : ClaimerValue) → u < length cs → (v : ℕ) → is_other_on (station_at (set cs u c)) u v ≡ is_other_on (station_at cs) u v
 same_others cs u c inside v = elim (cases_eq v u) [
   | inl same ↦ rw (same, eq-eqb u u refl) (and_right (station_at (set cs u c) u).on false refl ∙ sym (and_right (station_at cs u).on false refl))
   | inr other ↦ ap (λ (s : ClaimState). s.on && not (eqb v u)) (station_set cs u c v inside ∙ cond-false (eqb v u) c.state (station_at cs v) (ne_eqb v u other))
@@ -69,13 +69,13 @@ same_others cs u c inside v = elim (cases_eq v u) [
 pub room_for_others : {X : Type 0} (old new : Queued X) (cs : List ClaimerValue) (u : ℕ) (c : ClaimerValue) (after : List ClaimerValue) → u < length cs → after ≡ set cs u c → KeepsRoom old new
     → (items : ℕ) → HasRoomForOthers old cs u items → HasRoomForOthers new after u items
 room_for_others old new cs u c after inside is keeps items room v hearing =
-    let heard : hears (station_at cs) u v ≡ true = sym (same_others cs u c inside v) ∙ ap (λ (l : List ClaimerValue). hears (station_at l) u v) (sym is) ∙ hearing in
+    let heard : is_other_on (station_at cs) u v ≡ true = sym (same_others cs u c inside v) ∙ ap (λ (l : List ClaimerValue). is_other_on (station_at l) u v) (sym is) ∙ hearing in
     omega (arith, room v heard, keeps u v)
 
 -- whether a unit that was looked at hears another
-pub hears_as : (cs : List ClaimerValue) (u k : ℕ) (c : ClaimerValue) → k < length cs → c ≡ get_or cs k c → (a b : Bool) → c.state.on ≡ a → eqb k u ≡ b → hears (station_at cs) u k ≡ (a && not b)
+pub hears_as : (cs : List ClaimerValue) (u k : ℕ) (c : ClaimerValue) → k < length cs → c ≡ get_or cs k c → (a b : Bool) → c.state.on ≡ a → eqb k u ≡ b → is_other_on (station_at cs) u k ≡ (a && not b)
 hears_as cs u k c inside at a b on same = λ i. (ap (λ (x : ClaimerValue). x.state.on) (sym (at ∙ any_default cs k c nobody inside)) ∙ on) i && not (same i)
 
 -- nobody hears at a place with no unit
-pub hears_none : (cs : List ClaimerValue) (u k : ℕ) → length cs ≤ k → hears (station_at cs) u k ≡ false
+pub hears_none : (cs : List ClaimerValue) (u k : ℕ) → length cs ≤ k → is_other_on (station_at cs) u k ≡ false
 hears_none cs u k past = ap (λ (c : ClaimerValue). c.state.on && not (eqb k u)) (get_or_past cs k nobody (omega (arith, past)))

@@ -18,4 +18,4 @@ are_requests items = list_all is_request items
 
 -- there is room for so many items from a unit to each other one that is on
 abbrev pub HasRoomForOthers : {X : Type 0} → Queued X → List ClaimerValue → ℕ → ℕ → Type 0
-HasRoomForOthers q cs u items = (v : ℕ) → hears (station_at cs) u v ≡ true → items ≤ room_at q u v
+HasRoomForOthers q cs u items = (v : ℕ) → is_other_on (station_at cs) u v ≡ true → items ≤ room_at q u v

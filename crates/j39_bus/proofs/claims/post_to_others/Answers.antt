@@ -17,7 +17,7 @@ loop-to-preserved c =
     let was = c.args.claims.now in
     let now = c.loop-to.claims in
     let x = c.args.item.now in
-    let test : ℕ → Bool = hears (station_at cs) u in
+    let test : ℕ → Bool = is_other_on (station_at cs) u in
     let below : k < length cs = omega arith in
     let heard = hears_as cs u k c.index-claimers-to.result below c.index-claimers-to.is in
     let past : test k ≡ false → record { table : IsTable (length was.lists) now.lists; posted : IsPosted test u x (pair_in was.lists) (k + 1) (pair_in now.lists); room : IsRoomLeft u (k + 1) was now } = λ none. record {
@@ -43,5 +43,5 @@ loop-to-preserved c =
 
 pub returns-clause-lists : goal.returns-clause-lists
 returns-clause-lists c =
-    posted_all (hears (station_at c.args.claimers.now) c.args.from) c.args.from c.args.item.now (pair_in c.args.claims.now.lists) (length c.args.claimers.now) c.loop-to.to (pair_in c.loop-to.claims.lists) (omega arith)
+    posted_all (is_other_on (station_at c.args.claimers.now) c.args.from) c.args.from c.args.item.now (pair_in c.args.claims.now.lists) (length c.args.claimers.now) c.loop-to.to (pair_in c.loop-to.claims.lists) (omega arith)
     (λ t past. hears_none c.args.claimers.now c.args.from t past) c.loop-to.invariant.posted

@@ -8,6 +8,6 @@ use Rattle.j39_bus.proofs.claims.post_to_others.Given as goal
 abbrev pub invariant-loop-to : goal.invariant-loop-to
 invariant-loop-to l = record {
   table : IsTable (length l.fn.claims.lists) l.claims.lists;
-  posted : IsPosted (hears (station_at l.claimers) l.from) l.from l.item (pair_in l.fn.claims.lists) l.to (pair_in l.claims.lists);
+  posted : IsPosted (is_other_on (station_at l.claimers) l.from) l.from l.item (pair_in l.fn.claims.lists) l.to (pair_in l.claims.lists);
   room : IsRoomLeft l.from l.to l.fn.claims l.claims;
 }
