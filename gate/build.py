@@ -28,7 +28,7 @@ ROOM = "j39plan-build-"
 MISSING, FAILED = 69, 70
 # What a check takes, about, and the whole build, as docs/GATE.md says.
 JOB_BYTES = 2_000_000_000
-NEEDS = "about 20 minutes on four idle processors and 40 on one, 2 GB of memory for each processor, 4 GB of disk"
+NEEDS = "about 25 minutes on four idle processors and 50 on one, 2 GB of memory for each processor, 4 GB of disk"
 
 
 def say(text):
