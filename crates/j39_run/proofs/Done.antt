@@ -91,7 +91,7 @@ put_done plan b ls place written text rest empty h = record {
 -- ---- what is seen
 
 pub unit_count : (b : BusState) (plan : Plan) (w : World) → Stands b plan w → length b.units ≡ length plan.units.items
-unit_count b plan w s = sym (length-map b.units (λ c. c.planned)) ∙ ap length s.planned ∙ length-map plan.units.items claimant_of
+unit_count b plan w s = sym (length-map b.units (λ c. c.planned)) ∙ ap length s.planned ∙ length-map plan.units.items (claimant_of plan.keep_free)
 
 abbrev pub seen_of : Plan → BusState → Bool → View
 seen_of plan b settled = record {
