@@ -26,7 +26,9 @@ import crates
 PROGRAM = "j39plan"
 ROOM = "j39plan-build-"
 MISSING, FAILED = 69, 70
-# What a check takes, about, and the whole build, as docs/GATE.md says.
+# The most processors that a check of one crate makes use of.
+CRATE_JOBS = 4
+# What a check takes for each processor, about, and the whole build, as docs/GATE.md says.
 JOB_BYTES = 2_000_000_000
 NEEDS = "about 25 minutes on four idle processors and 50 on one, 2 GB of memory for each processor, 4 GB of disk"
 
@@ -40,12 +42,39 @@ def clock(start):
     return f"{passed // 60}:{passed % 60:02}"
 
 
-def processors():
-    """Returns how many processors there is memory for, at least one."""
-    found = len(os.sched_getaffinity(0))
+def free_memory():
+    """Returns how many bytes of memory are free, if the system tells it."""
     with open("/proc/meminfo", encoding="ascii") as lines:
         free = re.search(r"MemAvailable:\s+(\d+)", lines.read())
-    return max(min(found, 1024 * int(free[1]) // JOB_BYTES), 1) if free else found
+    return 1024 * int(free[1]) if free else None
+
+
+def processors():
+    """Returns how many processors there is memory for, at least one."""
+    found, free = len(os.sched_getaffinity(0)), free_memory()
+    return found if free is None else max(min(found, free // JOB_BYTES), 1)
+
+
+def kit_folders():
+    """Returns the folders of the toolchain's libraries that the program stands on, in the order in which they are needed."""
+    said = subprocess.run(["rt", "doc"], stdin=subprocess.DEVNULL, stdout=subprocess.PIPE, stderr=subprocess.DEVNULL, text=True, check=False)
+    top = f"{os.path.dirname(said.stdout.strip())}/rlibs"
+    names = ["core", "std"] + [it for name in crates.needed(PROGRAM) for it in crates.kit_libraries(name)]
+    return [it for it in (f"{top}/{name}.rlib" for name in dict.fromkeys(names)) if os.path.isdir(it)]
+
+
+def read_kit(stopped):
+    """Reads the toolchain's libraries once from end to end while there is memory to keep them: a check reads them here and there,
+    which takes minutes where they lie on a disk that wasn't read yet."""
+    for folder in kit_folders():
+        for at, _, names in os.walk(folder):
+            for name in names:
+                free = free_memory()
+                if stopped.is_set() or free is not None and free < 2 * JOB_BYTES:
+                    return
+                with open(f"{at}/{name}", "rb", buffering=0) as file:
+                    while file.read(1 << 20):
+                        pass
 
 
 def is_built():
@@ -56,9 +85,7 @@ def is_built():
     made = os.path.getmtime(program)
     files = [f"{crates.TOP}/crates.txt"]
     for name in crates.needed(PROGRAM):
-        for part in ("src", "specs", "proofs"):
-            for at, _, names in os.walk(f"{crates.folder(name)}/{part}"):
-                files += [f"{at}/{it}" for it in names if it.endswith((".rt", ".antt"))]
+        files += crates.sources(name)
     return all(os.path.getmtime(it) <= made for it in files)
 
 
@@ -120,16 +147,19 @@ class Build:
 
     def __init__(self, lanes):
         self.lanes = lanes
+        # a check begins and ends on one processor, so some more are started where memory allows
+        self.places = lanes if lanes == 1 else max(lanes, min(2 * lanes, (free_memory() or 0) // JOB_BYTES))
         self.start = time.monotonic()
         self.running = {}
         self.lock = threading.Lock()
         self.stopped = threading.Event()
         self.logs = tempfile.mkdtemp(prefix="j39plan-logs-")
 
-    def build(self, name, jobs):
+    def build(self, name, jobs, nice):
         """Builds one crate and returns whether that went well."""
         room = Room(name)
-        words = ["rt", "run", "--jobs", str(jobs), "--", "--version"] if crates.is_program(name) else ["rt", "lib", "--jobs", str(jobs)]
+        words = ["nice", "-n", str(nice), "rt"]
+        words += ["run", "--jobs", str(jobs), "--", "--version"] if crates.is_program(name) else ["lib", "--jobs", str(jobs)]
         try:
             with open(f"{self.logs}/{name}", "wb") as log:
                 how = {"stdin": subprocess.DEVNULL, "stdout": log, "stderr": log, "start_new_session": True}
@@ -185,7 +215,8 @@ class Build:
         done, failed, total = set(), [], len(left)
         shower = threading.Thread(target=self.show, args=(lambda: len(done), total))
         shower.start()
-        with ThreadPoolExecutor(self.lanes) as pool:
+        threading.Thread(target=read_kit, args=(self.stopped,), daemon=True).start()
+        with ThreadPoolExecutor(total) as pool:
             try:
                 self.build_all(pool, named, left, done, failed)
             finally:
@@ -198,16 +229,17 @@ class Build:
         return not failed
 
     def build_all(self, pool, named, left, done, failed):
-        """Builds the crates that are left, each once those below it are done, until one has failed."""
-        running = {}
+        """Builds the crates that are left, each once those below it are done, until one has failed. Those with the longest chain of
+        others above them come first; one that others wait for more than for any that is left takes the processors before the rest."""
+        behind, running = crates.behind({it: named[it] for it in left}), {}
+        left.sort(key=behind.get, reverse=True)
         while (left or running) and not failed:
-            ready = [it for it in left if done.issuperset(named[it])]
-            for at, name in enumerate(ready):
-                idle = self.lanes - sum(jobs for _, jobs in running.values())
-                if idle > 0:
-                    jobs = max(min(4, idle // (len(ready) - at)), 1)
+            for name in [it for it in left if done.issuperset(named[it])]:
+                jobs = min(CRATE_JOBS, self.lanes, self.places - sum(jobs for _, jobs in running.values()))
+                if jobs > 0:
+                    nice = 0 if name == left[0] else 10
                     left.remove(name)
-                    running[pool.submit(self.build, name, jobs)] = name, jobs
+                    running[pool.submit(self.build, name, jobs, nice)] = name, jobs
             for it in wait(running, return_when=FIRST_COMPLETED).done:
                 name = running.pop(it)[0]
                 if it.result():

@@ -5,15 +5,45 @@ import os
 TOP = os.path.dirname(os.path.dirname(os.path.realpath(__file__)))
 
 
-def below():
-    """Returns the repository's own crates that each crate names, by its name."""
+def listed():
+    """Returns the libraries that each crate names, by its name."""
     named = {}
     with open(f"{TOP}/crates.txt", encoding="utf-8") as lines:
         for line in lines:
             head, colon, libraries = line.partition("#")[0].partition(":")
             if colon:
                 named[head.split()[0]] = libraries.split()
+    return named
+
+
+def below():
+    """Returns the repository's own crates that each crate names, by its name."""
+    named = listed()
     return {name: [it for it in libraries if it in named] for name, libraries in named.items()}
+
+
+def kit_libraries(name):
+    """Returns the libraries of the toolchain's kit that a crate names."""
+    named = listed()
+    return [it for it in named[name] if it not in named]
+
+
+def sources(name):
+    """Returns the files of code, definitions and proofs of a crate."""
+    found = []
+    for part in ("src", "specs", "proofs"):
+        for at, _, names in os.walk(f"{folder(name)}/{part}"):
+            found += [f"{at}/{it}" for it in names if it.endswith((".rt", ".antt"))]
+    return found
+
+
+def behind(named):
+    """Returns how many bytes of sources a crate and the longest chain of crates above it have, by the crate's name."""
+    found = {}
+    for name in reversed(sorted(named, key=lambda it: len(needed(it, named)))):
+        above = [found[it] for it, libraries in named.items() if name in libraries]
+        found[name] = sum(map(os.path.getsize, sources(name))) + max(above, default=0)
+    return found
 
 
 def needed(name, named=None):

@@ -1,6 +1,8 @@
 #!/usr/bin/env python3
 """Runs the whole gate: rt ci, and then what needs the built program: the launcher, the tests of the tools and of the
 pages, devices that fail, and refused allocations. The last line is 'N passed, M failed'; the status is 0 where nothing failed.
+
+usage: run.py [--timed]    --timed: gate/times.py does what rt ci does, and notes the time of each check
 """
 
 import os
@@ -51,8 +53,9 @@ def counted(name, words, minutes=None):
     return passed, failed
 
 
-def main():
-    found = [counted("rt ci", ["rt", "ci"])]
+def main(words):
+    ci = [sys.executable, "gate/times.py", "ci"] if words == ["--timed"] else ["rt", "ci"]
+    found = [counted("rt ci", ci)]
     for name, words, minutes in PARTS:
         found.append(counted(name, words, minutes))
     passed, failed = map(sum, zip(*found))
@@ -61,4 +64,4 @@ def main():
 
 
 if __name__ == "__main__":
-    sys.exit(main())
+    sys.exit(main(sys.argv[1:]))

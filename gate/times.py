@@ -1,14 +1,12 @@
 #!/usr/bin/env python3
-"""Times the gate part by part, as rt ci does its parts: each crate from nothing, its tests, its edits that must fail, and
-each program's runs. Parts are timed one at a time, so that they can be run one after another on a busy machine; what
-counts there is their processor time.
+"""Times the gate part by part while it runs: each crate's proof, its tests, and its edits that must fail. What counts is the
+processor time of a part, which other parts and other work on the machine hardly change.
 
-usage: times.py run [CRATE..]     times all parts of these crates, or of all, but those that passed already
-       times.py part CRATE PART   times one part: proof, tests, edits or runs
-       times.py table             prints the tables of docs/GATE.md
+usage: times.py ci      does what rt ci does, and notes the time of each check in gate/times.tsv
+       times.py table   prints the tables of docs/GATE.md
 
-On a clean clone, lowest crates first: a part needs the libraries below it, which their proofs leave in out/. The times
-stand in gate/times.tsv: crate, part, wall seconds, processor seconds, MiB of the largest process, count, whether it passed.
+A row of gate/times.tsv is a check: crate, part (proof, tests or edits), when it began and ended in seconds since the gate did, its
+seconds of processor time, and the MiB of its largest process. The row 'all ci' is of the whole.
 """
 
 import importlib.machinery
@@ -16,6 +14,7 @@ import importlib.util
 import os
 import resource
 import shutil
+import signal
 import subprocess
 import sys
 import time
@@ -24,105 +23,76 @@ sys.dont_write_bytecode = True
 import crates
 
 FILE = f"{crates.TOP}/gate/times.tsv"
-PARTS = ("proof", "tests", "edits", "runs")
+PARTS = ("proof", "tests", "edits")
+WHOLE = ("all", "ci")
 
 
 def load_rt():
-    """Returns the toolchain's own gate as a module, so that a part is what rt ci does."""
+    """Returns the toolchain's own gate as a module."""
     path = os.path.realpath(shutil.which("rt") or sys.exit("rt is not on the PATH"))
     loader = importlib.machinery.SourceFileLoader("rt", path)
     rt = importlib.util.module_from_spec(importlib.util.spec_from_loader("rt", loader))
     loader.exec_module(rt)
-    rt.rtlib.stop = rt.stop
-    rt.rtlib.Crate = rt.Crate
-    rt.Crate.cuts_libraries = True
-    rt.Crate.allowed = rt.handles_of(crates.TOP)
-    rt.rtlib.guarded()
     return rt
 
 
-def do(name, part):
-    """Does a part, and returns how many things were tried and whether all is well."""
+def ci():
+    """Does what rt ci does, each of its checks under a parent that notes its times (times.py check)."""
     os.chdir(crates.TOP)
-    rt = load_rt()
-    crate = next(it for it in rt.rtlib.crates_below(crates.TOP) if it.name == name)
-    crate.out = sys.stdout
-    for low in crate.below():
-        if not os.path.isdir(f"{low.folder}/out/rlib"):
-            sys.exit(f"{name}: the proof of {low.name} comes first")
-    os.makedirs(f"{crate.folder}/out", exist_ok=True)
-    jobs = ["--jobs", os.environ.get("RT_JOBS", "1")]
-    if part == "proof":
-        why = rt.rtlib.fmt(crate.folder, "--check", crate.out)
-        return 1, not why and crate.ci(jobs, False) == 0
-    if part == "tests":
-        if not crate.has_tests():
-            return 0, True
-        return 1, crate.ci(jobs, True) == 0 and rt.run(crate, True)
-    if part == "edits":
-        good, bad = rt.edits_of(crate)
-        tried = rt.must_fail_all(crate, good, jobs)
-        for _, text in tried:
-            rt.say(text)
-        return len(good), not bad and all(well for well, _ in tried)
-    if not crate.is_program:
-        return 0, True
-    return 1, all(rt.run(crate, False, ending) for ending in rt.BACKENDS.values())
+    if os.path.exists(FILE):
+        os.remove(FILE)
+    rt, begin = load_rt(), time.time()
+    guarded = rt.rtlib.guarded
+    rt.rtlib.guarded = lambda: [*guarded(), sys.executable, os.path.abspath(__file__), "check", str(begin)]
+    status = rt.ci()
+    note(WHOLE, 0, begin)
+    return status
 
 
-def time_part(name, part):
-    start = time.monotonic()
-    count, is_well = do(name, part)
-    wall = time.monotonic() - start
-    own, used = resource.getrusage(resource.RUSAGE_SELF), resource.getrusage(resource.RUSAGE_CHILDREN)
-    processor = sum(it.ru_utime + it.ru_stime for it in (own, used))
-    row = [name, part, f"{wall:.0f}", f"{processor:.0f}", f"{used.ru_maxrss // 1024}", str(count), "yes" if is_well else "no"]
-    with open(FILE, "a", encoding="utf-8") as file:
+def part_of(words):
+    """Returns the crate and the part that a command of the toolchain is of. An edit is tried in a copy of the crate."""
+    crate = words[words.index("--crate-name") + 1] if "--crate-name" in words else os.path.basename(words[0])
+    is_copy = os.path.commonpath([os.getcwd(), crates.TOP]) != crates.TOP
+    return crate, "edits" if is_copy else "tests" if "--test" in words else "proof"
+
+
+def check(begin, words):
+    """Runs a check and notes its times. It ends as the check did."""
+    start = time.time()
+    status = subprocess.run(words, check=False).returncode
+    note(part_of(words), start - begin, begin)
+    if status < 0:
+        signal.signal(-status, signal.SIG_DFL)
+        os.kill(os.getpid(), -status)
+    return status
+
+
+def note(key, start, begin):
+    used = resource.getrusage(resource.RUSAGE_CHILDREN)
+    row = [*key, f"{start:.0f}", f"{time.time() - begin:.0f}", f"{used.ru_utime + used.ru_stime:.1f}", str(used.ru_maxrss // 1024)]
+    with open(FILE, "a", encoding="ascii") as file:
         file.write("\t".join(row) + "\n")
-    print("\t".join(row))
-    return 0 if is_well else 1
 
 
 def read_times():
-    """Returns the last row of each part, by crate and part."""
+    """Returns the rows of each part, by crate and part: when it began and ended, its processor time, its largest process."""
     found = {}
-    if os.path.isfile(FILE):
-        with open(FILE, encoding="utf-8") as lines:
-            for line in lines:
-                name, part, *rest = line.rstrip("\n").split("\t")
-                found[name, part] = [*map(int, rest[:4]), rest[4] == "yes"]
+    with open(FILE, encoding="ascii") as lines:
+        for line in lines:
+            crate, part, *row = line.split("\t")
+            found.setdefault((crate, part), []).append([float(it) for it in row])
     return found
-
-
-def run(names):
-    named = crates.below()
-    ordered = []
-    for name in named:
-        ordered += [it for it in crates.needed(name, named) if it not in ordered]
-    failed = []
-    for name in ordered:
-        if names and name not in names:
-            continue
-        for part in PARTS:
-            if read_times().get((name, part), [False])[-1]:
-                continue
-            ran = subprocess.run([sys.executable, __file__, "part", name, part], stdin=subprocess.DEVNULL)
-            failed += [f"{name} {part}"] * (ran.returncode != 0)
-    for it in failed:
-        print(f"failed: {it}", file=sys.stderr)
-    return 1 if failed else 0
 
 
 def tasks_of(times, named):
     """Returns what rt ci does: for each part its processor seconds and the parts that it waits for."""
     tasks = {}
-    for name, lows in named.items():
-        all_lows = [it for it in crates.needed(name, named) if it != name]
-        below = [(it, "proof") for it in all_lows]
+    for name in named:
+        below = [(it, "proof") for it in crates.needed(name, named) if it != name]
         waits = {"proof": below, "tests": below, "edits": [(name, "proof"), (name, "tests")]}
-        for part, them in waits.items():
+        for part in PARTS:
             if (name, part) in times:
-                tasks[name, part] = times[name, part][1], them
+                tasks[name, part] = sum(row[2] for row in times[name, part]), waits[part]
     return tasks
 
 
@@ -169,38 +139,28 @@ def minutes(seconds):
 
 def table():
     times, named = read_times(), crates.below()
-    print("| Crate | Proof | Tests | Edits | Runs | Largest process |")
+    print("| Crate | Proof | Tests | Edits | Largest process | Proved after |")
     print("|---|---|---|---|---|---|")
-    total, lacking = 0, []
     for name in named:
-        cells, most = [], 0
-        for part in PARTS:
-            if (name, part) not in times:
-                lacking.append(f"{name} {part}")
-                cells.append("not timed")
-                continue
-            _, processor, mib, count, is_well = times[name, part]
-            total += processor
-            most = max(most, mib)
-            cell = minutes(processor) if count else ""
-            cell += f" ({count})" if part == "edits" and count else ""
-            cells.append(cell + ("" if is_well else " FAILED"))
-        print(f"| `{name}` | {' | '.join(cells)} | {most} MiB |")
+        cells = [minutes(sum(row[2] for row in times[name, part])) if (name, part) in times else "" for part in PARTS]
+        most = max((row[3] for part in PARTS for row in times.get((name, part), [])), default=0)
+        proved = max((row[1] for row in times.get((name, "proof"), [])), default=0)
+        print(f"| `{name}` | {' | '.join(cells)} | {most:.0f} MiB | {minutes(proved)} |")
     tasks = tasks_of(times, named)
-    runs = sum(row[1] for key, row in times.items() if key[1] == "runs" and key[0] in named)
     seconds, chain = longest(tasks)
-    print("\nMinutes of processor time, by `gate/times.py`.\n")
-    print(f"- Sum: {minutes(total)} minutes of processor time{', without the parts that are not timed' * bool(lacking)}.")
+    _, ended, used, _ = times[WHOLE][-1]
+    print(f"\nMinutes of processor time, by `gate/times.py ci`; 'proved after' are minutes by the clock on {os.cpu_count()} processors.\n")
+    print(f"- Sum: {minutes(used)} minutes of processor time, in {minutes(ended)} by the clock.")
     print(f"- Longest chain: {minutes(seconds)} minutes: {', '.join(f'{part} of `{name}`' for name, part in chain)}.")
     for lanes in (4, 2):
-        print(f"- On {lanes} idle processors: about {minutes(scheduled(tasks, lanes) + runs)} minutes.")
+        print(f"- On {lanes} idle processors, each part on one of them: about {minutes(scheduled(tasks, lanes))} minutes.")
 
 
 def main(words):
-    if words[:1] == ["run"]:
-        return run(words[1:])
-    if words[:1] == ["part"] and len(words) == 3 and words[1] in crates.below() and words[2] in PARTS:
-        return time_part(words[1], words[2])
+    if words == ["ci"]:
+        return ci()
+    if words[:1] == ["check"] and len(words) > 2:
+        return check(float(words[1]), words[2:])
     if words == ["table"]:
         table()
         return 0
