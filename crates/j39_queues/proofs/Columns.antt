@@ -18,7 +18,8 @@ module _ {X : Type 0} where
   pub cleared_none : (to : ℕ) (old : ℕ → ℕ → List X) → IsCleared to old 0 old
   cleared_none to old s t = rw (le-ltb s 0 (omega arith)) refl
 
-  pub cleared_more : (to : ℕ) (old : ℕ → ℕ → List X) (from : ℕ) (f after : ℕ → ℕ → List X) → IsCleared to old from f → after ≡ changed_in f from to [] → IsCleared to old (from + 1) after
+  pub cleared_more : (to : ℕ) (old : ℕ → ℕ → List X) (from : ℕ) (f after : ℕ → ℕ → List X) → IsCleared to old from f → after ≡ changed_in f from to []
+      → IsCleared to old (from + 1) after
   cleared_more to old from f after is after_is s t = (λ i. after_is i s t) ∙ elim (cases_eq s from) [
     | inl same ↦
         let e : f from t ≡ old from t = is from t ∙ (rw (le-ltb from from (omega arith)) refl) in
@@ -31,7 +32,8 @@ module _ {X : Type 0} where
   same_either false xs = refl
 
   -- all rows
-  pub cleared_all : (n to from : ℕ) (old : List (List (List X))) (f : ℕ → ℕ → List X) → IsTable n old → n ≤ from → IsCleared to (pair_in old) from f → f ≡ without_column to (pair_in old)
+  pub cleared_all : (n to from : ℕ) (old : List (List (List X))) (f : ℕ → ℕ → List X) → IsTable n old → n ≤ from → IsCleared to (pair_in old) from f
+      → f ≡ without_column to (pair_in old)
   cleared_all n to from old f table past is = λ i s t. at s t i
     where
       at : (s t : ℕ) → f s t ≡ without_column to (pair_in old) s t

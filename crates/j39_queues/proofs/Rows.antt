@@ -165,7 +165,8 @@ module _ {X : Type 0} (rows : List (Row X)) (was : Queued X) (is : seen rows ≡
         room_elsewhere s t other = rooms_at s t ∙ (rw other refl)
 
         -- where the queue has room for at most so many less
-        pub room_left : (less : ℕ) → room_of q ≤ room_of new + less → (s t : ℕ) → room_at was s t ≤ room_at (seen after) s t + changed_in (λ a b. 0) u v less s t
+        pub room_left : (less : ℕ) → room_of q ≤ room_of new + less → (s t : ℕ)
+            → room_at was s t ≤ room_at (seen after) s t + changed_in (λ a b. 0) u v less s t
         room_left less enough s t = elim (cases_Bool (eqb s u && eqb t v)) [
           | inl here ↦
               let (same_s, same_t) = and_parts (eqb s u) (eqb t v) here in
@@ -199,16 +200,19 @@ all_filled (l ∷ ls) none = omega (arith, sum_by-cons one_if_some l ls, ap one_
 
 none_counted : {X : Type 0} (rows : List (List (List X))) (u v : ℕ) → list_all (λ n. eqb n 0) (map filled_in rows) ≡ true → pair_in rows u v ≡ []
 none_counted [] u v all = refl
-none_counted (r ∷ rows) zero v all = none_filled r v (eqb-true (filled_in r) 0 (and_parts (eqb (filled_in r) 0) (list_all (λ n. eqb n 0) (map filled_in rows)) all).0)
+none_counted (r ∷ rows) zero v all = none_filled r v
+    (eqb-true (filled_in r) 0 (and_parts (eqb (filled_in r) 0) (list_all (λ n. eqb n 0) (map filled_in rows)) all).0)
 none_counted (r ∷ rows) (suc u) v all = none_counted rows u v (and_parts (eqb (filled_in r) 0) (list_all (λ n. eqb n 0) (map filled_in rows)) all).1
 
 all_counted : {X : Type 0} (rows : List (List (List X))) → ((u v : ℕ) → pair_in rows u v ≡ []) → list_all (λ n. eqb n 0) (map filled_in rows) ≡ true
 all_counted [] none = refl
 all_counted (r ∷ rows) none =
-    and_from (eqb (filled_in r) 0) (list_all (λ n. eqb n 0) (map filled_in rows)) (eq-eqb (filled_in r) 0 (all_filled r (none 0))) (all_counted rows (λ u. none (suc u)))
+    and_from (eqb (filled_in r) 0) (list_all (λ n. eqb n 0) (map filled_in rows)) (eq-eqb (filled_in r) 0 (all_filled r (none 0)))
+    (all_counted rows (λ u. none (suc u)))
 
 -- nothing is anywhere exactly where nothing is counted
-pub nothing_counted : {X : Type 0} (rows : List (Row X)) (was : Queued X) → seen rows ≡ was → (counts : List ℕ) → counts ≡ map filled_in (lists_of rows) → (b : Bool) → b ≡ list_all (λ n. eqb n 0) counts
+pub nothing_counted : {X : Type 0} (rows : List (Row X)) (was : Queued X) → seen rows ≡ was → (counts : List ℕ) → counts ≡ map filled_in (lists_of rows)
+    → (b : Bool) → b ≡ list_all (λ n. eqb n 0) counts
     → (b ≡ true → (u v : ℕ) → pair_in was.lists u v ≡ []) × (((u v : ℕ) → pair_in was.lists u v ≡ []) → b ≡ true)
 nothing_counted {X} rows was is counts counts_are b tested =
     let all : b ≡ list_all (λ n. eqb n 0) (map filled_in (lists_of rows)) = tested ∙ ap (list_all (λ n. eqb n 0)) counts_are in (
@@ -225,7 +229,8 @@ zero_rows X n zero = refl
 zero_rows X n (suc k) = λ i. zero_row X n i ∷ zero_rows X n k i
 
 -- of so many empty rows
-pub kept_empty : {X : Type 0} (n : ℕ) (rows : List (Row X)) (counts : List ℕ) → lists_of rows ≡ replicate n (replicate n []) → counts ≡ replicate n 0 → IsKept rows counts
+pub kept_empty : {X : Type 0} (n : ℕ) (rows : List (Row X)) (counts : List ℕ) → lists_of rows ≡ replicate n (replicate n []) → counts ≡ replicate n 0
+    → IsKept rows counts
 kept_empty {X} n rows counts rows_are counts_are = record {
   table = subst (λ (k : ℕ). IsTable k (lists_of rows)) (sym (ap length rows_are ∙ length-replicate n (replicate n [])) ∙ length-lists rows) (record {
     rows = ap length rows_are ∙ length-replicate n (replicate n []);

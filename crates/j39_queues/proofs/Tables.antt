@@ -44,11 +44,14 @@ module _ {R Q Y : Type 0} (cells : R → List Q) (view : Q → Y) where
   pub row_is : (rows : List R) (u : ℕ) (row : R) → u < length rows → row ≡ get_or rows u row → get_or (tabled rows) u [] ≡ map view (cells row)
   row_is rows u row inside is = get_or-map (λ r. map view (cells r)) rows u row [] inside ∙ ap (λ r. map view (cells r)) (sym is)
 
-  pub cell_is : (rows : List R) (u v : ℕ) (row : R) (q : Q) (d : Y) → u < length rows → row ≡ get_or rows u row → v < length (cells row) → q ≡ get_or (cells row) v q → get_or (get_or (tabled rows) u []) v d ≡ view q
+  pub cell_is : (rows : List R) (u v : ℕ) (row : R) (q : Q) (d : Y) → u < length rows → row ≡ get_or rows u row → v < length (cells row)
+      → q ≡ get_or (cells row) v q → get_or (get_or (tabled rows) u []) v d ≡ view q
   cell_is rows u v row q d in_u row_at in_v q_at =
       ap (λ (r : List Y). get_or r v d) (row_is rows u row in_u row_at) ∙ get_or-map view (cells row) v q d in_v ∙ ap view (sym q_at)
 
-  pub tabled_set : (d : Y) (rows : List R) (u v : ℕ) (row new : R) (q : Q) → u < length rows → row ≡ get_or rows u row → cells new ≡ set (cells row) v q → tabled (set rows u new) ≡ with_cell d (tabled rows) u v (view q)
+  pub tabled_set : (d : Y) (rows : List R) (u v : ℕ) (row new : R) (q : Q) → u < length rows → row ≡ get_or rows u row → cells new ≡ set (cells row) v q
+      → tabled (set rows u new) ≡ with_cell d (tabled rows) u v (view q)
   tabled_set d rows u v row new q in_u row_at new_is =
       map-set (λ r. map view (cells r)) rows u new
-      ∙ ap (λ (r : List Y). set (tabled rows) u r) (ap (map view) new_is ∙ map-set view (cells row) v q ∙ ap (λ (r : List Y). set r v (view q)) (sym (row_is rows u row in_u row_at)))
+      ∙ ap (λ (r : List Y). set (tabled rows) u r)
+      (ap (map view) new_is ∙ map-set view (cells row) v q ∙ ap (λ (r : List Y). set r v (view q)) (sym (row_is rows u row in_u row_at)))

@@ -39,7 +39,8 @@ returns-clause-table g c =
 pub returns-clause-lists : goal.returns-clause-lists
 returns-clause-lists g c =
     lists_after c.self.inside.rows.items c.args.self.now c.self.view_is c.self.invariant.table c.args.from c.args.to c.requires.from c.requires.to
-    c.index_mut-row.result.now c.index_mut-row.ensures.value c.index_mut-queue.result.now c.index_mut-queue.ensures.value c.clear.new.self _ c.clear.ensures.items
+    c.index_mut-row.result.now c.index_mut-row.ensures.value c.index_mut-queue.result.now c.index_mut-queue.ensures.value c.clear.new.self _
+    c.clear.ensures.items
 
 pub returns-clause-room : goal.returns-clause-room
 returns-clause-room g c =

@@ -41,7 +41,7 @@ invariant_of-self g c =
     c.pop_front-item.new.self in
     kept_after c.self.inside.rows.items c.args.self.now c.self.view_is c.self.invariant.table c.args.from c.args.to c.requires.from c.requires.to
     c.index_mut-row.result.now c.index_mut-row.ensures.value c.index_mut-queue.result.now c.index_mut-queue.ensures.value
-    c.pop_front-item.new.self c.self.inside.filled.items c.self.invariant.counts (c.index.result.now - c.one_if_filled-was.result + c.one_if_filled-is.result)
+    c.pop_front-item.new.self c.self.inside.filled.items c.self.invariant.counts _
     (omega (arith, c.index.ensures, counted, bounds.1, c.one_if_filled-was.ensures, c.one_if_filled-is.ensures))
 
 pub returns-clause-table : goal.returns-clause-table

@@ -35,8 +35,9 @@ overflow_add-index g c =
     let sum = row_after c.self.inside.rows.items c.args.self.now c.self.view_is c.self.invariant.table c.args.from c.args.to c.requires.from c.requires.to
     c.index_mut-row.result.now c.index_mut-row.ensures.value c.index_mut-queue.result.now c.index_mut-queue.ensures.value
     c.push_back_reserved.new.self in
+    let one = ap one_if_some c.push_back_reserved.ensures.items ∙ some_pushed c.index_mut-queue.result.now.items c.args.item in
     let row = c.index_mut-row.result.now in
-    omega (arith, c.index.ensures, counted, bounds.0, bounds.1, sum, row.ok.0, row.ok.1, row.small, c.one_if_filled-was.ensures, ap one_if_some c.push_back_reserved.ensures.items, some_pushed c.index_mut-queue.result.now.items c.args.item)
+    omega (arith, c.index.ensures, counted, bounds.0, bounds.1, sum, row.ok.0, row.ok.1, row.small, c.one_if_filled-was.ensures, one)
 
 pub invariant_of-self : goal.invariant_of-self
 invariant_of-self g c =
@@ -46,10 +47,11 @@ invariant_of-self g c =
     let bounds = row_bounds c.self.inside.rows.items c.args.self.now c.self.view_is c.self.invariant.table c.args.from c.args.to c.requires.from c.requires.to
     c.index_mut-row.result.now c.index_mut-row.ensures.value c.index_mut-queue.result.now c.index_mut-queue.ensures.value
     c.push_back_reserved.new.self in
+    let one = ap one_if_some c.push_back_reserved.ensures.items ∙ some_pushed c.index_mut-queue.result.now.items c.args.item in
     kept_after c.self.inside.rows.items c.args.self.now c.self.view_is c.self.invariant.table c.args.from c.args.to c.requires.from c.requires.to
     c.index_mut-row.result.now c.index_mut-row.ensures.value c.index_mut-queue.result.now c.index_mut-queue.ensures.value
-    c.push_back_reserved.new.self c.self.inside.filled.items c.self.invariant.counts (c.index.result.now - c.one_if_filled-was.result + 1)
-    (omega (arith, c.index.ensures, counted, bounds.1, c.one_if_filled-was.ensures, ap one_if_some c.push_back_reserved.ensures.items, some_pushed c.index_mut-queue.result.now.items c.args.item))
+    c.push_back_reserved.new.self c.self.inside.filled.items c.self.invariant.counts _
+    (omega (arith, c.index.ensures, counted, bounds.1, c.one_if_filled-was.ensures, one))
 
 pub returns-clause-table : goal.returns-clause-table
 returns-clause-table g c =
