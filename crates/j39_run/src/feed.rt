@@ -2,12 +2,14 @@
 ghost use Rattle.std.specs.Prelude.{◌≡◌, ◌≢◌, ◌<◌, ◌≤◌, ◌-◌, ◌++◌, ℕ, List, [], true, false, length, take, drop, Option, Err, IfOk, OnOk, IsErrOf};
 ghost use Rattle.std.specs.Io.KnownBytes.{Consumes};
 ghost use Rattle.j39_id.specs.Lines.{Line};
+ghost use Rattle.j39_schedule.specs.UnitIndexes.{IsIndexOf};
 ghost use Rattle.j39_stream.specs.Streams.{HasFailed, PassesLimits};
 ghost use Rattle.j39_run.specs.inside.Feeding.{Comes, IsFed, IsShorter, to_do, unfed};
 
 use crate::next::{Next, next_of};
 use j39_id::Cutter;
 use j39_plan::Plan;
+use j39_schedule::UnitIndex;
 use j39_stream::{Fault, Intake, Source};
 use std::alloc::{AllocError, Global};
 use std::marker::Model;
@@ -88,34 +90,41 @@ impl Feed {
     }
 
     // The last line, if the schedule ends in one.
-    fn last(&mut self, alloc: Global, plan: &Plan) -> Result<Next, AllocError>
-        requires { self.old.ended ≡ true }
+    fn last(&mut self, alloc: Global, index: &UnitIndex, plan: &Plan) -> Result<Next, AllocError>
+        requires indexed { IsIndexOf plan.now index.now }
+        requires ended { self.old.ended ≡ true }
         ensures comes { IfOk result (λ next. (first now : Option (List ℕ)) (first_pulls pulls : ℕ) (seen : List ℕ) (ls : List Line) → IsFed first now first_pulls pulls self.old seen ls
             → Comes plan.now next first now first_pulls pulls self.new seen ls) }
         ensures shorter { IfOk result (λ next. IsShorter next self.old self.new) }
     {
         let cut = self.cutter.end();
-        match next_of(alloc, plan, cut, self.cutter.line())? {
+        match next_of(alloc, index, plan, cut, self.cutter.line())? {
             Next::More => Ok(Next::End),
             next => Ok(next),
         }
     }
 
     /// What comes next, of what was read.
-    pub fn next(&mut self, alloc: Global, plan: &Plan) -> Result<Next, AllocError>
+    pub fn next(
+        &mut self,
+        alloc: Global,
+        index: &UnitIndex,
+        plan: &Plan,
+    ) -> Result<Next, AllocError>
+        requires { IsIndexOf plan.now index.now }
         ensures comes { IfOk result (λ next. (first now : Option (List ℕ)) (first_pulls pulls : ℕ) (seen : List ℕ) (ls : List Line) → IsFed first now first_pulls pulls self.old seen ls
             → Comes plan.now next first now first_pulls pulls self.new seen ls) }
         ensures shorter { IfOk result (λ next. IsShorter next self.old self.new) }
     {
         if self.ended {
-            return self.last(alloc, plan);
+            return self.last(alloc, index, plan);
         }
         if self.from == self.to {
             return Ok(Next::Wait);
         }
         let step = self.cutter.advance(part(&self.piece, self.from, self.to));
         let line = step.whole.unwrap_or(self.cutter.line());
-        let next = next_of(alloc, plan, step.cut, line)?;
+        let next = next_of(alloc, index, plan, step.cut, line)?;
         self.from += step.used;
         Ok(next)
     }

@@ -1,11 +1,12 @@
 //! What comes next of a schedule.
 ghost use Rattle.std.specs.Prelude.{IfOk};
 ghost use Rattle.j39_id.specs.Lines.{tells};
+ghost use Rattle.j39_schedule.specs.UnitIndexes.{IsIndexOf};
 ghost use Rattle.j39_run.specs.inside.Feeding.{IsNext};
 
 use j39_id::Cut;
 use j39_plan::{Plan, Step};
-use j39_schedule::{LineFault, Unread, read_line};
+use j39_schedule::{LineFault, UnitIndex, Unread, read_line};
 use std::alloc::{AllocError, Global};
 
 /// What comes next of a schedule.
@@ -26,10 +27,11 @@ pub enum Next {
 }
 
 /// What a line orders.
-fn next_line(alloc: Global, plan: &Plan, line: &[u8]) -> Result<Next, AllocError>
+fn next_line(alloc: Global, index: &UnitIndex, plan: &Plan, line: &[u8]) -> Result<Next, AllocError>
+    requires { IsIndexOf plan.now index.now }
     ensures { IfOk result (λ next. IsNext plan.now next (tells Cut.Line line.now)) }
 {
-    match read_line(alloc, plan, line) {
+    match read_line(alloc, index, plan, line) {
         Ok(Some(step)) => Ok(Next::Step(step)),
         Ok(None) => Ok(Next::Blank),
         Err(Unread::Fault(fault)) => Ok(Next::Refused(fault)),
@@ -38,12 +40,19 @@ fn next_line(alloc: Global, plan: &Plan, line: &[u8]) -> Result<Next, AllocError
 }
 
 /// What is told by the answer of a cutter that gives this line.
-pub fn next_of(alloc: Global, plan: &Plan, cut: Cut, line: &[u8]) -> Result<Next, AllocError>
+pub fn next_of(
+    alloc: Global,
+    index: &UnitIndex,
+    plan: &Plan,
+    cut: Cut,
+    line: &[u8],
+) -> Result<Next, AllocError>
+    requires { IsIndexOf plan.now index.now }
     ensures { IfOk result (λ next. IsNext plan.now next (tells cut line.now)) }
 {
     match cut {
         Cut::More => Ok(Next::More),
-        Cut::Line => next_line(alloc, plan, line),
+        Cut::Line => next_line(alloc, index, plan, line),
         Cut::Long => Ok(Next::Refused(LineFault::LongLine)),
     }
 }

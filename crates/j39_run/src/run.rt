@@ -9,6 +9,7 @@ use crate::running::run_bus;
 use j39_bus::{Bus, BusError};
 use j39_claim::Choose;
 use j39_plan::Plan;
+use j39_schedule::UnitIndex;
 use j39_stream::{Fault, Sink, Source, Verdict, put_all};
 use std::alloc::Global;
 
@@ -61,8 +62,9 @@ pub fn run_text<S: Source, W: Sink>(
         × Consumes (S.left source.old) (S.left source.new) (input ++ rest)
         × IsRunText plan.now (length choosers.items) input text verdict × AppendsPart (W.taken sink.old) (W.taken sink.new) text)) }
 {
+    let index = UnitIndex::new(alloc, plan)?;
     match Bus::new(alloc, plan, choosers) {
-        Ok(bus) => run_bus(alloc, plan, bus, source, sink),
+        Ok(bus) => run_bus(alloc, &index, plan, bus, source, sink),
         Err(error) => refuse(alloc, plan, error, sink),
     }
 }

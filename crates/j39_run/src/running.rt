@@ -4,6 +4,7 @@ ghost use Rattle.std.specs.Io.KnownBytes.{Consumes};
 ghost use Rattle.j39_world.specs.Run.{cause_of};
 ghost use Rattle.j39_bus.specs.Stands.{Stands};
 ghost use Rattle.j39_world.specs.World.{first};
+ghost use Rattle.j39_schedule.specs.UnitIndexes.{IsIndexOf};
 ghost use Rattle.j39_run.specs.RunText.{IsBusText};
 ghost use Rattle.j39_run.specs.declared.halt.Halt.{Halt as Halts};
 ghost use Rattle.j39_run.specs.inside.Ending.{HasRunTo};
@@ -17,6 +18,7 @@ use crate::putting::put_text;
 use crate::run_lines::write_frames;
 use j39_bus::{Bus, StepError};
 use j39_plan::Plan;
+use j39_schedule::UnitIndex;
 use j39_stream::{Fault, Sink, Source, Verdict};
 use j39_text::TextBuffer;
 use std::alloc::{AllocError, Global};
@@ -37,12 +39,14 @@ fn refused_at(place: usize, error: StepError) -> Result<Halt, AllocError>
 /// are written before the next piece is read.
 pub fn run_bus<S: Source, W: Sink>(
     alloc: Global,
+    index: &UnitIndex,
     plan: &Plan,
     bus: Bus,
     source: &mut S,
     sink: &mut W,
 ) -> Result<Verdict, Fault>
-    requires { Stands bus plan.now first }
+    requires indexed { IsIndexOf plan.now index.now }
+    requires stands { Stands bus plan.now first }
     ensures done { IfOk result (HasRunTo plan.now (S.left source.old) (S.left source.new) (W.taken sink.old) (W.taken sink.new)) }
     ensures limits { OnOk result (KeepsLimits (S.left source.old) (S.left source.new) (S.pulls source.old) (S.pulls source.new)) }
     ensures long { IsErrOf result Fault.TooLong → PassesLimits (S.left source.old) (S.left source.new) (S.pulls source.old) (S.pulls source.new) }
@@ -57,7 +61,7 @@ pub fn run_bus<S: Source, W: Sink>(
     let mut text = TextBuffer::new(alloc);
     let mut place = 0;
     loop {
-        match feed.next(alloc, plan)? {
+        match feed.next(alloc, index, plan)? {
             Next::Wait => {
                 put_text(sink, &mut text)?;
                 feed.read_on(source)?;

@@ -7,3 +7,4 @@ pub mod StepLists
 pub mod TextWords
 pub mod UnitNames
 pub mod WrittenSteps
+pub mod UnitIndexes

@@ -42,7 +42,7 @@ label_word text is =
     )
 
 -- labels that differ tell units apart
-named : (plan : Plan) (u : ℕ) (unit : UnitPlan) → slice_get plan.units.items u ≡ Some unit → unit_named plan unit.label.bytes ≡ Some u
+pub named : (plan : Plan) (u : ℕ) (unit : UnitPlan) → slice_get plan.units.items u ≡ Some unit → unit_named plan unit.label.bytes ≡ Some u
 unfolding unit_named
 named plan u unit at =
     let label = unit.label.bytes in

@@ -1,3 +1,4 @@
 -- What only private contracts and proofs need.
+pub mod Checksums
 pub mod OrderWords
 pub mod WordValues

@@ -20,19 +20,19 @@ pub returns-in-Ok-clause-cut : goal.returns-in-Ok-clause-cut
 returns-in-Ok-clause-cut g c =
     IfErr-weaker c.run_bus.result _ _ (λ _ cut. inr (cut_text c.args.plan.now (length c.args.choosers.items) c.in-Ok.ensures.ok _ _ _ _ cut)) c.run_bus.ensures.cut
 
-pub returns-in-Err-clause-written : goal.returns-in-Err-clause-written
-returns-in-Err-clause-written g c =
+pub returns-clause-written : goal.returns-clause-written
+returns-clause-written g c =
     refused_text c.args.plan.now (length c.args.choosers.items) c.in-Err.error c.in-Err.ensures.refused _ _ _ c.refuse.result c.refuse.ensures.verdict c.refuse.ensures.ok
 
-pub returns-in-Err-clause-whole : goal.returns-in-Err-clause-whole
-returns-in-Err-clause-whole g c =
+pub returns-clause-whole : goal.returns-clause-whole
+returns-clause-whole g c =
     refused_whole c.args.plan.now (length c.args.choosers.items) c.in-Err.error c.in-Err.ensures.refused _ _ _ c.refuse.result c.refuse.ensures.verdict c.refuse.ensures.ok
 
-pub returns-in-Err-clause-cut : goal.returns-in-Err-clause-cut
-returns-in-Err-clause-cut g c =
+pub returns-clause-cut : goal.returns-clause-cut
+returns-clause-cut g c =
     refused_cut c.args.plan.now (length c.args.choosers.items) c.in-Err.error c.in-Err.ensures.refused _ _ _ c.refuse.result
     c.refuse.ensures.memory c.refuse.ensures.cut c.refuse.ensures.fits
 
-pub returns-in-Err-clause-limits : goal.returns-in-Err-clause-limits
-returns-in-Err-clause-limits g c =
+pub returns-clause-limits : goal.returns-clause-limits
+returns-clause-limits g c =
     IfOk-weaker c.refuse.result _ _ (λ _ _. ([], none_read (g.S.Source.left c.args.source.now), omega arith, (0, omega arith, omega arith))) c.refuse.ensures.verdict

@@ -27,7 +27,7 @@ loop-text-init g c =
       [],
       [],
       subst (λ (f : Feeding). IsFed first first p p f [] []) (sym c.new-feed.ensures) (unread first p),
-      subst (λ (t : List ℕ). HasDone c.args.plan.now c.args.bus [] 0 [] t) (sym c.new-text.ensures) (nothing_done c.args.plan.now c.args.bus c.requires),
+      subst (λ (t : List ℕ). HasDone c.args.plan.now c.args.bus [] 0 [] t) (sym c.new-text.ensures) (nothing_done c.args.plan.now c.args.bus c.requires.stands),
       none_taken (g.W.Sink.taken c.args.sink.now),
       refl,
       refl,
