@@ -1,8 +1,9 @@
+pub mod Answering
 pub mod Carrying
 pub mod Gathering
 pub mod Hearing
 pub mod Holding
+pub mod Honest
 pub mod PacketLaws
 pub mod Tracking
 pub mod Walks
-pub mod Honest

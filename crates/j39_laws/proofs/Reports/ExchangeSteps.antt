@@ -12,8 +12,7 @@ use Rattle.j39_world.specs.Transfers.{Begun}
 use Rattle.j39_world.specs.Sound.{IsSubsequence}
 use Rattle.j39_laws.proofs.Runs.Elements.{all-append, all_map, all_weaker}
 use Rattle.j39_laws.proofs.Reports.Subsequences.{subsequence_more, subsequence_both}
-use Rattle.j39_tp.specs.HonestPackets.{GoesOn}
-use Rattle.j39_laws.proofs.Reports.Hearings.{IsAside, IsAnswer, IsNoAnnouncement}
+use Rattle.j39_tp.proofs.Answering.{IsAside, IsAnswer, aside_answer, answers_go_on}
 use Rattle.j39_laws.proofs.Reports.Exchanges.{Pair, Message, IsAnswering, IsUnacknowledging, Begins, ComesAfter, BeginsOnce, EndsWith, IsUnreported}
 use Rattle.j39_laws.proofs.Reports.Exchanges.{IsAhead, Exchange}
 
@@ -30,14 +29,6 @@ aside_unacknowledging (Dt number seven) is = absurd is
 pub asides_unacknowledging : (ps : List Packet) → AllByRecursion IsAside ps → AllByRecursion IsUnacknowledging (map wired.Packet ps)
 asides_unacknowledging = all_map wired.Packet IsAside IsUnacknowledging aside_unacknowledging
 
-aside_answer : (p : Packet) → IsAside p → IsAnswer p
-aside_answer (Rts size limit pgn) is = is
-aside_answer (Cts count first pgn) is = is
-aside_answer (EndAck size pgn) is = absurd is
-aside_answer (Bam size pgn) is = is
-aside_answer (Abort reason pgn) is = is
-aside_answer (Dt number seven) is = is
-
 pub asides_answer : (ps : List Packet) → AllByRecursion IsAside ps → AllByRecursion IsAnswer ps
 asides_answer = all_weaker IsAside IsAnswer aside_answer
 
@@ -46,28 +37,7 @@ answers_answering = all_map wired.Packet IsAnswer IsAnswering (λ p is. is)
 
 answering_comes_after : (m : Message) (item : Wired) → IsAnswering item → ComesAfter m item
 answering_comes_after m (wired.Short bytes) is = is
-answering_comes_after m (wired.Packet (Rts size limit pgn)) is = is
-answering_comes_after m (wired.Packet (Cts count first pgn)) is = tt
-answering_comes_after m (wired.Packet (EndAck size pgn)) is = tt
-answering_comes_after m (wired.Packet (Bam size pgn)) is = is
-answering_comes_after m (wired.Packet (Abort reason pgn)) is = tt
-answering_comes_after m (wired.Packet (Dt number seven)) is = absurd is
-
-pub answers_announce_nothing : (p : Packet) → IsAnswer p → IsNoAnnouncement p
-answers_announce_nothing (Rts size limit pgn) is = is
-answers_announce_nothing (Cts count first pgn) is = tt
-answers_announce_nothing (EndAck size pgn) is = tt
-answers_announce_nothing (Bam size pgn) is = is
-answers_announce_nothing (Abort reason pgn) is = tt
-answers_announce_nothing (Dt number seven) is = absurd is
-
-pub goes_on_unannounced : (bytes : List ℕ) (p : Packet) → GoesOn bytes p → IsNoAnnouncement p
-goes_on_unannounced bytes (Rts size limit pgn) is = is
-goes_on_unannounced bytes (Cts count first pgn) is = tt
-goes_on_unannounced bytes (EndAck size pgn) is = tt
-goes_on_unannounced bytes (Bam size pgn) is = is
-goes_on_unannounced bytes (Abort reason pgn) is = tt
-goes_on_unannounced bytes (Dt number seven) is = tt
+answering_comes_after m (wired.Packet p) is = answers_go_on m.begun.bytes p is
 
 begins_more : (m : Message) (xs ys : List Wired) → AllByRecursion (ComesAfter m) ys → BeginsOnce m xs → BeginsOnce m (xs ++ ys)
 begins_more m [] ys more none = absurd none

@@ -14,12 +14,14 @@ use Rattle.j39_world.specs.declared.wired.Wired.TheVariants as wired
 use Rattle.j39_world.specs.Resting.{is_of_sender, is_of_receiver}
 use Rattle.j39_world.specs.Transfers.{closed_if_complete}
 use Rattle.j39_tp.specs.HonestPackets.{AnnouncesMessage}
+use Rattle.j39_tp.proofs.Answering.{IsNoAnnouncement, TellsNothing, TellsMessage, hears_told, announcement_told, closed_told, answers_announce_nothing}
+use Rattle.j39_tp.proofs.Answering.{goes_on_unannounced}
 use Rattle.j39_tp.proofs.Honest.{tells_first, tells_more, carried_is}
 use Rattle.j39_laws.proofs.Runs.Elements.{all_tested}
-use Rattle.j39_laws.proofs.Reports.Hearings.{TellsNothing, TellsMessage, hears_told, announcement_told, closed_told}
+use Rattle.j39_laws.proofs.Reports.Hearings.{stays_closed}
 use Rattle.j39_laws.proofs.Reports.Exchanges.{Pair, Message, IsAnswering, IsUnacknowledging, ComesAfter, BeginsOnce, IsIdle, IsAhead, IsUnderWay}
 use Rattle.j39_laws.proofs.Reports.Exchanges.{IsOver, Exchange}
-use Rattle.j39_laws.proofs.Reports.ExchangeSteps.{answers_announce_nothing, goes_on_unannounced, part_with, is_part}
+use Rattle.j39_laws.proofs.Reports.ExchangeSteps.{part_with, is_part}
 
 -- ---- a message of one frame
 
@@ -77,10 +79,17 @@ pub record Completes (o : Option Message) (window : ℕ) (pair : Pair) (p : Pack
 abbrev pub Takes : Option Message → ℕ → Pair → Packet → List Wired → Type 0
 Takes o window pair p rest = TakesOn o window pair p rest ⊎ Completes o window pair p rest
 
+-- a closed receiver stays closed, but for an announcement
+still_closed : (window : ℕ) (pair : Pair) (p : Packet) → is_open_at pair.receiver ≡ false → IsNoAnnouncement p
+    → TellsNothing (heard_of window pair p) × (is_open_at (receiver_after window pair p) ≡ false)
+still_closed window pair p closed other =
+    let told = closed_told window pair.receiver p closed other in
+    (told.0, stays_closed (hears (Answering window) pair.receiver p).0 told.1)
+
 idle_taken : (window : ℕ) (pair : Pair) (p : Packet) (rest : List Wired) → IsIdle pair → AllByRecursion IsAnswering (wired.Packet p ∷ rest)
     → Takes None window pair p rest
 idle_taken window pair p rest e wire =
-    let heard = closed_told window pair.receiver p e.closed (answers_announce_nothing p wire.0) in
+    let heard = still_closed window pair p e.closed (answers_announce_nothing p wire.0) in
     inl (record { told = heard.0; keeps = record { wire = wire.1; closed = heard.1; back = e.back; part = e.part } })
 
 ahead_taken : (m : Message) (window : ℕ) (pair : Pair) (p : Packet) (rest : List Wired) → IsAhead m pair → BeginsOnce m (wired.Packet p ∷ rest)
@@ -93,7 +102,7 @@ ahead_taken m window pair p rest e (inl here) =
       keeps = inr (inl (record { wire = here.1; gathers = tells_first pair.taken m.pgn m.begun.bytes p opens; back = e.back; unreported = e.unreported }));
     })
 ahead_taken m window pair p rest e (inr later) =
-    let heard = closed_told window pair.receiver p e.closed (goes_on_unannounced m.begun.bytes p later.0) in
+    let heard = still_closed window pair p e.closed (goes_on_unannounced m.begun.bytes p later.0) in
     inl (record { told = heard.0; keeps = inl (record { wire = later.1; closed = heard.1; back = e.back; unreported = e.unreported }) })
 
 under_way_taken : (m : Message) (window : ℕ) (pair : Pair) (p : Packet) (rest : List Wired) → IsUnderWay m pair
@@ -114,14 +123,19 @@ under_way_taken m window pair p rest e wire = elim (hears_told window pair.recei
     is = refl;
     carried = λ pgn bytes c. (carried_is pair.taken p m.pgn m.begun.bytes e.gathers wire.0 pgn bytes c).1;
     keeps =
-        λ back. inr (inr (record { wire = wire.1; closed = told.1; back = inr (pair.reports, refl); part = part_with m pair.begun pair.reports e.unreported }));
+        λ back. inr (inr (record {
+          wire = wire.1;
+          closed = stays_closed (hears (Answering window) pair.receiver p).0 told.1;
+          back = inr (pair.reports, refl);
+          part = part_with m pair.begun pair.reports e.unreported;
+        }));
   })
 ]
 
 over_taken : (m : Message) (window : ℕ) (pair : Pair) (p : Packet) (rest : List Wired) → IsOver m pair
     → AllByRecursion (ComesAfter m) (wired.Packet p ∷ rest) → Takes (Some m) window pair p rest
 over_taken m window pair p rest e wire =
-    let heard = closed_told window pair.receiver p e.closed (goes_on_unannounced m.begun.bytes p wire.0) in
+    let heard = still_closed window pair p e.closed (goes_on_unannounced m.begun.bytes p wire.0) in
     inl (record { told = heard.0; keeps = inr (inr (record { wire = wire.1; closed = heard.1; back = e.back; part = e.part })) })
 
 pub packet_taken : (o : Option Message) (window : ℕ) (pair : Pair) (p : Packet) (rest : List Wired) → pair.wire ≡ wired.Packet p ∷ rest

@@ -11,7 +11,7 @@ use Rattle.j39_world.specs.Transfers.{Outgoing, Begun, is_among}
 use Rattle.j39_world.specs.World.{World}
 use Rattle.j39_world.specs.Sound.{IsSubsequence, reported}
 use Rattle.j39_tp.specs.HonestPackets.{GoesOn, AnnouncesMessage, TellsLast}
-use Rattle.j39_laws.proofs.Reports.Hearings.{IsAnswer}
+use Rattle.j39_tp.proofs.Answering.{IsAnswer}
 
 -- all that a world has between a sender and a receiver
 pub record Pair : Type 0 where

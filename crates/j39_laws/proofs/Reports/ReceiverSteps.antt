@@ -21,7 +21,8 @@ use Rattle.j39_world.specs.World.{World, changed, changed_pair}
 use Rattle.j39_world.specs.Sound.{reported}
 use Rattle.j39_laws.proofs.Runs.Elements.{all-append}
 use Rattle.j39_laws.proofs.Reports.Hearings as hearings
-use Rattle.j39_laws.proofs.Reports.Hearings.{IsAside, IsAnswer, TellsNothing, TellsMessage, Acknowledges, session_acked, directed_to}
+use Rattle.j39_laws.proofs.Reports.Hearings.{session_acked, directed_to}
+use Rattle.j39_tp.proofs.Answering.{IsAside, IsAnswer, TellsNothing, TellsMessage, Acknowledges, timed_out_aside}
 use Rattle.j39_laws.proofs.Reports.Orderly.{PlannedAt, DeliveredBefore, IsOrderly, sessions_keep}
 use Rattle.j39_laws.proofs.Runs.Changed.{IsElsewhere, changed_each, pair_here_or_elsewhere, pair_here, pair_elsewhere, pair_each}
 use Rattle.j39_laws.proofs.Reports.Exchanges.{Pair, pair_of, Message, message_for, message_to, begun_of, IsAnswering, IsUnacknowledging, EndsWith, Exchange}
@@ -62,7 +63,7 @@ module _ (plan : Plan) (w : World) (inv : TransferInvariant plan w) where
       let late = receiver.timed_out (Answering (window_at windows v)) (w.receivers v u) in
       let then : Progress = closed_if_complete late.0 in
       let sent : List Packet = packets_in late.1 in
-      let aside : AllByRecursion IsAside sent = hearings.timed_out_aside (window_at windows v) (w.receivers v u) in
+      let aside : AllByRecursion IsAside sent = hearings.packets_aside late.1 (timed_out_aside (window_at windows v) (w.receivers v u)) in
       let base : ℕ → ℕ → Pair = λ s t. record (pair_of w s t) { receiver = changed_pair w.receivers v u then t s } in
       let start : ExchangesBy message base Anywhere w.wire w.wire =
       λ s t _. pair_each (λ t' s' (r : Progress). Exchange (message s' t') (record (pair_of w s' t') { receiver = r })) w.receivers v u then

@@ -28,7 +28,6 @@ use Rattle.j39_world.specs.TransferSteps.{targets_of, sent_along, begun_stage, o
 use Rattle.j39_world.specs.World.{World, changed, is_other_on}
 use Rattle.j39_world.specs.Sound.{reported}
 use Rattle.j39_tp.specs.HonestPackets.{GoesOn}
-use Rattle.j39_laws.proofs.Reports.Hearings.{either}
 use Rattle.j39_laws.proofs.Reports.Orderly.{IsPlanned, PlannedAt, DeliveredBefore, all_delivered, sessions_keep}
 use Rattle.j39_laws.proofs.Runs.Changed.{changed_each}
 use Rattle.j39_laws.proofs.Runs.Conditions.{first_holds}
@@ -90,13 +89,13 @@ announcement_other dests.One pgn size = tt
 
 first_begins : (flow : Flow) (bytes : List ℕ) (m : Message) → m.pgn ≡ flow.pgn → m.begun.bytes ≡ bytes → Begins m (first_item flow bytes)
 first_begins flow bytes m pgn is =
-    either (Begins m) (is_short (length bytes)) (wired.Short bytes) (wired.Packet (sender.announcement (dest_of flow.to) flow.pgn (length bytes))) (sym is)
-    (dest_of flow.to, λ i. sender.announcement (dest_of flow.to) (sym pgn i) (length (sym is i)))
+    cond_both (is_short (length bytes)) (wired.Short bytes) (wired.Packet (sender.announcement (dest_of flow.to) flow.pgn (length bytes))) (Begins m)
+    (λ _. sym is) (λ _. (dest_of flow.to, λ i. sender.announcement (dest_of flow.to) (sym pgn i) (length (sym is i))))
 
 first_other : (flow : Flow) (bytes : List ℕ) → IsUnacknowledging (first_item flow bytes)
 first_other flow bytes =
-    either IsUnacknowledging (is_short (length bytes)) (wired.Short bytes) (wired.Packet (sender.announcement (dest_of flow.to) flow.pgn (length bytes))) tt
-    (announcement_other (dest_of flow.to) flow.pgn (length bytes))
+    cond_both (is_short (length bytes)) (wired.Short bytes) (wired.Packet (sender.announcement (dest_of flow.to) flow.pgn (length bytes))) IsUnacknowledging
+    (λ _. tt) (λ _. announcement_other (dest_of flow.to) flow.pgn (length bytes))
 
 begun_unacked : (dest : Dest) (size : ℕ) → sender.begun dest size ≡ Resting Acked → ⊥
 begun_unacked dests.All size e = cc e
@@ -104,8 +103,8 @@ begun_unacked dests.One size e = cc e
 
 stage_unacked : (flow : Flow) (bytes : List ℕ) → begun_stage flow bytes ≡ Resting Acked → ⊥
 stage_unacked flow bytes =
-    either (λ (x : Stage). x ≡ Resting Acked → ⊥) (is_short (length bytes)) _ (sender.begun (dest_of flow.to) (length bytes)) (λ e. cc e)
-    (begun_unacked (dest_of flow.to) (length bytes))
+    cond_both (is_short (length bytes)) _ (sender.begun (dest_of flow.to) (length bytes)) (λ (x : Stage). x ≡ Resting Acked → ⊥)
+    (λ _ e. cc e) (λ _. begun_unacked (dest_of flow.to) (length bytes))
 
 -- ---- its receivers
 
@@ -240,7 +239,7 @@ module _ (plan : Plan) (w : World) (inv : TransferInvariant plan w) where
       after_unacked : (dest : Dest) (bytes : List ℕ) (stage : Stage) (q : Packet) → sender.data_next bytes stage ≡ Some q
           → sender.after_packet dest stage ≡ Resting Acked → ⊥
       after_unacked dest bytes (Sending next last) q same =
-          either (λ (x : Stage). x ≡ Resting Acked → ⊥) (nat_lt next last) _ (sender.spent dest) (λ f. cc f) (spent_unacked dest)
+          cond_both (nat_lt next last) _ (sender.spent dest) (λ (x : Stage). x ≡ Resting Acked → ⊥) (λ _ f. cc f) (λ _. spent_unacked dest)
         where
           spent_unacked : (d : Dest) → sender.spent d ≡ Resting Acked → ⊥
           spent_unacked dests.All f = cc f
