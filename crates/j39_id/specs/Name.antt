@@ -1,66 +1,77 @@
 -- The 64-bit NAME (SAE J1939-81, NAME fields).
-use Rattle.std.specs.Prelude.{◌≡◌, ℕ, ◌*◌, ◌/◌, ◌%◌, ◌^◌, ◌<◌, nat_eq, nat_le, Bool, List, length, [], ◌∷◌, sum_by, find, Option, option_map}
+use Rattle.std.specs.Prelude.{◌≡◌, ℕ, ◌*◌, ◌/◌, ◌%◌, ◌^◌, ◌<◌, nat_eq, nat_le, Bool, List, length, [], ◌∷◌, map, sum_by, Option}
 use Rattle.std.specs.Int.{w64, to_le_bytes, from_le_bytes}
 use Rattle.hex.specs.Hex.{IsBytes}
+use Rattle.j39_id.specs.FirstFault.{first_fault}
 use Rattle.j39_id.specs.declared.name_fields.NameFields.{NameFields}
 use Rattle.j39_id.specs.declared.name_fields.NameField.{NameField}
-use Rattle.j39_id.specs.declared.name_fields.NameField.TheVariants.{Identity, Manufacturer, Ecu, FunctionInstance, Function, Reserved, System, SystemInstance, Industry, Arbitrary}
+use Rattle.j39_id.specs.declared.name_fields.NameField.TheVariants.{Identity, Manufacturer, Ecu, FunctionInstance, Function, Reserved, System, SystemInstance}
+use Rattle.j39_id.specs.declared.name_fields.NameField.TheVariants.{Industry, Arbitrary}
 
--- a field, its value, the first of its bits and how many they are
-pub record Place : Type 0 where
-  pub field : NameField
-  pub value : ℕ
-  pub first : ℕ
-  pub bits : ℕ
+-- the fields, from the lowest bit up
+abbrev pub all_fields : List NameField
+all_fields =
+    Identity ∷ Manufacturer ∷ Ecu ∷ FunctionInstance ∷ Function ∷ Reserved ∷ System ∷ SystemInstance ∷ Industry ∷ Arbitrary ∷ []
 
-abbrev pub place : NameField → ℕ → ℕ → ℕ → Place
-place field value first bits = record { field = field; value = value; first = first; bits = bits }
+-- the layout of a NAME: the first bit of each field, and how many it has
+abbrev pub layout : NameField → ℕ × ℕ
+layout Identity = (0, 21)
+layout Manufacturer = (21, 11)
+layout Ecu = (32, 3)
+layout FunctionInstance = (35, 5)
+layout Function = (40, 8)
+layout Reserved = (48, 1)
+layout System = (49, 7)
+layout SystemInstance = (56, 4)
+layout Industry = (60, 3)
+layout Arbitrary = (63, 1)
 
--- the layout of a NAME, from its lowest bit up
-abbrev pub layout : NameFields → List Place
-layout f =
-    place Identity f.identity 0 21
-    ∷ place Manufacturer f.manufacturer 21 11
-    ∷ place Ecu f.ecu 32 3
-    ∷ place FunctionInstance f.function_instance 35 5
-    ∷ place Function f.function 40 8
-    ∷ place Reserved f.reserved 48 1
-    ∷ place System f.system 49 7
-    ∷ place SystemInstance f.system_instance 56 4
-    ∷ place Industry f.industry 60 3
-    ∷ place Arbitrary f.arbitrary 63 1
-    ∷ []
+abbrev pub value_of : NameFields → NameField → ℕ
+value_of f Identity = f.identity
+value_of f Manufacturer = f.manufacturer
+value_of f Ecu = f.ecu
+value_of f FunctionInstance = f.function_instance
+value_of f Function = f.function
+value_of f Reserved = f.reserved
+value_of f System = f.system
+value_of f SystemInstance = f.system_instance
+value_of f Industry = f.industry
+value_of f Arbitrary = f.arbitrary
 
 -- the number of the fields: the sum of each times 2 to its first bit
 abbrev pub name_number : NameFields → ℕ
-name_number f = sum_by (λ p. p.value * 2 ^ p.first) (layout f)
+name_number f = sum_by (λ field. value_of f field * 2 ^ (layout field).0) all_fields
+
+-- the fields, each with whether its value does not fit its bits
+abbrev pub range_faults : NameFields → List (NameField × Bool)
+range_faults f = map (λ field. (field, nat_le (2 ^ (layout field).1) (value_of f field))) all_fields
 
 -- the first field whose value does not fit its bits
 abbrev pub first_out : NameFields → Option NameField
-first_out f = option_map (λ p. p.field) (find (λ p. nat_le (2 ^ p.bits) p.value) (layout f))
+first_out f = first_fault (range_faults f)
 
--- so many bits of a number, from the first on
-abbrev pub bits_of : ℕ → ℕ → ℕ → ℕ
-bits_of n first bits = n / 2 ^ first % 2 ^ bits
+-- the bits of a number that a field has
+abbrev pub field_in : ℕ → NameField → ℕ
+field_in n field = n / 2 ^ (layout field).0 % 2 ^ (layout field).1
 
 -- the fields of a number
 abbrev pub fields_of : ℕ → NameFields
 fields_of n = record {
-  identity = bits_of n 0 21;
-  manufacturer = bits_of n 21 11;
-  ecu = bits_of n 32 3;
-  function_instance = bits_of n 35 5;
-  function = bits_of n 40 8;
-  reserved = bits_of n 48 1;
-  system = bits_of n 49 7;
-  system_instance = bits_of n 56 4;
-  industry = bits_of n 60 3;
-  arbitrary = bits_of n 63 1;
+  identity = field_in n Identity;
+  manufacturer = field_in n Manufacturer;
+  ecu = field_in n Ecu;
+  function_instance = field_in n FunctionInstance;
+  function = field_in n Function;
+  reserved = field_in n Reserved;
+  system = field_in n System;
+  system_instance = field_in n SystemInstance;
+  industry = field_in n Industry;
+  arbitrary = field_in n Arbitrary;
 }
 
 -- the unit is arbitrary address capable: it may choose another address
 abbrev pub is_arbitrary : ℕ → Bool
-is_arbitrary name = nat_eq (bits_of name 63 1) 1
+is_arbitrary name = nat_eq (field_in name Arbitrary) 1
 
 -- ---- laws
 

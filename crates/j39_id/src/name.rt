@@ -25,7 +25,8 @@ impl Model for Name {
 }
 
 impl Name {
-    ghost use Rattle.j39_id.specs.Name.{name_number, first_out, bits_of, fields_of};
+    ghost use Rattle.j39_id.specs.Name.{name_number, first_out, field_in, fields_of};
+    ghost use Rattle.j39_id.specs.declared.name_fields.NameField.TheVariants.{Arbitrary};
     ghost use Rattle.j39_id.specs.declared.name_fields.NameError.TheVariants.{FieldRange};
 
     /// The NAME of these fields, or the first of them, from the lowest bit up, that is out of its range.
@@ -105,7 +106,7 @@ impl Name {
 
     /// Whether the unit is arbitrary address capable: it may choose another address.
     pub fn is_arbitrary(self) -> bool
-        ensures { IsTrue result ↔ (bits_of self 63 1 ≡ 1) }
+        ensures { IsTrue result ↔ (field_in self Arbitrary ≡ 1) }
     {
         self.to_bits() >> 63 == 1
     }
