@@ -1,5 +1,6 @@
 -- Laws of frame lines: a line spells at most one frame, none that is refused does, and the canonical text spells its frame.
-use Rattle.std.proofs.Common.{slice_range, ◌≡◌, ℕ, zero, suc, ◌+◌, ◌-◌, ◌<◌, ◌≤◌, ◌^◌, ◌==◌, ◌||◌, true, false, List, [], ◌∷◌, ◌++◌, length, take, drop, get_or, Option, Some, Result, Ok, Err, refl, sym, ap, ◌∙◌, inl, inr, ◌⊎◌, arith}
+use Rattle.std.proofs.Common.{slice_range, ◌≡◌, ℕ, zero, suc, ◌+◌, ◌-◌, ◌<◌, ◌≤◌, ◌==◌, ◌||◌, true, false, List, [], ◌∷◌, ◌++◌, length, take, drop, get_or}
+use Rattle.std.proofs.Common.{Option, Some, Result, Ok, Err, refl, sym, ap, ◌∙◌, inl, inr, ◌⊎◌, arith}
 use Rattle.std.specs.List.{AllPass, All, position, position_or_len}
 use Rattle.std.specs.Int.{w32, to_be_bytes, from_be_bytes}
 use Rattle.std.specs.Prelude.{nat_lt, None, IfOk, IfErr}
@@ -13,9 +14,11 @@ use Rattle.std.proofs.lemmas.List.Sums.{position_or_len_is}
 use Rattle.hex.specs.Hex.{decode_of, decode_sized, encode_upper, upper_digits, is_hex_digit, IsBytes}
 use Rattle.hex.specs.declared.error.FromHexError.{FromHexError}
 use Rattle.hex.proofs.HexLemmas.{decode_sized-ok, decode_sized-twice, decode_of-ok, decode_of-encode_upper, length-encode_with}
-use Rattle.j39_id.specs.FrameLine.{is_separator, IsLastWord, identifier_in, identifier_in_bytes, WordSpells, LineSpells, Spells, canon_text, is_hash, before_hash, after_hash, word_faults, IsFirstFault, HasLineFault}
+use Rattle.j39_id.specs.FrameLine.{is_separator, IsLastWord, identifier_in, identifier_in_bytes, WordSpells, LineSpells, Spells, canon_text, is_hash}
+use Rattle.j39_id.specs.FrameLine.{before_hash, after_hash, payload_digits, word_faults, IsFirstFault, HasLineFault}
 use Rattle.j39_id.specs.FirstFault.{first_fault}
-use Rattle.j39_id.specs.Ident.{bits}
+use Rattle.j39_id.specs.Ident.{bits, identifier_end}
+use Rattle.j39_id.specs.Limits.{frame_bytes}
 use Rattle.j39_id.specs.declared.frame.Frame.{Frame}
 use Rattle.j39_id.specs.declared.line_error.LineError.{LineError}
 use Rattle.j39_id.specs.declared.line_error.LineError.TheVariants.{Empty, NoHash, ShortIdent, BadIdent, TooLong, BadData}
@@ -129,7 +132,7 @@ pub record IsCut (word : List ℕ) (number : ℕ) (payload : List ℕ) : Type 0 
   pub place : ℕ
   pub hash : position is_hash word ≡ Some place
   pub identifier : identifier_in (before_hash word) ≡ Some number
-  pub room : length (after_hash word) ≤ 16
+  pub room : length (after_hash word) ≤ payload_digits
   pub bytes : decode_of (after_hash word) ≡ Ok payload
 
 pub cut_of : (word : List ℕ) (number : ℕ) (payload : List ℕ) → WordSpells word number payload → IsCut word number payload
@@ -167,7 +170,7 @@ no_fault word n p s =
     let identifier = x.identifier in
     let bytes = x.bytes in
     let eight = (identifier_digits (before_hash word) n identifier).0 in
-    let room : nat_lt 16 (length (after_hash word)) ≡ false = le-ltb 16 (length (after_hash word)) x.room in
+    let room : nat_lt payload_digits (length (after_hash word)) ≡ false = le-ltb payload_digits (length (after_hash word)) x.room in
     rw (hash, identifier, eight, room, bytes) refl
 
 pub word_sound : (word : List ℕ) (n : ℕ) (p : List ℕ) → WordSpells word n p → (e : LineError) → IsFirstFault word e → ⊥
@@ -242,17 +245,17 @@ IsBytes-number n (suc (suc (suc zero))) = omega arith
 IsBytes-number n (suc (suc (suc (suc i)))) = omega arith
 
 -- the eight digits of a number stand for it
-identifier_in-canon : (n : ℕ) → n < 2 ^ 29 → identifier_in (encode_upper (to_be_bytes w32 n)) ≡ Some n
+identifier_in-canon : (n : ℕ) → n < identifier_end → identifier_in (encode_upper (to_be_bytes w32 n)) ≡ Some n
 identifier_in-canon n h =
     let bs : List ℕ = to_be_bytes w32 n in
     let len : length (encode_upper bs) ≡ 8 = length-encode_with upper_digits bs in
     let read : decode_sized (encode_upper bs) 4 ≡ Ok bs =
     decode_sized-twice (encode_upper bs) 4 len ∙ decode_of-encode_upper bs (IsBytes-number n) in
     let value : from_be_bytes w32 bs ≡ n = from_be_bytes-to_be_bytes_4 n (omega arith) in
-    let fits : nat_lt n (2 ^ 29) ≡ true = lt-ltb n (2 ^ 29) h in
+    let fits : nat_lt n identifier_end ≡ true = lt-ltb n identifier_end h in
     ap identifier_in_bytes read ∙ rw (value, fits) refl
 
-pub canon_spells : (n : ℕ) (p : List ℕ) → n < 2 ^ 29 → length p ≤ 8 → IsBytes p → LineSpells (canon_text n p) n p
+pub canon_spells : (n : ℕ) (p : List ℕ) → n < identifier_end → length p ≤ frame_bytes → IsBytes p → LineSpells (canon_text n p) n p
 canon_spells n p h room bytes =
     let text : List ℕ = canon_text n p in
     let digits : List ℕ = encode_upper (to_be_bytes w32 n) in

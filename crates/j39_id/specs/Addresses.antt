@@ -14,13 +14,19 @@ global_address = 255
 abbrev pub is_address : ℕ → Bool
 is_address a = nat_lt a null_address
 
--- the pool among which arbitrary address capable units choose: 128 to 247
+-- the pool among which arbitrary address capable units choose, by its first and its last address
+abbrev pub pool_first : ℕ
+pool_first = 128
+
+abbrev pub pool_last : ℕ
+pool_last = 247
+
 abbrev pub in_pool : ℕ → Bool
-in_pool a = nat_le 128 a && nat_le a 247
+in_pool a = nat_le pool_first a && nat_le a pool_last
 
 abbrev pub pool_size : ℕ
 pool_size = 120
 
 -- all of them, rising
 abbrev pub pool : List ℕ
-pool = range_with_len 128 pool_size
+pool = range_with_len pool_first pool_size

@@ -1,11 +1,13 @@
 -- Frame lines: what spells a frame, the one canonical text, and why a line is refused.
-use Rattle.std.specs.Prelude.{◌≡◌, ℕ, ◌-◌, ◌<◌, ◌≤◌, ◌^◌, ◌==◌, ◌||◌, ◌&&◌, nat_lt, Bool, true, false, if◌then◌else◌, List, [], ◌∷◌, ◌++◌, length, slice_index, Option, Some, None, is_none, Result, Ok, Err, is_err}
+use Rattle.std.specs.Prelude.{◌≡◌, ℕ, ◌-◌, ◌*◌, ◌<◌, ◌≤◌, ◌==◌, ◌||◌, ◌&&◌, nat_lt, Bool, true, false, if◌then◌else◌, List, [], ◌∷◌, ◌++◌, length, slice_index}
+use Rattle.std.specs.Prelude.{Option, Some, None, is_none, Result, Ok, Err, is_err}
 use Rattle.std.specs.List.{All, AllPass, list_all, position, before_first, after_first}
 use Rattle.std.specs.Int.{w32, to_be_bytes, from_be_bytes}
 use Rattle.hex.specs.Hex.{decode_of, decode_sized, encode_upper, is_hex_digit}
 use Rattle.hex.specs.declared.error.FromHexError.{FromHexError}
 use Rattle.j39_id.specs.FirstFault.{first_fault}
-use Rattle.j39_id.specs.Ident.{bits}
+use Rattle.j39_id.specs.Ident.{bits, identifier_end}
+use Rattle.j39_id.specs.Limits.{frame_bytes}
 use Rattle.j39_id.specs.declared.frame.Frame.{Frame}
 use Rattle.j39_id.specs.declared.line_error.LineError.{LineError}
 use Rattle.j39_id.specs.declared.line_error.LineError.TheVariants.{Empty, NoHash, ShortIdent, BadIdent, TooLong, BadData}
@@ -27,12 +29,16 @@ pub record IsLastWord (line word : List ℕ) : Type 0 where
 
 -- the number of four bytes, where it is an identifier's
 abbrev pub identifier_in_bytes : Result (List ℕ) FromHexError → Option ℕ
-identifier_in_bytes (Ok bytes) = if nat_lt (from_be_bytes w32 bytes) (2 ^ 29) then Some (from_be_bytes w32 bytes) else None
+identifier_in_bytes (Ok bytes) = if nat_lt (from_be_bytes w32 bytes) identifier_end then Some (from_be_bytes w32 bytes) else None
 identifier_in_bytes (Err e) = None
 
 -- the number that eight hex digits stand for, where it is an identifier's
 abbrev pub identifier_in : List ℕ → Option ℕ
 identifier_in digits = identifier_in_bytes (decode_sized digits 4)
+
+-- the digits that a frame's bytes have room for, two for each
+abbrev pub payload_digits : ℕ
+payload_digits = 2 * frame_bytes
 
 -- a word is the digits of a number, a hash and two digits for each byte
 pub record WordSpells (word : List ℕ) (number : ℕ) (payload : List ℕ) : Type 0 where
@@ -40,7 +46,7 @@ pub record WordSpells (word : List ℕ) (number : ℕ) (payload : List ℕ) : Ty
   pub rest : List ℕ
   pub parts : word ≡ digits ++ 35 ∷ rest
   pub identifier : identifier_in digits ≡ Some number
-  pub room : length rest ≤ 16
+  pub room : length rest ≤ payload_digits
   pub bytes : decode_of rest ≡ Ok payload
 
 -- the last word of the line spells the number and the bytes
@@ -74,7 +80,7 @@ word_faults word =
     (NoHash, is_none (position is_hash word))
     ∷ (ShortIdent, length (before_hash word) == 3 && list_all is_hex_digit (before_hash word))
     ∷ (BadIdent, is_none (identifier_in (before_hash word)))
-    ∷ (TooLong, nat_lt 16 (length (after_hash word)))
+    ∷ (TooLong, nat_lt payload_digits (length (after_hash word)))
     ∷ (BadData, is_err (decode_of (after_hash word)))
     ∷ []
 

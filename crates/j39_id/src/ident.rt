@@ -1,7 +1,11 @@
 //! The 29-bit identifier of a frame.
 ghost use Rattle.std.specs.Prelude.{◌≡◌, ◌+◌, ◌*◌, ◌^◌, ◌<◌, ◌≤◌, ◌↔◌, IsSome, IfSome};
 
-use crate::Pgn;
+use crate::pgn::pf_of;
+use crate::{PDU2_FIRST, Pgn};
+
+// Identifiers have 29 bits.
+const IDENTIFIER_END: u32 = 1 << 29;
 
 /// The 29-bit identifier of a frame (SAE J1939-21), by its parts.
 ///
@@ -24,7 +28,8 @@ pub struct Ident {
 }
 
 impl Ident {
-    ghost use Rattle.j39_id.specs.Ident.{bits, pgn_of, identifier_of};
+    ghost use Rattle.j39_id.specs.Ident.{bits, identifier_end, pgn_of, identifier_of};
+    ghost use Rattle.j39_id.specs.Pgn.{pdu2_first};
 
     /// The identifier of a frame of this group. A group whose frames name no destination has that place for itself.
     pub fn new(priority: u8, pgn: Pgn, destination: u8, source: u8) -> Self
@@ -33,12 +38,11 @@ impl Ident {
         ensures pgn { pgn_of result ≡ pgn }
     {
         let number = pgn.number();
-        let pf = (number >> 8 & 0xff) as u8;
         Ident {
             priority,
             edp: (number >> 17) as u8,
             dp: (number >> 16 & 1) as u8,
-            pf,
+            pf: pf_of(number),
             ps: if pgn.is_pdu1() {
                 destination
             } else {
@@ -50,13 +54,13 @@ impl Ident {
 
     /// The identifier with this number, or `None` from 2^29 on.
     pub fn from_bits(number: u32) -> Option<Self>
-        ensures valid { IsSome result ↔ (number < 2 ^ 29) }
+        ensures valid { IsSome result ↔ (number < identifier_end) }
         ensures value { IfSome result (λ i. bits i ≡ number) }
 
         // Only this identifier has this number.
         ensures only { (i : Ident) → bits i ≡ number → result ≡ Some i }
     {
-        if number < 1 << 29 {
+        if number < IDENTIFIER_END {
             Some(Ident::parts_of(number))
         } else {
             None
@@ -65,7 +69,7 @@ impl Ident {
 
     // The parts of a number of 29 bits.
     fn parts_of(number: u32) -> Self
-        requires { number < 2 ^ 29 }
+        requires { number < identifier_end }
         ensures { bits result ≡ number }
     {
         Ident {
@@ -81,7 +85,7 @@ impl Ident {
     /// The number that is sent, below 2^29.
     pub fn to_bits(self) -> u32
         ensures value { result ≡ bits self }
-        ensures range { result < 2 ^ 29 }
+        ensures range { result < identifier_end }
     {
         let page = (u32::from(self.priority) << 1 | u32::from(self.edp)) << 1 | u32::from(self.dp);
         ((page << 8 | u32::from(self.pf)) << 8 | u32::from(self.ps)) << 8 | u32::from(self.sa)
@@ -91,7 +95,7 @@ impl Ident {
     pub fn pgn(self) -> Pgn
         ensures { result ≡ pgn_of self }
     {
-        let extension = if self.pf >= 240 { self.ps } else { 0 };
+        let extension = if self.pf >= PDU2_FIRST { self.ps } else { 0 };
         Pgn {
             number: ((u32::from(self.edp) << 1 | u32::from(self.dp)) << 8 | u32::from(self.pf)) << 8
                 | u32::from(extension),
@@ -100,9 +104,13 @@ impl Ident {
 
     /// The destination in the PS of a PDU1 frame, 255 for all, or `None` for PDU2: the group goes to all.
     pub fn destination(self) -> Option<u8>
-        ensures one { self.pf < 240 → result ≡ Some self.ps }
-        ensures all { 240 ≤ self.pf → result ≡ None }
+        ensures one { self.pf < pdu2_first → result ≡ Some self.ps }
+        ensures all { pdu2_first ≤ self.pf → result ≡ None }
     {
-        if self.pf < 240 { Some(self.ps) } else { None }
+        if self.pf < PDU2_FIRST {
+            Some(self.ps)
+        } else {
+            None
+        }
     }
 }

@@ -33,6 +33,6 @@ pub use laws::{
 pub use line_error::LineError;
 pub use name::Name;
 pub use name_fields::{NameError, NameField, NameFields};
-pub use pgn::Pgn;
+pub use pgn::{PDU2_FIRST, Pgn};
 pub use printing::print_frame;
 pub use reading::read_frame;

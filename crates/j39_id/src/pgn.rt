@@ -1,11 +1,18 @@
 //! Parameter group numbers.
 ghost use Rattle.std.specs.Prelude.{◌≡◌, ℕ, ◌<◌, ◌↔◌, IsTrue, IsSome, IfSome};
+ghost use Rattle.j39_id.specs.Pgn.{pdu2_first, pf_of};
 
 use std::marker::Model;
 
-/// A parameter group number (SAE J1939-21): EDP, DP, PF and, for a PF of 240 and above, PS.
+/// The first PF of PDU2, whose frames name no destination.
+pub const PDU2_FIRST: u8 = 240;
+
+// Group numbers have 18 bits.
+const PGN_END: u32 = 1 << 18;
+
+/// A parameter group number (SAE J1939-21): EDP, DP, PF and, in PDU2, PS.
 ///
-/// A number of 18 bits. Where the PF is below 240 (PDU1) the frame names its destination in place of a group
+/// A number of 18 bits. In PDU1, where the PF is below `PDU2_FIRST`, the frame names its destination in place of a group
 /// extension, and the low byte is 0.
 #[derive(Clone, Copy, Debug, PartialEq, Eq, PartialOrd, Ord)]
 pub struct Pgn {
@@ -25,15 +32,22 @@ impl Model for Pgn {
     ghost inverse = { λ n. record { number = n } };
 }
 
+// The PF of a group number.
+pub(crate) fn pf_of(number: u32) -> u8
+    ensures { result ≡ pf_of number }
+{
+    (number >> 8 & 0xff) as u8
+}
+
 impl Pgn {
-    ghost use Rattle.j39_id.specs.Pgn.{IsPgn, pf_of};
+    ghost use Rattle.j39_id.specs.Pgn.{IsPgn};
 
     /// The group number, or `None` from 2^18 on and for a PDU1 number whose low byte is not 0.
     pub fn new(number: u32) -> Option<Self>
         ensures valid { IsSome result ↔ IsPgn number }
         ensures value { IfSome result (λ p. p ≡ number) }
     {
-        if number < 262_144 && ((number >> 8) & 0xff >= 240 || number & 0xff == 0) {
+        if number < PGN_END && (pf_of(number) >= PDU2_FIRST || number & 0xff == 0) {
             Some(Pgn { number })
         } else {
             None
@@ -48,10 +62,10 @@ impl Pgn {
         self.number
     }
 
-    /// Whether the group's frames name a destination: the PF is below 240.
+    /// Whether the group's frames name a destination.
     pub fn is_pdu1(self) -> bool
-        ensures { IsTrue result ↔ (pf_of self < 240) }
+        ensures { IsTrue result ↔ (pf_of self < pdu2_first) }
     {
-        (self.number >> 8) & 0xff < 240
+        pf_of(self.number) < PDU2_FIRST
     }
 }

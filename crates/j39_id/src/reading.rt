@@ -3,9 +3,11 @@ ghost use Rattle.std.specs.Prelude.{◌≡◌, ◌==◌, ◌&&◌, ℕ, ◌≤�
 ghost use Rattle.std.specs.List.{AllPass, list_all, position};
 ghost use Rattle.hex.specs.Hex.{decode_of, is_hex_digit};
 ghost use Rattle.j39_id.specs.Ident.{bits};
-ghost use Rattle.j39_id.specs.FrameLine.{is_separator as separates, IsLastWord, is_hash, identifier_in, IsFirstFault, WordSpells, Spells, HasLineFault};
+ghost use Rattle.j39_id.specs.FrameLine.{is_separator as separates, IsLastWord, is_hash, identifier_in, payload_digits, IsFirstFault, WordSpells, Spells};
+ghost use Rattle.j39_id.specs.FrameLine.{HasLineFault};
 
 use crate::hex_digits::decode_digits;
+use crate::limits::FRAME_BYTES;
 use crate::{Frame, Ident, LineError};
 use arrayvec::ArrayVec;
 
@@ -45,12 +47,12 @@ fn read_ident(digits: &[u8]) -> Option<Ident>
 }
 
 // The bytes that pairs of digits spell.
-fn read_payload(text: &[u8]) -> Option<ArrayVec<u8, 8>>
-    requires { length text.now ≤ 16 }
+fn read_payload(text: &[u8]) -> Option<ArrayVec<u8, FRAME_BYTES>>
+    requires { length text.now ≤ payload_digits }
     ensures found { IfSome result (λ payload. decode_of text.now ≡ Ok payload.items) }
     ensures only { IsSome result ↔ IsOk (decode_of text.now) }
 {
-    let mut bytes = [0; 8];
+    let mut bytes = [0; FRAME_BYTES];
     let count = text.len() / 2;
     decode_digits(text, &mut bytes[..count]).ok()?;
     ArrayVec::try_from(&bytes[..count]).ok()
@@ -94,7 +96,7 @@ fn read_word(word: &[u8]) -> Result<Frame, LineError>
     let Some(ident) = read_ident(digits) else {
         return Err(LineError::BadIdent);
     };
-    if rest.len() > 16 {
+    if rest.len() > 2 * FRAME_BYTES {
         return Err(LineError::TooLong);
     }
     let Some(payload) = read_payload(rest) else {

@@ -9,6 +9,6 @@ returns-clause-found c = record {
   rest = drop (c.in-Some.hash + 1) c.args.word.now;
   parts = split_at_hash c.args.word.now c.in-Some.hash (sym c.first_hash.ensures ∙ c.in-Some.is);
   identifier = c.in-Some-read_ident.ensures.found;
-  room = rw take_rest at c.if-rest-gt16.false;
+  room = rw take_rest at c.if-rest.false;
   bytes = rw take_rest at c.in-Some-read_payload.ensures.found;
 }
