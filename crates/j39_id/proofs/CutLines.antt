@@ -1,5 +1,6 @@
 -- What a cutter tells of a text is the lines of the text.
-use Rattle.std.proofs.Common.{◌≡◌, ◌≢◌, ℕ, ◌+◌, ◌==◌, ◌<◌, ◌≤◌, true, false, if◌then◌else◌, List, [], ◌∷◌, ◌++◌, length, map, count_by, take, drop, get_or, refl, sym, ap, ◌∙◌, inl, inr, arith, add-one, eqb-true, eq-eqb, length-append}
+use Rattle.std.proofs.Common.{◌≡◌, ◌≢◌, ℕ, ◌+◌, ◌==◌, ◌<◌, ◌≤◌, true, false, if◌then◌else◌, List, [], ◌∷◌, ◌++◌, length, map, count_by, take, drop, get_or}
+use Rattle.std.proofs.Common.{refl, sym, ap, ◌∙◌, inl, inr, arith, add-one, eqb-true, eq-eqb, length-append}
 use Rattle.std.specs.Prelude.{nat_lt}
 use Rattle.std.specs.List.{All, slice_index, slice_split, onto_first}
 use Rattle.std.proofs.Math.Seq.{take-suc}
@@ -7,7 +8,8 @@ use Rattle.std.proofs.lemmas.Bool.{cases_Bool, eqb-false, ne_eqb, lt-ltb, le-ltb
 use Rattle.std.proofs.lemmas.List.{append_assoc, append-nil, take_all, length-take-le}
 use Rattle.std.proofs.lemmas.List.Elements.{All-head, All-tail, All-cons, All-append, All-take, All-get_or}
 use Rattle.std.proofs.lemmas.List.Splits.{slice_split-cons_no, slice_split_at, slice_split_none, length-slice_split}
-use Rattle.j39_id.specs.Lines.{line_limit, is_line_feed, Line, Short, Long, line_of, without_empty_end, lines, Pending, at_start, answer_to, behind, tells, told, behind_all, told_at_end}
+use Rattle.j39_id.specs.Lines.{line_limit, is_line_feed, Line, Short, Long, line_of, without_empty_end, lines, Pending, at_start, answer_to, behind, tells}
+use Rattle.j39_id.specs.Lines.{told, behind_all, told_at_end}
 use Rattle.j39_id.specs.declared.cut.Cut.{Cut}
 use Rattle.j39_id.specs.declared.cut.Cut.TheVariants as cuts
 

@@ -1,5 +1,6 @@
 -- A table of the values of digits, by byte.
-use Rattle.std.proofs.Common.{◌≡◌, ◌≢◌, ℕ, zero, suc, ◌<◌, ◌==◌, Bool, true, ◌&&◌, inl, inr, List, ◌∷◌, ◌++◌, replicate, slice_index, Option, Some, None, unwrap_or, Ok, Err, ap, refl, sym, ◌∙◌, arith}
+use Rattle.std.proofs.Common.{◌≡◌, ◌≢◌, ℕ, zero, suc, ◌<◌, ◌==◌, Bool, true, ◌&&◌, inl, inr, List, ◌∷◌, ◌++◌, replicate, slice_index, Option, Some, None}
+use Rattle.std.proofs.Common.{unwrap_or, Ok, Err, ap, refl, sym, ◌∙◌, arith}
 use Rattle.std.proofs.lemmas.Bool.{and_parts, cases_lt, eqb-true}
 use Rattle.hex.specs.Hex.{digit_or_error, hex_digit_value}
 use Rattle.hex.specs.declared.error.FromHexError.TheVariants.{InvalidHexCharacter}

@@ -1,7 +1,9 @@
 -- Where the last word of a line stands.
-use Rattle.std.proofs.Common.{◌≡◌, ℕ, ◌+◌, ◌-◌, ◌<◌, ◌≤◌, true, false, List, ◌++◌, length, take, drop, slice_index, slice_range, refl, sym, ap, subst, ◌∙◌, arith}
+use Rattle.std.proofs.Common.{◌≡◌, ℕ, ◌+◌, ◌-◌, ◌<◌, ◌≤◌, true, false, List, ◌++◌, length, take, drop, slice_index, slice_range, refl, sym, ap, subst, ◌∙◌}
+use Rattle.std.proofs.Common.{arith}
 use Rattle.std.specs.List.{AllWithin}
-use Rattle.std.proofs.lemmas.List.{length-append, length-drop, get_or_append_left, get_or-append_right, get_or-take, get_or-drop, take-append-drop, drop-drop, length-take-le, take_at, drop_at}
+use Rattle.std.proofs.lemmas.List.{length-append, length-drop, get_or_append_left, get_or-append_right, get_or-take, get_or-drop, take-append-drop, drop-drop}
+use Rattle.std.proofs.lemmas.List.{length-take-le, take_at, drop_at}
 use Rattle.j39_id.specs.FrameLine.{is_separator, IsLastWord}
 
 -- the last word of the line stands from start up to stop

@@ -17,5 +17,6 @@ returns-clause-told c = (part_full c.args.bytes.now.items c.args.part.now (line_
 
 pub returns-clause-pending : goal.returns-clause-pending
 returns-clause-pending c =
-    let items : c.try_extend_from_slice-2.new.self.items ≡ c.args.bytes.now.items ++ take (line_limit - c.len-room.result) c.args.part.now = grind (arith, common_steps) in
+    let items : c.try_extend_from_slice-2.new.self.items ≡ c.args.bytes.now.items ++ take (line_limit - c.len-room.result) c.args.part.now =
+    grind (arith, common_steps) in
     ap beyond items ∙ sym (part_full c.args.bytes.now.items c.args.part.now (line_limit - c.len-room.result) c.requires.none (omega arith) (omega arith)).1

@@ -16,5 +16,6 @@ bytes-preserved c =
 
 pub returns : goal.returns
 returns c =
-    let d = decode_sized-pairs _ _ c.if-text-ne0.false c.if-text-bytes.false ∙ decode_done _ c.bytes.bytes c.bytes.i (omega arith) (omega arith) c.bytes.invariant in
+    let d = decode_sized-pairs _ _ c.if-text-ne0.false c.if-text-bytes.false
+    ∙ decode_done _ c.bytes.bytes c.bytes.i (omega arith) (omega arith) c.bytes.invariant in
     rw d (refl, refl)

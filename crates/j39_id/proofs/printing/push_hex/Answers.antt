@@ -1,4 +1,4 @@
-use Rattle.std.proofs.Common.{◌≡◌, ◌/◌, ◌%◌, arith, ap, ◌++◌, length, slice_index}
+use Rattle.std.proofs.Common.{◌≡◌, ◌*◌, ◌/◌, ◌%◌, arith, ap, ◌++◌, length, slice_index}
 use Rattle.std.proofs.lemmas.List.{append-nil, drop_all, length-append}
 use Rattle.std.proofs.lemmas.Grind.{common_steps}
 use Rattle.hex.specs.Hex.{upper_digits, encode_upper, encode_with}
@@ -22,7 +22,8 @@ unfolding encode_with
 returns c =
     let done = drop_all c.loop-byte.byte-index c.args.bytes.now c.loop-byte-test.false in
     let items : c.loop-byte.text.items ≡ c.args.text.now.items ++ encode_upper c.args.bytes.now = rw (done, append-nil) at c.loop-byte.invariant.1 in
+    let count : length (encode_upper c.args.bytes.now) ≡ 2 * length c.args.bytes.now = length-encode_with upper_digits c.args.bytes.now in
     record {
       items = items;
-      len = omega (arith, ap length items, length-append c.args.text.now.items (encode_upper c.args.bytes.now), length-encode_with upper_digits c.args.bytes.now);
+      len = omega (arith, ap length items, length-append c.args.text.now.items (encode_upper c.args.bytes.now), count);
     }

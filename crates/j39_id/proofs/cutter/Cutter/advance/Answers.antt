@@ -7,11 +7,13 @@ pub returns-then-is_at_start-clause-told : goal.returns-then-is_at_start-clause-
 returns-then-is_at_start-clause-told c =
     let old : c.args.self.now.pending ≡ at_start = c.if-is_at_start.ensures refl in
     let e = c.bytes_to_feed-length.ensures in
-    rw old (part_whole c.args.piece.now c.bytes_to_feed-length.result e.none c.if-length-piece.true (e.feed c.if-length-piece.true) c.if-length-le-LINE_LIMIT.true).0
+    rw old (part_whole c.args.piece.now c.bytes_to_feed-length.result e.none c.if-length-piece.true
+    (e.feed c.if-length-piece.true) c.if-length-le-LINE_LIMIT.true).0
 
 pub returns-then-is_at_start-clause-pending : goal.returns-then-is_at_start-clause-pending
 returns-then-is_at_start-clause-pending c =
     let old : c.args.self.now.pending ≡ at_start = c.if-is_at_start.ensures refl in
     let e = c.bytes_to_feed-length.ensures in
     rw old (c.start_anew.ensures.pending
-    ∙ sym (part_whole c.args.piece.now c.bytes_to_feed-length.result e.none c.if-length-piece.true (e.feed c.if-length-piece.true) c.if-length-le-LINE_LIMIT.true).1)
+    ∙ sym (part_whole c.args.piece.now c.bytes_to_feed-length.result e.none c.if-length-piece.true
+    (e.feed c.if-length-piece.true) c.if-length-le-LINE_LIMIT.true).1)
