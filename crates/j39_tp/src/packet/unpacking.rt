@@ -5,12 +5,15 @@ ghost use Rattle.j39_id.specs.Pgn.{is_pgn};
 ghost use Rattle.j39_tp.specs.Chunks.{packets_of};
 ghost use Rattle.j39_tp.specs.Packets.{is_size, InRange, ManagementReads, DataReads, management_faults, data_faults};
 
-use crate::{Packet, PacketError, Size};
+use crate::{Packet, PacketError, Size, known_ranges};
 use j39_id::Pgn;
 
 // The size that two bytes give, whose number of packets must be this.
 fn size_of(low: u8, high: u8, packets: u8) -> Result<Size, PacketError>
-    ensures { result ≡ (if not (is_size (low + 256 * high)) then Err PacketError.Size else if not (packets == packets_of (low + 256 * high)) then Err PacketError.Count else Ok (low + 256 * high)) }
+    ensures { result ≡
+        (if not (is_size (low + 256 * high)) then Err PacketError.Size
+        else if not (packets == packets_of (low + 256 * high)) then Err PacketError.Count
+        else Ok (low + 256 * high)) }
 {
     let Some(size) = Size::new(u16::from_le_bytes([low, high])) else {
         return Err(PacketError::Size);
@@ -31,13 +34,10 @@ fn pgn_of(low: u8, middle: u8, high: u8) -> Result<Pgn, PacketError>
     Ok(pgn)
 }
 
-/// The connection management packet (TP.CM of SAE J1939-21) that the bytes are; a byte without a meaning may be anything.
-/// The refusals are Length, Control, Size, Count, Number and Group, the first that holds.
-pub fn from_cm(bytes: &[u8]) -> Result<Packet, PacketError>
+// A connection management packet that the bytes are, or their first fault.
+fn managed(bytes: &[u8]) -> Result<Packet, PacketError>
     ensures found { IfOk result (ManagementReads bytes.now) }
-    ensures range { IfOk result InRange }
     ensures refused { IfErr result (λ e. first_fault (management_faults bytes.now) ≡ Some e) }
-    ensures only { (p : Packet) → ManagementReads bytes.now p → result ≡ Ok p }
 {
     let &[control, second, third, fourth, fifth, low, middle, high] = bytes else {
         return Err(PacketError::Length);
@@ -82,6 +82,19 @@ pub fn from_cm(bytes: &[u8]) -> Result<Packet, PacketError>
         }
         _ => Err(PacketError::Control),
     }
+}
+
+/// The connection management packet (TP.CM of SAE J1939-21) that the bytes are; a byte without a meaning may be anything.
+/// The refusals are Length, Control, Size, Count, Number and Group, the first that holds.
+pub fn from_cm(bytes: &[u8]) -> Result<Packet, PacketError>
+    ensures found { IfOk result (ManagementReads bytes.now) }
+    ensures range { IfOk result InRange }
+    ensures refused { IfErr result (λ e. first_fault (management_faults bytes.now) ≡ Some e) }
+    ensures only { (p : Packet) → ManagementReads bytes.now p → result ≡ Ok p }
+{
+    let packet = managed(bytes)?;
+    known_ranges(&packet);
+    Ok(packet)
 }
 
 /// The data packet (TP.DT of SAE J1939-21) that the bytes are. The refusals are Length and Number, the first that holds.
