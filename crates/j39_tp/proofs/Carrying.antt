@@ -1,5 +1,6 @@
 -- A listener completes each message that the list carries.
-use Rattle.std.proofs.Common.{◌≡◌, ℕ, zero, suc, ◌+◌, ◌-◌, ◌==◌, ◌≤◌, ◌<◌, true, false, List, [], ◌++◌, take, Option, Some, None, refl, sym, ap, ◌∙◌, subst, arith, add-one, eq-eqb}
+use Rattle.std.proofs.Common.{◌≡◌, ℕ, zero, suc, ◌+◌, ◌-◌, ◌==◌, ◌≤◌, ◌<◌, true, false, List, [], ◌++◌, take, Option, Some, None, refl, sym, ap, ◌∙◌, subst}
+use Rattle.std.proofs.Common.{arith, add-one, eq-eqb}
 use Rattle.std.specs.Prelude.{nat_le, slice_get}
 use Rattle.std.proofs.Math.Seq.{take-nil}
 use Rattle.std.proofs.lemmas.Bool.{ne_eqb, le-leb}
@@ -78,7 +79,8 @@ awaited_passes h kind pgn k j from to start a u first lo hi (Cts count f named) 
 awaited_passes h kind pgn k j from to start a u first lo hi (EndAck n named) e = (tt, u j (EndAck n named) first hi e)
 awaited_passes h kind pgn k j from to start a u first lo hi (Abort reason named) e = (tt, u j (Abort reason named) first hi e)
 
-undisturbed_before : (h : List Packet) (kind : Kind) (pgn start from to : ℕ) → from ≤ to → IsUndisturbed h kind pgn start to → IsUndisturbed h kind pgn start from
+undisturbed_before : (h : List Packet) (kind : Kind) (pgn start from to : ℕ) → from ≤ to → IsUndisturbed h kind pgn start to
+    → IsUndisturbed h kind pgn start from
 undisturbed_before h kind pgn start from to le u = λ j p lo hi e. u j p lo (omega arith) e
 
 -- the session stands until the next packet comes
@@ -146,7 +148,8 @@ walked h kind pgn size limit start (suc k) place chunks at less r u =
 has_packets : (size : ℕ) → IsSize size → (k : ℕ) × (suc k ≡ packets_of size)
 has_packets size fits = let above = fits.above in (packets_of size - 1, omega arith)
 
-carried_here : (h : List Packet) (kind : Kind) (pgn size limit start k place : ℕ) (message chunks : List ℕ) → IsAt h (suc start) (Open (session kind pgn size limit 0)) []
+carried_here : (h : List Packet) (kind : Kind) (pgn size limit start k place : ℕ) (message chunks : List ℕ)
+    → IsAt h (suc start) (Open (session kind pgn size limit 0)) []
     → suc k ≡ packets_of size → Reaches h kind start (suc k) place chunks → IsUndisturbed h kind pgn start place → message ≡ take size chunks
     → CompletesAt h place pgn message
 carried_here h kind pgn size limit start k place message chunks at last r u m =

@@ -1,12 +1,14 @@
 -- What a receiver of any manner has of the packets that it heard, after each of them.
-use Rattle.std.proofs.Common.{◌≡◌, ℕ, zero, suc, ◌+◌, ◌==◌, ◌≤◌, ◌<◌, ◌&&◌, Bool, true, false, if◌then◌else◌, List, [], ◌∷◌, ◌++◌, length, take, Some, refl, sym, ap, ◌∙◌, subst, inl, inr, arith, add-one, eqb-true, length-append}
+use Rattle.std.proofs.Common.{◌≡◌, ℕ, zero, suc, ◌+◌, ◌==◌, ◌≤◌, ◌<◌, ◌&&◌, Bool, true, false, if◌then◌else◌, List, [], ◌∷◌, ◌++◌, length, take, Some, refl}
+use Rattle.std.proofs.Common.{sym, ap, ◌∙◌, subst, inl, inr, arith, add-one, eqb-true, length-append}
 use Rattle.std.specs.Prelude.{nat_lt, nat_le, slice_get}
 use Rattle.std.proofs.Math.Seq.{take-nil}
 use Rattle.std.proofs.lemmas.Bool.{cases_order, eqb-false, leb-true}
 use Rattle.std.proofs.lemmas.Option.{slice_get_within}
 use Rattle.j39_tp.specs.Chunks.{IsSize, packets_of}
 use Rattle.j39_tp.specs.Packets.{InRange}
-use Rattle.j39_tp.specs.Receiver.{Receiving, hears, receives, gives_up, timed_out, times_out, grown, bytes_at, message_of, opened, one_more, asks, completed, going_on, takes, takes_next, takes_later, is_directed}
+use Rattle.j39_tp.specs.Receiver.{Receiving, hears, receives, gives_up, timed_out, times_out, grown, bytes_at, message_of, opened, one_more, asks, completed}
+use Rattle.j39_tp.specs.Receiver.{going_on, takes, takes_next, takes_later, is_directed}
 use Rattle.j39_tp.specs.Carried.{Announces, MayPass, Awaits, Leaves, IsUndisturbed, Carried}
 use Rattle.j39_tp.specs.inside.Gathered.{Reaches, Gathered, Gathers, TellsComplete, HoldsCarried}
 use Rattle.j39_tp.specs.declared.receiving.heard.Heard.{Heard}
@@ -79,7 +81,8 @@ walk_on h more place pgn message within c = record {
 }
 
 -- what is carried is still carried in a longer list
-pub carried_on : (h more : List Packet) (place pgn : ℕ) (message : List ℕ) → place ≤ length h → Carried h place pgn message → Carried (h ++ more) place pgn message
+pub carried_on : (h more : List Packet) (place pgn : ℕ) (message : List ℕ) → place ≤ length h → Carried h place pgn message
+    → Carried (h ++ more) place pgn message
 carried_on h more place pgn message within c =
     carried_of (h ++ more) place pgn message (walk_on h more place pgn message within (walk_of h place pgn message c))
 
@@ -181,7 +184,8 @@ gathered_more h r bytes chunk g =
       announced = stands_on h (p ∷ []) g.start g.announcement g.announced;
       announces = g.announces;
       fits = g.fits;
-      reaches = subst (λ (n : ℕ). Reaches (h ++ p ∷ []) r.kind g.start n (length h) (g.chunks ++ chunk)) (sym (add-one r.held)) (next_reached h r bytes chunk g);
+      reaches = subst (λ (n : ℕ). Reaches (h ++ p ∷ []) r.kind g.start n (length h) (g.chunks ++ chunk)) (sym (add-one r.held))
+          (next_reached h r bytes chunk g);
       awaits = λ j number c lo hi e. absurd (omega (arith, one_longer h p));
       undisturbed = more_undisturbed h p r.kind r.pgn g.start tt g.undisturbed;
       bytes_are = rw (g.bytes_are) (take_again r.size g.chunks chunk);
@@ -328,7 +332,8 @@ later_untold m Broadcast r number told = told
 later_untold Listening Directed r number told = told
 later_untold (Answering window) Directed r number told = if_told ⊥ (number == r.granted) _ _ told (λ _ f. f) (λ _ f. f)
 
-next_told : (m : Manner) (r : Reception) (number : ℕ) (chunk : List ℕ) → number ≡ r.held + 1 → TellsComplete (takes_next m r).1 → IsLast (Open r) (Dt number chunk)
+next_told : (m : Manner) (r : Reception) (number : ℕ) (chunk : List ℕ) → number ≡ r.held + 1 → TellsComplete (takes_next m r).1
+    → IsLast (Open r) (Dt number chunk)
 next_told m r number chunk e told =
     if_told (IsLast (Open r) (Dt number chunk)) (r.held + 1 == packets_of r.size) _ _ told
     (λ last _. record {

@@ -1,5 +1,6 @@
 -- What a listener is after each packet of a list.
-use Rattle.std.proofs.Common.{◌≡◌, ℕ, zero, suc, ◌+◌, ◌==◌, ◌≤◌, Bool, true, false, if◌then◌else◌, List, ◌++◌, length, take, Option, Some, None, refl, sym, ap, ◌∙◌, inl, inr, arith, add-one, eq-eqb}
+use Rattle.std.proofs.Common.{◌≡◌, ℕ, zero, suc, ◌+◌, ◌==◌, ◌≤◌, Bool, true, false, if◌then◌else◌, List, ◌++◌, length, take, Option, Some, None, refl, sym, ap}
+use Rattle.std.proofs.Common.{◌∙◌, inl, inr, arith, add-one, eq-eqb}
 use Rattle.std.specs.Prelude.{slice_get}
 use Rattle.std.proofs.lemmas.Bool.{cases_lt}
 use Rattle.std.proofs.lemmas.Grind.{common_steps}
@@ -32,7 +33,8 @@ IsAt h q p bytes = ((listened h q).progress ≡ p) × ((listened h q).bytes ≡ 
 abbrev pub next_bytes : Progress → Packet → List ℕ → List ℕ
 next_bytes pr p bytes = bytes_at (hears Listening pr p).0 (grown pr p bytes)
 
-hears_more : (s : Receiving) (o : Option Packet) (p : Packet) (pr : Progress) (bytes : List ℕ) → o ≡ Some p → s.manner ≡ Listening → s.progress ≡ pr → s.bytes ≡ bytes
+hears_more : (s : Receiving) (o : Option Packet) (p : Packet) (pr : Progress) (bytes : List ℕ) → o ≡ Some p → s.manner ≡ Listening → s.progress ≡ pr
+    → s.bytes ≡ bytes
     → ((receives_any s o).progress ≡ (hears Listening pr p).0) × ((receives_any s o).bytes ≡ next_bytes pr p bytes)
 hears_more s o p pr bytes e m f b = (rw (e, m, f) refl, rw (e, m, f, b) refl)
 
@@ -41,7 +43,11 @@ pub one_heard : (h : List Packet) (q : ℕ) (p : Packet) (pr : Progress) (bytes 
 one_heard h q p pr bytes e at = hears_more (listened h q) (slice_get h q) p pr bytes e (listens h q) at.0 at.1
 
 pub none_heard : (h : List Packet) (q : ℕ) (pr : Progress) (bytes : List ℕ) → slice_get h q ≡ None → IsAt h q pr bytes → IsAt h (suc q) pr bytes
-none_heard h q pr bytes e at = (ap (λ (o : Option Packet). (receives_any (listened h q) o).progress) e ∙ at.0, ap (λ (o : Option Packet). (receives_any (listened h q) o).bytes) e ∙ at.1)
+none_heard h q pr bytes e at = (
+  ap (λ (o : Option Packet). (receives_any (listened h q) o).progress) e
+      ∙ at.0,
+  ap (λ (o : Option Packet). (receives_any (listened h q) o).bytes) e ∙ at.1,
+)
 
 -- ---- cases
 

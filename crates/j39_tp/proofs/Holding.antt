@@ -1,5 +1,6 @@
 -- The bytes of a receiver fit its progress after each packet.
-use Rattle.std.proofs.Common.{◌≡◌, ℕ, ◌+◌, ◌*◌, ◌==◌, ◌≤◌, ◌<◌, ◌&&◌, Bool, true, false, if◌then◌else◌, List, [], ◌++◌, length, take, refl, sym, ap, ◌∙◌, eqb-true, eq-eqb, arith, length-append}
+use Rattle.std.proofs.Common.{◌≡◌, ℕ, ◌+◌, ◌*◌, ◌==◌, ◌≤◌, ◌<◌, ◌&&◌, Bool, true, false, if◌then◌else◌, List, [], ◌++◌, length, take, refl, sym, ap, ◌∙◌}
+use Rattle.std.proofs.Common.{eqb-true, eq-eqb, arith, length-append}
 use Rattle.std.proofs.lemmas.Grind.{common_steps}
 use Rattle.std.proofs.lemmas.Bool.{eqb-false, ltb-true}
 use Rattle.std.specs.Prelude.{nat_lt, nat_le}
@@ -62,7 +63,8 @@ later_holds (Answering window) Directed r number =
     holds_if (number == r.granted) _ _ r.held (asks_if (nat_lt r.asked 2) _ _ r.held refl tt) refl
 
 -- a packet after those that are held, which isn't the last
-next_holds : (m : Manner) (r : Reception) → Holds (if r.held + 1 == r.granted then going_on m r.kind (one_more r) else (Open (one_more r), heard.Nothing)).0 (r.held + 1)
+next_holds : (m : Manner) (r : Reception) → Holds (if r.held + 1 == r.granted then going_on m r.kind (one_more r) else (Open (one_more r), heard.Nothing)).0
+    (r.held + 1)
 next_holds m r = holds_if (r.held + 1 == r.granted) _ _ (r.held + 1) (going_holds m r.kind (one_more r)) refl
 
 -- bytes of one more packet
@@ -93,7 +95,8 @@ pub still_standing : (manner : Manner) (progress : Progress) (packet : Packet) (
     → Fit (hears manner progress packet).0 (grown progress packet bytes)
 still_standing m p (Bam size pgn) bytes within held range = fits _ [] 0 (going_holds m Broadcast (opened Broadcast pgn size 255)) refl
 still_standing m p (Rts size limit pgn) bytes within held range = fits _ [] 0 (going_holds m Directed (opened Directed pgn size limit)) refl
-still_standing m (Open r) (Dt number chunk) bytes within held range = takes_fits m r number bytes chunk (ltb-true r.held (packets_of r.size) within) (eqb-true (length bytes) (7 * r.held) held) range
+still_standing m (Open r) (Dt number chunk) bytes within held range = takes_fits m r number bytes chunk (ltb-true r.held (packets_of r.size) within)
+    (eqb-true (length bytes) (7 * r.held) held) range
 still_standing m (Open r) (Abort reason pgn) bytes within held range =
     fits_if (is_directed r.kind && pgn == r.pgn) _ _ bytes (λ _. refl) (λ _. held)
 still_standing m (Open r) (Cts count first pgn) bytes within held range = held

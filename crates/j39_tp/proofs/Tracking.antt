@@ -75,7 +75,8 @@ pub completed_is_carried : (h : List Packet) (place pgn : ℕ) (message : List �
 completed_is_carried h place pgn message range c =
     let s = listened h place in
     let after : receives_any s (slice_get h place) ≡ receives s c.packet = ap (receives_any s) c.stands in
-    let holds = completes_carried (take place h) s c.packet (all_gathered h range place) (told_complete s.manner s.progress c.packet (listens h place) c.told) in
+    let holds = completes_carried (take place h) s c.packet (all_gathered h range place)
+    (told_complete s.manner s.progress c.packet (listens h place) c.told) in
     let complete : (receives s c.packet).progress ≡ Complete pgn = ap (λ (t : Receiving). t.progress) (sym after) ∙ c.pgn_is in
     let bytes : (receives s c.packet).bytes ≡ message = ap (λ (t : Receiving). t.bytes) (sym after) ∙ c.bytes_are in
     let same : holds.pgn ≡ pgn = same_pgn holds.pgn pgn (sym holds.complete ∙ complete) in

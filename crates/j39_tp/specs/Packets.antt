@@ -64,7 +64,8 @@ pub record GivesSize (bytes : List ℕ) (size : ℕ) : Type 0 where
 -- the bytes are those of a connection management packet; what is sent as 255 may be anything
 abbrev pub ManagementFields : List ℕ → Packet → Type 0
 ManagementFields bytes (Rts size limit pgn) = (slice_index bytes 0 ≡ 16) × GivesSize bytes size × (slice_index bytes 4 ≡ limit) × (pgn_in bytes ≡ pgn)
-ManagementFields bytes (Cts count first pgn) = (slice_index bytes 0 ≡ 17) × (slice_index bytes 1 ≡ count) × (slice_index bytes 2 ≡ first) × (0 < count → 0 < first) × (pgn_in bytes ≡ pgn)
+ManagementFields bytes (Cts count first pgn) = (slice_index bytes 0 ≡ 17) × (slice_index bytes 1 ≡ count) × (slice_index bytes 2 ≡ first)
+    × (0 < count → 0 < first) × (pgn_in bytes ≡ pgn)
 ManagementFields bytes (EndAck size pgn) = (slice_index bytes 0 ≡ 19) × GivesSize bytes size × (pgn_in bytes ≡ pgn)
 ManagementFields bytes (Bam size pgn) = (slice_index bytes 0 ≡ 32) × GivesSize bytes size × (pgn_in bytes ≡ pgn)
 ManagementFields bytes (Abort reason pgn) = (slice_index bytes 0 ≡ 255) × (slice_index bytes 1 ≡ reason) × (pgn_in bytes ≡ pgn)

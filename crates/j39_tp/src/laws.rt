@@ -29,14 +29,17 @@ pub fn listener_completes_what_is_carried()
 /// A place of a list of packets carries one message.
 pub fn a_place_carries_one_message()
     ensures pgn { (h : List Packet) (place pgn other : ℕ) (message words : List ℕ) → Carried h place pgn message → Carried h place other words → pgn ≡ other }
-    ensures bytes { (h : List Packet) (place pgn other : ℕ) (message words : List ℕ) → Carried h place pgn message → Carried h place other words → message ≡ words }
+    ensures bytes { (h : List Packet) (place pgn other : ℕ) (message words : List ℕ) → Carried h place pgn message → Carried h place other words
+        → message ≡ words }
 {}
 
 /// A receiver of any manner gathers what the packets that it heard carry, and completes only what they carry.
 pub fn receivers_gather_what_they_hear()
-    ensures hears { (h : List Packet) (s : Receiving) (p : Packet) → InRange p → Gathers h s.progress s.bytes → Gathers (h ++ p ∷ []) (receives s p).progress (receives s p).bytes }
+    ensures hears { (h : List Packet) (s : Receiving) (p : Packet) → InRange p → Gathers h s.progress s.bytes
+        → Gathers (h ++ p ∷ []) (receives s p).progress (receives s p).bytes }
     ensures times_out { (h : List Packet) (s : Receiving) → Gathers h s.progress s.bytes → Gathers h (gives_up s).progress (gives_up s).bytes }
-    ensures completes { (h : List Packet) (s : Receiving) (p : Packet) → Gathers h s.progress s.bytes → TellsComplete (hears s.manner s.progress p).1 → HoldsCarried (h ++ p ∷ []) (length h) (receives s p) }
+    ensures completes { (h : List Packet) (s : Receiving) (p : Packet) → Gathers h s.progress s.bytes → TellsComplete (hears s.manner s.progress p).1
+        → HoldsCarried (h ++ p ∷ []) (length h) (receives s p) }
 {}
 
 /// What an honest sender has put on the bus since its announcement carries its message and no other.

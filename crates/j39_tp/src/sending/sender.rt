@@ -23,7 +23,8 @@ impl Model for Sender {
 }
 
 impl Sender {
-    ghost use Rattle.j39_tp.specs.Sender.{announcement, begun, packet_next, sent_next, answer, heard, timed_out, late_packet, is_resting, rested, phase_seen, outcome_seen};
+    ghost use Rattle.j39_tp.specs.Sender.{announcement, begun, packet_next, sent_next, answer, heard, timed_out, late_packet, is_resting, rested, phase_seen};
+    ghost use Rattle.j39_tp.specs.Sender.{outcome_seen};
 
     /// An idle sender.
     pub fn new() -> Self
