@@ -11,7 +11,8 @@ use Rattle.j39_plan.specs.declared.plan.to.To.TheVariants.{All, One}
 use Rattle.j39_plan.specs.declared.steps.Step.{Step}
 use Rattle.j39_plan.specs.declared.steps.Step.TheVariants.{Up, Down, Give, Ask, Begin, Emit, Take, Lose, LateSender, LateReceiver, Rest}
 use Rattle.j39_world.specs.declared.step_error.StepError.{StepError}
-use Rattle.j39_world.specs.declared.step_error.StepError.TheVariants.{UnknownUnit, NoSuchFlow, NotStarted, AlreadyStarted, NothingUndelivered, TransferOpen, NotSettled, NoAddress}
+use Rattle.j39_world.specs.declared.step_error.StepError.TheVariants.{UnknownUnit, NoSuchFlow, NotStarted, AlreadyStarted, NothingUndelivered, TransferOpen}
+use Rattle.j39_world.specs.declared.step_error.StepError.TheVariants.{NotSettled, NoAddress}
 use Rattle.j39_world.specs.declared.step_error.StepError.TheVariants.{Busy, WrongLength, NothingToSend, NoSession, CannotRest, Memory}
 use Rattle.j39_world.specs.Claimants.{units_of}
 use Rattle.j39_world.specs.Flows.{Flow, flows_of, windows_of, can_be_sent}
@@ -25,9 +26,6 @@ use Rattle.j39_world.specs.TransferSteps.{BeginsAt, Emits, TakenFrom, LostFrom, 
 
 abbrev pub count_of : Plan → ℕ
 count_of plan = length plan.units.items
-
-abbrev pub is_unit : Plan → ℕ → Bool
-is_unit plan u = nat_lt u (count_of plan)
 
 -- this holds of one unit, or of two
 abbrev pub both : (ℕ → Bool) → ℕ → ℕ → Bool

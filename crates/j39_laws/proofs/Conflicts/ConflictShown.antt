@@ -25,13 +25,13 @@ use Rattle.j39_world.specs.declared.step_error.StepError.TheVariants.{UnknownUni
 use Rattle.j39_world.specs.Claimants.{claimant_of, units_of, unit_at}
 use Rattle.j39_world.specs.ClaimSteps.{GivenFrom, switched_on, given, told_to_others, without_lists_to, answer_items}
 use Rattle.j39_world.specs.Conflict.{IsLeftWithoutAddress, LeavesWithoutAddress}
-use Rattle.j39_world.specs.Run.{count_of, is_unit, both, is_on, is_no_transfer_open, refusal, Run, RunsThrough}
+use Rattle.j39_world.specs.Run.{count_of, both, is_on, is_no_transfer_open, refusal, Run, RunsThrough}
 use Rattle.j39_world.specs.World.{World, Stations, Undelivered, first, changed, changed_pair, is_other_on}
 use Rattle.j39_laws.proofs.Certified.{quiet_where_empty}
 use Rattle.j39_laws.proofs.Settling.SettlingRuns.{answered}
 use Rattle.j39_laws.proofs.Runs.Changed.{IsElsewhere, changed_here, changed_elsewhere, pair_here_or_elsewhere, pair_here, pair_elsewhere}
 use Rattle.j39_laws.proofs.Runs.Always.{follows_to_leads, leads_to_follows}
-use Rattle.j39_laws.proofs.Runs.Conditions.{not_refused}
+use Rattle.j39_laws.proofs.Runs.Conditions.{is_unit, not_refused}
 
 -- ---- who is told, where few are on
 

@@ -7,7 +7,8 @@ use Rattle.j39_claim.specs.declared.item.Item.{Item}
 use Rattle.j39_plan.specs.declared.plan.Plan.{Plan}
 use Rattle.j39_plan.specs.declared.plan.to.To.{To}
 use Rattle.j39_plan.specs.declared.plan.to.To.TheVariants.{One}
-use Rattle.j39_world.specs.Run.{is_unit, both, count_of, is_nothing_undelivered}
+use Rattle.j39_world.specs.Run.{both, count_of, is_nothing_undelivered}
+use Rattle.j39_laws.proofs.Runs.Conditions.{is_unit}
 use Rattle.j39_world.specs.Transfers.{Outgoing, Sessions, is_among}
 use Rattle.j39_world.specs.World.{Stations, Undelivered, changed, changed_pair}
 use Rattle.j39_laws.proofs.Runs.Changed.{changed_each, pair_each}

@@ -22,7 +22,7 @@ use Rattle.j39_world.specs.declared.wired.Wired.{Wired}
 use Rattle.j39_world.specs.declared.wired.Wired.TheVariants as wired
 use Rattle.j39_world.specs.Flows.{Flow, dest_of, is_short, can_go_to}
 use Rattle.j39_world.specs.Resting.{can_rest, is_over_with}
-use Rattle.j39_world.specs.Run.{count_of, is_unit, is_on, at_ends, begin_refusal}
+use Rattle.j39_world.specs.Run.{count_of, is_on, at_ends, begin_refusal}
 use Rattle.j39_world.specs.Transfers.{Outgoing, Wire, outcome_in, is_among, added}
 use Rattle.j39_world.specs.TransferSteps.{targets_of, sent_along, begun_stage, outgoing, first_item, begins, BeginsAt, Emits, SenderTimesOut, rested}
 use Rattle.j39_world.specs.World.{World, changed, is_other_on}
@@ -30,7 +30,7 @@ use Rattle.j39_world.specs.Sound.{reported}
 use Rattle.j39_tp.specs.HonestPackets.{GoesOn}
 use Rattle.j39_laws.proofs.Reports.Orderly.{IsPlanned, PlannedAt, DeliveredBefore, all_delivered, sessions_keep}
 use Rattle.j39_laws.proofs.Runs.Changed.{changed_each}
-use Rattle.j39_laws.proofs.Runs.Conditions.{first_holds}
+use Rattle.j39_laws.proofs.Runs.Conditions.{is_unit, first_holds}
 use Rattle.j39_laws.proofs.Runs.Units.{units_all}
 use Rattle.j39_laws.proofs.Reports.Exchanges.{Pair, pair_of, Message, message_for, message_to, begun_of, IsUnacknowledging, Begins, Exchange}
 use Rattle.j39_laws.proofs.Reports.ExchangeSteps.{begins_keeps, goes_on_keeps, back_keeps}

@@ -12,7 +12,7 @@ use Rattle.j39_plan.specs.declared.steps.Step.TheVariants.{Up, Down, Give, Ask, 
 use Rattle.j39_world.specs.Claimants.{units_of, unit_at}
 use Rattle.j39_world.specs.ClaimSteps.{switched_on, switched_off, asked, GivenFrom, told_to_others, without_lists_to, answer_items}
 use Rattle.j39_world.specs.Flows.{flows_of, windows_of}
-use Rattle.j39_world.specs.Run.{count_of, is_unit, is_no_transfer_open}
+use Rattle.j39_world.specs.Run.{count_of, is_no_transfer_open}
 use Rattle.j39_world.specs.Sound.{AreReportsSound, IsAcknowledgedReported, reported}
 use Rattle.j39_world.specs.SoundPlan.{Always}
 use Rattle.j39_world.specs.Transfers.{Outgoing}
@@ -24,8 +24,8 @@ use Rattle.j39_laws.proofs.Reports.ReceiverSteps.{lose_keeps, late_receiver_keep
 use Rattle.j39_laws.proofs.Reports.Reporting.{AckedAt}
 use Rattle.j39_laws.proofs.Reports.SenderSteps.{begin_keeps, emit_keeps, late_sender_keeps, rest_keeps}
 use Rattle.j39_laws.proofs.Reports.TransferInvariant.{AreExchanges, TransferInvariant}
-use Rattle.j39_laws.proofs.Runs.Always.{IsKeptBySteps, always}
-use Rattle.j39_laws.proofs.Runs.Conditions.{three_hold}
+use Rattle.j39_laws.proofs.Runs.Always.{IsPreserved, always}
+use Rattle.j39_laws.proofs.Runs.Conditions.{is_unit, three_hold}
 use Rattle.j39_laws.proofs.Runs.Units.{AreUnitsOn, AreBetweenUnits, units_all, units_on, without_lists_empty, told_between}
 
 at_first : (plan : Plan) → TransferInvariant plan first
@@ -117,7 +117,7 @@ module _ (plan : Plan) (w : World) (inv : TransferInvariant plan w) where
 
 -- ---- each step
 
-steps_keep : (plan : Plan) → IsKeptBySteps plan (TransferInvariant plan)
+steps_keep : (plan : Plan) → IsPreserved plan (TransferInvariant plan)
 steps_keep plan w inv (Up u) allowed new e =
     let asks = three_hold _ _ _ _ _ _ allowed in
     subst (TransferInvariant plan) (sym e) (up_keeps plan w inv u asks.0 asks.2)

@@ -10,10 +10,10 @@ use Rattle.j39_world.specs.Run.{refusal, StepsTo, Follows, Run, RunsThrough}
 use Rattle.j39_world.specs.SoundPlan.{Always}
 
 -- each step that is not refused keeps it
-abbrev pub IsKeptBySteps : Plan → (World → Type 0) → Type 0
-IsKeptBySteps plan Holds = (w : World) → Holds w → (step : Step) → refusal plan w step ≡ None → (new : World) → StepsTo plan w step new → Holds new
+abbrev pub IsPreserved : Plan → (World → Type 0) → Type 0
+IsPreserved plan Holds = (w : World) → Holds w → (step : Step) → refusal plan w step ≡ None → (new : World) → StepsTo plan w step new → Holds new
 
-module _ (plan : Plan) (Holds : World → Type 0) (keeps : IsKeptBySteps plan Holds) where
+module _ (plan : Plan) (Holds : World → Type 0) (keeps : IsPreserved plan Holds) where
   holds_next : (w : World) → Holds w → (step : Step) (new : World) → Follows plan w step new → Holds new
   holds_next w here step new =
       elim (refusal plan w step)
@@ -27,7 +27,7 @@ module _ (plan : Plan) (Holds : World → Type 0) (keeps : IsKeptBySteps plan Ho
   holds_behind (step ∷ steps) w new here (mid, follows, more) = holds_behind steps mid new (holds_next w here step mid follows) more
 
 -- what the first world has and each step keeps
-pub always : (plan : Plan) (Holds : World → Type 0) → Holds first → IsKeptBySteps plan Holds → Always plan Holds
+pub always : (plan : Plan) (Holds : World → Type 0) → Holds first → IsPreserved plan Holds → Always plan Holds
 always plan Holds at_first keeps steps w run = holds_behind plan Holds keeps steps first w at_first run
 
 -- ---- steps that are not refused

@@ -16,9 +16,9 @@ use Rattle.j39_world.specs.Flows.{Flow, flows_of, windows_of}
 use Rattle.j39_world.specs.World.{World, Stations, Undelivered, changed, changed_pair}
 use Rattle.j39_world.specs.ClaimSteps.{GivenFrom, told_to_others, without_lists_to, answer_items}
 use Rattle.j39_world.specs.TransferSteps.{BeginsAt, TakenFrom, LostFrom}
-use Rattle.j39_world.specs.Run.{count_of, is_unit}
-use Rattle.j39_laws.proofs.Runs.Always.{IsKeptBySteps}
-use Rattle.j39_laws.proofs.Runs.Conditions.{first_holds}
+use Rattle.j39_world.specs.Run.{count_of}
+use Rattle.j39_laws.proofs.Runs.Always.{IsPreserved}
+use Rattle.j39_laws.proofs.Runs.Conditions.{is_unit, first_holds}
 
 -- a property of what units are and what is undelivered between them
 abbrev pub ClaimProperty : Type 1
@@ -74,7 +74,7 @@ module _ (plan : Plan) (Holds : ClaimProperty) (keeps : IsKeptByClaimSteps plan 
 
   -- ---- each step
 
-  pub claim_steps_keep : IsKeptBySteps plan HoldsIn
+  pub claim_steps_keep : IsPreserved plan HoldsIn
   claim_steps_keep w here (Up u) allowed new e = subst HoldsIn (sym e) (keeps.switched_on w.stations w.claims here u (first_holds _ _ _ allowed).0)
   claim_steps_keep w here (Down u) allowed new e = subst HoldsIn (sym e) (keeps.switched_off w.stations w.claims here u)
   claim_steps_keep w here (Give u v) allowed new leads =

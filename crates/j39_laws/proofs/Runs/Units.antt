@@ -10,7 +10,8 @@ use Rattle.j39_plan.specs.declared.plan.Plan.{Plan}
 use Rattle.j39_world.specs.Claimants.{units_of, unit_at, claimant_of}
 use Rattle.j39_world.specs.ClaimSteps.{told_to_others, without_lists_to}
 use Rattle.j39_world.specs.Opening.{AreNamesDistinct}
-use Rattle.j39_world.specs.Run.{count_of, is_unit, both}
+use Rattle.j39_world.specs.Run.{count_of, both}
+use Rattle.j39_laws.proofs.Runs.Conditions.{is_unit}
 use Rattle.j39_world.specs.World.{Stations, Undelivered, changed, is_other_on}
 use Rattle.j39_laws.proofs.Runs.Changed.{changed_each}
 

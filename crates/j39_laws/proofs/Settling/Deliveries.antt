@@ -12,11 +12,11 @@ use Rattle.j39_plan.specs.declared.plan.Plan.{Plan}
 use Rattle.j39_world.specs.Claimants.{units_of, unit_at}
 use Rattle.j39_world.specs.ClaimSteps.{told_to_others, without_lists_to, answer_items}
 use Rattle.j39_world.specs.Opening.{AreNamesDistinct}
-use Rattle.j39_world.specs.Run.{is_unit}
+use Rattle.j39_laws.proofs.Runs.Conditions.{is_unit}
 use Rattle.j39_world.specs.SoundPlan.{Always}
 use Rattle.j39_world.specs.World.{Stations, Undelivered, changed, changed_pair, is_other_on}
 use Rattle.j39_laws.proofs.Addresses.Telling.{not_itself}
-use Rattle.j39_laws.proofs.Runs.Always.{IsKeptBySteps, always}
+use Rattle.j39_laws.proofs.Runs.Always.{IsPreserved, always}
 use Rattle.j39_laws.proofs.Runs.Changed.{changed_here, changed_elsewhere, changed_each}
 use Rattle.j39_laws.proofs.Runs.ClaimInvariants.{IsKeptByClaimSteps, stations_given, claims_given, claim_steps_keep}
 use Rattle.j39_laws.proofs.Runs.Units.{AreUnitsOn, AreBetweenUnits, AreEmptyStill, in_units, names_differ, units_on, without_lists_empty, told_between}
@@ -127,7 +127,7 @@ claim_steps plan distinct = record {
   given = give_keeps plan distinct;
 }
 
-pub deliverable_steps : (plan : Plan) → AreNamesDistinct (units_of plan) → IsKeptBySteps plan (λ w. AreDeliverable plan w.stations w.claims)
+pub deliverable_steps : (plan : Plan) → AreNamesDistinct (units_of plan) → IsPreserved plan (λ w. AreDeliverable plan w.stations w.claims)
 deliverable_steps plan distinct = claim_steps_keep plan (AreDeliverable plan) (claim_steps plan distinct)
 
 pub deliverable : (plan : Plan) → AreNamesDistinct (units_of plan) → Always plan (λ w. AreDeliverable plan w.stations w.claims)

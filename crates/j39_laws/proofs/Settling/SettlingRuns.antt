@@ -19,11 +19,11 @@ use Rattle.j39_world.specs.declared.step_error.StepError.TheVariants.{UnknownUni
 use Rattle.j39_world.specs.Claimants.{units_of, unit_at}
 use Rattle.j39_world.specs.ClaimSteps.{GivenFrom, given}
 use Rattle.j39_world.specs.Opening.{AreNamesDistinct}
-use Rattle.j39_world.specs.Run.{is_unit, both, is_on, refusal, StepsTo, RunsThrough}
+use Rattle.j39_world.specs.Run.{both, is_on, refusal, StepsTo, RunsThrough}
 use Rattle.j39_world.specs.Settling.{IsGive, Settles}
 use Rattle.j39_world.specs.SoundPlan.{Always}
 use Rattle.j39_world.specs.World.{World}
-use Rattle.j39_laws.proofs.Runs.Conditions.{three_hold, not_refused}
+use Rattle.j39_laws.proofs.Runs.Conditions.{is_unit, three_hold, not_refused}
 use Rattle.j39_laws.proofs.Runs.Units.{in_units, names_differ}
 use Rattle.j39_laws.proofs.Settling.Deliveries.{AreDeliverable, apart, responds, deliverable_steps, deliverable}
 use Rattle.j39_laws.proofs.Settling.Lowered.{lowered}
