@@ -7,7 +7,7 @@ use Rattle.std.proofs.lemmas.Bool.{cases_lt}
 use Rattle.std.proofs.lemmas.Grind.{common_steps}
 use Rattle.std.proofs.lemmas.List.{append-nil, take_all}
 use Rattle.std.proofs.lemmas.Option.{slice_get_within}
-use Rattle.j39_tp.specs.Chunks.{packets_of, chunk}
+use Rattle.j39_tp.specs.Chunks.{packets_of, unused, chunk}
 use Rattle.j39_tp.specs.Carried.{Announces, chunks_to, Leaves, Carried}
 use Rattle.j39_tp.specs.HonestPackets.{AnnouncesMessage, GoesOn, TellsLast}
 use Rattle.j39_tp.specs.Sender.{announcement}
@@ -55,9 +55,9 @@ tells_more h pgn bytes p goes t = record {
 
 -- what a message has up to a part and the part are what it has up to the next; what fills the last is cut off
 next_part : (bytes : List ℕ) (m : ℕ)
-    → take (length bytes) (take m bytes ++ (take 7 (drop m bytes) ++ replicate (7 - length (take 7 (drop m bytes))) 255)) ≡ take (m + 7) bytes
+    → take (length bytes) (take m bytes ++ (take 7 (drop m bytes) ++ replicate (7 - length (take 7 (drop m bytes))) unused)) ≡ take (m + 7) bytes
 next_part bytes m =
-    let fill : List ℕ = replicate (7 - length (take 7 (drop m bytes))) 255 in
+    let fill : List ℕ = replicate (7 - length (take 7 (drop m bytes))) unused in
     let joined : take m bytes ++ (take 7 (drop m bytes) ++ fill) ≡ take (m + 7) bytes ++ fill =
     sym (append_assoc (take m bytes) (take 7 (drop m bytes)) fill) ∙ ap (λ (u : List ℕ). u ++ fill) (sym (take-add m 7 bytes)) in
     elim (cases_lt (length bytes) (m + 7)) [

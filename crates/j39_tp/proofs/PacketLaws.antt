@@ -1,6 +1,6 @@
 -- The bytes of a packet are read as that packet, and as no other.
 use Rattle.std.proofs.Common.{◌≡◌, ℕ, ◌+◌, ◌*◌, ◌/◌, ◌%◌, ◌<◌, ◌==◌, ◌&&◌, true, false, if◌then◌else◌, inl, inr, List, ◌∷◌, slice_index}
-use Rattle.std.proofs.Common.{Option, Some, None, Result, Ok, Err, refl, ap, sym, ◌∙◌, subst, arith}
+use Rattle.std.proofs.Common.{Some, None, Result, Ok, Err, refl, ap, sym, ◌∙◌, subst, arith}
 use Rattle.std.specs.Prelude.{nat_lt, IfOk, IfErr}
 use Rattle.std.proofs.lemmas.Bool.{cases_lt, lt-ltb, le-ltb, le-leb, lt-leb, eq-eqb, ne_eqb}
 use Rattle.j39_id.specs.FirstFault.{first_fault}
@@ -8,7 +8,7 @@ use Rattle.j39_id.specs.Limits.{frame_bytes, message_bytes}
 use Rattle.j39_id.specs.Pgn.{pgn_end, pdu2_first, pf_of, IsPgn, is_pdu2, is_pgn}
 use Rattle.j39_tp.specs.Chunks.{IsSize, packets_of}
 use Rattle.j39_tp.specs.Packets.{data_of, InRange, IsReadable, IsManagement, ManagementReads, DataReads, size_in, pgn_in}
-use Rattle.j39_tp.specs.Packets.{is_size, management_faults}
+use Rattle.j39_tp.specs.Packets.{rts_control, cts_control, end_control, bam_control, is_size, management_faults}
 use Rattle.j39_tp.specs.declared.packet.Packet.{Packet}
 use Rattle.j39_tp.specs.declared.packet.Packet.TheVariants.{Rts, Cts, EndAck, Bam, Abort, Dt}
 use Rattle.j39_tp.specs.declared.packet.packet_error.PacketError.{PacketError}
@@ -143,10 +143,10 @@ not_refused bytes p e r fault = cc (sym (no_management_fault bytes p r) ∙ faul
 -- the management packet that the bytes can be, by the first of them
 packet_in : List ℕ → Packet
 packet_in bytes =
-    if slice_index bytes 0 == 16 then Rts (size_in bytes) (slice_index bytes 4) (pgn_in bytes)
-    else if slice_index bytes 0 == 17 then Cts (slice_index bytes 1) (slice_index bytes 2) (pgn_in bytes)
-    else if slice_index bytes 0 == 19 then EndAck (size_in bytes) (pgn_in bytes)
-    else if slice_index bytes 0 == 32 then Bam (size_in bytes) (pgn_in bytes)
+    if slice_index bytes 0 == rts_control then Rts (size_in bytes) (slice_index bytes 4) (pgn_in bytes)
+    else if slice_index bytes 0 == cts_control then Cts (slice_index bytes 1) (slice_index bytes 2) (pgn_in bytes)
+    else if slice_index bytes 0 == end_control then EndAck (size_in bytes) (pgn_in bytes)
+    else if slice_index bytes 0 == bam_control then Bam (size_in bytes) (pgn_in bytes)
     else Abort (slice_index bytes 1) (pgn_in bytes)
 
 is_packet_in : (bytes : List ℕ) (p : Packet) → ManagementReads bytes p → p ≡ packet_in bytes

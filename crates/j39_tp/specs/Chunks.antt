@@ -15,9 +15,13 @@ packets_of size = (size + (packet_bytes - 1)) / packet_bytes
 abbrev pub part : List ℕ → ℕ → List ℕ
 part bytes k = take packet_bytes (drop (packet_bytes * (k - 1)) bytes)
 
--- chunk k of a message: its part, and 255 up to seven bytes
+-- what stands in a byte that says nothing
+abbrev pub unused : ℕ
+unused = 255
+
+-- chunk k of a message: its part, filled up to seven bytes
 abbrev pub chunk : List ℕ → ℕ → List ℕ
-chunk bytes k = part bytes k ++ replicate (packet_bytes - length (part bytes k)) 255
+chunk bytes k = part bytes k ++ replicate (packet_bytes - length (part bytes k)) unused
 
 -- a message: its PGN and its bytes
 pub record MessageParts : Type 0 where

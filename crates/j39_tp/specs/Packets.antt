@@ -2,13 +2,29 @@
 use Rattle.std.specs.Prelude.{◌≡◌, ℕ, ◌+◌, ◌*◌, ◌/◌, ◌%◌, ◌<◌, ◌==◌, ◌||◌, ◌&&◌, not, nat_lt, nat_le, Bool, List, [], ◌∷◌, length, slice_index}
 use Rattle.j39_id.specs.Limits.{frame_bytes, message_bytes}
 use Rattle.j39_id.specs.Pgn.{IsPgn, is_pgn}
-use Rattle.j39_tp.specs.Chunks.{IsSize, packets_of}
+use Rattle.j39_tp.specs.Chunks.{IsSize, packets_of, unused}
 use Rattle.j39_tp.specs.declared.packet.Packet.{Packet}
 use Rattle.j39_tp.specs.declared.packet.Packet.TheVariants.{Rts, Cts, EndAck, Bam, Abort, Dt}
 use Rattle.j39_tp.specs.declared.packet.packet_error.PacketError.{PacketError}
 use Rattle.j39_tp.specs.declared.packet.packet_error.PacketError.TheVariants.{Length, Control, Size, Count, Number, Group}
 
 -- ---- what is sent
+
+-- the first byte of each packet of connection management
+abbrev pub rts_control : ℕ
+rts_control = 16
+
+abbrev pub cts_control : ℕ
+cts_control = 17
+
+abbrev pub end_control : ℕ
+end_control = 19
+
+abbrev pub bam_control : ℕ
+bam_control = 32
+
+abbrev pub abort_control : ℕ
+abort_control = 255
 
 -- the limit of an RTS that lets any number of packets be sent for each CTS
 abbrev pub no_limit : ℕ
@@ -24,11 +40,11 @@ pgn_bytes pgn = pgn % 256 ∷ pgn / 256 % 256 ∷ pgn / 65536 ∷ []
 
 -- the bytes of a packet
 abbrev pub data_of : Packet → List ℕ
-data_of (Rts size limit pgn) = 16 ∷ size_bytes size (limit ∷ pgn_bytes pgn)
-data_of (Cts count first pgn) = 17 ∷ count ∷ first ∷ 255 ∷ 255 ∷ pgn_bytes pgn
-data_of (EndAck size pgn) = 19 ∷ size_bytes size (255 ∷ pgn_bytes pgn)
-data_of (Bam size pgn) = 32 ∷ size_bytes size (255 ∷ pgn_bytes pgn)
-data_of (Abort reason pgn) = 255 ∷ reason ∷ 255 ∷ 255 ∷ 255 ∷ pgn_bytes pgn
+data_of (Rts size limit pgn) = rts_control ∷ size_bytes size (limit ∷ pgn_bytes pgn)
+data_of (Cts count first pgn) = cts_control ∷ count ∷ first ∷ unused ∷ unused ∷ pgn_bytes pgn
+data_of (EndAck size pgn) = end_control ∷ size_bytes size (unused ∷ pgn_bytes pgn)
+data_of (Bam size pgn) = bam_control ∷ size_bytes size (unused ∷ pgn_bytes pgn)
+data_of (Abort reason pgn) = abort_control ∷ reason ∷ unused ∷ unused ∷ unused ∷ pgn_bytes pgn
 data_of (Dt number chunk) = number ∷ chunk
 
 -- a packet that can be read again: no packet is given the number 0
@@ -61,14 +77,14 @@ pub record GivesSize (bytes : List ℕ) (size : ℕ) : Type 0 where
   pub packets_are : slice_index bytes 3 ≡ packets_of size
   pub size_fits : IsSize size
 
--- the bytes are those of a connection management packet; what is sent as 255 may be anything
+-- the bytes are those of a connection management packet; unused ones may have any value
 abbrev pub ManagementFields : List ℕ → Packet → Type 0
-ManagementFields bytes (Rts size limit pgn) = (slice_index bytes 0 ≡ 16) × GivesSize bytes size × (slice_index bytes 4 ≡ limit) × (pgn_in bytes ≡ pgn)
-ManagementFields bytes (Cts count first pgn) = (slice_index bytes 0 ≡ 17) × (slice_index bytes 1 ≡ count) × (slice_index bytes 2 ≡ first)
+ManagementFields bytes (Rts size limit pgn) = (slice_index bytes 0 ≡ rts_control) × GivesSize bytes size × (slice_index bytes 4 ≡ limit) × (pgn_in bytes ≡ pgn)
+ManagementFields bytes (Cts count first pgn) = (slice_index bytes 0 ≡ cts_control) × (slice_index bytes 1 ≡ count) × (slice_index bytes 2 ≡ first)
     × (0 < count → 0 < first) × (pgn_in bytes ≡ pgn)
-ManagementFields bytes (EndAck size pgn) = (slice_index bytes 0 ≡ 19) × GivesSize bytes size × (pgn_in bytes ≡ pgn)
-ManagementFields bytes (Bam size pgn) = (slice_index bytes 0 ≡ 32) × GivesSize bytes size × (pgn_in bytes ≡ pgn)
-ManagementFields bytes (Abort reason pgn) = (slice_index bytes 0 ≡ 255) × (slice_index bytes 1 ≡ reason) × (pgn_in bytes ≡ pgn)
+ManagementFields bytes (EndAck size pgn) = (slice_index bytes 0 ≡ end_control) × GivesSize bytes size × (pgn_in bytes ≡ pgn)
+ManagementFields bytes (Bam size pgn) = (slice_index bytes 0 ≡ bam_control) × GivesSize bytes size × (pgn_in bytes ≡ pgn)
+ManagementFields bytes (Abort reason pgn) = (slice_index bytes 0 ≡ abort_control) × (slice_index bytes 1 ≡ reason) × (pgn_in bytes ≡ pgn)
 ManagementFields bytes (Dt number chunk) = ⊥
 
 pub record ManagementReads (bytes : List ℕ) (p : Packet) : Type 0 where
@@ -92,10 +108,10 @@ is_size n = nat_lt frame_bytes n && nat_le n message_bytes
 
 -- the first bytes of connection management packets, and those of them that give a size
 abbrev pub is_control : ℕ → Bool
-is_control c = c == 16 || (c == 17 || (c == 19 || (c == 32 || c == 255)))
+is_control c = c == rts_control || (c == cts_control || (c == end_control || (c == bam_control || c == abort_control)))
 
 abbrev pub gives_size : ℕ → Bool
-gives_size c = c == 16 || (c == 19 || c == 32)
+gives_size c = c == rts_control || (c == end_control || c == bam_control)
 
 -- the refusals of a connection management packet, in their order
 abbrev pub management_faults : List ℕ → List (PacketError × Bool)
@@ -104,7 +120,7 @@ management_faults bytes =
     ∷ (Control, not (is_control (slice_index bytes 0)))
     ∷ (Size, gives_size (slice_index bytes 0) && not (is_size (size_in bytes)))
     ∷ (Count, gives_size (slice_index bytes 0) && not (slice_index bytes 3 == packets_of (size_in bytes)))
-    ∷ (Number, slice_index bytes 0 == 17 && (nat_lt 0 (slice_index bytes 1) && slice_index bytes 2 == 0))
+    ∷ (Number, slice_index bytes 0 == cts_control && (nat_lt 0 (slice_index bytes 1) && slice_index bytes 2 == 0))
     ∷ (Group, not (is_pgn (pgn_in bytes)))
     ∷ []
 

@@ -1,8 +1,9 @@
 //! Messages.
 ghost use Rattle.std.specs.Prelude.{◌≡◌, ◌-◌, ◌≤◌, ◌++◌, ◌↔◌, length, replicate, IsSome, IfSome};
-ghost use Rattle.j39_tp.specs.Chunks.{IsSize, chunk};
+ghost use Rattle.j39_tp.specs.Chunks.{IsSize, unused, chunk};
 
 use crate::Size;
+use crate::packet::UNUSED;
 use arrayvec::ArrayVec;
 use j39_id::Pgn;
 use j39_id::limits::{FRAME_BYTES, MESSAGE_BYTES};
@@ -58,7 +59,7 @@ impl Message {
         size
     }
 
-    /// The seven bytes that a data packet of this number carries, filled with 255.
+    /// The seven bytes that a data packet of this number carries, filled up with unused ones.
     pub fn chunk(&self, number: u8) -> [u8; 7]
         ensures { result ≡ chunk self.now.bytes number }
     {
@@ -78,12 +79,12 @@ impl Message {
     }
 }
 
-// At most seven bytes, filled with 255.
+// At most seven bytes, filled up with unused ones.
 fn filled(part: &[u8]) -> [u8; 7]
     requires { length part.now ≤ 7 }
-    ensures { result ≡ part.now ++ replicate (7 - length part.now) 255 }
+    ensures { result ≡ part.now ++ replicate (7 - length part.now) unused }
 {
-    let mut chunk = [255; 7];
+    let mut chunk = [UNUSED; 7];
     chunk[..part.len()].copy_from_slice(part);
     chunk
 }

@@ -4,6 +4,7 @@ ghost use Rattle.j39_tp.specs.Packets.{InRange};
 
 use j39_id::Pgn;
 
+mod control;
 mod packet_error;
 mod packing;
 pub(crate) mod reasons;
@@ -18,10 +19,13 @@ pub use unpacking::{from_cm, from_dt};
 /// A limit of an RTS that lets any number of packets be sent for each CTS.
 pub(crate) const NO_LIMIT: u8 = 255;
 
+/// What stands in a byte that says nothing.
+pub(crate) const UNUSED: u8 = 255;
+
 /// A packet of the transport protocol (SAE J1939-21): five of connection management, and data.
 #[derive(Clone, Copy, Debug, PartialEq, Eq)]
 pub enum Packet {
-    /// Request to send a message to one: at most `limit` packets for each CTS, 255 being no limit.
+    /// Request to send a message to one: at most `limit` packets for each CTS, or any number where it is 255.
     Rts { size: Size, limit: u8, pgn: Pgn },
     /// Clear to send `count` packets from number `first` on; a count of 0 holds the sender.
     Cts { count: u8, first: u8, pgn: Pgn },

@@ -2,6 +2,8 @@
 ghost use Rattle.std.specs.Prelude.{◌≡◌, ◌∷◌, ◌++◌};
 ghost use Rattle.j39_tp.specs.Packets.{data_of, pgn_bytes, size_bytes};
 
+use super::UNUSED;
+use super::control::{ABORT, BAM, CTS, END_ACK, RTS};
 use crate::{Packet, Size};
 use j39_id::Pgn;
 
@@ -30,16 +32,16 @@ fn numbered(number: u8, chunk: [u8; 7]) -> [u8; 8]
     [number, first, second, third, fourth, fifth, sixth, seventh]
 }
 
-/// The eight bytes of the packet as SAE J1939-21 lays them out, those without a meaning being 255.
+/// The eight bytes of the packet as SAE J1939-21 lays them out, unused ones being 255.
 pub fn to_data(packet: &Packet) -> [u8; 8]
     ensures { result ≡ data_of packet.now }
 {
     match *packet {
-        Packet::Rts { size, limit, pgn } => sized(16, size, limit, pgn),
-        Packet::Cts { count, first, pgn } => managed([17, count, first, 255, 255], pgn),
-        Packet::EndAck { size, pgn } => sized(19, size, 255, pgn),
-        Packet::Bam { size, pgn } => sized(32, size, 255, pgn),
-        Packet::Abort { reason, pgn } => managed([255, reason, 255, 255, 255], pgn),
+        Packet::Rts { size, limit, pgn } => sized(RTS, size, limit, pgn),
+        Packet::Cts { count, first, pgn } => managed([CTS, count, first, UNUSED, UNUSED], pgn),
+        Packet::EndAck { size, pgn } => sized(END_ACK, size, UNUSED, pgn),
+        Packet::Bam { size, pgn } => sized(BAM, size, UNUSED, pgn),
+        Packet::Abort { reason, pgn } => managed([ABORT, reason, UNUSED, UNUSED, UNUSED], pgn),
         Packet::Dt { number, chunk } => numbered(number, chunk),
     }
 }

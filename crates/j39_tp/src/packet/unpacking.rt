@@ -5,6 +5,7 @@ ghost use Rattle.j39_id.specs.Pgn.{is_pgn};
 ghost use Rattle.j39_tp.specs.Chunks.{packets_of};
 ghost use Rattle.j39_tp.specs.Packets.{is_size, InRange, ManagementReads, DataReads, management_faults, data_faults};
 
+use super::control::{ABORT, BAM, CTS, END_ACK, RTS};
 use crate::{Packet, PacketError, Size, known_ranges};
 use j39_id::Pgn;
 
@@ -43,7 +44,7 @@ fn managed(bytes: &[u8]) -> Result<Packet, PacketError>
         return Err(PacketError::Length);
     };
     match control {
-        16 => {
+        RTS => {
             let size = size_of(second, third, fourth)?;
             let pgn = pgn_of(low, middle, high)?;
             Ok(Packet::Rts {
@@ -52,7 +53,7 @@ fn managed(bytes: &[u8]) -> Result<Packet, PacketError>
                 pgn,
             })
         }
-        17 => {
+        CTS => {
             if second > 0 && third == 0 {
                 return Err(PacketError::Number);
             }
@@ -63,17 +64,17 @@ fn managed(bytes: &[u8]) -> Result<Packet, PacketError>
                 pgn,
             })
         }
-        19 => {
+        END_ACK => {
             let size = size_of(second, third, fourth)?;
             let pgn = pgn_of(low, middle, high)?;
             Ok(Packet::EndAck { size, pgn })
         }
-        32 => {
+        BAM => {
             let size = size_of(second, third, fourth)?;
             let pgn = pgn_of(low, middle, high)?;
             Ok(Packet::Bam { size, pgn })
         }
-        255 => {
+        ABORT => {
             let pgn = pgn_of(low, middle, high)?;
             Ok(Packet::Abort {
                 reason: second,
