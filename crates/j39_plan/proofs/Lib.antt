@@ -11,6 +11,7 @@ pub mod Labelled
 pub mod LastWrites
 pub mod Members
 pub mod NoFaults
+pub mod OneAnswer
 pub mod PlaceLemmas
 pub mod ReadGroups
 pub mod ReadPlans

@@ -10,6 +10,7 @@ pub mod Found
 pub mod Groups
 pub mod Growing
 pub mod Labels
+pub mod OnePlan
 pub mod Outcome
 pub mod Places
 pub mod PlannedGroups

@@ -2,8 +2,10 @@
 
 mod conflict_runs;
 mod findings;
+mod plan_files;
 mod signals;
 
 pub use conflict_runs::conflict_runs_are_exact;
 pub use findings::{clean_parts, clean_where_none, found_exactly};
+pub use plan_files::a_file_describes_one_plan;
 pub use signals::signals_are_sound;

@@ -12,7 +12,8 @@ mod steps;
 pub use checking::{CheckedPlan, Finding, Findings, Refused, RefusedCause, check, checked};
 pub use conflict_run::bad_run;
 pub use laws::{
-    clean_parts, clean_where_none, conflict_runs_are_exact, found_exactly, signals_are_sound,
+    a_file_describes_one_plan, clean_parts, clean_where_none, conflict_runs_are_exact,
+    found_exactly, signals_are_sound,
 };
 pub use plan::{FlowPlan, GroupPlan, Plan, To, UnitPlan, Way};
 pub use planned_groups::{GroupFault, layout_of};

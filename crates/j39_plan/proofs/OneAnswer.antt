@@ -1,0 +1,112 @@
+-- Reading a file gives one answer.
+use Rattle.std.proofs.Common.{◌≡◌, ◌≢◌, ℕ, List, [], ◌∷◌, Option, Some, Result, Ok, Err, refl, sym, ap, ◌∙◌}
+use Rattle.std.specs.List.{AllZip}
+use Rattle.std.proofs.lemmas.Option.{same_Some, none-some}
+use Rattle.toml.specs.Data.{Data, Items, no_items, item, Members}
+use Rattle.j39_signal.specs.Parts.{SignalParts}
+use Rattle.j39_plan.specs.declared.plan.Plan.{Plan}
+use Rattle.j39_plan.specs.declared.plan.unit_plan.UnitPlan.{UnitPlan}
+use Rattle.j39_plan.specs.declared.plan.group_plan.GroupPlan.{GroupPlan}
+use Rattle.j39_plan.specs.declared.plan.flow_plan.FlowPlan.{FlowPlan}
+use Rattle.j39_plan.specs.declared.reading.fault.Fault.{Fault}
+use Rattle.j39_plan.specs.declared.reading.plan_error.PlanError.{PlanError}
+use Rattle.j39_plan.specs.declared.reading.plan_error.PlanError.TheVariants as errors
+use Rattle.j39_plan.specs.Elements.{Each, inside}
+use Rattle.j39_plan.specs.Outcome.{first}
+use Rattle.j39_plan.specs.Units.{IsUnitOf}
+use Rattle.j39_plan.specs.Signals.{IsSignalOf}
+use Rattle.j39_plan.specs.Groups.{IsGroupOf, signal_rule}
+use Rattle.j39_plan.specs.Flows.{IsFlowOf}
+use Rattle.j39_plan.specs.Schema.{tables_of}
+use Rattle.j39_plan.specs.Findings.{AreOneFlow}
+use Rattle.j39_plan.specs.Faults.{faults, unit_rule, group_rule, flow_rule, unit_labels, group_labels}
+use Rattle.j39_plan.specs.Described.{Holds, Described, Reads}
+use Rattle.j39_plan.specs.OnePlan.{AreOneUnit, AreOneSignal, AreOneGroup, AreOnePlan, AreOneAnswer}
+
+-- what elements tell is one, where what each tells is
+one_each : {T : Type 0} (Is : Data → T → Type 0) (One : T → T → Type 0) (one : (d : Data) (x y : T) → Is d x → Is d y → One x y)
+    → (ds : Items) (xs ys : List T) → Each Is ds xs → Each Is ds ys → AllZip One xs ys
+unfolding Each
+one_each Is One one no_items [] [] a b = tt
+one_each Is One one no_items [] (y ∷ ys) a b = absurd b
+one_each Is One one no_items (x ∷ xs) ys a b = absurd a
+one_each Is One one (item d ds) [] ys a b = absurd a
+one_each Is One one (item d ds) (x ∷ xs) [] a b = absurd b
+one_each Is One one (item d ds) (x ∷ xs) (y ∷ ys) a b = (one d x y a.0 b.0, one_each Is One one ds xs ys a.1 b.1)
+
+one_unit : (d : Data) (u v : UnitPlan) → IsUnitOf d u → IsUnitOf d v → AreOneUnit u v
+one_unit d u v a b = record {
+  labels = a.has_label ∙ sym b.has_label;
+  addresses = a.has_address ∙ sym b.has_address;
+  names = a.has_name ∙ sym b.has_name;
+  ways = a.has_way ∙ sym b.has_way;
+  windows = a.has_window ∙ sym b.has_window;
+}
+
+one_signal : (d : Data) (s t : SignalParts) → IsSignalOf d s → IsSignalOf d t → AreOneSignal s t
+one_signal d s t a b = record {
+  labels = a.has_label ∙ sym b.has_label;
+  starts = a.has_start ∙ sym b.has_start;
+  widths = a.has_bits ∙ sym b.has_bits;
+  kinds = a.has_kind ∙ sym b.has_kind;
+  steps = a.has_step ∙ sym b.has_step;
+  offsets = a.has_offset ∙ sym b.has_offset;
+  units = a.has_unit ∙ sym b.has_unit;
+}
+
+one_group : (d : Data) (g h : GroupPlan) → IsGroupOf d g → IsGroupOf d h → AreOneGroup g h
+one_group d g h a b = record {
+  labels = a.has_label ∙ sym b.has_label;
+  pgns = a.has_pgn ∙ sym b.has_pgn;
+  priorities = a.has_priority ∙ sym b.has_priority;
+  lengths = a.has_length ∙ sym b.has_length;
+  signals = one_each IsSignalOf AreOneSignal one_signal (tables_of signal_rule (inside d)) _ _ a.has_signals b.has_signals;
+}
+
+one_flow : (groups units : List (List ℕ)) (d : Data) (f h : FlowPlan) → IsFlowOf groups units d f → IsFlowOf groups units d h → AreOneFlow f h
+one_flow groups units d f h a b = (
+  same_Some _ _ (sym a.has_group ∙ b.has_group),
+  same_Some _ _ (sym a.has_sender ∙ b.has_sender),
+  same_Some _ _ (sym a.has_receivers ∙ b.has_receivers),
+)
+
+one_plan : (tree : Members) (p q : Plan) → Holds tree p → Holds tree q → AreOnePlan p q
+one_plan tree p q a b = record {
+  keep_free = a.has_keep_free ∙ sym b.has_keep_free;
+  units = one_each IsUnitOf AreOneUnit one_unit (tables_of unit_rule tree) _ _ a.has_units b.has_units;
+  groups = one_each IsGroupOf AreOneGroup one_group (tables_of group_rule tree) _ _ a.has_groups b.has_groups;
+  flows = one_each (IsFlowOf (group_labels tree) (unit_labels tree)) AreOneFlow (one_flow (group_labels tree) (unit_labels tree)) (tables_of flow_rule tree) _ _
+      a.has_flows b.has_flows;
+}
+
+-- a tree without faults has no first one
+no_first : (fs : List Fault) (f : Fault) → fs ≡ [] → first fs ≢ Some f
+no_first fs f none is = cc
+
+-- what a tree is read as, with the tree
+tree_is : {tree : Option Members} (s t : Members) → tree ≡ Some s → tree ≡ Some t → s ≡ t
+tree_is s t a b = same_Some _ _ (sym a ∙ b)
+
+-- a plan that another tree describes, which is this one
+described_at : (s t : Members) (p : Plan) → t ≡ s → Described t p → Described s p
+described_at s t p same is = rw (← same) is
+
+first_at : (s t : Members) (f : Fault) → t ≡ s → first (faults t) ≡ Some f → first (faults s) ≡ Some f
+first_at s t f same is = rw (← same) is
+
+pub one_answer : (tree : Option Members) (one other : Result Plan PlanError) → one ≢ Err errors.Memory → other ≢ Err errors.Memory
+    → Reads one tree → Reads other tree → AreOneAnswer one other
+one_answer tree (Ok p) (Ok q) m n (s, is_s, a) (t, is_t, b) = one_plan s p q a.1 (described_at s t q (tree_is t s is_t is_s) b).1
+one_answer tree (Ok p) (Err errors.Text) m n (s, is_s, a) b = absurd (none-some _ (sym b ∙ is_s))
+one_answer tree (Ok p) (Err (errors.Fault f)) m n (s, is_s, a) (t, is_t, b) = absurd (no_first (faults s) f a.0 (first_at s t f (tree_is t s is_t is_s) b))
+one_answer tree (Ok p) (Err errors.Memory) m n a b = absurd (n refl)
+one_answer tree (Err errors.Text) (Ok q) m n a (t, is_t, b) = absurd (none-some _ (sym a ∙ is_t))
+one_answer tree (Err errors.Text) (Err errors.Text) m n a b = refl
+one_answer tree (Err errors.Text) (Err (errors.Fault f)) m n a (t, is_t, b) = absurd (none-some _ (sym a ∙ is_t))
+one_answer tree (Err errors.Text) (Err errors.Memory) m n a b = absurd (n refl)
+one_answer tree (Err (errors.Fault f)) (Ok q) m n (s, is_s, a) (t, is_t, b) = absurd (no_first (faults t) f b.0 (first_at t s f (tree_is s t is_s is_t) a))
+one_answer tree (Err (errors.Fault f)) (Err errors.Text) m n (s, is_s, a) b = absurd (none-some _ (sym b ∙ is_s))
+one_answer tree (Err (errors.Fault f)) (Err (errors.Fault g)) m n (s, is_s, a) (t, is_t, b) =
+    ap errors.Fault (same_Some _ _ (sym a ∙ first_at s t g (tree_is t s is_t is_s) b))
+one_answer tree (Err (errors.Fault f)) (Err errors.Memory) m n a b = absurd (n refl)
+one_answer tree (Err errors.Memory) other m n a b = absurd (m refl)

@@ -1,0 +1,55 @@
+-- A file describes one plan.
+use Rattle.std.specs.Prelude.{◌≡◌, ◌≢◌, ℕ, List, Result, Ok, Err}
+use Rattle.std.specs.List.{AllZip}
+use Rattle.j39_signal.specs.Parts.{SignalParts}
+use Rattle.j39_plan.specs.declared.plan.Plan.{Plan}
+use Rattle.j39_plan.specs.declared.plan.unit_plan.UnitPlan.{UnitPlan}
+use Rattle.j39_plan.specs.declared.plan.group_plan.GroupPlan.{GroupPlan}
+use Rattle.j39_plan.specs.declared.reading.plan_error.PlanError.{PlanError}
+use Rattle.j39_plan.specs.declared.reading.plan_error.PlanError.TheVariants.{Memory}
+use Rattle.j39_plan.specs.Findings.{AreOneFlow}
+use Rattle.j39_plan.specs.Described.{Reads, tree_of}
+
+-- ---- when two plans are one: of a label the bytes count, and not what stands in its array behind them
+
+pub record AreOneUnit (u v : UnitPlan) : Type 0 where
+  pub labels : u.label.bytes ≡ v.label.bytes
+  pub addresses : u.address ≡ v.address
+  pub names : u.name ≡ v.name
+  pub ways : u.way ≡ v.way
+  pub windows : u.window ≡ v.window
+
+pub record AreOneSignal (s t : SignalParts) : Type 0 where
+  pub labels : s.label.bytes ≡ t.label.bytes
+  pub starts : s.start ≡ t.start
+  pub widths : s.bits ≡ t.bits
+  pub kinds : s.kind ≡ t.kind
+  pub steps : s.step ≡ t.step
+  pub offsets : s.offset ≡ t.offset
+  pub units : s.unit.bytes ≡ t.unit.bytes
+
+pub record AreOneGroup (g h : GroupPlan) : Type 0 where
+  pub labels : g.label.bytes ≡ h.label.bytes
+  pub pgns : g.pgn ≡ h.pgn
+  pub priorities : g.priority ≡ h.priority
+  pub lengths : g.length ≡ h.length
+  pub signals : AllZip AreOneSignal g.signals.items h.signals.items
+
+pub record AreOnePlan (p q : Plan) : Type 0 where
+  pub keep_free : p.keep_free ≡ q.keep_free
+  pub units : AllZip AreOneUnit p.units.items q.units.items
+  pub groups : AllZip AreOneGroup p.groups.items q.groups.items
+  pub flows : AllZip AreOneFlow p.flows.items q.flows.items
+
+-- ---- the law
+
+-- one plan, or one reason why there is none
+abbrev pub AreOneAnswer : Result Plan PlanError → Result Plan PlanError → Type 0
+AreOneAnswer (Ok p) (Ok q) = AreOnePlan p q
+AreOneAnswer (Err e) (Err f) = e ≡ f
+AreOneAnswer _ _ = ⊥
+
+-- but for want of memory, one answer is allowed for the bytes
+abbrev pub HasOneAnswer : List ℕ → Type 0
+HasOneAnswer bytes = (one other : Result Plan PlanError) → one ≢ Err Memory → other ≢ Err Memory
+    → Reads one (tree_of bytes) → Reads other (tree_of bytes) → AreOneAnswer one other

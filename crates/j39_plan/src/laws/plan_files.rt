@@ -1,0 +1,10 @@
+//! The law of what a plan file describes.
+ghost use Rattle.std.specs.Prelude.{ℕ, List};
+ghost use Rattle.j39_plan.specs.OnePlan.{HasOneAnswer};
+
+/// But for want of memory, the definition allows one answer for a file: it describes one plan, or it has one first fault, or it
+/// is no TOML text, and never two of these. Two plans are one where they keep the same addresses free and have the same
+/// units, groups, signals and flows, place by place, labels by their bytes.
+pub fn a_file_describes_one_plan()
+    ensures { (bytes : List ℕ) → HasOneAnswer bytes }
+{}
