@@ -1,5 +1,6 @@
 -- How many NAMEs stand at each address, and the set of the addresses whose count is not 0.
-use Rattle.std.proofs.Common.{◌≡◌, ◌≢◌, ℕ, zero, suc, ◌+◌, ◌<◌, Bool, true, false, cond, not, ◌&&◌, ◌||◌, eqb, ltb, List, [], length, get_or, set, replicate, refl, sym, ap, ◌∙◌, arith, inl, inr, get_or-set_other, get_or-set_same}
+use Rattle.std.proofs.Common.{◌≡◌, ◌≢◌, ℕ, zero, suc, ◌+◌, ◌<◌, Bool, true, false, cond, not, ◌&&◌, ◌||◌, eqb, ltb, List}
+use Rattle.std.proofs.Common.{[], length, get_or, set, replicate, refl, sym, ap, ◌∙◌, arith, inl, inr, get_or-set_other, get_or-set_same}
 use Rattle.std.proofs.lemmas.Bool.{cases_eq, eq-eqb, ne_eqb, lt-ltb}
 use Rattle.std.proofs.lemmas.List.Sums.{sum_by-set, sum_by-insert, sum_by-remove}
 use Rattle.std.specs.List.{insert, remove}
@@ -31,7 +32,8 @@ pub no_notes_counted : AreNotes [] (replicate 254 0)
 no_notes_counted = record { rising = tt; counted = λ a. zeros 254 a }
 
 -- one NAME more at p
-pub raised : (noted : FinSet nat_cmp) (counts : List ℕ) (p : ℕ) → p < length counts → HasCounted noted counts → HasCounted (set_of.insert noted p) (set counts p (get_or counts p 0 + 1))
+pub raised : (noted : FinSet nat_cmp) (counts : List ℕ) (p : ℕ) → p < length counts → HasCounted noted counts
+    → HasCounted (set_of.insert noted p) (set counts p (get_or counts p 0 + 1))
 raised noted counts p inside h = record {
   each = λ a.
       set_of.contains-insert nat_cmp_total noted p a ∙ ap (λ b. b || set_of.contains noted a) (unsigned_tied a p) ∙ by a;
@@ -44,7 +46,8 @@ raised noted counts p inside h = record {
     ]
 
 -- one NAME fewer at p: it was the last, or others stand there still
-pub lowered_last : (noted : FinSet nat_cmp) (counts : List ℕ) (p n : ℕ) → p < length counts → n ≡ 0 → HasCounted noted counts → HasCounted (set_of.remove noted p) (set counts p n)
+pub lowered_last : (noted : FinSet nat_cmp) (counts : List ℕ) (p n : ℕ) → p < length counts → n ≡ 0 → HasCounted noted counts
+    → HasCounted (set_of.remove noted p) (set counts p n)
 lowered_last noted counts p n inside last h = record {
   each = λ a.
       set_of.contains-remove nat_cmp_total noted p a ∙ ap (λ b. not b && set_of.contains noted a) (unsigned_tied a p) ∙ by a;
@@ -56,7 +59,8 @@ lowered_last noted counts p n inside last h = record {
       | inr other ↦ rw (ne_eqb a p other, get_or-set_other) (h.each a)
     ]
 
-pub lowered_still : (noted : FinSet nat_cmp) (counts : List ℕ) (p n : ℕ) → p < length counts → 0 < get_or counts p 0 → n ≢ 0 → HasCounted noted counts → HasCounted noted (set counts p n)
+pub lowered_still : (noted : FinSet nat_cmp) (counts : List ℕ) (p n : ℕ) → p < length counts → 0 < get_or counts p 0 → n ≢ 0
+    → HasCounted noted counts → HasCounted noted (set counts p n)
 lowered_still noted counts p n inside some still h = record { each = by }
   where
     by : (a : ℕ) → set_of.contains noted a ≡ ltb 0 (get_or (set counts p n) a 0)
@@ -69,13 +73,15 @@ lowered_still noted counts p n inside some still h = record { each = by }
 abbrev at_address : ℕ → ℕ × ℕ → ℕ
 at_address a pair = cond (eqb pair.1 a) 1 0
 
-pub count-set : (es : Pairs) (i n new a : ℕ) (d : ℕ × ℕ) → i < length es → count_at (set es i (n, new)) a + from_bool (eqb (get_or es i d).1 a) ≡ count_at es a + from_bool (eqb new a)
+pub count-set : (es : Pairs) (i n new a : ℕ) (d : ℕ × ℕ) → i < length es
+    → count_at (set es i (n, new)) a + from_bool (eqb (get_or es i d).1 a) ≡ count_at es a + from_bool (eqb new a)
 count-set es i n new a d inside = omega (arith, sum_by-set (at_address a) es i (n, new) d inside, digit_cond (eqb (get_or es i d).1 a), digit_cond (eqb new a))
 
 pub count-insert : (es : Pairs) (i n new a : ℕ) → count_at (insert es i (n, new)) a ≡ count_at es a + from_bool (eqb new a)
 count-insert es i n new a = omega (arith, sum_by-insert (at_address a) es i (n, new), digit_cond (eqb new a))
 
-pub count-remove : (es : Pairs) (i a : ℕ) (d : ℕ × ℕ) → i < length es → count_at (remove es i) a + from_bool (eqb (get_or es i d).1 a) ≡ count_at es a
+pub count-remove : (es : Pairs) (i a : ℕ) (d : ℕ × ℕ) → i < length es
+    → count_at (remove es i) a + from_bool (eqb (get_or es i d).1 a) ≡ count_at es a
 count-remove es i a d inside = omega (arith, sum_by-remove (at_address a) es i d inside, digit_cond (eqb (get_or es i d).1 a))
 
 -- how a count changes
@@ -86,14 +92,16 @@ abbrev pub More : ℕ → List ℕ → List ℕ → Type 0
 More address old new = (a : ℕ) → get_or new a 0 ≡ get_or old a 0 + from_bool (eqb address a)
 
 -- notes after a move, a new note and the loss of one
-pub moved : (es : Pairs) (n a i was : ℕ) (d : ℕ × ℕ) (counts lowered raised : List ℕ) → AreNotes es counts → IsAt es n i → was ≡ (get_or es i d).1
+pub moved : (es : Pairs) (n a i was : ℕ) (d : ℕ × ℕ) (counts lowered raised : List ℕ) → AreNotes es counts → IsAt es n i
+    → was ≡ (get_or es i d).1
     → Fewer was counts lowered → More a lowered raised → AreNotes (set es i (n, a)) raised
 moved es n a i was d counts lowered raised are at is fewer more = record {
   rising = (note_set es n a i are.rising at).rising;
   counted = λ q. omega (arith, more q, fewer q, are.counted q, count-set es i n a q d at.in_range, ap (λ p. from_bool (eqb p q)) is);
 }
 
-pub added : (es : Pairs) (n a i : ℕ) (counts raised : List ℕ) → AreNotes es counts → IsGapFor es n i → More a counts raised → AreNotes (insert es i (n, a)) raised
+pub added : (es : Pairs) (n a i : ℕ) (counts raised : List ℕ) → AreNotes es counts → IsGapFor es n i → More a counts raised
+    → AreNotes (insert es i (n, a)) raised
 added es n a i counts raised are gap more = record {
   rising = (note_inserted es n a i are.rising gap).rising;
   counted = λ q. omega (arith, more q, are.counted q, count-insert es i n a q);

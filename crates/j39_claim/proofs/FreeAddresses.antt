@@ -1,5 +1,6 @@
 -- What a search of the pool finds.
-use Rattle.std.proofs.Common.{◌≡◌, ℕ, zero, suc, ◌+◌, ◌<◌, ◌≤◌, Bool, true, false, cond, not, ◌&&◌, leb, ltb, refl, sym, ap, ◌∙◌, arith, inl, inr, Option, Some, None}
+use Rattle.std.proofs.Common.{◌≡◌, ℕ, zero, suc, ◌+◌, ◌<◌, ◌≤◌, Bool, true, false, cond, not}
+use Rattle.std.proofs.Common.{◌&&◌, leb, ltb, refl, sym, ap, ◌∙◌, arith, inl, inr, Option, Some, None}
 use Rattle.std.proofs.lemmas.Bool.{true≢false, cases_eq, and_from, and_parts, le-leb, leb-true, not-true}
 use Rattle.std.proofs.lemmas.List.Sums.{sum_by-cons}
 use Rattle.std.specs.Option.{unwrap_or, MatchOption}
@@ -27,7 +28,8 @@ count_more p k n = sum_by-cons (λ x. cond (p x) 1 0) k (range_with_len (k + 1) 
 one_found : (p : ℕ → Bool) (k n : ℕ) → 0 < count_by p (range_with_len k n) → (b : ℕ) × (find p (range_with_len k n) ≡ Some b)
 one_found p k zero some = absurd (omega arith)
 one_found p k (suc n) some =
-    elim (p k) as (λ e. count_by p (range_with_len k (suc n)) ≡ cond e 1 0 + count_by p (range_with_len (k + 1) n) → (b : ℕ) × (cond e (Some k) (find p (range_with_len (k + 1) n)) ≡ Some b)) [
+    let rest = range_with_len (k + 1) n in
+    elim (p k) as (λ e. count_by p (range_with_len k (suc n)) ≡ cond e 1 0 + count_by p rest → (b : ℕ) × (cond e (Some k) (find p rest) ≡ Some b)) [
       | true ↦ λ _. (k, refl)
       | false ↦ λ more. one_found p (k + 1) n (omega arith)
     ] (count_more p k n)
@@ -54,11 +56,17 @@ next_free_in before taken some = by (free_above before taken) refl
         record { pool = pooled b low high; free = not-true (contains taken b) free }
 
 -- the same of equal answers
-pub lowest_is_free : (taken : FinSet nat_cmp) (o : Option ℕ) (b : ℕ) → 0 < free_count taken → o ≡ lowest_free taken → b ≡ unwrap_or o 128 → IsFreeIn taken b
+pub lowest_is_free : (taken : FinSet nat_cmp) (o : Option ℕ) (b : ℕ) → 0 < free_count taken → o ≡ lowest_free taken → b ≡ unwrap_or o 128
+    → IsFreeIn taken b
 lowest_is_free taken o b some is same = rw (same, is) (lowest_free_in taken some)
 
-pub next_is_free : (before : ℕ) (taken : FinSet nat_cmp) (o : Option ℕ) (b : ℕ) → 0 < free_count taken → o ≡ next_free before taken → b ≡ unwrap_or o 128 → IsFreeIn taken b
+pub next_is_free : (before : ℕ) (taken : FinSet nat_cmp) (o : Option ℕ) (b : ℕ) → 0 < free_count taken → o ≡ next_free before taken
+    → b ≡ unwrap_or o 128 → IsFreeIn taken b
 next_is_free before taken o b some is same = rw (same, is) (next_free_in before taken some)
+
+taken_if : (x : Bool) → not x ≡ false → x ≡ true
+taken_if true e = refl
+taken_if false e = absurd (true≢false e)
 
 -- where none is free, each address of the pool is taken
 pub none_free : (taken : FinSet nat_cmp) → free_count taken ≡ 0 → (b : ℕ) → in_pool b ≡ true → contains taken b ≡ true
@@ -67,14 +75,11 @@ none_free taken none b pooled_b =
     let parts = and_parts (leb 128 b) (leb b 247) pooled_b in
     taken_if (contains taken b) (go 128 120 none (leb-true 128 b parts.0) (omega (arith, leb-true b 247 parts.1)))
   where
-    taken_if : (x : Bool) → not x ≡ false → x ≡ true
-    taken_if true e = refl
-    taken_if false e = absurd (true≢false e)
-
     go : (k n : ℕ) → count_by (is_free taken) (range_with_len k n) ≡ 0 → k ≤ b → b < k + n → is_free taken b ≡ false
     go k zero e low high = absurd (omega arith)
     go k (suc n) e low high =
-        elim (is_free taken k) as (λ t. is_free taken k ≡ t → count_by (is_free taken) (range_with_len k (suc n)) ≡ cond t 1 0 + count_by (is_free taken) (range_with_len (k + 1) n) → is_free taken b ≡ false) [
+        let p = is_free taken in
+        elim (p k) as (λ t. p k ≡ t → count_by p (range_with_len k (suc n)) ≡ cond t 1 0 + count_by p (range_with_len (k + 1) n) → p b ≡ false) [
           | true ↦ λ _ h. absurd (omega arith)
           | false ↦ λ here h. elim (cases_eq k b) [
             | inl same ↦ ap (is_free taken) (sym same) ∙ here
@@ -105,10 +110,6 @@ fails_all p k (suc n) is a low high =
       ]
     ] refl is
 
-taken_if : (x : Bool) → not x ≡ false → x ≡ true
-taken_if true e = refl
-taken_if false e = absurd (true≢false e)
-
 low_of : (a : ℕ) → in_pool a ≡ true → 128 ≤ a
 low_of a is = leb-true 128 a (and_parts (leb 128 a) (leb a 247) is).0
 
@@ -117,7 +118,9 @@ unfolding lowest_free
 lowest_is_least taken = by (lowest_free taken) refl
   where
     by : (o : Option ℕ) → lowest_free taken ≡ o → MatchOption o ((a : ℕ) → in_pool a ≡ true → contains taken a ≡ true) (IsLeastFree taken)
-    by None is = λ a pooled_a. taken_if (contains taken a) (fails_all (is_free taken) 128 120 is a (low_of a pooled_a) (omega (arith, leb-true a 247 (and_parts (leb 128 a) (leb a 247) pooled_a).1)))
+    by None is = λ a pooled_a.
+        let high = leb-true a 247 (and_parts (leb 128 a) (leb a 247) pooled_a).1 in
+        taken_if (contains taken a) (fails_all (is_free taken) 128 120 is a (low_of a pooled_a) (omega (arith, high)))
     by (Some b) is =
         let (low, high, free) = found (is_free taken) 128 120 b is in
         record {

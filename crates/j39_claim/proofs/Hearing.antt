@@ -1,5 +1,6 @@
 -- What a unit does by a lawful pick follows the claim rule.
-use Rattle.std.proofs.Common.{◌≡◌, ℕ, ◌<◌, Bool, true, false, cond, ◌&&◌, ◌||◌, ◌⊎◌, inl, inr, ltb, refl, sym, ap, ◌∙◌, arith, Option, Some, None}
+use Rattle.std.proofs.Common.{◌≡◌, ℕ, ◌<◌, Bool, true, false, cond, ◌&&◌, ◌||◌, ◌⊎◌}
+use Rattle.std.proofs.Common.{inl, inr, ltb, refl, sym, ap, ◌∙◌, arith, Option, Some, None}
 use Rattle.std.proofs.lemmas.Bool.{true≢false, ltb-false, ltb-true, eqb-true, lt-ltb}
 use Rattle.std.specs.Option.{IfSome}
 use Rattle.std.specs.Bool.{MatchBool}
@@ -18,7 +19,8 @@ use Rattle.j39_claim.proofs.FreeAddresses.{none_free}
 use Rattle.j39_claim.proofs.NotedAddresses.{noted_in, noted_by_one}
 
 -- an address that is neither noted nor kept is free
-neither : (c : PlannedUnit) (notes : FinMap nat_cmp ℕ) (b : ℕ) → (set.contains (noted_addresses notes) b || set.contains c.kept b) ≡ set.contains (taken_for c notes) b
+neither : (c : PlannedUnit) (notes : FinMap nat_cmp ℕ) (b : ℕ)
+    → (set.contains (noted_addresses notes) b || set.contains c.kept b) ≡ set.contains (taken_for c notes) b
 neither c notes b = sym (set.contains-union nat_cmp_total (noted_addresses notes) c.kept b)
 
 free : (c : PlannedUnit) (s : ClaimState) (b : ℕ) → IsFreeIn (taken_for c s.notes) b → IsFree c s b
@@ -48,7 +50,9 @@ module _ (pick : Pick) (c : PlannedUnit) (s : ClaimState) (lost : ℕ) where
       arbitrary true y e = refl
       arbitrary false y e = absurd (cc)
   loses None is lawful = inr (
-    λ may b can. let none : free_count (taken_for c s.notes) ≡ 0 = omega (arith, ltb-false 0 (free_count (taken_for c s.notes)) (no_room (is_arbitrary c.name) (ltb 0 (free_count (taken_for c s.notes))) is may)) in
+    λ may b can.
+        let room = free_count (taken_for c s.notes) in
+        let none : room ≡ 0 = omega (arith, ltb-false 0 room (no_room (is_arbitrary c.name) (ltb 0 room) is may)) in
         not_free c s b (none_free (taken_for c s.notes) none b can.pool) can,
     refl,
     refl,
@@ -71,12 +75,18 @@ follows pick c s n a lawful = held (holds_address s.address a) refl (ltb n c.nam
     after : Bool → Bool → Option ℕ
     after x y = cond (x && y) (moved_to pick c.name a (taken_for c (insert s.notes n a))) s.address
 
+    answer : Bool → Bool → Option Say
+    answer x y = cond x (Some (claim_of (after x y))) None
+
+    left : Bool → Bool → ClaimState
+    left x y = record noted { address = after x y }
+
     held : (x : Bool) → holds_address s.address a ≡ x → (y : Bool) → ltb n c.name ≡ y
         → MatchBool x
         (MatchBool y
-        (Moves c noted (cond x (Some (claim_of (after x y))) None) (record noted { address = after x y }) ⊎ GivesUp c noted (cond x (Some (claim_of (after x y))) None) (record noted { address = after x y }))
-        ((cond x (Some (claim_of (after x y))) None ≡ Some (Claim a)) × (◌≡◌ {A = ClaimState} (record noted { address = after x y }) noted)))
-        ((cond x (Some (claim_of (after x y))) None ≡ None) × (◌≡◌ {A = ClaimState} (record noted { address = after x y }) noted))
+        (Moves c noted (answer x y) (left x y) ⊎ GivesUp c noted (answer x y) (left x y))
+        ((answer x y ≡ Some (Claim a)) × (left x y ≡ noted)))
+        ((answer x y ≡ None) × (left x y ≡ noted))
     held true holds true smaller = loses pick c noted a _ refl (lawful (ltb-true n c.name smaller))
     held true holds false larger = (ap (λ o. Some (claim_of o)) (is_held s.address holds), refl)
       where
@@ -93,7 +103,8 @@ pub heard : (pick : Pick) (c : PlannedUnit) (s : ClaimState) (n a : ℕ) (says :
 heard pick c s n a says new inside said left lawful = rw (said, left, lt-ltb a 254 inside) (follows pick c s n a lawful)
 
 -- the same move, said of equal things
-pub same_move : (pick : Pick) (name name' lost lost' : ℕ) (taken taken' : FinSet nat_cmp) → IsFreeMove pick name lost taken → name ≡ name' → lost ≡ lost' → taken ≡ taken'
+pub same_move : (pick : Pick) (name name' lost lost' : ℕ) (taken taken' : FinSet nat_cmp) → IsFreeMove pick name lost taken → name ≡ name'
+    → lost ≡ lost' → taken ≡ taken'
     → IsFreeMove pick name' lost' taken'
 same_move pick name name' lost lost' taken taken' move e f h =
     rw (sym e, sym f, sym h) move
@@ -107,6 +118,7 @@ free_move pick lawful name lost taken = by (is_arbitrary name) (ltb 0 (free_coun
     by true false h = tt
     by false y h = tt
 
-pub lawful_follows : (pick : Pick) → IsLawful pick → (c : PlannedUnit) (s : ClaimState) (n : ℕ) (say : Say) → Hears c s n say (said_after pick c s n say) (state_after pick c s n say)
+pub lawful_follows : (pick : Pick) → IsLawful pick → (c : PlannedUnit) (s : ClaimState) (n : ℕ) (say : Say)
+    → Hears c s n say (said_after pick c s n say) (state_after pick c s n say)
 lawful_follows pick lawful c s n (Claim a) = follows pick c s n a (λ _. free_move pick lawful c.name a (taken_for c (insert s.notes n a)))
 lawful_follows pick lawful c s n Cannot = (refl, refl)

@@ -1,5 +1,6 @@
 -- The addresses that are noted, and at whose NAMEs.
-use Rattle.std.proofs.Common.{◌≡◌, ℕ, ◌+◌, true, false, cond, ◌&&◌, ◌||◌, T, eqb, ltb, List, [], ◌∷◌, get_or, refl, sym, ap, ◌∙◌, arith, Some, None}
+use Rattle.std.proofs.Common.{◌≡◌, ℕ, ◌+◌, true, false, cond, ◌&&◌, ◌||◌, T, eqb, ltb}
+use Rattle.std.proofs.Common.{List, [], ◌∷◌, get_or, refl, sym, ap, ◌∙◌, arith, Some, None}
 use Rattle.std.proofs.Common.{map as map_list}
 use Rattle.std.proofs.lemmas.Bool.{true≢false, or_left, or_right, eqb-true, eq-eqb, lt-ltb}
 use Rattle.std.proofs.lemmas.List.Sums.{sum_by-cons}
@@ -29,7 +30,8 @@ counted_any q (e ∷ es) =
       | false ↦ ap (ltb 0) (let e : 0 + count_at es q ≡ count_at es q = omega arith in e) ∙ counted_any q es
     ]
 
-pub noted_are : (noted : FinSet nat_cmp) (es : Pairs) (counts : List ℕ) → AreNotes es counts → ((q : ℕ) → set.contains noted q ≡ ltb 0 (get_or counts q 0)) → noted ≡ noted_addresses (map_of es)
+pub noted_are : (noted : FinSet nat_cmp) (es : Pairs) (counts : List ℕ) → AreNotes es counts
+    → ((q : ℕ) → set.contains noted q ≡ ltb 0 (get_or counts q 0)) → noted ≡ noted_addresses (map_of es)
 noted_are noted es counts are each = set.same_set nat_cmp_total nat_cmp-IsAntisymmetric _ _ (λ q.
     each q ∙ ap (ltb 0) (are.counted q) ∙ counted_any q es
     ∙ ap (λ l. list_any (λ y. eqb y q) (addresses l)) (sym (map.entries-from_sorted nat_cmp es are.rising))
@@ -39,7 +41,8 @@ noted_are noted es counts are each = set.same_set nat_cmp_total nat_cmp-IsAntisy
 found_any : (es : Pairs) (n b : ℕ) → find nat_cmp n es ≡ Some b → list_any (λ y. eqb y b) (addresses es) ≡ true
 found_any [] n b is = absurd (cc)
 found_any (e ∷ es) n b is =
-    elim (eq_by_cmp nat_cmp n e.0) as (λ t. cond t (Some e.1) (find nat_cmp n es) ≡ Some b → (eqb e.1 b || list_any (λ y. eqb y b) (addresses es)) ≡ true) [
+    let among = list_any (λ y. eqb y b) (addresses es) in
+    elim (eq_by_cmp nat_cmp n e.0) as (λ t. cond t (Some e.1) (find nat_cmp n es) ≡ Some b → (eqb e.1 b || among) ≡ true) [
       | true ↦ λ h. let same : e.1 ≡ b = cc in or_left (eqb e.1 b) _ (eq-eqb e.1 b same)
       | false ↦ λ h. or_right (eqb e.1 b) _ (found_any es n b h)
     ] is
@@ -54,11 +57,15 @@ below_none x (e ∷ es) h =
       | Greater ↦ λ none. absurd none
     ] h
 
-any_found : (es : Pairs) (b : ℕ) → T (is_sorted nat_cmp es) → list_any (λ y. eqb y b) (addresses es) ≡ true → (n : ℕ) × (find nat_cmp n es ≡ Some b)
+any_found : (es : Pairs) (b : ℕ) → T (is_sorted nat_cmp es) → list_any (λ y. eqb y b) (addresses es) ≡ true
+    → (n : ℕ) × (find nat_cmp n es ≡ Some b)
 any_found [] b sorted h = absurd (true≢false (sym h))
 any_found (e ∷ es) b sorted h =
-    elim (eqb e.1 b) as (λ t. eqb e.1 b ≡ t → (t || list_any (λ y. eqb y b) (addresses es)) ≡ true → (n : ℕ) × (find nat_cmp n (e ∷ es) ≡ Some b)) [
-      | true ↦ λ same _. (e.0, ap (λ t. cond t (Some e.1) (find nat_cmp e.0 es)) (unsigned_tied e.0 e.0 ∙ eq-eqb e.0 e.0 refl) ∙ ap Some (eqb-true e.1 b same))
+    let among = list_any (λ y. eqb y b) (addresses es) in
+    elim (eqb e.1 b) as (λ t. eqb e.1 b ≡ t → (t || among) ≡ true → (n : ℕ) × (find nat_cmp n (e ∷ es) ≡ Some b)) [
+      | true ↦ λ same _.
+          let first = ap (λ t. cond t (Some e.1) (find nat_cmp e.0 es)) (unsigned_tied e.0 e.0 ∙ eq-eqb e.0 e.0 refl) in
+          (e.0, first ∙ ap Some (eqb-true e.1 b same))
       | false ↦ λ _ more. let (n, is) = any_found es b (tail_part e.0 es es sorted) more in (
         n,
         elim (eq_by_cmp nat_cmp n e.0) as (λ t. eq_by_cmp nat_cmp n e.0 ≡ t → cond t (Some e.1) (find nat_cmp n es) ≡ Some b) [

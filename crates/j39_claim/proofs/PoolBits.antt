@@ -1,9 +1,12 @@
 -- Words whose bits say which addresses of the pool pass.
-use Rattle.std.proofs.Common.{◌≡◌, ◌≢◌, ℕ, zero, suc, ◌+◌, ◌-◌, ◌*◌, ◌/◌, ◌%◌, ◌^◌, ◌<◌, ◌≤◌, bit_and, Bool, true, false, cond, ◌&&◌, ltb, List, [], ◌∷◌, ◌++◌, min, refl, sym, ap, ◌∙◌, pow_mono, arith, inl, inr, Option, Some, None}
+use Rattle.std.proofs.Common.{◌≡◌, ◌≢◌, ℕ, zero, suc, ◌+◌, ◌-◌, ◌*◌, ◌/◌, ◌%◌, ◌^◌}
+use Rattle.std.proofs.Common.{◌<◌, ◌≤◌, bit_and, Bool, true, false, cond, ◌&&◌, ltb, List, [], ◌∷◌}
+use Rattle.std.proofs.Common.{◌++◌, min, refl, sym, ap, ◌∙◌, pow_mono, arith, inl, inr, Option, Some, None}
 use Rattle.std.proofs.lemmas.Bool.{cases_lt, lt-ltb, le-ltb}
 use Rattle.std.proofs.lemmas.List.Sums.{sum_by-cons, sum_by-append}
 use Rattle.std.proofs.lemmas.Nat.{and_le_l, ones_le_self}
-use Rattle.std.proofs.lemmas.Nat.Bits.{bit_at_lowest, bit_at-suc, bit_at-zero, bit_at_and, bit_at_ones, bit_at_above, bit_at-trailing_zeros, bit_at_mask_inside, bit_at_mask_below, ones_shl}
+use Rattle.std.proofs.lemmas.Nat.Bits.{bit_at_lowest, bit_at-suc, bit_at-zero, bit_at_and, bit_at_ones, bit_at_above}
+use Rattle.std.proofs.lemmas.Nat.Bits.{bit_at-trailing_zeros, bit_at_mask_inside, bit_at_mask_below, ones_shl}
 use Rattle.std.specs.Int.RustNames.{count_ones}
 use Rattle.std.proofs.Math.Nat.{pow-suc}
 use Rattle.std.specs.List.{find, count_by, range_with_len}
@@ -59,7 +62,8 @@ ones_count p k (suc n) w h =
     ones_step w ∙ (λ i. here i + ones_count p (k + 1) n (w / 2) (half p k n w h) i) ∙ sym (sum_by-cons (λ a. cond (p a) 1 0) k (range_with_len (k + 1) n))
 
 -- where the first that passes is
-find_first : (p : ℕ → Bool) (k n t : ℕ) → t < n → p (k + t) ≡ true → ((i : ℕ) → i < t → p (k + i) ≡ false) → find p (range_with_len k n) ≡ Some (k + t)
+find_first : (p : ℕ → Bool) (k n t : ℕ) → t < n → p (k + t) ≡ true → ((i : ℕ) → i < t → p (k + i) ≡ false)
+    → find p (range_with_len k n) ≡ Some (k + t)
 find_first p k zero t inside here before = absurd (omega arith)
 find_first p k (suc n) zero inside here before =
     let e : k + 0 ≡ k = omega arith in
@@ -68,7 +72,8 @@ find_first p k (suc n) (suc t) inside here before =
     let e : k + 0 ≡ k = omega arith in
     let f : k + suc t ≡ k + 1 + t = omega arith in
     ap (λ b. cond b (Some k) (find p (range_with_len (k + 1) n))) (ap p (sym e) ∙ before 0 (omega arith))
-    ∙ find_first p (k + 1) n t (omega arith) (ap p (sym f) ∙ here) (λ i below. let g : k + suc i ≡ k + 1 + i = omega arith in ap p (sym g) ∙ before (suc i) (omega arith))
+    ∙ find_first p (k + 1) n t (omega arith) (ap p (sym f) ∙ here)
+    (λ i below. let g : k + suc i ≡ k + 1 + i = omega arith in ap p (sym g) ∙ before (suc i) (omega arith))
     ∙ ap Some (sym f)
 
 find_none : (p : ℕ → Bool) (k n : ℕ) → ((i : ℕ) → i < n → p (k + i) ≡ false) → find p (range_with_len k n) ≡ None
@@ -86,13 +91,15 @@ lowest_found p k n w fits h some =
       | inl below ↦ below
       | inr above ↦ absurd (omega (arith, bit_at_above w n t h.below above))
     ] in
-    find_first p k n t inside (digit-true (p (k + t)) (sym (h.bits t inside) ∙ set)) (λ i below. digit-false (p (k + i)) (sym (h.bits i (omega arith)) ∙ clear i below))
+    find_first p k n t inside (digit-true (p (k + t)) (sym (h.bits t inside) ∙ set))
+    (λ i below. digit-false (p (k + i)) (sym (h.bits i (omega arith)) ∙ clear i below))
   where
     wide : 2 ^ n ≤ 2 ^ 64
     wide = pow_mono fits
 
 none_set : (p : ℕ → Bool) (k n w : ℕ) → HasBits p k n w → w ≡ 0 → find p (range_with_len k n) ≡ None
-none_set p k n w h zero_word = find_none p k n (λ i inside. digit-false (p (k + i)) (sym (h.bits i inside) ∙ ap (λ v. bit_at v i) zero_word ∙ bit_at-zero i))
+none_set p k n w h zero_word =
+    find_none p k n (λ i inside. digit-false (p (k + i)) (sym (h.bits i inside) ∙ ap (λ v. bit_at v i) zero_word ∙ bit_at-zero i))
 
 -- the pool is the places of two words
 pool_is : pool ≡ range_with_len 128 64 ++ range_with_len 192 56
@@ -122,7 +129,8 @@ least_low p low high h some =
     ap (find p) pool_is ∙ find-append p (range_with_len 128 64) (range_with_len 192 56)
     ∙ ap (λ o. or_else o (find p (range_with_len 192 56))) (lowest_found p 128 64 low (omega arith) h.low (omega arith))
 
-pub least_high : (p : ℕ → Bool) (low high : ℕ) → ArePassing p low high → low ≡ 0 → high ≢ 0 → least_in_pool p ≡ Some (192 + trailing_zeros w64 high)
+pub least_high : (p : ℕ → Bool) (low high : ℕ) → ArePassing p low high → low ≡ 0 → high ≢ 0
+    → least_in_pool p ≡ Some (192 + trailing_zeros w64 high)
 unfolding least_in_pool
 least_high p low high h none some =
     ap (find p) pool_is ∙ find-append p (range_with_len 128 64) (range_with_len 192 56)
@@ -148,7 +156,8 @@ unfolding free_above least_in_pool
 free_above_is before taken = refl
 
 -- the addresses above one alone
-masked : (p : ℕ → Bool) (address k n w mask : ℕ) → n ≤ 64 → HasBits p k n w → ((i : ℕ) → i < 64 → bit_at mask i ≡ from_bool (ltb address (k + i))) → HasBits (is_above address p) k n (bit_and w mask)
+masked : (p : ℕ → Bool) (address k n w mask : ℕ) → n ≤ 64 → HasBits p k n w
+    → ((i : ℕ) → i < 64 → bit_at mask i ≡ from_bool (ltb address (k + i))) → HasBits (is_above address p) k n (bit_and w mask)
 masked p address k n w mask fits h above = record {
   below = omega (arith, and_le_l w mask, h.below);
   bits = λ i inside. bit_at_and w mask i ∙ (λ j. min (h.bits i inside j) (above i (omega arith) j)) ∙ digit-and (ltb address (k + i)) (p (k + i));
@@ -170,7 +179,8 @@ all_above address first i below inside = bit_at_ones 64 i inside ∙ ap from_boo
 pub none_above : (address first i : ℕ) → first + 63 ≤ address → i < 64 → bit_at 0 i ≡ from_bool (ltb address (first + i))
 none_above address first i past inside = bit_at-zero i ∙ ap from_bool (sym (le-ltb address (first + i) (omega arith)))
 
-pub some_above : (address first k i : ℕ) → address + 1 ≡ first + k → k < 64 → i < 64 → bit_at ((2 ^ 64 - 1) * 2 ^ k % 2 ^ 64) i ≡ from_bool (ltb address (first + i))
+pub some_above : (address first k i : ℕ) → address + 1 ≡ first + k → k < 64 → i < 64
+    → bit_at ((2 ^ 64 - 1) * 2 ^ k % 2 ^ 64) i ≡ from_bool (ltb address (first + i))
 some_above address first k i is fits inside = ap (λ m. bit_at m i) (ones_shl 64 k (omega arith)) ∙ elim (cases_lt i k) [
   | inl below ↦ bit_at_mask_below k 64 i below ∙ ap from_bool (sym (le-ltb address (first + i) (omega arith)))
   | inr above ↦ bit_at_mask_inside k 64 i above inside ∙ ap from_bool (sym (lt-ltb address (first + i) (omega arith)))

@@ -1,5 +1,7 @@
 -- Notes in rising order of NAME: what a search finds among them, and what an edit at that place makes of the map.
-use Rattle.std.proofs.Common.{◌≡◌, ◌≢◌, ℕ, zero, suc, ◌-◌, ◌<◌, ◌≤◌, Bool, true, false, cond, not, ◌&&◌, ◌||◌, T, eqb, ltb, List, [], ◌∷◌, length, set, Option, Some, None, Result, Ok, Err, IfOk, IfErr, is_ok, is_some, refl, sym, ap, ◌∙◌, subst, arith, inl, inr}
+use Rattle.std.proofs.Common.{◌≡◌, ◌≢◌, ℕ, zero, suc, ◌-◌, ◌<◌, ◌≤◌, Bool, true, false, cond, not}
+use Rattle.std.proofs.Common.{◌&&◌, ◌||◌, T, eqb, ltb, List, [], ◌∷◌, length, set, Option, Some, None, Result, Ok}
+use Rattle.std.proofs.Common.{Err, IfOk, IfErr, is_ok, is_some, refl, sym, ap, ◌∙◌, subst, arith, inl, inr}
 use Rattle.std.proofs.Math.ListN.{length-set}
 use Rattle.std.specs.List.{insert, remove, refill}
 use Rattle.std.specs.List.Sorted.{IsSearchInRange, IsBinarySearchResult, IsNonDecreasingBy}
@@ -56,7 +58,8 @@ pub record Searched (es : Pairs) (n : ℕ) (r : Result ℕ ℕ) : Type 0 where
   pub found : IfOk r (IsAt es n)
   pub absent : IfErr r (IsGapFor es n)
 
-pub searched : (es : Pairs) (n : ℕ) (r : Result ℕ ℕ) → T (is_sorted nat_cmp es) → IsSearchInRange r (length es) → IsBinarySearchResult (λ pair. nat_cmp pair.0 n) es r → Searched es n r
+pub searched : (es : Pairs) (n : ℕ) (r : Result ℕ ℕ) → T (is_sorted nat_cmp es) → IsSearchInRange r (length es)
+    → IsBinarySearchResult (λ pair. nat_cmp pair.0 n) es r → Searched es n r
 searched es n (Ok i) sorted in_range equal = record { found = record { in_range = in_range; is_name = ranked _ n _ (sym (equal (0, 0))) }; absent = tt }
 searched es n (Err i) sorted in_range parted =
     let rise : IsNonDecreasingBy (λ pair. ordering_index (nat_cmp pair.0 n)) es =
@@ -87,7 +90,8 @@ insert_is_put : (es : Pairs) (n a i : ℕ) → IsGapFor es n i → insert es i (
 insert_is_put [] n a zero gap = refl
 insert_is_put [] n a (suc i) gap = absurd (omega (arith, gap.in_range))
 insert_is_put (e ∷ es) n a zero gap =
-    ap (λ o. by_order o ((n, a) ∷ e ∷ es) ((e.0, a) ∷ es) (e ∷ put nat_cmp n a es)) (nat_cmp_is n e.0 Less (gap.greater_after 0 (omega arith) (omega arith)))
+    let before = gap.greater_after 0 (omega arith) (omega arith) in
+    ap (λ o. by_order o ((n, a) ∷ e ∷ es) ((e.0, a) ∷ es) (e ∷ put nat_cmp n a es)) (nat_cmp_is n e.0 Less before)
 insert_is_put (e ∷ es) n a (suc i) gap =
     ap (λ l. e ∷ l) (insert_is_put es n a i (record {
       in_range = omega (arith, gap.in_range);
@@ -112,7 +116,8 @@ all_others n (e ∷ es) apart =
 remove_is_others : (es : Pairs) (n i : ℕ) → T (is_sorted nat_cmp es) → IsAt es n i → remove es i ≡ others n es
 remove_is_others [] n i sorted at = absurd (omega (arith, at.in_range))
 remove_is_others (e ∷ es) n zero sorted at =
-    let above : (j : ℕ) → j < length es → n ≢ name_at es j = λ j inside same. omega (arith, below_at e.0 es (head_part e.0 es es sorted) j inside, at.is_name) in
+    let above : (j : ℕ) → j < length es → n ≢ name_at es j =
+    λ j inside same. omega (arith, below_at e.0 es (head_part e.0 es es sorted) j inside, at.is_name) in
     let tied : eq_by_cmp nat_cmp n e.0 ≡ true = unsigned_tied n e.0 ∙ eq-eqb n e.0 (sym at.is_name) in
     sym (ap (λ b. cond (not b) (e ∷ others n es) (others n es)) tied ∙ all_others n es above)
 remove_is_others (e ∷ es) n (suc i) sorted at =
@@ -133,7 +138,8 @@ put_became es n a sorted =
     let still = is_sorted-put nat_cmp nat_cmp_total n a es sorted in
     record {
       rising = still;
-      map = map.same_entries_map _ _ (map.entries-from_sorted nat_cmp (put nat_cmp n a es) still ∙ ap (put nat_cmp n a) (sym (map.entries-from_sorted nat_cmp es sorted)) ∙ sym (map.entries-insert nat_cmp_total (map_of es) n a));
+      map = map.same_entries_map _ _ (map.entries-from_sorted nat_cmp (put nat_cmp n a es) still
+          ∙ ap (put nat_cmp n a) (sym (map.entries-from_sorted nat_cmp es sorted)) ∙ sym (map.entries-insert nat_cmp_total (map_of es) n a));
     }
 
 others_became : (es : Pairs) (n : ℕ) → T (is_sorted nat_cmp es) → Became (others n es) (map.remove (map_of es) n)
@@ -143,7 +149,8 @@ others_became es n sorted =
       rising = still;
       map = map.same_map nat_cmp_total nat_cmp-IsAntisymmetric _ _ (λ q.
           map.get-from_sorted nat_cmp (others n es) q still
-          ∙ find-where_key nat_cmp (λ x. not (eq_by_cmp nat_cmp n x)) q (λ x tie. ap (λ y. not (eq_by_cmp nat_cmp n y)) (sym (nat_cmp-IsAntisymmetric q x tie))) es
+          ∙ find-where_key nat_cmp (λ x. not (eq_by_cmp nat_cmp n x)) q
+          (λ x tie. ap (λ y. not (eq_by_cmp nat_cmp n y)) (sym (nat_cmp-IsAntisymmetric q x tie))) es
           ∙ flip (eq_by_cmp nat_cmp n q) (eq_by_cmp nat_cmp q n) (find nat_cmp q es) (unsigned_tied n q ∙ either n q ∙ sym (unsigned_tied q n))
           ∙ ap (cond (eq_by_cmp nat_cmp q n) None) (sym (map.get-from_sorted nat_cmp es q sorted))
           ∙ sym (map.get-remove nat_cmp_total (map_of es) n q));
@@ -191,7 +198,8 @@ find_at (e ∷ es) n (suc i) at = elim (eq_by_cmp nat_cmp n e.0) as (λ b. is_so
   | false ↦ find_at es n i (record { in_range = omega (arith, at.in_range); is_name = at.is_name })
 ]
 
-pub is_noted : (es : Pairs) (n : ℕ) (r : Result ℕ ℕ) → T (is_sorted nat_cmp es) → IfOk r (IsAt es n) → IfErr r (IsGapFor es n) → is_some (map.get (map_of es) n) ≡ is_ok r
+pub is_noted : (es : Pairs) (n : ℕ) (r : Result ℕ ℕ) → T (is_sorted nat_cmp es) → IfOk r (IsAt es n) → IfErr r (IsGapFor es n)
+    → is_some (map.get (map_of es) n) ≡ is_ok r
 is_noted es n (Ok i) sorted at none = ap is_some (map.get-from_sorted nat_cmp es n sorted) ∙ find_at es n i at
 is_noted es n (Err i) sorted none gap = ap is_some (map.get-from_sorted nat_cmp es n sorted ∙ find_gap es n i gap)
 
@@ -202,18 +210,22 @@ pub no_notes : map_of [] ≡ map.empty
 no_notes = map.empty_of_len (map_of []) (len_notes [] tt)
 
 -- there is room for a note
-pub room : (es xs : Pairs) (n : ℕ) (m : FinMap nat_cmp ℕ) (r : Result ℕ ℕ) → xs ≡ es → map_of es ≡ m → T (is_sorted nat_cmp es) → IfOk r (IsAt xs n) → IfErr r (IsGapFor xs n)
+pub room : (es xs : Pairs) (n : ℕ) (m : FinMap nat_cmp ℕ) (r : Result ℕ ℕ) → xs ≡ es → map_of es ≡ m → T (is_sorted nat_cmp es)
+    → IfOk r (IsAt xs n) → IfErr r (IsGapFor xs n)
     → can_note m n ≡ (is_ok r || ltb (length es) 128)
 room es xs n m r same is sorted at gap =
-    ap (λ k. can_note k n) (sym is)
-    ∙ (λ i. is_noted es n r sorted (subst (λ l. IfOk r (IsAt l n)) same at) (subst (λ l. IfErr r (IsGapFor l n)) same gap) i || ltb (len_notes es sorted i) 128)
+    let noted = is_noted es n r sorted (subst (λ l. IfOk r (IsAt l n)) same at) (subst (λ l. IfErr r (IsGapFor l n)) same gap) in
+    ap (λ k. can_note k n) (sym is) ∙ (λ i. noted i || ltb (len_notes es sorted i) 128)
 
 -- a NAME that is not noted can be taken out
 pub remove_absent : (es : Pairs) (n i : ℕ) → T (is_sorted nat_cmp es) → IsGapFor es n i → map_of es ≡ map.remove (map_of es) n
-remove_absent es n i sorted gap = map.same_map nat_cmp_total nat_cmp-IsAntisymmetric _ _ (λ q. sym (map.get-remove nat_cmp_total (map_of es) n q ∙ by q (eq_by_cmp nat_cmp q n) refl))
+remove_absent es n i sorted gap =
+    map.same_map nat_cmp_total nat_cmp-IsAntisymmetric _ _
+    (λ q. sym (map.get-remove nat_cmp_total (map_of es) n q ∙ by q (eq_by_cmp nat_cmp q n) refl))
   where
     by : (q : ℕ) (b : Bool) → eq_by_cmp nat_cmp q n ≡ b → cond b None (map.get (map_of es) q) ≡ map.get (map_of es) q
-    by q true tied = sym (ap (map.get (map_of es)) (eqb-true q n (sym (unsigned_tied q n) ∙ tied)) ∙ map.get-from_sorted nat_cmp es n sorted ∙ find_gap es n i gap)
+    by q true tied = sym (ap (map.get (map_of es)) (eqb-true q n (sym (unsigned_tied q n) ∙ tied))
+        ∙ map.get-from_sorted nat_cmp es n sorted ∙ find_gap es n i gap)
     by q false apart = refl
 
 -- what a write through the slice leaves

@@ -15,6 +15,9 @@ returns-clause-rule g c =
     let inside : c.args.address < 254 = search rules in
     heard picks c.args.self.now.planned c.args.self.now.state c.args.name c.args.address (Some c.claim_of.result) new inside said left
     (λ smaller. elim c.if-lt.branch [
-      | then-lt w ↦ same_move picks _ _ _ _ _ (taken_for c.args.self.now.planned (insert c.args.self.now.state.notes c.args.name c.args.address)) w.moved_to-self-inside.ensures.free (λ i. (c.self.view_is i).planned.name) c.in-Some.ensures.value (search rules)
+      | then-lt w ↦
+          let taken = taken_for c.args.self.now.planned (insert c.args.self.now.state.notes c.args.name c.args.address) in
+          same_move picks _ _ _ _ _ taken w.moved_to-self-inside.ensures.free (λ i. (c.self.view_is i).planned.name)
+          c.in-Some.ensures.value (search rules)
       | else-lt w ↦ search rules
     ])

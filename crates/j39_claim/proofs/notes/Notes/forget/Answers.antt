@@ -12,7 +12,8 @@ at c = subst (λ l. IsAt l c.args.name c.in-Ok.place) c.as_slice.ensures.value c
 pub invariant_of-self : goal.invariant_of-self
 invariant_of-self c =
     subst (λ l. AreNotes l c.lower.new.self) (sym c.remove-address.ensures.items)
-    (dropped c.self.inside.pairs.items c.args.name c.in-Ok.place _ c.remove-address.result c.self.inside.counts c.lower.new.self c.self.invariant (at c) (ap (λ pair. pair.1) c.remove-address.ensures.value) c.lower.ensures)
+    (dropped c.self.inside.pairs.items c.args.name c.in-Ok.place _ c.remove-address.result c.self.inside.counts c.lower.new.self
+    c.self.invariant (at c) (ap (λ pair. pair.1) c.remove-address.ensures.value) c.lower.ensures)
 
 pub returns-in-Ok : goal.returns-in-Ok
 returns-in-Ok c =
@@ -22,4 +23,5 @@ returns-in-Ok c =
 pub returns-in_default : goal.returns-in_default
 returns-in_default c =
     let gap = subst (λ l. IsGapFor l c.args.name c.in_default.field-0) c.as_slice.ensures.value c.in_default.ensures.absent in
-    sym c.self.view_is ∙ remove_absent c.self.inside.pairs.items c.args.name c.in_default.field-0 c.self.invariant.rising gap ∙ ap (λ m. map.remove m c.args.name) c.self.view_is
+    sym c.self.view_is ∙ remove_absent c.self.inside.pairs.items c.args.name c.in_default.field-0 c.self.invariant.rising gap
+    ∙ ap (λ m. map.remove m c.args.name) c.self.view_is
