@@ -1,5 +1,6 @@
 -- Where there is something to add.
-use Rattle.std.proofs.Common.{◌≡◌, ◌≢◌, ℕ, ◌+◌, ◌-◌, ◌<◌, List, [], ◌∷◌, ◌++◌, Bool, length, get_or, drop, Some, Contains, Result, Ok, Err, IsErrAnd, OnErr, IsOk, append_assoc, refl, sym, ◌∙◌, ap, arith}
+use Rattle.std.proofs.Common.{◌≡◌, ◌≢◌, ℕ, ◌+◌, ◌-◌, ◌<◌, List, [], ◌∷◌, ◌++◌, Bool, length, get_or, drop, Some, Contains}
+use Rattle.std.proofs.Common.{Result, Ok, Err, IsErrAnd, OnErr, IsOk, append_assoc, refl, sym, ◌∙◌, ap, arith}
 use Rattle.std.specs.declared.alloc.AllocError.{AllocError}
 use Rattle.std.specs.List.{slice_get}
 use Rattle.std.proofs.lemmas.Option.{slice_get-get_or}
@@ -21,12 +22,14 @@ some_right [] ys some = some
 some_right (x ∷ xs) ys some = λ none. cc
 
 -- an answer for want of memory
-pub refuses : {A B : Type 0} (Q : AllocError → Type 0) (r : Result A AllocError) (old new more : List B) → IsErrAnd r Q → more ≢ [] → Adds r old new more
+pub refuses : {A B : Type 0} (Q : AllocError → Type 0) (r : Result A AllocError) (old new more : List B) → IsErrAnd r Q → more ≢ []
+    → Adds r old new more
 refuses Q (Ok done) old new more is some = absurd is
 refuses Q (Err e) old new more is some = some
 
 -- some are added, and then what the rest of the search adds
-pub adds_behind : {A B : Type 0} (r : Result A AllocError) (old mid new more rest : List B) → mid ≡ old ++ more → Adds r mid new rest → Adds r old new (more ++ rest)
+pub adds_behind : {A B : Type 0} (r : Result A AllocError) (old mid new more rest : List B)
+    → mid ≡ old ++ more → Adds r mid new rest → Adds r old new (more ++ rest)
 adds_behind (Ok done) old mid new more rest is adds = adds ∙ rw is (append_assoc old more rest)
 adds_behind (Err e) old mid new more rest is adds = some_right more rest adds
 
@@ -57,7 +60,8 @@ pub some_against : {A B : Type 0} (test : A → A → Bool) (make : ℕ → ℕ 
 unfolding each
 some_against test make i x xs j y below less is some =
     let at : j ≡ i + 1 + (j - (i + 1)) = omega arith in
-    some_found (λ k z. found_if (test x z) (make i k)) (i + 1) (drop (i + 1) xs) (j - (i + 1)) j y at (behind i (j - (i + 1)) j xs at ∙ stands_at xs j y less is) some
+    some_found (λ k z. found_if (test x z) (make i k)) (i + 1) (drop (i + 1) xs) (j - (i + 1)) j y at
+    (behind i (j - (i + 1)) j xs at ∙ stands_at xs j y less is) some
 
 pub some_pair : {A B : Type 0} (test : A → A → Bool) (make : ℕ → ℕ → B) (xs : List A) (i : ℕ) (x : A)
     → i < length xs → x ≡ get_or xs i x → after test make xs i x ≢ [] → pairs test make xs ≢ []
@@ -65,14 +69,21 @@ some_pair test make xs i x less is some = rw (pairs_is test make xs) (some_in_ea
 
 -- ---- the whole list
 
-pub on_err : {A : Type 0} (P : Type 0) (Q : AllocError → Type 0) (r : Result A AllocError) → IsErrAnd r Q → P → OnErr r P
+on_err : {A : Type 0} (P : Type 0) (Q : AllocError → Type 0) (r : Result A AllocError) → IsErrAnd r Q → P → OnErr r P
 on_err P Q (Ok done) is holds = absurd is
 on_err P Q (Err e) is holds = holds
 
 -- want of memory tells that something is wrong
-pub answers_clean : {A : Type 0} (plan : Plan) (r : Result A AllocError) → OnErr r (found plan ≢ []) → Clean plan → IsOk r
+answers_clean : {A : Type 0} (plan : Plan) (r : Result A AllocError) → OnErr r (found plan ≢ []) → Clean plan → IsOk r
 answers_clean plan (Ok done) refused clean = refl
 answers_clean plan (Err e) refused clean = absurd (refused (none_from_clean plan clean))
+
+-- a search that wants memory where something is found
+pub wants_memory : {A : Type 0} (plan : Plan) (Q : AllocError → Type 0) (r : Result A AllocError) → IsErrAnd r Q → found plan ≢ []
+    → OnErr r (found plan ≢ []) × (Clean plan → IsOk r)
+wants_memory plan Q r is some =
+    let refused = on_err (found plan ≢ []) Q r is some in
+    (refused, answers_clean plan r refused)
 
 pub units_some : (plan : Plan) → unit_findings plan.keep_free plan.units.items ≢ [] → found plan ≢ []
 unfolding found

@@ -10,7 +10,8 @@ use Rattle.j39_signal.specs.Parts.{SignalParts}
 use Rattle.j39_signal.specs.Places.{WidthFits, IsInside, SharesBit, LaysOut, width_fits}
 use Rattle.j39_plan.specs.declared.plan.Plan.{Plan}
 use Rattle.j39_plan.specs.declared.plan.group_plan.GroupPlan.{GroupPlan}
-use Rattle.j39_plan.specs.declared.checking.finding.Finding.TheVariants.{SameName, SameFixedAddress, TooFewAddresses, BadPgn, SamePgn, SignalWidth, SignalOutside, SignalOverlap, FlowToOne, FlowToSelf, FlowRepeated, KeptAddress}
+use Rattle.j39_plan.specs.declared.checking.finding.Finding.TheVariants.{SameName, SameFixedAddress, TooFewAddresses, BadPgn, SamePgn, SignalWidth}
+use Rattle.j39_plan.specs.declared.checking.finding.Finding.TheVariants.{SignalOutside, SignalOverlap, FlowToOne, FlowToSelf, FlowRepeated, KeptAddress}
 use Rattle.j39_plan.specs.Places.{ValueAt, PairAt}
 use Rattle.j39_plan.specs.Findings.{CannotBePlanned, Clean}
 use Rattle.j39_plan.specs.CleanParts.{CanBePlanned, CleanParts}
@@ -49,26 +50,31 @@ fits s h = elim (cases_Bool (width_fits s.kind s.bits)) [ inl is ↦ is | inr ot
 inside : (n : ℕ) (s : SignalParts) → ¬ (¬ IsInside n s) → IsInside n s
 inside n s h = elim (cases_lt (8 * n) (s.start + s.bits)) [ inl over ↦ absurd (h (λ is. omega arith)) | inr is ↦ is ]
 
-at_group : (plan : Plan) (P : GroupPlan → Type 0) (g : ℕ) (d : GroupPlan) → g < length plan.groups.items → P (get_or plan.groups.items g d) → ValueAt P plan.groups.items g
+at_group : (plan : Plan) (P : GroupPlan → Type 0) (g : ℕ) (d : GroupPlan) → g < length plan.groups.items → P (get_or plan.groups.items g d)
+    → ValueAt P plan.groups.items g
 at_group plan P g d less meets = record { value = get_or plan.groups.items g d; value_is = slice_get-get_or plan.groups.items g d less; meets = meets }
 
-layout : (plan : Plan) → Clean plan → (g : ℕ) (d : GroupPlan) → g < length plan.groups.items → LaysOut (get_or plan.groups.items g d).length (get_or plan.groups.items g d).signals.items
+layout : (plan : Plan) → Clean plan → (g : ℕ) (d : GroupPlan) → g < length plan.groups.items
+    → LaysOut (get_or plan.groups.items g d).length (get_or plan.groups.items g d).signals.items
 layout plan clean g d less =
     let group = get_or plan.groups.items g d in
     record {
       some_bytes = group.length_positive;
       most_bytes = group.length_range;
       widths = λ s e in_group. fits (get_or group.signals.items s e)
-          (none_at (λ signal. ¬ WidthFits signal) group.signals.items (λ k at. clean (SignalWidth g k) (at_group plan _ g d less at)) s e in_group);
+          (none_at (λ signal. ¬ WidthFits signal) group.signals.items
+          (λ k at. clean (SignalWidth g k) (at_group plan _ g d less at)) s e in_group);
       inside = λ s e in_group. inside group.length (get_or group.signals.items s e)
-          (none_at (λ signal. ¬ IsInside group.length signal) group.signals.items (λ k at. clean (SignalOutside g k) (at_group plan _ g d less at)) s e in_group);
+          (none_at (λ signal. ¬ IsInside group.length signal) group.signals.items
+          (λ k at. clean (SignalOutside g k) (at_group plan _ g d less at)) s e in_group);
       apart = no_pair_at SharesBit group.signals.items (λ s t at. clean (SignalOverlap g s t) (at_group plan _ g d less at));
     }
 
 pub parts_of : (plan : Plan) → Clean plan → CleanParts plan
 parts_of plan clean = record {
   names = no_pair_at _ plan.units.items (λ i j. clean (SameName i j));
-  fixed_addresses = λ i j d below less first second same. no_pair_at _ plan.units.items (λ k l. clean (SameFixedAddress k l)) i j d below less (first, second, same);
+  fixed_addresses = λ i j d below less first second same.
+      no_pair_at _ plan.units.items (λ k l. clean (SameFixedAddress k l)) i j d below less (first, second, same);
   addresses = elim (cases_lt (free_count plan.keep_free) _) [ inl more ↦ absurd (clean (TooFewAddresses _) (refl, more)) | inr few ↦ few ];
   not_kept = λ i d less arbitrary. elim (cases_Bool (contains plan.keep_free (get_or plan.units.items i d).address)) [
     | inl kept ↦ absurd (none_at _ plan.units.items (λ k. clean (KeptAddress k)) i d less (arbitrary, kept))

@@ -1,5 +1,6 @@
 -- The run of a conflict is given exactly where there is one.
-use Rattle.std.proofs.Common.{◌≡◌, ◌≢◌, ℕ, ◌<◌, ◌⊎◌, Bool, true, false, if◌then◌else◌, nat_lt, List, Option, Some, None, Decides, refl, sym, ◌∙◌, inl, inr, arith}
+use Rattle.std.proofs.Common.{◌≡◌, ◌≢◌, ℕ, ◌<◌, ◌⊎◌, Bool, true, false, if◌then◌else◌}
+use Rattle.std.proofs.Common.{nat_lt, List, Option, Some, None, Decides, refl, sym, ◌∙◌, inl, inr, arith}
 use Rattle.std.specs.List.{slice_get}
 use Rattle.std.proofs.lemmas.Bool.{cases_Bool}
 use Rattle.std.proofs.lemmas.Bool.Decides.{Decides-eqb, Decides-and, Decides-not, Decides-ltb, not_from_Decides}
@@ -7,10 +8,12 @@ use Rattle.std.proofs.lemmas.Option.{same_Some}
 use Rattle.j39_plan.specs.declared.plan.Plan.{Plan}
 use Rattle.j39_plan.specs.declared.plan.unit_plan.UnitPlan.{UnitPlan}
 use Rattle.j39_plan.specs.declared.checking.finding.Finding.{Finding}
-use Rattle.j39_plan.specs.declared.checking.finding.Finding.TheVariants.{SameName, SameFixedAddress, TooFewAddresses, BadPgn, SamePgn, SignalWidth, SignalOutside, SignalOverlap, FlowToOne, FlowToSelf, FlowRepeated, KeptAddress}
+use Rattle.j39_plan.specs.declared.checking.finding.Finding.TheVariants.{SameName, SameFixedAddress, TooFewAddresses, BadPgn, SamePgn, SignalWidth}
+use Rattle.j39_plan.specs.declared.checking.finding.Finding.TheVariants.{SignalOutside, SignalOverlap, FlowToOne, FlowToSelf, FlowRepeated, KeptAddress}
 use Rattle.j39_plan.specs.declared.steps.Step.{Step}
 use Rattle.j39_plan.specs.Findings.{HaveSameFixedAddress}
-use Rattle.j39_plan.specs.ConflictRuns.{conflict_steps, AreInConflict, TellsOfConflict, IsConflictRun, are_in_conflict, steps_between, run_of_units, run_of_places, conflict_run, RunsAreExact}
+use Rattle.j39_plan.specs.ConflictRuns.{conflict_steps, AreInConflict, TellsOfConflict, IsConflictRun, are_in_conflict}
+use Rattle.j39_plan.specs.ConflictRuns.{steps_between, run_of_units, run_of_places, conflict_run, RunsAreExact}
 use Rattle.j39_plan.proofs.Deciding.{Decides-have_same_fixed_address}
 
 conflict_decides : (u v : UnitPlan) → Decides (are_in_conflict u v) (HaveSameFixedAddress u v × (u.name ≢ v.name))
@@ -29,10 +32,12 @@ larger_of i j u v other = elim (cases_Bool (nat_lt u.name v.name)) [
   | inr above ↦ let h = not_from_Decides (nat_lt u.name v.name) (Decides-ltb u.name v.name) above in inl (omega (arith, h), rw above refl)
 ]
 
-run_of : (plan : Plan) (i j : ℕ) (u v : UnitPlan) (steps : List Step) → slice_get plan.units.items i ≡ Some u → slice_get plan.units.items j ≡ Some v → i < j
+run_of : (plan : Plan) (i j : ℕ) (u v : UnitPlan) (steps : List Step) → slice_get plan.units.items i ≡ Some u → slice_get plan.units.items j ≡ Some v
+    → i < j
     → HaveSameFixedAddress u v × (u.name ≢ v.name) → steps_between i j u v ≡ steps → IsConflictRun plan (SameFixedAddress i j) steps
 run_of plan i j u v steps first second below apart is =
-    let tells : TellsOfConflict plan (SameFixedAddress i j) = (i, j, refl, record { first = u; second = v; below = below; first_is = first; second_is = second; related = apart }) in
+    let both : AreInConflict plan i j = record { first = u; second = v; below = below; first_is = first; second_is = second; related = apart } in
+    let tells : TellsOfConflict plan (SameFixedAddress i j) = (i, j, refl, both) in
     elim (larger_of i j u v apart.1) [
       | inl (above, e) ↦ record {
         tells = tells;
@@ -52,7 +57,8 @@ run_of plan i j u v steps first second below apart is =
       }
     ]
 
-units_sound : (plan : Plan) (i j : ℕ) (u v : Option UnitPlan) (steps : List Step) → slice_get plan.units.items i ≡ u → slice_get plan.units.items j ≡ v → i < j
+units_sound : (plan : Plan) (i j : ℕ) (u v : Option UnitPlan) (steps : List Step) → slice_get plan.units.items i ≡ u
+    → slice_get plan.units.items j ≡ v → i < j
     → run_of_units i j u v ≡ Some steps → IsConflictRun plan (SameFixedAddress i j) steps
 unfolding run_of_units
 units_sound plan i j None v steps first second below is = cc

@@ -1,5 +1,6 @@
 -- Each test decides its statement.
-use Rattle.std.proofs.Common.{◌≡◌, ℕ, zero, suc, ◌<◌, ◌≤◌, ◌==◌, ◌⊎◌, List, [], ◌∷◌, Bool, true, false, not, nat_le, Option, Some, None, Contains, Decides, refl, sym, ◌∙◌, inl, inr, subst, ◌%◌, arith}
+use Rattle.std.proofs.Common.{◌≡◌, ℕ, zero, suc, ◌<◌, ◌≤◌, ◌==◌, ◌⊎◌, List, [], ◌∷◌, Bool, true, false, not}
+use Rattle.std.proofs.Common.{nat_le, Option, Some, None, Contains, Decides, refl, sym, ◌∙◌, inl, inr, subst, ◌%◌, arith}
 use Rattle.std.specs.List.{slice_get, list_any}
 use Rattle.std.proofs.lemmas.Bool.{false≢true, leb-true, le-leb, cases_lt}
 use Rattle.std.proofs.lemmas.Bool.Decides.{Decides-eqb, Decides-and, Decides-or, Decides-not, Decides-like, Decides-ltb}
@@ -18,8 +19,11 @@ use Rattle.j39_plan.specs.declared.plan.group_plan.GroupPlan.{GroupPlan}
 use Rattle.j39_plan.specs.declared.plan.flow_plan.FlowPlan.{FlowPlan}
 use Rattle.j39_plan.specs.declared.plan.to.To.{To}
 use Rattle.j39_plan.specs.declared.plan.to.To.TheVariants.{All, One}
-use Rattle.j39_plan.specs.Findings.{HaveSameName, HaveSameFixedAddress, PrefersKept, IsProprietary, CannotBePlanned, HasBadPgn, HaveSamePgn, IsOneFrameToAll, CannotGoToOne, GoesToItsSender, AreOneFlow}
-use Rattle.j39_plan.specs.Found.{have_same_name, have_same_fixed_address, prefers_kept, is_proprietary, cannot_be_planned, has_bad_pgn, have_same_pgn, has_other_width, ends_outside, is_one_frame_to_all, is_group_of, is_to_one, is_to, have_same_receiver, cannot_go_to_one, goes_to_its_sender, are_one_flow}
+use Rattle.j39_plan.specs.Findings.{HaveSameName, HaveSameFixedAddress, PrefersKept, IsProprietary, CannotBePlanned}
+use Rattle.j39_plan.specs.Findings.{HasBadPgn, HaveSamePgn, IsOneFrameToAll, CannotGoToOne, GoesToItsSender, AreOneFlow}
+use Rattle.j39_plan.specs.Found.{have_same_name, have_same_fixed_address, prefers_kept, is_proprietary, cannot_be_planned}
+use Rattle.j39_plan.specs.Found.{has_bad_pgn, have_same_pgn, has_other_width, ends_outside, is_one_frame_to_all, is_group_of}
+use Rattle.j39_plan.specs.Found.{is_to_one, is_to, have_same_receiver, cannot_go_to_one, goes_to_its_sender, are_one_flow}
 
 Decides-leb : (a b : ℕ) → Decides (nat_le a b) (a ≤ b)
 Decides-leb a b = (leb-true a b, le-leb a b)
@@ -118,7 +122,8 @@ group_of_decides : (gs : List GroupPlan) (i : ℕ) (o : Option GroupPlan) → sl
     → Decides (is_group_of is_one_frame_to_all o) (ValueAt IsOneFrameToAll gs i)
 group_of_decides gs i None is = (λ e. absurd (false≢true e), λ v. absurd (none-some _ (sym is ∙ v.value_is)))
 group_of_decides gs i (Some g) is =
-    Decides-like _ (λ h. record { value = g; value_is = is; meets = h }) (λ v. subst IsOneFrameToAll (same_Some _ _ (sym v.value_is ∙ is)) v.meets) (one_frame_decides g)
+    Decides-like _ (λ h. record { value = g; value_is = is; meets = h })
+    (λ v. subst IsOneFrameToAll (same_Some _ _ (sym v.value_is ∙ is)) v.meets) (one_frame_decides g)
 
 pub Decides-cannot_go_to_one : (gs : List GroupPlan) (f : FlowPlan) → Decides (cannot_go_to_one gs f) (CannotGoToOne gs f)
 Decides-cannot_go_to_one gs f = Decides-and _ _ (Decides-is_to_one f.to) (group_of_decides gs f.group (slice_get gs f.group) refl)

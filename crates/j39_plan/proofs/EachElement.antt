@@ -1,5 +1,6 @@
 -- The loop over the elements of an array.
-use Rattle.std.proofs.Common.{◌≡◌, ℕ, ◌+◌, List, [], ◌∷◌, ◌++◌, ◌⊎◌, map, Some, inl, inr, refl, subst, ◌∙◌, append_assoc, add-one}
+use Rattle.std.proofs.Common.{◌≡◌, ℕ, ◌+◌, List, [], ◌∷◌, ◌++◌, ◌⊎◌, map}
+use Rattle.std.proofs.Common.{Some, inl, inr, refl, subst, ◌∙◌, append_assoc, add-one}
 use Rattle.std.proofs.lemmas.List.{append-nil, map_push}
 use Rattle.toml.specs.Data.{Data, Items, no_items, item}
 use Rattle.j39_plan.specs.declared.reading.fault.Fault.{Fault}
@@ -8,44 +9,54 @@ use Rattle.j39_plan.specs.Growing.{EachGrows}
 use Rattle.j39_plan.specs.Outcome.{first}
 use Rattle.j39_plan.proofs.FirstFaults.{first-append}
 
+-- How elements are read: the faults of the i-th behind those with some labels, its label, the label of what it tells, where room is
+-- asked for in reading it, and what it tells.
+pub record Reading (T : Type 0) : Type 1 where
+  pub faults : ℕ → List (List ℕ) → Data → List Fault
+  pub label_of : Data → List ℕ
+  pub label_bytes : T → List ℕ
+  pub Grows : ℕ → Data → Type 0
+  pub Tells : Data → T → Type 0
+
 -- What was read so far is what the elements but the last ones tell, and the faults of all are those of the last ones.
-pub record IsRead {T : Type 0} (faults : ℕ → List (List ℕ) → Data → List Fault) (label_of : Data → List ℕ) (label_bytes : T → List ℕ) (Grows : ℕ → Data → Type 0) (Tells : Data → T → Type 0) (i : ℕ) (so_far : List T) (left all : Items) : Type 0 where
-  pub same_faults : each_faults faults label_of 0 [] all ≡ each_faults faults label_of i (map label_bytes so_far) left
-  pub told : (ys : List T) → Each Tells left ys → Each Tells all (so_far ++ ys)
-  pub begun : ((i ≡ 0) × (so_far ≡ []) × (left ≡ all)) ⊎ EachGrows faults Grows all
+pub record IsRead {T : Type 0} (r : Reading T) (i : ℕ) (so_far : List T) (left all : Items) : Type 0 where
+  pub same_faults : each_faults r.faults r.label_of 0 [] all ≡ each_faults r.faults r.label_of i (map r.label_bytes so_far) left
+  pub told : (ys : List T) → Each r.Tells left ys → Each r.Tells all (so_far ++ ys)
+  pub begun : ((i ≡ 0) × (so_far ≡ []) × (left ≡ all)) ⊎ EachGrows r.faults r.Grows all
 
 -- room is asked for behind an element without a fault
-pub grows_behind : {T : Type 0} (faults : ℕ → List (List ℕ) → Data → List Fault) (label_of : Data → List ℕ) (label_bytes : T → List ℕ) (Grows : ℕ → Data → Type 0) (Tells : Data → T → Type 0) (i : ℕ) (so_far : List T) (d : Data) (left all : Items)
-    → IsRead faults label_of label_bytes Grows Tells i so_far (item d left) all → faults i (map label_bytes so_far) d ≡ [] → EachGrows faults Grows all
-grows_behind faults label_of label_bytes Grows Tells i so_far d left all read none = elim read.begun [
-  | inl (at, nothing, same) ↦ subst (EachGrows faults Grows) same (inr (rw (at, nothing) at none))
+grows_behind : {T : Type 0} (r : Reading T) (i : ℕ) (so_far : List T) (d : Data) (left all : Items)
+    → IsRead r i so_far (item d left) all → r.faults i (map r.label_bytes so_far) d ≡ [] → EachGrows r.faults r.Grows all
+grows_behind r i so_far d left all read none = elim read.begun [
+  | inl (at, nothing, same) ↦ subst (EachGrows r.faults r.Grows) same (inr (rw (at, nothing) at none))
   | inr grows ↦ grows
 ]
 
 -- room is asked for in reading an element
-pub grows_inside : {T : Type 0} (faults : ℕ → List (List ℕ) → Data → List Fault) (label_of : Data → List ℕ) (label_bytes : T → List ℕ) (Grows : ℕ → Data → Type 0) (Tells : Data → T → Type 0) (i : ℕ) (so_far : List T) (d : Data) (left all : Items)
-    → IsRead faults label_of label_bytes Grows Tells i so_far (item d left) all → Grows i d → EachGrows faults Grows all
-grows_inside faults label_of label_bytes Grows Tells i so_far d left all read grows = elim read.begun [
-  | inl (at, nothing, same) ↦ subst (EachGrows faults Grows) same (inl (rw at at grows))
+pub grows_inside : {T : Type 0} (r : Reading T) (i : ℕ) (so_far : List T) (d : Data) (left all : Items)
+    → IsRead r i so_far (item d left) all → r.Grows i d → EachGrows r.faults r.Grows all
+grows_inside r i so_far d left all read grows = elim read.begun [
+  | inl (at, nothing, same) ↦ subst (EachGrows r.faults r.Grows) same (inl (rw at at grows))
   | inr more ↦ more
 ]
 
-pub goes_on : {T : Type 0} (faults : ℕ → List (List ℕ) → Data → List Fault) (label_of : Data → List ℕ) (label_bytes : T → List ℕ) (Grows : ℕ → Data → Type 0) (Tells : Data → T → Type 0) (i : ℕ) (so_far : List T) (d : Data) (left all : Items) (x : T)
-    → IsRead faults label_of label_bytes Grows Tells i so_far (item d left) all → faults i (map label_bytes so_far) d ≡ [] → Tells d x → label_bytes x ≡ label_of d
-    → IsRead faults label_of label_bytes Grows Tells (i + 1) (so_far ++ x ∷ []) left all
+pub goes_on : {T : Type 0} (r : Reading T) (i : ℕ) (so_far : List T) (d : Data) (left all : Items) (x : T)
+    → IsRead r i so_far (item d left) all → r.faults i (map r.label_bytes so_far) d ≡ [] → r.Tells d x → r.label_bytes x ≡ r.label_of d
+    → IsRead r (i + 1) (so_far ++ x ∷ []) left all
 unfolding each_faults Each
-goes_on faults label_of label_bytes Grows Tells i so_far d left all x read none tells same = record {
-  same_faults = rw (map_push label_bytes so_far x, same, add-one) (read.same_faults ∙ rw none refl);
+goes_on r i so_far d left all x read none tells same = record {
+  same_faults = rw (map_push r.label_bytes so_far x, same, add-one) (read.same_faults ∙ rw none refl);
   told = λ ys each. rw (append_assoc so_far (x ∷ []) ys) (read.told (x ∷ ys) (tells, each));
-  begun = inr (grows_behind faults label_of label_bytes Grows Tells i so_far d left all read none);
+  begun = inr (grows_behind r i so_far d left all read none);
 }
 
-pub stops_at : {T : Type 0} (faults : ℕ → List (List ℕ) → Data → List Fault) (label_of : Data → List ℕ) (label_bytes : T → List ℕ) (Grows : ℕ → Data → Type 0) (Tells : Data → T → Type 0) (i : ℕ) (so_far : List T) (d : Data) (left all : Items) (f : Fault)
-    → IsRead faults label_of label_bytes Grows Tells i so_far (item d left) all → first (faults i (map label_bytes so_far) d) ≡ Some f → first (each_faults faults label_of 0 [] all) ≡ Some f
+pub stops_at : {T : Type 0} (r : Reading T) (i : ℕ) (so_far : List T) (d : Data) (left all : Items) (f : Fault)
+    → IsRead r i so_far (item d left) all → first (r.faults i (map r.label_bytes so_far) d) ≡ Some f
+    → first (each_faults r.faults r.label_of 0 [] all) ≡ Some f
 unfolding each_faults
-stops_at faults label_of label_bytes Grows Tells i so_far d left all f read here = rw (read.same_faults) (first-append _ _ f here)
+stops_at r i so_far d left all f read here = rw (read.same_faults) (first-append _ _ f here)
 
-pub ends : {T : Type 0} (faults : ℕ → List (List ℕ) → Data → List Fault) (label_of : Data → List ℕ) (label_bytes : T → List ℕ) (Grows : ℕ → Data → Type 0) (Tells : Data → T → Type 0) (i : ℕ) (so_far : List T) (all : Items)
-    → IsRead faults label_of label_bytes Grows Tells i so_far no_items all → (each_faults faults label_of 0 [] all ≡ []) × Each Tells all so_far
+pub ends : {T : Type 0} (r : Reading T) (i : ℕ) (so_far : List T) (all : Items)
+    → IsRead r i so_far no_items all → (each_faults r.faults r.label_of 0 [] all ≡ []) × Each r.Tells all so_far
 unfolding each_faults Each
-ends faults label_of label_bytes Grows Tells i so_far all read = (read.same_faults, subst (Each Tells all) (append-nil so_far) (read.told [] tt))
+ends r i so_far all read = (read.same_faults, subst (Each r.Tells all) (append-nil so_far) (read.told [] tt))

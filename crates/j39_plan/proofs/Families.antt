@@ -1,5 +1,6 @@
 -- What each part of the list of findings has: what holds, in order.
-use Rattle.std.proofs.Common.{◌≡◌, ℕ, ◌<◌, ◌≤◌, nat_lt, List, [], ◌∷◌, ◌++◌, Bool, Some, Contains, Decides, refl, sym, ◌∙◌, ap, subst, inl, inr, arith}
+use Rattle.std.proofs.Common.{◌≡◌, ℕ, ◌<◌, ◌≤◌, nat_lt, List, [], ◌∷◌, ◌++◌, Bool}
+use Rattle.std.proofs.Common.{Some, Contains, Decides, refl, sym, ◌∙◌, ap, subst, inl, inr, arith}
 use Rattle.std.specs.List.{slice_get}
 use Rattle.std.proofs.lemmas.Bool.Decides.{Decides-ltb}
 use Rattle.std.proofs.lemmas.List.Elements.{Contains-append_cases}
@@ -8,14 +9,19 @@ use Rattle.j39_signal.specs.Places.{WidthFits, IsInside, SharesBit, shares_bit}
 use Rattle.j39_plan.specs.declared.plan.Plan.{Plan}
 use Rattle.j39_plan.specs.declared.plan.group_plan.GroupPlan.{GroupPlan}
 use Rattle.j39_plan.specs.declared.checking.finding.Finding.{Finding}
-use Rattle.j39_plan.specs.declared.checking.finding.Finding.TheVariants.{SameName, SameFixedAddress, TooFewAddresses, BadPgn, SamePgn, SignalWidth, SignalOutside, SignalOverlap, FlowToOne, FlowToSelf, FlowRepeated, KeptAddress}
+use Rattle.j39_plan.specs.declared.checking.finding.Finding.TheVariants.{SameName, SameFixedAddress, TooFewAddresses, BadPgn, SamePgn, SignalWidth}
+use Rattle.j39_plan.specs.declared.checking.finding.Finding.TheVariants.{SignalOutside, SignalOverlap, FlowToOne, FlowToSelf, FlowRepeated, KeptAddress}
 use Rattle.j39_plan.specs.Places.{in_each, each, pairs, ValueAt, PairAt}
 use Rattle.j39_claim.specs.AddressSets.{free_count}
-use Rattle.j39_plan.specs.Findings.{HaveSameName, HaveSameFixedAddress, needed_addresses, HasBadPgn, HaveSamePgn, CannotGoToOne, GoesToItsSender, AreOneFlow, Holds, PrefersKept, IsBefore, IsBelow, number_of, places_of}
-use Rattle.j39_plan.specs.Found.{too_few_addresses, unit_findings, group_findings, has_other_width, ends_outside, overlap_findings, signal_findings, flow_findings, kept_findings}
+use Rattle.j39_plan.specs.Findings.{HaveSameName, HaveSameFixedAddress, needed_addresses, HasBadPgn, HaveSamePgn, CannotGoToOne}
+use Rattle.j39_plan.specs.Findings.{GoesToItsSender, AreOneFlow, Holds, PrefersKept, IsBefore, IsBelow, number_of, places_of}
+use Rattle.j39_plan.specs.Found.{too_few_addresses, unit_findings, group_findings, has_other_width}
+use Rattle.j39_plan.specs.Found.{ends_outside, overlap_findings, signal_findings, flow_findings, kept_findings}
 use Rattle.j39_plan.proofs.Members.{of_in_each, of_found_if, of_each, of_pairs}
 use Rattle.j39_plan.proofs.Rising.{Rises, Rises-append, Rises-found_if, Rises-in_each, Rises-each, Rises-pairs}
-use Rattle.j39_plan.proofs.Deciding.{Decides-have_same_name, Decides-have_same_fixed_address, Decides-has_bad_pgn, Decides-have_same_pgn, Decides-has_other_width, Decides-ends_outside, Decides-shares_bit, Decides-cannot_go_to_one, Decides-goes_to_its_sender, Decides-are_one_flow, Decides-prefers_kept}
+use Rattle.j39_plan.proofs.Deciding.{Decides-have_same_name, Decides-have_same_fixed_address, Decides-has_bad_pgn}
+use Rattle.j39_plan.proofs.Deciding.{Decides-have_same_pgn, Decides-has_other_width, Decides-ends_outside, Decides-shares_bit}
+use Rattle.j39_plan.proofs.Deciding.{Decides-cannot_go_to_one, Decides-goes_to_its_sender, Decides-are_one_flow, Decides-prefers_kept}
 
 -- findings of numbers from low to high that hold, in order
 pub record Covers (plan : Plan) (low high : ℕ) (findings : List Finding) : Type 0 where
@@ -24,7 +30,8 @@ pub record Covers (plan : Plan) (low high : ℕ) (findings : List Finding) : Typ
   pub most : (f : Finding) → Contains findings f → number_of f ≤ high
   pub rises : Rises IsBefore findings
 
-pub Covers-append : (plan : Plan) (a b c d : ℕ) (xs ys : List Finding) → b < c → a ≤ c → b ≤ d → Covers plan a b xs → Covers plan c d ys → Covers plan a d (xs ++ ys)
+pub Covers-append : (plan : Plan) (a b c d : ℕ) (xs ys : List Finding) → b < c → a ≤ c → b ≤ d → Covers plan a b xs → Covers plan c d ys
+    → Covers plan a d (xs ++ ys)
 Covers-append plan a b c d xs ys less low high left right = record {
   sound = λ f h. elim (Contains-append_cases xs ys f h) [ inl here ↦ left.sound f here | inr there ↦ right.sound f there ];
   least = λ f h. elim (Contains-append_cases xs ys f h) [
@@ -46,7 +53,8 @@ holds_at : (plan : Plan) (f g : Finding) → f ≡ g → Holds plan g → Holds 
 holds_at plan f g e h = let P : Finding → Type 0 = λ x. Holds plan x in subst P (sym e) h
 
 -- a family of one number, from what each of its findings is
-family : (plan : Plan) (n : ℕ) (findings : List Finding) → ((f : Finding) → Contains findings f → Holds plan f × (number_of f ≡ n)) → Rises IsBefore findings
+family : (plan : Plan) (n : ℕ) (findings : List Finding) → ((f : Finding) → Contains findings f → Holds plan f × (number_of f ≡ n))
+    → Rises IsBefore findings
     → Covers plan n n findings
 family plan n findings each_is rises = record {
   sound = λ f h. (each_is f h).0;
@@ -59,36 +67,45 @@ family plan n findings each_is rises = record {
 made : (plan : Plan) (n : ℕ) (f g : Finding) → f ≡ g → Holds plan g → number_of g ≡ n → Holds plan f × (number_of f ≡ n)
 made plan n f g e h is = let P : Finding → Type 0 = λ x. Holds plan x × (number_of x ≡ n) in subst P (sym e) (h, is)
 
-pairs_family : {A : Type 0} (plan : Plan) (n : ℕ) {test : A → A → Bool} (R : A → A → Type 0) → ((x y : A) → Decides (test x y) (R x y)) → (make : ℕ → ℕ → Finding) (xs : List A)
-    → ((i j : ℕ) → PairAt R xs i j → Holds plan (make i j)) → ((i j : ℕ) → number_of (make i j) ≡ n)
-    → ((i k l : ℕ) → k < l → IsBefore (make i k) (make i l)) → ((i j k l : ℕ) → i < j → IsBefore (make i k) (make j l))
-    → Covers plan n n (pairs test make xs)
-pairs_family plan n {test = test} R decides make xs holds number second first =
-    family plan n (pairs test make xs)
-    (λ f h. let r = of_pairs R decides make xs f h in made plan n f (make r.0 r.1) r.2 (holds r.0 r.1 r.3) (number r.0 r.1))
-    (Rises-pairs IsBefore test make second first xs)
+-- a finding of this number names these places
+record Names (n : ℕ) (named : List ℕ) (f : Finding) : Type 0 where
+  pub number : number_of f ≡ n
+  pub places : places_of f ≡ named
 
-each_family : {A : Type 0} (plan : Plan) (n : ℕ) {test : A → Bool} (P : A → Type 0) → ((x : A) → Decides (test x) (P x)) → (make : ℕ → Finding) (xs : List A)
-    → ((i : ℕ) → ValueAt P xs i → Holds plan (make i)) → ((i : ℕ) → number_of (make i) ≡ n)
-    → ((k l : ℕ) → k < l → IsBefore (make k) (make l))
+-- of two findings of one number, by the places that they name
+before : (n : ℕ) (xs ys : List ℕ) (f g : Finding) → Names n xs f → Names n ys g → IsBelow xs ys → IsBefore f g
+before n xs ys f g a b below =
+    let P : List ℕ → Type 0 = λ us. IsBelow us (places_of g) in
+    let Q : List ℕ → Type 0 = λ vs. IsBelow xs vs in
+    inr (a.number ∙ sym b.number, subst P (sym a.places) (subst Q (sym b.places) below))
+
+pairs_family : {A : Type 0} (plan : Plan) (n : ℕ) {test : A → A → Bool} (R : A → A → Type 0) → ((x y : A) → Decides (test x y) (R x y))
+    → (make : ℕ → ℕ → Finding) (xs : List A)
+    → ((i j : ℕ) → PairAt R xs i j → Holds plan (make i j)) → ((i j : ℕ) → Names n (i ∷ j ∷ []) (make i j))
+    → Covers plan n n (pairs test make xs)
+pairs_family plan n {test = test} R decides make xs holds named =
+    family plan n (pairs test make xs)
+    (λ f h. let r = of_pairs R decides make xs f h in made plan n f (make r.0 r.1) r.2 (holds r.0 r.1 r.3) (named r.0 r.1).number)
+    (Rises-pairs IsBefore test make
+    (λ i k l less. before n _ _ (make i k) (make i l) (named i k) (named i l) (inr (refl, inl less)))
+    (λ i j k l less. before n _ _ (make i k) (make j l) (named i k) (named j l) (inl less)) xs)
+
+each_family : {A : Type 0} (plan : Plan) (n : ℕ) {test : A → Bool} (P : A → Type 0) → ((x : A) → Decides (test x) (P x))
+    → (make : ℕ → Finding) (xs : List A)
+    → ((i : ℕ) → ValueAt P xs i → Holds plan (make i)) → ((i : ℕ) → Names n (i ∷ []) (make i))
     → Covers plan n n (each test make 0 xs)
-each_family plan n {test = test} P decides make xs holds number rising =
+each_family plan n {test = test} P decides make xs holds named =
     family plan n (each test make 0 xs)
-    (λ f h. let r = of_each P decides make xs f h in made plan n f (make r.0) r.1 (holds r.0 r.2) (number r.0))
-    (Rises-each IsBefore test make rising 0 xs)
+    (λ f h. let r = of_each P decides make xs f h in made plan n f (make r.0) r.1 (holds r.0 r.2) (named r.0).number)
+    (Rises-each IsBefore test make (λ k l less. before n _ _ (make k) (make l) (named k) (named l) (inl less)) 0 xs)
 
 -- a finding of this number that names the place g first
 record IsOfGroup (n g : ℕ) (f : Finding) : Type 0 where
-  pub number : number_of f ≡ n
   pub rest : List ℕ
-  pub places : places_of f ≡ g ∷ rest
+  pub names : Names n (g ∷ rest) f
 
 below_by_group : (n k l : ℕ) (f g : Finding) → k < l → IsOfGroup n k f → IsOfGroup n l g → IsBefore f g
-below_by_group n k l f g less a b =
-    let below : IsBelow (k ∷ a.rest) (l ∷ b.rest) = inl less in
-    let P : List ℕ → Type 0 = λ xs. IsBelow xs (places_of g) in
-    let Q : List ℕ → Type 0 = λ ys. IsBelow (k ∷ a.rest) ys in
-    inr (a.number ∙ sym b.number, subst P (sym a.places) (subst Q (sym b.places) below))
+below_by_group n k l f g less a b = before n (k ∷ a.rest) (l ∷ b.rest) f g a.names b.names (inl less)
 
 of_group : (n g : ℕ) (f made : Finding) → f ≡ made → IsOfGroup n g made → IsOfGroup n g f
 of_group n g f made e h = let P : Finding → Type 0 = λ x. IsOfGroup n g x in subst P (sym e) h
@@ -101,9 +118,10 @@ units_covered plan =
     let kept = plan.keep_free in
     let units = plan.units.items in
     Covers-append plan 1 1 2 3 _ _ (omega arith) (omega arith) (omega arith)
-    (pairs_family plan 1 HaveSameName Decides-have_same_name SameName units (λ i j h. h) (λ i j. refl) (λ i k l less. inr (refl, inr (refl, inl less))) (λ i j k l less. inr (refl, inl less)))
+    (pairs_family plan 1 HaveSameName Decides-have_same_name SameName units (λ i j h. h) (λ i j. record { number = refl; places = refl }))
     (Covers-append plan 2 2 3 3 _ _ (omega arith) (omega arith) (omega arith)
-    (pairs_family plan 2 HaveSameFixedAddress Decides-have_same_fixed_address SameFixedAddress units (λ i j h. h) (λ i j. refl) (λ i k l less. inr (refl, inr (refl, inl less))) (λ i j k l less. inr (refl, inl less)))
+    (pairs_family plan 2 HaveSameFixedAddress Decides-have_same_fixed_address SameFixedAddress units (λ i j h. h)
+    (λ i j. record { number = refl; places = refl }))
     (family plan 3 (too_few_addresses kept units)
     (λ f h.
     let r = of_found_if (nat_lt (free_count kept) (needed_addresses kept units)) (TooFewAddresses (needed_addresses kept units)) f h in
@@ -116,8 +134,8 @@ pub groups_covered : (plan : Plan) → Covers plan 4 5 (group_findings plan.grou
 unfolding group_findings
 groups_covered plan =
     Covers-append plan 4 4 5 5 _ _ (omega arith) (omega arith) (omega arith)
-    (each_family plan 4 HasBadPgn Decides-has_bad_pgn BadPgn plan.groups.items (λ i h. h) (λ i. refl) (λ k l less. inr (refl, inl less)))
-    (pairs_family plan 5 HaveSamePgn Decides-have_same_pgn SamePgn plan.groups.items (λ i j h. h) (λ i j. refl) (λ i k l less. inr (refl, inr (refl, inl less))) (λ i j k l less. inr (refl, inl less)))
+    (each_family plan 4 HasBadPgn Decides-has_bad_pgn BadPgn plan.groups.items (λ i h. h) (λ i. record { number = refl; places = refl }))
+    (pairs_family plan 5 HaveSamePgn Decides-have_same_pgn SamePgn plan.groups.items (λ i j h. h) (λ i j. record { number = refl; places = refl }))
 
 -- ---- signals
 
@@ -131,24 +149,27 @@ signals_family plan n find holds named within =
     (λ f h.
     let r = of_in_each find 0 plan.groups.items f h in
     let at : r.k ≡ r.place = omega arith in
-    (holds r.place r.value f (ap (slice_get plan.groups.items) (sym at) ∙ r.value_is) r.among, (named r.place r.value f r.among).number))
-    (Rises-in_each IsBefore find within (λ k l x y f g less in_k in_l. below_by_group n k l f g less (named k x f in_k) (named l y g in_l)) 0 plan.groups.items)
+    (holds r.place r.value f (ap (slice_get plan.groups.items) (sym at) ∙ r.value_is) r.among, (named r.place r.value f r.among).names.number))
+    (Rises-in_each IsBefore find within
+    (λ k l x y f g less in_k in_l. below_by_group n k l f g less (named k x f in_k) (named l y g in_l)) 0 plan.groups.items)
 
 -- one finding for each signal that meets P of its group
-each_signal : (plan : Plan) (n : ℕ) (test : GroupPlan → SignalParts → Bool) (P : GroupPlan → SignalParts → Type 0) → ((group : GroupPlan) (s : SignalParts) → Decides (test group s) (P group s))
+each_signal : (plan : Plan) (n : ℕ) (test : GroupPlan → SignalParts → Bool) (P : GroupPlan → SignalParts → Type 0)
+    → ((group : GroupPlan) (s : SignalParts) → Decides (test group s) (P group s))
     → (make : ℕ → ℕ → Finding)
     → ((g s : ℕ) → ValueAt (λ group. ValueAt (P group) group.signals.items s) plan.groups.items g → Holds plan (make g s))
-    → ((g s : ℕ) → IsOfGroup n g (make g s)) → ((g k l : ℕ) → k < l → IsBefore (make g k) (make g l))
+    → ((g s : ℕ) → Names n (g ∷ s ∷ []) (make g s))
     → Covers plan n n (in_each (λ g group. each (test group) (make g) 0 group.signals.items) 0 plan.groups.items)
-each_signal plan n test P decides make holds named rising =
+each_signal plan n test P decides make holds named =
     signals_family plan n (λ g group. each (test group) (make g) 0 group.signals.items)
     (λ g group f is h.
     let r = of_each (P group) (decides group) (make g) group.signals.items f h in
     holds_at plan f (make g r.0) r.1 (holds g r.0 (record { value = group; value_is = is; meets = r.2 })))
     (λ g group f h.
     let r = of_each (P group) (decides group) (make g) group.signals.items f h in
-    of_group n g f (make g r.0) r.1 (named g r.0))
-    (λ g group. Rises-each IsBefore (test group) (make g) (rising g) 0 group.signals.items)
+    of_group n g f (make g r.0) r.1 (record { rest = r.0 ∷ []; names = named g r.0 }))
+    (λ g group. Rises-each IsBefore (test group) (make g)
+    (λ k l less. before n _ _ (make g k) (make g l) (named g k) (named g l) (inr (refl, inl less))) 0 group.signals.items)
 
 overlaps_covered : (plan : Plan) → Covers plan 8 8 (in_each overlap_findings 0 plan.groups.items)
 overlaps_covered plan =
@@ -158,7 +179,7 @@ overlaps_covered plan =
     holds_at plan f (SignalOverlap g r.0 r.1) r.2 (record { value = group; value_is = is; meets = r.3 }))
     (λ g group f h.
     let r = of_pairs SharesBit Decides-shares_bit (SignalOverlap g) group.signals.items f h in
-    of_group 8 g f (SignalOverlap g r.0 r.1) r.2 (record { number = refl; rest = r.0 ∷ r.1 ∷ []; places = refl }))
+    of_group 8 g f (SignalOverlap g r.0 r.1) r.2 (record { rest = r.0 ∷ r.1 ∷ []; names = record { number = refl; places = refl } }))
     (λ g group. Rises-pairs IsBefore shares_bit (SignalOverlap g)
     (λ i k l less. inr (refl, inr (refl, inr (refl, inl less)))) (λ i j k l less. inr (refl, inr (refl, inl less))) group.signals.items)
 
@@ -167,10 +188,10 @@ unfolding signal_findings
 signals_covered plan =
     Covers-append plan 6 6 7 8 _ _ (omega arith) (omega arith) (omega arith)
     (each_signal plan 6 (λ group. has_other_width) (λ group s. ¬ WidthFits s) (λ group. Decides-has_other_width) SignalWidth
-    (λ g s h. h) (λ g s. record { number = refl; rest = s ∷ []; places = refl }) (λ g k l less. inr (refl, inr (refl, inl less))))
+    (λ g s h. h) (λ g s. record { number = refl; places = refl }))
     (Covers-append plan 7 7 8 8 _ _ (omega arith) (omega arith) (omega arith)
-    (each_signal plan 7 (λ group. ends_outside group.length) (λ group s. ¬ IsInside group.length s) (λ group. Decides-ends_outside group.length) SignalOutside
-    (λ g s h. h) (λ g s. record { number = refl; rest = s ∷ []; places = refl }) (λ g k l less. inr (refl, inr (refl, inl less))))
+    (each_signal plan 7 (λ group. ends_outside group.length) (λ group s. ¬ IsInside group.length s)
+    (λ group. Decides-ends_outside group.length) SignalOutside (λ g s h. h) (λ g s. record { number = refl; places = refl }))
     (overlaps_covered plan))
 
 -- ---- flows
@@ -181,15 +202,16 @@ flows_covered plan =
     let groups = plan.groups.items in
     let flows = plan.flows.items in
     Covers-append plan 9 9 10 11 _ _ (omega arith) (omega arith) (omega arith)
-    (each_family plan 9 (CannotGoToOne groups) (Decides-cannot_go_to_one groups) FlowToOne flows (λ i h. h) (λ i. refl) (λ k l less. inr (refl, inl less)))
+    (each_family plan 9 (CannotGoToOne groups) (Decides-cannot_go_to_one groups) FlowToOne flows (λ i h. h)
+    (λ i. record { number = refl; places = refl }))
     (Covers-append plan 10 10 11 11 _ _ (omega arith) (omega arith) (omega arith)
-    (each_family plan 10 GoesToItsSender Decides-goes_to_its_sender FlowToSelf flows (λ i h. h) (λ i. refl) (λ k l less. inr (refl, inl less)))
-    (pairs_family plan 11 AreOneFlow Decides-are_one_flow FlowRepeated flows (λ i j h. h) (λ i j. refl) (λ i k l less. inr (refl, inr (refl, inl less))) (λ i j k l less. inr (refl, inl less))))
+    (each_family plan 10 GoesToItsSender Decides-goes_to_its_sender FlowToSelf flows (λ i h. h) (λ i. record { number = refl; places = refl }))
+    (pairs_family plan 11 AreOneFlow Decides-are_one_flow FlowRepeated flows (λ i j h. h) (λ i j. record { number = refl; places = refl })))
 
 -- ---- units at addresses that are kept free
 
 pub kept_covered : (plan : Plan) → Covers plan 12 12 (kept_findings plan.keep_free plan.units.items)
 unfolding kept_findings
 kept_covered plan =
-    each_family plan 12 (PrefersKept plan.keep_free) (Decides-prefers_kept plan.keep_free) KeptAddress plan.units.items (λ i h. h) (λ i. refl)
-    (λ k l less. inr (refl, inl less))
+    each_family plan 12 (PrefersKept plan.keep_free) (Decides-prefers_kept plan.keep_free) KeptAddress plan.units.items (λ i h. h)
+    (λ i. record { number = refl; places = refl })

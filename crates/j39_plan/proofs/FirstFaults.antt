@@ -12,7 +12,8 @@ first-append (x ∷ xs) ys f e = e
 pub ruleset faults_after = (first-append)
 
 -- A reader passes on the refusal of a part, where the part's first fault is the first of the whole.
-pub fails_on : (Inner Outer : Type 0) (e : PlanError) (part whole : List Fault) → (Inner → Outer) → ((f : Fault) → first part ≡ Some f → first whole ≡ Some f)
+pub fails_on : (Inner Outer : Type 0) (e : PlanError) (part whole : List Fault) → (Inner → Outer)
+    → ((f : Fault) → first part ≡ Some f → first whole ≡ Some f)
     → FailsGrowing Inner e part → FailsGrowing Outer e whole
 fails_on Inner Outer errors.Text part whole grows leads fails = fails
 fails_on Inner Outer (errors.Fault f) part whole grows leads fails = leads f fails

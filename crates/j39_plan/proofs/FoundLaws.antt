@@ -7,14 +7,20 @@ use Rattle.j39_signal.specs.Places.{WidthFits, IsInside, SharesBit}
 use Rattle.j39_plan.specs.declared.plan.Plan.{Plan}
 use Rattle.j39_plan.specs.declared.plan.group_plan.GroupPlan.{GroupPlan}
 use Rattle.j39_plan.specs.declared.checking.finding.Finding.{Finding}
-use Rattle.j39_plan.specs.declared.checking.finding.Finding.TheVariants.{SameName, SameFixedAddress, TooFewAddresses, BadPgn, SamePgn, SignalWidth, SignalOutside, SignalOverlap, FlowToOne, FlowToSelf, FlowRepeated, KeptAddress}
+use Rattle.j39_plan.specs.declared.checking.finding.Finding.TheVariants.{SameName, SameFixedAddress, TooFewAddresses, BadPgn, SamePgn, SignalWidth}
+use Rattle.j39_plan.specs.declared.checking.finding.Finding.TheVariants.{SignalOutside, SignalOverlap, FlowToOne, FlowToSelf, FlowRepeated, KeptAddress}
 use Rattle.j39_plan.specs.Places.{in_each, each, pairs}
 use Rattle.j39_claim.specs.AddressSets.{free_count}
-use Rattle.j39_plan.specs.Findings.{HaveSameName, HaveSameFixedAddress, needed_addresses, HasBadPgn, HaveSamePgn, CannotGoToOne, GoesToItsSender, AreOneFlow, PrefersKept, Holds, IsBefore, AreFindings, Clean}
-use Rattle.j39_plan.specs.Found.{have_same_name, have_same_fixed_address, too_few_addresses, unit_findings, has_bad_pgn, have_same_pgn, group_findings, width_findings, outside_findings, overlap_findings, signal_findings, cannot_go_to_one, goes_to_its_sender, are_one_flow, flow_findings, prefers_kept, kept_findings, found}
+use Rattle.j39_plan.specs.Findings.{HaveSameName, HaveSameFixedAddress, needed_addresses, HasBadPgn, HaveSamePgn, CannotGoToOne}
+use Rattle.j39_plan.specs.Findings.{GoesToItsSender, AreOneFlow, PrefersKept, Holds, IsBefore, AreFindings, Clean}
+use Rattle.j39_plan.specs.Found.{have_same_name, have_same_fixed_address, too_few_addresses, unit_findings, has_bad_pgn, have_same_pgn}
+use Rattle.j39_plan.specs.Found.{group_findings, width_findings, outside_findings, overlap_findings, signal_findings, cannot_go_to_one}
+use Rattle.j39_plan.specs.Found.{goes_to_its_sender, are_one_flow, flow_findings, prefers_kept, kept_findings, found}
 use Rattle.j39_plan.proofs.Members.{in_each_of, found_if_of, each_of, pairs_of}
 use Rattle.j39_plan.proofs.Rising.{AllPairs-from_Rises}
-use Rattle.j39_plan.proofs.Deciding.{Decides-have_same_name, Decides-have_same_fixed_address, Decides-has_bad_pgn, Decides-have_same_pgn, Decides-has_other_width, Decides-ends_outside, Decides-shares_bit, Decides-cannot_go_to_one, Decides-goes_to_its_sender, Decides-are_one_flow, Decides-prefers_kept}
+use Rattle.j39_plan.proofs.Deciding.{Decides-have_same_name, Decides-have_same_fixed_address, Decides-has_bad_pgn}
+use Rattle.j39_plan.proofs.Deciding.{Decides-have_same_pgn, Decides-has_other_width, Decides-ends_outside, Decides-shares_bit}
+use Rattle.j39_plan.proofs.Deciding.{Decides-cannot_go_to_one, Decides-goes_to_its_sender, Decides-are_one_flow, Decides-prefers_kept}
 use Rattle.j39_plan.proofs.Families.{Covers, Covers-append, units_covered, groups_covered, signals_covered, flows_covered, kept_covered}
 
 found_covered : (plan : Plan) → Covers plan 1 12 (found plan)
@@ -56,63 +62,59 @@ unfolding kept_findings
 kept_found plan f h =
     in_rest plan f (Contains-append_right (flow_findings plan.groups.items plan.flows.items) (kept_findings plan.keep_free plan.units.items) f h)
 
-of_signal : (plan : Plan) (find : ℕ → GroupPlan → List Finding) (g : ℕ) (group : GroupPlan) (f : Finding) → slice_get plan.groups.items g ≡ Some group
+of_signal : (plan : Plan) (find : ℕ → GroupPlan → List Finding) (g : ℕ) (group : GroupPlan) (f : Finding)
+    → slice_get plan.groups.items g ≡ Some group
     → Contains (find g group) f → Contains (in_each find 0 plan.groups.items) f
 of_signal plan find g group f is h = in_each_of find 0 plan.groups.items f g g group (omega arith) is h
 
--- the places of a family in its part: the first, the second or the third of up to three
-in_one : (xs ys : List Finding) (f : Finding) → Contains xs f → Contains (xs ++ ys) f
-in_one = Contains-append_left
+-- in one of the three parts of a list
+of_three : (xs ys zs : List Finding) (f : Finding) → Contains xs f ⊎ (Contains ys f ⊎ Contains zs f) → Contains (xs ++ (ys ++ zs)) f
+of_three xs ys zs f (inl one) = Contains-append_left xs (ys ++ zs) f one
+of_three xs ys zs f (inr (inl two)) = Contains-append_right xs (ys ++ zs) f (Contains-append_left ys zs f two)
+of_three xs ys zs f (inr (inr three)) = Contains-append_right xs (ys ++ zs) f (Contains-append_right ys zs f three)
 
-in_two : (xs ys zs : List Finding) (f : Finding) → Contains ys f → Contains (xs ++ (ys ++ zs)) f
-in_two xs ys zs f h = Contains-append_right xs (ys ++ zs) f (Contains-append_left ys zs f h)
-
-in_three : (xs ys zs : List Finding) (f : Finding) → Contains zs f → Contains (xs ++ (ys ++ zs)) f
-in_three xs ys zs f h = Contains-append_right xs (ys ++ zs) f (Contains-append_right ys zs f h)
-
-unit_found : (plan : Plan) (f : Finding) → (Contains (pairs have_same_name SameName plan.units.items) f ⊎ (Contains (pairs have_same_fixed_address SameFixedAddress plan.units.items) f ⊎ Contains (too_few_addresses plan.keep_free plan.units.items) f)) → Contains (found plan) f
+unit_found : (plan : Plan) (f : Finding)
+    → Contains (pairs have_same_name SameName plan.units.items) f
+    ⊎ (Contains (pairs have_same_fixed_address SameFixedAddress plan.units.items) f ⊎ Contains (too_few_addresses plan.keep_free plan.units.items) f)
+    → Contains (found plan) f
 unfolding unit_findings
 unit_found plan f h =
     let names = pairs have_same_name SameName plan.units.items in
     let addresses = pairs have_same_fixed_address SameFixedAddress plan.units.items in
-    let count = too_few_addresses plan.keep_free plan.units.items in
-    in_units plan f (elim h [
-      | inl in_names ↦ in_one names (addresses ++ count) f in_names
-      | inr other ↦ elim other [ inl in_addresses ↦ in_two names addresses count f in_addresses | inr in_count ↦ in_three names addresses count f in_count ]
-    ])
+    in_units plan f (of_three names addresses (too_few_addresses plan.keep_free plan.units.items) f h)
 
-group_found : (plan : Plan) (f : Finding) → (Contains (each has_bad_pgn BadPgn 0 plan.groups.items) f ⊎ Contains (pairs have_same_pgn SamePgn plan.groups.items) f) → Contains (found plan) f
+group_found : (plan : Plan) (f : Finding)
+    → Contains (each has_bad_pgn BadPgn 0 plan.groups.items) f ⊎ Contains (pairs have_same_pgn SamePgn plan.groups.items) f
+    → Contains (found plan) f
 unfolding group_findings
 group_found plan f h =
     let bad = each has_bad_pgn BadPgn 0 plan.groups.items in
     let same = pairs have_same_pgn SamePgn plan.groups.items in
-    in_groups plan f (elim h [ inl in_bad ↦ in_one bad same f in_bad | inr in_same ↦ Contains-append_right bad same f in_same ])
+    in_groups plan f (elim h [ inl in_bad ↦ Contains-append_left bad same f in_bad | inr in_same ↦ Contains-append_right bad same f in_same ])
 
-signal_found : (plan : Plan) (f : Finding) → (Contains (in_each width_findings 0 plan.groups.items) f ⊎ (Contains (in_each outside_findings 0 plan.groups.items) f ⊎ Contains (in_each overlap_findings 0 plan.groups.items) f)) → Contains (found plan) f
+signal_found : (plan : Plan) (f : Finding)
+    → Contains (in_each width_findings 0 plan.groups.items) f
+    ⊎ (Contains (in_each outside_findings 0 plan.groups.items) f ⊎ Contains (in_each overlap_findings 0 plan.groups.items) f)
+    → Contains (found plan) f
 unfolding signal_findings
 signal_found plan f h =
-    let widths = in_each width_findings 0 plan.groups.items in
-    let outsides = in_each outside_findings 0 plan.groups.items in
-    let overlaps = in_each overlap_findings 0 plan.groups.items in
-    in_signals plan f (elim h [
-      | inl in_widths ↦ in_one widths (outsides ++ overlaps) f in_widths
-      | inr other ↦ elim other [ inl in_outsides ↦ in_two widths outsides overlaps f in_outsides | inr in_overlaps ↦ in_three widths outsides overlaps f in_overlaps ]
-    ])
+    let groups = plan.groups.items in
+    in_signals plan f (of_three (in_each width_findings 0 groups) (in_each outside_findings 0 groups) (in_each overlap_findings 0 groups) f h)
 
-flow_found : (plan : Plan) (f : Finding) → (Contains (each (cannot_go_to_one plan.groups.items) FlowToOne 0 plan.flows.items) f ⊎ (Contains (each goes_to_its_sender FlowToSelf 0 plan.flows.items) f ⊎ Contains (pairs are_one_flow FlowRepeated plan.flows.items) f)) → Contains (found plan) f
+flow_found : (plan : Plan) (f : Finding)
+    → Contains (each (cannot_go_to_one plan.groups.items) FlowToOne 0 plan.flows.items) f
+    ⊎ (Contains (each goes_to_its_sender FlowToSelf 0 plan.flows.items) f ⊎ Contains (pairs are_one_flow FlowRepeated plan.flows.items) f)
+    → Contains (found plan) f
 unfolding flow_findings
 flow_found plan f h =
-    let lost = each (cannot_go_to_one plan.groups.items) FlowToOne 0 plan.flows.items in
-    let own = each goes_to_its_sender FlowToSelf 0 plan.flows.items in
-    let again = pairs are_one_flow FlowRepeated plan.flows.items in
-    in_flows plan f (elim h [
-      | inl in_lost ↦ in_one lost (own ++ again) f in_lost
-      | inr other ↦ elim other [ inl in_own ↦ in_two lost own again f in_own | inr in_again ↦ in_three lost own again f in_again ]
-    ])
+    let flows = plan.flows.items in
+    let to_one = each (cannot_go_to_one plan.groups.items) FlowToOne 0 flows in
+    in_flows plan f (of_three to_one (each goes_to_its_sender FlowToSelf 0 flows) (pairs are_one_flow FlowRepeated flows) f h)
 
 found_of : (plan : Plan) (f : Finding) → Holds plan f → Contains (found plan) f
 found_of plan (SameName i j) h = unit_found plan _ (inl (pairs_of HaveSameName Decides-have_same_name SameName plan.units.items i j h))
-found_of plan (SameFixedAddress i j) h = unit_found plan _ (inr (inl (pairs_of HaveSameFixedAddress Decides-have_same_fixed_address SameFixedAddress plan.units.items i j h)))
+found_of plan (SameFixedAddress i j) h =
+    unit_found plan _ (inr (inl (pairs_of HaveSameFixedAddress Decides-have_same_fixed_address SameFixedAddress plan.units.items i j h)))
 found_of plan (TooFewAddresses n) (is, more) =
     let needed = needed_addresses plan.keep_free plan.units.items in
     let P : ℕ → Type 0 = λ k. Contains (too_few_addresses plan.keep_free plan.units.items) (TooFewAddresses k) in
@@ -130,7 +132,8 @@ found_of plan (SignalOutside g s) h =
 found_of plan (SignalOverlap g s t) h =
     signal_found plan _ (inr (inr (of_signal plan overlap_findings g h.value (SignalOverlap g s t) h.value_is
     (pairs_of SharesBit Decides-shares_bit (SignalOverlap g) h.value.signals.items s t h.meets))))
-found_of plan (FlowToOne f) h = flow_found plan _ (inl (each_of (CannotGoToOne plan.groups.items) (Decides-cannot_go_to_one plan.groups.items) FlowToOne plan.flows.items f h))
+found_of plan (FlowToOne f) h =
+    flow_found plan _ (inl (each_of (CannotGoToOne plan.groups.items) (Decides-cannot_go_to_one plan.groups.items) FlowToOne plan.flows.items f h))
 found_of plan (FlowToSelf f) h = flow_found plan _ (inr (inl (each_of GoesToItsSender Decides-goes_to_its_sender FlowToSelf plan.flows.items f h)))
 found_of plan (KeptAddress i) h =
     kept_found plan _ (each_of (PrefersKept plan.keep_free) (Decides-prefers_kept plan.keep_free) KeptAddress plan.units.items i h)
@@ -150,7 +153,10 @@ nil_from_none [] h = refl
 nil_from_none (x ∷ xs) h = absurd (h x (0, omega arith, refl))
 
 pub clean_from_none : (plan : Plan) → found plan ≡ [] → Clean plan
-clean_from_none plan none = λ f h. let P : List Finding → Type 0 = λ xs. Contains xs f in let in_none = subst P none (found_of plan f h) in absurd (omega arith)
+clean_from_none plan none = λ f h.
+    let P : List Finding → Type 0 = λ xs. Contains xs f in
+    let in_none = subst P none (found_of plan f h) in
+    absurd (omega arith)
 
 pub none_from_clean : (plan : Plan) → Clean plan → found plan ≡ []
 none_from_clean plan clean = nil_from_none (found plan) (λ f h. clean f ((found_covered plan).sound f h))

@@ -1,5 +1,6 @@
 -- The raw number last put for a signal, and what is read of it.
-use Rattle.std.proofs.Common.{◌≡◌, ◌≢◌, ℕ, ◌<◌, List, [], ◌∷◌, ◌++◌, length, get_or, set, replicate, map, All, refl, sym, ◌∙◌, ap, arith}
+use Rattle.std.proofs.Common.{◌≡◌, ◌≢◌, ℕ, ◌<◌, List, [], ◌∷◌, ◌++◌, length}
+use Rattle.std.proofs.Common.{get_or, set, replicate, map, All, refl, sym, ◌∙◌, ap, arith}
 use Rattle.std.proofs.lemmas.List.{get_or-map, get_or-set_other, get_or-set_same, length-map, length-set}
 use Rattle.std.proofs.lemmas.List.Elements.{All-tail}
 use Rattle.j39_signal.specs.Bits.{all_ones, raw_of}
@@ -19,7 +20,8 @@ last_put : (raws : List ℕ) (before after : List Write) (w : Write) → w.place
 last_put raws [] after w less alone = untouched (set raws w.place w.raw) after w.place alone ∙ get_or-set_same raws w.place w.raw 0 less
 last_put raws (b ∷ before) after w less alone = last_put (set raws b.place b.raw) before after w (rw length-set less) alone
 
-in_range : (signals : List SignalParts) (payload : List ℕ) (before after : List Write) (w : Write) → Chain signals payload (before ++ w ∷ after) → w.place < length signals
+in_range : (signals : List SignalParts) (payload : List ℕ) (before after : List Write) (w : Write) → Chain signals payload (before ++ w ∷ after)
+    → w.place < length signals
 in_range signals payload [] after w chain = chain.0.0
 in_range signals payload (b ∷ before) after w chain = in_range signals b.payload before after w chain.1
 

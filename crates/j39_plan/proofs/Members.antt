@@ -1,5 +1,6 @@
 -- What is found of a list, in terms of its values and their places.
-use Rattle.std.proofs.Common.{◌≡◌, ℕ, zero, suc, ◌+◌, ◌-◌, List, [], ◌∷◌, Bool, true, false, drop, Some, Contains, Decides, refl, sym, ◌∙◌, subst, ap, arith, inl, inr}
+use Rattle.std.proofs.Common.{◌≡◌, ℕ, zero, suc, ◌+◌, ◌-◌, List, [], ◌∷◌, Bool, true, false}
+use Rattle.std.proofs.Common.{drop, Some, Contains, Decides, refl, sym, ◌∙◌, subst, ap, arith, inl, inr}
 use Rattle.std.specs.List.{slice_get}
 use Rattle.std.proofs.lemmas.Bool.{false≢true}
 use Rattle.std.proofs.lemmas.Option.{none-some, same_Some}
@@ -76,7 +77,8 @@ slice_get-drop (suc n) (x ∷ xs) k = let e : suc (n + k) ≡ suc n + k = omega 
 pub behind : {A : Type 0} (i k j : ℕ) (xs : List A) → j ≡ i + 1 + k → slice_get (drop (i + 1) xs) k ≡ slice_get xs j
 behind i k j xs at = slice_get-drop (i + 1) xs k ∙ ap (slice_get xs) (sym at)
 
-pub of_pairs : {A B : Type 0} {test : A → A → Bool} (R : A → A → Type 0) → ((x y : A) → Decides (test x y) (R x y)) → (make : ℕ → ℕ → B) (xs : List A) (f : B)
+pub of_pairs : {A B : Type 0} {test : A → A → Bool} (R : A → A → Type 0) → ((x y : A) → Decides (test x y) (R x y))
+    → (make : ℕ → ℕ → B) (xs : List A) (f : B)
     → Contains (pairs test make xs) f → (i : ℕ) × (j : ℕ) × (f ≡ make i j) × PairAt R xs i j
 unfolding pairs each
 of_pairs {test = test} R decides make xs f h =
@@ -97,10 +99,14 @@ of_pairs {test = test} R decides make xs f h =
       },
     )
 
-pub pairs_of : {A B : Type 0} {test : A → A → Bool} (R : A → A → Type 0) → ((x y : A) → Decides (test x y) (R x y)) → (make : ℕ → ℕ → B) (xs : List A) (i j : ℕ)
+pub pairs_of : {A B : Type 0} {test : A → A → Bool} (R : A → A → Type 0) → ((x y : A) → Decides (test x y) (R x y))
+    → (make : ℕ → ℕ → B) (xs : List A) (i j : ℕ)
     → PairAt R xs i j → Contains (pairs test make xs) (make i j)
 unfolding pairs each
 pairs_of {test = test} R decides make xs i j p =
     let at : j ≡ i + 1 + (j - (i + 1)) = omega arith in
-    let inner = in_each_of (λ k y. found_if (test p.first y) (make i k)) (i + 1) (drop (i + 1) xs) (make i j) (j - (i + 1)) j p.second at (behind i (j - (i + 1)) j xs at ∙ p.second_is) (found_if_of _ _ ((decides p.first p.second).1 p.related)) in
+    let second_is = behind i (j - (i + 1)) j xs at ∙ p.second_is in
+    let made = found_if_of _ (make i j) ((decides p.first p.second).1 p.related) in
+    let inner = in_each_of (λ k y. found_if (test p.first y) (make i k)) (i + 1) (drop (i + 1) xs) (make i j) (j - (i + 1)) j p.second at
+    second_is made in
     in_each_of (after test make xs) 0 xs (make i j) i i p.first (omega arith) p.first_is inner

@@ -1,5 +1,6 @@
 -- What follows where a list of faults is empty.
-use Rattle.std.proofs.Common.{◌≡◌, ◌≢◌, ℕ, ◌≤◌, Bool, true, false, ◌&&◌, if◌then◌else◌, List, [], ◌∷◌, ◌++◌, length, map, All, AllPairs, refl, ap, append_assoc, arith, suc, nat_le}
+use Rattle.std.proofs.Common.{◌≡◌, ◌≢◌, ℕ, ◌≤◌, Bool, true, false, ◌&&◌, if◌then◌else◌, List, []}
+use Rattle.std.proofs.Common.{◌∷◌, ◌++◌, length, map, All, AllPairs, refl, ap, append_assoc, arith, suc, nat_le}
 use Rattle.std.proofs.lemmas.Bool.{leb-true, or_parts}
 use Rattle.std.proofs.lemmas.Bool.Decides.{not_from_Decides}
 use Rattle.std.proofs.lemmas.List.{append-nil, length-map, get_or-map}
@@ -43,14 +44,16 @@ length-Each Is no_items (x ∷ xs) each = absurd each
 length-Each Is (item d ds) [] each = absurd each
 length-Each Is (item d ds) (x ∷ xs) each = ap suc (length-Each Is ds xs each.1)
 
-pub Each-weaken : {T : Type 0} (Is Was : Data → T → Type 0) (weaker : (d : Data) (x : T) → Is d x → Was d x) (ds : Items) (xs : List T) → Each Is ds xs → Each Was ds xs
+pub Each-weaken : {T : Type 0} (Is Was : Data → T → Type 0) (weaker : (d : Data) (x : T) → Is d x → Was d x) (ds : Items) (xs : List T)
+    → Each Is ds xs → Each Was ds xs
 unfolding Each
 Each-weaken Is Was weaker no_items [] each = tt
 Each-weaken Is Was weaker no_items (x ∷ xs) each = each
 Each-weaken Is Was weaker (item d ds) [] each = each
 Each-weaken Is Was weaker (item d ds) (x ∷ xs) each = (weaker d x each.0, Each-weaken Is Was weaker ds xs each.1)
 
-pub All-from_Each : {T : Type 0} (Is : Data → T → Type 0) (P : T → Type 0) (holds : (d : Data) (x : T) → Is d x → P x) (ds : Items) (xs : List T) → Each Is ds xs → All P xs
+pub All-from_Each : {T : Type 0} (Is : Data → T → Type 0) (P : T → Type 0) (holds : (d : Data) (x : T) → Is d x → P x) (ds : Items) (xs : List T)
+    → Each Is ds xs → All P xs
 unfolding Each
 All-from_Each Is P holds no_items [] each = λ k d below. absurd (omega arith)
 All-from_Each Is P holds no_items (x ∷ xs) each = absurd each
@@ -59,7 +62,9 @@ All-from_Each Is P holds (item d ds) (x ∷ xs) each = All-cons P x xs (holds d 
 
 -- ---- labels
 
-pub labels_told : {T : Type 0} (Is : Data → T → Type 0) (label_of : Data → List ℕ) (label_bytes : T → List ℕ) (same : (d : Data) (x : T) → Is d x → label_bytes x ≡ label_of d) (ds : Items) (xs : List T) → Each Is ds xs → map label_bytes xs ≡ labels_of label_of ds
+pub labels_told : {T : Type 0} (Is : Data → T → Type 0) (label_of : Data → List ℕ) (label_bytes : T → List ℕ)
+    (same : (d : Data) (x : T) → Is d x → label_bytes x ≡ label_of d) (ds : Items) (xs : List T) → Each Is ds xs
+    → map label_bytes xs ≡ labels_of label_of ds
 unfolding Each labels_of
 labels_told Is label_of label_bytes same no_items [] each = refl
 labels_told Is label_of label_bytes same no_items (x ∷ xs) each = absurd each
@@ -85,31 +90,37 @@ repeated true false f e none = refl
 repeated false is_old f e none = cc
 
 -- a label that is no fault is none of those before it
-pub fresh_label : (at : Table) (kind : TextKind) (seen : List (List ℕ)) (label : List ℕ) → takes kind label ≡ true → repeated_faults at kind seen label ≡ [] → is_among seen label ≡ false
+pub fresh_label : (at : Table) (kind : TextKind) (seen : List (List ℕ)) (label : List ℕ) → takes kind label ≡ true
+    → repeated_faults at kind seen label ≡ [] → is_among seen label ≡ false
 unfolding repeated_faults
 fresh_label at kind seen label taken none = repeated (takes kind label) (is_among seen label) _ taken none
 
 apart_behind : {T : Type 0} (Is : Data → T → Type 0) (faults : ℕ → List (List ℕ) → Data → List Fault) (label_of : Data → List ℕ)
     (fresh : (i : ℕ) (seen : List (List ℕ)) (d : Data) (x : T) → Is d x → faults i seen d ≡ [] → is_among seen (label_of d) ≡ false)
-    → (i : ℕ) (seen : List (List ℕ)) (ds : Items) (xs : List T) → Each Is ds xs → each_faults faults label_of i seen ds ≡ [] → AreApart seen → AreApart (seen ++ labels_of label_of ds)
+    → (i : ℕ) (seen : List (List ℕ)) (ds : Items) (xs : List T) → Each Is ds xs → each_faults faults label_of i seen ds ≡ [] → AreApart seen
+    → AreApart (seen ++ labels_of label_of ds)
 unfolding Each each_faults labels_of
 apart_behind Is faults label_of fresh i seen no_items xs each none apart = rw (append-nil seen) apart
 apart_behind Is faults label_of fresh i seen (item d ds) [] each none apart = absurd each
 apart_behind Is faults label_of fresh i seen (item d ds) (x ∷ xs) each none apart =
     let here = fresh i seen d x each.0 (none_left _ _ none) in
     let more = all_pairs_push (λ l m. l ≢ m) seen (label_of d) apart (apart_from seen (label_of d) here) in
-    rw (← append_assoc seen (label_of d ∷ []) (labels_of label_of ds)) (apart_behind Is faults label_of fresh (suc i) (seen ++ label_of d ∷ []) ds xs each.1 (none_right _ _ none) more)
+    rw (← append_assoc seen (label_of d ∷ []) (labels_of label_of ds))
+    (apart_behind Is faults label_of fresh (suc i) (seen ++ label_of d ∷ []) ds xs each.1 (none_right _ _ none) more)
 
-apart_from_map : {T : Type 0} (label_bytes : T → List ℕ) (xs : List T) → AreApart (map label_bytes xs) → AllPairs (λ x y. label_bytes x ≢ label_bytes y) xs
+apart_from_map : {T : Type 0} (label_bytes : T → List ℕ) (xs : List T) → AreApart (map label_bytes xs)
+    → AllPairs (λ x y. label_bytes x ≢ label_bytes y) xs
 apart_from_map label_bytes xs apart i j d before below =
     let at_i = get_or-map label_bytes xs i d (label_bytes d) (omega arith) in
     let at_j = get_or-map label_bytes xs j d (label_bytes d) below in
     rw (← at_i, ← at_j) (apart i j (label_bytes d) before (rw length-map below))
 
 -- elements without faults have labels that are apart
-pub labels_apart : {T : Type 0} (Is : Data → T → Type 0) (faults : ℕ → List (List ℕ) → Data → List Fault) (label_of : Data → List ℕ) (label_bytes : T → List ℕ)
+pub labels_apart : {T : Type 0} (Is : Data → T → Type 0) (faults : ℕ → List (List ℕ) → Data → List Fault) (label_of : Data → List ℕ)
+    (label_bytes : T → List ℕ)
     (same : (d : Data) (x : T) → Is d x → label_bytes x ≡ label_of d)
     (fresh : (i : ℕ) (seen : List (List ℕ)) (d : Data) (x : T) → Is d x → faults i seen d ≡ [] → is_among seen (label_of d) ≡ false)
     → (ds : Items) (xs : List T) → Each Is ds xs → each_faults faults label_of 0 [] ds ≡ [] → AllPairs (λ x y. label_bytes x ≢ label_bytes y) xs
 labels_apart Is faults label_of label_bytes same fresh ds xs each none =
-    apart_from_map label_bytes xs (rw (labels_told Is label_of label_bytes same ds xs each) (apart_behind Is faults label_of fresh 0 [] ds xs each none nothing_apart))
+    apart_from_map label_bytes xs
+    (rw (labels_told Is label_of label_bytes same ds xs each) (apart_behind Is faults label_of fresh 0 [] ds xs each none nothing_apart))

@@ -11,10 +11,13 @@ use Rattle.j39_plan.proofs.NoFaults.{none_right, fresh_label, labels_apart}
 abbrev pub IsRead : Data → SignalParts → Type 0
 IsRead d s = IsSignalOf d s × IsFit s
 
-fresh_signal : (g i : ℕ) (seen : List (List ℕ)) (d : Data) (s : SignalParts) → IsRead d s → signal_faults g i seen d ≡ [] → is_among seen (signal_label d) ≡ false
+fresh_signal : (g i : ℕ) (seen : List (List ℕ)) (d : Data) (s : SignalParts) → IsRead d s → signal_faults g i seen d ≡ []
+    → is_among seen (signal_label d) ≡ false
 unfolding signal_faults
-fresh_signal g i seen d s read none = fresh_label (at.Signal g i) texts.Label seen (signal_label d) (rw (← read.0.has_label) read.1.label_form) (none_right _ _ none)
+fresh_signal g i seen d s read none =
+    fresh_label (at.Signal g i) texts.Label seen (signal_label d) (rw (← read.0.has_label) read.1.label_form) (none_right _ _ none)
 
-pub signals_apart : (g : ℕ) (ds : Items) (xs : List SignalParts) → Each IsRead ds xs → each_faults (signal_faults g) signal_label 0 [] ds ≡ [] → AllPairs (λ s t. s.label.bytes ≢ t.label.bytes) xs
+pub signals_apart : (g : ℕ) (ds : Items) (xs : List SignalParts) → Each IsRead ds xs → each_faults (signal_faults g) signal_label 0 [] ds ≡ []
+    → AllPairs (λ s t. s.label.bytes ≢ t.label.bytes) xs
 signals_apart g ds xs each none =
-    labels_apart IsRead (signal_faults g) signal_label (λ s. s.label.bytes) (λ d s read. read.0.has_label) (λ i seen d s. fresh_signal g i seen d s) ds xs each none
+    labels_apart IsRead (signal_faults g) signal_label (λ s. s.label.bytes) (λ d s read. read.0.has_label) (fresh_signal g) ds xs each none

@@ -1,5 +1,6 @@
 -- What is true of the units, the groups and the flows of a plan that was read.
-use Rattle.std.proofs.Common.{◌≡◌, ◌≢◌, ℕ, ◌<◌, Bool, true, false, if◌then◌else◌, List, [], length, map, Option, Some, None, option_map, All, AllPairs, codes}
+use Rattle.std.proofs.Common.{◌≡◌, ◌≢◌, ℕ, ◌<◌, Bool, true, false, if◌then◌else◌, List}
+use Rattle.std.proofs.Common.{[], length, map, Option, Some, None, option_map, All, AllPairs, codes}
 use Rattle.std.proofs.lemmas.List.{length-map}
 use Rattle.std.proofs.lemmas.List.Quantifiers.{position-Some}
 use Rattle.std.specs.Option.{option_and_then}
@@ -11,26 +12,32 @@ use Rattle.j39_plan.specs.declared.plan.unit_plan.UnitPlan.{UnitPlan}
 use Rattle.j39_plan.specs.declared.plan.group_plan.GroupPlan.{GroupPlan}
 use Rattle.j39_plan.specs.declared.reading.place.Table.TheVariants as at
 use Rattle.j39_plan.specs.declared.reading.text_kind.TextKind.TheVariants as texts
-use Rattle.j39_plan.specs.Elements.{each_faults, Each, is_among}
+use Rattle.j39_plan.specs.Elements.{each_faults, Each, is_among, labels_of}
 use Rattle.j39_plan.specs.Units.{IsUnitOf, unit_label, unit_faults}
 use Rattle.j39_plan.specs.Groups.{IsGroupOf, group_label, group_faults}
 use Rattle.j39_plan.specs.declared.plan.flow_plan.FlowPlan.{FlowPlan}
 use Rattle.j39_plan.specs.Flows.{place_of, receivers, IsFlowOf}
-use Rattle.j39_plan.proofs.NoFaults.{none_right, All-from_Each, fresh_label, labels_apart}
+use Rattle.j39_plan.proofs.NoFaults.{none_right, All-from_Each, fresh_label, labels_apart, labels_told}
 
-fresh_unit : (i : ℕ) (seen : List (List ℕ)) (d : Data) (u : UnitPlan) → IsUnitOf d u → unit_faults i seen d ≡ [] → is_among seen (unit_label d) ≡ false
+fresh_unit : (i : ℕ) (seen : List (List ℕ)) (d : Data) (u : UnitPlan) → IsUnitOf d u → unit_faults i seen d ≡ []
+    → is_among seen (unit_label d) ≡ false
 unfolding unit_faults
-fresh_unit i seen d u is none = fresh_label (at.Unit i) texts.UnitLabel seen (unit_label d) (rw (← is.has_label) u.label_form) (none_right _ _ none)
+fresh_unit i seen d u is none =
+    fresh_label (at.Unit i) texts.UnitLabel seen (unit_label d) (rw (← is.has_label) u.label_form) (none_right _ _ none)
 
-pub units_apart : (ds : Items) (xs : List UnitPlan) → Each IsUnitOf ds xs → each_faults unit_faults unit_label 0 [] ds ≡ [] → AllPairs (λ u w. u.label.bytes ≢ w.label.bytes) xs
+pub units_apart : (ds : Items) (xs : List UnitPlan) → Each IsUnitOf ds xs → each_faults unit_faults unit_label 0 [] ds ≡ []
+    → AllPairs (λ u w. u.label.bytes ≢ w.label.bytes) xs
 units_apart ds xs each none =
     labels_apart IsUnitOf unit_faults unit_label (λ u. u.label.bytes) (λ d u is. is.has_label) fresh_unit ds xs each none
 
-fresh_group : (i : ℕ) (seen : List (List ℕ)) (d : Data) (g : GroupPlan) → IsGroupOf d g → group_faults i seen d ≡ [] → is_among seen (group_label d) ≡ false
+fresh_group : (i : ℕ) (seen : List (List ℕ)) (d : Data) (g : GroupPlan) → IsGroupOf d g → group_faults i seen d ≡ []
+    → is_among seen (group_label d) ≡ false
 unfolding group_faults
-fresh_group i seen d g is none = fresh_label (at.Group i) texts.Label seen (group_label d) (rw (← is.has_label) g.label_form) (none_right _ _ none)
+fresh_group i seen d g is none =
+    fresh_label (at.Group i) texts.Label seen (group_label d) (rw (← is.has_label) g.label_form) (none_right _ _ none)
 
-pub groups_apart : (ds : Items) (xs : List GroupPlan) → Each IsGroupOf ds xs → each_faults group_faults group_label 0 [] ds ≡ [] → AllPairs (λ g h. g.label.bytes ≢ h.label.bytes) xs
+pub groups_apart : (ds : Items) (xs : List GroupPlan) → Each IsGroupOf ds xs → each_faults group_faults group_label 0 [] ds ≡ []
+    → AllPairs (λ g h. g.label.bytes ≢ h.label.bytes) xs
 groups_apart ds xs each none =
     labels_apart IsGroupOf group_faults group_label (λ g. g.label.bytes) (λ d g is. is.has_label) fresh_group ds xs each none
 
@@ -53,7 +60,8 @@ unfolding receivers
 receiver_below units word r found = place_below units word r (one_of (bytes_eq word (codes "all")) (place_of units word) r found)
 
 -- a receiver that a text names is in range
-pub received : (units : List (List ℕ)) (text : Option (List ℕ)) (to : To) (r : ℕ) → option_and_then (receivers units) text ≡ Some to → to ≡ One r → r < length units
+pub received : (units : List (List ℕ)) (text : Option (List ℕ)) (to : To) (r : ℕ) → option_and_then (receivers units) text ≡ Some to → to ≡ One r
+    → r < length units
 received units None to r found is = cc
 received units (Some word) to r found is = receiver_below units word r (rw is at found)
 
@@ -64,11 +72,28 @@ unit_texts = map (λ u. u.label.bytes)
 abbrev pub group_texts : List GroupPlan → List (List ℕ)
 group_texts = map (λ g. g.label.bytes)
 
-pub flow_groups : (gs : List GroupPlan) (us : List UnitPlan) (ds : Items) (fs : List FlowPlan) → Each (IsFlowOf (group_texts gs) (unit_texts us)) ds fs → All (λ f. f.group < length gs) fs
-flow_groups gs us ds fs each = All-from_Each (IsFlowOf (group_texts gs) (unit_texts us)) (λ f. f.group < length gs) (λ d f is. rw length-map at (placed (group_texts gs) _ f.group is.has_group)) ds fs each
+-- those of units and of groups that were read are those of the file
+pub unit_texts_told : (ds : Items) (us : List UnitPlan) → Each IsUnitOf ds us → unit_texts us ≡ labels_of unit_label ds
+unit_texts_told = labels_told IsUnitOf unit_label (λ u. u.label.bytes) (λ d u is. is.has_label)
 
-pub flow_senders : (gs : List GroupPlan) (us : List UnitPlan) (ds : Items) (fs : List FlowPlan) → Each (IsFlowOf (group_texts gs) (unit_texts us)) ds fs → All (λ f. f.sender < length us) fs
-flow_senders gs us ds fs each = All-from_Each (IsFlowOf (group_texts gs) (unit_texts us)) (λ f. f.sender < length us) (λ d f is. rw length-map at (placed (unit_texts us) _ f.sender is.has_sender)) ds fs each
+pub group_texts_told : (ds : Items) (gs : List GroupPlan) → Each IsGroupOf ds gs → group_texts gs ≡ labels_of group_label ds
+group_texts_told = labels_told IsGroupOf group_label (λ g. g.label.bytes) (λ d g is. is.has_label)
 
-pub flow_receivers : (gs : List GroupPlan) (us : List UnitPlan) (ds : Items) (fs : List FlowPlan) → Each (IsFlowOf (group_texts gs) (unit_texts us)) ds fs → All (λ f. (r : ℕ) → f.to ≡ One r → r < length us) fs
-flow_receivers gs us ds fs each = All-from_Each (IsFlowOf (group_texts gs) (unit_texts us)) (λ f. (r : ℕ) → f.to ≡ One r → r < length us) (λ d f is r one. rw length-map at (received (unit_texts us) _ f.to r is.has_receivers one)) ds fs each
+-- what a table tells is a flow between these units of one of these groups
+abbrev pub IsBetween : List GroupPlan → List UnitPlan → Data → FlowPlan → Type 0
+IsBetween gs us = IsFlowOf (group_texts gs) (unit_texts us)
+
+pub flow_groups : (gs : List GroupPlan) (us : List UnitPlan) (ds : Items) (fs : List FlowPlan) → Each (IsBetween gs us) ds fs
+    → All (λ f. f.group < length gs) fs
+flow_groups gs us = All-from_Each (IsBetween gs us) (λ f. f.group < length gs)
+    (λ d f is. rw length-map at (placed (group_texts gs) _ f.group is.has_group))
+
+pub flow_senders : (gs : List GroupPlan) (us : List UnitPlan) (ds : Items) (fs : List FlowPlan) → Each (IsBetween gs us) ds fs
+    → All (λ f. f.sender < length us) fs
+flow_senders gs us = All-from_Each (IsBetween gs us) (λ f. f.sender < length us)
+    (λ d f is. rw length-map at (placed (unit_texts us) _ f.sender is.has_sender))
+
+pub flow_receivers : (gs : List GroupPlan) (us : List UnitPlan) (ds : Items) (fs : List FlowPlan) → Each (IsBetween gs us) ds fs
+    → All (λ f. (r : ℕ) → f.to ≡ One r → r < length us) fs
+flow_receivers gs us = All-from_Each (IsBetween gs us) (λ f. (r : ℕ) → f.to ≡ One r → r < length us)
+    (λ d f is r one. rw length-map at (received (unit_texts us) _ f.to r is.has_receivers one))

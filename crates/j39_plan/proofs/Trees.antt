@@ -1,5 +1,6 @@
 -- From the tree of a text to what reading it answers.
-use Rattle.std.proofs.Common.{◌≢◌, [], suc, length, sym, ◌∙◌, subst, IsErrOf, ◌≡◌, ℕ, true, false, List, Option, Some, None, Result, Ok, Err, refl}
+use Rattle.std.proofs.Common.{◌≢◌, [], suc, length, sym, ◌∙◌, subst, IsErrOf, ◌≡◌, ℕ}
+use Rattle.std.proofs.Common.{true, false, List, Option, Some, None, Result, Ok, Err, refl}
 use Rattle.std.specs.Prelude.{IsUtf8}
 use Rattle.std.specs.Str.{is_utf8}
 use Rattle.std.proofs.lemmas.Str.{is_utf8-from_IsUtf8, IsUtf8-from_is_utf8}
@@ -18,7 +19,8 @@ use Rattle.j39_plan.specs.TableFaults.{unknown_faults, key_faults}
 use Rattle.j39_plan.specs.Faults.{faults, top_faults, is_second}
 use Rattle.j39_plan.specs.Described.{Holds, tree_of, Reads, MayAskForRoom}
 
-pub reads_tree : (r : Result Plan PlanError) (t : Members) (tree : Option Members) → tree ≡ Some t → GivesGrowing (PlanGrows t) r (faults t) (Holds t) → Reads r tree
+pub reads_tree : (r : Result Plan PlanError) (t : Members) (tree : Option Members) → tree ≡ Some t → GivesGrowing (PlanGrows t) r (faults t) (Holds t)
+    → Reads r tree
 reads_tree (Ok p) t tree found gives = (t, found, gives)
 reads_tree (Err errors.Text) t tree found gives = absurd gives
 reads_tree (Err (errors.Fault f)) t tree found gives = (t, found, gives)
@@ -28,7 +30,10 @@ pub tree_of_utf8 : (bytes : List ℕ) → IsUtf8 bytes → tree_of bytes ≡ par
 tree_of_utf8 bytes is = rw (is_utf8-from_IsUtf8 bytes is)
 
 pub no_tree : (bytes : List ℕ) → (IsUtf8 bytes → ⊥) → tree_of bytes ≡ None
-no_tree bytes not = elim (is_utf8 bytes) as (λ b. is_utf8 bytes ≡ b → tree_of bytes ≡ None) [ true ↦ λ e. absurd (not (IsUtf8-from_is_utf8 bytes e)) | false ↦ λ e. rw e ] refl
+no_tree bytes not = elim (is_utf8 bytes) as (λ b. is_utf8 bytes ≡ b → tree_of bytes ≡ None) [
+  | true ↦ λ e. absurd (not (IsUtf8-from_is_utf8 bytes e))
+  | false ↦ λ e. rw e
+] refl
 
 -- ---- memory
 

@@ -19,7 +19,8 @@ use Rattle.j39_plan.specs.declared.plan.flow_plan.FlowPlan.{FlowPlan}
 use Rattle.j39_plan.specs.declared.plan.to.To.{To}
 use Rattle.j39_plan.specs.declared.plan.to.To.TheVariants.{All, One}
 use Rattle.j39_plan.specs.declared.checking.finding.Finding.{Finding}
-use Rattle.j39_plan.specs.declared.checking.finding.Finding.TheVariants.{SameName, SameFixedAddress, TooFewAddresses, BadPgn, SamePgn, SignalWidth, SignalOutside, SignalOverlap, FlowToOne, FlowToSelf, FlowRepeated, KeptAddress}
+use Rattle.j39_plan.specs.declared.checking.finding.Finding.TheVariants.{SameName, SameFixedAddress, TooFewAddresses, BadPgn, SamePgn, SignalWidth}
+use Rattle.j39_plan.specs.declared.checking.finding.Finding.TheVariants.{SignalOutside, SignalOverlap, FlowToOne, FlowToSelf, FlowRepeated, KeptAddress}
 
 -- ---- units
 
@@ -115,7 +116,8 @@ abbrev pub are_one_flow : FlowPlan → FlowPlan → Bool
 are_one_flow f h = f.group == h.group && (f.sender == h.sender && have_same_receiver f.to h.to)
 
 unfoldable pub flow_findings : List GroupPlan → List FlowPlan → List Finding
-flow_findings groups flows = each (cannot_go_to_one groups) FlowToOne 0 flows ++ (each goes_to_its_sender FlowToSelf 0 flows ++ pairs are_one_flow FlowRepeated flows)
+flow_findings groups flows =
+    each (cannot_go_to_one groups) FlowToOne 0 flows ++ (each goes_to_its_sender FlowToSelf 0 flows ++ pairs are_one_flow FlowRepeated flows)
 
 -- ---- the whole list
 

@@ -46,7 +46,8 @@ abbrev pub arbitrary_rule : Rule
 arbitrary_rule = flag key.Arbitrary false
 
 abbrev pub name_rules : List Rule
-name_rules = identity_rule ∷ manufacturer_rule ∷ ecu_rule ∷ function_instance_rule ∷ function_rule ∷ system_rule ∷ system_instance_rule ∷ industry_rule ∷ arbitrary_rule ∷ []
+name_rules = identity_rule ∷ manufacturer_rule ∷ ecu_rule ∷ function_instance_rule ∷ function_rule
+    ∷ system_rule ∷ system_instance_rule ∷ industry_rule ∷ arbitrary_rule ∷ []
 
 -- the fields that a table tells; the reserved bit of a planned NAME is 0
 abbrev pub fields_of : Members → NameFields

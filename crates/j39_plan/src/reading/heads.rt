@@ -72,7 +72,8 @@ fn addresses(values: &[Value]) -> Result<AddressSet, Cause>
 /// The addresses at the key, and none where it is absent.
 #[tactic(auto, using(crate::proofs::Tables::items_count_view), unfolding(crate::specs::TableFaults::key_faults, crate::specs::Schema::addresses_of))]
 fn keep_free(members: &toml::Table) -> Result<AddressSet, PlanError>
-    ensures gives { Gives result (key_faults at.Top (table_view members.now) keep_free_rule) (λ s. s ≡ addresses_of keep_free_rule (table_view members.now)) }
+    ensures gives { Gives result (key_faults at.Top (table_view members.now) keep_free_rule)
+        (λ s. s ≡ addresses_of keep_free_rule (table_view members.now)) }
     ensures range { IfOk result (λ s. (a : ℕ) → contains s a ≡ true → in_pool a ≡ true) }
 {
     match value_at(members, Key::KeepFree) {

@@ -11,7 +11,8 @@ returns-in-Err-clause-reads c = no_tree _ c.in-Err.ensures.cases.0
 
 pub returns-in-Ok-table_from_str-clause-reads : goal.returns-in-Ok-table_from_str-clause-reads
 returns-in-Ok-table_from_str-clause-reads c =
-    let found : tree_of c.args.bytes.now ≡ Some (table_view c.in-Ok-table_from_str.members) = tree_of_utf8 _ c.in-Ok.ensures.cases.1 ∙ rw c.in-Ok.ensures.cases.0 at c.in-Ok-table_from_str.ensures.ok in
+    let parsed = rw c.in-Ok.ensures.cases.0 at c.in-Ok-table_from_str.ensures.ok in
+    let found : tree_of c.args.bytes.now ≡ Some (table_view c.in-Ok-table_from_str.members) = tree_of_utf8 _ c.in-Ok.ensures.cases.1 ∙ parsed in
     reads_tree _ _ _ found c.read_top.ensures
 
 pub returns-in-Ok-table_from_str-clause-memory : goal.returns-in-Ok-table_from_str-clause-memory

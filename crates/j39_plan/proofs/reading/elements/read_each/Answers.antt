@@ -11,16 +11,17 @@ returns-in_err-item g c =
     let p = err_from_is_err_and c.from_residual.result c.from_residual.ensures.1 in
     let here = items_view-drop c.args.values.now c.loop-index.index c.index-values-index.result c.loop-index-test.true in
     let read = rw (here, ← c.index-values-index.is) at c.loop-index.invariant in
-    rw (p.1, p.2) (fails_on _ _ c.in_err-item.field-0.0 _ _ (grows_inside _ _ _ _ _ _ _ _ _ _ read) (λ f. stops_at _ _ _ _ _ _ _ _ _ _ f read) (rw c.deref.ensures.value at c.in_err-item.ensures.gives))
+    let fails = rw c.deref.ensures.value at c.in_err-item.ensures.gives in
+    rw (p.1, p.2) (fails_on _ _ c.in_err-item.field-0.0 _ _ (grows_inside _ _ _ _ _ _ read) (λ f. stops_at _ _ _ _ _ _ f read) fails)
 
 pub loop-index-preserved : goal.loop-index-preserved
 loop-index-preserved g c =
     let here = items_view-drop c.args.values.now c.loop-index.index c.index-values-index.result c.loop-index-test.true in
     let read = rw (here, ← c.index-values-index.is) at c.loop-index.invariant in
     let gives = rw c.deref.ensures.value at c.in_ok-item.ensures.gives in
-    rw c.in_ok-push.ensures.items (goes_on _ _ _ _ _ _ _ _ _ _ _ read gives.0 gives.1 c.in_ok-item.ensures.labelled)
+    rw c.in_ok-push.ensures.items (goes_on _ _ _ _ _ _ _ read gives.0 gives.1 c.in_ok-item.ensures.labelled)
 
 pub returns : goal.returns
 returns g c =
     let none : drop c.loop-index.index c.args.values.now ≡ [] = drop_all c.loop-index.index c.args.values.now (omega arith) in
-    ends _ _ _ _ _ _ _ _ (rw none at c.loop-index.invariant)
+    ends _ _ _ _ (rw none at c.loop-index.invariant)

@@ -4,4 +4,11 @@ use Rattle.j39_plan.proofs.EachElement.{IsRead}
 use Rattle.j39_plan.proofs.reading.elements.read_each.Given as goal
 
 abbrev pub invariant-loop-index : goal.invariant-loop-index
-invariant-loop-index g l = IsRead (g.R.ReadElement.faults l.reader) g.R.ReadElement.label_of g.R.ReadElement.label_bytes (g.R.ReadElement.Grows l.reader) (g.R.ReadElement.Tells l.reader) l.index l.items.items (items_view (drop l.index l.values)) (items_view l.values)
+invariant-loop-index g l =
+    IsRead (record {
+      faults = g.R.ReadElement.faults l.reader;
+      label_of = g.R.ReadElement.label_of;
+      label_bytes = g.R.ReadElement.label_bytes;
+      Grows = g.R.ReadElement.Grows l.reader;
+      Tells = g.R.ReadElement.Tells l.reader;
+    }) l.index l.items.items (items_view (drop l.index l.values)) (items_view l.values)

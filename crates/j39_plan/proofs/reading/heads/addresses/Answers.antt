@@ -1,4 +1,3 @@
-use Rattle.std.proofs.Common.{◌≡◌, None}
 use Rattle.toml.proofs.Views.{items_view-drop}
 use Rattle.j39_plan.proofs.HeadElements.{begins, goes_on}
 use Rattle.j39_plan.proofs.reading.heads.addresses.Goals as goal
