@@ -78,9 +78,11 @@ answers_clean : {A : Type 0} (plan : Plan) (r : Result A AllocError) → OnErr r
 answers_clean plan (Ok done) refused clean = refl
 answers_clean plan (Err e) refused clean = absurd (refused (none_from_clean plan clean))
 
--- a search that wants memory where something is found
-pub wants_memory : {A : Type 0} (plan : Plan) (Q : AllocError → Type 0) (r : Result A AllocError) → IsErrAnd r Q → found plan ≢ []
-    → OnErr r (found plan ≢ []) × (Clean plan → IsOk r)
+-- memory was refused where something is found, so a clean plan is always answered
+abbrev pub WantsMemory : {A : Type 0} → Plan → Result A AllocError → Type 0
+WantsMemory plan r = OnErr r (found plan ≢ []) × (Clean plan → IsOk r)
+
+pub wants_memory : {A : Type 0} (plan : Plan) (Q : AllocError → Type 0) (r : Result A AllocError) → IsErrAnd r Q → found plan ≢ [] → WantsMemory plan r
 wants_memory plan Q r is some =
     let refused = on_err (found plan ≢ []) Q r is some in
     (refused, answers_clean plan r refused)

@@ -59,7 +59,7 @@ unfoldable pub receiver_faults : Table → List (List ℕ) → Option (List ℕ)
 receiver_faults at units None = []
 receiver_faults at units (Some t) = unknown_label at key.To (receivers units t)
 
-abbrev pub flow_table_faults : List (List ℕ) → List (List ℕ) → ℕ → Members → List Fault
+unfoldable pub flow_table_faults : List (List ℕ) → List (List ℕ) → ℕ → Members → List Fault
 flow_table_faults groups units i ms = table_faults (at.Flow i) flow_rules ms
     ++ (place_faults (at.Flow i) key.Group groups (found_text group_rule ms)
     ++ (place_faults (at.Flow i) key.From units (found_text from_rule ms)

@@ -45,7 +45,7 @@ IsGroupOf d g = TellsGroup (inside d) g
 abbrev pub group_label : Data → List ℕ
 group_label d = text_of label_rule (inside d)
 
-abbrev pub group_table_faults : ℕ → Members → List Fault
+unfoldable pub group_table_faults : ℕ → Members → List Fault
 group_table_faults g ms = table_faults (at.Group g) group_rules ms
     ++ each_faults (signal_faults g) signal_label 0 [] (tables_of signal_rule ms)
 

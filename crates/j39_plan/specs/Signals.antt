@@ -10,6 +10,7 @@ use Rattle.j39_signal.specs.declared.kind.Kind.TheVariants.{Measured, Discrete, 
 use Rattle.j39_signal.specs.Parts.{SignalParts, IsSignal}
 use Rattle.j39_plan.specs.Labels.{is_label}
 use Rattle.j39_plan.specs.declared.reading.key.Key.TheVariants as key
+use Rattle.j39_plan.specs.declared.reading.place.Table.{Table}
 use Rattle.j39_plan.specs.declared.reading.place.Table.TheVariants as at
 use Rattle.j39_plan.specs.declared.reading.fault.Fault.{Fault}
 use Rattle.j39_plan.specs.declared.reading.text_kind.TextKind.TheVariants as texts
@@ -72,11 +73,11 @@ pub record IsFit (s : SignalParts) : Type 0 where
 abbrev pub signal_label : Data → List ℕ
 signal_label d = text_of label_rule (inside d)
 
-abbrev pub signal_table_faults : ℕ → ℕ → Members → List Fault
-signal_table_faults g i = table_faults (at.Signal g i) signal_rules
+unfoldable pub signal_table_faults : Table → Members → List Fault
+signal_table_faults at = table_faults at signal_rules
 
 -- the faults of the i-th signal of the g-th group, behind those with the labels seen
 unfoldable pub signal_faults : ℕ → ℕ → List (List ℕ) → Data → List Fault
 signal_faults g i seen d = table_only_faults (at.Signal g i) d
-    ++ option_map_or (signal_table_faults g i) (as_table d) []
+    ++ option_map_or (signal_table_faults (at.Signal g i)) (as_table d) []
     ++ repeated_faults (at.Signal g i) texts.Label seen (signal_label d)

@@ -50,7 +50,7 @@ name_rules = identity_rule ∷ manufacturer_rule ∷ ecu_rule ∷ function_insta
     ∷ system_rule ∷ system_instance_rule ∷ industry_rule ∷ arbitrary_rule ∷ []
 
 -- the fields that a table tells; the reserved bit of a planned NAME is 0
-abbrev pub fields_of : Members → NameFields
+unfoldable pub fields_of : Members → NameFields
 fields_of ms = record {
   identity = number_of identity_rule ms;
   manufacturer = number_of manufacturer_rule ms;
@@ -64,7 +64,7 @@ fields_of ms = record {
   arbitrary = if flag_of arbitrary_rule ms then 1 else 0;
 }
 
-abbrev pub name_faults : ℕ → Members → List Fault
+unfoldable pub name_faults : ℕ → Members → List Fault
 name_faults i = table_faults (at.UnitName i) name_rules
 
 -- ---- the unit
@@ -104,7 +104,7 @@ IsUnitOf d u = TellsUnit (inside d) u
 abbrev pub unit_label : Data → List ℕ
 unit_label d = text_of label_rule (inside d)
 
-abbrev pub unit_table_faults : ℕ → Members → List Fault
+unfoldable pub unit_table_faults : ℕ → Members → List Fault
 unit_table_faults i ms = table_faults (at.Unit i) unit_rules ms ++ option_map_or (name_faults i) (table_of name_rule ms) []
 
 -- the faults of the i-th unit, behind those with the labels seen

@@ -55,7 +55,7 @@ pub struct Flows<'a> {
     pub units: &'a [UnitPlan],
 }
 
-#[tactic(auto, using(crate::proofs::FirstFaults::faults_after))]
+#[tactic(auto, using(crate::proofs::FirstFaults::faults_after), unfolding(crate::specs::Flows::flow_table_faults))]
 fn flow(
     groups: &[GroupPlan],
     units: &[UnitPlan],

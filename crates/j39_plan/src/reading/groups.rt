@@ -25,7 +25,7 @@ const GROUP_KEYS: [Key; 5] = [
     Key::Signal,
 ];
 
-#[tactic(auto, using(crate::proofs::FirstFaults::faults_after))]
+#[tactic(auto, using(crate::proofs::FirstFaults::faults_after), unfolding(crate::specs::Groups::group_table_faults))]
 fn group(alloc: Global, index: usize, members: &toml::Table) -> Result<GroupPlan, PlanError>
     ensures { GivesGrowing (GroupGrows index (table_view members.now)) result
         (group_table_faults index (table_view members.now)) (TellsGroup (table_view members.now)) }

@@ -22,7 +22,7 @@ const NAME_KEYS: [Key; 9] = [
     Key::Arbitrary,
 ];
 
-#[tactic(auto, using(crate::proofs::FirstFaults::faults_after))]
+#[tactic(auto, using(crate::proofs::FirstFaults::faults_after), unfolding(crate::specs::Units::name_faults, crate::specs::Units::fields_of))]
 fn name_fields(index: usize, members: &toml::Table) -> Result<NameFields, PlanError>
     ensures gives { Gives result (name_faults index (table_view members.now)) (λ f. f ≡ fields_of (table_view members.now)) }
     ensures in_range { IfOk result (λ f. first_out f ≡ None) }

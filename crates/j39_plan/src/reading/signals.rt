@@ -4,9 +4,9 @@ ghost use Rattle.toml.specs.View.{view, table_view};
 ghost use Rattle.j39_signal.specs.Parts.{IsSignal};
 ghost use Rattle.j39_plan.specs.Labels.{is_label};
 ghost use Rattle.j39_plan.specs.Schema.{text_of};
-ghost use Rattle.j39_plan.specs.TableFaults.{key_faults, table_faults};
+ghost use Rattle.j39_plan.specs.TableFaults.{key_faults};
 ghost use Rattle.j39_plan.specs.Outcome.{Gives};
-ghost use Rattle.j39_plan.specs.Signals.{kind_of, kind_rule, signal_rules, TellsSignal};
+ghost use Rattle.j39_plan.specs.Signals.{kind_of, kind_rule, signal_table_faults, TellsSignal};
 
 use super::elements::ReadElement;
 use super::labels::{Labelled, untaken};
@@ -30,23 +30,29 @@ const SIGNAL_KEYS: [Key; 8] = [
     Key::Unit,
 ];
 
-fn kind(members: &toml::Table, table: Table) -> Result<Kind, PlanError>
-    ensures { Gives result (key_faults table (table_view members.now) kind_rule)
-        (λ k. k ≡ kind_of (text_of kind_rule (table_view members.now))) }
+fn kind_of(word: &str) -> Kind
+    ensures { result ≡ kind_of word.now }
 {
-    let word = text(members, table, Key::Kind, TextKind::SignalKind, None)?;
-    Ok(if word == "measured" {
+    if word == "measured" {
         Kind::Measured
     } else if word == "discrete" {
         Kind::Discrete
     } else {
         Kind::Raw
-    })
+    }
 }
 
-#[tactic(auto, using(crate::proofs::FirstFaults::faults_after))]
+fn kind(members: &toml::Table, table: Table) -> Result<Kind, PlanError>
+    ensures { Gives result (key_faults table (table_view members.now) kind_rule)
+        (λ k. k ≡ kind_of (text_of kind_rule (table_view members.now))) }
+{
+    let word = text(members, table, Key::Kind, TextKind::SignalKind, None)?;
+    Ok(kind_of(word))
+}
+
+#[tactic(auto, using(crate::proofs::FirstFaults::faults_after), unfolding(crate::specs::Signals::signal_table_faults))]
 fn signal(table: Table, members: &toml::Table) -> Result<Signal, PlanError>
-    ensures gives { Gives result (table_faults table signal_rules (table_view members.now)) (TellsSignal (table_view members.now)) }
+    ensures gives { Gives result (signal_table_faults table (table_view members.now)) (TellsSignal (table_view members.now)) }
     ensures label_form { IfOk result (λ s. IsTrue (is_label s.label.bytes)) }
     ensures ranges { IfOk result (λ s. IsSignal s.start s.bits s.step s.offset) }
 {

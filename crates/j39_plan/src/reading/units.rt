@@ -39,6 +39,16 @@ fn address(members: &toml::Table, table: Table) -> Result<Address, PlanError>
     }
 }
 
+fn way_of(word: &str) -> Way
+    ensures { result ≡ way_of word.now }
+{
+    if word == "upward" {
+        Way::Upward
+    } else {
+        Way::Lowest
+    }
+}
+
 fn way(members: &toml::Table, table: Table) -> Result<Way, PlanError>
     ensures { Gives result (key_faults table (table_view members.now) chooser_rule)
         (λ w. w ≡ way_of (text_of chooser_rule (table_view members.now))) }
@@ -50,14 +60,10 @@ fn way(members: &toml::Table, table: Table) -> Result<Way, PlanError>
         TextKind::Chooser,
         Some("lowest"),
     )?;
-    Ok(if word == "upward" {
-        Way::Upward
-    } else {
-        Way::Lowest
-    })
+    Ok(way_of(word))
 }
 
-#[tactic(auto, using(crate::proofs::FirstFaults::faults_after))]
+#[tactic(auto, using(crate::proofs::FirstFaults::faults_after), unfolding(crate::specs::Units::unit_table_faults))]
 fn unit(index: usize, members: &toml::Table) -> Result<UnitPlan, PlanError>
     ensures { Gives result (unit_table_faults index (table_view members.now)) (TellsUnit (table_view members.now)) }
 {

@@ -3,38 +3,66 @@ use Rattle.j39_plan.specs.declared.checking.finding.Finding.{Finding}
 use Rattle.j39_plan.specs.Findings.{AreFindings}
 use Rattle.j39_plan.specs.Found.{found}
 use Rattle.j39_plan.proofs.FoundLaws.{are_findings}
-use Rattle.j39_plan.proofs.AddingLemmas.{wants_memory, units_some, groups_some, signals_some, flows_some, kept_some}
+use Rattle.j39_plan.proofs.AddingLemmas.{WantsMemory, wants_memory, units_some, groups_some, signals_some, flows_some, kept_some}
 use Rattle.j39_plan.proofs.checking.check.Goals as goal
+use Rattle.j39_plan.proofs.checking.check.Goals.{After-drop-findings, After-drop-findings-in_err-find_in_groups}
+use Rattle.j39_plan.proofs.checking.check.Goals.{After-drop-findings-in_err-find_in_signals}
+use Rattle.j39_plan.proofs.checking.check.Goals.{After-drop-findings-in_err-find_in_flows, After-drop-findings-in_err-find_kept}
 
-pub returns-in_err-find_in_units : goal.returns-in_err-find_in_units
-returns-in_err-find_in_units c =
-    let some = units_some c.args.plan.now (rw (c.deref.ensures.value) at c.in_err-find_in_units.ensures) in
-    let refused = wants_memory c.args.plan.now _ _ c.from_residual.ensures.1 some in
-    record { list = search rules; exact = search rules; memory = refused.0; clean = refused.1 }
+units_want : (c : After-drop-findings) → WantsMemory c.args.plan.now c.from_residual.result
+units_want c =
+    wants_memory c.args.plan.now _ _ c.from_residual.ensures.1
+    (units_some c.args.plan.now (rw (c.deref.ensures.value) at c.in_err-find_in_units.ensures))
 
-pub returns-in_err-find_in_groups : goal.returns-in_err-find_in_groups
-returns-in_err-find_in_groups c =
-    let some = groups_some c.args.plan.now (rw (c.deref-2.ensures.value) at c.in_err-find_in_groups.ensures) in
-    let refused = wants_memory c.args.plan.now _ _ c.from_residual-in_err-find_in_groups.ensures.1 some in
-    record { list = search rules; exact = search rules; memory = refused.0; clean = refused.1 }
+pub returns-in_err-find_in_units-clause-memory : goal.returns-in_err-find_in_units-clause-memory
+returns-in_err-find_in_units-clause-memory c = (units_want c).0
 
-pub returns-in_err-find_in_signals : goal.returns-in_err-find_in_signals
-returns-in_err-find_in_signals c =
-    let some = signals_some c.args.plan.now (rw (c.deref-3.ensures.value) at c.in_err-find_in_signals.ensures) in
-    let refused = wants_memory c.args.plan.now _ _ c.from_residual-in_err-find_in_signals.ensures.1 some in
-    record { list = search rules; exact = search rules; memory = refused.0; clean = refused.1 }
+pub returns-in_err-find_in_units-clause-clean : goal.returns-in_err-find_in_units-clause-clean
+returns-in_err-find_in_units-clause-clean c = (units_want c).1
 
-pub returns-in_err-find_in_flows : goal.returns-in_err-find_in_flows
-returns-in_err-find_in_flows c =
-    let some = flows_some c.args.plan.now (rw (c.deref-4.ensures.value, c.deref-5.ensures.value) at c.in_err-find_in_flows.ensures) in
-    let refused = wants_memory c.args.plan.now _ _ c.from_residual-in_err-find_in_flows.ensures.1 some in
-    record { list = search rules; exact = search rules; memory = refused.0; clean = refused.1 }
+groups_want : (c : After-drop-findings-in_err-find_in_groups) → WantsMemory c.args.plan.now c.from_residual-in_err-find_in_groups.result
+groups_want c =
+    wants_memory c.args.plan.now _ _ c.from_residual-in_err-find_in_groups.ensures.1
+    (groups_some c.args.plan.now (rw (c.deref-2.ensures.value) at c.in_err-find_in_groups.ensures))
 
-pub returns-in_err-find_kept : goal.returns-in_err-find_kept
-returns-in_err-find_kept c =
-    let some = kept_some c.args.plan.now (rw (c.deref-6.ensures.value) at c.in_err-find_kept.ensures) in
-    let refused = wants_memory c.args.plan.now _ _ c.from_residual-in_err-find_kept.ensures.1 some in
-    record { list = search rules; exact = search rules; memory = refused.0; clean = refused.1 }
+pub returns-in_err-find_in_groups-clause-memory : goal.returns-in_err-find_in_groups-clause-memory
+returns-in_err-find_in_groups-clause-memory c = (groups_want c).0
+
+pub returns-in_err-find_in_groups-clause-clean : goal.returns-in_err-find_in_groups-clause-clean
+returns-in_err-find_in_groups-clause-clean c = (groups_want c).1
+
+signals_want : (c : After-drop-findings-in_err-find_in_signals) → WantsMemory c.args.plan.now c.from_residual-in_err-find_in_signals.result
+signals_want c =
+    wants_memory c.args.plan.now _ _ c.from_residual-in_err-find_in_signals.ensures.1
+    (signals_some c.args.plan.now (rw (c.deref-3.ensures.value) at c.in_err-find_in_signals.ensures))
+
+pub returns-in_err-find_in_signals-clause-memory : goal.returns-in_err-find_in_signals-clause-memory
+returns-in_err-find_in_signals-clause-memory c = (signals_want c).0
+
+pub returns-in_err-find_in_signals-clause-clean : goal.returns-in_err-find_in_signals-clause-clean
+returns-in_err-find_in_signals-clause-clean c = (signals_want c).1
+
+flows_want : (c : After-drop-findings-in_err-find_in_flows) → WantsMemory c.args.plan.now c.from_residual-in_err-find_in_flows.result
+flows_want c =
+    wants_memory c.args.plan.now _ _ c.from_residual-in_err-find_in_flows.ensures.1
+    (flows_some c.args.plan.now (rw (c.deref-4.ensures.value, c.deref-5.ensures.value) at c.in_err-find_in_flows.ensures))
+
+pub returns-in_err-find_in_flows-clause-memory : goal.returns-in_err-find_in_flows-clause-memory
+returns-in_err-find_in_flows-clause-memory c = (flows_want c).0
+
+pub returns-in_err-find_in_flows-clause-clean : goal.returns-in_err-find_in_flows-clause-clean
+returns-in_err-find_in_flows-clause-clean c = (flows_want c).1
+
+kept_want : (c : After-drop-findings-in_err-find_kept) → WantsMemory c.args.plan.now c.from_residual-in_err-find_kept.result
+kept_want c =
+    wants_memory c.args.plan.now _ _ c.from_residual-in_err-find_kept.ensures.1
+    (kept_some c.args.plan.now (rw (c.deref-6.ensures.value) at c.in_err-find_kept.ensures))
+
+pub returns-in_err-find_kept-clause-memory : goal.returns-in_err-find_kept-clause-memory
+returns-in_err-find_kept-clause-memory c = (kept_want c).0
+
+pub returns-in_err-find_kept-clause-clean : goal.returns-in_err-find_kept-clause-clean
+returns-in_err-find_kept-clause-clean c = (kept_want c).1
 
 pub returns-clause-list : goal.returns-clause-list
 unfolding found

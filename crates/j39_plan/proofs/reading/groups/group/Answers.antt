@@ -3,6 +3,7 @@ use Rattle.j39_plan.specs.Labels.{is_label}
 use Rattle.j39_signal.specs.Parts.{IsSignal}
 use Rattle.j39_plan.specs.declared.reading.key.Key.TheVariants as key
 use Rattle.j39_plan.specs.Signals.{IsSignalOf}
+use Rattle.j39_plan.specs.Groups.{group_table_faults}
 use Rattle.j39_plan.proofs.NoFaults.{tables_count, length-Each, All-from_Each, Each-weaken}
 use Rattle.j39_plan.proofs.ReadGroups.{IsRead, signals_apart}
 use Rattle.j39_plan.proofs.reading.groups.group.Goals as goal
@@ -23,6 +24,7 @@ pub invariant_of-result-clause-signal_labels : goal.invariant_of-result-clause-s
 invariant_of-result-clause-signal_labels c = signals_apart c.args.index _ _ c.in_ok-signals.ensures.1 c.in_ok-signals.ensures.0
 
 pub returns : goal.returns
+unfolding group_table_faults
 returns c =
     let told = rw c.in_ok-values.ensures.1 at (Each-weaken IsRead IsSignalOf (λ d s read. read.0) _ _ c.in_ok-signals.ensures.1) in
     let none = rw c.in_ok-values.ensures.1 at c.in_ok-signals.ensures.0 in (
