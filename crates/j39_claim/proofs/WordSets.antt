@@ -15,7 +15,7 @@ use Rattle.std.specs.Cmp.{nat_cmp_total, unsigned_tied}
 use Rattle.std.specs.FinSet.{empty, contains, insert, remove, same_set, contains-empty, contains-from_list_nat}
 use Rattle.std.specs.FinSet.{contains-insert, contains-remove, contains-union, union, nat_cmp-IsAntisymmetric}
 use Rattle.j39_claim.specs.AddressSets.{is_free}
-use Rattle.j39_claim.specs.inside.Words.{has_bit, set_of, ArePassing}
+use Rattle.j39_claim.specs.inside.AddressWords.{has_bit, set_of, ArePassing}
 
 -- whether q is among those that pass of the numbers from k on, where k passes or not
 abbrev is_among : (ℕ → Bool) → ℕ → ℕ → ℕ → Bool → Bool
@@ -82,8 +82,8 @@ bit_set words p four below = same_set nat_cmp_total nat_cmp-IsAntisymmetric _ _ 
       | inl same ↦ has_same words p (with_bit words p) q (omega arith) same ∙ elim (cases_eq (q % 64) (p % 64)) [
         | inl here ↦ rw (here, bit_at_set_same w64 (get_or words (p / 64) 0) (p % 64) (omega arith), eq-eqb q p (omega arith)) refl
         | inr other ↦
-            let kept = bit_at_set_other w64 (get_or words (p / 64) 0) (p % 64) (omega arith) (q % 64) other in
-            rw (kept, ne_eqb q p (λ e. other (ap (λ n. n % 64) e)), same) refl
+            let stays = bit_at_set_other w64 (get_or words (p / 64) 0) (p % 64) (omega arith) (q % 64) other in
+            rw (stays, ne_eqb q p (λ e. other (ap (λ n. n % 64) e)), same) refl
       ]
       | inr apart ↦ has_other words p (with_bit words p) q apart ∙ rw (ne_eqb q p (λ e. apart (ap (λ n. n / 64) e))) refl
     ]
@@ -103,8 +103,8 @@ bit_cleared words p four below = same_set nat_cmp_total nat_cmp-IsAntisymmetric 
       | inl same ↦ has_same words p (without_bit words p) q (omega arith) same ∙ elim (cases_eq (q % 64) (p % 64)) [
         | inl here ↦ rw (here, bit_at_clear_same w64 (get_or words (p / 64) 0) (p % 64) (omega arith), eq-eqb q p (omega arith)) refl
         | inr other ↦
-            let kept = bit_at_clear_other w64 (get_or words (p / 64) 0) (p % 64) (omega arith) (q % 64) (omega arith) other in
-            rw (kept, ne_eqb q p (λ e. other (ap (λ n. n % 64) e)), same) refl
+            let stays = bit_at_clear_other w64 (get_or words (p / 64) 0) (p % 64) (omega arith) (q % 64) (omega arith) other in
+            rw (stays, ne_eqb q p (λ e. other (ap (λ n. n % 64) e)), same) refl
       ]
       | inr apart ↦ has_other words p (without_bit words p) q apart ∙ rw (ne_eqb q p (λ e. apart (ap (λ n. n / 64) e))) refl
     ]

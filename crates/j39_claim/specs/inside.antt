@@ -1,3 +1,3 @@
 -- What only private contracts and proofs need.
+pub mod AddressWords
 pub mod Noting
-pub mod Words

@@ -2,7 +2,7 @@
 ghost use Rattle.std.specs.Prelude.{◌≡◌};
 ghost use Rattle.std.specs.FinSet as set;
 ghost use Rattle.j39_claim.specs.AddressSets.{is_free, free_count, lowest_free, next_free};
-ghost use Rattle.j39_claim.specs.inside.Words.{ArePassing};
+ghost use Rattle.j39_claim.specs.inside.AddressWords.{ArePassing};
 
 use crate::free_pool::FreePool;
 use j39_id::Address;
@@ -18,7 +18,7 @@ impl Model for AddressSet {
     ghost use Rattle.std.specs.Ordering.{nat_cmp};
     ghost use Rattle.std.specs.FinSet as set;
     ghost use Rattle.std.specs.Coded.{coded_ℕ};
-    ghost use Rattle.j39_claim.specs.inside.Words.{set_of};
+    ghost use Rattle.j39_claim.specs.inside.AddressWords.{set_of};
 
     ghost Value = { set.FinSet nat_cmp };
 

@@ -1,7 +1,7 @@
 //! The free addresses of the pool, as bits.
 ghost use Rattle.std.specs.Prelude.{◌≡◌, ℕ, Bool, nat_lt, ◌+◌, ◌<◌, ◌≤◌};
 ghost use Rattle.std.specs.Int.{bit_at, from_bool};
-ghost use Rattle.j39_claim.specs.inside.Words.{ArePassing, count_in_pool, least_in_pool, is_above};
+ghost use Rattle.j39_claim.specs.inside.AddressWords.{ArePassing, count_in_pool, least_in_pool, is_above};
 
 use j39_id::addresses::POOL_FIRST;
 

@@ -5,7 +5,7 @@ use Rattle.std.specs.declared.alloc.AllocError.{AllocError}
 use Rattle.std.specs.List.{slice_get}
 use Rattle.std.proofs.lemmas.Option.{slice_get-get_or}
 use Rattle.j39_plan.specs.Adding.{Adds}
-use Rattle.j39_plan.specs.Places.{in_each, each, pairs, found_if}
+use Rattle.j39_plan.specs.ListPlaces.{in_each, each, pairs, found_if}
 use Rattle.j39_plan.specs.Found.{unit_findings, group_findings, signal_findings, flow_findings, kept_findings, found}
 use Rattle.j39_plan.specs.Findings.{Clean}
 use Rattle.j39_plan.specs.declared.plan.Plan.{Plan}

@@ -12,7 +12,7 @@ use Rattle.j39_plan.specs.declared.plan.Plan.{Plan}
 use Rattle.j39_plan.specs.declared.plan.group_plan.GroupPlan.{GroupPlan}
 use Rattle.j39_plan.specs.declared.checking.finding.Finding.TheVariants.{SameName, SameFixedAddress, TooFewAddresses, BadPgn, SamePgn, SignalWidth}
 use Rattle.j39_plan.specs.declared.checking.finding.Finding.TheVariants.{SignalOutside, SignalOverlap, FlowToOne, FlowToSelf, FlowRepeated, KeptAddress}
-use Rattle.j39_plan.specs.Places.{ValueAt, PairAt}
+use Rattle.j39_plan.specs.ListPlaces.{ValueAt, PairAt}
 use Rattle.j39_plan.specs.Findings.{CannotBePlanned, Clean}
 use Rattle.j39_plan.specs.CleanParts.{CanBePlanned, CleanParts}
 use Rattle.j39_plan.proofs.Deciding.{Decides-is_pgn}

@@ -11,10 +11,10 @@ use Rattle.j39_plan.specs.declared.plan.group_plan.GroupPlan.{GroupPlan}
 use Rattle.j39_plan.specs.declared.checking.finding.Finding.{Finding}
 use Rattle.j39_plan.specs.declared.checking.finding.Finding.TheVariants.{SameName, SameFixedAddress, TooFewAddresses, BadPgn, SamePgn, SignalWidth}
 use Rattle.j39_plan.specs.declared.checking.finding.Finding.TheVariants.{SignalOutside, SignalOverlap, FlowToOne, FlowToSelf, FlowRepeated, KeptAddress}
-use Rattle.j39_plan.specs.Places.{in_each, each, pairs, ValueAt, PairAt}
+use Rattle.j39_plan.specs.ListPlaces.{in_each, each, pairs, ValueAt, PairAt}
 use Rattle.j39_claim.specs.AddressSets.{free_count}
 use Rattle.j39_plan.specs.Findings.{HaveSameName, HaveSameFixedAddress, needed_addresses, HasBadPgn, HaveSamePgn, CannotGoToOne}
-use Rattle.j39_plan.specs.Findings.{GoesToItsSender, AreOneFlow, Holds, PrefersKept, IsBefore, IsBelow, number_of, places_of}
+use Rattle.j39_plan.specs.Findings.{GoesToItsSender, AreOneFlow, Holds, PrefersKept, IsBefore, IsBelow, finding_number, places_of}
 use Rattle.j39_plan.specs.Found.{too_few_addresses, unit_findings, group_findings, has_other_width}
 use Rattle.j39_plan.specs.Found.{ends_outside, overlap_findings, signal_findings, flow_findings, kept_findings}
 use Rattle.j39_plan.proofs.Members.{of_in_each, of_found_if, of_each, of_pairs}
@@ -26,8 +26,8 @@ use Rattle.j39_plan.proofs.Deciding.{Decides-cannot_go_to_one, Decides-goes_to_i
 -- findings of numbers from low to high that hold, in order
 pub record Covers (plan : Plan) (low high : ℕ) (findings : List Finding) : Type 0 where
   pub sound : (f : Finding) → Contains findings f → Holds plan f
-  pub least : (f : Finding) → Contains findings f → low ≤ number_of f
-  pub most : (f : Finding) → Contains findings f → number_of f ≤ high
+  pub least : (f : Finding) → Contains findings f → low ≤ finding_number f
+  pub most : (f : Finding) → Contains findings f → finding_number f ≤ high
   pub rises : Rises IsBefore findings
 
 pub Covers-append : (plan : Plan) (a b c d : ℕ) (xs ys : List Finding) → b < c → a ≤ c → b ≤ d → Covers plan a b xs → Covers plan c d ys
@@ -45,7 +45,7 @@ Covers-append plan a b c d xs ys less low high left right = record {
   rises = Rises-append IsBefore xs ys left.rises right.rises (λ f g here there.
       let e = left.most f here in
       let l = right.least g there in
-      let below : number_of f < number_of g = omega arith in
+      let below : finding_number f < finding_number g = omega arith in
       inl below);
 }
 
@@ -53,7 +53,7 @@ holds_at : (plan : Plan) (f g : Finding) → f ≡ g → Holds plan g → Holds 
 holds_at plan f g e h = let P : Finding → Type 0 = λ x. Holds plan x in subst P (sym e) h
 
 -- a family of one number, from what each of its findings is
-family : (plan : Plan) (n : ℕ) (findings : List Finding) → ((f : Finding) → Contains findings f → Holds plan f × (number_of f ≡ n))
+family : (plan : Plan) (n : ℕ) (findings : List Finding) → ((f : Finding) → Contains findings f → Holds plan f × (finding_number f ≡ n))
     → Rises IsBefore findings
     → Covers plan n n findings
 family plan n findings each_is rises = record {
@@ -64,12 +64,12 @@ family plan n findings each_is rises = record {
 }
 
 -- what holds of the finding that was made, holds of one equal to it
-made : (plan : Plan) (n : ℕ) (f g : Finding) → f ≡ g → Holds plan g → number_of g ≡ n → Holds plan f × (number_of f ≡ n)
-made plan n f g e h is = let P : Finding → Type 0 = λ x. Holds plan x × (number_of x ≡ n) in subst P (sym e) (h, is)
+made : (plan : Plan) (n : ℕ) (f g : Finding) → f ≡ g → Holds plan g → finding_number g ≡ n → Holds plan f × (finding_number f ≡ n)
+made plan n f g e h is = let P : Finding → Type 0 = λ x. Holds plan x × (finding_number x ≡ n) in subst P (sym e) (h, is)
 
 -- a finding of this number names these places
 record Names (n : ℕ) (named : List ℕ) (f : Finding) : Type 0 where
-  pub number : number_of f ≡ n
+  pub number : finding_number f ≡ n
   pub places : places_of f ≡ named
 
 -- of two findings of one number, by the places that they name

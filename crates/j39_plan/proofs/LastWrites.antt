@@ -29,24 +29,24 @@ in_range signals payload (b ∷ before) after w chain = in_range signals b.paylo
 ends_with : (bytes : ℕ) (signals : List SignalParts) → KeepsWrites bytes signals → (before after : List Write) (w : Write)
     → Chain signals (replicate bytes 255) (before ++ w ∷ after) → LeaveAlone after w.place
     → (d : SignalParts) → raw_of (last_payload (replicate bytes 255) (before ++ w ∷ after)) (get_or signals w.place d) ≡ w.raw
-ends_with bytes signals kept before after w chain alone d =
+ends_with bytes signals keeps before after w chain alone d =
     let less = in_range signals (replicate bytes 255) before after w chain in
-    (kept (before ++ w ∷ after) chain).held w.place less d ∙ last_put (map all_ones signals) before after w (rw length-map less) alone
+    (keeps (before ++ w ∷ after) chain).held w.place less d ∙ last_put (map all_ones signals) before after w (rw length-map less) alone
 
 ends_unset : (bytes : ℕ) (signals : List SignalParts) → KeepsWrites bytes signals → (writes : List Write) (place : ℕ)
     → Chain signals (replicate bytes 255) writes → LeaveAlone writes place → place < length signals
     → (d : SignalParts) → raw_of (last_payload (replicate bytes 255) writes) (get_or signals place d) ≡ all_ones (get_or signals place d)
-ends_unset bytes signals kept writes place chain alone less d =
-    (kept writes chain).held place less d ∙ (untouched (map all_ones signals) writes place alone ∙ get_or-map all_ones signals place d 0 less)
+ends_unset bytes signals keeps writes place chain alone less d =
+    (keeps writes chain).held place less d ∙ (untouched (map all_ones signals) writes place alone ∙ get_or-map all_ones signals place d 0 less)
 
 pub reads_last : (bytes : ℕ) (signals : List SignalParts) → KeepsWrites bytes signals → All ReadsBack signals → ReadsLastGiven bytes signals
-reads_last bytes signals kept reads = record {
+reads_last bytes signals keeps reads = record {
   given = λ before after w chain alone value d is.
       let less = in_range signals (replicate bytes 255) before after w chain in
-      ap (state_of (get_or signals w.place d)) (ends_with bytes signals kept before after w chain alone d) ∙ (reads w.place d less).values value w.raw is;
+      ap (state_of (get_or signals w.place d)) (ends_with bytes signals keeps before after w chain alone d) ∙ (reads w.place d less).values value w.raw is;
   given_up = λ before after w chain alone d ones.
       let less = in_range signals (replicate bytes 255) before after w chain in
-      ap (state_of (get_or signals w.place d)) (ends_with bytes signals kept before after w chain alone d ∙ ones) ∙ (reads w.place d less).given_up;
+      ap (state_of (get_or signals w.place d)) (ends_with bytes signals keeps before after w chain alone d ∙ ones) ∙ (reads w.place d less).given_up;
   never_given = λ writes place chain alone less d.
-      ap (state_of (get_or signals place d)) (ends_unset bytes signals kept writes place chain alone less d) ∙ (reads place d less).given_up;
+      ap (state_of (get_or signals place d)) (ends_unset bytes signals keeps writes place chain alone less d) ∙ (reads place d less).given_up;
 }

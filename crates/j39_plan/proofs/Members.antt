@@ -5,7 +5,7 @@ use Rattle.std.specs.List.{slice_get}
 use Rattle.std.proofs.lemmas.Bool.{false≢true}
 use Rattle.std.proofs.lemmas.Option.{none-some, same_Some}
 use Rattle.std.proofs.lemmas.List.Elements.{Contains-append_cases, Contains-append_left, Contains-append_right}
-use Rattle.j39_plan.specs.Places.{found_if, in_each, each, pairs, ValueAt, PairAt}
+use Rattle.j39_plan.specs.ListPlaces.{found_if, in_each, each, pairs, ValueAt, PairAt}
 use Rattle.j39_plan.proofs.PlaceLemmas.{after}
 
 -- f is found of the value at index k, whose place is i + k

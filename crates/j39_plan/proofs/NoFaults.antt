@@ -13,7 +13,7 @@ use Rattle.j39_plan.specs.declared.reading.fault.Fault.{Fault}
 use Rattle.j39_plan.specs.declared.reading.key.Key.{Key}
 use Rattle.j39_plan.specs.declared.reading.place.Table.{Table}
 use Rattle.j39_plan.specs.declared.reading.text_kind.TextKind.{TextKind}
-use Rattle.j39_plan.specs.Texts.{takes}
+use Rattle.j39_plan.specs.TextKinds.{takes}
 use Rattle.j39_plan.specs.Schema.{tables, tables_of, items_count}
 use Rattle.j39_plan.specs.Elements.{each_faults, Each, labels_of, is_among, repeated_faults}
 

@@ -20,7 +20,7 @@ use Rattle.j39_plan.specs.Flows.{IsFlowOf}
 use Rattle.j39_plan.specs.Schema.{tables_of}
 use Rattle.j39_plan.specs.Findings.{AreOneFlow}
 use Rattle.j39_plan.specs.Faults.{faults, unit_rule, group_rule, flow_rule, unit_labels, group_labels}
-use Rattle.j39_plan.specs.Described.{Holds, Described, Reads}
+use Rattle.j39_plan.specs.Described.{TellsPlan, Described, Reads}
 use Rattle.j39_plan.specs.OnePlan.{AreOneUnit, AreOneSignal, AreOneGroup, AreOnePlan, AreOneAnswer}
 
 -- what elements tell is one, where what each tells is
@@ -70,7 +70,7 @@ one_flow groups units d f h a b = (
   same_Some _ _ (sym a.has_receivers ∙ b.has_receivers),
 )
 
-one_plan : (tree : Members) (p q : Plan) → Holds tree p → Holds tree q → AreOnePlan p q
+one_plan : (tree : Members) (p q : Plan) → TellsPlan tree p → TellsPlan tree q → AreOnePlan p q
 one_plan tree p q a b = record {
   keep_free = a.has_keep_free ∙ sym b.has_keep_free;
   units = one_each IsUnitOf AreOneUnit one_unit (tables_of unit_rule tree) _ _ a.has_units b.has_units;

@@ -3,7 +3,7 @@ use Rattle.std.proofs.Common.{◌≡◌, ℕ, suc, ◌+◌, ◌<◌, List, [], �
 use Rattle.std.proofs.Common.{false, drop, Contains, AllPairs, All, refl, sym, subst, inl, inr, arith}
 use Rattle.std.proofs.lemmas.List.Elements.{Contains-append_cases, All-nil, All-cons}
 use Rattle.std.proofs.lemmas.List.Kept.{AllPairs-cons}
-use Rattle.j39_plan.specs.Places.{found_if, in_each, each, pairs}
+use Rattle.j39_plan.specs.ListPlaces.{found_if, in_each, each, pairs}
 use Rattle.j39_plan.proofs.PlaceLemmas.{after}
 use Rattle.j39_plan.proofs.Members.{of_in_each, of_found_if}
 

@@ -17,9 +17,9 @@ use Rattle.j39_plan.specs.Growing.{PlanGrows}
 use Rattle.j39_plan.specs.Schema.{number_of}
 use Rattle.j39_plan.specs.TableFaults.{unknown_faults, key_faults}
 use Rattle.j39_plan.specs.Faults.{faults, top_faults, is_second}
-use Rattle.j39_plan.specs.Described.{Holds, tree_of, Reads, MayAskForRoom}
+use Rattle.j39_plan.specs.Described.{TellsPlan, tree_of, Reads, MayAskForRoom}
 
-pub reads_tree : (r : Result Plan PlanError) (t : Members) (tree : Option Members) → tree ≡ Some t → GivesGrowing (PlanGrows t) r (faults t) (Holds t)
+pub reads_tree : (r : Result Plan PlanError) (t : Members) (tree : Option Members) → tree ≡ Some t → GivesGrowing (PlanGrows t) r (faults t) (TellsPlan t)
     → Reads r tree
 reads_tree (Ok p) t tree found gives = (t, found, gives)
 reads_tree (Err errors.Text) t tree found gives = absurd gives
@@ -57,7 +57,7 @@ never_blank text t is grows = λ blank.
     empty_faults (rw empty at grows.0)
 
 pub room_asked : (r : Result Plan PlanError) (bytes : List ℕ) (t : Members) → IsUtf8 bytes → parse_document bytes ≡ Some t
-    → GivesGrowing (PlanGrows t) r (faults t) (Holds t) → IsErrOf r errors.Memory → MayAskForRoom bytes
+    → GivesGrowing (PlanGrows t) r (faults t) (TellsPlan t) → IsErrOf r errors.Memory → MayAskForRoom bytes
 room_asked (Ok p) bytes t utf8 is gives memory = cc
 room_asked (Err e) bytes t utf8 is gives memory =
     let same : e ≡ errors.Memory = cc in

@@ -6,7 +6,7 @@ use Rattle.j39_id.specs.Name.{is_arbitrary}
 use Rattle.j39_id.specs.Pgn.{IsPgn}
 use Rattle.j39_id.specs.Services.{service_groups}
 use Rattle.j39_signal.specs.Places.{LaysOut}
-use Rattle.j39_plan.specs.Places.{ValueAt}
+use Rattle.j39_plan.specs.ListPlaces.{ValueAt}
 use Rattle.j39_plan.specs.Findings.{IsFixed, needed_addresses, IsProprietary, IsToOne, IsOneFrameToAll, AreOneFlow}
 use Rattle.j39_plan.specs.declared.plan.Plan.{Plan}
 use Rattle.j39_plan.specs.declared.plan.unit_plan.UnitPlan.{UnitPlan}

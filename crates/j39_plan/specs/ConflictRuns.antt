@@ -9,7 +9,7 @@ use Rattle.j39_plan.specs.declared.checking.finding.Finding.{Finding}
 use Rattle.j39_plan.specs.declared.checking.finding.Finding.TheVariants.{SameFixedAddress}
 use Rattle.j39_plan.specs.declared.steps.Step.{Step}
 use Rattle.j39_plan.specs.declared.steps.Step.TheVariants.{Up, Give}
-use Rattle.j39_plan.specs.Places.{PairAt}
+use Rattle.j39_plan.specs.ListPlaces.{PairAt}
 use Rattle.j39_plan.specs.Findings.{HaveSameFixedAddress}
 use Rattle.j39_plan.specs.Found.{have_same_fixed_address}
 

@@ -22,7 +22,7 @@ abbrev pub keep_free_of : Members → FinSet nat_cmp
 keep_free_of tree = if is_second tree then addresses_of keep_free_rule tree else empty
 
 -- what the plan keeps free, its units, groups and flows are those of the tree
-pub record Holds (tree : Members) (p : Plan) : Type 0 where
+pub record TellsPlan (tree : Members) (p : Plan) : Type 0 where
   pub has_keep_free : p.keep_free ≡ keep_free_of tree
   pub has_units : Each IsUnitOf (tables_of unit_rule tree) p.units.items
   pub has_groups : Each IsGroupOf (tables_of group_rule tree) p.groups.items
@@ -30,7 +30,7 @@ pub record Holds (tree : Members) (p : Plan) : Type 0 where
 
 -- the tree has no fault, and the plan is what it tells
 abbrev pub Described : Members → Plan → Type 0
-Described tree p = (faults tree ≡ []) × Holds tree p
+Described tree p = (faults tree ≡ []) × TellsPlan tree p
 
 -- the tree of a text, where the bytes are UTF-8 and TOML
 abbrev pub tree_of : List ℕ → Option Members

@@ -8,7 +8,7 @@ use Rattle.j39_plan.specs.declared.reading.key.Key.TheVariants as key
 use Rattle.j39_plan.specs.declared.reading.place.Table.{Table}
 use Rattle.j39_plan.specs.declared.reading.fault.Fault.{Fault}
 use Rattle.j39_plan.specs.declared.reading.text_kind.TextKind.{TextKind}
-use Rattle.j39_plan.specs.Texts.{takes}
+use Rattle.j39_plan.specs.TextKinds.{takes}
 use Rattle.j39_plan.specs.TableFaults.{fault}
 
 -- the members of a table, and none of another value

@@ -11,7 +11,7 @@ use Rattle.j39_id.specs.Name.{is_arbitrary}
 use Rattle.j39_id.specs.Pgn.{IsPgn, pf_of}
 use Rattle.j39_id.specs.Services.{service_groups}
 use Rattle.j39_signal.specs.Places.{WidthFits, IsInside, SharesBit}
-use Rattle.j39_plan.specs.Places.{ValueAt, PairAt}
+use Rattle.j39_plan.specs.ListPlaces.{ValueAt, PairAt}
 use Rattle.j39_plan.specs.declared.plan.Plan.{Plan}
 use Rattle.j39_plan.specs.declared.plan.unit_plan.UnitPlan.{UnitPlan}
 use Rattle.j39_plan.specs.declared.plan.group_plan.GroupPlan.{GroupPlan}
@@ -103,19 +103,19 @@ Clean plan = (finding : Finding) → ¬ Holds plan finding
 -- ---- their order
 
 -- the number under which a finding is known
-abbrev pub number_of : Finding → ℕ
-number_of (SameName i j) = 1
-number_of (SameFixedAddress i j) = 2
-number_of (TooFewAddresses n) = 3
-number_of (BadPgn g) = 4
-number_of (SamePgn g h) = 5
-number_of (SignalWidth g s) = 6
-number_of (SignalOutside g s) = 7
-number_of (SignalOverlap g s t) = 8
-number_of (FlowToOne f) = 9
-number_of (FlowToSelf f) = 10
-number_of (FlowRepeated f h) = 11
-number_of (KeptAddress i) = 12
+abbrev pub finding_number : Finding → ℕ
+finding_number (SameName i j) = 1
+finding_number (SameFixedAddress i j) = 2
+finding_number (TooFewAddresses n) = 3
+finding_number (BadPgn g) = 4
+finding_number (SamePgn g h) = 5
+finding_number (SignalWidth g s) = 6
+finding_number (SignalOutside g s) = 7
+finding_number (SignalOverlap g s t) = 8
+finding_number (FlowToOne f) = 9
+finding_number (FlowToSelf f) = 10
+finding_number (FlowRepeated f h) = 11
+finding_number (KeptAddress i) = 12
 
 -- the places that it names
 abbrev pub places_of : Finding → List ℕ
@@ -140,7 +140,7 @@ IsBelow (x ∷ xs) (y ∷ ys) = (x < y) ⊎ ((x ≡ y) × IsBelow xs ys)
 
 -- by the number, then by the places
 abbrev pub IsBefore : Finding → Finding → Type 0
-IsBefore f g = (number_of f < number_of g) ⊎ ((number_of f ≡ number_of g) × IsBelow (places_of f) (places_of g))
+IsBefore f g = (finding_number f < finding_number g) ⊎ ((finding_number f ≡ finding_number g) × IsBelow (places_of f) (places_of g))
 
 -- all that is wrong with the plan and nothing else, in order
 pub record AreFindings (plan : Plan) (findings : List Finding) : Type 0 where

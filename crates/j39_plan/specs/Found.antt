@@ -10,7 +10,7 @@ use Rattle.j39_id.specs.Pgn.{is_pgn, is_pdu2}
 use Rattle.j39_id.specs.Services.{is_service}
 use Rattle.j39_signal.specs.Parts.{SignalParts}
 use Rattle.j39_signal.specs.Places.{width_fits, is_inside, shares_bit}
-use Rattle.j39_plan.specs.Places.{found_if, each, pairs, in_each}
+use Rattle.j39_plan.specs.ListPlaces.{found_if, each, pairs, in_each}
 use Rattle.j39_plan.specs.Findings.{needed_addresses}
 use Rattle.j39_plan.specs.declared.plan.Plan.{Plan}
 use Rattle.j39_plan.specs.declared.plan.unit_plan.UnitPlan.{UnitPlan}

@@ -8,7 +8,7 @@ use Rattle.j39_id.specs.Limits.{message_bytes}
 use Rattle.j39_signal.specs.declared.kind.Kind.{Kind}
 use Rattle.j39_signal.specs.declared.kind.Kind.TheVariants.{Measured, Discrete, Raw}
 use Rattle.j39_signal.specs.Parts.{SignalParts, IsSignal}
-use Rattle.j39_plan.specs.Labels.{is_label}
+use Rattle.j39_plan.specs.LabelForm.{is_label}
 use Rattle.j39_plan.specs.declared.reading.key.Key.TheVariants as key
 use Rattle.j39_plan.specs.declared.reading.place.Table.{Table}
 use Rattle.j39_plan.specs.declared.reading.place.Table.TheVariants as at

@@ -37,6 +37,6 @@ pub record ReadsLastGiven (bytes : ℕ) (signals : List SignalParts) : Type 0 wh
       → place < length signals → HoldsAt (λ s. state_after bytes writes s ≡ unset_state s) signals place
 
 pub record SoundSignals (plan : Plan) : Type 0 where
-  pub kept : All (λ g. KeepsWrites g.length g.signals.items) plan.groups.items
+  pub writes : All (λ g. KeepsWrites g.length g.signals.items) plan.groups.items
   pub read : All (λ g. All ReadsBack g.signals.items) plan.groups.items
   pub last_given : All (λ g. ReadsLastGiven g.length g.signals.items) plan.groups.items

@@ -12,7 +12,7 @@ use Rattle.j39_plan.specs.declared.reading.cause.Cause.TheVariants.{UnknownKey, 
 use Rattle.j39_plan.specs.declared.reading.key.Key.{Key}
 use Rattle.j39_plan.specs.declared.reading.place.Table.{Table}
 use Rattle.j39_plan.specs.declared.reading.fault.Fault.{Fault}
-use Rattle.j39_plan.specs.Texts.{takes}
+use Rattle.j39_plan.specs.TextKinds.{takes}
 use Rattle.j39_plan.specs.Words.{word_of}
 use Rattle.j39_plan.specs.Schema.{Kind, integer_in, flag_value, text_of_kind, one_table, tables_up_to}
 use Rattle.j39_plan.specs.Schema.{addresses_up_to, Rule, natural, standing, items_count, number_in}

@@ -4,7 +4,7 @@ ghost use Rattle.toml.specs.View.{table_view};
 ghost use Rattle.j39_plan.specs.Outcome.{GivesGrowing};
 ghost use Rattle.j39_plan.specs.Growing.{PlanGrows};
 ghost use Rattle.j39_plan.specs.Faults.{faults};
-ghost use Rattle.j39_plan.specs.Described.{Holds, tree_of, Reads, MayAskForRoom};
+ghost use Rattle.j39_plan.specs.Described.{TellsPlan, tree_of, Reads, MayAskForRoom};
 
 mod cause;
 mod elements;
@@ -40,7 +40,7 @@ use units::Units;
 
 #[tactic(auto, using(crate::proofs::FirstFaults::faults_after))]
 fn read_top(alloc: Global, members: &toml::Table) -> Result<Plan, PlanError>
-    ensures { GivesGrowing (PlanGrows (table_view members.now)) result (faults (table_view members.now)) (Holds (table_view members.now)) }
+    ensures { GivesGrowing (PlanGrows (table_view members.now)) result (faults (table_view members.now)) (TellsPlan (table_view members.now)) }
 {
     let keep_free = head(members)?;
     let unit_values = array(members, Table::Top, Key::Unit, 128)?;

@@ -1,7 +1,7 @@
 //! What is wrong with the flows of a plan.
 ghost use Rattle.std.specs.Prelude.{◌≡◌, List};
 ghost use Rattle.j39_plan.specs.Adding.{Adds};
-ghost use Rattle.j39_plan.specs.Places.{found_if};
+ghost use Rattle.j39_plan.specs.ListPlaces.{found_if};
 ghost use Rattle.j39_plan.specs.Found.{is_one_frame_to_all, cannot_go_to_one, goes_to_its_sender, are_one_flow, flow_findings};
 
 use crate::checking::finding::Finding;

@@ -1,7 +1,7 @@
 //! What is wrong with the groups of a plan.
 ghost use Rattle.std.specs.Prelude.{◌≡◌, List};
 ghost use Rattle.j39_plan.specs.Adding.{Adds};
-ghost use Rattle.j39_plan.specs.Places.{found_if};
+ghost use Rattle.j39_plan.specs.ListPlaces.{found_if};
 ghost use Rattle.j39_plan.specs.Found.{is_proprietary, cannot_be_planned, has_bad_pgn, have_same_pgn, group_findings};
 
 use crate::checking::finding::Finding;

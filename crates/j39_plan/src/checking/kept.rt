@@ -1,7 +1,7 @@
 //! Which units prefer an address that is kept free.
 ghost use Rattle.std.specs.Prelude.{◌≡◌, List};
 ghost use Rattle.j39_plan.specs.Adding.{Adds};
-ghost use Rattle.j39_plan.specs.Places.{found_if};
+ghost use Rattle.j39_plan.specs.ListPlaces.{found_if};
 ghost use Rattle.j39_plan.specs.Found.{prefers_kept, kept_findings};
 
 use crate::checking::finding::Finding;
@@ -40,7 +40,7 @@ impl Rule<UnitPlan> for KeptAddress<'_> {
     }
 }
 
-#[tactic(auto, unfolding(crate::specs::Found::kept_findings, crate::specs::Places::each))]
+#[tactic(auto, unfolding(crate::specs::Found::kept_findings, crate::specs::ListPlaces::each))]
 pub fn find_kept(
     findings: &mut Vec<Finding>,
     kept: &AddressSet,

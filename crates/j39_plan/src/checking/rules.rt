@@ -1,6 +1,6 @@
 //! What is found of the values of a list, one after another, and of the pairs of them.
 ghost use Rattle.std.specs.Prelude.{◌≡◌, ◌+◌, ◌<◌, ℕ, Bool, List, [], ◌∷◌, length, drop, if◌then◌else◌};
-ghost use Rattle.j39_plan.specs.Places.{found_if, each, pairs, in_each};
+ghost use Rattle.j39_plan.specs.ListPlaces.{found_if, each, pairs, in_each};
 ghost use Rattle.j39_plan.specs.Adding.{Adds};
 
 use crate::checking::finding::Finding;

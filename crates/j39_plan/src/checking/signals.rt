@@ -2,7 +2,7 @@
 ghost use Rattle.std.specs.Prelude.{◌≡◌, List};
 ghost use Rattle.j39_plan.specs.Adding.{Adds};
 ghost use Rattle.j39_signal.specs.Places.{shares_bit};
-ghost use Rattle.j39_plan.specs.Places.{found_if, each, pairs};
+ghost use Rattle.j39_plan.specs.ListPlaces.{found_if, each, pairs};
 ghost use Rattle.j39_plan.specs.Found.{has_other_width, ends_outside, width_findings, outside_findings, overlap_findings, signal_findings};
 
 use crate::checking::finding::Finding;
@@ -87,7 +87,7 @@ struct Widths;
 impl Rule<GroupPlan> for Widths {
     ghost gives = { λ _ g group. width_findings g group };
 
-    #[tactic(auto, unfolding(crate::specs::Places::each))]
+    #[tactic(auto, unfolding(crate::specs::ListPlaces::each))]
     fn find(
         &self,
         findings: &mut Vec<Finding>,
@@ -104,7 +104,7 @@ struct Outsides;
 impl Rule<GroupPlan> for Outsides {
     ghost gives = { λ _ g group. outside_findings g group };
 
-    #[tactic(auto, unfolding(crate::specs::Places::each))]
+    #[tactic(auto, unfolding(crate::specs::ListPlaces::each))]
     fn find(
         &self,
         findings: &mut Vec<Finding>,

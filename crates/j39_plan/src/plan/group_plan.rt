@@ -2,7 +2,7 @@
 ghost use Rattle.std.specs.Prelude.{◌≢◌, ◌≤◌, IsTrue, length as count, All, AllPairs};
 ghost use Rattle.j39_id.specs.Limits.{message_bytes};
 ghost use Rattle.j39_signal.specs.Parts.{IsSignal};
-ghost use Rattle.j39_plan.specs.Labels.{is_label};
+ghost use Rattle.j39_plan.specs.LabelForm.{is_label};
 
 use j39_id::Label;
 use j39_signal::Signal;

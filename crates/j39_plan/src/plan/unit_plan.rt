@@ -1,7 +1,7 @@
 //! A unit of a plan.
 ghost use Rattle.std.specs.Prelude.{◌^◌, ◌<◌, ◌≤◌, IsTrue};
 ghost use Rattle.j39_id.specs.Addresses.{null_address};
-ghost use Rattle.j39_plan.specs.Labels.{is_unit_label};
+ghost use Rattle.j39_plan.specs.LabelForm.{is_unit_label};
 
 use super::Way;
 use j39_id::{Address, Label, Name};

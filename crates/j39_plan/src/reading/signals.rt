@@ -2,7 +2,7 @@
 ghost use Rattle.std.specs.Prelude.{◌≡◌, map, codes, IsTrue, IfOk};
 ghost use Rattle.toml.specs.View.{view, table_view};
 ghost use Rattle.j39_signal.specs.Parts.{IsSignal};
-ghost use Rattle.j39_plan.specs.Labels.{is_label};
+ghost use Rattle.j39_plan.specs.LabelForm.{is_label};
 ghost use Rattle.j39_plan.specs.Schema.{text_of};
 ghost use Rattle.j39_plan.specs.TableFaults.{key_faults};
 ghost use Rattle.j39_plan.specs.Outcome.{Gives};

@@ -1,7 +1,7 @@
 //! Kinds of texts.
 ghost use Rattle.std.specs.Prelude.{◌≡◌};
 ghost use Rattle.std.specs.List.{list_all};
-ghost use Rattle.j39_plan.specs.Labels.{is_label_byte, is_label};
+ghost use Rattle.j39_plan.specs.LabelForm.{is_label_byte, is_label};
 
 /// Which texts a key takes.
 #[derive(Clone, Copy, Debug, PartialEq, Eq)]
@@ -34,7 +34,7 @@ fn is_label(text: &str) -> bool
 
 impl TextKind {
     ghost use Rattle.std.specs.List.{list_all};
-    ghost use Rattle.j39_plan.specs.Texts.{is_printable, takes};
+    ghost use Rattle.j39_plan.specs.TextKinds.{is_printable, takes};
 
     fn are_printable(bytes: &[u8]) -> bool
         ensures { result ≡ list_all is_printable bytes.now }

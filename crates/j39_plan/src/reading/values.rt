@@ -4,7 +4,7 @@ ghost use Rattle.std.specs.Option.{option_copied};
 ghost use Rattle.toml.specs.Data.{get_member};
 ghost use Rattle.toml.specs.View.{view, table_view};
 ghost use Rattle.j39_plan.specs.Words.{word_of};
-ghost use Rattle.j39_plan.specs.Texts.{takes};
+ghost use Rattle.j39_plan.specs.TextKinds.{takes};
 ghost use Rattle.j39_plan.specs.Schema as schema;
 ghost use Rattle.j39_plan.specs.TableFaults.{fault, key_faults};
 ghost use Rattle.j39_plan.specs.Outcome.{Gives};

@@ -1,6 +1,6 @@
 use Rattle.std.proofs.Common.{◌≡◌, Some, None, ap, sym, ◌∙◌}
 use Rattle.j39_claim.specs.AddressSets.{is_free, lowest_free, free_above, first_of_two}
-use Rattle.j39_claim.specs.inside.Words.{is_above}
+use Rattle.j39_claim.specs.inside.AddressWords.{is_above}
 use Rattle.j39_claim.proofs.PoolBits.{free_above_is}
 use Rattle.j39_claim.proofs.address_set.AddressSet.next_free.Goals as goal
 

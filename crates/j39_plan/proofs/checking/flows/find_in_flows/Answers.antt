@@ -1,4 +1,4 @@
-use Rattle.j39_plan.specs.Places.{each}
+use Rattle.j39_plan.specs.ListPlaces.{each}
 use Rattle.j39_plan.specs.Found.{flow_findings}
 use Rattle.j39_plan.proofs.AddingLemmas.{refuses, adds_behind, some_left, some_right}
 use Rattle.j39_plan.proofs.checking.flows.find_in_flows.Goals as goal

@@ -1,4 +1,4 @@
-use Rattle.j39_plan.specs.Places.{each}
+use Rattle.j39_plan.specs.ListPlaces.{each}
 use Rattle.j39_plan.specs.Found.{group_findings}
 use Rattle.j39_plan.proofs.AddingLemmas.{refuses, adds_behind, some_left}
 use Rattle.j39_plan.proofs.checking.groups.find_in_groups.Goals as goal

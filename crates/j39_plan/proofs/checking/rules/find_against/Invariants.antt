@@ -1,5 +1,5 @@
 use Rattle.std.proofs.Common.{◌≡◌, ◌+◌, ◌++◌, drop}
-use Rattle.j39_plan.specs.Places.{each}
+use Rattle.j39_plan.specs.ListPlaces.{each}
 use Rattle.j39_plan.proofs.checking.rules.find_against.Given as goal
 
 abbrev pub invariant-loop-j : goal.invariant-loop-j

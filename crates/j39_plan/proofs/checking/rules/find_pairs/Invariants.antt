@@ -1,5 +1,5 @@
 use Rattle.std.proofs.Common.{◌≡◌, ◌++◌, drop}
-use Rattle.j39_plan.specs.Places.{in_each}
+use Rattle.j39_plan.specs.ListPlaces.{in_each}
 use Rattle.j39_plan.proofs.PlaceLemmas.{after}
 use Rattle.j39_plan.proofs.checking.rules.find_pairs.Given as goal
 

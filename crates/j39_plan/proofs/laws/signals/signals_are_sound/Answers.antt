@@ -8,8 +8,8 @@ use Rattle.j39_plan.proofs.CleanLaws.{parts_of}
 use Rattle.j39_plan.proofs.LastWrites.{reads_last}
 use Rattle.j39_plan.proofs.laws.signals.signals_are_sound.Goals as goal
 
-kept : (plan : Plan) → Clean plan → All (λ g. KeepsWrites g.length g.signals.items) plan.groups.items
-kept plan clean = λ g d less. keeps_writes _ _ ((parts_of plan clean).layouts g d less)
+writes : (plan : Plan) → Clean plan → All (λ g. KeepsWrites g.length g.signals.items) plan.groups.items
+writes plan clean = λ g d less. keeps_writes _ _ ((parts_of plan clean).layouts g d less)
 
 read : (plan : Plan) → Clean plan → All (λ g. All ReadsBack g.signals.items) plan.groups.items
 read plan clean = λ g d less s e in_group.
@@ -21,7 +21,7 @@ read plan clean = λ g d less s e in_group.
 
 pub returns : goal.returns
 returns c = λ plan clean. record {
-  kept = kept plan clean;
+  writes = writes plan clean;
   read = read plan clean;
-  last_given = λ g d less. reads_last _ _ (kept plan clean g d less) (read plan clean g d less);
+  last_given = λ g d less. reads_last _ _ (writes plan clean g d less) (read plan clean g d less);
 }

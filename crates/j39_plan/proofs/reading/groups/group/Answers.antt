@@ -1,5 +1,5 @@
 use Rattle.std.proofs.Common.{IsTrue}
-use Rattle.j39_plan.specs.Labels.{is_label}
+use Rattle.j39_plan.specs.LabelForm.{is_label}
 use Rattle.j39_signal.specs.Parts.{IsSignal}
 use Rattle.j39_plan.specs.declared.reading.key.Key.TheVariants as key
 use Rattle.j39_plan.specs.Signals.{IsSignalOf}
