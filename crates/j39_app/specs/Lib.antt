@@ -1,3 +1,2 @@
-pub mod Commands
-pub mod Orders
+pub mod Answers
 pub mod Status

@@ -1,13 +1,9 @@
 //! The commands of the plan checker, over any source and sink of bytes, and the program.
 #![tactic(auto)]
 
-mod command_line;
-mod commands;
 mod exit_status;
-mod orders;
 mod program;
 
-pub use command_line::order;
 pub use exit_status::status;
 pub use j39_check::check_text;
 pub use j39_log::read_text;
@@ -17,5 +13,5 @@ pub use j39_stream::{
     Failed, Fault, FromRead, Pieces, Sink, Source, Stop, ToWrite, Verdict, load, put_all,
 };
 pub use j39_text::{frame_text, input_text, plan_text};
-pub use orders::{Order, WordsFault};
+pub use j39_words::{Order, WordsFault, order};
 pub use program::run_program;

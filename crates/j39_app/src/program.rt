@@ -1,13 +1,12 @@
 //! The program.
 ghost use Rattle.std.specs.Prelude.{ℕ, IfOk, List};
 ghost use Rattle.std.specs.Io.KnownBytes.{Appends};
-ghost use Rattle.j39_app.specs.Orders.{IsAnswer, IsAnswerOfTwo, IsPlannedRun};
+ghost use Rattle.j39_app.specs.Answers.{IsAnswer, IsAnswerOfTwo, IsPlannedRun};
 ghost use Rattle.j39_log.specs.ReadText.{IsReadText};
 
-use crate::orders::{Order, WordsFault};
 use crate::{
-    Fault, FromRead, Sink, ToWrite, Verdict, check_text, frame_text, input_text, order, plan_text,
-    put_all, read_text, run_planned, status,
+    Fault, FromRead, Order, Sink, ToWrite, Verdict, WordsFault, check_text, frame_text, input_text,
+    order, plan_text, put_all, read_text, run_planned, status,
 };
 use std::env::Env;
 use std::fmt::Display;

@@ -1,8 +1,8 @@
 use Rattle.std.proofs.Common.{◌≡◌, ap, ◌∙◌, map, string_bytes}
 use Rattle.clap.specs.Words.{App, is_simple, subcommand_of, subcommand_rows_of}
-use Rattle.j39_app.specs.Commands.{commands}
-use Rattle.j39_app.proofs.CommandLaws.{is_simple_commands}
-use Rattle.j39_app.proofs.command_line.parsed.Goals as goal
+use Rattle.j39_words.specs.Commands.{commands}
+use Rattle.j39_words.proofs.CommandLaws.{is_simple_commands}
+use Rattle.j39_words.proofs.command_line.parsed.Goals as goal
 
 pub returns-in-Ok : goal.returns-in-Ok
 returns-in-Ok c =

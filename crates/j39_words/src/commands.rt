@@ -2,7 +2,7 @@
 ghost use Rattle.std.specs.Prelude.{◌≡◌, false, IfOk, codes};
 ghost use Rattle.clap.specs.Words.{app_of, with_rule, with_subcommand};
 ghost use Rattle.clap.specs.declared.builder.command.Command.TheViews.{out-Command as fields_of};
-ghost use Rattle.j39_app.specs.Commands.{commands, one_value, program, two_values, value_rule};
+ghost use Rattle.j39_words.specs.Commands.{commands, one_value, program, two_values, value_rule};
 
 use clap::{Arg, Command};
 use std::alloc::{AllocError, Global};

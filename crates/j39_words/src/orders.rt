@@ -1,6 +1,6 @@
 //! What a command line asks for.
 ghost use Rattle.std.specs.Prelude.{◌≡◌};
-ghost use Rattle.j39_app.specs.declared.orders.WordsFault.TheVariants.{Memory};
+ghost use Rattle.j39_words.specs.declared.orders.WordsFault.TheVariants.{Memory};
 
 use std::alloc::AllocError;
 use thiserror::Error;

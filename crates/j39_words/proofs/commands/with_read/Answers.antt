@@ -1,7 +1,7 @@
 use Rattle.std.proofs.Common.{ap, ◌∙◌}
 use Rattle.std.proofs.lemmas.Result.{IfOk-weaker}
 use Rattle.clap.specs.Words.{App, app_of, with_subcommand}
-use Rattle.j39_app.proofs.commands.with_read.Goals as goal
+use Rattle.j39_words.proofs.commands.with_read.Goals as goal
 
 pub returns : goal.returns
 returns c = IfOk-weaker c.subcommand.result _ _

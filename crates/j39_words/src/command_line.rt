@@ -1,8 +1,8 @@
 //! The words of the command line, read.
 ghost use Rattle.std.specs.Prelude.{◌≡◌, [], IfOk, Some, map, string_bytes};
 ghost use Rattle.clap.specs.Words.{first_of, found_of, rows_of, subcommand_of, subcommand_rows_of};
-ghost use Rattle.j39_app.specs.Commands.{commands};
-ghost use Rattle.j39_app.specs.Orders.{Answers, IsHelp, Orders};
+ghost use Rattle.j39_words.specs.Commands.{commands};
+ghost use Rattle.j39_words.specs.Orders.{Answers, IsHelp, Orders};
 
 use crate::commands::commands;
 use crate::orders::{Order, WordsFault};
