@@ -128,7 +128,7 @@ class Names(InFolder):
             name: text_of(os.path.join(TOP, name))
             for part in ("src", "specs")
             for name in glob.glob(f"crates/*/{part}/**/*.*t", root_dir=TOP, recursive=True)
-            if "j39_vectors" not in name
+            if "_vectors" not in name
         }
         for high, low in numbers:
             number = re.compile(rf"^(?!\s*(?://|--)).*\b{high}_?{low}\b", re.MULTILINE)

@@ -1,4 +1,4 @@
-//! Worked rows of the commands, and conformance tests of the crates below.
+//! Worked rows of the commands, and tests of the commands, the command line and a bus that is stepped.
 #![tactic(auto)]
 
 mod performing;
@@ -17,18 +17,6 @@ mod buses;
 #[cfg(test)]
 mod choosers;
 #[cfg(test)]
-mod claims;
-#[cfg(test)]
-mod groups;
-#[cfg(test)]
-mod identifiers;
-#[cfg(test)]
-mod plans;
-#[cfg(test)]
-mod signals;
-#[cfg(test)]
 mod steps;
-#[cfg(test)]
-mod transfers;
 #[cfg(test)]
 mod words;
