@@ -1,3 +1,4 @@
+pub mod Arms
 pub mod Continuations
 pub mod Done
 pub mod Frames

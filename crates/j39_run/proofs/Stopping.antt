@@ -1,5 +1,5 @@
 -- How a run of a schedule ends, and what stands written where it is cut off.
-use Rattle.std.proofs.Common.{◌≡◌, ◌≢◌, ℕ, ◌+◌, List, [], ◌∷◌, ◌++◌, length, refl, sym, ap, ◌∙◌, subst, append_assoc, arith, ◌≤◌, Option, Some, Err, Ok, Result, IfOk, OnOk, OnErr}
+use Rattle.std.proofs.Common.{◌≡◌, ◌≢◌, ℕ, ◌+◌, List, [], ◌∷◌, ◌++◌, length, refl, sym, ap, ◌∙◌, subst, arith, ◌≤◌, Option, Some, Err, Ok, Result, IfOk, OnOk, OnErr}
 use Rattle.std.specs.Prelude.{IsErrOf}
 use Rattle.std.proofs.KnownBytes.{Appends-trans}
 use Rattle.std.proofs.lemmas.List.{append-nil, length-map}
@@ -15,12 +15,12 @@ use Rattle.j39_bus.specs.Stands.{Stands}
 use Rattle.j39_world.specs.World.{World}
 use Rattle.j39_schedule.specs.Schedule.{line_order, read_as}
 use Rattle.j39_schedule.specs.declared.line_fault.LineFault.{LineFault}
-use Rattle.j39_stream.specs.Streams.{AppendsPart, KeepsLimits, input_limit}
+use Rattle.j39_stream.specs.Streams.{AppendsPart, input_limit}
 use Rattle.j39_stream.specs.declared.fault.Fault.{Fault}
 use Rattle.j39_stream.specs.declared.fault.Fault.TheVariants.{Memory, Device, TooLong}
 use Rattle.j39_stream.specs.declared.verdict.Verdict.{Verdict}
 use Rattle.j39_stream.specs.declared.verdict.Verdict.TheVariants.{Done}
-use Rattle.j39_stream.proofs.Parts.{none_taken, part_after}
+use Rattle.j39_stream.proofs.Parts.{part_after}
 use Rattle.j39_run.specs.RunText.{IsBusText, closing_text, verdict_of}
 use Rattle.j39_run.specs.Views.{Shows, View}
 use Rattle.j39_run.specs.declared.halt.Halt.{Halt}
