@@ -13,7 +13,8 @@ use Rattle.j39_schedule.proofs.Splits.{lines-append}
 use Rattle.j39_run.proofs.Reading.{lines_from}
 
 -- a list that goes on past a place has what stands there
-cut_here : {X : Type 0} (ended xs done : List X) (y : X) (ys : List X) → ended ++ xs ≡ done ++ y ∷ ys → length done < length ended → (more : List X) × (ended ≡ done ++ y ∷ more)
+cut_here : {X : Type 0} (ended xs done : List X) (y : X) (ys : List X) → ended ++ xs ≡ done ++ y ∷ ys → length done < length ended
+    → (more : List X) × (ended ≡ done ++ y ∷ more)
 cut_here [] xs done y ys same short = absurd (omega arith)
 cut_here (x ∷ ended) xs [] y ys same short = let here : x ≡ y = cc in (ended, ap (λ z. z ∷ ended) here)
 cut_here (x ∷ ended) xs (z ∷ done) y ys same short =
@@ -22,17 +23,21 @@ cut_here (x ∷ ended) xs (z ∷ done) y ys same short =
     let (more, is) = cut_here ended xs done y ys rest (omega arith) in
     (more, cc)
 
-readings-append : (plan : Plan) (front more : List ℕ) → readings_of plan (front ++ 10 ∷ more) ≡ map (line_order plan) (map line_of (slice_split is_line_feed front)) ++ readings_of plan more
-readings-append plan front more = ap (map (line_order plan)) (lines-append front more) ∙ map-append (line_order plan) (map line_of (slice_split is_line_feed front)) _
+readings-append : (plan : Plan) (front more : List ℕ) → readings_of plan (front ++ 10 ∷ more) ≡ map (line_order plan)
+    (map line_of (slice_split is_line_feed front)) ++ readings_of plan more
+readings-append plan front more = ap (map (line_order plan)) (lines-append front more)
+    ∙ map-append (line_order plan) (map line_of (slice_split is_line_feed front)) _
 
-readings-from : (plan : Plan) (front more : List ℕ) → (rest : List Reading) × (readings_of plan (front ++ more) ≡ map (line_order plan) (told at_start front) ++ rest)
+readings-from : (plan : Plan) (front more : List ℕ) → (rest : List Reading)
+    × (readings_of plan (front ++ more) ≡ map (line_order plan) (told at_start front) ++ rest)
 readings-from plan front more =
     let (rest, is) = lines_from front more in
     (map (line_order plan) rest, ap (map (line_order plan)) is ∙ map-append (line_order plan) (told at_start front) rest)
 
 -- two lists of readings that begin alike
 module _ (plan : Plan) (alike xs ys some others : List Reading) (some_are : some ≡ alike ++ xs) (others_are : others ≡ alike ++ ys) where
-  same_until : (done : List Reading) (here : Reading) (behind : List Reading) → some ≡ done ++ here ∷ behind → length done < length alike → (rest : List Reading) × (others ≡ done ++ here ∷ rest)
+  same_until : (done : List Reading) (here : Reading) (behind : List Reading) → some ≡ done ++ here ∷ behind → length done < length alike
+      → (rest : List Reading) × (others ≡ done ++ here ∷ rest)
   same_until done here behind is inside =
       let (rest, same) = cut_here alike xs done here behind (sym some_are ∙ is) inside in
       (rest ++ ys, others_are ∙ ap (λ (l : List Reading). l ++ ys) same ∙ append_assoc done (here ∷ rest) ys)
@@ -49,9 +54,11 @@ module _ (plan : Plan) (alike xs ys some others : List Reading) (some_are : some
 pub same_for_continuations : IsSameForContinuations
 same_for_continuations plan choosers front more other halt text inside (opens, (w, view, ends, shows, is)) =
     let alike : List Reading = map (line_order plan) (map line_of (slice_split is_line_feed front)) in
-    let count : length alike ≡ length (slice_split is_line_feed front) = length-map (map line_of (slice_split is_line_feed front)) (line_order plan) ∙ length-map (slice_split is_line_feed front) line_of in
+    let count : length alike ≡ length (slice_split is_line_feed front) = length-map (map line_of (slice_split is_line_feed front)) (line_order plan)
+    ∙ length-map (slice_split is_line_feed front) line_of in
     let within : IsWithin (length alike) halt = subst (λ (n : ℕ). IsWithin n halt) (sym count) inside in
-    let same = same_end plan alike (readings_of plan more) (readings_of plan other) (readings_of plan (front ++ 10 ∷ more)) (readings_of plan (front ++ 10 ∷ other))
+    let same = same_end plan alike (readings_of plan more) (readings_of plan other) (readings_of plan (front ++ 10 ∷ more))
+    (readings_of plan (front ++ 10 ∷ other))
     (readings-append plan front more) (readings-append plan front other) halt w within ends in
     (opens, (w, view, same, shows, is))
 

@@ -35,7 +35,8 @@ steps-append [] ps = refl
 steps-append (None ∷ os) ps = steps-append os ps
 steps-append (Some step ∷ os) ps = ap (λ (l : List Step). step ∷ l) (steps-append os ps)
 
-runs-append : (plan : Plan) (w : World) (done : List Step) (mid : World) (more : List Step) (after : World) → RunsThrough plan w done mid → RunsThrough plan mid more after → RunsThrough plan w (done ++ more) after
+runs-append : (plan : Plan) (w : World) (done : List Step) (mid : World) (more : List Step) (after : World) → RunsThrough plan w done mid
+    → RunsThrough plan mid more after → RunsThrough plan w (done ++ more) after
 runs-append plan w [] mid more after ran runs = subst (λ (v : World). RunsThrough plan v more after) ran runs
 runs-append plan w (s ∷ done) mid more after (next, may, goes, ran) runs = (next, may, goes, runs-append plan next done mid more after ran runs)
 
@@ -45,15 +46,18 @@ nothing_done plan b s = record { orders = []; read = refl; count = refl; world =
 
 -- one more line
 one_more : (plan : Plan) (old new : BusState) (ls : List Line) (l : Line) (order : Option Step) (place : ℕ) (written text more : List ℕ) (after : World)
-    → (h : HasDone plan old ls place written text) → line_order plan l ≡ read_as order → RunsThrough plan h.world (steps_of (order ∷ [])) after → Stands new plan after
+    → (h : HasDone plan old ls place written text) → line_order plan l ≡ read_as order → RunsThrough plan h.world (steps_of (order ∷ [])) after
+    → Stands new plan after
     → written ++ more ≡ sent_lines new.frames → HasDone plan new (ls ++ l ∷ []) (place + 1) written more
 one_more plan old new ls l order place written text more after h is runs s shown = record {
   orders = h.orders ++ order ∷ [];
-  read = map-append (line_order plan) ls (l ∷ []) ∙ ap (λ (r : List Reading). r ++ line_order plan l ∷ []) h.read ∙ ap (λ (r : Reading). map read_as h.orders ++ r ∷ []) is
+  read = map-append (line_order plan) ls (l ∷ []) ∙ ap (λ (r : List Reading). r ++ line_order plan l ∷ []) h.read
+      ∙ ap (λ (r : Reading). map read_as h.orders ++ r ∷ []) is
       ∙ sym (map-append read_as h.orders (order ∷ []));
   count = length-append h.orders (order ∷ []) ∙ ap (λ (n : ℕ). n + 1) h.count;
   world = after;
-  ran = subst (λ (steps : List Step). RunsThrough plan first steps after) (sym (steps-append h.orders (order ∷ []))) (runs-append plan first (steps_of h.orders) h.world (steps_of (order ∷ [])) after h.ran runs);
+  ran = subst (λ (steps : List Step). RunsThrough plan first steps after) (sym (steps-append h.orders (order ∷ [])))
+      (runs-append plan first (steps_of h.orders) h.world (steps_of (order ∷ [])) after h.ran runs);
   stands = s;
   shown = shown;
 }
@@ -62,7 +66,8 @@ pub blank_done : (plan : Plan) (b : BusState) (ls : List Line) (l : Line) (place
     → line_order plan l ≡ read_as None → HasDone plan b (ls ++ l ∷ []) (place + 1) written text
 blank_done plan b ls l place written text h is = one_more plan b b ls l None place written text text h.world h is refl h.stands h.shown
 
-pub step_done : (plan : Plan) (old new : BusState) (ls : List Line) (l : Line) (step : Step) (place shown : ℕ) (written text more : List ℕ) (before now : List Frame)
+pub step_done : (plan : Plan) (old new : BusState) (ls : List Line) (l : Line) (step : Step) (place shown : ℕ) (written text more : List ℕ)
+    (before now : List Frame)
     → HasDone plan old ls place written text → line_order plan l ≡ read_as (Some step)
     → ((p : Plan) (w : World) → Stands old p w → (refusal p w step ≡ None) × ((after : World) × StepsTo p w step after × Stands new p after))
     → map sent_of before ≡ old.frames → map sent_of now ≡ new.frames → shown ≡ length before → more ≡ text ++ sent_lines (map sent_of (drop shown now))
@@ -101,7 +106,8 @@ seen_of plan b settled = record {
   reports = b.traffic.reports;
 }
 
-pub shown : (plan : Plan) (b : BusState) (settled : Bool) → (IsTrue settled ↔ IsQuiet (undelivered b)) → (w : World) → Stands b plan w → Shows plan w (seen_of plan b settled)
+pub shown : (plan : Plan) (b : BusState) (settled : Bool) → (IsTrue settled ↔ IsQuiet (undelivered b)) → (w : World) → Stands b plan w
+    → Shows plan w (seen_of plan b settled)
 shown plan b settled quiet w s = record {
   frames = sym s.frames;
   units = ap (λ (f : Stations). map (λ u. unit_state (f u)) (range_with_len 0 (length plan.units.items))) (sym s.stations);
@@ -115,14 +121,16 @@ some_view plan b = let (settled, quiet) = quiet_test b in (seen_of plan b settle
 
 -- ---- the text
 
-module _ (plan : Plan) (b : BusState) (ls : List Line) (place : ℕ) (written text : List ℕ) (h : HasDone plan b ls place written text) (view : View) (shows : (w : World) → Stands b plan w → Shows plan w view) where
+module _ (plan : Plan) (b : BusState) (ls : List Line) (place : ℕ) (written text : List ℕ) (h : HasDone plan b ls place written text) (view : View)
+    (shows : (w : World) → Stands b plan w → Shows plan w view) where
   written_so : (halt : Halt) → written ++ (text ++ closing_text plan view halt) ≡ end_text plan view halt
   unfolding end_text
   written_so halt =
       let frames : b.frames ≡ view.frames = sym h.stands.frames ∙ sym (shows h.world h.stands).frames in
       sym (append_assoc written text (closing_text plan view halt)) ∙ ap (λ (t : List ℕ). t ++ closing_text plan view halt) (h.shown ∙ ap sent_lines frames)
 
-  text_at : (input : List ℕ) (halt : Halt) → EndsAt plan (readings_of plan input) h.world halt → IsBusText plan input halt (written ++ (text ++ closing_text plan view halt))
+  text_at : (input : List ℕ) (halt : Halt) → EndsAt plan (readings_of plan input) h.world halt
+      → IsBusText plan input halt (written ++ (text ++ closing_text plan view halt))
   text_at input halt ends = (h.world, view, ends, shows h.world h.stands, written_so halt)
 
   -- all lines are done
@@ -139,18 +147,35 @@ module _ (plan : Plan) (b : BusState) (ls : List Line) (place : ℕ) (written te
   pub line_refused : (input : List ℕ) (l : Line) (rest : List Line) (fault : LineFault) → lines input ≡ (ls ++ l ∷ []) ++ rest → line_order plan l ≡ Err fault
       → IsBusText plan input (AtLine place fault) (written ++ (text ++ closing_text plan view (AtLine place fault)))
   line_refused input l rest fault is bad =
-      text_at input (AtLine place fault)
-      (h.orders, map (line_order plan) rest, readings_at input l rest is ∙ ap (λ (r : Reading). map read_as h.orders ++ r ∷ map (line_order plan) rest) bad, h.count, h.ran)
+      text_at input (AtLine place fault) (
+        h.orders,
+        map (line_order plan) rest,
+        readings_at input l rest is
+            ∙ ap (λ (r : Reading). map read_as h.orders ++ r ∷ map (line_order plan) rest) bad,
+        h.count,
+        h.ran,
+      )
 
   -- its step is refused
-  pub step_refused : (input : List ℕ) (l : Line) (rest : List Line) (step : Step) (cause : StepError) → lines input ≡ (ls ++ l ∷ []) ++ rest → line_order plan l ≡ read_as (Some step)
-      → ((w : World) → Stands b plan w → refusal plan w step ≡ Some cause) → IsBusText plan input (AtStep place cause) (written ++ (text ++ closing_text plan view (AtStep place cause)))
+  pub step_refused : (input : List ℕ) (l : Line) (rest : List Line) (step : Step) (cause : StepError) → lines input ≡ (ls ++ l ∷ []) ++ rest
+      → line_order plan l ≡ read_as (Some step)
+      → ((w : World) → Stands b plan w → refusal plan w step ≡ Some cause)
+      → IsBusText plan input (AtStep place cause) (written ++ (text ++ closing_text plan view (AtStep place cause)))
   step_refused input l rest step cause is good refuses =
-      text_at input (AtStep place cause)
-      (h.orders, step, map (line_order plan) rest, readings_at input l rest is ∙ ap (λ (r : Reading). map read_as h.orders ++ r ∷ map (line_order plan) rest) good, h.count, h.ran, refuses h.world h.stands)
+      text_at input (AtStep place cause) (
+        h.orders,
+        step,
+        map (line_order plan) rest,
+        readings_at input l rest is
+            ∙ ap (λ (r : Reading). map read_as h.orders ++ r ∷ map (line_order plan) rest) good,
+        h.count,
+        h.ran,
+        refuses h.world h.stands,
+      )
 
 -- what was written, and some first bytes of what was to be written next, are some first bytes of a text
-pub partly : (plan : Plan) (b : BusState) (ls : List Line) (place : ℕ) (written text input : List ℕ) (x y z : Option (List ℕ)) → HasDone plan b ls place written text → ls ≡ lines input
+pub partly : (plan : Plan) (b : BusState) (ls : List Line) (place : ℕ) (written text input : List ℕ) (x y z : Option (List ℕ))
+    → HasDone plan b ls place written text → ls ≡ lines input
     → Appends x y written → AppendsPart y z text → (whole : List ℕ) × IsBusText plan input End whole × AppendsPart x z whole
 partly plan b ls place written text input x y z h all first_part next_part =
     let (view, shows) = some_view plan b in

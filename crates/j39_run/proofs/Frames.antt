@@ -69,11 +69,13 @@ step_grows plan w (Rest u) after is = sends_none w after (ap (λ (x : World). x.
 sent_lines-append : (xs ys : List Sent) → sent_lines (xs ++ ys) ≡ sent_lines xs ++ sent_lines ys
 unfolding sent_lines
 sent_lines-append [] ys = refl
-sent_lines-append (x ∷ xs) ys = ap (λ (t : List ℕ). sent_line x ++ t) (sent_lines-append xs ys) ∙ sym (append_assoc (sent_line x) (sent_lines xs) (sent_lines ys))
+sent_lines-append (x ∷ xs) ys = ap (λ (t : List ℕ). sent_line x ++ t) (sent_lines-append xs ys)
+    ∙ sym (append_assoc (sent_line x) (sent_lines xs) (sent_lines ys))
 
 -- the lines of the frames that a step added stand behind those of the frames before it
 pub lines_grow : (plan : Plan) (old new : BusState) (w after : World) (step : Step) (before now : List Frame) (place : ℕ)
-    → Stands old plan w → StepsTo plan w step after → Stands new plan after → map sent_of before ≡ old.frames → map sent_of now ≡ new.frames → place ≡ length before
+    → Stands old plan w → StepsTo plan w step after → Stands new plan after → map sent_of before ≡ old.frames → map sent_of now ≡ new.frames
+    → place ≡ length before
     → sent_lines old.frames ++ sent_lines (map sent_of (drop place now)) ≡ sent_lines new.frames
 lines_grow plan old new w after step before now place s leads s' had has at =
     let (more, is) = step_grows plan w step after leads in

@@ -65,4 +65,5 @@ quiet_test b = (is_quiet b.claims, (quiet, all))
     quiet holds u v = ((λ a. untold (undelivered b u v) (Claim a) (at holds u v)), untold (undelivered b u v) Cannot (at holds u v))
 
     all : IsQuiet (undelivered b) → is_quiet b.claims ≡ true
-    all untolds = of_all is_quiet_row b.claims [] (λ u. of_all (λ items. list_all is_request items) (get_or b.claims u []) [] (λ v. requests (undelivered b u v) (untolds u v)))
+    all untolds = of_all is_quiet_row b.claims []
+        (λ u. of_all (λ items. list_all is_request items) (get_or b.claims u []) [] (λ v. requests (undelivered b u v) (untolds u v)))

@@ -17,7 +17,8 @@ unfolding sent_lines
 frames_from frames i d more = let next = drop_more frames i d more in rw next refl
 
 pub units_from : (plan : Plan) (state : ℕ → UnitState) (u n : ℕ) → u < n
-    → unit_lines plan u (map state (range_with_len u (n - u))) ≡ unit_line plan u (state u) ++ unit_lines plan (u + 1) (map state (range_with_len (u + 1) (n - (u + 1))))
+    → unit_lines plan u (map state (range_with_len u (n - u))) ≡ unit_line plan u (state u) ++ unit_lines plan (u + 1)
+    (map state (range_with_len (u + 1) (n - (u + 1))))
 unfolding unit_lines
 units_from plan state u n more =
     let count : n - u ≡ suc (n - (u + 1)) = omega arith in
@@ -28,6 +29,7 @@ unfolding unit_lines
 no_units plan state u n past = let none : n - u ≡ 0 = omega arith in rw none refl
 
 pub reports_from : (plan : Plan) (reports : List Report) (i : ℕ) (d : Report) → i < length reports
-    → report_lines plan (map reported_of (drop i reports)) ≡ report_line plan (reported_of (get_or reports i d)) ++ report_lines plan (map reported_of (drop (i + 1) reports))
+    → report_lines plan (map reported_of (drop i reports)) ≡ report_line plan (reported_of (get_or reports i d)) ++ report_lines plan
+    (map reported_of (drop (i + 1) reports))
 unfolding report_lines
 reports_from plan reports i d more = let next = drop_more reports i d more in rw next refl

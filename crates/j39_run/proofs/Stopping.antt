@@ -69,8 +69,10 @@ CutOff plan old new taken_old taken_new =
     (input : List ℕ) × (rest : List ℕ) × (text : List ℕ) × (halt : Halt) × Consumes old new (input ++ rest)
     × IsBusText plan input halt text × AppendsPart taken_old taken_new text
 
-pub cut_off : (plan : Plan) (b : BusState) (ls : List Line) (place : ℕ) (written text : List ℕ) (first now then : Option (List ℕ)) (p q : ℕ) (f : Feeding) (seen : List ℕ) (x y z : Option (List ℕ))
-    → IsFed first now p q f seen ls → ((t : List ℕ) → Consumes first now t → (more : List ℕ) × Consumes first then (t ++ more)) → HasDone plan b ls place written text
+pub cut_off : (plan : Plan) (b : BusState) (ls : List Line) (place : ℕ) (written text : List ℕ) (first now then : Option (List ℕ)) (p q : ℕ) (f : Feeding)
+    (seen : List ℕ) (x y z : Option (List ℕ))
+    → IsFed first now p q f seen ls → ((t : List ℕ) → Consumes first now t → (more : List ℕ) × Consumes first then (t ++ more))
+    → HasDone plan b ls place written text
     → Appends x y written → AppendsPart y z text → CutOff plan first then x z
 cut_off plan b ls place written text first now then p q f seen x y z fed kept h taken part =
     let (input, rest, consumed, is) = input_of first now then p q f seen ls fed kept in
@@ -85,7 +87,8 @@ Closes plan b halt written text now input =
     (view : View) → ((w : World) → Stands b plan w → Shows plan w view) → (more : List ℕ) → (IsAtEnd now → more ≡ [])
     → IsBusText plan (input ++ more) halt (written ++ (text ++ closing_text plan view halt))
 
-module _ (plan : Plan) (b : BusState) (halt : Halt) (written text : List ℕ) (first now x y z : Option (List ℕ)) (input : List ℕ) (consumed : Consumes first now input)
+module _ (plan : Plan) (b : BusState) (halt : Halt) (written text : List ℕ) (first now x y z : Option (List ℕ)) (input : List ℕ)
+    (consumed : Consumes first now input)
     (closes : Closes plan b halt written text now input) (taken : Appends x y written) (r : Result Verdict Fault) where
   pub stopped : IfOk r (λ verdict. verdict ≡ verdict_of halt) → (verdict_of halt ≡ Done → IsAtEnd now)
       → OnOk r ((view : View) × Appends y z (text ++ closing_text plan view halt) × ((w : World) → Stands b plan w → Shows plan w view))
@@ -118,12 +121,14 @@ module _ (plan : Plan) (b : BusState) (halt : Halt) (written text : List ℕ) (f
         halt,
         subst (Consumes first now) (sym none) consumed,
         subst (λ (t : List ℕ). IsBusText plan t halt whole) none (closes view shows [] (λ _. refl)),
-        part_after x y z written (text ++ closing_text plan view halt) [] whole (ap (λ (t : List ℕ). written ++ t) (sym (append-nil (text ++ closing_text plan view halt)))) taken some,
+        part_after x y z written (text ++ closing_text plan view halt) [] whole
+            (ap (λ (t : List ℕ). written ++ t) (sym (append-nil (text ++ closing_text plan view halt)))) taken some,
       ))
       fits
 
 -- at a line that can't be read
-pub closes_line : (plan : Plan) (b : BusState) (ls more : List Line) (l : Line) (place : ℕ) (written text : List ℕ) (fault : LineFault) (first now : Option (List ℕ)) (p q : ℕ)
+pub closes_line : (plan : Plan) (b : BusState) (ls more : List Line) (l : Line) (place : ℕ) (written text : List ℕ) (fault : LineFault)
+    (first now : Option (List ℕ)) (p q : ℕ)
     → HasDone plan b ls place written text → more ≡ l ∷ [] → line_order plan l ≡ Err fault → (begins : BeginWith first now p q (ls ++ more))
     → Closes plan b (AtLine place fault) written text now begins.0
 closes_line plan b ls more l place written text fault first now p q h is bad begins view shows behind at_end =
@@ -131,16 +136,21 @@ closes_line plan b ls more l place written text fault first now p q h is bad beg
     line_refused plan b ls place written text h view shows (begins.0 ++ behind) l rest fault (row ∙ ap (λ (m : List Line). (ls ++ m) ++ rest) is) bad
 
 -- at a line whose step is refused
-pub closes_step : (plan : Plan) (b : BusState) (ls more : List Line) (l : Line) (place : ℕ) (written text : List ℕ) (step : Step) (cause : StepError) (first now : Option (List ℕ)) (p q : ℕ)
-    → HasDone plan b ls place written text → more ≡ l ∷ [] → line_order plan l ≡ read_as (Some step) → ((w : World) → Stands b plan w → refusal plan w step ≡ Some cause)
+pub closes_step : (plan : Plan) (b : BusState) (ls more : List Line) (l : Line) (place : ℕ) (written text : List ℕ) (step : Step) (cause : StepError)
+    (first now : Option (List ℕ)) (p q : ℕ)
+    → HasDone plan b ls place written text → more ≡ l ∷ [] → line_order plan l ≡ read_as (Some step)
+    → ((w : World) → Stands b plan w → refusal plan w step ≡ Some cause)
     → (begins : BeginWith first now p q (ls ++ more)) → Closes plan b (AtStep place cause) written text now begins.0
 closes_step plan b ls more l place written text step cause first now p q h is good refuses begins view shows behind at_end =
     let (rest, row) = begins.3 behind at_end in
-    step_refused plan b ls place written text h view shows (begins.0 ++ behind) l rest step cause (row ∙ ap (λ (m : List Line). (ls ++ m) ++ rest) is) good refuses
+    step_refused plan b ls place written text h view shows (begins.0 ++ behind) l rest step cause
+    (row ∙ ap (λ (m : List Line). (ls ++ m) ++ rest) is) good refuses
 
 -- at the end
-pub closes_end : (plan : Plan) (b : BusState) (ls : List Line) (place : ℕ) (written text seen : List ℕ) (now : Option (List ℕ)) → HasDone plan b ls place written text
+pub closes_end : (plan : Plan) (b : BusState) (ls : List Line) (place : ℕ) (written text seen : List ℕ) (now : Option (List ℕ))
+    → HasDone plan b ls place written text
     → ls ≡ lines seen → IsAtEnd now → Closes plan b End written text now seen
 closes_end plan b ls place written text seen now h all end view shows behind at_end =
     let none : seen ++ behind ≡ seen = ap (λ (t : List ℕ). seen ++ t) (at_end end) ∙ append-nil seen in
-    subst (λ (t : List ℕ). IsBusText plan t End (written ++ (text ++ closing_text plan view End))) (sym none) (end_done plan b ls place written text h view shows seen all)
+    subst (λ (t : List ℕ). IsBusText plan t End (written ++ (text ++ closing_text plan view End))) (sym none)
+    (end_done plan b ls place written text h view shows seen all)

@@ -116,7 +116,8 @@ fn write_unit(
 
 pub fn write_units(text: &mut TextBuffer, plan: &Plan, bus: &Bus) -> Result<(), AllocError>
     requires { length bus.now.units ≡ length plan.now.units.items }
-    ensures { OnOk result (text.new ≡ text.old ++ unit_lines plan.now 0 (map (λ u. unit_state (station_at bus.now.units u)) (range_with_len 0 (length plan.now.units.items)))) }
+    ensures { OnOk result (text.new ≡ text.old ++ unit_lines plan.now 0
+        (map (λ u. unit_state (station_at bus.now.units u)) (range_with_len 0 (length plan.now.units.items)))) }
 {
     for unit in 0..plan.units.len() {
         write_unit(text, plan, unit, state_of(bus, unit))?;

@@ -33,4 +33,8 @@ greatest_free_in taken some =
     let back : 247 - (247 - least) ≡ least = omega arith in
     let passes : is_free taken (247 - (247 - least)) ≡ true = rw (back, free.free) refl in
     let (b, is, inside, also) = finds (λ k. is_free taken (247 - k)) 0 120 (247 - least) (omega arith) (omega arith) passes in
-    rw is (record { pool = and_from (leb 128 (247 - b)) (leb (247 - b) 247) (le-leb 128 (247 - b) (omega arith)) (le-leb (247 - b) 247 (omega arith)); free = not-true (contains taken (247 - b)) also })
+    rw is (record {
+      pool = and_from (leb 128 (247 - b)) (leb (247 - b) 247) (le-leb 128 (247 - b) (omega arith))
+          (le-leb (247 - b) 247 (omega arith));
+      free = not-true (contains taken (247 - b)) also;
+    })

@@ -113,7 +113,8 @@ fn with_read<'a>(alloc: Global, program: Command<'a>) -> Result<Command<'a>, All
         "PLAN",
         "The name of a plan file",
         "LOG",
-        "The name of a file as candump -L writes it. If the last line counts bad lines, words behind the data, as R or T, are the usual cause: sed -E 's/ [RT]\\r?$//' LOG takes them away",
+        "The name of a file as candump -L writes it. If the last line counts bad lines, words behind the data, as R or T, \
+            are the usual cause: sed -E 's/ [RT]\\r?$//' LOG takes them away",
     )?)
 }
 

@@ -18,15 +18,18 @@ returns-in-Ok-clause-whole g c =
 
 pub returns-in-Ok-clause-cut : goal.returns-in-Ok-clause-cut
 returns-in-Ok-clause-cut g c =
-    IfErr-weaker c.run_bus.result _ _ (λ _ cut. inr (cut_text c.args.plan.now (length c.args.choosers.items) c.in-Ok.ensures.ok _ _ _ _ cut)) c.run_bus.ensures.cut
+    IfErr-weaker c.run_bus.result _ _ (λ _ cut. inr (cut_text c.args.plan.now (length c.args.choosers.items) c.in-Ok.ensures.ok _ _ _ _ cut))
+    c.run_bus.ensures.cut
 
 pub returns-clause-written : goal.returns-clause-written
 returns-clause-written g c =
-    refused_text c.args.plan.now (length c.args.choosers.items) c.in-Err.error c.in-Err.ensures.refused _ _ _ c.refuse.result c.refuse.ensures.verdict c.refuse.ensures.ok
+    refused_text c.args.plan.now (length c.args.choosers.items) c.in-Err.error c.in-Err.ensures.refused _ _ _ c.refuse.result c.refuse.ensures.verdict
+    c.refuse.ensures.ok
 
 pub returns-clause-whole : goal.returns-clause-whole
 returns-clause-whole g c =
-    refused_whole c.args.plan.now (length c.args.choosers.items) c.in-Err.error c.in-Err.ensures.refused _ _ _ c.refuse.result c.refuse.ensures.verdict c.refuse.ensures.ok
+    refused_whole c.args.plan.now (length c.args.choosers.items) c.in-Err.error c.in-Err.ensures.refused _ _ _ c.refuse.result c.refuse.ensures.verdict
+    c.refuse.ensures.ok
 
 pub returns-clause-cut : goal.returns-clause-cut
 returns-clause-cut g c =
@@ -35,4 +38,5 @@ returns-clause-cut g c =
 
 pub returns-clause-limits : goal.returns-clause-limits
 returns-clause-limits g c =
-    IfOk-weaker c.refuse.result _ _ (λ _ _. ([], none_read (g.S.Source.left c.args.source.now), omega arith, (0, omega arith, omega arith))) c.refuse.ensures.verdict
+    IfOk-weaker c.refuse.result _ _ (λ _ _. ([], none_read (g.S.Source.left c.args.source.now), omega arith, (0, omega arith, omega arith)))
+    c.refuse.ensures.verdict
