@@ -37,7 +37,8 @@ pub read_on : (first a b : Option (List ℕ)) (p q r : ℕ) (old new : Feeding) 
     → IsFed first a p q old seen ls → IsFed first b p r new seen ls
 read_on first a b p q r old new seen ls n used going same ends calls more last end fed =
     let before : IsReading first a p q old seen ls = subst (λ (e : Bool). IsFedSo e first a p q old seen ls) going fed in
-    let all : HasRead first a p q old.counts seen = subst (λ (t : List ℕ). HasRead first a p q old.counts t) (ap (λ (u : List ℕ). seen ++ u) used ∙ append-nil seen) before.read in
+    let all : HasRead first a p q old.counts seen = subst (λ (t : List ℕ). HasRead first a p q old.counts t)
+    (ap (λ (u : List ℕ). seen ++ u) used ∙ append-nil seen) before.read in
     subst (λ (e : Bool). IsFedSo e first b p r new seen ls) (sym ends)
     (elim (cases_Bool (n == 0)) [
       | inl none ↦
@@ -65,7 +66,8 @@ tells_given cuts.Long p = refl
 
 -- what is told at the end completes the lines
 ended_all : (p : Pending) (seen : List ℕ) (ls : List Line) → IsEnding p seen ls → ls ++ told_at_end p ≡ lines seen
-ended_all p seen ls (inl (told_is, at)) = ap (λ (l : List Line). l ++ told_at_end p) told_is ∙ ap (λ (r : Pending). told at_start seen ++ told_at_end r) at ∙ tells_lines seen
+ended_all p seen ls (inl (told_is, at)) = ap (λ (l : List Line). l ++ told_at_end p) told_is ∙ ap (λ (r : Pending). told at_start seen ++ told_at_end r) at
+    ∙ tells_lines seen
 ended_all p seen ls (inr (told_is, at)) = ap (λ (r : Pending). ls ++ told_at_end r) at ∙ append-nil ls ∙ told_is
 
 pub goes_on : (plan : Plan) (next : Next) (first now : Option (List ℕ)) (p q : ℕ) (f : Feeding) (seen : List ℕ) (ls : List Line) (more : List Line)
@@ -78,15 +80,18 @@ goes_on plan (Refused fault) first now p q f seen ls more is goes = goes
 goes_on plan End first now p q f seen ls more is goes = absurd is
 
 -- the last line
-last_ended : (first now : Option (List ℕ)) (p q : ℕ) (old new : Feeding) (seen : List ℕ) (ls more : List Line) → new.pending ≡ at_start → more ≡ told_at_end old.pending
+last_ended : (first now : Option (List ℕ)) (p q : ℕ) (old new : Feeding) (seen : List ℕ) (ls more : List Line) → new.pending ≡ at_start
+    → more ≡ told_at_end old.pending
     → HasEnded first now p q old seen ls → HasEnded first now p q new (seen ++ []) (ls ++ more)
 last_ended first now p q old new seen ls more start is ended =
     let all : ls ++ more ≡ lines seen = ap (λ (m : List Line). ls ++ m) is ∙ ended_all old.pending seen ls ended.told_is in
     subst (λ (t : List ℕ). HasEnded first now p q new t (ls ++ more)) (sym (append-nil seen))
     (record { consumed = ended.consumed; end = ended.end; limits = ended.limits; within = ended.within; told_is = inr (all, start) })
 
-pub last_line : (plan : Plan) (next : Next) (first now : Option (List ℕ)) (p q : ℕ) (old new : Feeding) (seen : List ℕ) (ls more : List Line) → old.ended ≡ true → new.ended ≡ true
-    → new.pending ≡ at_start → more ≡ told_at_end old.pending → IsNext plan next more → IsFed first now p q old seen ls → Comes plan next first now p q new seen ls
+pub last_line : (plan : Plan) (next : Next) (first now : Option (List ℕ)) (p q : ℕ) (old new : Feeding) (seen : List ℕ) (ls more : List Line)
+    → old.ended ≡ true → new.ended ≡ true
+    → new.pending ≡ at_start → more ≡ told_at_end old.pending → IsNext plan next more → IsFed first now p q old seen ls
+    → Comes plan next first now p q new seen ls
 last_line plan next first now p q old new seen ls more over still start is told_next fed =
     let before : HasEnded first now p q old seen ls = subst (λ (e : Bool). IsFedSo e first now p q old seen ls) over fed in
     let after : IsFed first now p q new (seen ++ []) (ls ++ more) =
@@ -102,14 +107,17 @@ no_last_line plan first now p q old new seen ls more over start is none fed =
     (record { consumed = before.consumed; end = before.end; limits = before.limits; within = before.within; told_is = inr (all, start) }, all)
 
 -- a part of a piece
-pub next_part : (plan : Plan) (next : Next) (first now : Option (List ℕ)) (p q : ℕ) (old new : Feeding) (seen part : List ℕ) (ls more : List Line) → old.ended ≡ false → new.ended ≡ false
-    → new.counts ≡ old.counts → old.unread ≡ part ++ new.unread → new.pending ≡ behind_all old.pending part → told old.pending part ≡ more → IsNext plan next more
+pub next_part : (plan : Plan) (next : Next) (first now : Option (List ℕ)) (p q : ℕ) (old new : Feeding) (seen part : List ℕ) (ls more : List Line)
+    → old.ended ≡ false → new.ended ≡ false
+    → new.counts ≡ old.counts → old.unread ≡ part ++ new.unread → new.pending ≡ behind_all old.pending part → told old.pending part ≡ more
+    → IsNext plan next more
     → IsFed first now p q old seen ls → Comes plan next first now p q new seen ls
 next_part plan next first now p q old new seen part ls more going still same row at told_is told_next fed =
     let before : IsReading first now p q old seen ls = subst (λ (e : Bool). IsFedSo e first now p q old seen ls) going fed in
     let all : seen ++ old.unread ≡ (seen ++ part) ++ new.unread = ap (λ (u : List ℕ). seen ++ u) row ∙ sym (append_assoc seen part new.unread) in
     let after : IsReading first now p q new (seen ++ part) (ls ++ more) = record {
-      read = subst (λ c. HasRead first now p q c ((seen ++ part) ++ new.unread)) (sym same) (subst (λ (t : List ℕ). HasRead first now p q old.counts t) all before.read);
+      read = subst (λ c. HasRead first now p q c ((seen ++ part) ++ new.unread)) (sym same)
+          (subst (λ (t : List ℕ). HasRead first now p q old.counts t) all before.read);
       calls = subst (λ c. c.calls ≤ read_calls) (sym same) before.calls;
       pending_is = at ∙ ap (λ (r : Pending). behind_all r part) before.pending_is ∙ sym (behind_all-append at_start seen part);
       told_is = ap (λ (l : List Line). l ++ more) before.told_is ∙ ap (λ (m : List Line). told at_start seen ++ m) (sym told_is)
@@ -142,7 +150,8 @@ few_told p (b ∷ bs) =
     let all = length-append (tells (answer_to p b) p.held) (told (behind p b) bs) in
     omega (arith, one, rest, all)
 
-few_so : (e : Bool) (first now : Option (List ℕ)) (p q : ℕ) (f : Feeding) (seen : List ℕ) (ls : List Line) → IsFedSo e first now p q f seen ls → length ls ≤ input_limit + 1
+few_so : (e : Bool) (first now : Option (List ℕ)) (p q : ℕ) (f : Feeding) (seen : List ℕ) (ls : List Line) → IsFedSo e first now p q f seen ls
+    → length ls ≤ input_limit + 1
 few_so false first now p q f seen ls fed =
     let count = few_told at_start seen in
     let is = ap length fed.told_is in
@@ -160,7 +169,8 @@ few_so true first now p q f seen ls fed =
       | inr done ↦ let is = ap length done.0 in omega (arith, count, last, all, whole, is, within)
     ]
 
-pub few_lines : (first now : Option (List ℕ)) (p q : ℕ) (f : Feeding) (seen : List ℕ) (ls : List Line) → IsFed first now p q f seen ls → length ls ≤ input_limit + 1
+pub few_lines : (first now : Option (List ℕ)) (p q : ℕ) (f : Feeding) (seen : List ℕ) (ls : List Line) → IsFed first now p q f seen ls
+    → length ls ≤ input_limit + 1
 few_lines first now p q f seen ls fed = few_so f.ended first now p q f seen ls fed
 
 -- ---- what of the schedule these lines are
@@ -204,7 +214,8 @@ pub lines_from : (seen tail : List ℕ) → (rest : List Line) × (lines (seen +
 lines_from seen tail =
     let end : List Line = told_at_end (behind_all at_start (seen ++ tail)) in (
       told (behind_all at_start seen) tail ++ end,
-      sym (tells_lines (seen ++ tail)) ∙ ap (λ (l : List Line). l ++ end) (told-append at_start seen tail) ∙ append_assoc (told at_start seen) (told (behind_all at_start seen) tail) end,
+      sym (tells_lines (seen ++ tail)) ∙ ap (λ (l : List Line). l ++ end) (told-append at_start seen tail)
+          ∙ append_assoc (told at_start seen) (told (behind_all at_start seen) tail) end,
     )
 
 abbrev pub BeginWith : Option (List ℕ) → Option (List ℕ) → ℕ → ℕ → List Line → Type 0
@@ -212,7 +223,8 @@ BeginWith first now p q ls =
     (input : List ℕ) × Consumes first now input × KeepsLimits first now p q
     × ((more : List ℕ) → (IsAtEnd now → more ≡ []) → (rest : List Line) × (lines (input ++ more) ≡ ls ++ rest))
 
-begins_so : (e : Bool) (first now : Option (List ℕ)) (p q : ℕ) (f : Feeding) (seen : List ℕ) (ls : List Line) → IsFedSo e first now p q f seen ls → BeginWith first now p q ls
+begins_so : (e : Bool) (first now : Option (List ℕ)) (p q : ℕ) (f : Feeding) (seen : List ℕ) (ls : List Line) → IsFedSo e first now p q f seen ls
+    → BeginWith first now p q ls
 begins_so false first now p q f seen ls fed = (
   seen ++ f.unread,
   fed.read.consumed,
@@ -231,7 +243,8 @@ begins_so true first now p q f seen ls fed = (
 )
 
 -- the lines of all that was read, and of what stands behind it, begin with those that were told
-pub begin_with : (first now : Option (List ℕ)) (p q : ℕ) (f : Feeding) (seen : List ℕ) (ls : List Line) → IsFed first now p q f seen ls → BeginWith first now p q ls
+pub begin_with : (first now : Option (List ℕ)) (p q : ℕ) (f : Feeding) (seen : List ℕ) (ls : List Line) → IsFed first now p q f seen ls
+    → BeginWith first now p q ls
 begin_with first now p q f seen ls fed = begins_so f.ended first now p q f seen ls fed
 
 -- ---- within a piece

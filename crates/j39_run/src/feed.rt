@@ -71,10 +71,12 @@ impl Feed {
     pub fn read_on<S: Source>(&mut self, source: &mut S) -> Result<(), Fault>
         requires unread { self.old.unread ≡ [] }
         requires going { self.old.ended ≡ false }
-        ensures fed { OnOk result ((first : Option (List ℕ)) (pulls : ℕ) (seen : List ℕ) (ls : List Line) → IsFed first (S.left source.old) pulls (S.pulls source.old) self.old seen ls
+        ensures fed { OnOk result ((first : Option (List ℕ)) (pulls : ℕ) (seen : List ℕ) (ls : List Line)
+            → IsFed first (S.left source.old) pulls (S.pulls source.old) self.old seen ls
             → IsFed first (S.left source.new) pulls (S.pulls source.new) self.new seen ls) }
         ensures shorter { OnOk result (to_do self.new < to_do self.old) }
-        ensures long { IsErrOf result Fault.TooLong → (first : Option (List ℕ)) (pulls : ℕ) (seen : List ℕ) (ls : List Line) → IsFed first (S.left source.old) pulls (S.pulls source.old) self.old seen ls
+        ensures long { IsErrOf result Fault.TooLong → (first : Option (List ℕ)) (pulls : ℕ) (seen : List ℕ) (ls : List Line)
+            → IsFed first (S.left source.old) pulls (S.pulls source.old) self.old seen ls
             → PassesLimits first (S.left source.new) pulls (S.pulls source.new) }
         ensures kept { (first : Option (List ℕ)) (text : List ℕ) → Consumes first (S.left source.old) text
             → (more : List ℕ) × Consumes first (S.left source.new) (text ++ more) }
@@ -93,7 +95,8 @@ impl Feed {
     fn last(&mut self, alloc: Global, index: &UnitIndex, plan: &Plan) -> Result<Next, AllocError>
         requires indexed { IsIndexOf plan.now index.now }
         requires ended { self.old.ended ≡ true }
-        ensures comes { IfOk result (λ next. (first now : Option (List ℕ)) (first_pulls pulls : ℕ) (seen : List ℕ) (ls : List Line) → IsFed first now first_pulls pulls self.old seen ls
+        ensures comes { IfOk result (λ next. (first now : Option (List ℕ)) (first_pulls pulls : ℕ) (seen : List ℕ) (ls : List Line)
+            → IsFed first now first_pulls pulls self.old seen ls
             → Comes plan.now next first now first_pulls pulls self.new seen ls) }
         ensures shorter { IfOk result (λ next. IsShorter next self.old self.new) }
     {
@@ -112,7 +115,8 @@ impl Feed {
         plan: &Plan,
     ) -> Result<Next, AllocError>
         requires { IsIndexOf plan.now index.now }
-        ensures comes { IfOk result (λ next. (first now : Option (List ℕ)) (first_pulls pulls : ℕ) (seen : List ℕ) (ls : List Line) → IsFed first now first_pulls pulls self.old seen ls
+        ensures comes { IfOk result (λ next. (first now : Option (List ℕ)) (first_pulls pulls : ℕ) (seen : List ℕ) (ls : List Line)
+            → IsFed first now first_pulls pulls self.old seen ls
             → Comes plan.now next first now first_pulls pulls self.new seen ls) }
         ensures shorter { IfOk result (λ next. IsShorter next self.old self.new) }
     {

@@ -55,7 +55,8 @@ split_at p xs n is =
 split-none : (p : ℕ → Bool) (xs : List ℕ) → length xs ≤ position_or_len p xs → slice_split p xs ≡ xs ∷ []
 split-none p [] past = refl
 split-none p (x ∷ xs) past =
-    elim (p x) as (λ b. suc (length xs) ≤ cond (not b) (1 + position_or_len p xs) 0 → cond b ([] ∷ slice_split p xs) (onto_first x (slice_split p xs)) ≡ (x ∷ xs) ∷ []) [
+    elim (p x) as (λ b. suc (length xs) ≤ cond (not b) (1 + position_or_len p xs) 0
+    → cond b ([] ∷ slice_split p xs) (onto_first x (slice_split p xs)) ≡ (x ∷ xs) ∷ []) [
       | true ↦ λ h. absurd (omega arith)
       | false ↦ λ h. ap (onto_first x) (split-none p xs (omega arith))
     ] past
@@ -69,19 +70,22 @@ split-append p [] y ys cut = rw cut refl
 split-append p (x ∷ xs) y ys cut =
     let (part, parts, is) = first_part p xs in
     let rest = split-append p xs y ys cut in
-    elim (p x) as (λ b. cond b ([] ∷ slice_split p (xs ++ y ∷ ys)) (onto_first x (slice_split p (xs ++ y ∷ ys))) ≡ cond b ([] ∷ slice_split p xs) (onto_first x (slice_split p xs)) ++ slice_split p ys) [
+    elim (p x) as (λ b. cond b ([] ∷ slice_split p (xs ++ y ∷ ys)) (onto_first x (slice_split p (xs ++ y ∷ ys))) ≡ cond b ([] ∷ slice_split p xs)
+    (onto_first x (slice_split p xs)) ++ slice_split p ys) [
       | true ↦ ap (λ (l : List (List ℕ)). [] ∷ l) rest
       | false ↦ rw (rest, is) refl
     ]
 
 -- ---- lines
 
-more_parts : (parts : List (List ℕ)) (next : List ℕ) (rest : List (List ℕ)) → without_empty_end (parts ++ next ∷ rest) ≡ parts ++ without_empty_end (next ∷ rest)
+more_parts : (parts : List (List ℕ)) (next : List ℕ) (rest : List (List ℕ))
+    → without_empty_end (parts ++ next ∷ rest) ≡ parts ++ without_empty_end (next ∷ rest)
 more_parts [] next rest = refl
 more_parts (part ∷ []) next rest = refl
 more_parts (part ∷ other ∷ parts) next rest = ap (λ (l : List (List ℕ)). part ∷ l) (more_parts (other ∷ parts) next rest)
 
-ended-parts : (parts : List (List ℕ)) (text : List ℕ) → without_empty_end (parts ++ slice_split is_line_feed text) ≡ parts ++ without_empty_end (slice_split is_line_feed text)
+ended-parts : (parts : List (List ℕ)) (text : List ℕ) → without_empty_end (parts ++ slice_split is_line_feed text) ≡ parts ++ without_empty_end
+    (slice_split is_line_feed text)
 ended-parts parts text =
     let (part, rest, is) = first_part is_line_feed text in
     rw is (more_parts parts part rest)
@@ -105,7 +109,8 @@ skipped [] = refl
 skipped (b ∷ line) = by (is_separator b) refl (skipped line)
   where
     by : (s : Bool) → is_separator b ≡ s → words_of line ≡ words_of (drop (position_or_len begins_word line) line)
-        → filter is_word (slice_split is_separator (b ∷ line)) ≡ filter is_word (slice_split is_separator (drop (position_or_len begins_word (b ∷ line)) (b ∷ line)))
+        → filter is_word (slice_split is_separator (b ∷ line)) ≡ filter is_word
+        (slice_split is_separator (drop (position_or_len begins_word (b ∷ line)) (b ∷ line)))
     by true e rest =
         let next : position_or_len begins_word (b ∷ line) ≡ suc (position_or_len begins_word line) = rw e (omega arith) in
         rw (next, e) rest
@@ -115,7 +120,8 @@ skipped (b ∷ line) = by (is_separator b) refl (skipped line)
 
 -- at the place where a word begins there is no separator
 abbrev Begins : List ℕ → Type 0
-Begins line = position_or_len begins_word line < length line → (b : ℕ) × (rest : List ℕ) × (drop (position_or_len begins_word line) line ≡ b ∷ rest) × (is_separator b ≡ false)
+Begins line = position_or_len begins_word line < length line → (b : ℕ) × (rest : List ℕ) × (drop (position_or_len begins_word line) line ≡ b ∷ rest)
+    × (is_separator b ≡ false)
 
 moved : (line : List ℕ) (b c : ℕ) (more : List ℕ) (m n : ℕ) → m ≡ suc n → drop n line ≡ c ∷ more → drop m (b ∷ line) ≡ c ∷ more
 moved line b c more m n next is = rw next is
@@ -157,7 +163,8 @@ module _ (line rest : List ℕ) (start : ℕ) (begins : position begins_word lin
         (b, more, behind ∙ ap (λ (n : ℕ). drop n line) e ∙ is, other),
       )
 
-  pub word_at : (n : ℕ) → position is_separator rest ≡ Some n → (words_of line ≡ take n rest ∷ words_of (take (length rest - (n + 1)) (drop (n + 1) rest))) × (0 < length (take n rest))
+  pub word_at : (n : ℕ) → position is_separator rest ≡ Some n
+      → (words_of line ≡ take n rest ∷ words_of (take (length rest - (n + 1)) (drop (n + 1) rest))) × (0 < length (take n rest))
   unfolding words_of
   word_at n is =
       let (skip, (b, more, rest_is, other)) = word_here in

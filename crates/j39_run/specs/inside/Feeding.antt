@@ -59,7 +59,8 @@ IsNext plan (Refused fault) ls = (l : Line) × (ls ≡ l ∷ []) × (line_order 
 IsNext plan End ls = ⊥
 
 -- with what comes next the schedule is told so much further
-pub record GoesOn (plan : Plan) (next : Next) (first now : Option (List ℕ)) (first_pulls pulls : ℕ) (f : Feeding) (seen : List ℕ) (ls : List Line) : Type 0 where
+pub record GoesOn (plan : Plan) (next : Next) (first now : Option (List ℕ)) (first_pulls pulls : ℕ) (f : Feeding) (seen : List ℕ)
+    (ls : List Line) : Type 0 where
   pub used : List ℕ
   pub more : List Line
   pub fed : IsFed first now first_pulls pulls f (seen ++ used) (ls ++ more)

@@ -4,7 +4,12 @@ use Rattle.j39_schedule.proofs.Numbers.{digit_at_place, number_with, number_unti
 use Rattle.j39_schedule.proofs.beginning.number_of.Goals as goal
 
 pub overflow_mul-number : goal.overflow_mul-number
-overflow_mul-number c = omega (arith, c.loop-digit.invariant, number_until c.args.text.now c.loop-digit.digit-index (sym c.is_number.ensures ∙ c.if-not-is_number.false))
+overflow_mul-number c = omega (
+  arith,
+  c.loop-digit.invariant,
+  number_until c.args.text.now c.loop-digit.digit-index
+      (sym c.is_number.ensures ∙ c.if-not-is_number.false),
+)
 
 pub overflow_sub-digit : goal.overflow_sub-digit
 overflow_sub-digit c = omega (arith, digit_at_place c.args.text.now c.loop-digit.digit-index (sym c.is_number.ensures ∙ c.if-not-is_number.false) (omega arith))

@@ -8,12 +8,15 @@ returns-in_default-clause-none c = no_words c.args.line.now (sym c.word_start.en
 
 pub returns-in-Some-word_end-clause-words : goal.returns-in-Some-word_end-clause-words
 returns-in-Some-word_end-clause-words c =
-    (word_at c.args.line.now _ c.in-Some.start (sym c.word_start.ensures ∙ c.in-Some.is) (take_rest c.args.line.now c.in-Some.start) c.in-Some-word_end.end (sym c.word_end.ensures ∙ c.in-Some-word_end.is)).0
+    (word_at c.args.line.now _ c.in-Some.start (sym c.word_start.ensures ∙ c.in-Some.is) (take_rest c.args.line.now c.in-Some.start) c.in-Some-word_end.end
+    (sym c.word_end.ensures ∙ c.in-Some-word_end.is)).0
 
 pub returns-in-Some-word_end-clause-some : goal.returns-in-Some-word_end-clause-some
 returns-in-Some-word_end-clause-some c =
-    (word_at c.args.line.now _ c.in-Some.start (sym c.word_start.ensures ∙ c.in-Some.is) (take_rest c.args.line.now c.in-Some.start) c.in-Some-word_end.end (sym c.word_end.ensures ∙ c.in-Some-word_end.is)).1
+    (word_at c.args.line.now _ c.in-Some.start (sym c.word_start.ensures ∙ c.in-Some.is) (take_rest c.args.line.now c.in-Some.start) c.in-Some-word_end.end
+    (sym c.word_end.ensures ∙ c.in-Some-word_end.is)).1
 
 pub returns-in-None-clause-words : goal.returns-in-None-clause-words
 returns-in-None-clause-words c =
-    (last_word c.args.line.now _ c.in-Some.start (sym c.word_start.ensures ∙ c.in-Some.is) (take_rest c.args.line.now c.in-Some.start) (sym c.word_end.ensures ∙ c.in-None.is)).0
+    (last_word c.args.line.now _ c.in-Some.start (sym c.word_start.ensures ∙ c.in-Some.is) (take_rest c.args.line.now c.in-Some.start)
+    (sym c.word_end.ensures ∙ c.in-None.is)).0

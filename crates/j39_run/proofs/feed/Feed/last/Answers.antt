@@ -12,7 +12,8 @@ returns-clause-comes c =
     let pending = ap (λ (f : Feeding). f.pending) c.self.view_is in
     let ended = ap (λ (f : Feeding). f.ended) c.self.view_is ∙ c.requires.ended in
     let told_last : more ≡ told_at_end c.args.self.now.pending =
-    tells_end c.end-cut.result c.self.inside.cutter.pending c.line.result.now c.end-cut.ensures.answer (c.line.ensures ∙ c.end-cut.ensures.line) ∙ ap told_at_end pending in
+    tells_end c.end-cut.result c.self.inside.cutter.pending c.line.result.now c.end-cut.ensures.answer (c.line.ensures ∙ c.end-cut.ensures.line)
+    ∙ ap told_at_end pending in
     elim c.match-branch-2.branch [
       | in-More w ↦
           rw w.result-is (λ first now p q seen ls fed.
@@ -20,5 +21,6 @@ returns-clause-comes c =
           (subst (λ (n : Next). IsNext c.args.plan.now n more) w.in-More.is c.in_ok-next.ensures) fed)
       | in_default w ↦
           rw w.result-is (λ first now p q seen ls fed.
-          last_line c.args.plan.now c.in_ok-next.next first now p q c.args.self.now _ seen ls more c.requires.ended ended c.end-cut.ensures.pending told_last c.in_ok-next.ensures fed)
+          last_line c.args.plan.now c.in_ok-next.next first now p q c.args.self.now _ seen ls more c.requires.ended ended c.end-cut.ensures.pending told_last
+          c.in_ok-next.ensures fed)
     ]

@@ -22,7 +22,8 @@ returns-clause-comes c first now p q seen ls fed =
     let to : ℕ = c.self.inside.to in
     let piece : List ℕ = c.self.inside.piece in
     let is : unwrap_or (option_copied c.advance-step.result.whole) c.advance-step.new.self.line ≡ line =
-    ap (λ (l : List ℕ). unwrap_or (option_copied c.advance-step.result.whole) l) (sym c.line.ensures) ∙ sym (line_given c.advance-step.result.whole c.line.result)
+    ap (λ (l : List ℕ). unwrap_or (option_copied c.advance-step.result.whole) l) (sym c.line.ensures)
+    ∙ sym (line_given c.advance-step.result.whole c.line.result)
     ∙ sym (ap (λ (l : Bor (List ℕ)). l.now) c.unwrap_or-line.ensures) in
     let inside : n ≤ length (take (to - from) (drop from piece)) = subst (λ (l : List ℕ). n ≤ length l) c.part.ensures c.advance-step.ensures.within in
     let row : old.unread ≡ part ++ take (to - (from + n)) (drop (from + n) piece) =
