@@ -8,19 +8,17 @@ use Rattle.j39_queues.specs.Queued.{IsTable, pair_in}
 use Rattle.j39_bus.specs.declared.network.Network.{Network}
 use Rattle.j39_bus.specs.declared.route.Route.{Route}
 use Rattle.j39_world.specs.declared.step_error.StepError.TheVariants.{NoSuchFlow, NotStarted, NotSettled, NoAddress, Busy, WrongLength}
-use Rattle.j39_bus.specs.declared.transfer.Transfer as made
-use Rattle.j39_bus.specs.BusState.{session_at}
+use Rattle.j39_bus.specs.BusState.{Histories}
 use Rattle.j39_world.specs.Flows.{Flow, flows_of, can_be_sent}
 use Rattle.j39_plan.specs.declared.plan.Plan.{Plan}
-use Rattle.j39_bus.specs.Network.{Histories, IsNetwork, IsOf, world_of}
+use Rattle.j39_bus.specs.inside.Network.{IsNetwork, IsOfPlan, world_in}
 use Rattle.j39_world.specs.Run.{at_ends, begin_refusal, has_address, is_nothing_undelivered, is_on, refuse_unless}
-use Rattle.j39_bus.specs.Traffic.{IsRoute, route_of, values_of}
+use Rattle.j39_bus.specs.inside.Traffic.{IsRoute, route_of}
 use Rattle.j39_world.specs.World.{World}
-use Rattle.j39_bus.proofs.AlongMessages.{session_of}
 use Rattle.j39_bus.proofs.Opened.{got}
 use Rattle.j39_bus.proofs.Outside.{each_list}
 use Rattle.j39_bus.proofs.Refused.{nowhere}
-use Rattle.j39_bus.proofs.Rested.{all_below, some_session}
+use Rattle.j39_bus.proofs.Rested.{all_below}
 
 begin_parts : (a b c d e f : Bool)
     → refuse_unless a NoSuchFlow (refuse_unless b NotStarted (refuse_unless c NotSettled (refuse_unless d NoAddress (refuse_unless e Busy (refuse_unless f WrongLength None))))) ≡ None → (e ≡ true) × (f ≡ true)
@@ -32,20 +30,20 @@ begin_parts true true false d e f is = absurd (cc is)
 begin_parts true false c d e f is = absurd (cc is)
 begin_parts false b c d e f is = absurd (cc is)
 
-module _ (net : Network) (f : ℕ) (r : Route) (inside : f < length net.traffic.routes.items) (at : r ≡ get_or net.traffic.routes.items f r) where
-  pub flow_is : slice_get (map route_of net.traffic.routes.items) f ≡ Some (route_of r)
-  flow_is = got (map route_of net.traffic.routes.items) f (route_of r) (omega (arith, inside, length-map net.traffic.routes.items route_of))
-      (ap route_of at ∙ sym (get_or-map route_of net.traffic.routes.items f r (route_of r) inside))
+module _ (net : Network) (f : ℕ) (r : Route) (inside : f < length net.routes.items) (at : r ≡ get_or net.routes.items f r) where
+  pub flow_is : slice_get (map route_of net.routes.items) f ≡ Some (route_of r)
+  flow_is = got (map route_of net.routes.items) f (route_of r) (omega (arith, inside, length-map net.routes.items route_of))
+      (ap route_of at ∙ sym (get_or-map route_of net.routes.items f r (route_of r) inside))
 
   pub refusal_by : (n : ℕ) (w : World) (bytes : List ℕ) (x y a b c d : Bool) → can_be_sent (route_of r) ≡ x → at_ends (is_on w) r.sender r.to ≡ y
       → is_nothing_undelivered n w.claims ≡ a → at_ends (has_address w) r.sender r.to ≡ b → not (is_some (w.sessions r.sender)) ≡ c → (length bytes == r.length) ≡ d
-      → begin_refusal n w (slice_get (map route_of net.traffic.routes.items) f) bytes
+      → begin_refusal n w (slice_get (map route_of net.routes.items) f) bytes
       ≡ refuse_unless x NoSuchFlow (refuse_unless y NotStarted (refuse_unless a NotSettled (refuse_unless b NoAddress (refuse_unless c Busy (refuse_unless d WrongLength None)))))
   refusal_by n w bytes x y a b c d sendable started a_is b_is c_is d_is =
       ap (λ (o : Option Flow). begin_refusal n w o bytes) flow_is
       ∙ (λ i. refuse_unless (sendable i) NoSuchFlow (refuse_unless (started i) NotStarted (refuse_unless (a_is i) NotSettled (refuse_unless (b_is i) NoAddress (refuse_unless (c_is i) Busy (refuse_unless (d_is i) WrongLength None))))))
 
-  pub begin_met : (n : ℕ) (w : World) (bytes : List ℕ) → begin_refusal n w (slice_get (map route_of net.traffic.routes.items) f) bytes ≡ None
+  pub begin_met : (n : ℕ) (w : World) (bytes : List ℕ) → begin_refusal n w (slice_get (map route_of net.routes.items) f) bytes ≡ None
       → (not (is_some (w.sessions r.sender)) ≡ true) × ((length bytes == r.length) ≡ true)
   begin_met n w bytes allowed =
       begin_parts (can_be_sent (route_of r)) (at_ends (is_on w) r.sender r.to) (is_nothing_undelivered n w.claims) (at_ends (has_address w) r.sender r.to)
@@ -76,40 +74,24 @@ settled_by n lists table b (none, all) = elim (cases_Bool b) [
     is_none [] is = refl
     is_none (x ∷ xs) is = let e : length (x ∷ xs) ≡ 0 = eqb-true (length (x ∷ xs)) 0 is in absurd (omega (arith, e))
 
--- a unit sends nothing where it has no message
-pub idle_is : (ts : List (Option made.Transfer)) (u : ℕ) → u < length ts → not (is_some (session_at (values_of ts) u)) ≡ not (is_some (get_or ts u None))
-idle_is ts u inside = ap not (ap is_some (session_of ts u inside) ∙ some_session (get_or ts u None))
-
-pub idle_of : (ts : List (Option made.Transfer)) (u : ℕ) → u < length ts → not (is_some (session_at (values_of ts) u)) ≡ true → get_or ts u None ≡ None
-idle_of ts u inside idle = none_there (get_or ts u None) (sym (idle_is ts u inside) ∙ idle)
-  where
-    none_there : (o : Option made.Transfer) → not (is_some o) ≡ true → o ≡ None
-    none_there None is = refl
-    none_there (Some t) is = absurd (cc is)
-
 -- ---- a message that may be begun
 module _ (net : Network) (well : IsNetwork net) (f : ℕ) (bytes : List ℕ)
-    (allowed : (h : Histories) → begin_refusal (length net.claimers.items) (world_of h net) (slice_get (map route_of net.traffic.routes.items) f) bytes ≡ None)
-    (r : Route) (at : r ≡ get_or net.traffic.routes.items f r) where
-  pub inside_routes : f < length net.traffic.routes.items
+    (allowed : (h : Histories) → begin_refusal (length net.claimers.items) (world_in h net) (slice_get (map route_of net.routes.items) f) bytes ≡ None)
+    (r : Route) (at : r ≡ get_or net.routes.items f r) where
+  pub inside_routes : f < length net.routes.items
   inside_routes =
-      let inside : f < length (map route_of net.traffic.routes.items) =
-      flow_inside (length net.claimers.items) (world_of nowhere net) (map route_of net.traffic.routes.items) f bytes (allowed nowhere) in
-      omega (arith, inside, length-map net.traffic.routes.items route_of)
+      let inside : f < length (map route_of net.routes.items) =
+      flow_inside (length net.claimers.items) (world_in nowhere net) (map route_of net.routes.items) f bytes (allowed nowhere) in
+      omega (arith, inside, length-map net.routes.items route_of)
 
   pub route_fits : IsRoute (length net.claimers.items) r
   route_fits = subst (IsRoute (length net.claimers.items)) (sym at) (well.traffic.flows f r inside_routes)
 
-  pub is_idle : get_or net.traffic.transfers.items r.sender None ≡ None
-  is_idle =
-      let sender : r.sender < length net.traffic.transfers.items = omega (arith, route_fits.sender, well.traffic.transfers.count) in
-      idle_of net.traffic.transfers.items r.sender sender (begin_met net f r inside_routes at (length net.claimers.items) (world_of nowhere net) bytes (allowed nowhere)).0
-
   pub is_in_length : length bytes ≤ 1785
   is_in_length =
       let same : length bytes ≡ r.length =
-      eqb-true (length bytes) r.length (begin_met net f r inside_routes at (length net.claimers.items) (world_of nowhere net) bytes (allowed nowhere)).1 in
+      eqb-true (length bytes) r.length (begin_met net f r inside_routes at (length net.claimers.items) (world_in nowhere net) bytes (allowed nowhere)).1 in
       omega (arith, same, route_fits.length)
 
-  pub planned_flow : (plan : Plan) → IsOf plan net → slice_get (flows_of plan) f ≡ Some (route_of r)
+  pub planned_flow : (plan : Plan) → IsOfPlan plan net → slice_get (flows_of plan) f ≡ Some (route_of r)
   planned_flow plan of = ap (λ (fs : List Flow). slice_get fs f) (sym of.flows) ∙ flow_is net f r inside_routes at

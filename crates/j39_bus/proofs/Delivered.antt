@@ -8,16 +8,16 @@ use Rattle.j39_world.specs.Claimants.{unit_at}
 use Rattle.j39_world.specs.Sent.{Sent}
 use Rattle.j39_world.specs.World.{World, Undelivered, changed_pair}
 use Rattle.j39_world.specs.ClaimSteps.{tell, answer_items, GivenFrom}
-use Rattle.j39_bus.specs.Stations.{nobody, station_at}
-use Rattle.j39_bus.specs.Network.{claimants, HasAnswered}
+use Rattle.j39_bus.specs.Stations.{absent_unit, station_at}
+use Rattle.j39_bus.specs.inside.Network.{claimants, HasAnswered}
 use Rattle.j39_bus.proofs.Worlds.{unit_at-claimants, claimants-set, world, world_set}
 
 pub claimants_heard : (cs : List ClaimerValue) (v name : ℕ) (item : Item) (says : Option Say) (new : List ClaimerValue) → HasAnswered cs v name item says new → claimants new ≡ claimants cs
-claimants_heard cs v name item says new (s, is, answers) = (λ i. claimants (is i)) ∙ claimants-set cs v (record (get_or cs v nobody) { state = s }) refl
+claimants_heard cs v name item says new (s, is, answers) = (λ i. claimants (is i)) ∙ claimants-set cs v (record (get_or cs v absent_unit) { state = s }) refl
 
 pub delivered : (b : World) (cs : List ClaimerValue) (claims left : Undelivered) (fs : List Sent) (u v : ℕ) → v < length cs
     → (item : Item) → claims u v ≡ item ∷ drop 1 (claims u v) → left ≡ changed_pair claims u v (drop 1 (claims u v))
-    → (name : ℕ) → name ≡ (get_or cs u nobody).planned.name
+    → (name : ℕ) → name ≡ (get_or cs u absent_unit).planned.name
     → (says : Option Say) (new : List ClaimerValue) → HasAnswered cs v name item says new
     → (after : World) → after ≡ tell (claimants new) (world b new left fs) v (answer_items says)
     → GivenFrom (claimants cs) (world b cs claims fs) u v (claims u v) after
@@ -29,5 +29,5 @@ delivered b cs claims left fs u v in_v item is_oldest left_is name name_is says 
           (subst (λ (c : PlannedUnit). Answers c (station_at cs v) name item says s) (sym (unit_at-claimants cs v)) answers),
       after_is
           ∙ (λ i. tell (claimants_heard cs v name item says new (s, is, answers) i)
-          (((λ j. world b (is j) (left_is j) fs) ∙ world_set b cs (changed_pair claims u v (drop 1 (claims u v))) fs v (record (get_or cs v nobody) { state = s }) in_v) i) v (answer_items says)),
+          (((λ j. world b (is j) (left_is j) fs) ∙ world_set b cs (changed_pair claims u v (drop 1 (claims u v))) fs v (record (get_or cs v absent_unit) { state = s }) in_v) i) v (answer_items says)),
     )

@@ -3,7 +3,6 @@ use Rattle.std.proofs.Common.{◌≡◌, ◌≢◌, ℕ, ◌+◌, ◌<◌, ◌�
 use Rattle.std.proofs.lemmas.List.{get_or_default, get_or_past}
 use Rattle.std.proofs.lemmas.Bool.{cases_eq, cases_lt, eq-eqb, ne_eqb, lt-ltb, le-ltb}
 use Rattle.j39_queues.specs.Queued.{Queued, changed_in, one_at, room_at}
-use Rattle.j39_bus.specs.Traffic.{is_receiver}
 
 -- a place below the next one
 next_place : (v k : ℕ) → v ≢ k → ltb v (k + 1) ≡ ltb v k
@@ -101,11 +100,3 @@ module _ {X : Type 0} (u k : ℕ) (old mid : Queued X) (left : IsRoomLeft u k ol
 
 pub room_none : {X : Type 0} (u : ℕ) (q : Queued X) → IsRoomLeft u 0 q q
 room_none u q v = rw (le-ltb v 0 (omega arith)) (omega arith)
-
--- the receiver that was read
-pub receiver_read : {X : Type 0} (rs : List (Option X)) (k : ℕ) (r : Option X) → k < length rs → r ≡ get_or rs k r → is_receiver rs k ≡ is_some r
-receiver_read rs k r inside at = ap is_some (get_or_default rs k None r inside ∙ sym at)
-
--- a place past them has none
-pub no_receiver : {X : Type 0} (rs : List (Option X)) (k : ℕ) → length rs ≤ k → is_receiver rs k ≡ false
-no_receiver rs k past = ap is_some (get_or_past rs k None (omega (arith, past)))

@@ -14,11 +14,12 @@ use Rattle.j39_world.specs.declared.step_error.StepError.TheVariants.{UnknownUni
 use Rattle.j39_tp.specs.Receiver.{is_open_at}
 use Rattle.j39_world.specs.Flows.{Flow, can_be_sent}
 use Rattle.j39_world.specs.Resting.{can_rest}
-use Rattle.j39_bus.specs.Stations.{station_at, nobody}
-use Rattle.j39_bus.specs.Network.{Histories, IsOf, claimants}
+use Rattle.j39_bus.specs.Stations.{station_at, absent_unit}
+use Rattle.j39_bus.specs.BusState.{Histories}
+use Rattle.j39_bus.specs.inside.Network.{IsOfPlan, claimants}
 use Rattle.j39_world.specs.World.{World}
 use Rattle.j39_world.specs.Run.{at_ends, begin_refusal, both, can_emit, cause_of, has_address, is_no_transfer_open, is_nothing_undelivered, is_on, is_waiting, refusal, refusal_among, refuse_unless}
-use Rattle.j39_bus.specs.Traffic.{route_of}
+use Rattle.j39_bus.specs.inside.Traffic.{route_of}
 use Rattle.j39_bus.proofs.Rested.{units_count}
 use Rattle.j39_bus.proofs.Worlds.{any_default}
 
@@ -28,7 +29,7 @@ length-claimants (c ∷ cs) = omega (arith, length-claimants cs)
 
 -- the unit at a place
 pub station_is : (cs : List ClaimerValue) (u : ℕ) (c : ClaimerValue) → u < length cs → c ≡ get_or cs u c → (station_at cs u).on ≡ c.state.on
-station_is cs u c inside at = ap (λ (x : ClaimerValue). x.state.on) (sym (at ∙ any_default cs u c nobody inside))
+station_is cs u c inside at = ap (λ (x : ClaimerValue). x.state.on) (sym (at ∙ any_default cs u c absent_unit inside))
 
 -- ---- the conditions of a step in turn
 
@@ -119,8 +120,8 @@ cause_named Memory other = absurd (other refl)
 cause_named e other = refl
 
 -- ---- the refusal of a network's step is the definition's
-pub refusal_is : (plan : Plan) (net : Network) → IsOf plan net → (w : World) (step : Step)
-    → refusal plan w step ≡ refusal_among (length net.claimers.items) (map route_of net.traffic.routes.items) w step
+pub refusal_is : (plan : Plan) (net : Network) → IsOfPlan plan net → (w : World) (step : Step)
+    → refusal plan w step ≡ refusal_among (length net.claimers.items) (map route_of net.routes.items) w step
 refusal_is plan net of w step = λ i. refusal_among (units_count plan net of i) (sym of.flows i) w step
 
 -- ---- what holds of a step that is not refused

@@ -2,40 +2,28 @@
 use Rattle.std.proofs.Common.{◌≡◌, ℕ, zero, suc, ◌+◌, ◌<◌, ◌≤◌, Bool, true, false, not, ◌&&◌, ◌||◌, List, [], ◌∷◌, refl, sym, ap, ◌∙◌, arith, inl, inr, length, get_or, Option, Some, None, is_some}
 use Rattle.std.proofs.lemmas.Bool.{and_right, cases_eq}
 use Rattle.std.proofs.lemmas.List.{length-map}
-use Rattle.std.specs.Option.{option_map}
 use Rattle.j39_claim.specs.ClaimerValue.{ClaimerValue}
 use Rattle.j39_plan.specs.declared.plan.Plan.{Plan}
 use Rattle.j39_world.specs.Claimants.{claimant_of}
 use Rattle.j39_world.specs.Run.{count_of, is_no_transfer_open}
-use Rattle.j39_bus.specs.declared.transfer.Transfer as made
-use Rattle.j39_bus.proofs.AlongMessages.{session_of}
 use Rattle.std.specs.List.{list_all, list_any, range_with_len}
 use Rattle.j39_tp.specs.Receiver.{is_open_at}
-use Rattle.j39_tp.specs.declared.receiving.progress.Progress.{Progress}
-use Rattle.j39_tp.specs.declared.receiving.progress.Progress.TheVariants.{Closed, Open, Complete}
 use Rattle.j39_bus.specs.declared.network.Network.{Network}
-use Rattle.j39_bus.specs.BusState.{outgoing_of, receiving_or, session_at}
+use Rattle.j39_bus.specs.BusState.{Histories, holding_at, session_at}
 use Rattle.j39_queues.specs.Queued.{pair_in}
-use Rattle.j39_bus.specs.Network.{Histories, IsOf, world_of}
+use Rattle.j39_bus.specs.inside.Network.{IsOfPlan, world_in}
 use Rattle.j39_world.specs.Resting.{is_of_sender, is_of_receiver, is_over_with}
-use Rattle.j39_bus.specs.Traffic.{receiver_in, transfer_of, values_of}
-use Rattle.j39_world.specs.Transfers.{closed_if_complete}
-
-open_settled : (p : Progress) → is_open_at (closed_if_complete p) ≡ is_open_at p
-open_settled Closed = refl
-open_settled (Open r) = refl
-open_settled (Complete group) = refl
 
 none_of : {X : Type 0} (test : X → Bool) (xs : List X) → list_all (λ x. not (test x)) xs ≡ not (list_any test xs)
 none_of test [] = refl
 none_of test (x ∷ xs) = elim (test x) as (λ b. (not b && list_all (λ x. not (test x)) xs) ≡ not (b || list_any test xs)) [ true ↦ refl | false ↦ none_of test xs ]
 
-pub over_from : (h : Histories) (net : Network) (u v : ℕ) (a b d : Bool) → is_open_at (receiving_or (receiver_in net.traffic.transfers.items v u)).progress ≡ a
-    → list_any is_of_sender (pair_in net.traffic.wire.lists u v) ≡ b → list_any is_of_receiver (pair_in net.traffic.wire.lists v u) ≡ d
-    → is_over_with (world_of h net) u v ≡ (not a && (not b && not d))
+pub over_from : (h : Histories) (net : Network) (u v : ℕ) (a b d : Bool) → is_open_at (holding_at net.receivers.holdings v u).progress ≡ a
+    → list_any is_of_sender (pair_in net.wire.lists u v) ≡ b → list_any is_of_receiver (pair_in net.wire.lists v u) ≡ d
+    → is_over_with (world_in h net) u v ≡ (not a && (not b && not d))
 over_from h net u v a b d open_is sends answers = λ i.
-    not ((open_settled (receiving_or (receiver_in net.traffic.transfers.items v u)).progress ∙ open_is) i)
-    && ((none_of is_of_sender (pair_in net.traffic.wire.lists u v) ∙ ap not sends) i && (none_of is_of_receiver (pair_in net.traffic.wire.lists v u) ∙ ap not answers) i)
+    not (open_is i)
+    && ((none_of is_of_sender (pair_in net.wire.lists u v) ∙ ap not sends) i && (none_of is_of_receiver (pair_in net.wire.lists v u) ∙ ap not answers) i)
 
 all_from : (test : ℕ → Bool) (a n : ℕ) → ((k : ℕ) → a ≤ k → k < a + n → test k ≡ true) → list_all test (range_with_len a n) ≡ true
 all_from test a zero is = refl
@@ -64,17 +52,12 @@ all_idle a (Some x ∷ xs) test is =
     let here : test a ≡ false = ap test (omega arith) ∙ is 0 (omega arith) in
     rw here refl
 
-pub some_session : (o : Option made.Transfer) → is_some (outgoing_of (option_map transfer_of o)) ≡ is_some o
-some_session None = refl
-some_session (Some t) = refl
-
-pub units_count : (plan : Plan) (net : Network) → IsOf plan net → count_of plan ≡ length net.claimers.items
+pub units_count : (plan : Plan) (net : Network) → IsOfPlan plan net → count_of plan ≡ length net.claimers.items
 units_count plan net of = sym (length-map plan.units.items (claimant_of plan.keep_free)) ∙ sym (ap length of.units) ∙ length-map net.claimers.items (λ (c : ClaimerValue). c.planned)
 
-pub idle_by : (net : Network) (h : Histories) → length net.traffic.transfers.items ≡ length net.claimers.items
-    → is_no_transfer_open (length net.claimers.items) (world_of h net) ≡ not (list_any (λ t. is_some t) net.traffic.transfers.items)
+pub idle_by : (net : Network) (h : Histories) → length net.sessions.items ≡ length net.claimers.items
+    → is_no_transfer_open (length net.claimers.items) (world_in h net) ≡ not (list_any (λ s. is_some s) net.sessions.items)
 idle_by net h count =
-    ap (λ n. is_no_transfer_open n (world_of h net)) (sym count)
-    ∙ all_idle 0 net.traffic.transfers.items (λ u. not (is_some (session_at (values_of net.traffic.transfers.items) u)))
-    (λ j inside. ap (λ k. not (is_some (session_at (values_of net.traffic.transfers.items) k))) (omega arith)
-    ∙ ap not (ap is_some (session_of net.traffic.transfers.items j inside) ∙ some_session (get_or net.traffic.transfers.items j None)))
+    ap (λ n. is_no_transfer_open n (world_in h net)) (sym count)
+    ∙ all_idle 0 net.sessions.items (λ u. not (is_some (session_at net.sessions.items u)))
+    (λ j inside. ap (λ k. not (is_some (session_at net.sessions.items k))) (omega arith))

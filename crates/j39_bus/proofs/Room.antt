@@ -13,8 +13,8 @@ use Rattle.j39_claim.specs.declared.item.Item.{Item}
 use Rattle.j39_claim.specs.declared.item.Item.TheVariants.{Told, Request}
 use Rattle.j39_claim.specs.ClaimRule.{PlannedUnit, ClaimState, Answers, holds_address, Moves, GivesUp}
 use Rattle.j39_claim.specs.ClaimerValue.{ClaimerValue, can_note}
-use Rattle.j39_bus.specs.Stations.{nobody, station_at}
-use Rattle.j39_bus.specs.Network.{names_of, is_named, IsWellFormed}
+use Rattle.j39_bus.specs.Stations.{absent_unit, station_at}
+use Rattle.j39_bus.specs.inside.Network.{names_of, is_named, IsWellFormed}
 
 nothing : (o : Option ℕ) → (is_some o ≡ true → ⊥) → o ≡ None
 nothing None h = refl
@@ -47,10 +47,10 @@ length-names [] = refl
 length-names (c ∷ cs) = omega (arith, length-names cs)
 
 -- a unit's NAME is one of the units'
-pub named : (cs : List ClaimerValue) (u : ℕ) → u < length cs → is_named cs (get_or cs u nobody).planned.name ≡ true
+pub named : (cs : List ClaimerValue) (u : ℕ) → u < length cs → is_named cs (get_or cs u absent_unit).planned.name ≡ true
 named [] u inside = absurd (omega arith)
 named (c ∷ cs) zero inside = or_left (eqb c.planned.name c.planned.name) (is_named cs c.planned.name) (eq-eqb c.planned.name c.planned.name refl)
-named (c ∷ cs) (suc u) inside = or_right (eqb (get_or cs u nobody).planned.name c.planned.name) (is_named cs (get_or cs u nobody).planned.name) (named cs u (omega arith))
+named (c ∷ cs) (suc u) inside = or_right (eqb (get_or cs u absent_unit).planned.name c.planned.name) (is_named cs (get_or cs u absent_unit).planned.name) (named cs u (omega arith))
 
 -- what is noted once n is
 noted_with : (notes : FinMap nat_cmp ℕ) (n a k : ℕ) → is_some (get (insert notes n a) k) ≡ true → (k ≡ n) ⊎ (is_some (get notes k) ≡ true)
@@ -68,9 +68,9 @@ noted_without notes n k h =
     ] (sym (ap is_some (get-remove nat_cmp_total notes n k ∙ ap (λ b. cond b None (get notes k)) (unsigned_tied k n))) ∙ h)
 
 -- each unit can note each
-pub can_note_all : (cs : List ClaimerValue) (ls : List (List (List Item))) (u v : ℕ) → IsWellFormed cs ls → u < length cs → can_note (station_at cs v).notes (get_or cs u nobody).planned.name ≡ true
+pub can_note_all : (cs : List ClaimerValue) (ls : List (List (List Item))) (u v : ℕ) → IsWellFormed cs ls → u < length cs → can_note (station_at cs v).notes (get_or cs u absent_unit).planned.name ≡ true
 can_note_all cs ls u v well inside =
-    let n : ℕ = (get_or cs u nobody).planned.name in
+    let n : ℕ = (get_or cs u absent_unit).planned.name in
     let notes : FinMap nat_cmp ℕ = (station_at cs v).notes in
     elim (cases_Bool (is_some (get notes n))) [
       | inl there ↦ or_left (is_some (get notes n)) (ltb (len notes) 128) there
@@ -101,7 +101,7 @@ noted_then c s n (Told Cannot) says new answers k h = inr (noted_without s.notes
 noted_then c s n Request says new answers k h = inr (sym (ap (λ (t : ClaimState). is_some (get t.notes k)) answers.1) ∙ h)
 
 -- the NAMEs stay
-pub named-set : (cs : List ClaimerValue) (v : ℕ) (c : ClaimerValue) (k : ℕ) → c.planned ≡ (get_or cs v nobody).planned → is_named (set cs v c) k ≡ is_named cs k
+pub named-set : (cs : List ClaimerValue) (v : ℕ) (c : ClaimerValue) (k : ℕ) → c.planned ≡ (get_or cs v absent_unit).planned → is_named (set cs v c) k ≡ is_named cs k
 named-set [] v c k same = refl
 named-set (d ∷ cs) zero c k same = ap (λ (x : PlannedUnit). eqb k x.name || is_named cs k) same
 named-set (d ∷ cs) (suc v) c k same = ap (λ b. eqb k d.planned.name || b) (named-set cs v c k same)

@@ -6,86 +6,43 @@ use Rattle.j39_plan.specs.declared.steps.Step.{Step}
 use Rattle.j39_world.specs.declared.step_error.StepError.{StepError}
 use Rattle.j39_world.specs.World.{World}
 use Rattle.j39_world.specs.Run.{cause_of, refusal, refusal_among, StepsTo, RunsThrough}
-use Rattle.j39_bus.specs.BusState.{BusState}
+use Rattle.j39_bus.specs.BusState.{BusState, Histories, histories_of}
 use Rattle.j39_bus.specs.Stands.{Stands}
-use Rattle.j39_bus.specs.Network.{state_of, world_of, Histories, HasGathered, IsNetwork, IsBus, IsOf, IsAllowed, IsSameNetwork, KeepsPlan, LeadsTo, refusal_in}
-use Rattle.j39_world.specs.Sent.{sent_of}
-use Rattle.j39_bus.specs.Traffic.{route_of, reported_of, values_of}
+use Rattle.j39_bus.specs.inside.Network.{state_of, world_in, HasHeld, IsNetwork, IsBus, IsOfPlan, IsAllowed, IsSameNetwork, KeepsPlan, HasStepped, refusal_in}
+use Rattle.j39_bus.specs.inside.Traffic.{route_of}
 use Rattle.j39_bus.proofs.Refused.{length-claimants, refusal_is}
+use Rattle.j39_bus.proofs.Steady.{plan_kept, state_is}
 
--- what contracts see of a network
-pub state_is : (old new : Network) → IsSameNetwork old new → state_of new ≡ state_of old
-state_is old new same = λ i. record {
-  units = same.claimers i;
-  claims = same.claims i;
-  traffic = record {
-    flows = map route_of (same.routes i);
-    windows = same.windows i;
-    transfers = values_of (same.transfers i);
-    wire = same.wire i;
-    reports = map reported_of (same.reports i);
-  };
-  frames = map sent_of (same.frames i);
-}
+-- a bus stands for each world of its network whose receivers hold what was taken
+pub stands : (net : Network) (plan : Plan) → IsOfPlan plan net → (h : Histories) → HasHeld h net → Stands (state_of net) plan (world_in h net)
+stands net plan planned h held = record { planned = planned; world = refl; held = held }
 
--- a bus stands for each world of its network whose histories are gathered
-pub stands : (net : Network) → IsNetwork net → (plan : Plan) → IsOf plan net → (h : Histories) → HasGathered h net → Stands (state_of net) plan (world_of h net)
-stands net well plan planned h gathered = record {
-  planned = planned.units;
-  stations = refl;
-  claims = refl;
-  flows = planned.flows;
-  windows = planned.windows;
-  sessions = refl;
-  wire = refl;
-  receivers = refl;
-  gathered = gathered;
-  reports = refl;
-  frames = refl;
-}
-
-abbrev pub histories : World → Histories
-histories w = record { taken = w.taken; begun = w.begun }
-
--- and for no other
-pub world_is : (net : Network) → IsNetwork net → (plan : Plan) (w : World) → Stands (state_of net) plan w → w ≡ world_of (histories w) net
-world_is net well plan w s = λ i. record {
-  stations = s.stations i;
-  claims = s.claims i;
-  sessions = s.sessions i;
-  wire = s.wire i;
-  receivers = s.receivers i;
-  taken = w.taken;
-  begun = w.begun;
-  reports = s.reports i;
-  frames = s.frames i;
-}
-
-pub plan_is : (net : Network) (plan : Plan) (w : World) → Stands (state_of net) plan w → IsOf plan net
-plan_is net plan w s = record { units = s.planned; flows = s.flows; windows = s.windows }
-
-pub plan_kept : (old new : Network) (plan : Plan) → KeepsPlan old new → IsOf plan old → IsOf plan new
-plan_kept old new plan keeps of = record { units = keeps.claimants ∙ of.units; flows = ap (map route_of) keeps.routes ∙ of.flows; windows = keeps.windows ∙ of.windows }
-
-module _ {X : Type 0} (old new : Network) (b : BusState) (is_state : state_of old ≡ b) (step : Step) (well : IsNetwork old) (result : Result X StepError) where
+module _ {X : Type 0} (old new : Network) (b : BusState) (is_state : state_of old ≡ b) (step : Step) (result : Result X StepError) where
   here : (plan : Plan) (w : World) → Stands b plan w → Stands (state_of old) plan w
   here plan w s = subst (λ (v : BusState). Stands v plan w) (sym is_state) s
 
-  refused_by : (plan : Plan) (w : World) (s : Stands (state_of old) plan w) → refusal plan w step ≡ refusal_in old (histories w) step
-  refused_by plan w s = refusal_is plan old (plan_is old plan w s) w step ∙ (λ i. refusal_among (length old.claimers.items) (map route_of old.traffic.routes.items) (world_is old well plan w s i) step)
+  refused_by : (plan : Plan) (w : World) (s : Stands (state_of old) plan w) → refusal plan w step ≡ refusal_in old (histories_of w) step
+  refused_by plan w s = refusal_is plan old s.planned w step
+      ∙ (λ i. refusal_among (length old.claimers.items) (map route_of old.routes.items) (s.world i) step)
 
   -- what a step of the network does, the bus does
-  pub step_done : IsNetwork new → KeepsPlan old new → OnOk result (IsAllowed old step) → OnOk result ((plan : Plan) → IsOf plan old → LeadsTo plan old step new)
-      → OnOk result ((plan : Plan) (w : World) → Stands b plan w → (refusal plan w step ≡ None) × ((after : World) × StepsTo plan w step after × Stands (state_of new) plan after))
-  step_done well_new keeps may h = elim result as (λ (r : Result X StepError). OnOk r (IsAllowed old step) → OnOk r ((plan : Plan) → IsOf plan old → LeadsTo plan old step new)
-      → OnOk r ((plan : Plan) (w : World) → Stands b plan w → (refusal plan w step ≡ None) × ((after : World) × StepsTo plan w step after × Stands (state_of new) plan after))) [
+  pub step_done : KeepsPlan old new → OnOk result (IsAllowed old step)
+      → OnOk result ((plan : Plan) → IsOfPlan plan old → HasStepped plan old step new)
+      → OnOk result ((plan : Plan) (w : World) → Stands b plan w
+          → (refusal plan w step ≡ None) × ((after : World) × StepsTo plan w step after × Stands (state_of new) plan after))
+  step_done keeps may h = elim result as (λ (r : Result X StepError). OnOk r (IsAllowed old step)
+      → OnOk r ((plan : Plan) → IsOfPlan plan old → HasStepped plan old step new)
+      → OnOk r ((plan : Plan) (w : World) → Stands b plan w
+          → (refusal plan w step ≡ None) × ((after : World) × StepsTo plan w step after × Stands (state_of new) plan after))) [
         | Ok x ↦ λ allowed done plan w s.
             let s' : Stands (state_of old) plan w = here plan w s in
-            let is : w ≡ world_of (histories w) old = world_is old well plan w s' in
-            let of : IsOf plan old = plan_is old plan w s' in
-            let (after, leads, gathered) = done plan of (histories w) s'.gathered in (
-              refused_by plan w s' ∙ allowed (histories w),
-              (world_of after new, subst (λ (v : World). StepsTo plan v step (world_of after new)) (sym is) leads, stands new well_new plan (plan_kept old new plan keeps of) after gathered),
+            let (after, steps, held) = done plan s'.planned (histories_of w) s'.held in (
+              refused_by plan w s' ∙ allowed (histories_of w),
+              (
+                world_in after new,
+                subst (λ (v : World). StepsTo plan v step (world_in after new)) (sym s'.world) steps,
+                stands new plan (plan_kept old new plan keeps s'.planned) after held,
+              ),
             )
         | Err e ↦ λ _ _. tt
       ] may h
@@ -96,14 +53,14 @@ module _ {X : Type 0} (old new : Network) (b : BusState) (is_state : state_of ol
   step_refused h = elim result as (λ (r : Result X StepError). IfErr r (λ e. (h : Histories) → refusal_in old h step ≡ cause_of e)
       → IfErr r (λ e. (plan : Plan) (w : World) → Stands b plan w → refusal plan w step ≡ cause_of e)) [
         | Ok x ↦ λ _. tt
-        | Err e ↦ λ refuses plan w s. refused_by plan w (here plan w s) ∙ refuses (histories w)
+        | Err e ↦ λ refuses plan w s. refused_by plan w (here plan w s) ∙ refuses (histories_of w)
       ] h
 
   -- a refused step leaves the bus
   pub step_same : OnErr result (IsSameNetwork old new) → OnErr result (state_of new ≡ b)
   step_same h = elim result as (λ (r : Result X StepError). OnErr r (IsSameNetwork old new) → OnErr r (state_of new ≡ b)) [
     | Ok x ↦ λ _. tt
-    | Err e ↦ λ kept. state_is old new kept ∙ is_state
+    | Err e ↦ λ same. state_is old new same ∙ is_state
   ] h
 
 -- a bus keeps its choosers and its units

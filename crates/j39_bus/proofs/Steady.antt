@@ -1,79 +1,87 @@
 -- What stays where a step changes other parts of a network.
-use Rattle.std.proofs.Common.{◌≡◌, List, Option, length, map, sym, ap, ◌∙◌, subst}
-use Rattle.j39_bus.specs.declared.transfer.Transfer as made
+use Rattle.std.proofs.Common.{◌≡◌, ℕ, List, Option, length, map, sym, ap, ◌∙◌, subst}
+use Rattle.std.proofs.Math.Path.{transport}
 use Rattle.j39_plan.specs.declared.plan.Plan.{Plan}
 use Rattle.j39_plan.specs.declared.steps.Step.{Step}
 use Rattle.j39_bus.specs.declared.network.Network.{Network}
-use Rattle.j39_bus.specs.declared.traffic.Traffic as kept
-use Rattle.j39_bus.specs.Stations.{station_at}
-use Rattle.j39_bus.specs.BusState.{receiving_or, session_at}
-use Rattle.j39_queues.specs.Queued.{pair_in}
-use Rattle.j39_bus.specs.Network.{Histories, HasGathered, IsNetwork, IsSameNetwork, IsWellFormed, KeepsPlan, LeadsTo, AreGathered, claimants, receivers_of, world_of}
+use Rattle.j39_bus.specs.declared.route.Route.{Route}
+use Rattle.j39_queues.specs.Queued.{IsTable}
+use Rattle.j39_world.specs.Transfers.{Outgoing}
+use Rattle.j39_world.specs.declared.wired.Wired.{Wired}
+use Rattle.j39_bus.proofs.Wires.{as_table}
+use Rattle.j39_bus.specs.BusState.{Histories, ReceiverTable, world_of}
+use Rattle.j39_bus.specs.Reports.{reported_of}
+use Rattle.j39_bus.specs.Stands.{HoldTaken}
+use Rattle.j39_bus.specs.inside.Network.{HasHeld, HasStepped, IsNetwork, IsOfPlan, IsSameNetwork, IsWellFormed, KeepsPlan, claimants, state_of, world_in}
+use Rattle.j39_bus.specs.inside.Traffic.{IsTraffic, route_of}
 use Rattle.j39_world.specs.Sent.{sent_of}
 use Rattle.j39_world.specs.World.{World}
 use Rattle.j39_world.specs.Run.{StepsTo}
-use Rattle.std.specs.Prelude.{ℕ}
-use Rattle.j39_bus.specs.Traffic.{IsTraffic, KeepsReceivers, reported_of, values_of}
-use Rattle.j39_tp.specs.inside.Gathered.{Gathers}
-use Rattle.j39_tp.specs.declared.packet.Packet.{Packet}
-use Rattle.j39_tp.specs.Receiver.{Receiving}
-use Rattle.j39_world.specs.Transfers.{closed_if_complete}
 
-abbrev pub IsTrafficOf : ℕ → kept.Traffic → Type 0
-IsTrafficOf n t = IsTraffic n t.routes.items t.windows.items t.transfers.items t.wire.lists
+-- a step that changes no receiver and no history
+pub steps_same : (plan : Plan) (old : Network) (step : Step) (new : Network) → ((h : Histories) → StepsTo plan (world_in h old) step (world_in h new))
+    → new.receivers ≡ old.receivers → HasStepped plan old step new
+steps_same plan old step new steps same = λ h held. (h, steps h, subst (HoldTaken h.taken) (sym same) held)
 
--- traffic that does not change stays in its form
-pub same_traffic : (old new : Network) → length new.claimers.items ≡ length old.claimers.items → new.traffic ≡ old.traffic → IsTrafficOf (length old.claimers.items) old.traffic → IsTrafficOf (length new.claimers.items) new.traffic
-same_traffic old new count same well =
-    subst (λ (n : ℕ). IsTrafficOf n new.traffic) (sym count) (subst (λ (t : kept.Traffic). IsTrafficOf (length old.claimers.items) t) (sym same) well)
-
--- a step that changes no transfer and no history
-pub leads_same : (plan : Plan) (old : Network) (step : Step) (new : Network) → ((h : Histories) → StepsTo plan (world_of h old) step (world_of h new)) → new.traffic.transfers.items ≡ old.traffic.transfers.items → LeadsTo plan old step new
-leads_same plan old step new leads same = λ h gathered. (h, leads h, subst (λ ts. AreGathered h.taken (values_of ts)) (sym same) gathered)
+pub plan_kept : (old new : Network) (plan : Plan) → KeepsPlan old new → IsOfPlan plan old → IsOfPlan plan new
+plan_kept old new plan keeps of = record {
+  units = keeps.claimants ∙ of.units;
+  flows = ap (map route_of) keeps.routes ∙ of.flows;
+  windows = keeps.windows ∙ of.windows;
+}
 
 -- ---- a network of which nothing that is seen has changed
 module _ (old new : Network) (same : IsSameNetwork old new) where
-  pub world_same : (h : Histories) → world_of h new ≡ world_of h old
-  world_same h = λ i. record {
-    stations = station_at (same.claimers i);
-    claims = pair_in (same.claims i);
-    sessions = session_at (values_of (same.transfers i));
-    wire = pair_in (same.wire i);
-    receivers = receivers_of (values_of (same.transfers i));
-    taken = h.taken;
-    begun = h.begun;
+  pub state_is : state_of new ≡ state_of old
+  state_is = λ i. record {
+    units = same.claimers i;
+    claims = same.claims i;
+    flows = map route_of (same.routes i);
+    sessions = same.sessions i;
+    wire = same.wire i;
+    receivers = same.receivers i;
     reports = map reported_of (same.reports i);
     frames = map sent_of (same.frames i);
   }
 
-  pub gathered_same : (h : Histories) → HasGathered h old → HasGathered h new
-  gathered_same h gathered = subst (λ ts. AreGathered h.taken (values_of ts)) (sym same.transfers) gathered
+  pub world_same : (h : Histories) → world_in h new ≡ world_in h old
+  world_same h = ap (world_of h) state_is
+
+  pub held_same : (h : Histories) → HasHeld h old → HasHeld h new
+  held_same h held = subst (HoldTaken h.taken) (sym same.receivers) held
 
   pub network_same : IsNetwork old → IsNetwork new
   network_same well = record {
-    claims = subst (λ cs. IsWellFormed cs new.claims.lists) (sym same.claimers) (subst (λ ls. IsWellFormed old.claimers.items ls) (sym same.claims) well.claims);
-    traffic = subst (λ cs. IsTraffic (length cs) new.traffic.routes.items new.traffic.windows.items new.traffic.transfers.items new.traffic.wire.lists) (sym same.claimers)
-        (subst (λ rs. IsTraffic (length old.claimers.items) rs new.traffic.windows.items new.traffic.transfers.items new.traffic.wire.lists) (sym same.routes)
-        (subst (λ ws. IsTraffic (length old.claimers.items) old.traffic.routes.items ws new.traffic.transfers.items new.traffic.wire.lists) (sym same.windows)
-        (subst (λ ts. IsTraffic (length old.claimers.items) old.traffic.routes.items old.traffic.windows.items ts new.traffic.wire.lists) (sym same.transfers)
-        (subst (λ ls. IsTraffic (length old.claimers.items) old.traffic.routes.items old.traffic.windows.items old.traffic.transfers.items ls) (sym same.wire) well.traffic))));
+    claims = transport (λ i. IsWellFormed (sym same.claimers i) (sym same.claims i)) well.claims;
+    traffic = transport
+        (λ i. IsTraffic (length (sym same.claimers i)) (sym same.routes i) (sym same.sessions i) (sym same.wire i) (sym same.receivers i)) well.traffic;
   }
 
   pub plan_same : KeepsPlan old new
-  plan_same = record { claimants = ap claimants same.claimers; routes = same.routes; windows = same.windows }
+  plan_same = record { claimants = ap claimants same.claimers; routes = same.routes; windows = ap (λ r. r.windows) same.receivers }
 
   pub keeps_after : (after : Network) → KeepsPlan new after → KeepsPlan old after
-  keeps_after after keeps = record { claimants = keeps.claimants ∙ ap claimants same.claimers; routes = keeps.routes ∙ same.routes; windows = keeps.windows ∙ same.windows }
+  keeps_after after keeps = record {
+    claimants = keeps.claimants ∙ ap claimants same.claimers;
+    routes = keeps.routes ∙ same.routes;
+    windows = keeps.windows ∙ ap (λ r. r.windows) same.receivers;
+  }
 
-  pub leads_after : (plan : Plan) (step : Step) (after : Network) → LeadsTo plan new step after → LeadsTo plan old step after
-  leads_after plan step after leads h gathered =
-      let (next, goes, has) = leads h (gathered_same h gathered) in
-      (next, subst (λ (w : World). StepsTo plan w step (world_of next after)) (world_same h) goes, has)
+  pub steps_after : (plan : Plan) (step : Step) (after : Network) → HasStepped plan new step after → HasStepped plan old step after
+  steps_after plan step after steps h held =
+      let (next, goes, has) = steps h (held_same h held) in
+      (next, subst (λ (w : World). StepsTo plan w step (world_in next after)) (world_same h) goes, has)
 
--- receivers that do not change
-module _ (old new : List (Option made.Transfer)) (same : KeepsReceivers old new) where
-  pub receivers_same : receivers_of (values_of new) ≡ receivers_of (values_of old)
-  receivers_same = λ i v u. closed_if_complete (receiving_or (same i v u)).progress
+-- ---- only claims and frames have changed
 
-  pub receivers_gathered : (taken : ℕ → ℕ → List Packet) → AreGathered taken (values_of old) → AreGathered taken (values_of new)
-  receivers_gathered taken gathered = subst (λ (r : ℕ → ℕ → Option Receiving). (v u : ℕ) → Gathers (taken v u) (receiving_or (r v u)).progress (receiving_or (r v u)).bytes) (sym same) gathered
+pub told_traffic : (new mid : Network) → new ≡ record mid { claims = new.claims; frames = new.frames } → (n : ℕ) → length new.claimers.items ≡ n
+    → IsTraffic n mid.routes.items mid.sessions.items mid.wire.lists mid.receivers
+    → IsTraffic (length new.claimers.items) new.routes.items new.sessions.items new.wire.lists new.receivers
+told_traffic new mid is n count well = transport
+    (λ i. IsTraffic (sym count i) (sym is i).routes.items (sym is i).sessions.items (sym is i).wire.lists (sym is i).receivers) well
+
+-- the wire has as many lists as before
+pub wired_traffic : (n : ℕ) (routes : List Route) (sessions : List (Option Outgoing)) (lists after : List (List (List Wired))) (receivers : ReceiverTable)
+    → IsTraffic n routes sessions lists receivers → IsTable (length lists) after → IsTraffic n routes sessions after receivers
+wired_traffic n routes sessions lists after receivers well table =
+    record { flows = well.flows; sessions = well.sessions; table = as_table n lists after well.table table; windows = well.windows }

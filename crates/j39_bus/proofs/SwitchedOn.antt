@@ -10,25 +10,25 @@ use Rattle.j39_world.specs.Sent.{Sent}
 use Rattle.j39_world.specs.Transfers.{Wire}
 use Rattle.j39_world.specs.World.{World, Undelivered, changed}
 use Rattle.j39_world.specs.ClaimSteps.{tell, switched_on, switched_off, without_lists_to}
-use Rattle.j39_bus.specs.Stations.{nobody, station_at}
-use Rattle.j39_bus.specs.Network.{claimants}
+use Rattle.j39_bus.specs.Stations.{absent_unit, station_at}
+use Rattle.j39_bus.specs.inside.Network.{claimants}
 use Rattle.j39_bus.proofs.Worlds.{any_default, claimants-set, unit_at-claimants, world, world_set}
 
 module _ (cs : List ClaimerValue) (u : ℕ) (inside : u < length cs) (old new : ClaimerValue) (at : old ≡ get_or cs u old) (starts : new ≡ record old { state = started old.planned }) where
-  same_claimant : new.planned ≡ (get_or cs u nobody).planned
-  same_claimant = ap (λ (c : ClaimerValue). c.planned) (starts) ∙ ap (λ (c : ClaimerValue). c.planned) (at ∙ any_default cs u old nobody inside)
+  same_claimant : new.planned ≡ (get_or cs u absent_unit).planned
+  same_claimant = ap (λ (c : ClaimerValue). c.planned) (starts) ∙ ap (λ (c : ClaimerValue). c.planned) (at ∙ any_default cs u old absent_unit inside)
 
   pub claimants_on : claimants (set cs u new) ≡ claimants cs
   claimants_on = claimants-set cs u new same_claimant
 
-  pub on_claimant : new.planned ≡ (get_or cs u nobody).planned
+  pub on_claimant : new.planned ≡ (get_or cs u absent_unit).planned
   on_claimant = same_claimant
 
   pub switched : (b : World) (claims left : Undelivered) (fs : List Sent) → left ≡ without_lists_to u claims → (wire : Wire) → wire ≡ without_lists_to u b.wire → (say : Say) → say ≡ Claim old.planned.preferred
       → (after : World) → after ≡ tell (claimants (set cs u new)) (record (world b (set cs u new) left fs) { wire = wire }) u (Told say ∷ [])
       → after ≡ switched_on (claimants cs) (world b cs claims fs) u
   switched b claims left fs left_is wire wire_is say said after after_is =
-      let planned : old.planned ≡ unit_at (claimants cs) u = ap (λ (c : ClaimerValue). c.planned) (at ∙ any_default cs u old nobody inside) ∙ sym (unit_at-claimants cs u) in
+      let planned : old.planned ≡ unit_at (claimants cs) u = ap (λ (c : ClaimerValue). c.planned) (at ∙ any_default cs u old absent_unit inside) ∙ sym (unit_at-claimants cs u) in
       let state : new.state ≡ started (unit_at (claimants cs) u) = ap (λ (c : ClaimerValue). c.state) starts ∙ ap started planned in
       let says : say ≡ Claim (unit_at (claimants cs) u).preferred = said ∙ ap (λ (c : PlannedUnit). Claim c.preferred) planned in
       let before : world b (set cs u new) left fs ≡ record b { stations = changed (station_at cs) u (started (unit_at (claimants cs) u)); claims = without_lists_to u claims; frames = fs } =
@@ -36,8 +36,8 @@ module _ (cs : List ClaimerValue) (u : ℕ) (inside : u < length cs) (old new : 
       after_is ∙ (λ i. tell (claimants_on i) (record (before i) { wire = wire_is i }) u (Told (says i) ∷ []))
 
 module _ (cs : List ClaimerValue) (u : ℕ) (inside : u < length cs) (old new : ClaimerValue) (at : old ≡ get_or cs u old) (stops : new ≡ record old { state = off }) where
-  pub off_claimant : new.planned ≡ (get_or cs u nobody).planned
-  off_claimant = ap (λ (c : ClaimerValue). c.planned) stops ∙ ap (λ (c : ClaimerValue). c.planned) (at ∙ any_default cs u old nobody inside)
+  pub off_claimant : new.planned ≡ (get_or cs u absent_unit).planned
+  off_claimant = ap (λ (c : ClaimerValue). c.planned) stops ∙ ap (λ (c : ClaimerValue). c.planned) (at ∙ any_default cs u old absent_unit inside)
 
   pub claimants_off : claimants (set cs u new) ≡ claimants cs
   claimants_off = claimants-set cs u new off_claimant

@@ -9,9 +9,9 @@ use Rattle.j39_claim.specs.declared.item.Say.{Say}
 use Rattle.j39_claim.specs.declared.item.Item.{Item}
 use Rattle.j39_claim.specs.ClaimRule.{ClaimState}
 use Rattle.j39_claim.specs.ClaimerValue.{ClaimerValue}
-use Rattle.j39_bus.specs.Stations.{nobody, station_at}
+use Rattle.j39_bus.specs.Stations.{absent_unit, station_at}
 use Rattle.j39_world.specs.World.{changed, is_other_on}
-use Rattle.j39_bus.specs.Network.{is_named, IsWellFormed, HasAnswered}
+use Rattle.j39_bus.specs.inside.Network.{is_named, IsWellFormed, HasAnswered}
 use Rattle.j39_queues.specs.Queued.{IsTable, KeepsRoom, Queued, room_at}
 use Rattle.j39_bus.specs.inside.Claims.{HasRoomForOthers}
 use Rattle.j39_bus.proofs.Room.{named-set, noted_then}
@@ -19,7 +19,7 @@ use Rattle.std.proofs.lemmas.List.{get_or_past}
 use Rattle.j39_bus.proofs.Worlds.{any_default, station_set}
 
 -- a unit that has noted only units' NAMEs takes the place of another
-well_set : (cs : List ClaimerValue) (lists : List (List (List Item))) → IsWellFormed cs lists → (v : ℕ) → v < length cs → (c : ClaimerValue) → c.planned ≡ (get_or cs v nobody).planned
+well_set : (cs : List ClaimerValue) (lists : List (List (List Item))) → IsWellFormed cs lists → (v : ℕ) → v < length cs → (c : ClaimerValue) → c.planned ≡ (get_or cs v absent_unit).planned
     → ((n : ℕ) → is_some (get c.state.notes n) ≡ true → is_named cs n ≡ true)
     → (left : List (List (List Item))) → IsTable (length cs) left → IsWellFormed (set cs v c) left
 well_set cs lists well v inside c same notes left table = record {
@@ -40,7 +40,7 @@ well_told cs lists well same more same_is table =
     subst (λ (l : List ClaimerValue). IsWellFormed l more) (sym same_is) (record { few = well.few; table = table; notes = well.notes })
 
 -- a unit is switched on
-pub well_on : (cs : List ClaimerValue) (lists : List (List (List Item))) → IsWellFormed cs lists → (u : ℕ) → u < length cs → (c : ClaimerValue) → c.planned ≡ (get_or cs u nobody).planned
+pub well_on : (cs : List ClaimerValue) (lists : List (List (List Item))) → IsWellFormed cs lists → (u : ℕ) → u < length cs → (c : ClaimerValue) → c.planned ≡ (get_or cs u absent_unit).planned
     → c.state.notes ≡ empty → (left : List (List (List Item))) → IsTable (length lists) left → IsWellFormed (set cs u c) left
 well_on cs lists well u inside c same none left table =
     well_set cs lists well u inside c same (λ n h. absurd (true≢false (sym h ∙ ap is_some (ap (λ m. get m n) none ∙ get-empty nat_cmp n)))) left
@@ -52,8 +52,8 @@ pub well_heard : (cs : List ClaimerValue) (lists : List (List (List Item))) → 
     → (left : List (List (List Item))) → IsTable (length lists) left → IsWellFormed new left
 well_heard cs lists well v inside name is_one item says new (s, is, answers) left table =
     subst (λ (l : List ClaimerValue). IsWellFormed l left) (sym is)
-    (well_set cs lists well v inside (record (get_or cs v nobody) { state = s }) refl
-    (λ n h. elim (noted_then (get_or cs v nobody).planned (station_at cs v) name item says s answers n h) [
+    (well_set cs lists well v inside (record (get_or cs v absent_unit) { state = s }) refl
+    (λ n h. elim (noted_then (get_or cs v absent_unit).planned (station_at cs v) name item says s answers n h) [
       | inl same ↦ rw same is_one
       | inr old ↦ well.notes v n old
     ]) left (subst (λ (n : ℕ). IsTable n left) well.table.rows table))
@@ -74,8 +74,8 @@ room_for_others old new cs u c after inside is keeps items room v hearing =
 
 -- whether a unit that was looked at hears another
 pub hears_as : (cs : List ClaimerValue) (u k : ℕ) (c : ClaimerValue) → k < length cs → c ≡ get_or cs k c → (a b : Bool) → c.state.on ≡ a → eqb k u ≡ b → is_other_on (station_at cs) u k ≡ (a && not b)
-hears_as cs u k c inside at a b on same = λ i. (ap (λ (x : ClaimerValue). x.state.on) (sym (at ∙ any_default cs k c nobody inside)) ∙ on) i && not (same i)
+hears_as cs u k c inside at a b on same = λ i. (ap (λ (x : ClaimerValue). x.state.on) (sym (at ∙ any_default cs k c absent_unit inside)) ∙ on) i && not (same i)
 
--- nobody hears at a place with no unit
+-- absent_unit hears at a place with no unit
 pub hears_none : (cs : List ClaimerValue) (u k : ℕ) → length cs ≤ k → is_other_on (station_at cs) u k ≡ false
-hears_none cs u k past = ap (λ (c : ClaimerValue). c.state.on && not (eqb k u)) (get_or_past cs k nobody (omega (arith, past)))
+hears_none cs u k past = ap (λ (c : ClaimerValue). c.state.on && not (eqb k u)) (get_or_past cs k absent_unit (omega (arith, past)))

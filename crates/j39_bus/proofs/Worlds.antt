@@ -8,8 +8,8 @@ use Rattle.j39_world.specs.Claimants.{unit_at}
 use Rattle.j39_world.specs.Sent.{Sent, frame_of}
 use Rattle.j39_world.specs.World.{World, Undelivered, changed}
 use Rattle.j39_world.specs.ClaimSteps.{tell, told_to_others}
-use Rattle.j39_bus.specs.Stations.{nobody, station_at}
-use Rattle.j39_bus.specs.Network.{claimants}
+use Rattle.j39_bus.specs.Stations.{absent_unit, station_at}
+use Rattle.j39_bus.specs.inside.Network.{claimants}
 
 pub append_nil : {X : Type 0} (xs : List X) → xs ++ [] ≡ xs
 append_nil [] = refl
@@ -20,7 +20,7 @@ any_default [] i d e inside = absurd (omega arith)
 any_default (x ∷ xs) zero d e inside = refl
 any_default (x ∷ xs) (suc i) d e inside = any_default xs i d e (omega arith)
 
-pub unit_at-claimants : (cs : List ClaimerValue) (u : ℕ) → unit_at (claimants cs) u ≡ (get_or cs u nobody).planned
+pub unit_at-claimants : (cs : List ClaimerValue) (u : ℕ) → unit_at (claimants cs) u ≡ (get_or cs u absent_unit).planned
 unit_at-claimants [] u = refl
 unit_at-claimants (c ∷ cs) zero = refl
 unit_at-claimants (c ∷ cs) (suc u) = unit_at-claimants cs u
@@ -31,7 +31,7 @@ world b cs claims fs = record b { stations = station_at cs; claims = claims; fra
 
 -- after a unit has told the others
 pub world_told : (b : World) (cs : List ClaimerValue) (claims told : Undelivered) (fs : List Sent) (u : ℕ) (item : Item) (name : ℕ) (held : Option ℕ)
-    → told ≡ told_to_others (station_at cs) claims u (item ∷ []) → name ≡ (get_or cs u nobody).planned.name → held ≡ (station_at cs u).address
+    → told ≡ told_to_others (station_at cs) claims u (item ∷ []) → name ≡ (get_or cs u absent_unit).planned.name → held ≡ (station_at cs u).address
     → world b cs told (fs ++ frame_of name held item ∷ []) ≡ tell (claimants cs) (world b cs claims fs) u (item ∷ [])
 world_told b cs claims told fs u item name held told_is name_is held_is = λ i. record b {
   stations = station_at cs;
@@ -43,7 +43,7 @@ world_told b cs claims told fs u item name held told_is name_is held_is = λ i. 
     same_name = name_is ∙ sym (ap (λ (c : PlannedUnit). c.name) (unit_at-claimants cs u))
 
 -- one unit's state is another
-pub at_set : (cs : List ClaimerValue) (v : ℕ) (c : ClaimerValue) (x : ℕ) → v < length cs → get_or (set cs v c) x nobody ≡ cond (eqb x v) c (get_or cs x nobody)
+pub at_set : (cs : List ClaimerValue) (v : ℕ) (c : ClaimerValue) (x : ℕ) → v < length cs → get_or (set cs v c) x absent_unit ≡ cond (eqb x v) c (get_or cs x absent_unit)
 at_set cs v c x inside = elim (cases_eq x v) [
   | inl same ↦ rw (same, eq-eqb v v refl, get_or-set_same)
   | inr other ↦ rw (ne_eqb x v other, get_or-set_other)
@@ -52,12 +52,12 @@ at_set cs v c x inside = elim (cases_eq x v) [
 pub station_set : (cs : List ClaimerValue) (v : ℕ) (c : ClaimerValue) (x : ℕ) → v < length cs → station_at (set cs v c) x ≡ changed (station_at cs) v c.state x
 station_set cs v c x inside = ap (λ (e : ClaimerValue). e.state) (at_set cs v c x inside) ∙ out (eqb x v)
   where
-    out : (b : Bool) → (cond b c (get_or cs x nobody)).state ≡ cond b c.state (get_or cs x nobody).state
+    out : (b : Bool) → (cond b c (get_or cs x absent_unit)).state ≡ cond b c.state (get_or cs x absent_unit).state
     out true = refl
     out false = refl
 
 -- a unit that has changed claims as before
-pub claimants-set : (cs : List ClaimerValue) (v : ℕ) (c : ClaimerValue) → c.planned ≡ (get_or cs v nobody).planned → claimants (set cs v c) ≡ claimants cs
+pub claimants-set : (cs : List ClaimerValue) (v : ℕ) (c : ClaimerValue) → c.planned ≡ (get_or cs v absent_unit).planned → claimants (set cs v c) ≡ claimants cs
 claimants-set [] v c same = refl
 claimants-set (d ∷ cs) zero c same = ap (λ (x : PlannedUnit). x ∷ claimants cs) same
 claimants-set (d ∷ cs) (suc v) c same = ap (λ (xs : List PlannedUnit). d.planned ∷ xs) (claimants-set cs v c same)

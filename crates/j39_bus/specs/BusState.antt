@@ -1,46 +1,45 @@
 -- What contracts see of a bus.
-use Rattle.std.specs.Prelude.{ℕ, suc, List, [], ◌∷◌, slice_index_or, Option, Some, None}
+use Rattle.std.specs.Prelude.{ℕ, List, [], slice_index_or, Option, None}
 use Rattle.j39_claim.specs.declared.item.Item.{Item}
 use Rattle.j39_claim.specs.ClaimerValue.{ClaimerValue}
-use Rattle.j39_plan.specs.declared.plan.to.To.{To}
 use Rattle.j39_queues.specs.Queued.{pair_in}
-use Rattle.j39_tp.specs.Receiver.{Receiving, fresh}
-use Rattle.j39_tp.specs.declared.receiving.manner.Manner.TheVariants.{Listening}
-use Rattle.j39_tp.specs.declared.sending.stage.Stage.{Stage}
+use Rattle.j39_tp.specs.declared.packet.Packet.{Packet}
+use Rattle.j39_tp.specs.declared.receiving.progress.Progress.{Progress}
+use Rattle.j39_tp.specs.declared.receiving.progress.Progress.TheVariants.{Closed}
 use Rattle.j39_world.specs.declared.wired.Wired.{Wired}
 use Rattle.j39_world.specs.Flows.{Flow}
 use Rattle.j39_world.specs.Sent.{Sent}
-use Rattle.j39_world.specs.Transfers.{Outgoing, Sessions, Wire, Reported}
-use Rattle.j39_world.specs.World.{Undelivered}
+use Rattle.j39_world.specs.Transfers.{Begun, Outgoing, Sessions, Reported}
+use Rattle.j39_world.specs.World.{World, Undelivered}
+use Rattle.j39_bus.specs.Stations.{station_at}
 
--- a message that a unit sends: what a world has of it, and the receiver of each unit that it goes to, by the unit's place
-pub record Transfer : Type 0 where
-  pub flow : ℕ
-  pub pgn : ℕ
-  pub to : To
+-- a receiver: how far it is, and the bytes that it holds
+pub record Holding : Type 0 where
+  pub progress : Progress
   pub bytes : List ℕ
-  pub stage : Stage
-  pub receivers : List (Option Receiving)
 
--- the messages that units send one another
-pub record Traffic : Type 0 where
-  -- what is sent by each flow
-  pub flows : List Flow
-  -- how many packets each unit lets be sent to it for one CTS
+abbrev pub closed : Holding
+closed = record { progress = Closed; bytes = [] }
+
+-- how many packets each unit lets be sent to it for one CTS, and its receiver for what each unit sends
+pub record ReceiverTable : Type 0 where
   pub windows : List ℕ
-  -- the message that each unit sends
-  pub transfers : List (Option Transfer)
-  -- of each unit to each, what was sent of a transfer and is not taken, the oldest first
-  pub wire : List (List (List Wired))
-  -- all messages that were received whole, in order
-  pub reports : List Reported
+  pub holdings : List (List Holding)
 
 pub record BusState : Type 0 where
   -- what each unit claims as and what it is
   pub units : List ClaimerValue
   -- of each unit to each, what is undelivered, the oldest first
   pub claims : List (List (List Item))
-  pub traffic : Traffic
+  -- what is sent by each flow
+  pub flows : List Flow
+  -- the message that each unit sends
+  pub sessions : List (Option Outgoing)
+  -- of each unit to each, what was sent of a message and is not taken, the oldest first
+  pub wire : List (List (List Wired))
+  pub receivers : ReceiverTable
+  -- all messages that were received whole, in order
+  pub reports : List Reported
   -- all frames that were sent, in order
   pub frames : List Sent
 
@@ -48,35 +47,32 @@ pub record BusState : Type 0 where
 abbrev pub undelivered : BusState → Undelivered
 undelivered b = pair_in b.claims
 
--- what is not taken between two units
-abbrev pub wire_of : Traffic → Wire
-wire_of t = pair_in t.wire
-
--- the places of the units that have a receiver, the first at place k
-abbrev pub places_from : {X : Type 0} → ℕ → List (Option X) → List ℕ
-places_from k [] = []
-places_from k (None ∷ rest) = places_from (suc k) rest
-places_from k (Some x ∷ rest) = k ∷ places_from (suc k) rest
-
--- the message that a unit sends, as a world has it
-abbrev pub outgoing_of : Option Transfer → Option Outgoing
-outgoing_of None = None
-outgoing_of (Some t) =
-    Some (record { flow = t.flow; pgn = t.pgn; to = t.to; targets = places_from 0 t.receivers; bytes = t.bytes; stage = t.stage })
-
-abbrev pub session_at : List (Option Transfer) → Sessions
-session_at transfers u = outgoing_of (slice_index_or transfers u None)
-
--- a unit's receiver for a message, if the message goes to it
-abbrev pub receiver_of : Option Transfer → ℕ → Option Receiving
-receiver_of None v = None
-receiver_of (Some t) v = slice_index_or t.receivers v None
-
--- where there is none, it is closed
-abbrev pub receiving_or : Option Receiving → Receiving
-receiving_or None = fresh Listening
-receiving_or (Some r) = r
+-- the message that a unit sends
+abbrev pub session_at : List (Option Outgoing) → Sessions
+session_at sessions u = slice_index_or sessions u None
 
 -- the first unit's receiver for what the second sends
-abbrev pub receiving_at : List (Option Transfer) → ℕ → ℕ → Receiving
-receiving_at transfers v u = receiving_or (receiver_of (slice_index_or transfers u None) v)
+abbrev pub holding_at : List (List Holding) → ℕ → ℕ → Holding
+holding_at holdings v u = slice_index_or (slice_index_or holdings v []) u closed
+
+-- what a bus does not keep: what each unit took of each, and what each began for each
+pub record Histories : Type 0 where
+  pub taken : ℕ → ℕ → List Packet
+  pub begun : ℕ → ℕ → List Begun
+
+abbrev pub histories_of : World → Histories
+histories_of w = record { taken = w.taken; begun = w.begun }
+
+-- the world of a bus with these histories
+abbrev pub world_of : Histories → BusState → World
+world_of h b = record {
+  stations = station_at b.units;
+  claims = pair_in b.claims;
+  sessions = session_at b.sessions;
+  wire = pair_in b.wire;
+  receivers = λ v u. (holding_at b.receivers.holdings v u).progress;
+  taken = h.taken;
+  begun = h.begun;
+  reports = b.reports;
+  frames = b.frames;
+}

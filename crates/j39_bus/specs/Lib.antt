@@ -1,6 +1,5 @@
 pub mod Stations
 pub mod BusState
-pub mod Traffic
+pub mod Reports
 pub mod Stands
-pub mod Network
 pub mod inside

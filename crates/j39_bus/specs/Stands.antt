@@ -1,36 +1,32 @@
 -- What a bus stands for.
 use Rattle.std.specs.Prelude.{◌≡◌, ℕ, true, List, ◌∷◌, ◌++◌, length, map}
 use Rattle.j39_tp.specs.inside.Gathered.{Gathers}
-use Rattle.j39_tp.specs.Receiver.{Receiving}
+use Rattle.j39_tp.specs.declared.packet.Packet.{Packet}
 use Rattle.j39_plan.specs.declared.plan.Plan.{Plan}
 use Rattle.j39_plan.specs.declared.steps.Step.{Step}
 use Rattle.j39_world.specs.declared.step_error.StepError.{StepError}
 use Rattle.j39_world.specs.declared.step_error.StepError.TheVariants.{Memory}
 use Rattle.j39_world.specs.Claimants.{units_of}
 use Rattle.j39_world.specs.World.{World}
-use Rattle.j39_bus.specs.Stations.{station_at}
-use Rattle.j39_bus.specs.BusState.{BusState, undelivered, wire_of, session_at, receiving_at}
+use Rattle.j39_bus.specs.BusState.{BusState, ReceiverTable, histories_of, holding_at, world_of}
 use Rattle.j39_world.specs.Flows.{flows_of, windows_of}
-use Rattle.j39_world.specs.Transfers.{closed_if_complete}
 use Rattle.j39_world.specs.Run.{refusal, cause_of, takes_memory, RunsThrough}
+
+-- the bus has the units of the plan, its flows and its windows
+pub record IsPlannedBy (plan : Plan) (b : BusState) : Type 0 where
+  pub units : map (λ c. c.planned) b.units ≡ units_of plan
+  pub flows : b.flows ≡ flows_of plan
+  pub windows : b.receivers.windows ≡ windows_of plan
+
+-- each receiver holds what its unit took of the message that is announced last
+abbrev pub HoldTaken : (ℕ → ℕ → List Packet) → ReceiverTable → Type 0
+HoldTaken taken receivers = (v u : ℕ) → Gathers (taken v u) (holding_at receivers.holdings v u).progress (holding_at receivers.holdings v u).bytes
 
 -- the bus stands for this world of the plan
 pub record Stands (b : BusState) (plan : Plan) (w : World) : Type 0 where
-  -- its units claim as they are planned
-  pub planned : map (λ c. c.planned) b.units ≡ units_of plan
-  -- they are what the units of the world are
-  pub stations : w.stations ≡ station_at b.units
-  pub claims : w.claims ≡ undelivered b
-  -- its flows and windows are as they are planned
-  pub flows : b.traffic.flows ≡ flows_of plan
-  pub windows : b.traffic.windows ≡ windows_of plan
-  pub sessions : w.sessions ≡ session_at b.traffic.transfers
-  pub wire : w.wire ≡ wire_of b.traffic
-  pub receivers : w.receivers ≡ (λ v u. closed_if_complete (receiving_at b.traffic.transfers v u).progress)
-  -- what a receiver holds is what it took of the message that is announced last
-  pub gathered : (v u : ℕ) → let r : Receiving = receiving_at b.traffic.transfers v u in Gathers (w.taken v u) r.progress r.bytes
-  pub reports : w.reports ≡ b.traffic.reports
-  pub frames : w.frames ≡ b.frames
+  pub planned : IsPlannedBy plan b
+  pub world : w ≡ world_of (histories_of w) b
+  pub held : HoldTaken w.taken b.receivers
 
 -- a run of these steps ends at a place: what stands before it was done, and this step is refused for the cause, or wanted memory
 -- where it is not refused

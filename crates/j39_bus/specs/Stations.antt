@@ -9,12 +9,12 @@ use Rattle.j39_world.specs.Claimants.{claimant_of}
 use Rattle.j39_world.specs.World.{Stations}
 
 -- what stands at a place with no unit
-abbrev pub nobody : ClaimerValue
-nobody = record { planned = record { name = 0; preferred = 0; kept = empty }; state = off }
+abbrev pub absent_unit : ClaimerValue
+absent_unit = record { planned = record { name = 0; preferred = 0; kept = empty }; state = off }
 
 -- a planned unit before any step, where these addresses are kept free
 abbrev pub unstarted : FinSet nat_cmp → UnitPlan → ClaimerValue
 unstarted kept p = record { planned = claimant_of kept p; state = off }
 
 abbrev pub station_at : List ClaimerValue → Stations
-station_at cs u = (slice_index_or cs u nobody).state
+station_at cs u = (slice_index_or cs u absent_unit).state

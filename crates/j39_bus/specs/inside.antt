@@ -1,3 +1,7 @@
 -- What only private contracts and proofs need.
 pub mod SendableGroups
 pub mod Claims
+pub mod Content
+pub mod Receivers
+pub mod Traffic
+pub mod Network

@@ -3,7 +3,7 @@ ghost use Rattle.std.specs.Prelude.{◌≡◌, ◌<◌, ◌↔◌, IsTrue, lengt
 ghost use Rattle.j39_bus.specs.BusState.{session_at, undelivered};
 ghost use Rattle.j39_bus.specs.Stations.{station_at};
 ghost use Rattle.j39_world.specs.Sent.{sent_of};
-ghost use Rattle.j39_bus.specs.Traffic.{reported_of};
+ghost use Rattle.j39_bus.specs.Reports.{reported_of};
 ghost use Rattle.j39_world.specs.Transfers.{outcome_in};
 ghost use Rattle.j39_world.specs.Sound.{IsQuiet};
 
@@ -34,7 +34,7 @@ impl Model for Bus {
 
     ghost coded = { Prim.hlevel (codes, coded_claimer) };
 
-    ghost use Rattle.j39_bus.specs.Network.{state_of, IsBus};
+    ghost use Rattle.j39_bus.specs.inside.Network.{state_of, IsBus};
 
     ghost view = { λ b. state_of b.network };
 
@@ -68,16 +68,16 @@ impl Bus {
     /// How the message of the unit ended, until the unit rests.
     pub fn outcome_of(&self, unit: usize) -> Option<Outcome>
         requires { unit < length self.now.units }
-        ensures { result ≡ outcome_in (session_at self.now.traffic.transfers unit) }
+        ensures { result ≡ outcome_in (session_at self.now.sessions unit) }
     {
-        sessions::outcome(self.network.traffic.transfers.as_slice(), unit)
+        sessions::outcome(self.network.sessions.as_slice(), unit)
     }
 
     /// All messages that were received whole so far, in order.
     pub fn reports(&self) -> &[Report]
-        ensures { map reported_of result.now ≡ self.now.traffic.reports }
+        ensures { map reported_of result.now ≡ self.now.reports }
     {
-        self.network.traffic.reports.as_slice()
+        self.network.reports.as_slice()
     }
 
     /// All frames that were sent so far, in order.

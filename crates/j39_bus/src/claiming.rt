@@ -5,11 +5,11 @@ ghost use Rattle.j39_plan.specs.declared.steps.Step.TheVariants.{Up, Give, Ask};
 ghost use Rattle.j39_world.specs.ClaimSteps.{switched_on, asked, GivenFrom};
 ghost use Rattle.j39_bus.specs.inside.Claims.{HasRoomForOthers};
 ghost use Rattle.j39_queues.specs.Queued.{pair_in};
-ghost use Rattle.j39_bus.specs.Network.{Histories, IsAllowed, IsNetwork, IsOf, IsSameNetwork, KeepsPlan, LeadsTo, claimants, world_of};
+ghost use Rattle.j39_bus.specs.BusState.{Histories};
+ghost use Rattle.j39_bus.specs.inside.Network.{IsAllowed, IsNetwork, IsOfPlan, IsSameNetwork, KeepsPlan, HasStepped, claimants, world_in};
 
 use crate::hearing::hear;
 use crate::network::Network;
-use crate::transfer::is_transfer_open;
 use j39_claim::{Choose, Item};
 use std::alloc::AllocError;
 
@@ -20,7 +20,7 @@ impl Network {
         requires allowed { IsAllowed self.old (Up unit) }
         ensures network { IsNetwork self.new }
         ensures plan { KeepsPlan self.old self.new }
-        ensures leads { OnOk result ((plan : Plan) → IsOf plan self.old → LeadsTo plan self.old (Up unit) self.new) }
+        ensures steps { OnOk result ((plan : Plan) → IsOfPlan plan self.old → HasStepped plan self.old (Up unit) self.new) }
         ensures same { OnErr result (IsSameNetwork self.old self.new) }
     {
         self.reserve(unit, 1)?;
@@ -40,7 +40,7 @@ impl Network {
         requires choosers { length choosers.now ≡ length self.old.claimers.items }
         ensures network { IsNetwork self.new }
         ensures plan { KeepsPlan self.old self.new }
-        ensures leads { OnOk result ((plan : Plan) → IsOf plan self.old → LeadsTo plan self.old (Give from to) self.new) }
+        ensures steps { OnOk result ((plan : Plan) → IsOfPlan plan self.old → HasStepped plan self.old (Give from to) self.new) }
         ensures same { OnErr result (IsSameNetwork self.old self.new) }
     {
         self.reserve(to, 1)?;
@@ -54,7 +54,7 @@ impl Network {
         requires allowed { IsAllowed self.old (Ask unit) }
         ensures network { IsNetwork self.new }
         ensures plan { KeepsPlan self.old self.new }
-        ensures leads { OnOk result ((plan : Plan) → IsOf plan self.old → LeadsTo plan self.old (Ask unit) self.new) }
+        ensures steps { OnOk result ((plan : Plan) → IsOfPlan plan self.old → HasStepped plan self.old (Ask unit) self.new) }
         ensures same { OnErr result (IsSameNetwork self.old self.new) }
     {
         self.reserve(unit, 2)?;
@@ -69,11 +69,11 @@ impl Network {
         requires frames { vec_len self.old.frames < vec_capacity self.old.frames }
         ensures network { IsNetwork self.new }
         ensures plan { KeepsPlan self.old self.new }
-        ensures traffic { self.new.traffic ≡ record self.old.traffic { wire = self.new.traffic.wire } }
-        ensures world { (h : Histories) → world_of h self.new ≡ switched_on (claimants self.old.claimers.items) (world_of h self.old) unit }
+        ensures rest { self.new ≡ record self.old { claimers = self.new.claimers; claims = self.new.claims; wire = self.new.wire; frames = self.new.frames } }
+        ensures world { (h : Histories) → world_in h self.new ≡ switched_on (claimants self.old.claimers.items) (world_in h self.old) unit }
     {
         self.claims.clear_to(unit);
-        self.traffic.wire.clear_to(unit);
+        self.wire.clear_to(unit);
         let say = self.claimers[unit].start();
         self.tell(unit, &Item::Told(say));
     }
@@ -88,8 +88,8 @@ impl Network {
         requires frames { vec_len self.old.frames < vec_capacity self.old.frames }
         ensures network { IsNetwork self.new }
         ensures plan { KeepsPlan self.old self.new }
-        ensures traffic { self.new.traffic ≡ self.old.traffic }
-        ensures world { (h : Histories) → GivenFrom (claimants self.old.claimers.items) (world_of h self.old) from to (pair_in self.old.claims.lists from to) (world_of h self.new) }
+        ensures rest { self.new ≡ record self.old { claimers = self.new.claimers; claims = self.new.claims; frames = self.new.frames } }
+        ensures world { (h : Histories) → GivenFrom (claimants self.old.claimers.items) (world_in h self.old) from to (pair_in self.old.claims.lists from to) (world_in h self.new) }
     {
         let name = self.claimers[from].name();
         let Some(item) = self.claims.pop(from, to) else {
@@ -109,8 +109,8 @@ impl Network {
         requires frames { vec_len self.old.frames + 2 ≤ vec_capacity self.old.frames }
         ensures network { IsNetwork self.new }
         ensures plan { KeepsPlan self.old self.new }
-        ensures traffic { self.new.traffic ≡ self.old.traffic }
-        ensures world { (h : Histories) → world_of h self.new ≡ asked (claimants self.old.claimers.items) (world_of h self.old) unit }
+        ensures rest { self.new ≡ record self.old { claimers = self.new.claimers; claims = self.new.claims; frames = self.new.frames } }
+        ensures world { (h : Histories) → world_in h self.new ≡ asked (claimants self.old.claimers.items) (world_in h self.old) unit }
     {
         self.tell(unit, &Item::Request);
         let say = self.claimers[unit].hear_request();

@@ -3,7 +3,7 @@ ghost use Rattle.std.specs.Prelude.{◌≡◌, ◌<◌, true, length};
 ghost use Rattle.j39_claim.specs.ClaimRule.{say_of};
 ghost use Rattle.j39_claim.specs.ClaimerValue.{can_note};
 ghost use Rattle.j39_bus.specs.Stations.{station_at};
-ghost use Rattle.j39_bus.specs.Network.{HasAnswered};
+ghost use Rattle.j39_bus.specs.inside.Network.{HasAnswered};
 
 use j39_claim::{Choose, Claimer, Item, Say};
 use j39_id::Name;

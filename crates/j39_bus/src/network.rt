@@ -1,4 +1,4 @@
-//! What the units are, what is undelivered between them, and the frames that they sent.
+//! What the units are, what they send one another, and the frames that they sent.
 ghost use Rattle.std.specs.Prelude.{◌≡◌, ℕ, ◌<◌, ◌≤◌, ◌+◌, [], ◌∷◌, length, vec_len, vec_capacity, OnOk};
 ghost use Rattle.j39_queues.specs.Queued.{IsTable};
 ghost use Rattle.j39_world.specs.ClaimSteps.{tell};
@@ -7,23 +7,33 @@ ghost use Rattle.j39_bus.specs.inside.Claims.{HasRoomForOthers};
 use crate::claim_frames::frame_of;
 use crate::claims::{post_to_others, reserve_for_others};
 use crate::pushing::post;
-use crate::traffic::Traffic;
+use crate::receivers::Receivers;
+use crate::report::Report;
+use crate::route::Route;
+use crate::session::Session;
 use j39_claim::{Claimer, Item};
 use j39_id::Frame;
 use j39_queues::Queues;
+use j39_world::Wired;
 use std::alloc::AllocError;
 
-/// The units of a plan by their places, all that is undelivered, and all frames sent, each in order.
+/// The units of a plan by their places, all that is undelivered of claims, the flows, the message that each unit sends, what is
+/// not taken of it, the receivers, and all messages received and all frames sent, each in order.
 #[derive(Drop)]
 pub(crate) struct Network {
     pub(crate) claimers: Vec<Claimer>,
     pub(crate) claims: Queues<Item>,
+    pub(crate) routes: Vec<Route>,
+    pub(crate) sessions: Vec<Option<Session>>,
+    pub(crate) wire: Queues<Wired>,
+    pub(crate) receivers: Receivers,
+    pub(crate) reports: Vec<Report>,
     pub(crate) frames: Vec<Frame>,
-    pub(crate) traffic: Traffic,
 }
 
 impl Network {
-    ghost use Rattle.j39_bus.specs.Network.{Histories, IsSameNetwork, claimants, world_of};
+    ghost use Rattle.j39_bus.specs.BusState.{Histories};
+    ghost use Rattle.j39_bus.specs.inside.Network.{IsSameNetwork, claimants, world_in};
 
     /// Makes room for so many items from a unit to each other one that is on.
     pub(crate) fn reserve(&mut self, from: usize, items: usize) -> Result<(), AllocError>
@@ -45,8 +55,8 @@ impl Network {
         requires room { HasRoomForOthers self.old.claims self.old.claimers.items from 1 }
         requires frames { vec_len self.old.frames < vec_capacity self.old.frames }
         ensures claimers { self.new.claimers ≡ self.old.claimers }
-        ensures traffic { self.new.traffic ≡ self.old.traffic }
-        ensures world { (h : Histories) → world_of h self.new ≡ tell (claimants self.old.claimers.items) (world_of h self.old) from (item.now ∷ []) }
+        ensures rest { self.new ≡ record self.old { claims = self.new.claims; frames = self.new.frames } }
+        ensures world { (h : Histories) → world_in h self.new ≡ tell (claimants self.old.claimers.items) (world_in h self.old) from (item.now ∷ []) }
         ensures table { IsTable (length self.old.claimers.items) self.new.claims.lists }
         ensures room { (more : ℕ) → HasRoomForOthers self.old.claims self.old.claimers.items from (1 + more) → HasRoomForOthers self.new.claims self.old.claimers.items from more }
         ensures frames_len { vec_len self.new.frames ≡ vec_len self.old.frames + 1 }

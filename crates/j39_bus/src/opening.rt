@@ -1,15 +1,19 @@
 //! A new bus.
-ghost use Rattle.std.specs.Prelude.{◌≡◌, ◌<◌, ℕ, length, map, take, All, IfOk, IfErr, IfSome, IfNone, OnOk};
+ghost use Rattle.std.specs.Prelude.{◌≡◌, ◌<◌, ℕ, length, map, replicate, take, None, All, IfOk, IfErr, IfSome, IfNone, OnOk};
 ghost use Rattle.j39_world.specs.Claimants.{units_of};
 ghost use Rattle.j39_bus.specs.Stations.{unstarted};
 ghost use Rattle.j39_world.specs.Opening.{HaveOneName, AreNamesDistinct, IsFirstOfOneName, CanOpen, IsNotOpened};
+ghost use Rattle.j39_bus.specs.BusState.{histories_of};
 ghost use Rattle.j39_bus.specs.Stands.{Stands};
+ghost use Rattle.j39_bus.specs.inside.Network.{HasHeld, IsNetwork, IsOfPlan, world_in};
 ghost use Rattle.j39_world.specs.World.{first};
 ghost use Rattle.j39_bus.specs.inside.SendableGroups.{HasBadGroup};
 ghost use Rattle.j39_plan.specs.PlannedGroups.{IsSendable};
 
 use crate::network::Network;
-use crate::traffic::Traffic;
+use crate::receivers::Receivers;
+use crate::route::routes_of;
+use crate::session::Session;
 use crate::{Bus, BusError};
 use j39_claim::{AddressSet, Choose, Claimer};
 use j39_plan::{GroupFault, GroupPlan, Plan, UnitPlan, layout_of};
@@ -80,6 +84,44 @@ fn claimers_of(
     Ok(claimers)
 }
 
+// No unit sends a message.
+fn no_sessions(alloc: Global, units: usize) -> Result<Vec<Option<Session>>, AllocError>
+    ensures { IfOk result (λ sessions. sessions.items ≡ replicate units None) }
+{
+    let mut sessions = Vec::with_capacity(alloc, units)?;
+    for _ in 0..units {
+        sessions.push(None)?;
+    }
+    Ok(sessions)
+}
+
+/// The network of a plan before any step.
+fn network_of(alloc: Global, plan: &Plan) -> Result<Network, AllocError>
+    requires { All IsSendable plan.now.groups.items }
+    ensures network { IfOk result (λ net. IsNetwork net) }
+    ensures planned { IfOk result (λ net. IsOfPlan plan.now net) }
+    ensures world { IfOk result (λ net. world_in (histories_of first) net ≡ first) }
+    ensures held { IfOk result (λ net. HasHeld (histories_of first) net) }
+{
+    let units = plan.units.as_slice();
+    let claimers = claimers_of(alloc, &plan.keep_free, units)?;
+    let claims = Queues::new(alloc, units.len())?;
+    let routes = routes_of(alloc, plan)?;
+    let sessions = no_sessions(alloc, units.len())?;
+    let wire = Queues::new(alloc, units.len())?;
+    let receivers = Receivers::new(alloc, units)?;
+    Ok(Network {
+        claimers,
+        claims,
+        routes,
+        sessions,
+        wire,
+        receivers,
+        reports: Vec::new(alloc),
+        frames: Vec::new(alloc),
+    })
+}
+
 impl Bus {
     /// A bus of the plan, on which no unit is started, with a chooser for each unit by its place. It keeps the allocator.
     /// On an error the choosers are dropped.
@@ -96,23 +138,9 @@ impl Bus {
             return Err(BusError::SameName(first, second));
         }
         try_groups(alloc, plan.groups.as_slice())?;
-        let Ok(claimers) = claimers_of(alloc, &plan.keep_free, plan.units.as_slice()) else {
+        let Ok(network) = network_of(alloc, plan) else {
             return Err(BusError::Memory);
         };
-        let Ok(claims) = Queues::new(alloc, plan.units.len()) else {
-            return Err(BusError::Memory);
-        };
-        let Ok(traffic) = Traffic::new(alloc, plan) else {
-            return Err(BusError::Memory);
-        };
-        Ok(Bus {
-            network: Network {
-                claimers,
-                claims,
-                frames: Vec::new(alloc),
-                traffic,
-            },
-            choosers,
-        })
+        Ok(Bus { network, choosers })
     }
 }

@@ -3,13 +3,13 @@ ghost use Rattle.std.specs.Prelude.{◌≡◌, ◌<◌, true, None, Some, nat_lt
 ghost use Rattle.j39_plan.specs.declared.steps.Step.TheVariants.{Up, Give, Ask, Begin, Emit, Take, LateSender, LateReceiver, Rest};
 ghost use Rattle.j39_world.specs.Flows.{can_be_sent};
 ghost use Rattle.j39_bus.specs.Stations.{station_at};
-ghost use Rattle.j39_bus.specs.Network.{Histories, IsNetwork, refusal_in};
+ghost use Rattle.j39_bus.specs.BusState.{Histories};
+ghost use Rattle.j39_bus.specs.inside.Network.{IsNetwork, refusal_in};
 ghost use Rattle.j39_world.specs.Run.{at_ends, both, refuse_unless};
-ghost use Rattle.j39_bus.specs.Traffic.{IsRoute, route_of};
+ghost use Rattle.j39_bus.specs.inside.Traffic.{IsRoute, route_of};
 
 use crate::network::Network;
 use crate::route::Route;
-use crate::transfer::is_transfer_open;
 use crate::{StepError, sessions};
 use j39_plan::{Step, To};
 
@@ -81,7 +81,7 @@ impl Network {
         if self.claimers[unit].is_started() {
             return Some(StepError::AlreadyStarted);
         }
-        if is_transfer_open(self.traffic.transfers.as_slice()) {
+        if sessions::is_any_open(self.sessions.as_slice()) {
             return Some(StepError::TransferOpen);
         }
         None
@@ -112,7 +112,7 @@ impl Network {
         if let Some(error) = self.refusal_of_unit(unit) {
             return Some(error);
         }
-        if is_transfer_open(self.traffic.transfers.as_slice()) {
+        if sessions::is_any_open(self.sessions.as_slice()) {
             return Some(StepError::TransferOpen);
         }
         None
@@ -122,7 +122,7 @@ impl Network {
         requires { IsNetwork self.now }
         ensures { (h : Histories) → result ≡ refusal_in self.now h (Begin flow bytes.now) }
     {
-        let Some(route) = self.traffic.routes.get(flow) else {
+        let Some(route) = self.routes.get(flow) else {
             return Some(StepError::NoSuchFlow);
         };
         if !can_be_sent(route) {
@@ -137,7 +137,7 @@ impl Network {
         if !self.have_addresses(route) {
             return Some(StepError::NoAddress);
         }
-        if self.traffic.transfers[route.sender].is_some() {
+        if self.sessions[route.sender].is_some() {
             return Some(StepError::Busy);
         }
         if bytes.len() != usize::from(route.length) {
@@ -153,7 +153,7 @@ impl Network {
         if let Some(error) = self.refusal_of_unit(unit) {
             return Some(error);
         }
-        if !sessions::is_sending(self.traffic.transfers.as_slice(), unit) {
+        if !sessions::is_sending(self.sessions.as_slice(), unit) {
             return Some(StepError::NothingToSend);
         }
         None
@@ -167,7 +167,7 @@ impl Network {
         if let Some(error) = self.refusal_of_pair(from, to) {
             return Some(error);
         }
-        if self.traffic.wire.between(from, to).is_empty() {
+        if self.wire.between(from, to).is_empty() {
             return Some(StepError::NothingUndelivered);
         }
         None
@@ -180,7 +180,7 @@ impl Network {
         if let Some(error) = self.refusal_of_unit(unit) {
             return Some(error);
         }
-        if !sessions::is_waiting(self.traffic.transfers.as_slice(), unit) {
+        if !sessions::is_waiting(self.sessions.as_slice(), unit) {
             return Some(StepError::NoSession);
         }
         None
@@ -193,7 +193,7 @@ impl Network {
         if let Some(error) = self.refusal_of_pair(from, to) {
             return Some(error);
         }
-        if !sessions::is_receiving(self.traffic.transfers.as_slice(), from, to) {
+        if !self.receivers.is_open(from, to) {
             return Some(StepError::NoSession);
         }
         None

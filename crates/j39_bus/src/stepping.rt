@@ -12,7 +12,8 @@ use j39_plan::Step;
 use std::alloc::AllocError;
 
 impl Network {
-    ghost use Rattle.j39_bus.specs.Network.{Histories, IsAllowed, IsNetwork, IsOf, IsSameNetwork, KeepsPlan, LeadsTo, refusal_in};
+    ghost use Rattle.j39_bus.specs.BusState.{Histories};
+    ghost use Rattle.j39_bus.specs.inside.Network.{IsAllowed, IsNetwork, IsOfPlan, IsSameNetwork, KeepsPlan, HasStepped, refusal_in};
 
     /// Does a step. A refused step changes nothing, nor does one for which there is no memory.
     pub(crate) fn step(
@@ -25,7 +26,7 @@ impl Network {
         ensures network { IsNetwork self.new }
         ensures plan { KeepsPlan self.old self.new }
         ensures allowed { OnOk result (IsAllowed self.old step.now) }
-        ensures leads { OnOk result ((plan : Plan) → IsOf plan self.old → LeadsTo plan self.old step.now self.new) }
+        ensures steps { OnOk result ((plan : Plan) → IsOfPlan plan self.old → HasStepped plan self.old step.now self.new) }
         ensures refused { IfErr result (λ e. (h : Histories) → refusal_in self.old h step.now ≡ cause_of e) }
         ensures memory { IfErr result (λ e. e ≡ StepError.Memory → takes_memory step.now ≡ true) }
         ensures same { OnErr result (IsSameNetwork self.old self.new) }
@@ -46,7 +47,7 @@ impl Network {
         requires allowed { IsAllowed self.old step.now }
         ensures network { IsNetwork self.new }
         ensures plan { KeepsPlan self.old self.new }
-        ensures leads { OnOk result ((plan : Plan) → IsOf plan self.old → LeadsTo plan self.old step.now self.new) }
+        ensures steps { OnOk result ((plan : Plan) → IsOfPlan plan self.old → HasStepped plan self.old step.now self.new) }
         ensures memory { OnErr result (takes_memory step.now ≡ true) }
         ensures same { OnErr result (IsSameNetwork self.old self.new) }
     {

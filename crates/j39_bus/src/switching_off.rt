@@ -1,7 +1,7 @@
 //! A unit is switched off.
 ghost use Rattle.j39_plan.specs.declared.plan.Plan.{Plan};
 ghost use Rattle.j39_plan.specs.declared.steps.Step.TheVariants.{Down};
-ghost use Rattle.j39_bus.specs.Network.{IsAllowed, IsNetwork, IsOf, KeepsPlan, LeadsTo};
+ghost use Rattle.j39_bus.specs.inside.Network.{IsAllowed, IsNetwork, IsOfPlan, KeepsPlan, HasStepped};
 
 use crate::network::Network;
 
@@ -12,10 +12,10 @@ impl Network {
         requires allowed { IsAllowed self.old (Down unit) }
         ensures network { IsNetwork self.new }
         ensures plan { KeepsPlan self.old self.new }
-        ensures leads { (plan : Plan) → IsOf plan self.old → LeadsTo plan self.old (Down unit) self.new }
+        ensures steps { (plan : Plan) → IsOfPlan plan self.old → HasStepped plan self.old (Down unit) self.new }
     {
         self.claims.clear_to(unit);
-        self.traffic.wire.clear_to(unit);
+        self.wire.clear_to(unit);
         self.claimers[unit].stop();
     }
 }

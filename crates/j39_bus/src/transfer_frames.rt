@@ -2,7 +2,7 @@
 ghost use Rattle.std.specs.Prelude.{◌≡◌, ◌≤◌, length};
 ghost use Rattle.j39_world.specs.Sent.{sent_of};
 ghost use Rattle.j39_world.specs.SentTransfers.{packet_frame, short_frame};
-ghost use Rattle.j39_bus.specs.Traffic.{route_of};
+ghost use Rattle.j39_bus.specs.inside.Traffic.{route_of};
 
 use crate::claim_frames::payload_of;
 use crate::route::Route;

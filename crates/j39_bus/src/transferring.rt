@@ -1,10 +1,10 @@
 //! The steps of transfers (SAE J1939-21, transport protocol functions), and what they have in common.
-ghost use Rattle.std.specs.Prelude.{◌≡◌, ℕ, ◌+◌, ◌<◌, ◌≤◌, false, Some, None, length, slice_index_or, vec_len, vec_capacity, OnOk};
-ghost use Rattle.j39_bus.specs.BusState.{session_at};
+ghost use Rattle.std.specs.Prelude.{◌≡◌, ℕ, ◌+◌, ◌<◌, ◌≤◌, Some, length, vec_len, vec_capacity, OnOk};
+ghost use Rattle.j39_bus.specs.BusState.{Histories, session_at};
 ghost use Rattle.j39_bus.specs.Stations.{station_at};
-ghost use Rattle.j39_bus.specs.Network.{Histories, IsNetwork, IsSameNetwork, KeepsPlan, transfers_of, world_of};
+ghost use Rattle.j39_bus.specs.inside.Network.{IsNetwork, IsSameNetwork, KeepsPlan, world_in};
 ghost use Rattle.j39_world.specs.SentTransfers.{address_of, destination_of};
-ghost use Rattle.j39_bus.specs.Traffic.{AreAnswers, HasRoomAlong, IsInside, is_announcement};
+ghost use Rattle.j39_bus.specs.inside.Traffic.{HasRoomAlong, IsInside};
 ghost use Rattle.j39_queues.specs.Queued.{room_at};
 ghost use Rattle.j39_world.specs.Transfers.{Outgoing};
 ghost use Rattle.j39_world.specs.TransferSteps.{packets_in, replied, sent_along};
@@ -54,11 +54,10 @@ impl Network {
         requires network { IsNetwork self.old }
         requires unit { unit < length self.old.claimers.items }
         ensures same { IsSameNetwork self.old self.new }
-        ensures wire { OnOk result (HasRoomAlong self.new.traffic.wire unit (slice_index_or self.new.traffic.transfers.items unit None)) }
+        ensures wire { OnOk result (HasRoomAlong self.new.wire unit (session_at self.new.sessions.items unit)) }
         ensures frames { OnOk result (vec_len self.new.frames < vec_capacity self.new.frames) }
     {
-        let transfers = self.traffic.transfers.as_slice();
-        reserve_along(&mut self.traffic.wire, transfers, unit)?;
+        reserve_along(&mut self.wire, self.sessions.as_slice(), unit)?;
         self.frames.reserve(1)?;
         Ok(())
     }
@@ -67,23 +66,17 @@ impl Network {
     fn send_along(&mut self, unit: usize, packet: &Packet)
         requires network { IsNetwork self.old }
         requires unit { unit < length self.old.claimers.items }
-        requires wire { HasRoomAlong self.old.traffic.wire unit (slice_index_or self.old.traffic.transfers.items unit None) }
+        requires wire { HasRoomAlong self.old.wire unit (session_at self.old.sessions.items unit) }
         requires frames { vec_len self.old.frames < vec_capacity self.old.frames }
-        requires data { is_announcement (Wired.Packet packet.now) ≡ false }
         ensures network { IsNetwork self.new }
         ensures plan { KeepsPlan self.old self.new }
-        ensures transfers { self.new.traffic.transfers ≡ self.old.traffic.transfers }
-        ensures world { (h : Histories) (s : Outgoing) → session_at (transfers_of self.old) unit ≡ Some s → world_of h self.new ≡ sent_along (world_of h self.old) unit s packet.now }
+        ensures rest { self.new ≡ record self.old { wire = self.new.wire; frames = self.new.frames } }
+        ensures world { (h : Histories) (s : Outgoing) → session_at self.old.sessions.items unit ≡ Some s → world_in h self.new ≡ sent_along (world_in h self.old) unit s packet.now }
     {
-        if let Some(to) = sessions::goes_to(self.traffic.transfers.as_slice(), unit) {
+        if let Some(to) = sessions::goes_to(self.sessions.as_slice(), unit) {
             let frame = packet_frame(self.source(unit), self.destination(to), packet);
-            let transfers = self.traffic.transfers.as_slice();
-            post_along(
-                &mut self.traffic.wire,
-                transfers,
-                unit,
-                &Wired::Packet(*packet),
-            );
+            let item = Wired::Packet(*packet);
+            post_along(&mut self.wire, self.sessions.as_slice(), unit, &item);
             post(&mut self.frames, frame);
         }
     }
@@ -95,11 +88,11 @@ impl Network {
         requires to { to < length self.old.claimers.items }
         requires packets { packets ≤ 2 }
         ensures same { IsSameNetwork self.old self.new }
-        ensures wire { OnOk result (packets ≤ room_at self.new.traffic.wire from to) }
+        ensures wire { OnOk result (packets ≤ room_at self.new.wire from to) }
         ensures frames { OnOk result (vec_len self.new.frames + packets ≤ vec_capacity self.new.frames) }
-        ensures reports { self.new.traffic.reports ≡ self.old.traffic.reports }
+        ensures reports { self.new.reports ≡ self.old.reports }
     {
-        self.traffic.wire.reserve(from, to, packets)?;
+        self.wire.reserve(from, to, packets)?;
         self.frames.reserve(packets)?;
         Ok(())
     }
@@ -109,20 +102,19 @@ impl Network {
         requires network { IsNetwork self.old }
         requires from { from < length self.old.claimers.items }
         requires to { to < length self.old.claimers.items }
-        requires wire { length (packets_in packet) ≤ room_at self.old.traffic.wire from to }
+        requires wire { length (packets_in packet) ≤ room_at self.old.wire from to }
         requires frames { vec_len self.old.frames + length (packets_in packet) ≤ vec_capacity self.old.frames }
-        requires answers { AreAnswers (packets_in packet) }
         ensures network { IsNetwork self.new }
         ensures plan { KeepsPlan self.old self.new }
-        ensures transfers { self.new.traffic.transfers ≡ self.old.traffic.transfers }
-        ensures wire { room_at self.old.traffic.wire from to ≤ room_at self.new.traffic.wire from to + length (packets_in packet) }
+        ensures rest { self.new ≡ record self.old { wire = self.new.wire; frames = self.new.frames } }
+        ensures wire { room_at self.old.wire from to ≤ room_at self.new.wire from to + length (packets_in packet) }
         ensures frames { vec_capacity self.old.frames ≤ vec_capacity self.new.frames }
         ensures frames_len { vec_len self.new.frames ≡ vec_len self.old.frames + length (packets_in packet) }
-        ensures world { (h : Histories) → world_of h self.new ≡ replied (world_of h self.old) from to (packets_in packet) }
+        ensures world { (h : Histories) → world_in h self.new ≡ replied (world_in h self.old) from to (packets_in packet) }
     {
         if let Some(packet) = packet {
             let frame = packet_frame(self.source(from), self.source(to), &packet);
-            self.traffic.wire.post(from, to, Wired::Packet(packet));
+            self.wire.post(from, to, Wired::Packet(packet));
             post(&mut self.frames, frame);
         }
     }

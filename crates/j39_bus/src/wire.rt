@@ -1,12 +1,13 @@
 //! What is on the wire between units: what one sent of a message and another has not taken yet.
-ghost use Rattle.std.specs.Prelude.{◌≡◌, ℕ, ◌<◌, true, [], ◌∷◌, drop, length, IfNone, IfSome, OnOk};
+ghost use Rattle.std.specs.Prelude.{◌≡◌, ◌<◌, [], ◌∷◌, drop, length, IfNone, IfSome, OnOk};
 ghost use Rattle.std.specs.List.{list_any};
-ghost use Rattle.j39_queues.specs.Queued.{IsTable, pair_in, room_at};
+ghost use Rattle.j39_queues.specs.Queued.{IsTable, pair_in};
 ghost use Rattle.j39_world.specs.Resting.{is_of_sender, is_of_receiver};
-ghost use Rattle.j39_bus.specs.Traffic.{is_receiver, posted};
+ghost use Rattle.j39_bus.specs.inside.Traffic.{AreUnits, HasRoomTo};
+ghost use Rattle.j39_world.specs.Transfers.{added};
 
 use j39_queues::Queues;
-use j39_tp::{Packet, Receiver};
+use j39_tp::Packet;
 use j39_world::Wired;
 use std::alloc::AllocError;
 use std::collections::VecDeque;
@@ -22,43 +23,34 @@ pub(crate) fn oldest(wire: &Queues<Wired>, from: usize, to: usize) -> Option<&Wi
     queue.front()
 }
 
-/// Makes room for one item from a unit to each that has a receiver.
+/// Makes room for one item from a unit to each of these.
 pub(crate) fn reserve_each(
     wire: &mut Queues<Wired>,
     from: usize,
-    receivers: &[Option<Box<Receiver>>],
+    targets: &[usize],
 ) -> Result<(), AllocError>
     requires from { from < length wire.old.lists }
-    requires receivers { length receivers.now ≡ length wire.old.lists }
+    requires targets { AreUnits (length wire.old.lists) targets.now }
     ensures lists { wire.new.lists ≡ wire.old.lists }
-    ensures room { OnOk result ((v : ℕ) → is_receiver receivers.now v ≡ true → 0 < room_at wire.new from v) }
+    ensures room { OnOk result (HasRoomTo wire.new from targets.now) }
 {
-    for (to, receiver) in receivers.iter().enumerate() {
-        if receiver.is_some() {
-            wire.reserve(from, to, 1)?;
-        }
+    for target in targets {
+        wire.reserve(from, *target, 1)?;
     }
     Ok(())
 }
 
-/// Adds an item from a unit to each that has a receiver, where there is room for it.
-pub(crate) fn post_each(
-    wire: &mut Queues<Wired>,
-    from: usize,
-    receivers: &[Option<Box<Receiver>>],
-    item: &Wired,
-)
+/// Adds an item from a unit to each of these, where there is room for it.
+pub(crate) fn post_each(wire: &mut Queues<Wired>, from: usize, targets: &[usize], item: &Wired)
     requires table { IsTable (length wire.old.lists) wire.old.lists }
     requires from { from < length wire.old.lists }
-    requires receivers { length receivers.now ≡ length wire.old.lists }
-    requires room { (v : ℕ) → is_receiver receivers.now v ≡ true → 0 < room_at wire.old from v }
+    requires targets { AreUnits (length wire.old.lists) targets.now }
+    requires room { HasRoomTo wire.old from targets.now }
     ensures table { IsTable (length wire.old.lists) wire.new.lists }
-    ensures lists { pair_in wire.new.lists ≡ posted (pair_in wire.old.lists) from receivers.now item.now }
+    ensures lists { pair_in wire.new.lists ≡ added (pair_in wire.old.lists) from targets.now item.now }
 {
-    for (to, receiver) in receivers.iter().enumerate() {
-        if receiver.is_some() {
-            wire.post(from, to, item.copy());
-        }
+    for target in targets {
+        wire.post(from, *target, item.copy());
     }
 }
 

@@ -2,12 +2,12 @@
 ghost use Rattle.std.specs.Prelude.{◌≡◌, ◌≢◌, ◌<◌, length, vec_len, vec_capacity, OnOk, OnErr, IfErr};
 ghost use Rattle.j39_plan.specs.declared.plan.Plan.{Plan};
 ghost use Rattle.j39_plan.specs.declared.steps.Step.TheVariants.{LateReceiver};
-ghost use Rattle.j39_bus.specs.Network.{Histories, HasGathered, IsAllowed, IsNetwork, IsOf, IsSameNetwork, KeepsPlan, LeadsTo, world_of};
+ghost use Rattle.j39_bus.specs.BusState.{Histories};
+ghost use Rattle.j39_bus.specs.inside.Network.{HasHeld, IsAllowed, IsNetwork, IsOfPlan, IsSameNetwork, KeepsPlan, HasStepped, world_in};
 ghost use Rattle.j39_queues.specs.Queued.{room_at};
 ghost use Rattle.j39_world.specs.TransferSteps.{receiver_timed_out};
 
 use crate::network::Network;
-use crate::sessions;
 use j39_tp::receivers_gather_what_they_hear;
 use std::alloc::AllocError;
 
@@ -18,7 +18,7 @@ impl Network {
         requires allowed { IsAllowed self.old (LateReceiver from to) }
         ensures network { IsNetwork self.new }
         ensures plan { KeepsPlan self.old self.new }
-        ensures leads { OnOk result ((plan : Plan) → IsOf plan self.old → LeadsTo plan self.old (LateReceiver from to) self.new) }
+        ensures steps { OnOk result ((plan : Plan) → IsOfPlan plan self.old → HasStepped plan self.old (LateReceiver from to) self.new) }
         ensures same { OnErr result (IsSameNetwork self.old self.new) }
     {
         self.reserve_replies(to, from, 1)?;
@@ -30,15 +30,15 @@ impl Network {
         requires network { IsNetwork self.old }
         requires from { from < length self.old.claimers.items }
         requires to { to < length self.old.claimers.items }
-        requires wire { 0 < room_at self.old.traffic.wire to from }
+        requires wire { 0 < room_at self.old.wire to from }
         requires frames { vec_len self.old.frames < vec_capacity self.old.frames }
         ensures network { IsNetwork self.new }
         ensures plan { KeepsPlan self.old self.new }
-        ensures world { (h : Histories) → world_of h self.new ≡ receiver_timed_out self.old.traffic.windows.items (world_of h self.old) from to }
-        ensures gathered { (h : Histories) → HasGathered h self.old → HasGathered h self.new }
+        ensures world { (h : Histories) → world_in h self.new ≡ receiver_timed_out self.old.receivers.windows (world_in h self.old) from to }
+        ensures held { (h : Histories) → HasHeld h self.old → HasHeld h self.new }
     {
         receivers_gather_what_they_hear();
-        let packet = sessions::receiver_times_out(&mut self.traffic.transfers, from, to);
+        let packet = self.receivers.late(from, to);
         self.reply(to, from, packet);
     }
 }

@@ -1,11 +1,11 @@
 //! A sender hears nothing in time.
-ghost use Rattle.std.specs.Prelude.{◌≡◌, ◌≢◌, ◌<◌, true, None, length, slice_index_or, vec_len, vec_capacity, OnOk, OnErr, IfErr};
+ghost use Rattle.std.specs.Prelude.{◌≡◌, ◌≢◌, ◌<◌, true, length, vec_len, vec_capacity, OnOk, OnErr, IfErr};
 ghost use Rattle.j39_plan.specs.declared.plan.Plan.{Plan};
 ghost use Rattle.j39_plan.specs.declared.steps.Step.TheVariants.{LateSender};
-ghost use Rattle.j39_bus.specs.Network.{Histories, IsAllowed, IsNetwork, IsOf, IsSameNetwork, KeepsPlan, LeadsTo, transfers_of, world_of};
-ghost use Rattle.j39_bus.specs.BusState.{session_at};
+ghost use Rattle.j39_bus.specs.inside.Network.{IsAllowed, IsNetwork, IsOfPlan, IsSameNetwork, KeepsPlan, HasStepped, world_in};
+ghost use Rattle.j39_bus.specs.BusState.{Histories, session_at};
 ghost use Rattle.j39_world.specs.Run.{is_waiting};
-ghost use Rattle.j39_bus.specs.Traffic.{HasRoomAlong, KeepsReceivers};
+ghost use Rattle.j39_bus.specs.inside.Traffic.{HasRoomAlong};
 ghost use Rattle.j39_world.specs.TransferSteps.{SenderTimesOut};
 
 use crate::network::Network;
@@ -19,7 +19,7 @@ impl Network {
         requires allowed { IsAllowed self.old (LateSender unit) }
         ensures network { IsNetwork self.new }
         ensures plan { KeepsPlan self.old self.new }
-        ensures leads { OnOk result ((plan : Plan) → IsOf plan self.old → LeadsTo plan self.old (LateSender unit) self.new) }
+        ensures steps { OnOk result ((plan : Plan) → IsOfPlan plan self.old → HasStepped plan self.old (LateSender unit) self.new) }
         ensures same { OnErr result (IsSameNetwork self.old self.new) }
     {
         self.reserve_along(unit)?;
@@ -30,15 +30,15 @@ impl Network {
     fn give_up(&mut self, unit: usize)
         requires network { IsNetwork self.old }
         requires unit { unit < length self.old.claimers.items }
-        requires waits { is_waiting (session_at (transfers_of self.old) unit) ≡ true }
-        requires wire { HasRoomAlong self.old.traffic.wire unit (slice_index_or self.old.traffic.transfers.items unit None) }
+        requires waits { is_waiting (session_at self.old.sessions.items unit) ≡ true }
+        requires wire { HasRoomAlong self.old.wire unit (session_at self.old.sessions.items unit) }
         requires frames { vec_len self.old.frames < vec_capacity self.old.frames }
         ensures network { IsNetwork self.new }
         ensures plan { KeepsPlan self.old self.new }
-        ensures receivers { KeepsReceivers self.old.traffic.transfers.items self.new.traffic.transfers.items }
-        ensures world { (h : Histories) → SenderTimesOut (world_of h self.old) unit (world_of h self.new) }
+        ensures receivers { self.new.receivers ≡ self.old.receivers }
+        ensures world { (h : Histories) → SenderTimesOut (world_in h self.old) unit (world_in h self.new) }
     {
-        if let Some(packet) = sessions::time_out(&mut self.traffic.transfers, unit) {
+        if let Some(packet) = sessions::late(&mut self.sessions, unit) {
             self.send_along(unit, &packet);
         }
     }

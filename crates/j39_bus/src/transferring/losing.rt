@@ -2,7 +2,7 @@
 ghost use Rattle.std.specs.Prelude.{◌≡◌, ◌≢◌, OnOk, OnErr, IfErr};
 ghost use Rattle.j39_plan.specs.declared.plan.Plan.{Plan};
 ghost use Rattle.j39_plan.specs.declared.steps.Step.TheVariants.{Lose};
-ghost use Rattle.j39_bus.specs.Network.{IsAllowed, IsNetwork, IsOf, IsSameNetwork, KeepsPlan, LeadsTo};
+ghost use Rattle.j39_bus.specs.inside.Network.{IsAllowed, IsNetwork, IsOfPlan, IsSameNetwork, KeepsPlan, HasStepped};
 
 use crate::network::Network;
 
@@ -13,8 +13,8 @@ impl Network {
         requires allowed { IsAllowed self.old (Lose from to) }
         ensures network { IsNetwork self.new }
         ensures plan { KeepsPlan self.old self.new }
-        ensures leads { (plan : Plan) → IsOf plan self.old → LeadsTo plan self.old (Lose from to) self.new }
+        ensures steps { (plan : Plan) → IsOfPlan plan self.old → HasStepped plan self.old (Lose from to) self.new }
     {
-        drop(self.traffic.wire.pop(from, to));
+        drop(self.wire.pop(from, to));
     }
 }

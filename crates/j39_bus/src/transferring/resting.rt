@@ -2,7 +2,8 @@
 ghost use Rattle.std.specs.Prelude.{◌≡◌, ◌≢◌, ◌<◌, length, OnOk, OnErr, IfErr};
 ghost use Rattle.j39_plan.specs.declared.plan.Plan.{Plan};
 ghost use Rattle.j39_plan.specs.declared.steps.Step.TheVariants.{Rest};
-ghost use Rattle.j39_bus.specs.Network.{Histories, IsAllowed, IsNetwork, IsOf, IsSameNetwork, KeepsPlan, LeadsTo, world_of};
+ghost use Rattle.j39_bus.specs.BusState.{Histories};
+ghost use Rattle.j39_bus.specs.inside.Network.{IsAllowed, IsNetwork, IsOfPlan, IsSameNetwork, KeepsPlan, HasStepped, world_in};
 ghost use Rattle.j39_world.specs.Resting.{can_rest, is_over_with};
 
 use crate::network::Network;
@@ -16,18 +17,18 @@ impl Network {
         requires allowed { IsAllowed self.old (Rest unit) }
         ensures network { IsNetwork self.new }
         ensures plan { KeepsPlan self.old self.new }
-        ensures leads { (plan : Plan) → IsOf plan self.old → LeadsTo plan self.old (Rest unit) self.new }
+        ensures steps { (plan : Plan) → IsOfPlan plan self.old → HasStepped plan self.old (Rest unit) self.new }
     {
-        self.traffic.transfers[unit] = None;
+        self.sessions[unit] = None;
     }
 
     /// Whether the message of the unit has ended, and nothing of it is open or undelivered.
     pub(crate) fn can_rest(&self, unit: usize) -> bool
         requires network { IsNetwork self.now }
         requires unit { unit < length self.now.claimers.items }
-        ensures { (h : Histories) → result ≡ can_rest (length self.now.claimers.items) (world_of h self.now) unit }
+        ensures { (h : Histories) → result ≡ can_rest (length self.now.claimers.items) (world_in h self.now) unit }
     {
-        if sessions::outcome(self.traffic.transfers.as_slice(), unit).is_none() {
+        if sessions::outcome(self.sessions.as_slice(), unit).is_none() {
             return false;
         }
         for other in 0..self.claimers.len() {
@@ -43,14 +44,14 @@ impl Network {
         requires network { IsNetwork self.now }
         requires unit { unit < length self.now.claimers.items }
         requires other { other < length self.now.claimers.items }
-        ensures { (h : Histories) → result ≡ is_over_with (world_of h self.now) unit other }
+        ensures { (h : Histories) → result ≡ is_over_with (world_in h self.now) unit other }
     {
-        if sessions::is_receiving(self.traffic.transfers.as_slice(), unit, other) {
+        if self.receivers.is_open(unit, other) {
             return false;
         }
-        if any_of_sender(self.traffic.wire.between(unit, other)) {
+        if any_of_sender(self.wire.between(unit, other)) {
             return false;
         }
-        !any_of_receiver(self.traffic.wire.between(other, unit))
+        !any_of_receiver(self.wire.between(other, unit))
     }
 }

@@ -1,17 +1,18 @@
 //! A unit takes what is sent to it.
-ghost use Rattle.std.specs.Prelude.{◌≡◌, ◌≢◌, ℕ, ◌+◌, ◌<◌, ◌≤◌, true, [], ◌∷◌, ◌++◌, drop, length, vec_len, vec_capacity, OnOk, OnErr, IfErr};
+ghost use Rattle.std.specs.Prelude.{◌≡◌, ℕ, ◌+◌, ◌<◌, ◌≤◌, true, [], ◌∷◌, ◌++◌, drop, length, vec_len, vec_capacity, OnOk, OnErr, IfOk};
 ghost use Rattle.j39_plan.specs.declared.plan.Plan.{Plan};
 ghost use Rattle.j39_plan.specs.declared.steps.Step.TheVariants.{Take};
-ghost use Rattle.j39_bus.specs.BusState.{receiving_at};
 ghost use Rattle.j39_queues.specs.Queued.{KeepsRoom, pair_in, room_at};
-ghost use Rattle.j39_tp.specs.inside.Gathered.{HoldsCarried};
-ghost use Rattle.j39_tp.specs.Receiver.{message_of};
-ghost use Rattle.j39_bus.specs.Network.{Histories, HasGathered, IsAllowed, IsNetwork, IsOf, IsSameNetwork, KeepsPlan, LeadsTo, has_taken, world_of, TakesTo, transfers_of};
-ghost use Rattle.j39_bus.specs.Traffic.{HasRoomFor, IsData, is_complete, packet_heard};
-ghost use Rattle.j39_world.specs.TransferSteps.{TakenFrom, hearing, packets_in, reaction_of, receiver_replies, report, sender_replies};
+ghost use Rattle.j39_tp.specs.Carried.{Carried};
+ghost use Rattle.j39_bus.specs.BusState.{Histories};
+ghost use Rattle.j39_bus.specs.inside.Network.{HasHeld, HasStepped, IsAllowed, IsNetwork, IsOfPlan, IsSameNetwork, KeepsPlan, TakesOldest, has_taken, world_in};
+ghost use Rattle.j39_bus.specs.inside.Receivers.{HasRoomFor, is_complete};
+ghost use Rattle.j39_bus.specs.inside.Traffic.{packet_heard};
+ghost use Rattle.j39_world.specs.TransferSteps.{hearing, packets_in, reaction_of, receiver_replies, report, sender_replies};
 
 use crate::network::Network;
 use crate::pushing::post;
+use crate::receivers::is_complete;
 use crate::report::Report;
 use crate::sessions;
 use crate::wire::oldest;
@@ -24,13 +25,6 @@ const MESSAGE_LENGTH: usize = 1785;
 
 /// How many packets a unit answers at most: its receiver one, and its sender one.
 const ANSWERS: usize = 2;
-
-/// Whether a message is complete.
-fn is_complete(heard: &Heard) -> bool
-    ensures { result ≡ is_complete heard.now }
-{
-    matches!(heard, Heard::Complete | Heard::CompleteReply(_))
-}
 
 /// What a receiver answers.
 fn reply_of(heard: &Heard) -> Option<Packet>
@@ -60,10 +54,10 @@ impl Network {
         requires allowed { IsAllowed self.old (Take from to) }
         ensures network { IsNetwork self.new }
         ensures plan { KeepsPlan self.old self.new }
-        ensures leads { OnOk result ((plan : Plan) → IsOf plan self.old → LeadsTo plan self.old (Take from to) self.new) }
+        ensures steps { OnOk result ((plan : Plan) → IsOfPlan plan self.old → HasStepped plan self.old (Take from to) self.new) }
         ensures same { OnErr result (IsSameNetwork self.old self.new) }
     {
-        let Some(oldest) = oldest(&self.traffic.wire, from, to) else {
+        let Some(oldest) = oldest(&self.wire, from, to) else {
             unreachable!()
         };
         let item = oldest.copy();
@@ -74,10 +68,10 @@ impl Network {
         requires network { IsNetwork self.old }
         requires from { from < length self.old.claimers.items }
         requires to { to < length self.old.claimers.items }
-        requires oldest { pair_in self.old.traffic.wire.lists from to ≡ item.now ∷ drop 1 (pair_in self.old.traffic.wire.lists from to) }
+        requires oldest { pair_in self.old.wire.lists from to ≡ item.now ∷ drop 1 (pair_in self.old.wire.lists from to) }
         ensures network { IsNetwork self.new }
         ensures plan { KeepsPlan self.old self.new }
-        ensures leads { OnOk result (TakesTo self.old from to self.new) }
+        ensures takes { OnOk result (TakesOldest self.old from to self.new) }
         ensures same { OnErr result (IsSameNetwork self.old self.new) }
     {
         match item {
@@ -90,16 +84,15 @@ impl Network {
         requires network { IsNetwork self.old }
         requires from { from < length self.old.claimers.items }
         requires to { to < length self.old.claimers.items }
-        requires oldest { pair_in self.old.traffic.wire.lists from to ≡ Wired.Short bytes.now ∷ drop 1 (pair_in self.old.traffic.wire.lists from to) }
+        requires oldest { pair_in self.old.wire.lists from to ≡ Wired.Short bytes.now ∷ drop 1 (pair_in self.old.wire.lists from to) }
         ensures network { IsNetwork self.new }
         ensures plan { KeepsPlan self.old self.new }
-        ensures world { OnOk result ((h : Histories) → TakenFrom self.old.traffic.windows.items (world_of h self.old) from to (pair_in self.old.traffic.wire.lists from to) (world_of h self.new)) }
-        ensures transfers { self.new.traffic.transfers ≡ self.old.traffic.transfers }
+        ensures takes { OnOk result (TakesOldest self.old from to self.new) }
         ensures same { OnErr result (IsSameNetwork self.old self.new) }
     {
         let copy = Vec::from_slice(*self.frames.allocator(), bytes)?;
-        self.traffic.reports.reserve(1)?;
-        drop(self.traffic.wire.pop(from, to));
+        self.reports.reserve(1)?;
+        drop(self.wire.pop(from, to));
         self.report(from, to, copy);
         Ok(())
     }
@@ -108,11 +101,10 @@ impl Network {
         requires network { IsNetwork self.old }
         requires from { from < length self.old.claimers.items }
         requires to { to < length self.old.claimers.items }
-        requires oldest { pair_in self.old.traffic.wire.lists from to ≡ Wired.Packet packet.now ∷ drop 1 (pair_in self.old.traffic.wire.lists from to) }
+        requires oldest { pair_in self.old.wire.lists from to ≡ Wired.Packet packet.now ∷ drop 1 (pair_in self.old.wire.lists from to) }
         ensures network { IsNetwork self.new }
         ensures plan { KeepsPlan self.old self.new }
-        ensures world { OnOk result ((h : Histories) → HasGathered h self.old → TakenFrom self.old.traffic.windows.items (world_of h self.old) from to (pair_in self.old.traffic.wire.lists from to) (world_of (has_taken h to from packet.now) self.new)) }
-        ensures gathered { OnOk result ((h : Histories) → HasGathered h self.old → HasGathered (has_taken h to from packet.now) self.new) }
+        ensures takes { OnOk result (TakesOldest self.old from to self.new) }
         ensures same { OnErr result (IsSameNetwork self.old self.new) }
     {
         let room = match packet {
@@ -120,99 +112,87 @@ impl Network {
             _ => 0,
         };
         let bytes = Vec::with_capacity(*self.frames.allocator(), room)?;
-        self.traffic.reports.reserve(1)?;
+        self.reports.reserve(1)?;
         self.reserve_replies(to, from, ANSWERS)?;
-        self.hear_packet(from, to, packet, bytes);
-        Ok(())
+        self.hear_packet(from, to, packet, bytes)
     }
 
-    fn hear_packet(&mut self, from: usize, to: usize, packet: &Packet, bytes: Vec<u8>)
+    fn hear_packet(
+        &mut self,
+        from: usize,
+        to: usize,
+        packet: &Packet,
+        mut bytes: Vec<u8>,
+    ) -> Result<(), AllocError>
         requires network { IsNetwork self.old }
         requires from { from < length self.old.claimers.items }
         requires to { to < length self.old.claimers.items }
-        requires oldest { pair_in self.old.traffic.wire.lists from to ≡ Wired.Packet packet.now ∷ drop 1 (pair_in self.old.traffic.wire.lists from to) }
+        requires oldest { pair_in self.old.wire.lists from to ≡ Wired.Packet packet.now ∷ drop 1 (pair_in self.old.wire.lists from to) }
         requires none { bytes.items ≡ [] }
         requires room { HasRoomFor packet.now bytes }
-        requires reports { vec_len self.old.traffic.reports < vec_capacity self.old.traffic.reports }
-        requires wire { 2 ≤ room_at self.old.traffic.wire to from }
+        requires reports { vec_len self.old.reports < vec_capacity self.old.reports }
+        requires wire { 2 ≤ room_at self.old.wire to from }
         requires frames { vec_len self.old.frames + 2 ≤ vec_capacity self.old.frames }
         ensures network { IsNetwork self.new }
         ensures plan { KeepsPlan self.old self.new }
-        ensures world { (h : Histories) → HasGathered h self.old → TakenFrom self.old.traffic.windows.items (world_of h self.old) from to (pair_in self.old.traffic.wire.lists from to) (world_of (has_taken h to from packet.now) self.new) }
-        ensures gathered { (h : Histories) → HasGathered h self.old → HasGathered (has_taken h to from packet.now) self.new }
+        ensures takes { OnOk result (TakesOldest self.old from to self.new) }
+        ensures same { OnErr result (IsSameNetwork self.old self.new) }
     {
-        let (heard, reaction) = self.listen(from, to, packet);
+        let (heard, reaction) = self.listen(from, to, packet, &mut bytes)?;
         if is_complete(&heard) {
-            self.report_message(from, to, bytes);
+            self.report(from, to, bytes);
         }
         self.reply(to, from, reply_of(&heard));
         self.reply(to, from, answer_of(&reaction));
+        Ok(())
     }
 
-    /// The receiver of the second unit for the first, and its sender, hear the packet that is the oldest on the wire.
-    fn listen(&mut self, from: usize, to: usize, packet: &Packet) -> (Heard, Reaction)
+    /// The receiver of the second unit for the first, and its sender, hear the packet that is the oldest on the wire. The message
+    /// that it completes joins the bytes.
+    fn listen(
+        &mut self,
+        from: usize,
+        to: usize,
+        packet: &Packet,
+        bytes: &mut Vec<u8>,
+    ) -> Result<(Heard, Reaction), AllocError>
         requires network { IsNetwork self.old }
         requires from { from < length self.old.claimers.items }
         requires to { to < length self.old.claimers.items }
-        requires oldest { pair_in self.old.traffic.wire.lists from to ≡ Wired.Packet packet.now ∷ drop 1 (pair_in self.old.traffic.wire.lists from to) }
+        requires none { bytes.old.items ≡ [] }
+        requires room { HasRoomFor packet.now bytes.old }
         ensures network { IsNetwork self.new }
         ensures plan { KeepsPlan self.old self.new }
-        ensures reports { self.new.traffic.reports ≡ self.old.traffic.reports }
+        ensures reports { self.new.reports ≡ self.old.reports }
         ensures frames { self.new.frames ≡ self.old.frames }
-        ensures room { KeepsRoom self.old.traffic.wire self.new.traffic.wire }
-        ensures heard { (h : Histories) → result.0 ≡ (hearing self.old.traffic.windows.items (world_of h self.old) from to packet.now).1 }
-        ensures reaction { (h : Histories) → result.1 ≡ reaction_of ((world_of h self.old).sessions to) from packet.now }
-        ensures world { (h : Histories) → world_of (has_taken h to from packet.now) self.new ≡ packet_heard self.old.traffic.windows.items (world_of h self.old) from to packet.now }
-        ensures gathered { (h : Histories) → HasGathered h self.old → HasGathered (has_taken h to from packet.now) self.new }
-        ensures complete { (h : Histories) → HasGathered h self.old → is_complete result.0 ≡ true → HoldsCarried (h.taken to from ++ packet.now ∷ []) (length (h.taken to from)) (receiving_at (transfers_of self.new) to from) }
-        ensures data { is_complete result.0 ≡ true → IsData packet.now }
+        ensures room { KeepsRoom self.old.wire self.new.wire }
+        ensures heard { IfOk result (λ r. (h : Histories) → r.0 ≡ (hearing self.old.receivers.windows (world_in h self.old) from to packet.now).1) }
+        ensures reaction { IfOk result (λ r. (h : Histories) → r.1 ≡ reaction_of ((world_in h self.old).sessions to) from packet.now) }
+        ensures world { OnOk result ((h : Histories) → world_in (has_taken h to from packet.now) self.new ≡ packet_heard self.old.receivers.windows (world_in h self.old) from to packet.now) }
+        ensures held { OnOk result ((h : Histories) → HasHeld h self.old → HasHeld (has_taken h to from packet.now) self.new) }
+        ensures complete { IfOk result (λ r. (h : Histories) → HasHeld h self.old → is_complete r.0 ≡ true → (pgn : ℕ) × Carried (h.taken to from ++ packet.now ∷ []) (length (h.taken to from)) pgn bytes.new.items) }
+        ensures same { OnErr result (IsSameNetwork self.old self.new) }
     {
         receivers_gather_what_they_hear();
         known_ranges(packet);
-        drop(self.traffic.wire.pop(from, to));
-        let heard = sessions::receiver_hears(&mut self.traffic.transfers, from, to, packet);
-        let reaction = sessions::sender_hears(&mut self.traffic.transfers, to, from, packet);
-        (heard, reaction)
-    }
-
-    /// The second unit reports the message of the first that its receiver has completed.
-    fn report_message(&mut self, from: usize, to: usize, mut bytes: Vec<u8>)
-        requires network { IsNetwork self.old }
-        requires from { from < length self.old.claimers.items }
-        requires to { to < length self.old.claimers.items }
-        requires none { bytes.items ≡ [] }
-        requires room { 1785 ≤ vec_capacity bytes }
-        requires reports { vec_len self.old.traffic.reports < vec_capacity self.old.traffic.reports }
-        ensures network { IsNetwork self.new }
-        ensures plan { KeepsPlan self.old self.new }
-        ensures frames { self.new.frames ≡ self.old.frames }
-        ensures transfers { self.new.traffic.transfers ≡ self.old.traffic.transfers }
-        ensures wire { self.new.traffic.wire ≡ self.old.traffic.wire }
-        ensures world { (h : Histories) → let r = receiving_at (transfers_of self.old) to from in world_of h self.new ≡ record (world_of h self.old) { reports = (world_of h self.old).reports ++ report (world_of h self.old) from to (message_of r.progress r.bytes) ∷ [] } }
-    {
-        let message = sessions::completed(self.traffic.transfers.as_slice(), from, to);
-        let _ = bytes.extend_from_slice(message);
-        self.report(from, to, bytes);
+        let alloc = *self.frames.allocator();
+        let heard = self.receivers.hear(alloc, from, to, packet, bytes)?;
+        drop(self.wire.pop(from, to));
+        let reaction = sessions::hear(&mut self.sessions, to, from, packet);
+        Ok((heard, reaction))
     }
 
     /// The second unit reports a message of the first.
     fn report(&mut self, from: usize, to: usize, bytes: Vec<u8>)
         requires network { IsNetwork self.old }
         requires from { from < length self.old.claimers.items }
-        requires room { vec_len self.old.traffic.reports < vec_capacity self.old.traffic.reports }
-        ensures network { IsNetwork self.new }
-        ensures claimers { self.new.claimers ≡ self.old.claimers }
-        ensures claims { self.new.claims ≡ self.old.claims }
-        ensures frames { self.new.frames ≡ self.old.frames }
-        ensures routes { self.new.traffic.routes ≡ self.old.traffic.routes }
-        ensures windows { self.new.traffic.windows ≡ self.old.traffic.windows }
-        ensures transfers { self.new.traffic.transfers ≡ self.old.traffic.transfers }
-        ensures wire { self.new.traffic.wire ≡ self.old.traffic.wire }
-        ensures world { (h : Histories) → world_of h self.new ≡ record (world_of h self.old) { reports = (world_of h self.old).reports ++ report (world_of h self.old) from to bytes.items ∷ [] } }
+        requires room { vec_len self.old.reports < vec_capacity self.old.reports }
+        ensures rest { self.new ≡ record self.old { reports = self.new.reports } }
+        ensures world { (h : Histories) → world_in h self.new ≡ record (world_in h self.old) { reports = (world_in h self.old).reports ++ report (world_in h self.old) from to bytes.items ∷ [] } }
     {
-        let flow = sessions::flow_of(self.traffic.transfers.as_slice(), from);
+        let flow = sessions::flow_of(self.sessions.as_slice(), from);
         post(
-            &mut self.traffic.reports,
+            &mut self.reports,
             Report {
                 receiver: to,
                 sender: from,

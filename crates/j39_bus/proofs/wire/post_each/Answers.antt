@@ -1,44 +1,42 @@
-use Rattle.std.proofs.Common.{◌≡◌, ◌+◌, ◌<◌, ◌∷◌, [], ◌++◌, ap, length, subst, sym, ◌∙◌, arith}
-use Rattle.j39_world.specs.declared.wired.Wired.{Wired}
+use Rattle.std.proofs.Common.{◌≡◌, ◌<◌, ◌≤◌, ◌∷◌, ◌+◌, [], ◌++◌, length, drop, get_or, ap, sym, ◌∙◌, subst, List, ℕ, suc, arith}
+use Rattle.std.proofs.Math.Seq.{drop-cons}
+use Rattle.std.proofs.lemmas.List.{drop_all}
 use Rattle.j39_queues.specs.Queued.{IsTable, Queued, changed_in, pair_in}
-use Rattle.j39_bus.specs.Traffic.{is_receiver}
-use Rattle.j39_bus.proofs.Postings.{IsPosted, IsRoomLeft, no_receiver, posted_all, posted_more, posted_none, posted_past, receiver_read, room_more, room_none, room_past}
+use Rattle.j39_bus.specs.inside.Traffic.{AreUnits, HasRoomTo}
+use Rattle.j39_world.specs.Transfers.{added}
+use Rattle.j39_bus.proofs.Wires.{added_first, added_none, as_table, room_for_rest, unit_inside, units_dropped}
 use Rattle.j39_bus.proofs.wire.post_each.Goals as goal
-use Rattle.j39_bus.proofs.wire.post_each.Goals.{then-is_some, else-is_some}
 
-pub loop-to-init : goal.loop-to-init
-loop-to-init c = record {
-  table = c.requires.table;
-  posted = posted_none (is_receiver c.args.receivers.now) c.args.from c.args.item.now (pair_in c.args.wire.now.lists);
-  room = room_none c.args.from c.args.wire.now;
-}
+pub post-requires-clause-to : goal.post-requires-clause-to
+post-requires-clause-to c =
+    let inside : c.loop-target.target-index < length c.args.targets.now = omega arith in
+    let below = unit_inside (length c.args.wire.now.lists) c.args.targets.now c.loop-target.target-index c.requires.targets inside in
+    omega (arith, below, c.loop-target.invariant.table.rows)
 
-pub loop-to-preserved : goal.loop-to-preserved
-loop-to-preserved c =
-    let k = c.loop-to.to in
+pub loop-target-preserved : goal.loop-target-preserved
+loop-target-preserved c =
+    let k = c.loop-target.target-index in
+    let vs = c.args.targets.now in
+    let v = get_or vs k 0 in
+    let rest = drop (k + 1) vs in
     let u = c.args.from in
-    let was = c.args.wire.now in
-    let now = c.loop-to.wire in
     let x = c.args.item.now in
-    let test = is_receiver c.args.receivers.now in
-    let below : k < length c.args.receivers.now = omega arith in
-    let read = receiver_read c.args.receivers.now k c.index-receivers-to.result below c.index-receivers-to.is ∙ sym c.is_some.ensures in
-    elim c.if-is_some.branch [
-      | then-is_some w ↦
-          let lists = w.post.ensures.lists ∙ ap (λ y. changed_in (pair_in now.lists) u k (pair_in now.lists u k ++ y ∷ [])) w.copy.ensures in
-          subst (λ (q : Queued Wired). record { table : IsTable (length was.lists) q.lists; posted : IsPosted test u x (pair_in was.lists) (k + 1) (pair_in q.lists); room : IsRoomLeft u (k + 1) was q }) (sym w.wire-is) (record {
-            table = subst (λ n. IsTable n w.post.new.self.lists) c.loop-to.invariant.table.rows w.post.ensures.table;
-            posted = posted_more test u x (pair_in was.lists) k (pair_in now.lists) (pair_in w.post.new.self.lists) c.loop-to.invariant.posted (read ∙ w.if-is_some.true) lists;
-            room = room_more u k was now c.loop-to.invariant.room w.post.new.self w.post.ensures.room;
-          })
-      | else-is_some w ↦ subst (λ (q : Queued Wired). record { table : IsTable (length was.lists) q.lists; posted : IsPosted test u x (pair_in was.lists) (k + 1) (pair_in q.lists); room : IsRoomLeft u (k + 1) was q }) (sym w.wire-is) (record {
-        table = c.loop-to.invariant.table;
-        posted = posted_past test u x (pair_in was.lists) k (pair_in now.lists) c.loop-to.invariant.posted (read ∙ w.if-is_some.false);
-        room = room_past u k was now c.loop-to.invariant.room;
-      })
-    ]
+    let now = c.loop-target.wire in
+    let inside : k < length vs = omega arith in
+    let next : suc k ≡ k + 1 = omega arith in
+    let at : drop k vs ≡ v ∷ rest = drop-cons vs k 0 inside ∙ ap (λ (j : ℕ). v ∷ drop j vs) next in
+    let units : AreUnits (length c.args.wire.now.lists) (v ∷ rest) = subst (AreUnits (length c.args.wire.now.lists)) at (units_dropped _ vs k c.requires.targets) in
+    let posted = c.post.ensures.lists ∙ ap (λ y. changed_in (pair_in now.lists) u v (pair_in now.lists u v ++ y ∷ [])) c.copy.ensures in
+    record {
+      table = as_table (length c.args.wire.now.lists) now.lists c.post.new.self.lists c.loop-target.invariant.table c.post.ensures.table;
+      lists = ap (λ f. added f u rest x) posted ∙ added_first (pair_in now.lists) u x v rest units.1
+          ∙ ap (λ (l : List ℕ). added (pair_in now.lists) u l x) (sym at) ∙ c.loop-target.invariant.lists;
+      room = room_for_rest u v rest now c.post.new.self c.post.ensures.room units.1 (subst (HasRoomTo now u) at c.loop-target.invariant.room);
+    }
 
 pub returns-clause-lists : goal.returns-clause-lists
 returns-clause-lists c =
-    posted_all (is_receiver c.args.receivers.now) c.args.from c.args.item.now (pair_in c.args.wire.now.lists) (length c.args.receivers.now) c.loop-to.to (pair_in c.loop-to.wire.lists) (omega arith)
-    (λ t past. no_receiver c.args.receivers.now t past) c.loop-to.invariant.posted
+    let vs = c.args.targets.now in
+    let none : drop c.loop-target.target-index vs ≡ [] = drop_all c.loop-target.target-index vs (omega arith) in
+    added_none (pair_in c.loop-target.wire.lists) c.args.from c.args.item.now
+    ∙ ap (λ (l : List ℕ). added (pair_in c.loop-target.wire.lists) c.args.from l c.args.item.now) (sym none) ∙ c.loop-target.invariant.lists

@@ -1,12 +1,12 @@
-use Rattle.std.proofs.Common.{length}
+use Rattle.std.proofs.Common.{◌≡◌, length, drop}
 use Rattle.j39_queues.specs.Queued.{IsTable, pair_in}
-use Rattle.j39_bus.specs.Traffic.{is_receiver}
-use Rattle.j39_bus.proofs.Postings.{IsPosted, IsRoomLeft}
+use Rattle.j39_bus.specs.inside.Traffic.{HasRoomTo}
+use Rattle.j39_world.specs.Transfers.{added}
 use Rattle.j39_bus.proofs.wire.post_each.Given as goal
 
-abbrev pub invariant-loop-to : goal.invariant-loop-to
-invariant-loop-to l = record {
+abbrev pub invariant-loop-target : goal.invariant-loop-target
+invariant-loop-target l = record {
   table : IsTable (length l.fn.wire.lists) l.wire.lists;
-  posted : IsPosted (is_receiver l.receivers) l.from l.item (pair_in l.fn.wire.lists) l.to (pair_in l.wire.lists);
-  room : IsRoomLeft l.from l.to l.fn.wire l.wire;
+  lists : added (pair_in l.wire.lists) l.from (drop l.target-index l.targets) l.item ≡ added (pair_in l.fn.wire.lists) l.from l.targets l.item;
+  room : HasRoomTo l.wire l.from (drop l.target-index l.targets);
 }

@@ -1,10 +1,9 @@
-use Rattle.std.proofs.Common.{◌≡◌, ◌<◌, ℕ, true}
+use Rattle.std.proofs.Common.{◌≡◌, ◌<◌, ℕ, get_or}
 use Rattle.j39_queues.specs.Queued.{room_at}
-use Rattle.j39_bus.specs.Traffic.{is_receiver}
 use Rattle.j39_bus.proofs.wire.reserve_each.Given as goal
 
-abbrev pub invariant-loop-to : goal.invariant-loop-to
-invariant-loop-to l = record {
+abbrev pub invariant-loop-target : goal.invariant-loop-target
+invariant-loop-target l = record {
   lists : l.wire.lists ≡ l.fn.wire.lists;
-  room : (v : ℕ) → v < l.to → is_receiver l.receivers v ≡ true → 0 < room_at l.wire l.from v;
+  room : (j : ℕ) → j < l.target-index → 0 < room_at l.wire l.from (get_or l.targets j 0);
 }

@@ -1,10 +1,10 @@
 use Rattle.std.proofs.Common.{◌<◌, length, ap, ◌∙◌, arith}
 use Rattle.j39_plan.specs.declared.steps.Step.TheVariants.{Ask}
 use Rattle.j39_world.specs.ClaimSteps.{asked}
-use Rattle.j39_bus.specs.Network.{world_of}
+use Rattle.j39_bus.specs.inside.Network.{world_in}
 use Rattle.j39_bus.proofs.Refused.{nowhere, unit_inside}
-use Rattle.j39_bus.proofs.Standing.{plan_kept}
-use Rattle.j39_bus.proofs.Steady.{leads_same, leads_after, plan_same}
+use Rattle.j39_bus.specs.declared.network.Network.{Network}
+use Rattle.j39_bus.proofs.Steady.{plan_kept, plan_same, steps_after, steps_same}
 use Rattle.j39_bus.proofs.network.Network.ask.Goals as goal
 
 pub reserve-requires-clause-from : goal.reserve-requires-clause-from
@@ -15,10 +15,10 @@ request-requires-clause-place c =
     let inside : c.args.unit < length c.args.self.now.claimers.items = unit_inside _ _ _ (c.requires.allowed nowhere) in
     omega (arith, inside, ap length c.reserve.ensures.same.claimers)
 
-pub returns-clause-leads : goal.returns-clause-leads
-returns-clause-leads c = λ plan of.
+pub returns-clause-steps : goal.returns-clause-steps
+returns-clause-steps c = λ plan of.
     let net = c.args.self.now in
     let mid = c.reserve.new.self in
     let of_mid = plan_kept net mid plan (plan_same net mid c.reserve.ensures.same) of in
-    leads_after net mid c.reserve.ensures.same plan (Ask c.args.unit) c.request.new.self
-    (leads_same plan mid (Ask c.args.unit) c.request.new.self (λ h. c.request.ensures.world h ∙ ap (λ us. asked us (world_of h mid) c.args.unit) of_mid.units) (ap (λ t. t.transfers.items) c.request.ensures.traffic))
+    steps_after net mid c.reserve.ensures.same plan (Ask c.args.unit) c.request.new.self
+    (steps_same plan mid (Ask c.args.unit) c.request.new.self (λ h. c.request.ensures.world h ∙ ap (λ us. asked us (world_in h mid) c.args.unit) of_mid.units) (ap (λ (m : Network). m.receivers) c.request.ensures.rest))

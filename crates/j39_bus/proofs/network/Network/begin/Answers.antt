@@ -1,23 +1,24 @@
-use Rattle.std.proofs.Common.{◌≡◌, ◌<◌, None, get_or, length, map, sym, ap, ◌∙◌, subst, arith}
+use Rattle.std.proofs.Common.{◌≡◌, ◌<◌, length, map, sym, ap, ◌∙◌, subst, arith}
 use Rattle.std.proofs.lemmas.List.{length-map}
 use Rattle.j39_plan.specs.declared.steps.Step.TheVariants.{Begin}
-use Rattle.j39_bus.specs.BusState.{places_from}
-use Rattle.j39_bus.specs.Network.{Histories, has_begun, world_of}
+use Rattle.j39_bus.specs.BusState.{Histories}
+use Rattle.j39_bus.specs.Stands.{HoldTaken}
+use Rattle.j39_bus.specs.inside.Network.{has_begun, world_in}
 use Rattle.j39_world.specs.Run.{count_of}
-use Rattle.j39_bus.specs.Traffic.{IsRoute, route_of}
+use Rattle.j39_bus.specs.inside.Traffic.{IsRoute, route_of}
 use Rattle.j39_world.specs.TransferSteps.{BeginsAt, begins}
-use Rattle.j39_bus.proofs.BeginRefused.{flow_inside, is_idle, is_in_length, planned_flow, route_fits}
+use Rattle.j39_bus.proofs.BeginRefused.{flow_inside, is_in_length, planned_flow, route_fits}
 use Rattle.j39_bus.proofs.Refused.{nowhere}
 use Rattle.j39_bus.proofs.Rested.{units_count}
-use Rattle.j39_bus.proofs.Steady.{leads_after}
+use Rattle.j39_bus.proofs.Steady.{steps_after}
 use Rattle.j39_bus.proofs.network.Network.begin.Goals as goal
 
 pub index-requires : goal.index-requires
 index-requires c =
     let net = c.args.self.now in
-    let inside : c.args.flow < length (map route_of net.traffic.routes.items) =
-    flow_inside (length net.claimers.items) (world_of nowhere net) (map route_of net.traffic.routes.items) c.args.flow c.args.bytes.now.items (c.requires.allowed nowhere) in
-    omega (arith, inside, length-map net.traffic.routes.items route_of)
+    let inside : c.args.flow < length (map route_of net.routes.items) =
+    flow_inside (length net.claimers.items) (world_in nowhere net) (map route_of net.routes.items) c.args.flow c.args.bytes.now.items (c.requires.allowed nowhere) in
+    omega (arith, inside, length-map net.routes.items route_of)
 
 pub prepare-requires-clause-route : goal.prepare-requires-clause-route
 prepare-requires-clause-route c = route_fits c.args.self.now c.requires.network c.args.flow c.args.bytes.now.items c.requires.allowed c.index.result.now c.index.ensures
@@ -27,27 +28,26 @@ start-requires-clause-route c =
     let fits = route_fits c.args.self.now c.requires.network c.args.flow c.args.bytes.now.items c.requires.allowed c.index.result.now c.index.ensures in
     subst (λ cs. IsRoute (length cs) c.index.result.now) (sym c.prepare.ensures.same.claimers) fits
 
-pub start-requires-clause-idle : goal.start-requires-clause-idle
-start-requires-clause-idle c =
-    let idle = is_idle c.args.self.now c.requires.network c.args.flow c.args.bytes.now.items c.requires.allowed c.index.result.now c.index.ensures in
-    ap (λ ts. get_or ts c.index.result.now.sender None) c.prepare.ensures.same.transfers ∙ idle
-
 pub start-requires-clause-bytes : goal.start-requires-clause-bytes
 start-requires-clause-bytes c =
     let fits = is_in_length c.args.self.now c.requires.network c.args.flow c.args.bytes.now.items c.requires.allowed c.index.result.now c.index.ensures in
     omega (arith, fits, ap length c.as_slice.ensures.value)
 
-pub returns-clause-leads : goal.returns-clause-leads
-returns-clause-leads c = λ plan of.
+pub returns-clause-steps : goal.returns-clause-steps
+returns-clause-steps c = λ plan of.
     let net = c.args.self.now in
     let r = c.index.result.now in
     let mid = c.prepare.new.self in
     let bytes = c.args.bytes.now in
     let planned = planned_flow net c.requires.network c.args.flow bytes.items c.requires.allowed r c.index.ensures plan of in
-    leads_after net mid c.prepare.ensures.same plan (Begin c.args.flow bytes) c.start.new.self
-    (λ h gathered.
-    let after : Histories = has_begun h c.args.flow (route_of r) (places_from 0 c.in_ok-receivers.receivers.items) c.as_slice.result.now in
-    let begun : world_of after c.start.new.self ≡ begins (count_of plan) (world_of h mid) c.args.flow (route_of r) bytes.items =
+    steps_after net mid c.prepare.ensures.same plan (Begin c.args.flow bytes) c.start.new.self
+    (λ h held.
+    let after : Histories = has_begun h c.args.flow (route_of r) c.in_ok-targets.targets.items c.as_slice.result.now in
+    let begun : world_in after c.start.new.self ≡ begins (count_of plan) (world_in h mid) c.args.flow (route_of r) bytes.items =
     c.start.ensures.world h
-    ∙ (λ i. begins ((ap length c.prepare.ensures.same.claimers ∙ sym (units_count plan net of)) i) (world_of h mid) c.args.flow (route_of r) (c.as_slice.ensures.value i)) in
-    (after, subst (λ o. BeginsAt (count_of plan) (world_of h mid) c.args.flow o bytes.items (world_of after c.start.new.self)) (sym planned) begun, c.start.ensures.gathered h.taken gathered))
+    ∙ (λ i. begins ((ap length c.prepare.ensures.same.claimers ∙ sym (units_count plan net of)) i) (world_in h mid) c.args.flow (route_of r) (c.as_slice.ensures.value i)) in
+    (
+      after,
+      subst (λ o. BeginsAt (count_of plan) (world_in h mid) c.args.flow o bytes.items (world_in after c.start.new.self)) (sym planned) begun,
+      subst (HoldTaken h.taken) (sym c.start.ensures.receivers) held,
+    ))

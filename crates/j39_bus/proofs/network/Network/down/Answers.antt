@@ -1,15 +1,15 @@
-use Rattle.std.proofs.Common.{◌<◌, List, length, map, refl, ap, arith}
+use Rattle.std.proofs.Common.{◌<◌, List, length, map, refl, ap, sym, subst, arith}
 use Rattle.std.proofs.Math.ListN.{length-set}
 use Rattle.std.specs.Vec.{with_item}
 use Rattle.j39_claim.specs.ClaimerValue.{ClaimerValue}
 use Rattle.j39_plan.specs.declared.steps.Step.TheVariants.{Down}
 use Rattle.j39_bus.specs.declared.network.Network.{Network}
 use Rattle.j39_queues.specs.Queued.{pair_in}
-use Rattle.j39_bus.specs.Network.{world_of}
+use Rattle.j39_bus.specs.inside.Network.{world_in}
+use Rattle.j39_bus.specs.inside.Traffic.{IsTraffic}
 use Rattle.j39_world.specs.Sent.{sent_of}
 use Rattle.j39_bus.proofs.Refused.{nowhere, unit_inside}
-use Rattle.j39_bus.proofs.Sendings.{switched_traffic}
-use Rattle.j39_bus.proofs.Steady.{leads_same}
+use Rattle.j39_bus.proofs.Steady.{steps_same, wired_traffic}
 use Rattle.j39_bus.proofs.SwitchedOn.{claimants_off, off_claimant, switched_off_world}
 use Rattle.j39_bus.proofs.WellFormed.{well_on}
 use Rattle.j39_bus.proofs.network.Network.down.Goals as goal
@@ -36,14 +36,14 @@ returns-clause-network c =
     let new : Network = record c.args.self.now {
       claimers = with_item c.args.self.now.claimers c.args.unit c.stop.new.self;
       claims = c.clear_to.new.self;
-      traffic = record c.args.self.now.traffic { wire = c.clear_to-2.new.self };
+      wire = c.clear_to-2.new.self;
     } in
     let same = off_claimant cs c.args.unit inside c.index_mut.result.now c.stop.new.self c.index_mut.ensures.value c.stop.ensures in
     record {
       claims = well_on cs c.args.self.now.claims.lists c.requires.network.claims c.args.unit inside c.stop.new.self same (ap (λ (k : ClaimerValue). k.state.notes) c.stop.ensures)
           c.clear_to.new.self.lists c.clear_to.ensures.table;
-      traffic = switched_traffic c.args.self.now new (length-set cs c.args.unit c.stop.new.self) c.clear_to-2.new.self refl
-          c.requires.network.traffic c.args.unit c.clear_to-2.ensures.table c.clear_to-2.ensures.lists;
+      traffic = subst (λ n. IsTraffic n new.routes.items new.sessions.items new.wire.lists new.receivers) (sym (length-set cs c.args.unit c.stop.new.self))
+          (wired_traffic _ _ _ _ _ _ c.requires.network.traffic c.clear_to-2.ensures.table);
     }
 
 pub returns-clause-plan : goal.returns-clause-plan
@@ -55,16 +55,16 @@ returns-clause-plan c =
       windows = refl;
     }
 
-pub returns-clause-leads : goal.returns-clause-leads
-returns-clause-leads c = λ plan of.
+pub returns-clause-steps : goal.returns-clause-steps
+returns-clause-steps c = λ plan of.
     let net = c.args.self.now in
     let inside : c.args.unit < length net.claimers.items = unit_inside _ _ _ (c.requires.allowed nowhere) in
     let new : Network = record c.args.self.now {
       claimers = with_item c.args.self.now.claimers c.args.unit c.stop.new.self;
       claims = c.clear_to.new.self;
-      traffic = record c.args.self.now.traffic { wire = c.clear_to-2.new.self };
+      wire = c.clear_to-2.new.self;
     } in
-    leads_same plan net (Down c.args.unit) new
+    steps_same plan net (Down c.args.unit) new
     (λ h. switched_off_world net.claimers.items c.args.unit inside c.index_mut.result.now c.stop.new.self c.index_mut.ensures.value c.stop.ensures
-    (world_of h net) (pair_in net.claims.lists) (pair_in c.clear_to.new.self.lists) (map sent_of net.frames.items) c.clear_to.ensures.lists
+    (world_in h net) (pair_in net.claims.lists) (pair_in c.clear_to.new.self.lists) (map sent_of net.frames.items) c.clear_to.ensures.lists
     (pair_in c.clear_to-2.new.self.lists) c.clear_to-2.ensures.lists) refl

@@ -4,10 +4,10 @@ use Rattle.j39_world.specs.ClaimSteps.{GivenFrom}
 use Rattle.std.proofs.lemmas.Bool.{ltb-true}
 use Rattle.j39_claim.specs.declared.item.Item.{Item}
 use Rattle.j39_queues.specs.Queued.{pair_in}
-use Rattle.j39_bus.specs.Network.{world_of}
+use Rattle.j39_bus.specs.inside.Network.{world_in}
 use Rattle.j39_bus.proofs.Refused.{all_met, nowhere, pair_inside}
-use Rattle.j39_bus.proofs.Standing.{plan_kept}
-use Rattle.j39_bus.proofs.Steady.{leads_same, leads_after, plan_same}
+use Rattle.j39_bus.specs.declared.network.Network.{Network}
+use Rattle.j39_bus.proofs.Steady.{plan_kept, plan_same, steps_after, steps_same}
 use Rattle.j39_bus.proofs.network.Network.give.Goals as goal
 
 pub reserve-requires-clause-from : goal.reserve-requires-clause-from
@@ -28,12 +28,12 @@ deliver-requires-clause-some g c =
     let some = (all_met _ _ _ _ _ _ (c.requires.allowed nowhere)).2 in
     subst (λ (lists : List (List (List Item))). 0 < length (pair_in lists c.args.from c.args.to)) (sym c.reserve.ensures.same.claims) (ltb-true 0 _ some)
 
-pub returns-clause-leads : goal.returns-clause-leads
-returns-clause-leads g c = λ plan of.
+pub returns-clause-steps : goal.returns-clause-steps
+returns-clause-steps g c = λ plan of.
     let net = c.args.self.now in
     let mid = c.reserve.new.self in
     let of_mid = plan_kept net mid plan (plan_same net mid c.reserve.ensures.same) of in
-    leads_after net mid c.reserve.ensures.same plan (Give c.args.from c.args.to) c.deliver.new.self
-    (leads_same plan mid (Give c.args.from c.args.to) c.deliver.new.self
-    (λ h. subst (λ us. GivenFrom us (world_of h mid) c.args.from c.args.to (pair_in mid.claims.lists c.args.from c.args.to) (world_of h c.deliver.new.self)) of_mid.units (c.deliver.ensures.world h))
-    (ap (λ t. t.transfers.items) c.deliver.ensures.traffic))
+    steps_after net mid c.reserve.ensures.same plan (Give c.args.from c.args.to) c.deliver.new.self
+    (steps_same plan mid (Give c.args.from c.args.to) c.deliver.new.self
+    (λ h. subst (λ us. GivenFrom us (world_in h mid) c.args.from c.args.to (pair_in mid.claims.lists c.args.from c.args.to) (world_in h c.deliver.new.self)) of_mid.units (c.deliver.ensures.world h))
+    (ap (λ (m : Network). m.receivers) c.deliver.ensures.rest))

@@ -1,10 +1,9 @@
 use Rattle.std.proofs.Common.{◌<◌, length, ap, ◌∙◌, arith}
 use Rattle.j39_plan.specs.declared.steps.Step.TheVariants.{LateReceiver}
-use Rattle.j39_bus.specs.Network.{world_of}
+use Rattle.j39_bus.specs.inside.Network.{world_in}
 use Rattle.j39_world.specs.TransferSteps.{receiver_timed_out}
 use Rattle.j39_bus.proofs.Refused.{nowhere, pair_inside}
-use Rattle.j39_bus.proofs.Standing.{plan_kept}
-use Rattle.j39_bus.proofs.Steady.{leads_after, plan_same}
+use Rattle.j39_bus.proofs.Steady.{plan_kept, plan_same, steps_after}
 use Rattle.j39_bus.proofs.network.Network.late_receiver.Goals as goal
 
 pub reserve_replies-requires-clause-from : goal.reserve_replies-requires-clause-from
@@ -23,10 +22,10 @@ ask_again-requires-clause-to c =
     let inside : (c.args.from < length c.args.self.now.claimers.items) × (c.args.to < length c.args.self.now.claimers.items) = pair_inside _ _ _ _ (c.requires.allowed nowhere) in
     omega (arith, inside.1, ap length c.reserve_replies.ensures.same.claimers)
 
-pub returns-clause-leads : goal.returns-clause-leads
-returns-clause-leads c = λ plan of.
+pub returns-clause-steps : goal.returns-clause-steps
+returns-clause-steps c = λ plan of.
     let net = c.args.self.now in
     let mid = c.reserve_replies.new.self in
     let of_mid = plan_kept net mid plan (plan_same net mid c.reserve_replies.ensures.same) of in
-    leads_after net mid c.reserve_replies.ensures.same plan (LateReceiver c.args.from c.args.to) c.ask_again.new.self
-    (λ h gathered. (h, c.ask_again.ensures.world h ∙ ap (λ ws. receiver_timed_out ws (world_of h mid) c.args.from c.args.to) of_mid.windows, c.ask_again.ensures.gathered h gathered))
+    steps_after net mid c.reserve_replies.ensures.same plan (LateReceiver c.args.from c.args.to) c.ask_again.new.self
+    (λ h held. (h, c.ask_again.ensures.world h ∙ ap (λ ws. receiver_timed_out ws (world_in h mid) c.args.from c.args.to) of_mid.windows, c.ask_again.ensures.held h held))

@@ -1,10 +1,10 @@
-use Rattle.std.proofs.Common.{◌<◌, length, ap, ◌∙◌, arith}
+use Rattle.std.proofs.Common.{◌<◌, length, ap, sym, ◌∙◌, subst, arith}
 use Rattle.j39_plan.specs.declared.steps.Step.TheVariants.{LateSender}
+use Rattle.j39_bus.specs.Stands.{HoldTaken}
 use Rattle.j39_bus.specs.BusState.{session_at}
 use Rattle.j39_world.specs.Run.{is_waiting}
-use Rattle.j39_bus.specs.Traffic.{values_of}
 use Rattle.j39_bus.proofs.Refused.{all_met, nowhere, unit_inside}
-use Rattle.j39_bus.proofs.Steady.{leads_after, receivers_gathered}
+use Rattle.j39_bus.proofs.Steady.{steps_after}
 use Rattle.j39_bus.proofs.network.Network.late_sender.Goals as goal
 
 pub reserve_along-requires-clause-unit : goal.reserve_along-requires-clause-unit
@@ -17,10 +17,10 @@ give_up-requires-clause-unit c =
 
 pub give_up-requires-clause-waits : goal.give_up-requires-clause-waits
 give_up-requires-clause-waits c =
-    ap (λ ts. is_waiting (session_at (values_of ts) c.args.unit)) c.reserve_along.ensures.same.transfers ∙ (all_met _ _ _ _ _ _ (c.requires.allowed nowhere)).2
+    ap (λ ts. is_waiting (session_at ts c.args.unit)) c.reserve_along.ensures.same.sessions ∙ (all_met _ _ _ _ _ _ (c.requires.allowed nowhere)).2
 
-pub returns-clause-leads : goal.returns-clause-leads
-returns-clause-leads c = λ plan of.
+pub returns-clause-steps : goal.returns-clause-steps
+returns-clause-steps c = λ plan planned.
     let mid = c.reserve_along.new.self in
-    leads_after c.args.self.now mid c.reserve_along.ensures.same plan (LateSender c.args.unit) c.give_up.new.self
-    (λ h gathered. (h, c.give_up.ensures.world h, receivers_gathered mid.traffic.transfers.items c.give_up.new.self.traffic.transfers.items c.give_up.ensures.receivers h.taken gathered))
+    steps_after c.args.self.now mid c.reserve_along.ensures.same plan (LateSender c.args.unit) c.give_up.new.self
+    (λ h held. (h, c.give_up.ensures.world h, subst (HoldTaken h.taken) (sym c.give_up.ensures.receivers) held))

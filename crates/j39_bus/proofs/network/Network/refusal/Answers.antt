@@ -1,5 +1,5 @@
 use Rattle.std.proofs.Common.{sym, ap, ◌∙◌}
-use Rattle.j39_bus.specs.Network.{refusal_in}
+use Rattle.j39_bus.specs.inside.Network.{refusal_in}
 use Rattle.j39_bus.proofs.network.Network.refusal.Goals as goal
 
 pub returns-in-Up : goal.returns-in-Up

@@ -1,44 +1,49 @@
-use Rattle.std.proofs.Common.{◌≡◌, ◌<◌, ◌∷◌, [], ◌++◌, List, length, map, ap, sym, ◌∙◌, arith, Some}
+use Rattle.std.proofs.Common.{◌≡◌, ◌<◌, ◌∷◌, [], ◌++◌, ℕ, List, length, map, set, ap, sym, ◌∙◌, subst, arith, Some}
+use Rattle.std.proofs.Math.ListN.{length-set}
 use Rattle.std.proofs.lemmas.List.{map-append}
-use Rattle.j39_tp.specs.Receiver.{Receiving}
-use Rattle.j39_bus.specs.BusState.{places_from, session_at}
+use Rattle.j39_bus.specs.BusState.{session_at}
+use Rattle.j39_bus.specs.Stations.{station_at}
+use Rattle.j39_bus.specs.inside.Network.{world_in}
+use Rattle.j39_bus.specs.inside.Traffic.{AreUnits, IsSession, item_frame, route_of}
+use Rattle.j39_bus.proofs.Begun.{first_framed}
+use Rattle.j39_bus.proofs.ChangedSessions.{session_set, sessions_changed, some_is}
+use Rattle.j39_bus.proofs.Wires.{as_table, targets_units}
 use Rattle.j39_queues.specs.Queued.{pair_in}
 use Rattle.j39_world.specs.Flows.{Flow}
-use Rattle.j39_bus.specs.Stations.{station_at}
-use Rattle.j39_bus.specs.Network.{transfers_of, world_of}
 use Rattle.j39_world.specs.Sent.{Sent, sent_of}
-use Rattle.j39_bus.specs.Traffic.{IsTransfer, item_frame, posted, route_of}
 use Rattle.j39_world.specs.Transfers.{Begun, Outgoing, added}
 use Rattle.j39_world.specs.TransferSteps.{outgoing, targets_of}
 use Rattle.j39_world.specs.World.{changed}
-use Rattle.j39_bus.specs.declared.transfer.Transfer as made
-use Rattle.j39_bus.proofs.Begun.{targets_are, fresh_all, session_begun, receivers_begun, gathered_begun, begun_traffic, first_framed}
-use Rattle.j39_bus.proofs.Receivers.{values}
-use Rattle.j39_bus.proofs.SentMessages.{out}
-use Rattle.j39_bus.proofs.Sendings.{as_table, places_valued, posted_valued}
 use Rattle.j39_bus.proofs.network.Network.start.Goals as goal
+
+pub post_each-requires-clause-targets : goal.post_each-requires-clause-targets
+post_each-requires-clause-targets c =
+    let net = c.args.self.now in
+    let units = targets_units (length net.claimers.items) (station_at net.claimers.items) c.args.route.now.sender c.args.route.now.to c.requires.route.receiver in
+    let targets = c.targets.ensures ∙ ap (λ (s : Outgoing). s.targets) c.begin-session.ensures.session ∙ c.requires.targets in
+    subst (λ n. AreUnits n c.targets.result.now) (sym c.requires.network.traffic.table.rows) (subst (AreUnits (length net.claimers.items)) (sym targets) units)
 
 pub returns-clause-network : goal.returns-clause-network
 returns-clause-network c =
     let net = c.args.self.now in
     let n = length net.claimers.items in
     let u = c.args.route.now.sender in
-    let lists = net.traffic.wire.lists in
-    let windows = net.traffic.windows.items in
-    let t : made.Transfer = record { flow = c.args.flow; pgn = c.args.route.now.pgn; to = c.args.route.now.to; content = c.opening-content.result.0; receivers = c.args.receivers } in
-    let inside : u < length net.traffic.transfers.items = omega (arith, c.requires.network.traffic.transfers.count, c.requires.route.sender) in
-    let known = fresh_all n windows (station_at net.claimers.items) (route_of c.args.route.now) c.args.receivers.items c.requires.receivers in
-    let form : IsTransfer n windows t = record {
-      to = c.requires.route.receiver;
-      count = c.requires.receivers.count;
-      content = c.opening-content.ensures.content;
-      answering = λ v r at. ap (λ (x : Receiving). x.manner) (known v r at);
-    } in
+    let list = net.sessions.items in
+    let well = c.requires.network.traffic in
+    let s : Outgoing = c.begin-session.result.0 in
+    let inside : u < length list = omega (arith, well.sessions.count, c.requires.route.sender) in
+    let units = targets_units n (station_at net.claimers.items) u c.args.route.now.to c.requires.route.receiver in
+    let form : IsSession n s = subst (IsSession n) (sym c.begin-session.ensures.session)
+    (record { to = c.requires.route.receiver; targets = subst (AreUnits n) (sym c.requires.targets) units }) in
     record {
       claims = c.requires.network.claims;
-      traffic = begun_traffic net.traffic.transfers.items u inside c.requires.idle t n net.traffic.routes.items windows lists c.post_each.new.wire.lists form c.requires.network.traffic
-          (as_table n lists c.post_each.new.wire.lists c.requires.network.traffic.table c.post_each.ensures.table) c.opening-content.result.1
-          (c.post_each.ensures.lists ∙ ap (λ rs. posted (pair_in lists) u rs c.opening-content.result.1) c.as_slice.ensures.value);
+      traffic = record {
+        flows = well.flows;
+        sessions = sessions_changed n list (set list u (Some s)) u (Some s) (session_set list u (Some s) inside)
+            (λ x is. subst (IsSession n) (some_is s x is) form) (length-set list u (Some s)) well.sessions;
+        table = as_table n net.wire.lists c.post_each.new.wire.lists well.table c.post_each.ensures.table;
+        windows = well.windows;
+      };
     }
 
 pub returns-clause-world : goal.returns-clause-world
@@ -48,33 +53,20 @@ returns-clause-world c = λ h.
     let u = c.args.route.now.sender in
     let stations = station_at net.claimers.items in
     let flow : Flow = route_of c.args.route.now in
-    let lists = net.traffic.wire.lists in
-    let windows = net.traffic.windows.items in
-    let rs = c.args.receivers.items in
+    let list = net.sessions.items in
+    let lists = net.wire.lists in
     let sent : List Sent = map sent_of net.frames.items in
     let message : Begun = record { flow = c.args.flow; bytes = c.args.bytes.now } in
-    let t : made.Transfer = record { flow = c.args.flow; pgn = c.args.route.now.pgn; to = c.args.route.now.to; content = c.opening-content.result.0; receivers = c.args.receivers } in
-    let inside : u < length net.traffic.transfers.items = omega (arith, c.requires.network.traffic.transfers.count, c.requires.route.sender) in
-    let known = fresh_all n windows stations flow rs c.requires.receivers in
-    let targets : targets_of n stations flow.sender flow.to ≡ places_from 0 (values rs) = targets_are n windows stations flow rs c.requires.receivers c.requires.route.receiver in
-    let out_is : out t ≡ outgoing n stations c.args.flow flow c.args.bytes.now =
-    λ i. record { flow = c.args.flow; pgn = c.args.route.now.pgn; to = c.args.route.now.to; targets = sym targets i; bytes = c.opening-content.ensures.bytes i; stage = c.opening-content.ensures.stage i } in
-    let sessions_are = session_begun net.traffic.transfers.items u inside c.requires.idle t ∙ ap (λ (o : Outgoing). changed (session_at (transfers_of net)) u (Some o)) out_is in
-    let wire_is = c.post_each.ensures.lists ∙ ap (λ xs. posted (pair_in lists) u xs c.opening-content.result.1) c.as_slice.ensures.value
-    ∙ posted_valued (pair_in lists) u rs c.opening-content.result.1 ∙ (λ i. added (pair_in lists) u (sym targets i) (c.opening-content.ensures.item i)) in
-    let receivers_are = receivers_begun net.traffic.transfers.items u inside c.requires.idle t windows known in
-    let begun_is = ap (λ ks. added h.begun u ks message) (sym (places_valued 0 rs) ∙ sym targets) in
+    let s : Outgoing = c.begin-session.result.0 in
+    let inside : u < length list = omega (arith, c.requires.network.traffic.sessions.count, c.requires.route.sender) in
+    let out_is : s ≡ outgoing n stations c.args.flow flow c.args.bytes.now =
+    c.begin-session.ensures.session ∙ (λ i. record (outgoing n stations c.args.flow flow c.args.bytes.now) { targets = c.requires.targets i }) in
+    let sessions_are = session_set list u (Some s) inside ∙ ap (λ (o : Outgoing). changed (session_at list) u (Some o)) out_is in
+    let targets_are = c.targets.ensures ∙ ap (λ (o : Outgoing). o.targets) out_is in
+    let wire_is = c.post_each.ensures.lists ∙ (λ i. added (pair_in lists) u (targets_are i) (c.begin-session.ensures.item i)) in
+    let begun_is = ap (λ (l : List ℕ). added h.begun u l message) c.requires.targets in
     let frames_are = ap (map sent_of) c.post.ensures.items ∙ map-append sent_of net.frames.items (c.frame_of-frame.result ∷ [])
-    ∙ ap (λ (f : Sent). sent ++ f ∷ []) (c.frame_of-frame.ensures ∙ (λ i. item_frame (c.source-source.ensures i) (c.destination-destination.ensures i) flow (c.opening-content.ensures.item i)) ∙ first_framed stations flow c.args.bytes.now) in
-    λ i. record (world_of h net) { sessions = sessions_are i; wire = wire_is i; receivers = receivers_are i; begun = begun_is i; frames = frames_are i }
-
-pub returns-clause-gathered : goal.returns-clause-gathered
-returns-clause-gathered c = λ taken gathered.
-    let net = c.args.self.now in
-    let n = length net.claimers.items in
-    let u = c.args.route.now.sender in
-    let windows = net.traffic.windows.items in
-    let t : made.Transfer = record { flow = c.args.flow; pgn = c.args.route.now.pgn; to = c.args.route.now.to; content = c.opening-content.result.0; receivers = c.args.receivers } in
-    let inside : u < length net.traffic.transfers.items = omega (arith, c.requires.network.traffic.transfers.count, c.requires.route.sender) in
-    gathered_begun net.traffic.transfers.items u inside c.requires.idle t windows
-    (fresh_all n windows (station_at net.claimers.items) (route_of c.args.route.now) c.args.receivers.items c.requires.receivers) taken gathered
+    ∙ ap (λ (f : Sent). sent ++ f ∷ [])
+    (c.frame_of-frame.ensures ∙ (λ i. item_frame (c.source-source.ensures i) (c.destination-destination.ensures i) flow (c.begin-session.ensures.item i))
+    ∙ first_framed stations flow c.args.bytes.now) in
+    λ i. record (world_in h net) { sessions = sessions_are i; wire = wire_is i; begun = begun_is i; frames = frames_are i }

@@ -1,12 +1,14 @@
 use Rattle.std.proofs.Common.{◌<◌, List, length, map, set, ap, sym, ◌∙◌, subst, refl, arith}
 use Rattle.std.proofs.Math.ListN.{length-set}
+use Rattle.std.specs.Vec.{with_item}
 use Rattle.j39_claim.specs.ClaimerValue.{ClaimerValue}
 use Rattle.j39_world.specs.Sent.{sent_of}
-use Rattle.j39_bus.proofs.Sendings.{switched_traffic}
+use Rattle.j39_bus.specs.declared.network.Network.{Network}
+use Rattle.j39_bus.proofs.Steady.{told_traffic, wired_traffic}
 use Rattle.j39_bus.proofs.WellFormed.{room_for_others, well_on, well_told}
 use Rattle.j39_bus.proofs.SwitchedOn.{claimants_on, on_claimant, switched}
 use Rattle.j39_queues.specs.Queued.{IsTable, pair_in}
-use Rattle.j39_bus.specs.Network.{world_of}
+use Rattle.j39_bus.specs.inside.Network.{world_in}
 use Rattle.j39_bus.proofs.network.Network.switch_on.Goals as goal
 
 pub tell-requires-clause-table : goal.tell-requires-clause-table
@@ -27,9 +29,11 @@ returns-clause-network c =
     c.clear_to.new.self.lists c.clear_to.ensures.table in
     record {
       claims = well_told (set cs c.args.unit new) c.clear_to.new.self.lists well c.tell.new.self.claimers.items c.tell.new.self.claims.lists (ap (λ v. v.items) c.tell.ensures.claimers) c.tell.ensures.table;
-      traffic = switched_traffic c.args.self.now c.tell.new.self
-          (ap length (ap (λ v. v.items) c.tell.ensures.claimers) ∙ length-set cs c.args.unit new) c.clear_to-2.new.self c.tell.ensures.traffic
-          c.requires.network.traffic c.args.unit c.clear_to-2.ensures.table c.clear_to-2.ensures.lists;
+      traffic = told_traffic c.tell.new.self
+          (record c.args.self.now { claimers = with_item c.args.self.now.claimers c.args.unit new; claims = c.clear_to.new.self; wire = c.clear_to-2.new.self })
+          c.tell.ensures.rest (length cs)
+          (ap length (ap (λ v. v.items) c.tell.ensures.claimers) ∙ length-set cs c.args.unit new)
+          (wired_traffic _ _ _ _ _ _ c.requires.network.traffic c.clear_to-2.ensures.table);
     }
 
 pub returns-clause-plan : goal.returns-clause-plan
@@ -38,13 +42,13 @@ returns-clause-plan c = record {
       let cs : List ClaimerValue = c.args.self.now.claimers.items in
       ap (λ v. map (λ (k : ClaimerValue). k.planned) v.items) c.tell.ensures.claimers
       ∙ claimants_on cs c.args.unit c.requires.place c.index_mut.result.now c.start-say.new.self c.index_mut.ensures.value c.start-say.ensures.started;
-  routes = ap (λ t. t.routes.items) c.tell.ensures.traffic;
-  windows = ap (λ t. t.windows.items) c.tell.ensures.traffic;
+  routes = ap (λ (m : Network). m.routes.items) c.tell.ensures.rest;
+  windows = ap (λ (m : Network). m.receivers.windows) c.tell.ensures.rest;
 }
 
 pub returns-clause-world : goal.returns-clause-world
 returns-clause-world c = λ h.
     switched c.args.self.now.claimers.items c.args.unit c.requires.place c.index_mut.result.now c.start-say.new.self c.index_mut.ensures.value c.start-say.ensures.started
-    (world_of h c.args.self.now) (pair_in c.args.self.now.claims.lists) (pair_in c.clear_to.new.self.lists) (map sent_of c.args.self.now.frames.items) c.clear_to.ensures.lists
+    (world_in h c.args.self.now) (pair_in c.args.self.now.claims.lists) (pair_in c.clear_to.new.self.lists) (map sent_of c.args.self.now.frames.items) c.clear_to.ensures.lists
     (pair_in c.clear_to-2.new.self.lists) c.clear_to-2.ensures.lists
     c.start-say.result c.start-say.ensures.said _ (c.tell.ensures.world h)

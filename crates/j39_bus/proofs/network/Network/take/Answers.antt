@@ -2,7 +2,7 @@ use Rattle.std.proofs.Common.{◌<◌, true, ◌≡◌, ap, sym, ◌∙◌, subs
 use Rattle.std.proofs.lemmas.Bool.{true≢false}
 use Rattle.j39_world.specs.declared.wired.Wired.{Wired}
 use Rattle.j39_queues.specs.Queued.{pair_in}
-use Rattle.j39_bus.specs.Network.{TakesTo, world_of}
+use Rattle.j39_bus.specs.inside.Network.{TakesOldest, world_in}
 use Rattle.j39_world.specs.TransferSteps.{TakenFrom}
 use Rattle.j39_bus.proofs.Refused.{all_met, nowhere, pair_inside}
 use Rattle.j39_bus.proofs.network.Network.take.Goals as goal
@@ -25,19 +25,19 @@ take_item-requires-clause-to c = (pair_inside _ _ _ _ (c.requires.allowed nowher
 
 pub unreachable-requires : goal.unreachable-requires
 unreachable-requires c =
-    let some : nat_lt 0 (length (pair_in c.args.self.now.traffic.wire.lists c.args.from c.args.to)) ≡ true = (all_met _ _ _ _ _ _ (c.requires.allowed nowhere)).2 in
+    let some : nat_lt 0 (length (pair_in c.args.self.now.wire.lists c.args.from c.args.to)) ≡ true = (all_met _ _ _ _ _ _ (c.requires.allowed nowhere)).2 in
     true≢false (sym some ∙ ap (λ (xs : List Wired). nat_lt 0 (length xs)) c.in_default.ensures.none)
 
 on_map : {X E : Type 0} (r : Result X E) (P Q : Type 0) → (P → Q) → OnOk r P → OnOk r Q
 on_map (Ok x) P Q f h = f h
 on_map (Err e) P Q f h = tt
 
-pub returns-clause-leads : goal.returns-clause-leads
-returns-clause-leads c =
+pub returns-clause-steps : goal.returns-clause-steps
+returns-clause-steps c =
     let net = c.args.self.now in
-    let list = pair_in net.traffic.wire.lists c.args.from c.args.to in
-    on_map c.take_item.result (TakesTo net c.args.from c.args.to c.take_item.new.self) _
-    (λ leads plan of h gathered.
-    let (after, taken, has) = leads h gathered in
-    (after, subst (λ (ws : List ℕ). TakenFrom ws (world_of h net) c.args.from c.args.to list (world_of after c.take_item.new.self)) of.windows taken, has))
-    c.take_item.ensures.leads
+    let list = pair_in net.wire.lists c.args.from c.args.to in
+    on_map c.take_item.result (TakesOldest net c.args.from c.args.to c.take_item.new.self) _
+    (λ takes plan planned h held.
+    let (after, taken, has) = takes h held in
+    (after, subst (λ (ws : List ℕ). TakenFrom ws (world_in h net) c.args.from c.args.to list (world_in after c.take_item.new.self)) planned.windows taken, has))
+    c.take_item.ensures.takes

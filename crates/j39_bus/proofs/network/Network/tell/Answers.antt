@@ -6,18 +6,18 @@ use Rattle.j39_world.specs.ClaimSteps.{told_to_others}
 use Rattle.j39_world.specs.Sent.{Sent, sent_of, frame_of}
 use Rattle.j39_world.specs.World.{Undelivered, World}
 use Rattle.j39_bus.specs.inside.Claims.{HasRoomForOthers}
-use Rattle.j39_bus.specs.Network.{world_of}
-use Rattle.j39_bus.specs.Stations.{nobody, station_at}
+use Rattle.j39_bus.specs.inside.Network.{world_in}
+use Rattle.j39_bus.specs.Stations.{absent_unit, station_at}
 use Rattle.j39_bus.proofs.Worlds.{any_default, world, world_told}
 use Rattle.j39_bus.proofs.network.Network.tell.Goals as goal
 
 pub returns-clause-world : goal.returns-clause-world
 returns-clause-world c = λ h.
-    let b : World = world_of h c.args.self.now in
+    let b : World = world_in h c.args.self.now in
     let cs : List ClaimerValue = c.args.self.now.claimers.items in
     let claims : Undelivered = pair_in c.args.self.now.claims.lists in
     let sent : List Sent = map sent_of c.args.self.now.frames.items in
-    let at : c.index-claimer.result.now ≡ get_or cs c.args.from nobody = c.index-claimer.ensures ∙ any_default cs c.args.from c.index-claimer.result.now nobody c.requires.from in
+    let at : c.index-claimer.result.now ≡ get_or cs c.args.from absent_unit = c.index-claimer.ensures ∙ any_default cs c.args.from c.index-claimer.result.now absent_unit c.requires.from in
     let told : pair_in c.post_to_others.new.claims.lists ≡ told_to_others (station_at cs) claims c.args.from (c.args.item.now ∷ []) =
     c.post_to_others.ensures.lists ∙ ap (λ (ks : List ClaimerValue). told_to_others (station_at ks) claims c.args.from (c.args.item.now ∷ [])) c.as_slice.ensures.value in
     let frames : map sent_of c.post.new.list.items ≡ sent ++ frame_of c.name.result c.address.result c.args.item.now ∷ [] =

@@ -1,0 +1,6 @@
+use Rattle.std.proofs.Common.{◌≡◌, length, map, replicate}
+use Rattle.j39_bus.proofs.ReceiverRows.{none_in, slots}
+use Rattle.j39_bus.proofs.receivers.Receivers.new.Given as goal
+
+abbrev pub invariant-loop : goal.invariant-loop
+invariant-loop l = map slots l.rows.items ≡ replicate l.counter (none_in (length l.units))

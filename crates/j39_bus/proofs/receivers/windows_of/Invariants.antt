@@ -1,0 +1,9 @@
+use Rattle.std.proofs.Common.{◌≡◌, ◌<◌, map, take, All}
+use Rattle.j39_plan.specs.declared.plan.unit_plan.UnitPlan.{UnitPlan}
+use Rattle.j39_bus.proofs.receivers.windows_of.Given as goal
+
+abbrev pub invariant-loop-unit : goal.invariant-loop-unit
+invariant-loop-unit l = record {
+  windows : l.windows.items ≡ map (λ (p : UnitPlan). p.window) (take l.unit-index l.units);
+  positive : All (λ k. 0 < k) l.windows.items;
+}

@@ -1,0 +1,124 @@
+-- What a network keeps true, and where its steps lead.
+use Rattle.std.specs.Prelude.{◌≡◌, ℕ, ◌≤◌, Bool, true, nat_eq, List, [], ◌∷◌, ◌++◌, map, length, Option, None, is_some, slice_index_or, slice_set}
+use Rattle.std.specs.List.{list_any}
+use Rattle.std.specs.FinMap.{get}
+use Rattle.j39_claim.specs.declared.item.Say.{Say}
+use Rattle.j39_claim.specs.declared.item.Item.{Item}
+use Rattle.j39_claim.specs.ClaimRule.{PlannedUnit, ClaimState, Answers}
+use Rattle.j39_claim.specs.ClaimerValue.{ClaimerValue}
+use Rattle.j39_tp.specs.declared.packet.Packet.{Packet}
+use Rattle.j39_plan.specs.declared.plan.Plan.{Plan}
+use Rattle.j39_plan.specs.declared.steps.Step.{Step}
+use Rattle.j39_bus.specs.declared.network.Network.{Network}
+use Rattle.j39_world.specs.declared.step_error.StepError.{StepError}
+use Rattle.j39_world.specs.Sent.{sent_of}
+use Rattle.j39_world.specs.World.{World, changed_pair}
+use Rattle.j39_world.specs.Flows.{Flow}
+use Rattle.j39_world.specs.Transfers.{added}
+use Rattle.j39_world.specs.TransferSteps.{TakenFrom}
+use Rattle.j39_world.specs.Run.{StepsTo, refusal_among}
+use Rattle.j39_bus.specs.Stations.{absent_unit, station_at}
+use Rattle.j39_bus.specs.BusState.{BusState, Histories, world_of}
+use Rattle.j39_bus.specs.Reports.{reported_of}
+use Rattle.j39_bus.specs.Stands.{HoldTaken, IsPlannedBy}
+use Rattle.j39_bus.specs.inside.Traffic.{IsTraffic, route_of}
+use Rattle.j39_queues.specs.Queued.{IsTable, pair_in}
+
+abbrev pub claimants : List ClaimerValue → List PlannedUnit
+claimants cs = map (λ c. c.planned) cs
+
+-- these histories once a message was begun
+abbrev pub has_begun : Histories → ℕ → Flow → List ℕ → List ℕ → Histories
+has_begun h f flow targets bytes = record h { begun = added h.begun flow.sender targets (record { flow = f; bytes = bytes }) }
+
+-- once v took a packet of u
+abbrev pub has_taken : Histories → ℕ → ℕ → Packet → Histories
+has_taken h v u p = record h { taken = changed_pair h.taken v u (h.taken v u ++ p ∷ []) }
+
+abbrev pub state_of : Network → BusState
+state_of net = record {
+  units = net.claimers.items;
+  claims = net.claims.lists;
+  flows = map route_of net.routes.items;
+  sessions = net.sessions.items;
+  wire = net.wire.lists;
+  receivers = net.receivers;
+  reports = map reported_of net.reports.items;
+  frames = map sent_of net.frames.items;
+}
+
+abbrev pub world_in : Histories → Network → World
+world_in h net = world_of h (state_of net)
+
+abbrev pub HasHeld : Histories → Network → Type 0
+HasHeld h net = HoldTaken h.taken net.receivers
+
+abbrev pub names_of : List ClaimerValue → List ℕ
+names_of cs = map (λ c. c.planned.name) cs
+
+-- one of the units has this NAME
+abbrev pub is_named : List ClaimerValue → ℕ → Bool
+is_named cs n = list_any (λ m. nat_eq n m) (names_of cs)
+
+pub record IsWellFormed (cs : List ClaimerValue) (lists : List (List (List Item))) : Type 0 where
+  -- few enough units for a note of each
+  pub few : length cs ≤ 128
+  -- there is a list from each unit to each
+  pub table : IsTable (length cs) lists
+  -- each unit has noted only NAMEs of these units
+  pub notes : (v n : ℕ) → is_some (get (station_at cs v).notes n) ≡ true → is_named cs n ≡ true
+
+pub record IsNetwork (net : Network) : Type 0 where
+  pub claims : IsWellFormed net.claimers.items net.claims.lists
+  pub traffic : IsTraffic (length net.claimers.items) net.routes.items net.sessions.items net.wire.lists net.receivers
+
+-- the network has the units of the plan, its flows and its windows
+abbrev pub IsOfPlan : Plan → Network → Type 0
+IsOfPlan plan net = IsPlannedBy plan (state_of net)
+
+-- the units, the flows and the windows stay
+pub record KeepsPlan (old new : Network) : Type 0 where
+  pub claimants : claimants new.claimers.items ≡ claimants old.claimers.items
+  pub routes : new.routes.items ≡ old.routes.items
+  pub windows : new.receivers.windows ≡ old.receivers.windows
+
+-- a step of the plan leads from one network to another, whatever histories the first has
+abbrev pub HasStepped : Plan → Network → Step → Network → Type 0
+HasStepped plan old step new =
+    (h : Histories) → HasHeld h old → (after : Histories) × StepsTo plan (world_in h old) step (world_in after new) × HasHeld after new
+
+-- v takes the oldest that u has for it, whatever histories the network has
+abbrev pub TakesOldest : Network → ℕ → ℕ → Network → Type 0
+TakesOldest old u v new =
+    (h : Histories) → HasHeld h old
+    → (after : Histories) × TakenFrom old.receivers.windows (world_in h old) u v (pair_in old.wire.lists u v) (world_in after new) × HasHeld after new
+
+-- the first cause for which a step of a network is refused
+abbrev pub refusal_in : Network → Histories → Step → Option StepError
+refusal_in net h step = refusal_among (length net.claimers.items) (map route_of net.routes.items) (world_in h net) step
+
+-- the step is not refused
+abbrev pub IsAllowed : Network → Step → Type 0
+IsAllowed net step = (h : Histories) → refusal_in net h step ≡ None
+
+-- unit v of these has heard the item under the NAME, and is what it then is
+abbrev pub HasAnswered : List ClaimerValue → ℕ → ℕ → Item → Option Say → List ClaimerValue → Type 0
+HasAnswered cs v name item says new =
+    (s : ClaimState) × (new ≡ slice_set cs v (record (slice_index_or cs v absent_unit) { state = s }))
+    × Answers (slice_index_or cs v absent_unit).planned (station_at cs v) name item says s
+
+-- nothing that a contract sees has changed
+pub record IsSameNetwork (old new : Network) : Type 0 where
+  pub claimers : new.claimers.items ≡ old.claimers.items
+  pub claims : new.claims.lists ≡ old.claims.lists
+  pub routes : new.routes.items ≡ old.routes.items
+  pub sessions : new.sessions.items ≡ old.sessions.items
+  pub wire : new.wire.lists ≡ old.wire.lists
+  pub receivers : new.receivers ≡ old.receivers
+  pub reports : new.reports.items ≡ old.reports.items
+  pub frames : new.frames.items ≡ old.frames.items
+
+-- a bus has a network in its form and a chooser for each unit
+pub record IsBus (net : Network) (count : ℕ) : Type 0 where
+  pub network : IsNetwork net
+  pub choosers : count ≡ length net.claimers.items

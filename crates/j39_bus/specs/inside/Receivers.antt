@@ -1,0 +1,83 @@
+-- The table of receivers, and what it keeps true.
+use Rattle.std.specs.Prelude.{◌≡◌, ℕ, ◌<◌, ◌≤◌, Bool, true, false, List, [], map, length, Option, Some, None, slice_index_or, vec_capacity}
+use Rattle.std.specs.declared.alloc.Global.{Global}
+use Rattle.std.specs.declared.boxed.Box.{Box}
+use Rattle.std.specs.declared.vec.Vec.{Vec}
+use Rattle.j39_queues.specs.Queued.{IsTable}
+use Rattle.j39_tp.specs.Receiver.{Receiving, message_of}
+use Rattle.j39_tp.specs.declared.packet.Packet.{Packet}
+use Rattle.j39_tp.specs.declared.packet.Packet.TheVariants.{Rts, Bam, Dt}
+use Rattle.j39_tp.specs.declared.receiving.heard.Heard.{Heard}
+use Rattle.j39_tp.specs.declared.receiving.heard.Heard.TheVariants as heards
+use Rattle.j39_tp.specs.declared.receiving.manner.Manner.TheVariants.{Answering}
+use Rattle.j39_tp.specs.declared.receiving.progress.Progress.{Progress}
+use Rattle.j39_tp.specs.declared.receiving.progress.Progress.TheVariants.{Open}
+use Rattle.j39_world.specs.Flows.{window_at}
+use Rattle.j39_bus.specs.BusState.{Holding, ReceiverTable, closed, holding_at}
+
+abbrev pub Slot : Type 0
+Slot = Option (Box Receiving Global)
+
+abbrev pub Row : Type 0
+Row = Vec Slot Global
+
+-- where no receiver stands, it is closed
+abbrev pub holding_of : Slot → Holding
+holding_of None = closed
+holding_of (Some b) = record { progress = b.value.progress; bytes = b.value.bytes }
+
+abbrev pub holdings_of : List Row → List (List Holding)
+holdings_of rows = map (λ (r : Row). map holding_of r.items) rows
+
+-- a receiver answers with this window
+abbrev pub IsAnswering : ℕ → Slot → Type 0
+IsAnswering window None = Unit {0}
+IsAnswering window (Some b) = b.value.manner ≡ Answering window
+
+abbrev pub slot_at : List Row → ℕ → ℕ → Slot
+slot_at rows v u = slice_index_or (slice_index_or (map (λ (r : Row). r.items) rows) v []) u None
+
+-- a place for each two of as many units as there are windows; each receiver answers with its unit's window
+pub record IsReceivers (windows : List ℕ) (rows : List Row) : Type 0 where
+  pub table : IsTable (length windows) (holdings_of rows)
+  pub lets_some : (v : ℕ) → 0 < window_at windows v
+  pub answering : (v u : ℕ) → IsAnswering (window_at windows v) (slot_at rows v u)
+
+-- a receiver that answers with this window
+abbrev pub answering : ℕ → Holding → Receiving
+answering window h = record { manner = Answering window; progress = h.progress; bytes = h.bytes }
+
+-- what is left of a receiver: one whose message is complete is given up
+abbrev pub left_at : Progress → List ℕ → Holding
+left_at (Open r) bytes = record { progress = Open r; bytes = bytes }
+left_at _ bytes = closed
+
+abbrev pub left_of : Receiving → Holding
+left_of r = left_at r.progress r.bytes
+
+-- the message that it has completed
+abbrev pub message_in : Receiving → List ℕ
+message_in r = message_of r.progress r.bytes
+
+-- the first unit's receiver for what the second sends
+abbrev pub receiver_at : ReceiverTable → ℕ → ℕ → Receiving
+receiver_at t v u = answering (window_at t.windows v) (holding_at t.holdings v u)
+
+abbrev pub opens : Packet → Bool
+opens (Rts size limit group) = true
+opens (Bam size group) = true
+opens _ = false
+
+-- an announcement finds a receiver in the table
+abbrev pub IsReady : Packet → Slot → Type 0
+IsReady packet slot = opens packet ≡ true → slot ≡ None → ⊥
+
+abbrev pub is_complete : Heard → Bool
+is_complete heards.Complete = true
+is_complete (heards.CompleteReply p) = true
+is_complete _ = false
+
+-- there is room for the longest message where a packet may complete one
+abbrev pub HasRoomFor : Packet → Vec ℕ Global → Type 0
+HasRoomFor (Dt number chunk) bytes = 1785 ≤ vec_capacity bytes
+HasRoomFor _ bytes = Unit {0}

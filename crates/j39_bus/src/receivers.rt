@@ -1,0 +1,247 @@
+//! A receiver of each unit for what each other sends.
+ghost use Rattle.std.specs.Prelude.{◌≡◌, ◌≢◌, ℕ, ◌<◌, ◌≤◌, true, None, [], length, map, replicate, vec_capacity, OnOk, OnErr, IfOk};
+ghost use Rattle.j39_tp.specs.declared.receiving.manner.Manner.TheVariants.{Answering};
+ghost use Rattle.j39_world.specs.Flows.{window_at};
+ghost use Rattle.j39_tp.specs.Receiver.{hears, receives, timed_out, gives_up, is_open_at, message_of};
+ghost use Rattle.j39_world.specs.World.{changed_pair};
+ghost use Rattle.j39_bus.specs.BusState.{closed, holding_at};
+ghost use Rattle.j39_bus.specs.inside.Receivers.{HasRoomFor, IsAnswering, IsReady, answering, holding_of, is_complete, left_at, left_of, message_in, opens, receiver_at};
+
+use j39_plan::UnitPlan;
+use j39_tp::{Heard, Packet, Receiver};
+use std::alloc::{AllocError, Global};
+use std::marker::Model;
+
+/// Of each unit for each that sends to it: a receiver from the announcement of a message until it is closed or the message is
+/// complete, with how many packets each unit lets be sent to it for one CTS.
+#[derive(Drop)]
+pub(crate) struct Receivers {
+    windows: Vec<u8>,
+    rows: Vec<Vec<Option<Box<Receiver>>>>,
+}
+
+impl Model for Receivers {
+    ghost use Rattle.j39_bus.specs.BusState.{ReceiverTable};
+
+    ghost Value = { ReceiverTable };
+
+    ghost use Rattle.j39_bus.specs.inside.Receivers.{IsReceivers, holdings_of};
+
+    ghost view = { λ r. record { windows = r.windows.items; holdings = holdings_of r.rows.items } };
+
+    ghost invariant = { λ r. IsReceivers r.windows.items r.rows.items };
+}
+
+/// Whether a packet announces a message.
+fn is_announcement(packet: &Packet) -> bool
+    ensures { result ≡ opens packet.now }
+{
+    matches!(packet, Packet::Rts { .. } | Packet::Bam { .. })
+}
+
+/// Whether a message is complete.
+pub(crate) fn is_complete(heard: &Heard) -> bool
+    ensures { result ≡ is_complete heard.now }
+{
+    matches!(heard, Heard::Complete | Heard::CompleteReply(_))
+}
+
+// A closed receiver with this window, if there is none.
+fn fill(alloc: Global, slot: &mut Option<Box<Receiver>>, window: u8) -> Result<(), AllocError>
+    requires window { 0 < window }
+    requires answering { IsAnswering window slot.old }
+    ensures same { holding_of slot.new ≡ holding_of slot.old }
+    ensures filled { OnOk result (slot.new ≢ None) }
+    ensures answering { IsAnswering window slot.new }
+{
+    if slot.is_none() {
+        let Some(receiver) = Receiver::new(window) else {
+            unreachable!()
+        };
+        *slot = Some(Box::new(alloc, receiver)?);
+    }
+    Ok(())
+}
+
+// What a receiver does with a packet; where there is none, nothing.
+fn tell(slot: &mut Option<Box<Receiver>>, packet: &Packet) -> Heard
+    requires ready { IsReady packet.now slot.old }
+    ensures heard { (window : ℕ) → IsAnswering window slot.old → result ≡ (hears (Answering window) (holding_of slot.old).progress packet.now).1 }
+    ensures after { (window : ℕ) → IsAnswering window slot.old → answering window (holding_of slot.new) ≡ receives (answering window (holding_of slot.old)) packet.now }
+    ensures answering { (window : ℕ) → IsAnswering window slot.old → IsAnswering window slot.new }
+{
+    match slot {
+        Some(receiver) => receiver.hear(packet),
+        None => Heard::Nothing,
+    }
+}
+
+// What a receiver sends that has heard nothing in time.
+fn time_out(slot: &mut Option<Box<Receiver>>) -> Option<Packet>
+    ensures packet { (window : ℕ) → IsAnswering window slot.old → result ≡ (timed_out (Answering window) (holding_of slot.old).progress).1 }
+    ensures after { (window : ℕ) → IsAnswering window slot.old → answering window (holding_of slot.new) ≡ gives_up (answering window (holding_of slot.old)) }
+    ensures answering { (window : ℕ) → IsAnswering window slot.old → IsAnswering window slot.new }
+{
+    match slot {
+        Some(receiver) => receiver.late(),
+        None => None,
+    }
+}
+
+// Whether a receiver is open.
+fn is_open_in(slot: &Option<Box<Receiver>>) -> bool
+    ensures { result ≡ is_open_at (holding_of slot.now).progress }
+{
+    match slot {
+        Some(receiver) => receiver.is_open(),
+        None => false,
+    }
+}
+
+// A receiver that is not open is given up.
+fn leave(slot: &mut Option<Box<Receiver>>)
+    ensures left { holding_of slot.new ≡ left_at (holding_of slot.old).progress (holding_of slot.old).bytes }
+    ensures answering { (window : ℕ) → IsAnswering window slot.old → IsAnswering window slot.new }
+{
+    if !is_open_in(slot) {
+        *slot = None;
+    }
+}
+
+// The message that a receiver has completed joins the bytes.
+fn collect(slot: &Option<Box<Receiver>>, bytes: &mut Vec<u8>)
+    requires none { bytes.old.items ≡ [] }
+    requires room { 1785 ≤ vec_capacity bytes.old }
+    ensures { bytes.new.items ≡ message_of (holding_of slot.now).progress (holding_of slot.now).bytes }
+{
+    if let Some(receiver) = slot {
+        let _ = bytes.extend_from_slice(receiver.bytes());
+    }
+}
+
+// What a receiver of this window does with a packet. It is made by an announcement. The message that it completes joins the
+// bytes, and it is given up where it is not open.
+fn hear_in(
+    alloc: Global,
+    slot: &mut Option<Box<Receiver>>,
+    window: u8,
+    packet: &Packet,
+    bytes: &mut Vec<u8>,
+) -> Result<Heard, AllocError>
+    requires window { 0 < window }
+    requires answering { IsAnswering window slot.old }
+    requires none { bytes.old.items ≡ [] }
+    requires room { HasRoomFor packet.now bytes.old }
+    ensures heard { IfOk result (λ heard. heard ≡ (hears (Answering window) (holding_of slot.old).progress packet.now).1) }
+    ensures after { OnOk result (holding_of slot.new ≡ left_of (receives (answering window (holding_of slot.old)) packet.now)) }
+    ensures message { IfOk result (λ heard. is_complete heard ≡ true → bytes.new.items ≡ message_in (receives (answering window (holding_of slot.old)) packet.now)) }
+    ensures same { OnErr result (holding_of slot.new ≡ holding_of slot.old) }
+    ensures answering { IsAnswering window slot.new }
+{
+    if is_announcement(packet) {
+        fill(alloc, slot, window)?;
+    }
+    let heard = tell(slot, packet);
+    if is_complete(&heard) {
+        collect(slot, bytes);
+    }
+    leave(slot);
+    Ok(heard)
+}
+
+// What a receiver sends that has heard nothing in time. It is given up where it is not open.
+fn late_in(slot: &mut Option<Box<Receiver>>) -> Option<Packet>
+    ensures packet { (window : ℕ) → IsAnswering window slot.old → result ≡ (timed_out (Answering window) (holding_of slot.old).progress).1 }
+    ensures after { (window : ℕ) → IsAnswering window slot.old → holding_of slot.new ≡ left_of (gives_up (answering window (holding_of slot.old))) }
+    ensures answering { (window : ℕ) → IsAnswering window slot.old → IsAnswering window slot.new }
+{
+    let packet = time_out(slot);
+    leave(slot);
+    packet
+}
+
+// The window of each unit.
+fn windows_of(alloc: Global, units: &[UnitPlan]) -> Result<Vec<u8>, AllocError>
+    ensures windows { IfOk result (λ windows. windows.items ≡ map (λ p. p.window) units.now) }
+    ensures lets_some { IfOk result (λ windows. (v : ℕ) → 0 < window_at windows.items v) }
+{
+    let mut windows = Vec::with_capacity(alloc, units.len())?;
+    for unit in units {
+        windows.push(unit.window)?;
+    }
+    Ok(windows)
+}
+
+// No receiver for any of so many units.
+fn empty_row(alloc: Global, units: usize) -> Result<Vec<Option<Box<Receiver>>>, AllocError>
+    ensures { IfOk result (λ row. row.items ≡ replicate units None) }
+{
+    let mut row = Vec::with_capacity(alloc, units)?;
+    for _ in 0..units {
+        row.push(None)?;
+    }
+    Ok(row)
+}
+
+impl Receivers {
+    /// No receiver between any two of these units.
+    pub(crate) fn new(alloc: Global, units: &[UnitPlan]) -> Result<Self, AllocError>
+        ensures windows { IfOk result (λ table. table.windows ≡ map (λ p. p.window) units.now) }
+        ensures closed { IfOk result (λ table. (v u : ℕ) → holding_at table.holdings v u ≡ closed) }
+    {
+        let windows = windows_of(alloc, units)?;
+        let mut rows = Vec::with_capacity(alloc, units.len())?;
+        for _ in 0..units.len() {
+            rows.push(empty_row(alloc, units.len())?)?;
+        }
+        Ok(Receivers { windows, rows })
+    }
+
+    /// What the receiver of a unit does with a packet of another. The message that it completes joins the bytes.
+    pub(crate) fn hear(
+        &mut self,
+        alloc: Global,
+        from: usize,
+        to: usize,
+        packet: &Packet,
+        bytes: &mut Vec<u8>,
+    ) -> Result<Heard, AllocError>
+        requires from { from < length self.old.windows }
+        requires to { to < length self.old.windows }
+        requires none { bytes.old.items ≡ [] }
+        requires room { HasRoomFor packet.now bytes.old }
+        ensures windows { self.new.windows ≡ self.old.windows }
+        ensures heard { IfOk result (λ heard. let r = receiver_at self.old to from in heard ≡ (hears r.manner r.progress packet.now).1) }
+        ensures after { OnOk result (holding_at self.new.holdings ≡ changed_pair (holding_at self.old.holdings) to from (left_of (receives (receiver_at self.old to from) packet.now))) }
+        ensures message { IfOk result (λ heard. is_complete heard ≡ true → bytes.new.items ≡ message_in (receives (receiver_at self.old to from) packet.now)) }
+        ensures same { OnErr result (self.new ≡ self.old) }
+    {
+        let window = self.windows[to];
+        let row = &mut self.rows[to];
+        let slot = &mut row[from];
+        hear_in(alloc, slot, window, packet, bytes)
+    }
+
+    /// What the receiver of a unit sends that has heard nothing of another in time.
+    pub(crate) fn late(&mut self, from: usize, to: usize) -> Option<Packet>
+        requires from { from < length self.old.windows }
+        requires to { to < length self.old.windows }
+        ensures windows { self.new.windows ≡ self.old.windows }
+        ensures packet { let r = receiver_at self.old to from in result ≡ (timed_out r.manner r.progress).1 }
+        ensures after { holding_at self.new.holdings ≡ changed_pair (holding_at self.old.holdings) to from (left_of (gives_up (receiver_at self.old to from))) }
+    {
+        let row = &mut self.rows[to];
+        let slot = &mut row[from];
+        late_in(slot)
+    }
+
+    /// Whether the receiver of a unit for what another sends is open.
+    pub(crate) fn is_open(&self, from: usize, to: usize) -> bool
+        requires from { from < length self.now.windows }
+        requires to { to < length self.now.windows }
+        ensures { result ≡ is_open_at (holding_at self.now.holdings to from).progress }
+    {
+        let row = &self.rows[to];
+        is_open_in(&row[from])
+    }
+}
