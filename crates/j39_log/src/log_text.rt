@@ -12,7 +12,7 @@ use crate::log_reading::Reading;
 use j39_id::Cutter;
 use j39_plan::Plan;
 use j39_stream::{Fault, Intake, Sink, Source, Verdict, put_all};
-use j39_text::{TextBuffer, group_label};
+use j39_text::{TextBuffer, group_label, put_text};
 use std::alloc::{AllocError, Global};
 
 // The most bytes of a piece of the log.
@@ -40,19 +40,6 @@ fn read_piece(
         reading.read_cut(plan, catalog, step.cut, line)?;
         rest = &rest[step.used..];
     }
-    Ok(())
-}
-
-// Puts what is to be written, and empties it.
-fn put_text<W: Sink>(sink: &mut W, text: &mut TextBuffer) -> Result<(), Fault>
-    ensures ok { OnOk result (Appends (W.taken sink.old) (W.taken sink.new) text.old) }
-    ensures empty { OnOk result (text.new ≡ []) }
-    ensures cut { OnErr result (AppendsPart (W.taken sink.old) (W.taken sink.new) text.old) }
-    ensures whole { OnOk result (W.failures sink.new ≡ W.failures sink.old) }
-    ensures device { IfErr result (λ fault. (fault ≡ Fault.Device) × HasFailed (W.failures sink.old) (W.failures sink.new)) }
-{
-    put_all(sink, text.as_slice())?;
-    text.clear();
     Ok(())
 }
 

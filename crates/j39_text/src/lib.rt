@@ -6,6 +6,7 @@ mod input;
 mod labels;
 mod laws;
 mod plan_file;
+mod putting;
 mod text_buffer;
 
 pub use frame::{frame_text, write_destination};
@@ -16,4 +17,5 @@ pub use labels::{
 };
 pub use laws::a_line_has_one_text;
 pub use plan_file::plan_text;
+pub use putting::put_text;
 pub use text_buffer::TextBuffer;

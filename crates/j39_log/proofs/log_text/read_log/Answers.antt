@@ -10,7 +10,8 @@ use Rattle.j39_stream.specs.Intakes.{Counts}
 use Rattle.j39_stream.specs.declared.fault.Fault.TheVariants.{Device, TooLong}
 use Rattle.j39_log.specs.ReadText.{count_line}
 use Rattle.j39_log.specs.inside.Recalling.{HasWritten}
-use Rattle.j39_log.proofs.LogReading.{begun, finished, more_seen, none_read, none_taken, part_after, partly, put}
+use Rattle.j39_stream.proofs.Parts.{none_read, none_taken, part_after}
+use Rattle.j39_log.proofs.LogReading.{begun, finished, more_seen, partly, put}
 use Rattle.j39_log.proofs.Outcomes.{failed, on_error}
 use Rattle.j39_log.proofs.log_text.read_log.Goals as goal
 

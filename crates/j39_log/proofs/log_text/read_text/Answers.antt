@@ -1,7 +1,7 @@
 use Rattle.std.proofs.Common.{◌≡◌, [], refl, ◌∙◌, inr}
 use Rattle.j39_log.specs.ReadText.{refused_plan_line}
 use Rattle.j39_stream.specs.declared.verdict.Verdict.TheVariants.{Refused}
-use Rattle.j39_log.proofs.LogReading.{none_read}
+use Rattle.j39_stream.proofs.Parts.{none_read}
 use Rattle.j39_log.proofs.Outcomes.{on_error}
 use Rattle.j39_log.proofs.log_text.read_text.Goals as goal
 
