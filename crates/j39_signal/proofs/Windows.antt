@@ -1,5 +1,6 @@
 -- The bits of a payload and of the number that some of its bytes make.
-use Rattle.std.proofs.Common.{◌≡◌, ℕ, zero, suc, ◌+◌, ◌*◌, ◌/◌, ◌%◌, ◌^◌, ◌<◌, ◌≤◌, List, length, get_or, take, drop, ◌++◌, ◌-◌, length-take, length-drop, sym, refl, ap, ◌∙◌, arith}
+use Rattle.std.proofs.Common.{◌≡◌, ℕ, zero, suc, ◌+◌, ◌*◌, ◌/◌, ◌%◌, ◌^◌, ◌<◌, ◌≤◌, List, length, get_or, take}
+use Rattle.std.proofs.Common.{drop, ◌++◌, ◌-◌, length-take, length-drop, sym, refl, ap, ◌∙◌, arith}
 use Rattle.std.specs.Int.{bit_at, to_le_bytes, from_le_bytes, w64}
 use Rattle.std.proofs.lemmas.Nat.{shr_split, shr-shr, pow-add, le_bytes_8}
 use Rattle.std.proofs.Math.Nat.{pow-suc}
@@ -49,6 +50,10 @@ bit_moved d e first count j same h =
     let byte : (8 * first + j) / 8 ≡ first + j / 8 = omega arith in
     let place : (8 * first + j) % 8 ≡ j % 8 = omega arith in
     rw (byte, place) (ap (λ b. b / 2 ^ (j % 8) % 2) (same (j / 8) (omega arith)))
+
+-- a bit of a number that is shifted down
+pub bit_at-shr : (n s j : ℕ) → bit_at (n / 2 ^ s) j ≡ bit_at n (s + j)
+bit_at-shr n s j = ap (λ m. m % 2) (shr-shr n s j)
 
 -- the number of eight bytes, the first of which stand in a payload
 pub window_bits : (bytes payload : List ℕ) (first count n j : ℕ) → length bytes ≡ 8 → ((i : ℕ) → get_or bytes i 0 < 256)

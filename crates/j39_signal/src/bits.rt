@@ -13,13 +13,28 @@ fn padded(bytes: &[u8]) -> [u8; 8]
     all
 }
 
-// The bits of `count` bytes from `first` on, as one number.
+// The eight bytes from `at` on.
+fn eight_bytes(payload: &[u8], at: usize) -> [u8; 8]
+    requires { at + 8 ≤ length payload.now }
+    ensures { (i : ℕ) → i < 8 → slice_index result i ≡ slice_index payload.now (at + i) }
+{
+    let mut bytes = [0; 8];
+    bytes.copy_from_slice(&payload[at..at + 8]);
+    bytes
+}
+
+// The bits of `count` bytes from `first` on, as one number: its low bits.
 fn window(payload: &[u8], first: usize, count: usize) -> u64
+    requires some { 0 < count }
     requires count { count ≤ 8 }
     requires inside { first + count ≤ length payload.now }
     ensures { (j : ℕ) → j < 8 * count → bit_at result j ≡ bit payload.now (8 * first + j) }
 {
-    u64::from_le_bytes(padded(&payload[first..first + count]))
+    if payload.len() < 8 {
+        return u64::from_le_bytes(padded(&payload[first..first + count]));
+    }
+    let at = first.min(payload.len() - 8);
+    u64::from_le_bytes(eight_bytes(payload, at)) >> (8 * (first - at))
 }
 
 // Sets the bits of `count` bytes from `first` on.
@@ -62,6 +77,7 @@ fn merged(number: u64, bits: u64, shift: u16, width: u8) -> u64
 
 /// The number of `width` bits from bit `start` on.
 pub(crate) fn bits_of(payload: &[u8], start: u16, width: u8) -> u32
+    requires some { 0 < width }
     requires width { width ≤ 32 }
     requires inside { start + width ≤ 8 * length payload.now }
     ensures value { result ≡ number_at payload.now start width }
@@ -73,6 +89,7 @@ pub(crate) fn bits_of(payload: &[u8], start: u16, width: u8) -> u32
 
 /// Sets `width` bits from bit `start` on to a number.
 pub(crate) fn set_bits(payload: &mut [u8], start: u16, width: u8, number: u32)
+    requires some { 0 < width }
     requires width { width ≤ 32 }
     requires inside { start + width ≤ 8 * length payload.old }
     requires range { number < 2 ^ width }

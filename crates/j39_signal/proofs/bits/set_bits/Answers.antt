@@ -13,5 +13,7 @@ returns-clause-written c =
 
 pub returns-clause-others : goal.returns-clause-others
 returns-clause-others c j h =
-    kept_outside c.args.payload.now c.set_window.new.payload c.args.start c.args.width c.from-first.result c.byte_count-count.result c.window-old.result c.merged-new.result
-    c.from-first.ensures c.window-old.ensures c.set_window.ensures.inside c.set_window.ensures.outside c.merged-new.ensures.below c.merged-new.ensures.above (omega arith) j h
+    kept_outside c.args.payload.now c.set_window.new.payload c.args.start c.args.width c.from-first.result c.byte_count-count.result
+    c.window-old.result c.merged-new.result
+    c.from-first.ensures c.window-old.ensures c.set_window.ensures.inside c.set_window.ensures.outside c.merged-new.ensures.below
+    c.merged-new.ensures.above (omega arith) j h
