@@ -1,8 +1,9 @@
 //! A text that grows, and the one place where numbers, digits and words are written.
-ghost use Rattle.std.specs.Prelude.{◌≡◌, ℕ, ◌+◌, [], ◌∷◌, ◌++◌, length, OnOk};
+ghost use Rattle.std.specs.Prelude.{◌≡◌, ℕ, ◌+◌, ◌≤◌, [], ◌∷◌, ◌++◌, length, OnOk};
 ghost use Rattle.hex.specs.Hex.{encode_upper};
 ghost use Rattle.j39_text.specs.Texts.{field_text, place_field};
 
+use arrayvec::ArrayVec;
 use itoa::{Buffer, Integer};
 use std::alloc::{AllocError, Global};
 use std::marker::Model;
@@ -21,6 +22,19 @@ impl Model for TextBuffer {
     ghost Value = { List ℕ };
 
     ghost view = { λ text. text.bytes.items };
+}
+
+// Two capital digits for each of at most eight bytes.
+fn digits_of(bytes: &[u8]) -> ArrayVec<u8, 16>
+    requires { length bytes.now ≤ 8 }
+    ensures { result.items ≡ encode_upper bytes.now }
+{
+    let mut digits = ArrayVec::new();
+    for byte in bytes {
+        digits.push(DIGITS[usize::from(*byte >> 4)]);
+        digits.push(DIGITS[usize::from(*byte & 15)]);
+    }
+    digits
 }
 
 impl TextBuffer {
@@ -91,19 +105,18 @@ impl TextBuffer {
     pub fn hex(&mut self, bytes: &[u8]) -> Result<(), AllocError>
         ensures { OnOk result (self.new ≡ self.old ++ encode_upper bytes.now) }
     {
-        for byte in bytes {
-            let digits = [
-                DIGITS[usize::from(*byte >> 4)],
-                DIGITS[usize::from(*byte & 15)],
-            ];
-            self.bytes(&digits)?;
+        let mut rest = bytes;
+        while rest.len() > 8 {
+            self.bytes(digits_of(&rest[..8]).as_slice())?;
+            rest = &rest[8..];
         }
-        Ok(())
+        self.bytes(digits_of(rest).as_slice())
     }
 
     pub fn end_line(&mut self) -> Result<(), AllocError>
         ensures { OnOk result (self.new ≡ self.old ++ 10 ∷ []) }
     {
-        self.bytes(b"\n")
+        self.bytes.push(b'\n')?;
+        Ok(())
     }
 }
