@@ -3,7 +3,7 @@ ghost use Rattle.std.specs.Prelude.{◌≡◌, ◌≢◌, ◌≤◌, vec_len, If
 ghost use Rattle.std.specs.Io.KnownBytes.{Consumes, IsAtEnd};
 ghost use Rattle.j39_stream.specs.Streams.{HasFailed, KeepsLimits, PassesLimits};
 
-use crate::{Fault, Source};
+use crate::{Fault, Intake, Source};
 use std::alloc::Global;
 
 /// The most bytes that an input may have.
@@ -26,20 +26,15 @@ pub fn load<S: Source>(alloc: Global, source: &mut S) -> Result<Vec<u8>, Fault>
     ensures calm { result ≢ Err Fault.Device → S.failures source.new ≡ S.failures source.old }
 {
     let mut input = Vec::new(alloc);
+    let mut intake = Intake::new();
     let mut piece = [0; PIECE];
-    for _ in 0..READ_CALLS {
-        let Ok(count) = source.pull(&mut piece) else {
-            return Err(Fault::Device);
-        };
+    loop {
+        let count = intake.pull(source, &mut piece)?;
         if count == 0 {
             return Ok(input);
-        }
-        if INPUT_LIMIT - input.len() < count {
-            return Err(Fault::TooLong);
         }
         if input.extend_from_slice(&piece[..count]).is_err() {
             return Err(Fault::Memory);
         }
     }
-    Err(Fault::TooLong)
 }

@@ -16,7 +16,7 @@ returns-then-self-count-clause-kept g c first text read =
 
 pub returns-clause-last : goal.returns-clause-last
 returns-clause-last g c first pulls text read none =
-    let whole = nothing_more _ _ _ text c.pull.new.buffer c.in-Ok.count none read.consumed c.in-Ok.ensures.bytes.0 in
+    let whole = nothing_more _ _ _ text c.pull.new.buffer c.in-Ok.count (omega (arith, none)) read.consumed c.in-Ok.ensures.bytes.0 in
     let same : c.self.inside.calls ≡ c.args.self.now.calls = ap (λ (counts : Counts). counts.calls) c.self.view_is in
     let most = c.self.invariant.1 in
     let other = c.if-self-eq-READ_CALLS.false in
