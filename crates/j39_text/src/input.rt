@@ -18,6 +18,7 @@ fn first_feed(input: &[u8]) -> Option<usize>
 }
 
 // The bytes before the first line feed, or all of them.
+#[tactic(auto, using(crate::proofs::FirstLine::before_found, crate::proofs::FirstLine::before_missing))]
 fn first_line(input: &[u8]) -> &[u8]
     ensures { result.now ≡ before_first is_line_feed input.now }
 {
