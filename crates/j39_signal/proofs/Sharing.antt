@@ -5,7 +5,7 @@ use Rattle.j39_signal.specs.Parts.{SignalParts}
 use Rattle.j39_signal.specs.Places.{SharesBit, shares_bit}
 use Rattle.std.proofs.lemmas.Bool.{ltb-true, lt-ltb}
 
-shared_by_true : (s t : SignalParts) → shares_bit s t ≡ true → SharesBit s t
+pub shared_by_true : (s t : SignalParts) → shares_bit s t ≡ true → SharesBit s t
 shared_by_true s t test =
     let below = ltb-true _ _ test in
     (max s.start t.start, (omega arith, omega arith), (omega arith, omega arith))

@@ -5,4 +5,3 @@ pub mod Parts
 pub mod Places
 pub mod Refusals
 pub mod State
-pub mod inside

@@ -1,24 +1,35 @@
--- Why signals make no layout: the first fault, by the signals in rising order.
-use Rattle.std.specs.Prelude.{ℕ, ◌<◌, ◌≤◌, List, length, take, All}
-use Rattle.std.specs.List.{HoldsAt}
+-- Why signals make no layout: the first fault, of the length and then of the signals in rising order.
+use Rattle.std.specs.Prelude.{◌≡◌, ℕ, ◌||◌, nat_lt, not, Bool, List, [], ◌∷◌, ◌++◌, length, Option, Some, is_some, unwrap_or}
+use Rattle.std.specs.List.{position}
+use Rattle.j39_id.specs.FirstFault.{first_fault}
 use Rattle.j39_id.specs.Limits.{message_bytes}
 use Rattle.j39_signal.specs.Parts.{SignalParts}
-use Rattle.j39_signal.specs.Places.{WidthFits, IsInside, SharesBit, LaysOut}
+use Rattle.j39_signal.specs.Places.{LaysOut, is_inside, shares_bit, width_fits}
 use Rattle.j39_signal.specs.declared.layout_error.LayoutError.{LayoutError}
 use Rattle.j39_signal.specs.declared.layout_error.LayoutError.TheVariants.{Length, Width, Outside, Overlap, Memory}
 
--- the signals before place i lay out a payload of this many bytes, and the signal at i is so
-abbrev pub IsFirst : ℕ → List SignalParts → ℕ → (SignalParts → Type 0) → Type 0
-IsFirst bytes signals i P = (i < length signals) × LaysOut bytes (take i signals) × HoldsAt P signals i
+-- the place of the first of these signals that shares a bit with s
+abbrev pub first_sharer : SignalParts → List SignalParts → Option ℕ
+first_sharer s before = position (λ t. shares_bit t s) before
 
--- the signal at place j is the first of these that shares a bit with s
-abbrev pub IsFirstSharer : SignalParts → List SignalParts → ℕ → Type 0
-IsFirstSharer s before j = (j < length before) × HoldsAt (λ t. SharesBit t s) before j × All (λ t. ¬ SharesBit t s) (take j before)
+-- the faults of a signal behind others in the order in which they are looked for, each with whether it holds
+abbrev pub signal_faults : ℕ → List SignalParts → SignalParts → List (LayoutError × Bool)
+signal_faults bytes before s =
+    (Width (length before), not (width_fits s.kind s.bits))
+    ∷ (Outside (length before), not (is_inside bytes s))
+    ∷ (Overlap (unwrap_or (first_sharer s before) 0) (length before), is_some (first_sharer s before))
+    ∷ []
 
--- the length is out of range; or a signal is the first with a fault; or there is no fault and memory was refused
+-- those of all signals behind others
+abbrev pub faults_behind : ℕ → List SignalParts → List SignalParts → List (LayoutError × Bool)
+faults_behind bytes before [] = []
+faults_behind bytes before (s ∷ rest) = signal_faults bytes before s ++ faults_behind bytes (before ++ s ∷ []) rest
+
+-- those of the length and of all signals
+abbrev pub layout_faults : ℕ → List SignalParts → List (LayoutError × Bool)
+layout_faults bytes signals = (Length, nat_lt bytes 1 || nat_lt message_bytes bytes) ∷ faults_behind bytes [] signals
+
+-- the first fault that holds; or there is none and memory was refused
 abbrev pub HasLayoutFault : ℕ → List SignalParts → LayoutError → Type 0
-HasLayoutFault bytes signals Length = ¬ ((1 ≤ bytes) × (bytes ≤ message_bytes))
-HasLayoutFault bytes signals (Width i) = IsFirst bytes signals i (λ s. ¬ WidthFits s)
-HasLayoutFault bytes signals (Outside i) = IsFirst bytes signals i (λ s. WidthFits s × ¬ IsInside bytes s)
-HasLayoutFault bytes signals (Overlap j i) = IsFirst bytes signals i (λ s. WidthFits s × IsInside bytes s × IsFirstSharer s (take i signals) j)
 HasLayoutFault bytes signals Memory = LaysOut bytes signals
+HasLayoutFault bytes signals e = first_fault (layout_faults bytes signals) ≡ Some e

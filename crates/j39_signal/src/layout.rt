@@ -1,11 +1,11 @@
 //! Layouts.
-ghost use Rattle.std.specs.Prelude.{◌≡◌, ℕ, ◌<◌, length, replicate, All, IfOk, IfErr, IfSome, IfNone, OnOk, OnErr};
+ghost use Rattle.std.specs.Prelude.{◌≡◌, ◌≢◌, ℕ, ◌<◌, length, replicate, All, IfOk, IfErr, IfSome, IfNone, OnOk, OnErr};
 ghost use Rattle.std.specs.List.{HoldsAt};
+ghost use Rattle.j39_id.specs.FirstFault.{first_fault};
 ghost use Rattle.j39_signal.specs.Bits.{Put, raw_of, all_ones};
 ghost use Rattle.j39_signal.specs.Places.{WidthFits, IsInside, SharesBit, LaysOut};
-ghost use Rattle.j39_signal.specs.Refusals.{HasLayoutFault};
+ghost use Rattle.j39_signal.specs.Refusals.{HasLayoutFault, first_sharer as sharer_of, signal_faults};
 ghost use Rattle.j39_signal.specs.State.{state_of, RefusesValue, WritesValue};
-ghost use Rattle.j39_signal.specs.inside.NextFault.{HasFault};
 
 use crate::{LayoutError, Signal, State, WriteError};
 use j39_id::limits::MESSAGE_BYTES;
@@ -30,10 +30,19 @@ impl Model for Layout {
     ghost invariant = { λ l. LaysOut l.bytes l.signals.items };
 }
 
+// The place of the first of these signals that shares a bit with another.
+fn first_sharer(before: &[Signal], signal: &Signal) -> Option<usize>
+    ensures place { result ≡ sharer_of signal.now before.now }
+    ensures none { IfNone result (All (λ t. ¬ SharesBit t signal.now) before.now) }
+{
+    before.iter().position(|other| other.shares_bit(signal))
+}
+
 // Why a signal has no place after these.
 fn fault_after(before: &[Signal], signal: &Signal, length: u16) -> Option<LayoutError>
     ensures none { IfNone result (WidthFits signal.now × IsInside length signal.now × All (λ t. ¬ SharesBit t signal.now) before.now) }
-    ensures fault { IfSome result (HasFault length before.now signal.now) }
+    ensures fault { result ≡ first_fault (signal_faults length before.now signal.now) }
+    ensures lasting { IfSome result (λ fault. fault ≢ LayoutError.Memory) }
 {
     if !signal.width_fits() {
         return Some(LayoutError::Width(before.len()));
@@ -41,7 +50,7 @@ fn fault_after(before: &[Signal], signal: &Signal, length: u16) -> Option<Layout
     if !signal.is_inside(length) {
         return Some(LayoutError::Outside(before.len()));
     }
-    let first = before.iter().position(|other| other.shares_bit(signal))?;
+    let first = first_sharer(before, signal)?;
     Some(LayoutError::Overlap(first, before.len()))
 }
 
