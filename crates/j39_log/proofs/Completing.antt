@@ -45,8 +45,10 @@ abbrev CarriedAreCompleted : Type 0
 CarriedAreCompleted = (h : List Packet) (place group : ℕ) (message : List ℕ) → Carried h place group message → CompletesAt h place group message
 
 -- a message that the listener of a list completes is carried by it
-pub carried_there : CompletedAreCarried → (h : List Packet) (p : Packet) (s after : Receiving) (group : ℕ) (message : List ℕ) → s ≡ after_all h → after ≡ receives s p
-    → All InRange h → InRange p → completes s p ≡ true → after.progress ≡ Complete group → after.bytes ≡ message → Carried (h ++ p ∷ []) (length h) group message
+pub carried_there : CompletedAreCarried → (h : List Packet) (p : Packet) (s after : Receiving) (group : ℕ) (message : List ℕ) → s ≡ after_all h
+    → after ≡ receives s p
+    → All InRange h → InRange p → completes s p ≡ true → after.progress ≡ Complete group → after.bytes ≡ message
+    → Carried (h ++ p ∷ []) (length h) group message
 carried_there law h p s after group message heard_all heard_one all fits told progress bytes =
     let told_all : completes (after_all h) p ≡ true = ap (λ (r : Receiving). completes r p) (sym heard_all) ∙ told in
     let here : listened (h ++ p ∷ []) (suc (length h)) ≡ after = after_more h p ∙ sym (heard_one ∙ ap (λ (r : Receiving). receives r p) heard_all) in
@@ -62,7 +64,8 @@ some_same : (p q : Packet) → Some p ≡ Some q → p ≡ q
 some_same p q e = cc
 
 -- where it completes none, the list carries none
-pub uncarried_there : CarriedAreCompleted → (h : List Packet) (p : Packet) (s : Receiving) → s ≡ after_all h → completes s p ≡ false → CarriesNone (h ++ p ∷ []) (length h)
+pub uncarried_there : CarriedAreCompleted → (h : List Packet) (p : Packet) (s : Receiving) → s ≡ after_all h → completes s p ≡ false
+    → CarriesNone (h ++ p ∷ []) (length h)
 uncarried_there law h p s heard_all untold group message carried =
     let complete = law (h ++ p ∷ []) (length h) group message carried in
     let same : complete.packet ≡ p = some_same complete.packet p (sym complete.stands ∙ slice_get_end h p) in

@@ -35,7 +35,8 @@ pub laid_there : (plan : Plan) (catalog : Catalog) (place : ℕ) (group : GroupP
     → layout ≡ layout_of group
 laid_there plan catalog place group layout of less here at =
     let kept : get_or catalog.layouts.items place layout ≡ layout = at layout in
-    let mapped : get_or (map layout_of plan.groups.items) place layout ≡ layout_of (get_or plan.groups.items place group) = get_or-map layout_of plan.groups.items place group layout less in
+    let mapped : get_or (map layout_of plan.groups.items) place layout ≡ layout_of (get_or plan.groups.items place group) =
+    get_or-map layout_of plan.groups.items place group layout less in
     sym kept ∙ ap (λ (xs : List LayoutParts). get_or xs place layout) of.layouts ∙ mapped ∙ ap layout_of (sym here)
 
 -- its report is that of the place

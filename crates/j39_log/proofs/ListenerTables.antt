@@ -11,6 +11,7 @@ get_set_same (x ∷ xs) zero y less = refl
 get_set_same (x ∷ xs) (suc i) y less = get_set_same xs i y (omega arith)
 
 -- a slot that isn't empty has a listener
-pub has_set : {Z : Type 0} (table : List (Option (Box Receiving Z))) (k : ℕ) (slot : Option (Box Receiving Z)) → k < length table → slot ≢ None → HasListener (slice_set table k slot) k
+pub has_set : {Z : Type 0} (table : List (Option (Box Receiving Z))) (k : ℕ) (slot : Option (Box Receiving Z)) → k < length table → slot ≢ None
+    → HasListener (slice_set table k slot) k
 has_set table k None less some = absurd (some refl)
 has_set table k (Some b) less some = (b, get_set_same table k (Some b) less)

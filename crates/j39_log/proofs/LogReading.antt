@@ -34,7 +34,8 @@ begun plan reading text recalls = record { past = nothing_yet; reports = []; rea
 
 -- what is told next is read
 pub read_next : (plan : Plan) (before next : List Line) (old new : Reading) (written : List ℕ)
-    → ((past : Past) → Recalls old past → (end : Past) × (piece : List ℕ) × ReadsLines plan past next end piece × Recalls new end × (new.text ≡ old.text ++ piece))
+    → ((past : Past) → Recalls old past → (end : Past) × (piece : List ℕ) × ReadsLines plan past next end piece × Recalls new end
+    × (new.text ≡ old.text ++ piece))
     → HasReadLines plan before old written → HasReadLines plan (before ++ next) new written
 read_next plan before next old new written step all =
     let one = step all.past all.recalls in record {
@@ -46,14 +47,19 @@ read_next plan before next old new written step all =
     }
 
 -- what is told of a part of a piece is read behind what is told of the piece before it
-pub read_part : (plan : Plan) (first old new : Reading) (p q : Pending) (used part : List ℕ) (cut : Cut) (line : List ℕ) → q ≡ behind_all p used → told q part ≡ tells cut line
+pub read_part : (plan : Plan) (first old new : Reading) (p q : Pending) (used part : List ℕ) (cut : Cut) (line : List ℕ) → q ≡ behind_all p used
+    → told q part ≡ tells cut line
     → ((before : List Line) (written : List ℕ) → HasReadLines plan before first written → HasReadLines plan (before ++ told p used) old written)
-    → ((past : Past) → Recalls old past → (end : Past) × (piece : List ℕ) × ReadsLines plan past (tells cut line) end piece × Recalls new end × (new.text ≡ old.text ++ piece))
+    → ((past : Past) → Recalls old past → (end : Past) × (piece : List ℕ) × ReadsLines plan past (tells cut line) end piece × Recalls new end
+    × (new.text ≡ old.text ++ piece))
     → (before : List Line) (written : List ℕ) → HasReadLines plan before first written → HasReadLines plan (before ++ told p (used ++ part)) new written
 read_part plan first old new p q used part cut line at is so_far step before written start =
-    let here : told p (used ++ part) ≡ told p used ++ tells cut line = told-append p used part ∙ ap (λ (r : Pending). told p used ++ told r part) (sym at) ∙ ap (λ (u : List Line). told p used ++ u) is in
-    let whole : (before ++ told p used) ++ tells cut line ≡ before ++ told p (used ++ part) = append_assoc before (told p used) (tells cut line) ∙ sym (ap (λ (u : List Line). before ++ u) here) in
-    subst (λ (all : List Line). HasReadLines plan all new written) whole (read_next plan (before ++ told p used) (tells cut line) old new written step (so_far before written start))
+    let here : told p (used ++ part) ≡ told p used ++ tells cut line = told-append p used part
+    ∙ ap (λ (r : Pending). told p used ++ told r part) (sym at) ∙ ap (λ (u : List Line). told p used ++ u) is in
+    let whole : (before ++ told p used) ++ tells cut line ≡ before ++ told p (used ++ part) = append_assoc before (told p used) (tells cut line)
+    ∙ sym (ap (λ (u : List Line). before ++ u) here) in
+    subst (λ (all : List Line). HasReadLines plan all new written) whole
+    (read_next plan (before ++ told p used) (tells cut line) old new written step (so_far before written start))
 
 tells_given : (cut : Cut) (p : Pending) → tells cut (given cut p) ≡ tells cut p.held
 tells_given cuts.More p = refl
@@ -64,7 +70,8 @@ tells_given cuts.Long p = refl
 pub more_seen : (plan : Plan) (seen part : List ℕ) (p : Pending) (reading : Reading) (written : List ℕ) → p ≡ behind_all at_start seen
     → HasReadLines plan (told at_start seen ++ told p part) reading written → HasReadLines plan (told at_start (seen ++ part)) reading written
 more_seen plan seen part p reading written at before =
-    let whole : told at_start seen ++ told p part ≡ told at_start (seen ++ part) = ap (λ (r : Pending). told at_start seen ++ told r part) at ∙ sym (told-append at_start seen part) in
+    let whole : told at_start seen ++ told p part ≡ told at_start (seen ++ part) = ap (λ (r : Pending). told at_start seen ++ told r part) at
+    ∙ sym (told-append at_start seen part) in
     subst (λ (all : List Line). HasReadLines plan all reading written) whole before
 
 -- what a cutter tells at the end
@@ -94,7 +101,8 @@ same_counts reading past recalls =
     ∙ ap (λ (n : ℕ). counts_line (length past.seen) n reading.bad) recalls.skipped_are
     ∙ ap (λ (n : ℕ). counts_line (length past.seen) past.skipped n) recalls.bad_are
 
-pub closed : (plan : Plan) (all : List Line) (reading : Reading) (written text : List ℕ) → text ≡ reading.text ++ counts_line reading.frames reading.skipped reading.bad
+pub closed : (plan : Plan) (all : List Line) (reading : Reading) (written text : List ℕ)
+    → text ≡ reading.text ++ counts_line reading.frames reading.skipped reading.bad
     → HasReadLines plan all reading written → HasWritten plan all (written ++ text)
 closed plan all reading written text ends before = record {
   past = before.past;
@@ -125,7 +133,8 @@ pub partly : (plan : Plan) (seen more : List ℕ) (reading : Reading) (written n
 partly plan seen more reading written next tail x y a b c before consumed ends first second =
     let front = front_of seen in
     let text : before.reports ++ count_line before.past ≡ written ++ (next ++ tail) =
-    ap (λ (t : List ℕ). t ++ count_line before.past) before.text_is ∙ append_assoc written reading.text (count_line before.past) ∙ ap (λ (t : List ℕ). written ++ t) ends in
+    ap (λ (t : List ℕ). t ++ count_line before.past) before.text_is ∙ append_assoc written reading.text (count_line before.past)
+    ∙ ap (λ (t : List ℕ). written ++ t) ends in
     let whole : seen ++ more ≡ front.0 ++ (front.1 ++ more) = ap (λ (t : List ℕ). t ++ more) front.2 ∙ append_assoc front.0 front.1 more in
     let told_text : IsLogText plan front.0 (before.reports ++ count_line before.past) = record {
       past = before.past;

@@ -22,7 +22,8 @@ use Rattle.j39_stream.specs.declared.verdict.Verdict.TheVariants.{Done, Findings
 use Rattle.j39_log.specs.LogFrames.{IsPacket, IsHeardAs, planned_group, planned}
 use Rattle.j39_log.specs.LogPairs.{Seen}
 use Rattle.j39_log.specs.LogReports.{group_report}
-use Rattle.j39_log.specs.ReadText.{IsFrameReport, IsGroupReport, IsLogText, IsMessageText, IsReadText, Past, ReadsFrame, ReadsLine, ReadsLines, count_line, heard_before, nothing_yet, passed_over, refused_plan_line, with_frame}
+use Rattle.j39_log.specs.ReadText.{IsFrameReport, IsGroupReport, IsLogText, IsMessageText, IsReadText, Past, ReadsFrame, ReadsLine}
+use Rattle.j39_log.specs.ReadText.{ReadsLines, count_line, heard_before, nothing_yet, passed_over, refused_plan_line, with_frame}
 
 some_same : {A : Type 0} (x y : A) → Some x ≡ Some y → x ≡ y
 some_same x y e = cc

@@ -1,5 +1,6 @@
 -- What a pair heard, packet after packet, and what its listener is then.
-use Rattle.std.proofs.Common.{◌≡◌, ℕ, zero, suc, ◌<◌, ◌≤◌, Bool, true, false, if◌then◌else◌, List, [], ◌∷◌, ◌++◌, length, All, Option, Some, None, refl, sym, ap, ◌∙◌, subst, arith, append_assoc, add-one, eq-eqb, ◌==◌, ◌&&◌, ◌||◌}
+use Rattle.std.proofs.Common.{◌≡◌, ℕ, zero, suc, ◌<◌, ◌≤◌, Bool, true, false, if◌then◌else◌, List, [], ◌∷◌, ◌++◌, length, All, Option}
+use Rattle.std.proofs.Common.{Some, None, refl, sym, ap, ◌∙◌, subst, arith, append_assoc, add-one, eq-eqb, ◌==◌, ◌&&◌, ◌||◌}
 use Rattle.std.specs.Prelude.{Box}
 use Rattle.std.specs.List.{slice_get}
 use Rattle.std.proofs.lemmas.List.{append-nil, length_push}
@@ -50,7 +51,8 @@ pub heard_more : (s d : ℕ) (seen : List Seen) (x : Seen) → heard s d (seen +
 unfolding heard
 heard_more s d [] x = append-nil (heard_of s d x.frame.ident x.packet)
 heard_more s d (y ∷ seen) x =
-    ap (λ (t : List Packet). heard_of s d y.frame.ident y.packet ++ t) (heard_more s d seen x) ∙ sym (append_assoc (heard_of s d y.frame.ident y.packet) (heard s d seen) (heard_of s d x.frame.ident x.packet))
+    ap (λ (t : List Packet). heard_of s d y.frame.ident y.packet ++ t) (heard_more s d seen x)
+    ∙ sym (append_assoc (heard_of s d y.frame.ident y.packet) (heard s d seen) (heard_of s d x.frame.ident x.packet))
 
 one_turn : (b : Bool) (r : Receiving) (h : List Packet) (p : Packet) → r ≡ after_all h
     → (if b then receives r p else r) ≡ after_all (h ++ (if b then p ∷ [] else []))
@@ -59,7 +61,8 @@ one_turn false r h p e = e ∙ sym (ap after_all (append-nil h))
 
 -- a packet that reaches the listeners of the pairs that hear it
 pub turned : {Z : Type 0} (old new : List (Option (Box Receiving Z))) (seen : List Seen) (f : Frame) (p : Packet)
-    → ((s d : ℕ) → s < 256 → d < 256 → listener_at new (slot_of s d) ≡ (if is_heard_by s d f.ident p then receives (listener_at old (slot_of s d)) p else listener_at old (slot_of s d)))
+    → ((s d : ℕ) → s < 256 → d < 256
+    → listener_at new (slot_of s d) ≡ (if is_heard_by s d f.ident p then receives (listener_at old (slot_of s d)) p else listener_at old (slot_of s d)))
     → HaveHeard old seen → HaveHeard new (seen ++ record { frame = f; packet = Some p } ∷ [])
 turned old new seen f p turn have s d ls ld =
     turn s d ls ld ∙ one_turn (is_heard_by s d f.ident p) (listener_at old (slot_of s d)) (heard s d seen) p (have s d ls ld)
@@ -118,7 +121,8 @@ if_true true x y e = refl
 if_true false x y e = cc
 
 pub heard_itself : {Z : Type 0} (old new : List (Option (Box Receiving Z))) (i : Ident) (p : Packet)
-    → ((s d : ℕ) → s < 256 → d < 256 → listener_at new (slot_of s d) ≡ (if is_heard_by s d i p then receives (listener_at old (slot_of s d)) p else listener_at old (slot_of s d)))
+    → ((s d : ℕ) → s < 256 → d < 256
+    → listener_at new (slot_of s d) ≡ (if is_heard_by s d i p then receives (listener_at old (slot_of s d)) p else listener_at old (slot_of s d)))
     → listener_at new (slot_of i.sa i.ps) ≡ receives (listener_at old (slot_of i.sa i.ps)) p
 heard_itself old new i p turn =
     turn i.sa i.ps i.sa_range i.ps_range

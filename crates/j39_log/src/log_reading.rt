@@ -63,7 +63,8 @@ fn write_planned(
     bytes: &[u8],
 ) -> Result<(), AllocError>
     requires { IsCatalogOf plan.now catalog.now }
-    ensures { OnOk result ((piece : List ℕ) × IsGroupReport plan.now (planned plan.now pgn (length bytes.now)) ident bytes.now piece × (text.new ≡ text.old ++ piece)) }
+    ensures { OnOk result ((piece : List ℕ) × IsGroupReport plan.now (planned plan.now pgn (length bytes.now)) ident bytes.now piece
+        × (text.new ≡ text.old ++ piece)) }
 {
     match catalog.place(pgn, bytes.len()) {
         Some(place) => write_group(text, plan, catalog, place, ident, bytes),

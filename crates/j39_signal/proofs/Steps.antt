@@ -40,7 +40,11 @@ on_step s v d n is_distance is_step none =
     sym is_distance ∙ whole d n none ∙ ap (λ m. m * (d / n)) is_step
     in
     by_lt_z v s.offset
-    (λ below. (neg_ℤ (pos (d / n)), below_offset v s.offset below ∙ ap (λ m. s.offset +ℤ neg_ℤ (pos m)) steps ∙ ap (λ z. s.offset +ℤ z) (neg-mul s.step (d / n))))
+    (λ below. (
+      neg_ℤ (pos (d / n)),
+      below_offset v s.offset below ∙ ap (λ m. s.offset +ℤ neg_ℤ (pos m)) steps
+          ∙ ap (λ z. s.offset +ℤ z) (neg-mul s.step (d / n)),
+    ))
     (λ above. (pos (d / n), from_offset v s.offset above ∙ ap (λ m. s.offset +ℤ pos m) steps))
 
 -- the raw number of a value is its distance in steps

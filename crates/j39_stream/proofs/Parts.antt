@@ -1,5 +1,6 @@
 -- What stands written where a text was cut, and what was told of the front of a text.
-use Rattle.std.proofs.Common.{◌≡◌, ℕ, ◌+◌, ◌<◌, ◌≤◌, ◌⊎◌, ◌==◌, List, [], ◌∷◌, ◌++◌, length, take, Option, Some, None, inl, inr, refl, sym, ap, ◌∙◌, subst, arith, append_assoc}
+use Rattle.std.proofs.Common.{◌≡◌, ℕ, ◌+◌, ◌<◌, ◌≤◌, ◌⊎◌, ◌==◌, List, [], ◌∷◌, ◌++◌, length, take, Option}
+use Rattle.std.proofs.Common.{Some, None, inl, inr, refl, sym, ap, ◌∙◌, subst, arith, append_assoc}
 use Rattle.std.specs.Io.KnownBytes.{Appends, Consumes}
 use Rattle.std.proofs.KnownBytes.{Appends-trans}
 use Rattle.std.proofs.Math.Seq.{take-append-add}
@@ -21,12 +22,14 @@ at_most n xs =
     ]
 
 -- what was written, and some first bytes of what was to be written next
-pub part_after : (a b c : Option (List ℕ)) (written next tail text : List ℕ) → text ≡ written ++ (next ++ tail) → Appends a b written → AppendsPart b c next → AppendsPart a c text
+pub part_after : (a b c : Option (List ℕ)) (written next tail text : List ℕ) → text ≡ written ++ (next ++ tail) → Appends a b written
+    → AppendsPart b c next → AppendsPart a c text
 part_after a b c written next tail text ends first second =
     let n = at_most second.0 next in
     let part : Appends b c (take n.0 next) = subst (Appends b c) n.2 second.1 in
     let cut : take (length written + n.0) text ≡ written ++ take n.0 next =
-    ap (λ (t : List ℕ). take (length written + n.0) t) ends ∙ take-append-add written (next ++ tail) n.0 ∙ ap (λ (t : List ℕ). written ++ t) (take-append-le n.0 next tail n.1) in
+    ap (λ (t : List ℕ). take (length written + n.0) t) ends ∙ take-append-add written (next ++ tail) n.0
+    ∙ ap (λ (t : List ℕ). written ++ t) (take-append-le n.0 next tail n.1) in
     (length written + n.0, subst (Appends a c) (sym cut) (Appends-trans a b c written (take n.0 next) first part))
 
 -- behind an answer a cutter tells nothing at the end

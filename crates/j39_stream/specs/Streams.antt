@@ -1,5 +1,6 @@
 -- What calls of a source and a sink do to their counts, and what was written where a call failed.
-use Rattle.std.specs.Prelude.{◌≡◌, ℕ, ◌+◌, ◌-◌, ◌<◌, ◌≤◌, ◌^◌, ◌==◌, ◌⊎◌, ◌&&◌, ◌||◌, nat_lt, min, max, Bool, if◌then◌else◌, List, length, take, Option, Result, is_ok, not}
+use Rattle.std.specs.Prelude.{◌≡◌, ℕ, ◌+◌, ◌-◌, ◌<◌, ◌≤◌, ◌^◌, ◌==◌, ◌⊎◌, ◌&&◌, ◌||◌, nat_lt, min, max}
+use Rattle.std.specs.Prelude.{Bool, if◌then◌else◌, List, length, take, Option, Result, is_ok, not}
 use Rattle.std.specs.Result.{result_unwrap_or}
 use Rattle.std.specs.Io.KnownBytes.{Appends, Consumes}
 use Rattle.j39_stream.specs.declared.failed.Failed.{Failed}

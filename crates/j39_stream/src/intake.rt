@@ -37,11 +37,13 @@ impl Intake {
     pub fn pull<S: Source>(&mut self, source: &mut S, piece: &mut [u8]) -> Result<usize, Fault>
         requires { 0 < length piece.old }
         ensures count { IfOk result (λ n. n ≤ length piece.old) }
-        ensures more { IfOk result (λ n. (first : Option (List ℕ)) (pulls : ℕ) (text : List ℕ) → HasRead first (S.left source.old) pulls (S.pulls source.old) self.old text
+        ensures more { IfOk result (λ n. (first : Option (List ℕ)) (pulls : ℕ) (text : List ℕ)
+            → HasRead first (S.left source.old) pulls (S.pulls source.old) self.old text
             → 0 < n → HasRead first (S.left source.new) pulls (S.pulls source.new) self.new (text ++ take n piece.new)) }
         ensures fewer { OnOk result (self.old.calls < self.new.calls × self.new.calls ≤ 1048576) }
         ensures end { IfOk result (λ n. n ≡ 0 → IsAtEnd (S.left source.new)) }
-        ensures last { IfOk result (λ n. (first : Option (List ℕ)) (pulls : ℕ) (text : List ℕ) → HasRead first (S.left source.old) pulls (S.pulls source.old) self.old text
+        ensures last { IfOk result (λ n. (first : Option (List ℕ)) (pulls : ℕ) (text : List ℕ)
+            → HasRead first (S.left source.old) pulls (S.pulls source.old) self.old text
             → n ≡ 0 → Consumes first (S.left source.new) text × KeepsLimits first (S.left source.new) pulls (S.pulls source.new)) }
         ensures long { IsErrOf result Fault.TooLong → (first : Option (List ℕ)) (pulls : ℕ) (text : List ℕ)
             → HasRead first (S.left source.old) pulls (S.pulls source.old) self.old text → PassesLimits first (S.left source.new) pulls (S.pulls source.new) }

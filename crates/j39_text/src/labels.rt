@@ -1,6 +1,7 @@
 //! What a place of a plan names. Past the last place there is nothing.
 ghost use Rattle.std.specs.Prelude.{◌≡◌, ◌++◌, OnOk};
-ghost use Rattle.j39_text.specs.Labels.{group_label, group_pgn, group_text, signal_bits, signal_end, signal_label, signals_of, unit_address, unit_label, units_text};
+ghost use Rattle.j39_text.specs.Labels.{group_label, group_pgn, group_text, signal_bits, signal_end, signal_label};
+ghost use Rattle.j39_text.specs.Labels.{signals_of, unit_address, unit_label, units_text};
 
 use crate::TextBuffer;
 use j39_plan::Plan;

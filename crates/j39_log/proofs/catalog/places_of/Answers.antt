@@ -16,4 +16,5 @@ loop-place-preserved c =
 
 pub returns : goal.returns
 returns c =
-    subst (λ (gs : List GroupPlan). IsIndex gs c.loop-place.places) (take_all c.loop-place.place c.args.groups.now c.loop-place-test.false) c.loop-place.invariant
+    subst (λ (gs : List GroupPlan). IsIndex gs c.loop-place.places) (take_all c.loop-place.place c.args.groups.now c.loop-place-test.false)
+    c.loop-place.invariant

@@ -22,7 +22,13 @@ loop-reading-init g c =
     let count = c.new-reading.ensures.count in (
       [],
       [],
-      record { consumed = none_read (g.S.Source.left c.args.source.now); bytes_are = bytes; within = omega arith; calls_gave = omega (arith, calls); pulls_are = omega (arith, calls) },
+      record {
+        consumed = none_read (g.S.Source.left c.args.source.now);
+        bytes_are = bytes;
+        within = omega arith;
+        calls_gave = omega (arith, calls);
+        pulls_are = omega (arith, calls);
+      },
       c.new-cutter.ensures.pending,
       begun c.args.plan.now c.new-reading.result c.new-reading.ensures.text c.new-reading.ensures.past,
       omega (arith, count),
@@ -37,7 +43,8 @@ returns-in_err-count-clause-cut g c =
     let kept = c.pull.ensures.kept (g.S.Source.left c.args.source.now) before.0 before.2.consumed in
     on_error c.from_residual.result _
     (partly c.args.plan.now before.0 kept.0 c.loop-reading.reading before.1 [] (c.loop-reading.reading.text ++ count_line before.4.past)
-    (g.S.Source.left c.args.source.now) (g.S.Source.left c.pull.new.source) (g.W.Sink.taken c.args.sink.now) (g.W.Sink.taken c.loop-reading.sink) (g.W.Sink.taken c.loop-reading.sink)
+    (g.S.Source.left c.args.source.now) (g.S.Source.left c.pull.new.source) (g.W.Sink.taken c.args.sink.now) (g.W.Sink.taken c.loop-reading.sink)
+    (g.W.Sink.taken c.loop-reading.sink)
     before.4 kept.1 refl before.6 (0, none_taken (g.W.Sink.taken c.loop-reading.sink)))
 
 pub returns-in_err-count-clause-long : goal.returns-in_err-count-clause-long
@@ -70,7 +77,8 @@ returns-in_err-read_piece-clause-cut g c =
     let next = c.in_ok-count.ensures.more (g.S.Source.left c.args.source.now) (g.S.Source.pulls c.args.source.now) before.0 before.2 some in
     on_error c.from_residual-in_err-read_piece.result _
     (partly c.args.plan.now before.0 part c.loop-reading.reading before.1 [] (c.loop-reading.reading.text ++ count_line before.4.past)
-    (g.S.Source.left c.args.source.now) (g.S.Source.left c.pull.new.source) (g.W.Sink.taken c.args.sink.now) (g.W.Sink.taken c.loop-reading.sink) (g.W.Sink.taken c.loop-reading.sink)
+    (g.S.Source.left c.args.source.now) (g.S.Source.left c.pull.new.source) (g.W.Sink.taken c.args.sink.now) (g.W.Sink.taken c.loop-reading.sink)
+    (g.W.Sink.taken c.loop-reading.sink)
     before.4 next.consumed refl before.6 (0, none_taken (g.W.Sink.taken c.loop-reading.sink)))
 
 pub loop-reading-smaller : goal.loop-reading-smaller
@@ -86,7 +94,8 @@ loop-reading-preserved g c =
     let part : List ℕ = take c.in_ok-count.count c.pull.new.piece in
     let some : 0 < c.in_ok-count.count = search rules in
     let next = c.in_ok-count.ensures.more (g.S.Source.left c.args.source.now) (g.S.Source.pulls c.args.source.now) before.0 before.2 some in
-    let read = more_seen c.args.plan.now before.0 part c.loop-reading.cutter.pending c.read_piece.new.reading before.1 before.3 (c.in_ok-read_piece.ensures.lines (told at_start before.0) before.1 before.4) in
+    let read = more_seen c.args.plan.now before.0 part c.loop-reading.cutter.pending c.read_piece.new.reading before.1 before.3
+    (c.in_ok-read_piece.ensures.lines (told at_start before.0) before.1 before.4) in
     let len = length-append before.0 part in
     let counted_before = before.5 in
     let count = c.in_ok-read_piece.ensures.count in (
@@ -107,7 +116,8 @@ returns-in_err-put_text-clause-cut g c =
     let part : List ℕ = take c.in_ok-count.count c.pull.new.piece in
     let some : 0 < c.in_ok-count.count = search rules in
     let next = c.in_ok-count.ensures.more (g.S.Source.left c.args.source.now) (g.S.Source.pulls c.args.source.now) before.0 before.2 some in
-    let read = more_seen c.args.plan.now before.0 part c.loop-reading.cutter.pending c.read_piece.new.reading before.1 before.3 (c.in_ok-read_piece.ensures.lines (told at_start before.0) before.1 before.4) in
+    let read = more_seen c.args.plan.now before.0 part c.loop-reading.cutter.pending c.read_piece.new.reading before.1 before.3
+    (c.in_ok-read_piece.ensures.lines (told at_start before.0) before.1 before.4) in
     let x = g.S.Source.left c.args.source.now in
     let y = g.S.Source.left c.pull.new.source in
     on_error c.from_residual-in_err-put_text.result _
@@ -133,14 +143,16 @@ returns-in_err-close-clause-cut g c =
     on_error c.from_residual-in_err-close.result _
     (partly c.args.plan.now before.0 [] c.loop-reading.reading before.1 [] (c.loop-reading.reading.text ++ count_line before.4.past)
     x y (g.W.Sink.taken c.args.sink.now) (g.W.Sink.taken c.loop-reading.sink) (g.W.Sink.taken c.loop-reading.sink)
-    before.4 (subst (λ (bytes : List ℕ). Consumes x y bytes) (sym (append-nil before.0)) last.0) refl before.6 (0, none_taken (g.W.Sink.taken c.loop-reading.sink)))
+    before.4 (subst (λ (bytes : List ℕ). Consumes x y bytes) (sym (append-nil before.0)) last.0) refl before.6
+    (0, none_taken (g.W.Sink.taken c.loop-reading.sink)))
 
 pub returns-clause-ok : goal.returns-clause-ok
 returns-clause-ok g c =
     let before = c.loop-reading.invariant in
     let last = c.in_ok-count.ensures.last (g.S.Source.left c.args.source.now) (g.S.Source.pulls c.args.source.now) before.0 before.2 c.if-count-eq0.true in
     let all : List ℕ = c.close.new.reading.text in
-    let whole = subst (λ p. HasWritten c.args.plan.now (told at_start before.0 ++ told_at_end p) (before.1 ++ all)) before.3 (c.in_ok-close.ensures (told at_start before.0) before.1 before.4) in
+    let whole = subst (λ p. HasWritten c.args.plan.now (told at_start before.0 ++ told_at_end p) (before.1 ++ all)) before.3
+    (c.in_ok-close.ensures (told at_start before.0) before.1 before.4) in
     IfOk-weaker c.put_text-2.result _ _
     (λ _ taken. (
       before.0,
@@ -159,7 +171,8 @@ returns-clause-cut g c =
     let y = g.S.Source.left c.pull.new.source in
     let last = c.in_ok-count.ensures.last x (g.S.Source.pulls c.args.source.now) before.0 before.2 c.if-count-eq0.true in
     let all : List ℕ = c.close.new.reading.text in
-    let whole = subst (λ p. HasWritten c.args.plan.now (told at_start before.0 ++ told_at_end p) (before.1 ++ all)) before.3 (c.in_ok-close.ensures (told at_start before.0) before.1 before.4) in
+    let whole = subst (λ p. HasWritten c.args.plan.now (told at_start before.0 ++ told_at_end p) (before.1 ++ all)) before.3
+    (c.in_ok-close.ensures (told at_start before.0) before.1 before.4) in
     IfErr-weaker c.put_text-2.result _ _
     (λ _ cut. (
       before.0,

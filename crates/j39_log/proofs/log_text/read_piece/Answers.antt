@@ -1,4 +1,5 @@
-use Rattle.std.proofs.Common.{rules, ◌≡◌, ◌+◌, ◌-◌, ◌<◌, ◌++◌, [], ℕ, List, Bor, Option, Some, None, length, take, drop, refl, sym, ap, ◌∙◌, arith, append_assoc}
+use Rattle.std.proofs.Common.{rules, ◌≡◌, ◌+◌, ◌-◌, ◌<◌, ◌++◌, [], ℕ, List, Bor, Option, Some, None}
+use Rattle.std.proofs.Common.{length, take, drop, refl, sym, ap, ◌∙◌, arith, append_assoc}
 use Rattle.std.specs.Prelude.{unwrap_or}
 use Rattle.std.specs.Option.{option_copied}
 use Rattle.std.proofs.lemmas.List.{append-nil, length-append, length-drop, length-take-le, take-append-drop, take_rest}
@@ -54,7 +55,8 @@ loop-rest-preserved c =
       used ++ part,
       row ∙ ap (λ (t : List ℕ). (used ++ part) ++ t) (sym (take_rest rest n)),
       c.advance-step.ensures.pending ∙ ap (λ p. behind_all p part) before.2 ∙ sym (behind_all-append c.args.cutter.now.pending used part),
-      read_part c.args.plan.now c.args.reading.now c.loop-rest.reading c.read_cut.new.self c.args.cutter.now.pending c.loop-rest.cutter.pending used part c.advance-step.result.cut line
+      read_part c.args.plan.now c.args.reading.now c.loop-rest.reading c.read_cut.new.self c.args.cutter.now.pending c.loop-rest.cutter.pending used
+          part c.advance-step.result.cut line
           before.2 (c.advance-step.ensures.told ∙ ap (λ (l : List ℕ). tells c.advance-step.result.cut l) is) before.3 c.in_ok-read_cut.ensures.lines,
       omega (arith, count, one, len, part_len, some),
     )

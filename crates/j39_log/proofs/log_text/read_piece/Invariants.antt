@@ -7,7 +7,8 @@ abbrev pub invariant-loop-rest : goal.invariant-loop-rest
 invariant-loop-rest l =
     (used : List ℕ) × (l.piece ≡ used ++ l.rest)
     × (l.cutter.pending ≡ behind_all l.fn.cutter.pending used)
-    × ((before : List Line) (written : List ℕ) → HasReadLines l.plan before l.fn.reading written → HasReadLines l.plan (before ++ told l.fn.cutter.pending used) l.reading written)
+    × ((before : List Line) (written : List ℕ) → HasReadLines l.plan before l.fn.reading written
+    → HasReadLines l.plan (before ++ told l.fn.cutter.pending used) l.reading written)
     × (counted l.reading ≤ counted l.fn.reading + length used)
 
 abbrev pub decreases-loop-rest : goal.decreases-loop-rest

@@ -12,6 +12,7 @@ returns-clause-bytes c =
     let fits : at + n ≤ length input = grind (arith, common_steps) in
     let cut : at + n - at ≡ n = omega arith in
     let copied : c.copy_from_slice.new.self ≡ take n (drop at input) = grind (arith, common_steps) in (
-      ap (λ t. t.left) (sym c.count_call-call.ensures.after ∙ sym c.self.view_is) ∙ piece_moved input c.args.buffer.now c.copy_from_slice.new.self at n fits copied,
+      ap (λ t. t.left) (sym c.count_call-call.ensures.after ∙ sym c.self.view_is)
+          ∙ piece_moved input c.args.buffer.now c.copy_from_slice.new.self at n fits copied,
       λ none some. drop_all (at + n) input (grind (arith, common_steps, length-append)),
     )
