@@ -11,11 +11,11 @@ use Rattle.j39_claim.specs.ClaimRule.{PlannedUnit, ClaimState, off}
 use Rattle.j39_claim.specs.ClaimerValue.{ClaimerValue}
 use Rattle.j39_plan.specs.declared.plan.unit_plan.UnitPlan.{UnitPlan}
 use Rattle.j39_claim.specs.declared.item.Item.{Item}
-use Rattle.j39_world.specs.Claimants.{claimant_of, unit_at}
+use Rattle.j39_world.specs.PlannedUnits.{planned_unit, unit_at}
 use Rattle.j39_world.specs.Transfers.{Outgoing}
 use Rattle.j39_bus.specs.BusState.{session_at}
 use Rattle.j39_bus.specs.Stations.{unstarted, station_at}
-use Rattle.j39_bus.specs.inside.Network.{IsWellFormed, claimants}
+use Rattle.j39_bus.specs.inside.Network.{IsWellFormed, planned_units}
 use Rattle.j39_bus.specs.inside.Traffic.{AreSessions}
 use Rattle.j39_bus.proofs.ChangedSessions.{none_some}
 use Rattle.j39_queues.specs.Queued.{IsTable}
@@ -25,9 +25,9 @@ station_unstarted kept [] u = refl
 station_unstarted kept (p ∷ units) zero = refl
 station_unstarted kept (p ∷ units) (suc u) = station_unstarted kept units u
 
-pub claimants-unstarted : (kept : FinSet nat_cmp) (units : List UnitPlan) → claimants (map (unstarted kept) units) ≡ map (claimant_of kept) units
-claimants-unstarted kept [] = refl
-claimants-unstarted kept (p ∷ units) = ap (λ (cs : List PlannedUnit). claimant_of kept p ∷ cs) (claimants-unstarted kept units)
+pub planned_units-unstarted : (kept : FinSet nat_cmp) (units : List UnitPlan) → planned_units (map (unstarted kept) units) ≡ map (planned_unit kept) units
+planned_units-unstarted kept [] = refl
+planned_units-unstarted kept (p ∷ units) = ap (λ (cs : List PlannedUnit). planned_unit kept p ∷ cs) (planned_units-unstarted kept units)
 
 length-unstarted : (kept : FinSet nat_cmp) (units : List UnitPlan) → length (map (unstarted kept) units) ≡ length units
 length-unstarted kept [] = refl
@@ -37,11 +37,14 @@ pub length_opened : (kept : FinSet nat_cmp) (units : List UnitPlan) (cs : List C
 length_opened kept units cs is = ap length is ∙ length-unstarted kept units
 
 -- units that are not started
-pub well_opened : (kept : FinSet nat_cmp) (units : List UnitPlan) → length units ≤ 128 → (cs : List ClaimerValue) (lists : List (List (List Item))) → cs ≡ map (unstarted kept) units → IsTable (length units) lists → IsWellFormed cs lists
+pub well_opened : (kept : FinSet nat_cmp) (units : List UnitPlan) → length units ≤ 128 → (cs : List ClaimerValue) (lists : List (List (List Item)))
+    → cs ≡ map (unstarted kept) units → IsTable (length units) lists → IsWellFormed cs lists
 well_opened kept units few cs lists cs_is table = record {
   few = omega (arith, length_opened kept units cs cs_is, few);
   table = subst (λ (n : ℕ). IsTable n lists) (sym (length_opened kept units cs cs_is)) table;
-  notes = λ v n h. absurd (true≢false (sym h ∙ ap is_some (ap (λ (s : ClaimState). get s.notes n) (ap (λ (l : List ClaimerValue). station_at l v) cs_is ∙ station_unstarted kept units v) ∙ get-empty nat_cmp n)));
+  notes = λ v n h. absurd (true≢false
+      (sym h ∙ ap is_some (ap (λ (s : ClaimState). get s.notes n) (ap (λ (l : List ClaimerValue). station_at l v) cs_is ∙ station_unstarted kept units v)
+      ∙ get-empty nat_cmp n)));
 }
 
 -- no unit sends anything
@@ -57,7 +60,8 @@ sessions_first n list is = record {
 }
 
 -- the NAME at a place of the plan
-pub named_at : (kept : FinSet nat_cmp) (units : List UnitPlan) (k : ℕ) (p : UnitPlan) → k < length units → p ≡ get_or units k p → (unit_at (map (claimant_of kept) units) k).name ≡ p.name
+pub named_at : (kept : FinSet nat_cmp) (units : List UnitPlan) (k : ℕ) (p : UnitPlan) → k < length units → p ≡ get_or units k p
+    → (unit_at (map (planned_unit kept) units) k).name ≡ p.name
 named_at kept [] k p inside is = absurd (omega arith)
 named_at kept (q ∷ units) zero p inside is = ap (λ (u : UnitPlan). u.name) (sym is)
 named_at kept (q ∷ units) (suc k) p inside is = named_at kept units k p (omega arith) is

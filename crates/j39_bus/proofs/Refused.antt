@@ -16,16 +16,16 @@ use Rattle.j39_world.specs.Flows.{Flow, can_be_sent}
 use Rattle.j39_world.specs.Resting.{can_rest}
 use Rattle.j39_bus.specs.Stations.{station_at, absent_unit}
 use Rattle.j39_bus.specs.BusState.{Histories}
-use Rattle.j39_bus.specs.inside.Network.{IsOfPlan, claimants}
+use Rattle.j39_bus.specs.inside.Network.{IsOfPlan, planned_units}
 use Rattle.j39_world.specs.World.{World}
 use Rattle.j39_world.specs.Run.{at_ends, begin_refusal, both, can_emit, cause_of, has_address, is_no_transfer_open, is_nothing_undelivered, is_on, is_waiting, refusal, refusal_among, refuse_unless}
 use Rattle.j39_bus.specs.inside.Traffic.{route_of}
 use Rattle.j39_bus.proofs.Rested.{units_count}
 use Rattle.j39_bus.proofs.Worlds.{any_default}
 
-pub length-claimants : (cs : List ClaimerValue) → length (claimants cs) ≡ length cs
-length-claimants [] = refl
-length-claimants (c ∷ cs) = omega (arith, length-claimants cs)
+pub length-planned_units : (cs : List ClaimerValue) → length (planned_units cs) ≡ length cs
+length-planned_units [] = refl
+length-planned_units (c ∷ cs) = omega (arith, length-planned_units cs)
 
 -- the unit at a place
 pub station_is : (cs : List ClaimerValue) (u : ℕ) (c : ClaimerValue) → u < length cs → c ≡ get_or cs u c → (station_at cs u).on ≡ c.state.on
@@ -39,7 +39,8 @@ met false e more some = absurd (cc some)
 
 module _ (a b : Bool) (e f : StepError) where
   -- a cause of the first two conditions is one of all
-  pub earlier : (x : StepError) (more : Option StepError) → Some x ≡ refuse_unless a e (refuse_unless b f None) → Some x ≡ refuse_unless a e (refuse_unless b f more)
+  pub earlier : (x : StepError) (more : Option StepError) → Some x ≡ refuse_unless a e (refuse_unless b f None)
+      → Some x ≡ refuse_unless a e (refuse_unless b f more)
   earlier x more is = elim a as (λ a. Some x ≡ refuse_unless a e (refuse_unless b f None) → Some x ≡ refuse_unless a e (refuse_unless b f more)) [
     | true ↦ elim b as (λ b. Some x ≡ refuse_unless b f None → Some x ≡ refuse_unless b f more) [ true ↦ λ none. absurd (cc none) | false ↦ λ here. here ]
     | false ↦ λ here. here
@@ -57,14 +58,16 @@ module _ (a b : Bool) (e f : StepError) where
   later more is = let met = both_met is in rw (met.0, met.1) refl
 
   -- where they are, it is the third's
-  pub third : (c x : Bool) (g : StepError) → c ≡ x → None ≡ refuse_unless a e (refuse_unless b f None) → refuse_unless x g None ≡ refuse_unless a e (refuse_unless b f (refuse_unless c g None))
+  pub third : (c x : Bool) (g : StepError) → c ≡ x → None ≡ refuse_unless a e (refuse_unless b f None)
+      → refuse_unless x g None ≡ refuse_unless a e (refuse_unless b f (refuse_unless c g None))
   third c x g c_is is = ap (λ y. refuse_unless y g None) (sym c_is) ∙ later (refuse_unless c g None) is
 
   -- where three are met
   pub all_met : (c : Bool) (g : StepError) → refuse_unless a e (refuse_unless b f (refuse_unless c g None)) ≡ None → (a ≡ true) × (b ≡ true) × (c ≡ true)
   all_met c g is = elim a as (λ a. refuse_unless a e (refuse_unless b f (refuse_unless c g None)) ≡ None → (a ≡ true) × (b ≡ true) × (c ≡ true)) [
     | true ↦ elim b as (λ b. refuse_unless b f (refuse_unless c g None) ≡ None → (true ≡ true) × (b ≡ true) × (c ≡ true)) [
-      | true ↦ elim c as (λ c. refuse_unless c g None ≡ None → (true ≡ true) × (true ≡ true) × (c ≡ true)) [ true ↦ λ none. (refl, refl, refl) | false ↦ λ some. absurd (cc some) ]
+      | true ↦ elim c as (λ c. refuse_unless c g None ≡ None → (true ≡ true) × (true ≡ true) × (c ≡ true))
+          [ true ↦ λ none. (refl, refl, refl) | false ↦ λ some. absurd (cc some) ]
       | false ↦ λ some. absurd (cc some)
     ]
     | false ↦ λ some. absurd (cc some)
@@ -76,14 +79,16 @@ abbrev pub IsOwnCause : Option StepError → Type 0
 IsOwnCause None = Unit {0}
 IsOwnCause (Some e) = Some e ≡ cause_of e
 
-own_of : (a b c : Bool) (e f g : StepError) → Some e ≡ cause_of e → Some f ≡ cause_of f → Some g ≡ cause_of g → IsOwnCause (refuse_unless a e (refuse_unless b f (refuse_unless c g None)))
+own_of : (a b c : Bool) (e f g : StepError) → Some e ≡ cause_of e → Some f ≡ cause_of f → Some g ≡ cause_of g
+    → IsOwnCause (refuse_unless a e (refuse_unless b f (refuse_unless c g None)))
 own_of true true true e f g x y z = tt
 own_of true true false e f g x y z = z
 own_of true false c e f g x y z = y
 own_of false b c e f g x y z = x
 
 own_begin : (a b c d e f : Bool)
-    → IsOwnCause (refuse_unless a NoSuchFlow (refuse_unless b NotStarted (refuse_unless c NotSettled (refuse_unless d NoAddress (refuse_unless e Busy (refuse_unless f WrongLength None))))))
+    → IsOwnCause (refuse_unless a NoSuchFlow
+    (refuse_unless b NotStarted (refuse_unless c NotSettled (refuse_unless d NoAddress (refuse_unless e Busy (refuse_unless f WrongLength None))))))
 own_begin true true true true true true = tt
 own_begin true true true true true false = refl
 own_begin true true true true false f = refl

@@ -4,7 +4,7 @@ use Rattle.std.proofs.lemmas.Bool.{and_right, cases_eq}
 use Rattle.std.proofs.lemmas.List.{length-map}
 use Rattle.j39_claim.specs.ClaimerValue.{ClaimerValue}
 use Rattle.j39_plan.specs.declared.plan.Plan.{Plan}
-use Rattle.j39_world.specs.Claimants.{claimant_of}
+use Rattle.j39_world.specs.PlannedUnits.{planned_unit}
 use Rattle.j39_world.specs.Run.{count_of, is_no_transfer_open}
 use Rattle.std.specs.List.{list_all, list_any, range_with_len}
 use Rattle.j39_tp.specs.Receiver.{is_open_at}
@@ -16,7 +16,8 @@ use Rattle.j39_world.specs.Resting.{is_of_sender, is_of_receiver, is_over_with}
 
 none_of : {X : Type 0} (test : X → Bool) (xs : List X) → list_all (λ x. not (test x)) xs ≡ not (list_any test xs)
 none_of test [] = refl
-none_of test (x ∷ xs) = elim (test x) as (λ b. (not b && list_all (λ x. not (test x)) xs) ≡ not (b || list_any test xs)) [ true ↦ refl | false ↦ none_of test xs ]
+none_of test (x ∷ xs) = elim (test x) as (λ b. (not b && list_all (λ x. not (test x)) xs) ≡ not (b || list_any test xs))
+    [ true ↦ refl | false ↦ none_of test xs ]
 
 pub over_from : (h : Histories) (net : Network) (u v : ℕ) (a b d : Bool) → is_open_at (holding_at net.receivers.holdings v u).progress ≡ a
     → list_any is_of_sender (pair_in net.wire.lists u v) ≡ b → list_any is_of_receiver (pair_in net.wire.lists v u) ≡ d
@@ -43,7 +44,8 @@ pub not_below : (test : ℕ → Bool) (n k : ℕ) → k < n → test k ≡ false
 not_below test n k inside is = not_from test 0 n k (omega arith) (omega arith) is
 
 -- ---- no unit is sending
-all_idle : {X : Type 0} (a : ℕ) (xs : List (Option X)) (test : ℕ → Bool) → ((j : ℕ) → j < length xs → test (a + j) ≡ not (is_some (get_or xs j None))) → list_all test (range_with_len a (length xs)) ≡ not (list_any (λ x. is_some x) xs)
+all_idle : {X : Type 0} (a : ℕ) (xs : List (Option X)) (test : ℕ → Bool) → ((j : ℕ) → j < length xs → test (a + j) ≡ not (is_some (get_or xs j None)))
+    → list_all test (range_with_len a (length xs)) ≡ not (list_any (λ x. is_some x) xs)
 all_idle a [] test is = refl
 all_idle a (None ∷ xs) test is =
     let here : test a ≡ true = ap test (omega arith) ∙ is 0 (omega arith) in
@@ -53,7 +55,8 @@ all_idle a (Some x ∷ xs) test is =
     rw here refl
 
 pub units_count : (plan : Plan) (net : Network) → IsOfPlan plan net → count_of plan ≡ length net.claimers.items
-units_count plan net of = sym (length-map plan.units.items (claimant_of plan.keep_free)) ∙ sym (ap length of.units) ∙ length-map net.claimers.items (λ (c : ClaimerValue). c.planned)
+units_count plan net of = sym (length-map plan.units.items (planned_unit plan.keep_free)) ∙ sym (ap length of.units)
+    ∙ length-map net.claimers.items (λ (c : ClaimerValue). c.planned)
 
 pub idle_by : (net : Network) (h : Histories) → length net.sessions.items ≡ length net.claimers.items
     → is_no_transfer_open (length net.claimers.items) (world_in h net) ≡ not (list_any (λ s. is_some s) net.sessions.items)

@@ -10,7 +10,7 @@ use Rattle.j39_bus.specs.BusState.{BusState, Histories, histories_of}
 use Rattle.j39_bus.specs.Stands.{Stands}
 use Rattle.j39_bus.specs.inside.Network.{state_of, world_in, HasHeld, IsNetwork, IsBus, IsOfPlan, IsAllowed, IsSameNetwork, KeepsPlan, HasStepped, refusal_in}
 use Rattle.j39_bus.specs.inside.Traffic.{route_of}
-use Rattle.j39_bus.proofs.Refused.{length-claimants, refusal_is}
+use Rattle.j39_bus.proofs.Refused.{length-planned_units, refusal_is}
 use Rattle.j39_bus.proofs.Steady.{plan_kept, state_is}
 
 -- a bus stands for each world of its network whose receivers hold what was taken
@@ -29,11 +29,11 @@ module _ {X : Type 0} (old new : Network) (b : BusState) (is_state : state_of ol
   pub step_done : KeepsPlan old new → OnOk result (IsAllowed old step)
       → OnOk result ((plan : Plan) → IsOfPlan plan old → HasStepped plan old step new)
       → OnOk result ((plan : Plan) (w : World) → Stands b plan w
-          → (refusal plan w step ≡ None) × ((after : World) × StepsTo plan w step after × Stands (state_of new) plan after))
+      → (refusal plan w step ≡ None) × ((after : World) × StepsTo plan w step after × Stands (state_of new) plan after))
   step_done keeps may h = elim result as (λ (r : Result X StepError). OnOk r (IsAllowed old step)
       → OnOk r ((plan : Plan) → IsOfPlan plan old → HasStepped plan old step new)
       → OnOk r ((plan : Plan) (w : World) → Stands b plan w
-          → (refusal plan w step ≡ None) × ((after : World) × StepsTo plan w step after × Stands (state_of new) plan after))) [
+      → (refusal plan w step ≡ None) × ((after : World) × StepsTo plan w step after × Stands (state_of new) plan after))) [
         | Ok x ↦ λ allowed done plan w s.
             let s' : Stands (state_of old) plan w = here plan w s in
             let (after, steps, held) = done plan s'.planned (histories_of w) s'.held in (
@@ -67,13 +67,21 @@ module _ {X : Type 0} (old new : Network) (b : BusState) (is_state : state_of ol
 pub still_bus : (old new : Network) (count : ℕ) → IsBus old count → IsNetwork new → KeepsPlan old new → IsBus new count
 still_bus old new count bus well keeps = record {
   network = well;
-  choosers = omega (arith, bus.choosers, ap length keeps.claimants, length-claimants old.claimers.items, length-claimants new.claimers.items);
+  choosers = omega (arith, bus.choosers, ap length keeps.planned_units, length-planned_units old.claimers.items, length-planned_units new.claimers.items);
 }
 
 pub still_units : (old new : Network) (b : BusState) → state_of old ≡ b → KeepsPlan old new → length new.claimers.items ≡ length b.units
-still_units old new b is keeps = omega (arith, ap length keeps.claimants, length-claimants old.claimers.items, length-claimants new.claimers.items, ap (λ (v : BusState). length v.units) is)
+still_units old new b is keeps = omega (
+  arith,
+  ap length keeps.planned_units,
+  length-planned_units old.claimers.items,
+  length-planned_units new.claimers.items,
+  ap (λ (v : BusState). length v.units) is,
+)
 
 -- one more step of a run
-pub runs_more : (plan : Plan) (w : World) (done : List Step) (mid : World) (step : Step) (after : World) → RunsThrough plan w done mid → refusal plan mid step ≡ None → StepsTo plan mid step after → RunsThrough plan w (done ++ step ∷ []) after
-runs_more plan w [] mid step after ran allowed leads = (after, ap (λ (v : World). refusal plan v step) (sym ran) ∙ allowed, subst (λ (v : World). StepsTo plan v step after) ran leads, refl)
+pub runs_more : (plan : Plan) (w : World) (done : List Step) (mid : World) (step : Step) (after : World) → RunsThrough plan w done mid
+    → refusal plan mid step ≡ None → StepsTo plan mid step after → RunsThrough plan w (done ++ step ∷ []) after
+runs_more plan w [] mid step after ran allowed
+    leads = (after, ap (λ (v : World). refusal plan v step) (sym ran) ∙ allowed, subst (λ (v : World). StepsTo plan v step after) ran leads, refl)
 runs_more plan w (s ∷ done) mid step after (next, may, goes, ran) allowed leads = (next, may, goes, runs_more plan next done mid step after ran allowed leads)

@@ -12,7 +12,7 @@ use Rattle.j39_bus.proofs.Wires.{as_table}
 use Rattle.j39_bus.specs.BusState.{Histories, ReceiverTable, world_of}
 use Rattle.j39_bus.specs.Reports.{reported_of}
 use Rattle.j39_bus.specs.Stands.{HoldTaken}
-use Rattle.j39_bus.specs.inside.Network.{HasHeld, HasStepped, IsNetwork, IsOfPlan, IsSameNetwork, IsWellFormed, KeepsPlan, claimants, state_of, world_in}
+use Rattle.j39_bus.specs.inside.Network.{HasHeld, HasStepped, IsNetwork, IsOfPlan, IsSameNetwork, IsWellFormed, KeepsPlan, planned_units, state_of, world_in}
 use Rattle.j39_bus.specs.inside.Traffic.{IsTraffic, route_of}
 use Rattle.j39_world.specs.Sent.{sent_of}
 use Rattle.j39_world.specs.World.{World}
@@ -25,7 +25,7 @@ steps_same plan old step new steps same = λ h held. (h, steps h, subst (HoldTak
 
 pub plan_kept : (old new : Network) (plan : Plan) → KeepsPlan old new → IsOfPlan plan old → IsOfPlan plan new
 plan_kept old new plan keeps of = record {
-  units = keeps.claimants ∙ of.units;
+  units = keeps.planned_units ∙ of.units;
   flows = ap (map route_of) keeps.routes ∙ of.flows;
   windows = keeps.windows ∙ of.windows;
 }
@@ -58,11 +58,11 @@ module _ (old new : Network) (same : IsSameNetwork old new) where
   }
 
   pub plan_same : KeepsPlan old new
-  plan_same = record { claimants = ap claimants same.claimers; routes = same.routes; windows = ap (λ r. r.windows) same.receivers }
+  plan_same = record { planned_units = ap planned_units same.claimers; routes = same.routes; windows = ap (λ r. r.windows) same.receivers }
 
   pub keeps_after : (after : Network) → KeepsPlan new after → KeepsPlan old after
   keeps_after after keeps = record {
-    claimants = keeps.claimants ∙ ap claimants same.claimers;
+    planned_units = keeps.planned_units ∙ ap planned_units same.claimers;
     routes = keeps.routes ∙ same.routes;
     windows = keeps.windows ∙ ap (λ r. r.windows) same.receivers;
   }

@@ -5,46 +5,54 @@ use Rattle.j39_claim.specs.declared.item.Say.TheVariants.{Claim}
 use Rattle.j39_claim.specs.declared.item.Item.TheVariants.{Told}
 use Rattle.j39_claim.specs.ClaimRule.{PlannedUnit, off, started}
 use Rattle.j39_claim.specs.ClaimerValue.{ClaimerValue}
-use Rattle.j39_world.specs.Claimants.{unit_at}
+use Rattle.j39_world.specs.PlannedUnits.{unit_at}
 use Rattle.j39_world.specs.Sent.{Sent}
 use Rattle.j39_world.specs.Transfers.{Wire}
 use Rattle.j39_world.specs.World.{World, Undelivered, changed}
 use Rattle.j39_world.specs.ClaimSteps.{tell, switched_on, switched_off, without_lists_to}
 use Rattle.j39_bus.specs.Stations.{absent_unit, station_at}
-use Rattle.j39_bus.specs.inside.Network.{claimants}
-use Rattle.j39_bus.proofs.Worlds.{any_default, claimants-set, unit_at-claimants, world, world_set}
+use Rattle.j39_bus.specs.inside.Network.{planned_units}
+use Rattle.j39_bus.proofs.Worlds.{any_default, planned_units-set, unit_at-planned_units, world, world_set}
 
-module _ (cs : List ClaimerValue) (u : ℕ) (inside : u < length cs) (old new : ClaimerValue) (at : old ≡ get_or cs u old) (starts : new ≡ record old { state = started old.planned }) where
-  same_claimant : new.planned ≡ (get_or cs u absent_unit).planned
-  same_claimant = ap (λ (c : ClaimerValue). c.planned) (starts) ∙ ap (λ (c : ClaimerValue). c.planned) (at ∙ any_default cs u old absent_unit inside)
+module _ (cs : List ClaimerValue) (u : ℕ) (inside : u < length cs) (old new : ClaimerValue) (at : old ≡ get_or cs u old)
+    (starts : new ≡ record old { state = started old.planned }) where
+  same_planned_unit : new.planned ≡ (get_or cs u absent_unit).planned
+  same_planned_unit = ap (λ (c : ClaimerValue). c.planned) (starts) ∙ ap (λ (c : ClaimerValue). c.planned) (at ∙ any_default cs u old absent_unit inside)
 
-  pub claimants_on : claimants (set cs u new) ≡ claimants cs
-  claimants_on = claimants-set cs u new same_claimant
+  pub planned_units_on : planned_units (set cs u new) ≡ planned_units cs
+  planned_units_on = planned_units-set cs u new same_planned_unit
 
-  pub on_claimant : new.planned ≡ (get_or cs u absent_unit).planned
-  on_claimant = same_claimant
+  pub on_planned_unit : new.planned ≡ (get_or cs u absent_unit).planned
+  on_planned_unit = same_planned_unit
 
-  pub switched : (b : World) (claims left : Undelivered) (fs : List Sent) → left ≡ without_lists_to u claims → (wire : Wire) → wire ≡ without_lists_to u b.wire → (say : Say) → say ≡ Claim old.planned.preferred
-      → (after : World) → after ≡ tell (claimants (set cs u new)) (record (world b (set cs u new) left fs) { wire = wire }) u (Told say ∷ [])
-      → after ≡ switched_on (claimants cs) (world b cs claims fs) u
+  pub switched : (b : World) (claims left : Undelivered) (fs : List Sent) → left ≡ without_lists_to u claims → (wire : Wire)
+      → wire ≡ without_lists_to u b.wire → (say : Say) → say ≡ Claim old.planned.preferred
+      → (after : World) → after ≡ tell (planned_units (set cs u new)) (record (world b (set cs u new) left fs) { wire = wire }) u (Told say ∷ [])
+      → after ≡ switched_on (planned_units cs) (world b cs claims fs) u
   switched b claims left fs left_is wire wire_is say said after after_is =
-      let planned : old.planned ≡ unit_at (claimants cs) u = ap (λ (c : ClaimerValue). c.planned) (at ∙ any_default cs u old absent_unit inside) ∙ sym (unit_at-claimants cs u) in
-      let state : new.state ≡ started (unit_at (claimants cs) u) = ap (λ (c : ClaimerValue). c.state) starts ∙ ap started planned in
-      let says : say ≡ Claim (unit_at (claimants cs) u).preferred = said ∙ ap (λ (c : PlannedUnit). Claim c.preferred) planned in
-      let before : world b (set cs u new) left fs ≡ record b { stations = changed (station_at cs) u (started (unit_at (claimants cs) u)); claims = without_lists_to u claims; frames = fs } =
-      (λ i. world b (set cs u new) (left_is i) fs) ∙ world_set b cs (without_lists_to u claims) fs u new inside ∙ (λ i. record b { stations = changed (station_at cs) u (state i); claims = without_lists_to u claims; frames = fs }) in
-      after_is ∙ (λ i. tell (claimants_on i) (record (before i) { wire = wire_is i }) u (Told (says i) ∷ []))
+      let planned : old.planned ≡ unit_at (planned_units cs) u = ap (λ (c : ClaimerValue). c.planned) (at ∙ any_default cs u old absent_unit inside)
+      ∙ sym (unit_at-planned_units cs u) in
+      let state : new.state ≡ started (unit_at (planned_units cs) u) = ap (λ (c : ClaimerValue). c.state) starts ∙ ap started planned in
+      let says : say ≡ Claim (unit_at (planned_units cs) u).preferred = said ∙ ap (λ (c : PlannedUnit). Claim c.preferred) planned in
+      let before : world b (set cs u new) left fs ≡ record b
+      { stations = changed (station_at cs) u (started (unit_at (planned_units cs) u)); claims = without_lists_to u claims; frames = fs } =
+      (λ i. world b (set cs u new) (left_is i) fs) ∙ world_set b cs (without_lists_to u claims) fs u new inside
+      ∙ (λ i. record b { stations = changed (station_at cs) u (state i); claims = without_lists_to u claims; frames = fs }) in
+      after_is ∙ (λ i. tell (planned_units_on i) (record (before i) { wire = wire_is i }) u (Told (says i) ∷ []))
 
-module _ (cs : List ClaimerValue) (u : ℕ) (inside : u < length cs) (old new : ClaimerValue) (at : old ≡ get_or cs u old) (stops : new ≡ record old { state = off }) where
-  pub off_claimant : new.planned ≡ (get_or cs u absent_unit).planned
-  off_claimant = ap (λ (c : ClaimerValue). c.planned) stops ∙ ap (λ (c : ClaimerValue). c.planned) (at ∙ any_default cs u old absent_unit inside)
+module _ (cs : List ClaimerValue) (u : ℕ) (inside : u < length cs) (old new : ClaimerValue) (at : old ≡ get_or cs u old)
+    (stops : new ≡ record old { state = off }) where
+  pub off_planned_unit : new.planned ≡ (get_or cs u absent_unit).planned
+  off_planned_unit = ap (λ (c : ClaimerValue). c.planned) stops ∙ ap (λ (c : ClaimerValue). c.planned) (at ∙ any_default cs u old absent_unit inside)
 
-  pub claimants_off : claimants (set cs u new) ≡ claimants cs
-  claimants_off = claimants-set cs u new off_claimant
+  pub planned_units_off : planned_units (set cs u new) ≡ planned_units cs
+  planned_units_off = planned_units-set cs u new off_planned_unit
 
-  pub switched_off_world : (b : World) (claims left : Undelivered) (fs : List Sent) → left ≡ without_lists_to u claims → (wire : Wire) → wire ≡ without_lists_to u b.wire
+  pub switched_off_world : (b : World) (claims left : Undelivered) (fs : List Sent) → left ≡ without_lists_to u claims → (wire : Wire)
+      → wire ≡ without_lists_to u b.wire
       → record (world b (set cs u new) left fs) { wire = wire } ≡ switched_off (world b cs claims fs) u
   switched_off_world b claims left fs left_is wire wire_is =
       let before : world b (set cs u new) left fs ≡ record b { stations = changed (station_at cs) u off; claims = without_lists_to u claims; frames = fs } =
-      (λ i. world b (set cs u new) (left_is i) fs) ∙ world_set b cs (without_lists_to u claims) fs u new inside ∙ (λ i. record b { stations = changed (station_at cs) u (stops i).state; claims = without_lists_to u claims; frames = fs }) in
+      (λ i. world b (set cs u new) (left_is i) fs) ∙ world_set b cs (without_lists_to u claims) fs u new inside
+      ∙ (λ i. record b { stations = changed (station_at cs) u (stops i).state; claims = without_lists_to u claims; frames = fs }) in
       λ i. record (before i) { wire = wire_is i }

@@ -78,7 +78,7 @@ tested_more test a zero = ap (λ (j : ℕ). cond (test j) (j ∷ []) []) (omega 
 tested_more test a (suc k) =
     let rest = tested_more test (a + 1) k ∙ ap (λ (j : ℕ). filter test (range_with_len (a + 1) k) ++ cond (test j) (j ∷ []) []) (omega arith) in
     elim (test a) as (λ b. cond b (a ∷ filter test (range_with_len (a + 1) (suc k))) (filter test (range_with_len (a + 1) (suc k)))
-        ≡ cond b (a ∷ filter test (range_with_len (a + 1) k)) (filter test (range_with_len (a + 1) k)) ++ cond (test (a + suc k)) ((a + suc k) ∷ []) []) [
+    ≡ cond b (a ∷ filter test (range_with_len (a + 1) k)) (filter test (range_with_len (a + 1) k)) ++ cond (test (a + suc k)) ((a + suc k) ∷ []) []) [
       | true ↦ ap (λ (l : List ℕ). a ∷ l) rest
       | false ↦ rest
     ]
@@ -115,9 +115,9 @@ replied_twice w v u ps qs = λ i. record w {
         ≡ changed_pair w.wire v u (w.wire v u ++ map wired.Packet (ps ++ qs)) s t
     both s t = rw (eq-eqb v v refl, eq-eqb u u refl) (elim (eqb s v && eqb t u) as (λ b.
         cond b (first ++ map wired.Packet qs) (cond b first (w.wire s t)) ≡ cond b (w.wire v u ++ map wired.Packet (ps ++ qs)) (w.wire s t)) [
-      | true ↦ append_assoc (w.wire v u) (map wired.Packet ps) (map wired.Packet qs) ∙ ap (λ xs. w.wire v u ++ xs) (sym (map-append wired.Packet ps qs))
-      | false ↦ refl
-    ])
+          | true ↦ append_assoc (w.wire v u) (map wired.Packet ps) (map wired.Packet qs) ∙ ap (λ xs. w.wire v u ++ xs) (sym (map-append wired.Packet ps qs))
+          | false ↦ refl
+        ])
 
 -- ---- units one by one
 

@@ -4,12 +4,12 @@ use Rattle.std.proofs.lemmas.Bool.{cases_eq, eq-eqb, ne_eqb}
 use Rattle.j39_claim.specs.declared.item.Item.{Item}
 use Rattle.j39_claim.specs.ClaimRule.{PlannedUnit, ClaimState}
 use Rattle.j39_claim.specs.ClaimerValue.{ClaimerValue}
-use Rattle.j39_world.specs.Claimants.{unit_at}
+use Rattle.j39_world.specs.PlannedUnits.{unit_at}
 use Rattle.j39_world.specs.Sent.{Sent, frame_of}
 use Rattle.j39_world.specs.World.{World, Undelivered, changed}
 use Rattle.j39_world.specs.ClaimSteps.{tell, told_to_others}
 use Rattle.j39_bus.specs.Stations.{absent_unit, station_at}
-use Rattle.j39_bus.specs.inside.Network.{claimants}
+use Rattle.j39_bus.specs.inside.Network.{planned_units}
 
 pub append_nil : {X : Type 0} (xs : List X) → xs ++ [] ≡ xs
 append_nil [] = refl
@@ -20,10 +20,10 @@ any_default [] i d e inside = absurd (omega arith)
 any_default (x ∷ xs) zero d e inside = refl
 any_default (x ∷ xs) (suc i) d e inside = any_default xs i d e (omega arith)
 
-pub unit_at-claimants : (cs : List ClaimerValue) (u : ℕ) → unit_at (claimants cs) u ≡ (get_or cs u absent_unit).planned
-unit_at-claimants [] u = refl
-unit_at-claimants (c ∷ cs) zero = refl
-unit_at-claimants (c ∷ cs) (suc u) = unit_at-claimants cs u
+pub unit_at-planned_units : (cs : List ClaimerValue) (u : ℕ) → unit_at (planned_units cs) u ≡ (get_or cs u absent_unit).planned
+unit_at-planned_units [] u = refl
+unit_at-planned_units (c ∷ cs) zero = refl
+unit_at-planned_units (c ∷ cs) (suc u) = unit_at-planned_units cs u
 
 -- a world with these units, undelivered items and frames
 abbrev pub world : World → List ClaimerValue → Undelivered → List Sent → World
@@ -32,18 +32,19 @@ world b cs claims fs = record b { stations = station_at cs; claims = claims; fra
 -- after a unit has told the others
 pub world_told : (b : World) (cs : List ClaimerValue) (claims told : Undelivered) (fs : List Sent) (u : ℕ) (item : Item) (name : ℕ) (held : Option ℕ)
     → told ≡ told_to_others (station_at cs) claims u (item ∷ []) → name ≡ (get_or cs u absent_unit).planned.name → held ≡ (station_at cs u).address
-    → world b cs told (fs ++ frame_of name held item ∷ []) ≡ tell (claimants cs) (world b cs claims fs) u (item ∷ [])
+    → world b cs told (fs ++ frame_of name held item ∷ []) ≡ tell (planned_units cs) (world b cs claims fs) u (item ∷ [])
 world_told b cs claims told fs u item name held told_is name_is held_is = λ i. record b {
   stations = station_at cs;
   claims = told_is i;
   frames = fs ++ frame_of (same_name i) (held_is i) item ∷ [];
 }
   where
-    same_name : name ≡ (unit_at (claimants cs) u).name
-    same_name = name_is ∙ sym (ap (λ (c : PlannedUnit). c.name) (unit_at-claimants cs u))
+    same_name : name ≡ (unit_at (planned_units cs) u).name
+    same_name = name_is ∙ sym (ap (λ (c : PlannedUnit). c.name) (unit_at-planned_units cs u))
 
 -- one unit's state is another
-pub at_set : (cs : List ClaimerValue) (v : ℕ) (c : ClaimerValue) (x : ℕ) → v < length cs → get_or (set cs v c) x absent_unit ≡ cond (eqb x v) c (get_or cs x absent_unit)
+pub at_set : (cs : List ClaimerValue) (v : ℕ) (c : ClaimerValue) (x : ℕ) → v < length cs
+    → get_or (set cs v c) x absent_unit ≡ cond (eqb x v) c (get_or cs x absent_unit)
 at_set cs v c x inside = elim (cases_eq x v) [
   | inl same ↦ rw (same, eq-eqb v v refl, get_or-set_same)
   | inr other ↦ rw (ne_eqb x v other, get_or-set_other)
@@ -57,10 +58,11 @@ station_set cs v c x inside = ap (λ (e : ClaimerValue). e.state) (at_set cs v c
     out false = refl
 
 -- a unit that has changed claims as before
-pub claimants-set : (cs : List ClaimerValue) (v : ℕ) (c : ClaimerValue) → c.planned ≡ (get_or cs v absent_unit).planned → claimants (set cs v c) ≡ claimants cs
-claimants-set [] v c same = refl
-claimants-set (d ∷ cs) zero c same = ap (λ (x : PlannedUnit). x ∷ claimants cs) same
-claimants-set (d ∷ cs) (suc v) c same = ap (λ (xs : List PlannedUnit). d.planned ∷ xs) (claimants-set cs v c same)
+pub planned_units-set : (cs : List ClaimerValue) (v : ℕ) (c : ClaimerValue) → c.planned ≡ (get_or cs v absent_unit).planned
+    → planned_units (set cs v c) ≡ planned_units cs
+planned_units-set [] v c same = refl
+planned_units-set (d ∷ cs) zero c same = ap (λ (x : PlannedUnit). x ∷ planned_units cs) same
+planned_units-set (d ∷ cs) (suc v) c same = ap (λ (xs : List PlannedUnit). d.planned ∷ xs) (planned_units-set cs v c same)
 
 -- once one unit is another
 pub world_set : (b : World) (cs : List ClaimerValue) (claims : Undelivered) (fs : List Sent) (u : ℕ) (c : ClaimerValue) → u < length cs

@@ -6,7 +6,7 @@ ghost use Rattle.j39_world.specs.ClaimSteps.{switched_on, asked, GivenFrom};
 ghost use Rattle.j39_bus.specs.inside.Claims.{HasRoomForOthers};
 ghost use Rattle.j39_queues.specs.Queued.{pair_in};
 ghost use Rattle.j39_bus.specs.BusState.{Histories};
-ghost use Rattle.j39_bus.specs.inside.Network.{IsAllowed, IsNetwork, IsOfPlan, IsSameNetwork, KeepsPlan, HasStepped, claimants, world_in};
+ghost use Rattle.j39_bus.specs.inside.Network.{IsAllowed, IsNetwork, IsOfPlan, IsSameNetwork, KeepsPlan, HasStepped, planned_units, world_in};
 
 use crate::hearing::hear;
 use crate::network::Network;
@@ -70,7 +70,7 @@ impl Network {
         ensures network { IsNetwork self.new }
         ensures plan { KeepsPlan self.old self.new }
         ensures rest { self.new ≡ record self.old { claimers = self.new.claimers; claims = self.new.claims; wire = self.new.wire; frames = self.new.frames } }
-        ensures world { (h : Histories) → world_in h self.new ≡ switched_on (claimants self.old.claimers.items) (world_in h self.old) unit }
+        ensures world { (h : Histories) → world_in h self.new ≡ switched_on (planned_units self.old.claimers.items) (world_in h self.old) unit }
     {
         self.claims.clear_to(unit);
         self.wire.clear_to(unit);
@@ -89,7 +89,7 @@ impl Network {
         ensures network { IsNetwork self.new }
         ensures plan { KeepsPlan self.old self.new }
         ensures rest { self.new ≡ record self.old { claimers = self.new.claimers; claims = self.new.claims; frames = self.new.frames } }
-        ensures world { (h : Histories) → GivenFrom (claimants self.old.claimers.items) (world_in h self.old) from to (pair_in self.old.claims.lists from to) (world_in h self.new) }
+        ensures world { (h : Histories) → GivenFrom (planned_units self.old.claimers.items) (world_in h self.old) from to (pair_in self.old.claims.lists from to) (world_in h self.new) }
     {
         let name = self.claimers[from].name();
         let Some(item) = self.claims.pop(from, to) else {
@@ -110,7 +110,7 @@ impl Network {
         ensures network { IsNetwork self.new }
         ensures plan { KeepsPlan self.old self.new }
         ensures rest { self.new ≡ record self.old { claimers = self.new.claimers; claims = self.new.claims; frames = self.new.frames } }
-        ensures world { (h : Histories) → world_in h self.new ≡ asked (claimants self.old.claimers.items) (world_in h self.old) unit }
+        ensures world { (h : Histories) → world_in h self.new ≡ asked (planned_units self.old.claimers.items) (world_in h self.old) unit }
     {
         self.tell(unit, &Item::Request);
         let say = self.claimers[unit].hear_request();

@@ -33,7 +33,7 @@ pub(crate) struct Network {
 
 impl Network {
     ghost use Rattle.j39_bus.specs.BusState.{Histories};
-    ghost use Rattle.j39_bus.specs.inside.Network.{IsSameNetwork, claimants, world_in};
+    ghost use Rattle.j39_bus.specs.inside.Network.{IsSameNetwork, planned_units, world_in};
 
     /// Makes room for so many items from a unit to each other one that is on.
     pub(crate) fn reserve(&mut self, from: usize, items: usize) -> Result<(), AllocError>
@@ -56,7 +56,7 @@ impl Network {
         requires frames { vec_len self.old.frames < vec_capacity self.old.frames }
         ensures claimers { self.new.claimers ≡ self.old.claimers }
         ensures rest { self.new ≡ record self.old { claims = self.new.claims; frames = self.new.frames } }
-        ensures world { (h : Histories) → world_in h self.new ≡ tell (claimants self.old.claimers.items) (world_in h self.old) from (item.now ∷ []) }
+        ensures world { (h : Histories) → world_in h self.new ≡ tell (planned_units self.old.claimers.items) (world_in h self.old) from (item.now ∷ []) }
         ensures table { IsTable (length self.old.claimers.items) self.new.claims.lists }
         ensures room { (more : ℕ) → HasRoomForOthers self.old.claims self.old.claimers.items from (1 + more) → HasRoomForOthers self.new.claims self.old.claimers.items from more }
         ensures frames_len { vec_len self.new.frames ≡ vec_len self.old.frames + 1 }

@@ -1,6 +1,6 @@
 //! A new bus.
 ghost use Rattle.std.specs.Prelude.{◌≡◌, ◌<◌, ℕ, length, map, replicate, take, None, All, IfOk, IfErr, IfSome, IfNone, OnOk};
-ghost use Rattle.j39_world.specs.Claimants.{units_of};
+ghost use Rattle.j39_world.specs.PlannedUnits.{units_of};
 ghost use Rattle.j39_bus.specs.Stations.{unstarted};
 ghost use Rattle.j39_world.specs.Opening.{HaveOneName, AreNamesDistinct, IsFirstOfOneName, CanOpen, IsNotOpened};
 ghost use Rattle.j39_bus.specs.BusState.{histories_of};

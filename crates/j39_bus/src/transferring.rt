@@ -7,7 +7,7 @@ ghost use Rattle.j39_world.specs.SentTransfers.{address_of, destination_of};
 ghost use Rattle.j39_bus.specs.inside.Traffic.{HasRoomAlong, IsInside};
 ghost use Rattle.j39_queues.specs.Queued.{room_at};
 ghost use Rattle.j39_world.specs.Transfers.{Outgoing};
-ghost use Rattle.j39_world.specs.TransferSteps.{packets_in, replied, sent_along};
+ghost use Rattle.j39_world.specs.TransferSteps.{packets_in, replied, sent_to_receivers};
 
 mod beginning;
 mod emitting;
@@ -71,7 +71,7 @@ impl Network {
         ensures network { IsNetwork self.new }
         ensures plan { KeepsPlan self.old self.new }
         ensures rest { self.new ≡ record self.old { wire = self.new.wire; frames = self.new.frames } }
-        ensures world { (h : Histories) (s : Outgoing) → session_at self.old.sessions.items unit ≡ Some s → world_in h self.new ≡ sent_along (world_in h self.old) unit s packet.now }
+        ensures world { (h : Histories) (s : Outgoing) → session_at self.old.sessions.items unit ≡ Some s → world_in h self.new ≡ sent_to_receivers (world_in h self.old) unit s packet.now }
     {
         if let Some(to) = sessions::goes_to(self.sessions.as_slice(), unit) {
             let frame = packet_frame(self.source(unit), self.destination(to), packet);

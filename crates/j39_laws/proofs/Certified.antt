@@ -10,7 +10,7 @@ use Rattle.j39_plan.specs.declared.plan.Plan.{Plan}
 use Rattle.j39_plan.specs.declared.steps.Step.{Step}
 use Rattle.j39_world.specs.World.{World, Undelivered, first}
 use Rattle.j39_world.specs.Run.{Run}
-use Rattle.j39_world.specs.Claimants.{units_of}
+use Rattle.j39_world.specs.PlannedUnits.{units_of}
 use Rattle.j39_world.specs.Opening.{AreNamesDistinct}
 use Rattle.j39_world.specs.Settling.{Settles}
 use Rattle.j39_world.specs.Sound.{AreAddressesSound, AreAddressesDifferent, AreKeptFree, IsQuiet, AreReportsSound, IsAcknowledgedReported}

@@ -6,7 +6,7 @@ ghost use Rattle.j39_plan.specs.declared.steps.Step.{Step as Steps};
 ghost use Rattle.j39_world.specs.World.{World, first};
 ghost use Rattle.j39_plan.specs.ConflictRuns.{IsConflictRun};
 ghost use Rattle.j39_plan.specs.declared.checking.finding.Finding.{Finding as Findings};
-ghost use Rattle.j39_world.specs.Claimants.{units_of};
+ghost use Rattle.j39_world.specs.PlannedUnits.{units_of};
 ghost use Rattle.j39_world.specs.Conflict.{LeavesWithoutAddress};
 ghost use Rattle.j39_world.specs.Opening.{AreNamesDistinct};
 ghost use Rattle.j39_world.specs.Run.{Run, RunsThrough};
@@ -37,7 +37,7 @@ pub fn acknowledged_messages_were_reported()
     ensures { (plan : Plans) (steps : List Steps) (w : World) → Run plan first steps w → IsAcknowledgedReported w }
 {}
 
-/// From each world of each run of a plan whose NAMEs differ, whoever goes on delivering what claimants have told each other comes to
+/// From each world of each run of a plan whose NAMEs differ, whoever goes on delivering what planned_units have told each other comes to
 /// an end, in whatever order and with whatever lawful choices: no more Gives than a given number run through, and where none does,
 /// nothing is undelivered. It says nothing of time.
 pub fn claims_die_down()

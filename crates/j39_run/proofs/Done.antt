@@ -9,7 +9,7 @@ use Rattle.j39_plan.specs.declared.plan.Plan.{Plan}
 use Rattle.j39_plan.specs.declared.steps.Step.{Step}
 use Rattle.j39_world.specs.declared.step_error.StepError.{StepError}
 use Rattle.j39_bus.specs.BusState.{BusState, undelivered}
-use Rattle.j39_world.specs.Claimants.{claimant_of}
+use Rattle.j39_world.specs.PlannedUnits.{planned_unit}
 use Rattle.j39_bus.specs.Stations.{station_at}
 use Rattle.j39_world.specs.Run.{StepsTo, RunsThrough, refusal}
 use Rattle.j39_world.specs.Sent.{sent_of}
@@ -96,7 +96,7 @@ put_done plan b ls place written text rest empty h = record {
 -- ---- what is seen
 
 pub unit_count : (b : BusState) (plan : Plan) (w : World) → Stands b plan w → length b.units ≡ length plan.units.items
-unit_count b plan w s = sym (length-map b.units (λ c. c.planned)) ∙ ap length s.planned ∙ length-map plan.units.items (claimant_of plan.keep_free)
+unit_count b plan w s = sym (length-map b.units (λ c. c.planned)) ∙ ap length s.planned ∙ length-map plan.units.items (planned_unit plan.keep_free)
 
 abbrev pub seen_of : Plan → BusState → Bool → View
 seen_of plan b settled = record {

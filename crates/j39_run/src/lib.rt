@@ -7,7 +7,6 @@ mod halt;
 mod laws;
 mod next;
 mod planned;
-mod putting;
 mod refusal;
 mod run;
 mod run_lines;

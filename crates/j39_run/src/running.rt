@@ -14,13 +14,12 @@ use crate::closing::close;
 use crate::feed::Feed;
 use crate::halt::Halt;
 use crate::next::Next;
-use crate::putting::put_text;
 use crate::run_lines::write_frames;
 use j39_bus::{Bus, StepError};
 use j39_plan::Plan;
 use j39_schedule::UnitIndex;
 use j39_stream::{Fault, Sink, Source, Verdict};
-use j39_text::TextBuffer;
+use j39_text::{TextBuffer, put_text};
 use std::alloc::{AllocError, Global};
 
 // Where a run ends at this line, whose step was not done. A step for which memory was wanted ends no run.

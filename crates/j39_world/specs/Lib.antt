@@ -1,4 +1,4 @@
-pub mod Claimants
+pub mod PlannedUnits
 pub mod Flows
 pub mod Sent
 pub mod Transfers

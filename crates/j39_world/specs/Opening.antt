@@ -5,7 +5,7 @@ use Rattle.j39_plan.specs.PlannedGroups.{IsSendable, IsFirstRefused}
 use Rattle.j39_plan.specs.declared.plan.Plan.{Plan}
 use Rattle.j39_world.specs.declared.bus_error.BusError.{BusError}
 use Rattle.j39_world.specs.declared.bus_error.BusError.TheVariants.{ChooserCount, SameName, BadGroup, Memory}
-use Rattle.j39_world.specs.Claimants.{units_of, unit_at}
+use Rattle.j39_world.specs.PlannedUnits.{units_of, unit_at}
 
 -- the units at these places have one NAME
 pub record HaveOneName (units : List PlannedUnit) (i j : ℕ) : Type 0 where

@@ -14,7 +14,7 @@ use Rattle.j39_world.specs.declared.step_error.StepError.{StepError}
 use Rattle.j39_world.specs.declared.step_error.StepError.TheVariants.{UnknownUnit, NoSuchFlow, NotStarted, AlreadyStarted, NothingUndelivered, TransferOpen}
 use Rattle.j39_world.specs.declared.step_error.StepError.TheVariants.{NotSettled, NoAddress}
 use Rattle.j39_world.specs.declared.step_error.StepError.TheVariants.{Busy, WrongLength, NothingToSend, NoSession, CannotRest, Memory}
-use Rattle.j39_world.specs.Claimants.{units_of}
+use Rattle.j39_world.specs.PlannedUnits.{units_of}
 use Rattle.j39_world.specs.Flows.{Flow, flows_of, windows_of, can_be_sent}
 use Rattle.j39_world.specs.Transfers.{Outgoing}
 use Rattle.j39_world.specs.World.{World, Undelivered}

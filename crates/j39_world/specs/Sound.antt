@@ -10,12 +10,12 @@ use Rattle.j39_id.specs.Name.{is_arbitrary}
 use Rattle.j39_claim.specs.declared.item.Say.TheVariants.{Claim, Cannot}
 use Rattle.j39_claim.specs.declared.item.Item.TheVariants.{Told}
 use Rattle.j39_plan.specs.declared.plan.Plan.{Plan}
-use Rattle.j39_world.specs.Claimants.{units_of, unit_at}
+use Rattle.j39_world.specs.PlannedUnits.{units_of, unit_at}
 use Rattle.j39_world.specs.World.{World, Undelivered}
 
 -- a claim of this address is undelivered between the two
-abbrev pub IsToBeTold : Undelivered → ℕ → ℕ → ℕ → Type 0
-IsToBeTold claims u v a = Contains (claims u v) (Told (Claim a)) ⊎ Contains (claims v u) (Told (Claim a))
+abbrev pub IsClaimUndelivered : Undelivered → ℕ → ℕ → ℕ → Type 0
+IsClaimUndelivered claims u v a = Contains (claims u v) (Told (Claim a)) ⊎ Contains (claims v u) (Told (Claim a))
 
 pub record AreAddressesSound (plan : Plan) (w : World) : Type 0 where
   -- each unit that is on holds an address, a fixed one its planned address
@@ -23,7 +23,7 @@ pub record AreAddressesSound (plan : Plan) (w : World) : Type 0 where
       × (is_arbitrary (unit_at (units_of plan) u).name ≡ false → a ≡ (unit_at (units_of plan) u).preferred)
   -- two units that are on hold one address only while a claim of it is undelivered between them
   pub apart : (u v a : ℕ) → u ≢ v → (w.stations u).on ≡ true → (w.stations v).on ≡ true
-      → (w.stations u).address ≡ Some a → (w.stations v).address ≡ Some a → IsToBeTold w.claims u v a
+      → (w.stations u).address ≡ Some a → (w.stations v).address ≡ Some a → IsClaimUndelivered w.claims u v a
 
 -- no claim is undelivered; a request may be
 abbrev pub IsQuiet : Undelivered → Type 0

@@ -32,8 +32,8 @@ abbrev pub sent_to : World → ℕ → List ℕ → Wired → frames.Sent → Wo
 sent_to w u targets item frame = record w { wire = added w.wire u targets item; frames = w.frames ++ frame ∷ [] }
 
 -- u sends a packet to those that its message goes to
-abbrev pub sent_along : World → ℕ → Outgoing → Packet → World
-sent_along w u s p =
+abbrev pub sent_to_receivers : World → ℕ → Outgoing → Packet → World
+sent_to_receivers w u s p =
     sent_to w u s.targets (wired.Packet p) (packet_frame (address_of w.stations u) (destination_of w.stations s.to) p)
 
 -- v sends u packets, each by one frame
@@ -97,13 +97,13 @@ BeginsAt count w f (Some flow) bytes new = new ≡ begins count w f flow bytes
 abbrev pub Emits : World → ℕ → World → Type 0
 Emits w u new =
     (s : Outgoing) × (p : Packet) × (w.sessions u ≡ Some s) × (sender.data_next s.bytes s.stage ≡ Some p)
-    × (new ≡ record (sent_along w u s p) { sessions = changed w.sessions u (Some (record s { stage = sender.after_packet (dest_of s.to) s.stage })) })
+    × (new ≡ record (sent_to_receivers w u s p) { sessions = changed w.sessions u (Some (record s { stage = sender.after_packet (dest_of s.to) s.stage })) })
 
 -- u hears nothing in time, and gives its message up
 abbrev pub SenderTimesOut : World → ℕ → World → Type 0
 SenderTimesOut w u new =
     (s : Outgoing) × (p : Packet) × (w.sessions u ≡ Some s) × (sender.timeout_packet s.pgn s.stage ≡ Some p)
-    × (new ≡ record (sent_along w u s p) { sessions = changed w.sessions u (Some (record s { stage = sender.after_timeout s.stage })) })
+    × (new ≡ record (sent_to_receivers w u s p) { sessions = changed w.sessions u (Some (record s { stage = sender.after_timeout s.stage })) })
 
 -- u is idle again
 abbrev pub rested : World → ℕ → World

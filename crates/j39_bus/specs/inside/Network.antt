@@ -24,8 +24,8 @@ use Rattle.j39_bus.specs.Stands.{HoldTaken, IsPlannedBy}
 use Rattle.j39_bus.specs.inside.Traffic.{IsTraffic, route_of}
 use Rattle.j39_queues.specs.Queued.{IsTable, pair_in}
 
-abbrev pub claimants : List ClaimerValue → List PlannedUnit
-claimants cs = map (λ c. c.planned) cs
+abbrev pub planned_units : List ClaimerValue → List PlannedUnit
+planned_units cs = map (λ c. c.planned) cs
 
 -- these histories once a message was begun
 abbrev pub has_begun : Histories → ℕ → Flow → List ℕ → List ℕ → Histories
@@ -78,7 +78,7 @@ IsOfPlan plan net = IsPlannedBy plan (state_of net)
 
 -- the units, the flows and the windows stay
 pub record KeepsPlan (old new : Network) : Type 0 where
-  pub claimants : claimants new.claimers.items ≡ claimants old.claimers.items
+  pub planned_units : planned_units new.claimers.items ≡ planned_units old.claimers.items
   pub routes : new.routes.items ≡ old.routes.items
   pub windows : new.receivers.windows ≡ old.receivers.windows
 

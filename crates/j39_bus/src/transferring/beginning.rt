@@ -35,11 +35,7 @@ fn frame_of(source: u8, destination: u8, route: &Route, item: &Wired) -> Frame
 }
 
 /// Those others than a unit that are on.
-fn others_on(
-    alloc: Global,
-    claimers: &[Claimer],
-    unit: usize,
-) -> Result<Vec<usize>, AllocError>
+fn others_on(alloc: Global, claimers: &[Claimer], unit: usize) -> Result<Vec<usize>, AllocError>
     ensures { IfOk result (λ targets. targets.items ≡ filter (is_other_on (station_at claimers.now) unit) (range_with_len 0 (length claimers.now))) }
 {
     let mut targets = Vec::new(alloc);
@@ -52,11 +48,7 @@ fn others_on(
 }
 
 /// The units that a message of the flow goes to.
-fn targets_of(
-    alloc: Global,
-    claimers: &[Claimer],
-    route: &Route,
-) -> Result<Vec<usize>, AllocError>
+fn targets_of(alloc: Global, claimers: &[Claimer], route: &Route) -> Result<Vec<usize>, AllocError>
     ensures { IfOk result (λ targets. targets.items ≡ targets_of (length claimers.now) (station_at claimers.now) route.now.sender route.now.to) }
 {
     match route.to {

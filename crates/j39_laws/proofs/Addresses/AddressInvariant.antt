@@ -9,9 +9,9 @@ use Rattle.j39_claim.specs.declared.item.Say.TheVariants.{Claim, Cannot}
 use Rattle.j39_claim.specs.declared.item.Item.{Item}
 use Rattle.j39_claim.specs.declared.item.Item.TheVariants.{Told, Request}
 use Rattle.j39_claim.specs.ClaimRule.{PlannedUnit}
-use Rattle.j39_world.specs.Claimants.{unit_at}
+use Rattle.j39_world.specs.PlannedUnits.{unit_at}
 use Rattle.j39_world.specs.World.{Stations, Undelivered}
-use Rattle.j39_world.specs.Sound.{IsToBeTold}
+use Rattle.j39_world.specs.Sound.{IsClaimUndelivered}
 
 -- the unit may claim it: a fixed one only its own, an arbitrary one none that is kept free
 pub record IsOwn (p : PlannedUnit) (a : ℕ) : Type 0 where
@@ -44,7 +44,7 @@ pub record AddressInvariant (units : List PlannedUnit) (stations : Stations) (cl
   pub holds : (u : ℕ) → (stations u).on ≡ true → IsHeld (unit_at units u) (stations u).address
   -- two that hold one address have still to be told so
   pub apart : (u v a : ℕ) → u ≢ v → (stations u).on ≡ true → (stations v).on ≡ true
-      → (stations u).address ≡ Some a → (stations v).address ≡ Some a → IsToBeTold claims u v a
+      → (stations u).address ≡ Some a → (stations v).address ≡ Some a → IsClaimUndelivered claims u v a
   -- units claim only what they may, and none says that it cannot
   pub said : (u v : ℕ) → AllByRecursion (IsSaid (unit_at units u)) (claims u v)
   -- no unit tells itself

@@ -9,9 +9,9 @@ use Rattle.j39_claim.specs.declared.item.Say.TheVariants.{Claim}
 use Rattle.j39_claim.specs.declared.item.Item.{Item}
 use Rattle.j39_claim.specs.declared.item.Item.TheVariants.{Told, Request}
 use Rattle.j39_claim.specs.ClaimRule.{PlannedUnit, ClaimState, claim_of, off, started}
-use Rattle.j39_world.specs.Claimants.{unit_at}
+use Rattle.j39_world.specs.PlannedUnits.{unit_at}
 use Rattle.j39_world.specs.World.{Stations, Undelivered, changed, changed_pair}
-use Rattle.j39_world.specs.Sound.{IsToBeTold}
+use Rattle.j39_world.specs.Sound.{IsClaimUndelivered}
 use Rattle.j39_world.specs.ClaimSteps.{told_to_others, without_lists_to, answer_items}
 use Rattle.j39_laws.proofs.Addresses.AddressInvariant.{AddressInvariant, IsOwn, IsSaid, IsHeld, AllNoted}
 use Rattle.j39_laws.proofs.Addresses.Telling.{still, told, said_more, not_itself}
@@ -56,7 +56,7 @@ clash_cases R swap f v new one two x y a c =
     there : (k : ℕ) → k ≢ v → IsHolding (changed f v new k) a → IsHolding (f k) a
     there k other = subst (λ (s : ClaimState). IsHolding s a) (changed_elsewhere f v new k other)
 
-swapped : (claims : Undelivered) (x y a : ℕ) → IsToBeTold claims x y a → IsToBeTold claims y x a
+swapped : (claims : Undelivered) (x y a : ℕ) → IsClaimUndelivered claims x y a → IsClaimUndelivered claims y x a
 swapped claims x y a (inl p) = inr p
 swapped claims x y a (inr p) = inl p
 
@@ -69,19 +69,19 @@ in_rest x y xs (suc k, inside, is) other = (k, omega arith, is)
 
 -- what was to be told of two is to be told still, where no list between them lost a claim
 told_still : (stations : Stations) (claims : Undelivered) (u : ℕ) (items : List Item) (x y a : ℕ)
-    → IsToBeTold claims x y a → IsToBeTold (told_to_others stations claims u items) x y a
+    → IsClaimUndelivered claims x y a → IsClaimUndelivered (told_to_others stations claims u items) x y a
 told_still stations claims u items x y a (inl p) = inl (still stations claims u items x y (Told (Claim a)) p)
 told_still stations claims u items x y a (inr p) = inr (still stations claims u items y x (Told (Claim a)) p)
 
 -- what was undelivered to u is gone, and nothing between two others
-without_still : (claims : Undelivered) (u x y a : ℕ) → x ≢ u → y ≢ u → IsToBeTold claims x y a → IsToBeTold (without_lists_to u claims) x y a
+without_still : (claims : Undelivered) (u x y a : ℕ) → x ≢ u → y ≢ u → IsClaimUndelivered claims x y a → IsClaimUndelivered (without_lists_to u claims) x y a
 without_still claims u x y a x_other y_other to_tell =
     let to_x : without_lists_to u claims y x ≡ claims y x = cond-false (eqb x u) [] (claims y x) (ne_eqb x u x_other) in
     let to_y : without_lists_to u claims x y ≡ claims x y = cond-false (eqb y u) [] (claims x y) (ne_eqb y u y_other) in
     rw (to_x, to_y) to_tell
 
 module _ (units : List PlannedUnit) (stations : Stations) (claims : Undelivered) (inv : AddressInvariant units stations claims) where
-  clash_told : (x y a : ℕ) → IsClash stations x y a → IsToBeTold claims x y a
+  clash_told : (x y a : ℕ) → IsClash stations x y a → IsClaimUndelivered claims x y a
   clash_told x y a c = inv.apart x y a c.apart c.one.on c.other.on c.one.address c.other.address
 
   module _ (u : ℕ) where
@@ -102,7 +102,7 @@ module _ (units : List PlannedUnit) (stations : Stations) (claims : Undelivered)
         let items : List Item = Told (Claim p.preferred) ∷ [] in
         let now : Stations = changed stations u (started p) in
         let after : Undelivered = told_to_others now without u items in
-        let told_other : (z b : ℕ) → z ≢ u → IsHolding (stations z) b → (started p).address ≡ Some b → IsToBeTold after u z b =
+        let told_other : (z b : ℕ) → z ≢ u → IsHolding (stations z) b → (started p).address ≡ Some b → IsClaimUndelivered after u z b =
         λ z b z_other holding has.
         let same : p.preferred ≡ b = cc in
         let on : (now z).on ≡ true = ap (λ s. s.on) (changed_elsewhere stations u (started p) z z_other) ∙ holding.on in
@@ -111,7 +111,7 @@ module _ (units : List PlannedUnit) (stations : Stations) (claims : Undelivered)
           holds = changed_each (λ x s. s.on ≡ true → IsHeld (unit_at units x) s.address) stations u (started p)
               (λ _. (p.preferred, refl, own)) inv.holds;
           apart = λ x y a other on_x on_y address_x address_y.
-              clash_cases (IsToBeTold after) (swapped after) stations u (started p) told_other
+              clash_cases (IsClaimUndelivered after) (swapped after) stations u (started p) told_other
               (λ z t b z_other t_other c.
               told_still now without u items z t b (without_still claims u z t b z_other t_other (clash_told z t b c)))
               x y a (record { apart = other; one = record { on = on_x; address = address_x }; other = record { on = on_y; address = address_y } });
@@ -126,7 +126,7 @@ module _ (units : List PlannedUnit) (stations : Stations) (claims : Undelivered)
       holds = changed_each (λ x s. s.on ≡ true → IsHeld (unit_at units x) s.address) stations u off
           (λ on. absurd (true≢false (sym on))) inv.holds;
       apart = λ x y a other on_x on_y address_x address_y.
-          clash_cases (IsToBeTold without) (swapped without) stations u off (λ z b z_other holding has. absurd (cc))
+          clash_cases (IsClaimUndelivered without) (swapped without) stations u off (λ z b z_other holding has. absurd (cc))
           (λ z t b z_other t_other c. without_still claims u z t b z_other t_other (clash_told z t b c))
           x y a (record { apart = other; one = record { on = on_x; address = address_x }; other = record { on = on_y; address = address_y } });
       said = without_said;
@@ -200,7 +200,7 @@ module _ (units : List PlannedUnit) (stations : Stations) (claims : Undelivered)
         ]
 
     -- whoever holds what v holds now is told so, or has still to tell v
-    told_by_v : (z b : ℕ) → z ≢ v → IsHolding (stations z) b → new.address ≡ Some b → IsToBeTold after v z b
+    told_by_v : (z b : ℕ) → z ≢ v → IsHolding (stations z) b → new.address ≡ Some b → IsClaimUndelivered after v z b
     unfolding after now
     told_by_v z b z_other holding at_v =
         let items : List Item = answer_items says in
@@ -229,7 +229,7 @@ module _ (units : List PlannedUnit) (stations : Stations) (claims : Undelivered)
                 | inr claims ↦ (claims.0, claims.2, claims.3)
               ]) inv.holds;
           apart = λ x y a other on_x on_y address_x address_y.
-              clash_cases (IsToBeTold after) (swapped after) stations v new told_by_v
+              clash_cases (IsClaimUndelivered after) (swapped after) stations v new told_by_v
               (λ y z b y_other z_other c.
               told_still (changed stations v new) mid v items y z b (rw (other_list y z z_other, other_list z y y_other) (clash_told y z b c)))
               x y a (record { apart = other; one = record { on = on_x; address = address_x }; other = record { on = on_y; address = address_y } });

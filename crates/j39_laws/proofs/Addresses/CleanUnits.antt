@@ -14,7 +14,7 @@ use Rattle.j39_plan.specs.Findings.{Clean, needed_addresses, needs_pool_address}
 use Rattle.j39_plan.specs.declared.checking.finding.Finding.TheVariants.{SameName, SameFixedAddress, TooFewAddresses, KeptAddress}
 use Rattle.j39_plan.specs.declared.plan.Plan.{Plan}
 use Rattle.j39_plan.specs.declared.plan.unit_plan.UnitPlan.{UnitPlan}
-use Rattle.j39_world.specs.Claimants.{claimant_of, units_of, unit_at}
+use Rattle.j39_world.specs.PlannedUnits.{planned_unit, units_of, unit_at}
 use Rattle.j39_world.specs.Opening.{AreNamesDistinct}
 
 -- it may hold an address of 128..247 that isn't kept free
@@ -39,16 +39,16 @@ pub record IsClean (units : List PlannedUnit) : Type 0 where
       → contains (unit_at units i).kept (unit_at units i).preferred ≡ false
 
 -- a place of a unit has its plan
-placed : (kept : FinSet nat_cmp) (ps : List UnitPlan) (i : ℕ) → i < length (map (claimant_of kept) ps)
-    → (p : UnitPlan) × (slice_get ps i ≡ Some p) × (unit_at (map (claimant_of kept) ps) i ≡ claimant_of kept p)
+placed : (kept : FinSet nat_cmp) (ps : List UnitPlan) (i : ℕ) → i < length (map (planned_unit kept) ps)
+    → (p : UnitPlan) × (slice_get ps i ≡ Some p) × (unit_at (map (planned_unit kept) ps) i ≡ planned_unit kept p)
 placed kept [] i inside = absurd (omega arith)
 placed kept (p ∷ ps) zero inside = (p, refl, refl)
 placed kept (p ∷ ps) (suc i) inside = placed kept ps i (omega arith)
 
-count : (kept : FinSet nat_cmp) (ps : List UnitPlan) → count_by needs_pool (map (claimant_of kept) ps) ≡ needed_addresses kept ps
+count : (kept : FinSet nat_cmp) (ps : List UnitPlan) → count_by needs_pool (map (planned_unit kept) ps) ≡ needed_addresses kept ps
 count kept [] = refl
 count kept (p ∷ ps) =
-    let one = sum_by-cons (λ x. cond (needs_pool x) 1 0) (claimant_of kept p) (map (claimant_of kept) ps) in
+    let one = sum_by-cons (λ x. cond (needs_pool x) 1 0) (planned_unit kept p) (map (planned_unit kept) ps) in
     let planned = sum_by-cons (λ x. cond (needs_pool_address kept x) 1 0) p ps in
     rw (one, planned) (omega (arith, count kept ps))
 

@@ -12,7 +12,7 @@ use Rattle.j39_claim.specs.ClaimRule.{PlannedUnit, ClaimState, Answers}
 use Rattle.j39_id.specs.Name.{is_arbitrary}
 use Rattle.j39_plan.specs.declared.plan.Plan.{Plan}
 use Rattle.j39_plan.specs.declared.plan.unit_plan.UnitPlan.{UnitPlan}
-use Rattle.j39_world.specs.Claimants.{claimant_of, units_of, unit_at}
+use Rattle.j39_world.specs.PlannedUnits.{planned_unit, units_of, unit_at}
 use Rattle.j39_world.specs.Sound.{AreAddressesSound, AreAddressesDifferent, AreKeptFree, IsQuiet}
 use Rattle.j39_world.specs.SoundPlan.{Always}
 use Rattle.j39_world.specs.World.{World, Stations, Undelivered, first}
@@ -71,8 +71,8 @@ addresses_sound plan clean steps w run =
     }
 
 -- what an arbitrary unit of a plan may not choose
-kept_at : (kept : FinSet nat_cmp) (ps : List UnitPlan) (u : ℕ) → is_arbitrary (unit_at (map (claimant_of kept) ps) u).name ≡ true
-    → (unit_at (map (claimant_of kept) ps) u).kept ≡ kept
+kept_at : (kept : FinSet nat_cmp) (ps : List UnitPlan) (u : ℕ) → is_arbitrary (unit_at (map (planned_unit kept) ps) u).name ≡ true
+    → (unit_at (map (planned_unit kept) ps) u).kept ≡ kept
 kept_at kept [] u arbitrary = absurd (true≢false (sym arbitrary))
 kept_at kept (p ∷ ps) zero arbitrary = refl
 kept_at kept (p ∷ ps) (suc u) arbitrary = kept_at kept ps u arbitrary

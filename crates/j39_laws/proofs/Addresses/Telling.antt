@@ -5,7 +5,7 @@ use Rattle.std.proofs.lemmas.List.Elements.{Contains-append_left, Contains-appen
 use Rattle.std.specs.List.{Contains, AllByRecursion}
 use Rattle.j39_claim.specs.declared.item.Item.{Item}
 use Rattle.j39_claim.specs.ClaimRule.{PlannedUnit}
-use Rattle.j39_world.specs.Claimants.{unit_at}
+use Rattle.j39_world.specs.PlannedUnits.{unit_at}
 use Rattle.j39_world.specs.World.{Stations, Undelivered, is_other_on}
 use Rattle.j39_world.specs.ClaimSteps.{told_to_others}
 use Rattle.j39_laws.proofs.Addresses.AddressInvariant.{IsSaid}

@@ -22,7 +22,7 @@ use Rattle.j39_plan.specs.declared.checking.finding.Finding.{Finding}
 use Rattle.j39_plan.specs.declared.steps.Step.{Step}
 use Rattle.j39_plan.specs.declared.steps.Step.TheVariants.{Up, Give}
 use Rattle.j39_world.specs.declared.step_error.StepError.TheVariants.{UnknownUnit, NotStarted, AlreadyStarted, NothingUndelivered, TransferOpen}
-use Rattle.j39_world.specs.Claimants.{claimant_of, units_of, unit_at}
+use Rattle.j39_world.specs.PlannedUnits.{planned_unit, units_of, unit_at}
 use Rattle.j39_world.specs.ClaimSteps.{GivenFrom, switched_on, given, told_to_others, without_lists_to, answer_items}
 use Rattle.j39_world.specs.Conflict.{IsLeftWithoutAddress, LeavesWithoutAddress}
 use Rattle.j39_world.specs.Run.{count_of, both, is_on, is_no_transfer_open, refusal, Run, RunsThrough}
@@ -285,9 +285,9 @@ module _ (plan : Plan) (l s : ℕ) (unit_l : is_unit plan l ≡ true) (unit_s : 
 -- ---- the units of which a finding tells
 
 found : (kept : FinSet nat_cmp) (ps : List UnitPlan) (i : ℕ) (p : UnitPlan) → slice_get ps i ≡ Some p
-    → (i < length ps) × (unit_at (map (claimant_of kept) ps) i ≡ claimant_of kept p)
+    → (i < length ps) × (unit_at (map (planned_unit kept) ps) i ≡ planned_unit kept p)
 found kept [] i p is = absurd (cc)
-found kept (q ∷ ps) zero p is = let same : q ≡ p = cc in (omega arith, ap (claimant_of kept) same)
+found kept (q ∷ ps) zero p is = let same : q ≡ p = cc in (omega arith, ap (planned_unit kept) same)
 found kept (q ∷ ps) (suc i) p is = let rest = found kept ps i p is in (omega (arith, rest.0), rest.1)
 
 -- of two units that are in conflict, at these places in one order or the other

@@ -24,7 +24,7 @@ use Rattle.j39_world.specs.Flows.{Flow, dest_of, is_short, can_go_to}
 use Rattle.j39_world.specs.Resting.{can_rest, is_over_with}
 use Rattle.j39_world.specs.Run.{count_of, is_on, at_ends, begin_refusal}
 use Rattle.j39_world.specs.Transfers.{Outgoing, Wire, outcome_in, is_among, added}
-use Rattle.j39_world.specs.TransferSteps.{targets_of, sent_along, begun_stage, outgoing, first_item, begins, BeginsAt, Emits, SenderTimesOut, rested}
+use Rattle.j39_world.specs.TransferSteps.{targets_of, sent_to_receivers, begun_stage, outgoing, first_item, begins, BeginsAt, Emits, SenderTimesOut, rested}
 use Rattle.j39_world.specs.World.{World, changed, is_other_on}
 use Rattle.j39_world.specs.Sound.{reported}
 use Rattle.j39_tp.specs.HonestPackets.{GoesOn}
@@ -215,7 +215,7 @@ module _ (plan : Plan) (w : World) (inv : TransferInvariant plan w) where
         (back_sent (message_to (w.sessions s) t) (record (pair_of w s t) { wire = wire_then s t })
         (eqb t u && is_among o.targets s) (wired.Packet p) other (sent_forth s t))
 
-    sent_keeps : TransferInvariant plan (record (sent_along w u o p) { sessions = changed w.sessions u then })
+    sent_keeps : TransferInvariant plan (record (sent_to_receivers w u o p) { sessions = changed w.sessions u then })
     sent_keeps = record {
       order = sessions_keep plan w.stations w.claims w.sessions inv.order u then
           (subst (PlannedAt plan u) is (inv.order.planned u)) (subst (DeliveredBefore w.claims) is (inv.order.delivered u));

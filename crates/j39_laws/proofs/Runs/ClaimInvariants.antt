@@ -11,7 +11,7 @@ use Rattle.j39_plan.specs.declared.plan.Plan.{Plan}
 use Rattle.j39_plan.specs.declared.steps.Step.TheVariants.{Up, Down, Give, Ask, Begin, Emit, Take, Lose, LateSender, LateReceiver, Rest}
 use Rattle.j39_world.specs.declared.wired.Wired.{Wired}
 use Rattle.j39_world.specs.declared.wired.Wired.TheVariants as wired
-use Rattle.j39_world.specs.Claimants.{units_of, unit_at}
+use Rattle.j39_world.specs.PlannedUnits.{units_of, unit_at}
 use Rattle.j39_world.specs.Flows.{Flow, flows_of, windows_of}
 use Rattle.j39_world.specs.World.{World, Stations, Undelivered, changed, changed_pair}
 use Rattle.j39_world.specs.ClaimSteps.{GivenFrom, told_to_others, without_lists_to, answer_items}
@@ -57,7 +57,7 @@ module _ (plan : Plan) (Holds : ClaimProperty) (keeps : IsKeptByClaimSteps plan 
   given_from w here u v unit_u unit_v on (item ∷ rest) is new (says, s, answers, e) =
       subst HoldsIn (sym e) (keeps.given w.stations w.claims here u v unit_u unit_v on item rest is says s answers)
 
-  -- ---- the steps of transfers change no state, and nothing of what claimants have told each other
+  -- ---- the steps of transfers change no state, and nothing of what planned_units have told each other
 
   begun : (w : World) → HoldsIn w → (count f : ℕ) (flow : Option Flow) (bytes : List ℕ) (new : World) → BeginsAt count w f flow bytes new → HoldsIn new
   begun w here count f None bytes new never = absurd never

@@ -7,7 +7,7 @@ use Rattle.std.specs.List.{list_all, range_with_len}
 use Rattle.j39_claim.specs.declared.item.Item.{Item}
 use Rattle.j39_claim.specs.ClaimRule.{PlannedUnit, ClaimState}
 use Rattle.j39_plan.specs.declared.plan.Plan.{Plan}
-use Rattle.j39_world.specs.Claimants.{units_of, unit_at, claimant_of}
+use Rattle.j39_world.specs.PlannedUnits.{units_of, unit_at, planned_unit}
 use Rattle.j39_world.specs.ClaimSteps.{told_to_others, without_lists_to}
 use Rattle.j39_world.specs.Opening.{AreNamesDistinct}
 use Rattle.j39_world.specs.Run.{count_of, both}
@@ -21,7 +21,7 @@ unit_below : (plan : Plan) (u : ℕ) → is_unit plan u ≡ true → u < count_o
 unit_below plan u unit = ltb-true u (count_of plan) unit
 
 pub in_units : (plan : Plan) (u : ℕ) → is_unit plan u ≡ true → u < length (units_of plan)
-in_units plan u unit = let below : u < count_of plan = unit_below plan u unit in omega (arith, length-map plan.units.items (claimant_of plan.keep_free))
+in_units plan u unit = let below : u < count_of plan = unit_below plan u unit in omega (arith, length-map plan.units.items (planned_unit plan.keep_free))
 
 -- a test that all pass
 range_all : (test : ℕ → Bool) (a n : ℕ) → list_all test (range_with_len a n) ≡ true → (x : ℕ) → a ≤ x → x < a + n → test x ≡ true

@@ -6,10 +6,10 @@ use Rattle.j39_queues.specs.Queued.{IsTable}
 use Rattle.j39_bus.specs.BusState.{session_at}
 use Rattle.j39_bus.specs.Reports.{reported_of}
 use Rattle.j39_bus.specs.Stations.{station_at, unstarted}
-use Rattle.j39_bus.specs.inside.Network.{claimants}
+use Rattle.j39_bus.specs.inside.Network.{planned_units}
 use Rattle.j39_bus.specs.inside.Traffic.{IsTraffic}
 use Rattle.j39_world.specs.Sent.{sent_of}
-use Rattle.j39_bus.proofs.Opened.{claimants-unstarted, length_opened, none_sent, sessions_first, station_unstarted, well_opened}
+use Rattle.j39_bus.proofs.Opened.{planned_units-unstarted, length_opened, none_sent, sessions_first, station_unstarted, well_opened}
 use Rattle.j39_bus.proofs.opening.network_of.Goals as goal
 
 pub returns-clause-network : goal.returns-clause-network
@@ -37,7 +37,7 @@ returns-clause-planned c =
     let plan = c.args.plan.now in
     let value = c.as_slice-units.ensures.value in
     record {
-      units = ap claimants (c.in_ok-claimers.ensures ∙ ap (map (unstarted plan.keep_free)) value) ∙ claimants-unstarted plan.keep_free plan.units.items;
+      units = ap planned_units (c.in_ok-claimers.ensures ∙ ap (map (unstarted plan.keep_free)) value) ∙ planned_units-unstarted plan.keep_free plan.units.items;
       flows = c.in_ok-routes.ensures.flows;
       windows = c.in_ok-receivers.ensures.windows ∙ ap (map (λ (p : UnitPlan). p.window)) value;
     }

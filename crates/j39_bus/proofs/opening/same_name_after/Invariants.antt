@@ -1,5 +1,5 @@
 use Rattle.std.proofs.Common.{ℕ, ◌<◌}
-use Rattle.j39_world.specs.Claimants.{units_of}
+use Rattle.j39_world.specs.PlannedUnits.{units_of}
 use Rattle.j39_world.specs.Opening.{HaveOneName}
 use Rattle.j39_bus.proofs.opening.same_name_after.Given as goal
 

@@ -45,8 +45,7 @@ returns-clause-steps c = λ plan of.
     let after : Histories = has_begun h c.args.flow (route_of r) c.in_ok-targets.targets.items c.as_slice.result.now in
     let begun : world_in after c.start.new.self ≡ begins (count_of plan) (world_in h mid) c.args.flow (route_of r) bytes.items =
     c.start.ensures.world h
-    ∙ (λ i. begins ((ap length c.prepare.ensures.same.claimers ∙ sym (units_count plan net of)) i) (world_in h mid) c.args.flow (route_of r) (c.as_slice.ensures.value i)) in
-    (
+    ∙ (λ i. begins ((ap length c.prepare.ensures.same.claimers ∙ sym (units_count plan net of)) i) (world_in h mid) c.args.flow (route_of r) (c.as_slice.ensures.value i)) in (
       after,
       subst (λ o. BeginsAt (count_of plan) (world_in h mid) c.args.flow o bytes.items (world_in after c.start.new.self)) (sym planned) begun,
       subst (HoldTaken h.taken) (sym c.start.ensures.receivers) held,

@@ -4,8 +4,8 @@ use Rattle.j39_claim.specs.ClaimerValue.{ClaimerValue, can_note}
 use Rattle.j39_queues.specs.Queued.{IsTable, pair_in}
 use Rattle.j39_world.specs.Sent.{sent_of}
 use Rattle.j39_bus.specs.Stations.{absent_unit, station_at}
-use Rattle.j39_bus.specs.inside.Network.{world_in, claimants, is_named, IsWellFormed}
-use Rattle.j39_bus.proofs.Delivered.{delivered, claimants_heard}
+use Rattle.j39_bus.specs.inside.Network.{world_in, planned_units, is_named, IsWellFormed}
+use Rattle.j39_bus.proofs.Delivered.{delivered, planned_units_heard}
 use Rattle.j39_bus.proofs.Room.{can_note_all, named}
 use Rattle.j39_bus.specs.declared.network.Network.{Network}
 use Rattle.j39_bus.specs.inside.Traffic.{IsTraffic}
@@ -18,18 +18,22 @@ pub hear-answer-requires-clause-room : goal.hear-answer-requires-clause-room
 hear-answer-requires-clause-room g c =
     let cs : List ClaimerValue = c.args.self.now.claimers.items in
     let name : c.name-name.result ≡ (get_or cs c.args.from absent_unit).planned.name =
-    c.name-name.ensures ∙ ap (λ (k : ClaimerValue). k.planned.name) (c.index.ensures ∙ any_default cs c.args.from c.index.result.now absent_unit c.requires.from) in
-    ap (can_note (station_at cs c.args.to).notes) name ∙ can_note_all cs c.args.self.now.claims.lists c.args.from c.args.to c.requires.network.claims c.requires.from
+    c.name-name.ensures ∙ ap (λ (k : ClaimerValue). k.planned.name)
+    (c.index.ensures ∙ any_default cs c.args.from c.index.result.now absent_unit c.requires.from) in
+    ap (can_note (station_at cs c.args.to).notes) name ∙ can_note_all cs c.args.self.now.claims.lists c.args.from c.args.to c.requires.network.claims
+    c.requires.from
 
 pub tell-requires-clause-room : goal.tell-requires-clause-room
 tell-requires-clause-room g c =
-    room_for_others c.args.self.now.claims c.pop.new.self c.args.self.now.claimers.items c.args.to _ c.hear-answer.new.claimers.items c.requires.to c.in-Some-answer.ensures.rule.1
+    room_for_others c.args.self.now.claims c.pop.new.self c.args.self.now.claimers.items c.args.to _ c.hear-answer.new.claimers.items c.requires.to
+    c.in-Some-answer.ensures.rule.1
     c.pop.ensures.room 1 c.requires.room
 
 pub tell-requires-clause-table : goal.tell-requires-clause-table
 tell-requires-clause-table g c =
     let cs : List ClaimerValue = c.args.self.now.claimers.items in
-    let same = ap length c.in-Some-answer.ensures.rule.1 ∙ length-set cs c.args.to (record (get_or cs c.args.to absent_unit) { state = c.in-Some-answer.ensures.rule.0 }) in
+    let same = ap length c.in-Some-answer.ensures.rule.1 ∙ length-set cs c.args.to
+    (record (get_or cs c.args.to absent_unit) { state = c.in-Some-answer.ensures.rule.0 }) in
     subst (λ n. IsTable n c.pop.new.self.lists) (c.requires.network.claims.table.rows ∙ sym same) c.pop.ensures.table
 
 pub returns-in-Some-answer-clause-network : goal.returns-in-Some-answer-clause-network
@@ -38,22 +42,28 @@ returns-in-Some-answer-clause-network g c =
     let new : List ClaimerValue = c.hear-answer.new.claimers.items in
     let rule = c.in-Some-answer.ensures.rule in
     let name : c.name-name.result ≡ (get_or cs c.args.from absent_unit).planned.name =
-    c.name-name.ensures ∙ ap (λ (k : ClaimerValue). k.planned.name) (c.index.ensures ∙ any_default cs c.args.from c.index.result.now absent_unit c.requires.from) in
+    c.name-name.ensures ∙ ap (λ (k : ClaimerValue). k.planned.name)
+    (c.index.ensures ∙ any_default cs c.args.from c.index.result.now absent_unit c.requires.from) in
     let is_one : is_named cs c.name-name.result ≡ true = ap (is_named cs) name ∙ named cs c.args.from c.requires.from in
     let well : IsWellFormed new c.pop.new.self.lists =
-    well_heard cs c.args.self.now.claims.lists c.requires.network.claims c.args.to c.requires.to c.name-name.result is_one c.in-Some.item (Some c.in-Some-answer.say) new rule c.pop.new.self.lists c.pop.ensures.table in
+    well_heard cs c.args.self.now.claims.lists c.requires.network.claims c.args.to c.requires.to c.name-name.result is_one c.in-Some.item
+    (Some c.in-Some-answer.say) new rule c.pop.new.self.lists c.pop.ensures.table in
     record {
-      claims = well_told new c.pop.new.self.lists well c.tell.new.self.claimers.items c.tell.new.self.claims.lists (ap (λ v. v.items) c.tell.ensures.claimers) c.tell.ensures.table;
-      traffic = told_traffic c.tell.new.self (record c.args.self.now { claimers = c.hear-answer.new.claimers; claims = c.pop.new.self }) c.tell.ensures.rest (length cs)
-          (ap length (ap (λ v. v.items) c.tell.ensures.claimers) ∙ ap length rule.1 ∙ length-set cs c.args.to (record (get_or cs c.args.to absent_unit) { state = rule.0 }))
+      claims = well_told new c.pop.new.self.lists well c.tell.new.self.claimers.items c.tell.new.self.claims.lists
+          (ap (λ v. v.items) c.tell.ensures.claimers) c.tell.ensures.table;
+      traffic = told_traffic c.tell.new.self (record c.args.self.now { claimers = c.hear-answer.new.claimers; claims = c.pop.new.self }) c.tell.ensures.rest
+          (length cs)
+          (ap length (ap (λ v. v.items) c.tell.ensures.claimers) ∙ ap length rule.1
+          ∙ length-set cs c.args.to (record (get_or cs c.args.to absent_unit) { state = rule.0 }))
           c.requires.network.traffic;
     }
 
 pub returns-in-Some-answer-clause-plan : goal.returns-in-Some-answer-clause-plan
 returns-in-Some-answer-clause-plan g c = record {
-  claimants =
-      ap (λ v. claimants v.items) c.tell.ensures.claimers
-      ∙ claimants_heard c.args.self.now.claimers.items c.args.to c.name-name.result c.in-Some.item (Some c.in-Some-answer.say) c.hear-answer.new.claimers.items c.in-Some-answer.ensures.rule;
+  planned_units =
+      ap (λ v. planned_units v.items) c.tell.ensures.claimers
+      ∙ planned_units_heard c.args.self.now.claimers.items c.args.to c.name-name.result c.in-Some.item
+      (Some c.in-Some-answer.say) c.hear-answer.new.claimers.items c.in-Some-answer.ensures.rule;
   routes = ap (λ (m : Network). m.routes.items) c.tell.ensures.rest;
   windows = ap (λ (m : Network). m.receivers.windows) c.tell.ensures.rest;
 }
@@ -62,8 +72,10 @@ pub returns-in-Some-answer-clause-world : goal.returns-in-Some-answer-clause-wor
 returns-in-Some-answer-clause-world g c = λ h.
     let cs : List ClaimerValue = c.args.self.now.claimers.items in
     let name : c.name-name.result ≡ (get_or cs c.args.from absent_unit).planned.name =
-    c.name-name.ensures ∙ ap (λ (k : ClaimerValue). k.planned.name) (c.index.ensures ∙ any_default cs c.args.from c.index.result.now absent_unit c.requires.from) in
-    delivered (world_in h c.args.self.now) cs (pair_in c.args.self.now.claims.lists) (pair_in c.pop.new.self.lists) (map sent_of c.args.self.now.frames.items) c.args.from c.args.to c.requires.to
+    c.name-name.ensures ∙ ap (λ (k : ClaimerValue). k.planned.name)
+    (c.index.ensures ∙ any_default cs c.args.from c.index.result.now absent_unit c.requires.from) in
+    delivered (world_in h c.args.self.now) cs (pair_in c.args.self.now.claims.lists) (pair_in c.pop.new.self.lists)
+    (map sent_of c.args.self.now.frames.items) c.args.from c.args.to c.requires.to
     c.in-Some.item c.in-Some.ensures.some c.pop.ensures.lists c.name-name.result name
     (Some c.in-Some-answer.say) c.hear-answer.new.claimers.items c.in-Some-answer.ensures.rule
     _ (c.tell.ensures.world h)
@@ -73,10 +85,12 @@ returns-in-None-clause-network g c =
     let net = c.args.self.now in
     let cs : List ClaimerValue = c.args.self.now.claimers.items in
     let name : c.name-name.result ≡ (get_or cs c.args.from absent_unit).planned.name =
-    c.name-name.ensures ∙ ap (λ (k : ClaimerValue). k.planned.name) (c.index.ensures ∙ any_default cs c.args.from c.index.result.now absent_unit c.requires.from) in
+    c.name-name.ensures ∙ ap (λ (k : ClaimerValue). k.planned.name)
+    (c.index.ensures ∙ any_default cs c.args.from c.index.result.now absent_unit c.requires.from) in
     let is_one : is_named cs c.name-name.result ≡ true = ap (is_named cs) name ∙ named cs c.args.from c.requires.from in
     record {
-      claims = well_heard cs c.args.self.now.claims.lists c.requires.network.claims c.args.to c.requires.to c.name-name.result is_one c.in-Some.item None c.hear-answer.new.claimers.items c.in-None.ensures.rule
+      claims = well_heard cs c.args.self.now.claims.lists c.requires.network.claims c.args.to c.requires.to c.name-name.result is_one c.in-Some.item None
+          c.hear-answer.new.claimers.items c.in-None.ensures.rule
           c.pop.new.self.lists c.pop.ensures.table;
       traffic = subst (λ (n : ℕ). IsTraffic n net.routes.items net.sessions.items net.wire.lists net.receivers)
           (sym (ap length c.in-None.ensures.rule.1 ∙ length-set cs c.args.to (record (get_or cs c.args.to absent_unit) { state = c.in-None.ensures.rule.0 })))
@@ -85,7 +99,8 @@ returns-in-None-clause-network g c =
 
 pub returns-in-None-clause-plan : goal.returns-in-None-clause-plan
 returns-in-None-clause-plan g c = record {
-  claimants = claimants_heard c.args.self.now.claimers.items c.args.to c.name-name.result c.in-Some.item None c.hear-answer.new.claimers.items c.in-None.ensures.rule;
+  planned_units = planned_units_heard c.args.self.now.claimers.items c.args.to c.name-name.result c.in-Some.item None c.hear-answer.new.claimers.items
+      c.in-None.ensures.rule;
   routes = refl;
   windows = refl;
 }
@@ -94,8 +109,12 @@ pub returns-in-None-clause-world : goal.returns-in-None-clause-world
 returns-in-None-clause-world g c = λ h.
     let cs : List ClaimerValue = c.args.self.now.claimers.items in
     let name : c.name-name.result ≡ (get_or cs c.args.from absent_unit).planned.name =
-    c.name-name.ensures ∙ ap (λ (k : ClaimerValue). k.planned.name) (c.index.ensures ∙ any_default cs c.args.from c.index.result.now absent_unit c.requires.from) in
-    delivered (world_in h c.args.self.now) cs (pair_in c.args.self.now.claims.lists) (pair_in c.pop.new.self.lists) (map sent_of c.args.self.now.frames.items) c.args.from c.args.to c.requires.to
+    c.name-name.ensures ∙ ap (λ (k : ClaimerValue). k.planned.name)
+    (c.index.ensures ∙ any_default cs c.args.from c.index.result.now absent_unit c.requires.from) in
+    delivered (world_in h c.args.self.now) cs (pair_in c.args.self.now.claims.lists) (pair_in c.pop.new.self.lists)
+    (map sent_of c.args.self.now.frames.items) c.args.from c.args.to c.requires.to
     c.in-Some.item c.in-Some.ensures.some c.pop.ensures.lists c.name-name.result name
     None c.hear-answer.new.claimers.items c.in-None.ensures.rule
-    _ (sym (told_nothing (claimants c.hear-answer.new.claimers.items) (world (world_in h c.args.self.now) c.hear-answer.new.claimers.items (pair_in c.pop.new.self.lists) (map sent_of c.args.self.now.frames.items)) c.args.to))
+    _ (sym (told_nothing (planned_units c.hear-answer.new.claimers.items)
+    (world (world_in h c.args.self.now) c.hear-answer.new.claimers.items (pair_in c.pop.new.self.lists) (map sent_of c.args.self.now.frames.items))
+    c.args.to))

@@ -10,7 +10,7 @@ use Rattle.j39_bus.specs.inside.Traffic.{IsTraffic}
 use Rattle.j39_world.specs.Sent.{sent_of}
 use Rattle.j39_bus.proofs.Refused.{nowhere, unit_inside}
 use Rattle.j39_bus.proofs.Steady.{steps_same, wired_traffic}
-use Rattle.j39_bus.proofs.SwitchedOn.{claimants_off, off_claimant, switched_off_world}
+use Rattle.j39_bus.proofs.SwitchedOn.{planned_units_off, off_planned_unit, switched_off_world}
 use Rattle.j39_bus.proofs.WellFormed.{well_on}
 use Rattle.j39_bus.proofs.network.Network.down.Goals as goal
 
@@ -38,9 +38,10 @@ returns-clause-network c =
       claims = c.clear_to.new.self;
       wire = c.clear_to-2.new.self;
     } in
-    let same = off_claimant cs c.args.unit inside c.index_mut.result.now c.stop.new.self c.index_mut.ensures.value c.stop.ensures in
+    let same = off_planned_unit cs c.args.unit inside c.index_mut.result.now c.stop.new.self c.index_mut.ensures.value c.stop.ensures in
     record {
-      claims = well_on cs c.args.self.now.claims.lists c.requires.network.claims c.args.unit inside c.stop.new.self same (ap (λ (k : ClaimerValue). k.state.notes) c.stop.ensures)
+      claims = well_on cs c.args.self.now.claims.lists c.requires.network.claims c.args.unit inside c.stop.new.self same
+          (ap (λ (k : ClaimerValue). k.state.notes) c.stop.ensures)
           c.clear_to.new.self.lists c.clear_to.ensures.table;
       traffic = subst (λ n. IsTraffic n new.routes.items new.sessions.items new.wire.lists new.receivers) (sym (length-set cs c.args.unit c.stop.new.self))
           (wired_traffic _ _ _ _ _ _ c.requires.network.traffic c.clear_to-2.ensures.table);
@@ -50,7 +51,8 @@ pub returns-clause-plan : goal.returns-clause-plan
 returns-clause-plan c =
     let inside : c.args.unit < length c.args.self.now.claimers.items = unit_inside _ _ _ (c.requires.allowed nowhere) in
     record {
-      claimants = claimants_off c.args.self.now.claimers.items c.args.unit inside c.index_mut.result.now c.stop.new.self c.index_mut.ensures.value c.stop.ensures;
+      planned_units = planned_units_off c.args.self.now.claimers.items c.args.unit inside c.index_mut.result.now c.stop.new.self c.index_mut.ensures.value
+          c.stop.ensures;
       routes = refl;
       windows = refl;
     }

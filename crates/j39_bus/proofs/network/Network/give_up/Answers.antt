@@ -4,7 +4,7 @@ use Rattle.j39_bus.specs.BusState.{session_at}
 use Rattle.j39_bus.specs.inside.Network.{world_in}
 use Rattle.j39_bus.specs.inside.Traffic.{HasRoomAlong, at_stage}
 use Rattle.j39_world.specs.Transfers.{Outgoing}
-use Rattle.j39_world.specs.TransferSteps.{sent_along}
+use Rattle.j39_world.specs.TransferSteps.{sent_to_receivers}
 use Rattle.j39_world.specs.World.{changed}
 use Rattle.j39_bus.proofs.ChangedSessions.{changed_same, session_sends, sessions_staged}
 use Rattle.j39_bus.proofs.Wires.{room_kept}
@@ -29,7 +29,8 @@ pub send_along-requires-clause-wire : goal.send_along-requires-clause-wire
 send_along-requires-clause-wire c =
     let old = session_at c.args.self.now.sessions.items in
     let here = ap (λ f. f c.args.unit) c.late.ensures.session ∙ changed_same old c.args.unit (at_stage (λ s. after_timeout s.stage) (old c.args.unit)) in
-    subst (HasRoomAlong c.args.self.now.wire c.args.unit) (sym here) (room_kept c.args.self.now.wire c.args.unit (λ s. after_timeout s.stage) (old c.args.unit) c.requires.wire)
+    subst (HasRoomAlong c.args.self.now.wire c.args.unit) (sym here)
+    (room_kept c.args.self.now.wire c.args.unit (λ s. after_timeout s.stage) (old c.args.unit) c.requires.wire)
 
 pub returns-in-Some-clause-world : goal.returns-in-Some-clause-world
 returns-in-Some-clause-world c = λ h.
@@ -45,5 +46,5 @@ returns-in-Some-clause-world c = λ h.
       c.in-Some.packet,
       is,
       next,
-      c.send_along.ensures.world h after here ∙ (λ i. sent_along (record (world_in h net) { sessions = sessions_are i }) u after c.in-Some.packet),
+      c.send_along.ensures.world h after here ∙ (λ i. sent_to_receivers (record (world_in h net) { sessions = sessions_are i }) u after c.in-Some.packet),
     )

@@ -42,8 +42,7 @@ returns-clause-takes c = λ h held.
     λ reports is. c.reply-2.ensures.world after ∙ (λ i. replied ((c.reply.ensures.world after ∙ (λ j. replied (is j) v u (replies_are j))) i) v u (more_are i))
     ∙ replied_twice (record mid { reports = w.reports ++ reports }) v u answers more in
     let table_is : c.reply-2.new.self.receivers ≡ c.if-is_complete.self.receivers =
-    ap (λ (m : Network). m.receivers) c.reply-2.ensures.rest ∙ ap (λ (m : Network). m.receivers) c.reply.ensures.rest in
-    (
+    ap (λ (m : Network). m.receivers) c.reply-2.ensures.rest ∙ ap (λ (m : Network). m.receivers) c.reply.ensures.rest in (
       after,
       subst (λ (l : List Wired). TakenFrom windows w u v l (world_in after c.reply-2.new.self)) (sym c.requires.oldest)
           (elim c.if-is_complete.branch [

@@ -70,8 +70,7 @@ returns-clause-complete c = λ h held done.
     let p = c.args.packet.now in
     let r = receiver_at net.receivers v u in
     let by_rule : is_complete (hears r.manner r.progress p).1 ≡ true = ap is_complete (sym c.in_ok-heard.ensures.heard) ∙ done in
-    let holds = c.receivers_gather_what_they_hear.ensures.completes (h.taken v u) r p (held v u) (tells (hears r.manner r.progress p).1 by_rule) in
-    (
+    let holds = c.receivers_gather_what_they_hear.ensures.completes (h.taken v u) r p (held v u) (tells (hears r.manner r.progress p).1 by_rule) in (
       holds.pgn,
       subst (Carried (h.taken v u ++ p ∷ []) (length (h.taken v u)) holds.pgn) (sym (c.in_ok-heard.ensures.message done)) holds.carried,
     )

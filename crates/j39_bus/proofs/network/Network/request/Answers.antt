@@ -6,28 +6,33 @@ use Rattle.j39_queues.specs.Queued.{IsTable}
 use Rattle.j39_world.specs.ClaimSteps.{tell}
 use Rattle.j39_bus.specs.inside.Claims.{HasRoomForOthers}
 use Rattle.j39_bus.specs.Stations.{absent_unit, station_at}
-use Rattle.j39_bus.specs.inside.Network.{claimants, world_in}
+use Rattle.j39_bus.specs.inside.Network.{planned_units, world_in}
 use Rattle.j39_bus.proofs.WellFormed.{well_told}
 use Rattle.j39_bus.proofs.Worlds.{any_default, told_twice}
 use Rattle.j39_bus.proofs.Steady.{told_traffic}
 use Rattle.j39_bus.proofs.network.Network.request.Goals as goal
 
 pub tell-requires-2-clause-table : goal.tell-requires-2-clause-table
-tell-requires-2-clause-table c = subst (λ cs. IsTable (length cs) c.tell.new.self.claims.lists) (sym (ap (λ v. v.items) c.tell.ensures.claimers)) c.tell.ensures.table
+tell-requires-2-clause-table c = subst (λ cs. IsTable (length cs) c.tell.new.self.claims.lists)
+    (sym (ap (λ v. v.items) c.tell.ensures.claimers)) c.tell.ensures.table
 
 pub tell-requires-2-clause-room : goal.tell-requires-2-clause-room
-tell-requires-2-clause-room c = subst (λ cs. HasRoomForOthers c.tell.new.self.claims cs c.args.unit 1) (sym (ap (λ v. v.items) c.tell.ensures.claimers)) (c.tell.ensures.room 1 c.requires.room)
+tell-requires-2-clause-room c = subst (λ cs. HasRoomForOthers c.tell.new.self.claims cs c.args.unit 1) (sym (ap (λ v. v.items) c.tell.ensures.claimers))
+    (c.tell.ensures.room 1 c.requires.room)
 
 pub returns-clause-network : goal.returns-clause-network
 returns-clause-network c = record {
   claims =
       let same = ap (λ v. v.items) (c.tell-2.ensures.claimers ∙ c.tell.ensures.claimers) in
-      well_told c.args.self.now.claimers.items c.args.self.now.claims.lists c.requires.network.claims c.tell-2.new.self.claimers.items c.tell-2.new.self.claims.lists same
+      well_told c.args.self.now.claimers.items c.args.self.now.claims.lists c.requires.network.claims c.tell-2.new.self.claimers.items
+      c.tell-2.new.self.claims.lists same
       (subst (λ cs. IsTable (length cs) c.tell-2.new.self.claims.lists) (ap (λ v. v.items) c.tell.ensures.claimers) c.tell-2.ensures.table);
   traffic =
       let net = c.args.self.now in
-      told_traffic c.tell-2.new.self c.tell.new.self c.tell-2.ensures.rest (length c.tell.new.self.claimers.items) (ap length (ap (λ v. v.items) c.tell-2.ensures.claimers))
-      (told_traffic c.tell.new.self net c.tell.ensures.rest (length net.claimers.items) (ap length (ap (λ v. v.items) c.tell.ensures.claimers)) c.requires.network.traffic);
+      told_traffic c.tell-2.new.self c.tell.new.self c.tell-2.ensures.rest (length c.tell.new.self.claimers.items)
+      (ap length (ap (λ v. v.items) c.tell-2.ensures.claimers))
+      (told_traffic c.tell.new.self net c.tell.ensures.rest (length net.claimers.items)
+      (ap length (ap (λ v. v.items) c.tell.ensures.claimers)) c.requires.network.traffic);
 }
 
 pub returns-clause-world : goal.returns-clause-world
@@ -36,8 +41,10 @@ returns-clause-world c = λ h.
     let mid : List ClaimerValue = c.tell.new.self.claimers.items in
     let same : mid ≡ cs = ap (λ v. v.items) c.tell.ensures.claimers in
     let place : c.args.unit < length mid = omega (arith, ap length same, c.requires.place) in
-    let at : c.index.result.now ≡ get_or cs c.args.unit absent_unit = c.index.ensures ∙ any_default mid c.args.unit c.index.result.now absent_unit place ∙ ap (λ l. get_or l c.args.unit absent_unit) same in
-    let said : c.hear_request-say.result ≡ claim_of (station_at cs c.args.unit).address = c.hear_request-say.ensures ∙ ap (λ (k : ClaimerValue). claim_of k.state.address) at in
+    let at : c.index.result.now ≡ get_or cs c.args.unit absent_unit = c.index.ensures ∙ any_default mid c.args.unit c.index.result.now absent_unit place
+    ∙ ap (λ l. get_or l c.args.unit absent_unit) same in
+    let said : c.hear_request-say.result ≡ claim_of (station_at cs c.args.unit).address = c.hear_request-say.ensures
+    ∙ ap (λ (k : ClaimerValue). claim_of k.state.address) at in
     c.tell-2.ensures.world h
-    ∙ (λ i. tell (claimants (same i)) (c.tell.ensures.world h i) c.args.unit (Told (said i) ∷ []))
-    ∙ told_twice (claimants cs) (world_in h c.args.self.now) c.args.unit Request (Told (claim_of (station_at cs c.args.unit).address))
+    ∙ (λ i. tell (planned_units (same i)) (c.tell.ensures.world h i) c.args.unit (Told (said i) ∷ []))
+    ∙ told_twice (planned_units cs) (world_in h c.args.self.now) c.args.unit Request (Told (claim_of (station_at cs c.args.unit).address))

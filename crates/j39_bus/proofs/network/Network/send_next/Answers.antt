@@ -5,7 +5,7 @@ use Rattle.j39_bus.specs.inside.Network.{world_in}
 use Rattle.j39_bus.specs.inside.Traffic.{HasRoomAlong, at_stage}
 use Rattle.j39_world.specs.Flows.{dest_of}
 use Rattle.j39_world.specs.Transfers.{Outgoing}
-use Rattle.j39_world.specs.TransferSteps.{sent_along}
+use Rattle.j39_world.specs.TransferSteps.{sent_to_receivers}
 use Rattle.j39_world.specs.World.{changed}
 use Rattle.j39_bus.proofs.ChangedSessions.{changed_same, session_sends, sessions_staged}
 use Rattle.j39_bus.proofs.Wires.{room_kept}
@@ -19,7 +19,8 @@ send_along-requires-clause-network c =
       claims = c.requires.network.claims;
       traffic = record {
         flows = well.flows;
-        sessions = sessions_staged (length net.claimers.items) net.sessions.items c.next_packet.new.sessions.items c.args.unit (λ s. after_packet (dest_of s.to) s.stage)
+        sessions = sessions_staged (length net.claimers.items) net.sessions.items c.next_packet.new.sessions.items c.args.unit
+            (λ s. after_packet (dest_of s.to) s.stage)
             c.next_packet.ensures.session c.next_packet.ensures.count well.sessions;
         table = well.table;
         windows = well.windows;
@@ -29,8 +30,10 @@ send_along-requires-clause-network c =
 pub send_along-requires-clause-wire : goal.send_along-requires-clause-wire
 send_along-requires-clause-wire c =
     let old = session_at c.args.self.now.sessions.items in
-    let here = ap (λ f. f c.args.unit) c.next_packet.ensures.session ∙ changed_same old c.args.unit (at_stage (λ s. after_packet (dest_of s.to) s.stage) (old c.args.unit)) in
-    subst (HasRoomAlong c.args.self.now.wire c.args.unit) (sym here) (room_kept c.args.self.now.wire c.args.unit (λ s. after_packet (dest_of s.to) s.stage) (old c.args.unit) c.requires.wire)
+    let here = ap (λ f. f c.args.unit) c.next_packet.ensures.session
+    ∙ changed_same old c.args.unit (at_stage (λ s. after_packet (dest_of s.to) s.stage) (old c.args.unit)) in
+    subst (HasRoomAlong c.args.self.now.wire c.args.unit) (sym here)
+    (room_kept c.args.self.now.wire c.args.unit (λ s. after_packet (dest_of s.to) s.stage) (old c.args.unit) c.requires.wire)
 
 pub returns-in-Some-clause-world : goal.returns-in-Some-clause-world
 returns-in-Some-clause-world c = λ h.
@@ -46,5 +49,5 @@ returns-in-Some-clause-world c = λ h.
       c.in-Some.packet,
       is,
       next,
-      c.send_along.ensures.world h after here ∙ (λ i. sent_along (record (world_in h net) { sessions = sessions_are i }) u after c.in-Some.packet),
+      c.send_along.ensures.world h after here ∙ (λ i. sent_to_receivers (record (world_in h net) { sessions = sessions_are i }) u after c.in-Some.packet),
     )

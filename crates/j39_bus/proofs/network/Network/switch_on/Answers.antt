@@ -6,7 +6,7 @@ use Rattle.j39_world.specs.Sent.{sent_of}
 use Rattle.j39_bus.specs.declared.network.Network.{Network}
 use Rattle.j39_bus.proofs.Steady.{told_traffic, wired_traffic}
 use Rattle.j39_bus.proofs.WellFormed.{room_for_others, well_on, well_told}
-use Rattle.j39_bus.proofs.SwitchedOn.{claimants_on, on_claimant, switched}
+use Rattle.j39_bus.proofs.SwitchedOn.{planned_units_on, on_planned_unit, switched}
 use Rattle.j39_queues.specs.Queued.{IsTable, pair_in}
 use Rattle.j39_bus.specs.inside.Network.{world_in}
 use Rattle.j39_bus.proofs.network.Network.switch_on.Goals as goal
@@ -14,21 +14,25 @@ use Rattle.j39_bus.proofs.network.Network.switch_on.Goals as goal
 pub tell-requires-clause-table : goal.tell-requires-clause-table
 tell-requires-clause-table c =
     let cs : List ClaimerValue = c.args.self.now.claimers.items in
-    subst (λ n. IsTable n c.clear_to.new.self.lists) (c.requires.network.claims.table.rows ∙ sym (length-set cs c.args.unit c.start-say.new.self)) c.clear_to.ensures.table
+    subst (λ n. IsTable n c.clear_to.new.self.lists) (c.requires.network.claims.table.rows ∙ sym (length-set cs c.args.unit c.start-say.new.self))
+    c.clear_to.ensures.table
 
 pub tell-requires-clause-room : goal.tell-requires-clause-room
 tell-requires-clause-room c =
-    room_for_others c.args.self.now.claims c.clear_to.new.self c.args.self.now.claimers.items c.args.unit c.start-say.new.self _ c.requires.place refl c.clear_to.ensures.room 1 c.requires.room
+    room_for_others c.args.self.now.claims c.clear_to.new.self c.args.self.now.claimers.items c.args.unit c.start-say.new.self _ c.requires.place refl
+    c.clear_to.ensures.room 1 c.requires.room
 
 pub returns-clause-network : goal.returns-clause-network
 returns-clause-network c =
     let cs : List ClaimerValue = c.args.self.now.claimers.items in
     let new : ClaimerValue = c.start-say.new.self in
-    let same = on_claimant cs c.args.unit c.requires.place c.index_mut.result.now new c.index_mut.ensures.value c.start-say.ensures.started in
-    let well = well_on cs c.args.self.now.claims.lists c.requires.network.claims c.args.unit c.requires.place new same (ap (λ (k : ClaimerValue). k.state.notes) c.start-say.ensures.started)
+    let same = on_planned_unit cs c.args.unit c.requires.place c.index_mut.result.now new c.index_mut.ensures.value c.start-say.ensures.started in
+    let well = well_on cs c.args.self.now.claims.lists c.requires.network.claims c.args.unit c.requires.place new same
+    (ap (λ (k : ClaimerValue). k.state.notes) c.start-say.ensures.started)
     c.clear_to.new.self.lists c.clear_to.ensures.table in
     record {
-      claims = well_told (set cs c.args.unit new) c.clear_to.new.self.lists well c.tell.new.self.claimers.items c.tell.new.self.claims.lists (ap (λ v. v.items) c.tell.ensures.claimers) c.tell.ensures.table;
+      claims = well_told (set cs c.args.unit new) c.clear_to.new.self.lists well c.tell.new.self.claimers.items c.tell.new.self.claims.lists
+          (ap (λ v. v.items) c.tell.ensures.claimers) c.tell.ensures.table;
       traffic = told_traffic c.tell.new.self
           (record c.args.self.now { claimers = with_item c.args.self.now.claimers c.args.unit new; claims = c.clear_to.new.self; wire = c.clear_to-2.new.self })
           c.tell.ensures.rest (length cs)
@@ -38,17 +42,19 @@ returns-clause-network c =
 
 pub returns-clause-plan : goal.returns-clause-plan
 returns-clause-plan c = record {
-  claimants =
+  planned_units =
       let cs : List ClaimerValue = c.args.self.now.claimers.items in
       ap (λ v. map (λ (k : ClaimerValue). k.planned) v.items) c.tell.ensures.claimers
-      ∙ claimants_on cs c.args.unit c.requires.place c.index_mut.result.now c.start-say.new.self c.index_mut.ensures.value c.start-say.ensures.started;
+      ∙ planned_units_on cs c.args.unit c.requires.place c.index_mut.result.now c.start-say.new.self c.index_mut.ensures.value c.start-say.ensures.started;
   routes = ap (λ (m : Network). m.routes.items) c.tell.ensures.rest;
   windows = ap (λ (m : Network). m.receivers.windows) c.tell.ensures.rest;
 }
 
 pub returns-clause-world : goal.returns-clause-world
 returns-clause-world c = λ h.
-    switched c.args.self.now.claimers.items c.args.unit c.requires.place c.index_mut.result.now c.start-say.new.self c.index_mut.ensures.value c.start-say.ensures.started
-    (world_in h c.args.self.now) (pair_in c.args.self.now.claims.lists) (pair_in c.clear_to.new.self.lists) (map sent_of c.args.self.now.frames.items) c.clear_to.ensures.lists
+    switched c.args.self.now.claimers.items c.args.unit c.requires.place c.index_mut.result.now c.start-say.new.self c.index_mut.ensures.value
+    c.start-say.ensures.started
+    (world_in h c.args.self.now) (pair_in c.args.self.now.claims.lists) (pair_in c.clear_to.new.self.lists)
+    (map sent_of c.args.self.now.frames.items) c.clear_to.ensures.lists
     (pair_in c.clear_to-2.new.self.lists) c.clear_to-2.ensures.lists
     c.start-say.result c.start-say.ensures.said _ (c.tell.ensures.world h)

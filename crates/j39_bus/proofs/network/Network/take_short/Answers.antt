@@ -13,8 +13,7 @@ pub returns-clause-takes : goal.returns-clause-takes
 returns-clause-takes c = λ h held.
     let net = c.args.self.now in
     let w : World = world_in h net in
-    let wire_is = c.pop.ensures.lists in
-    (
+    let wire_is = c.pop.ensures.lists in (
       h,
       subst (λ (l : List Wired). TakenFrom net.receivers.windows w c.args.from c.args.to l (world_in h c.report.new.self)) (sym c.requires.oldest)
           (c.report.ensures.world h

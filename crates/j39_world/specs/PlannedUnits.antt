@@ -7,12 +7,12 @@ use Rattle.j39_plan.specs.declared.plan.Plan.{Plan}
 use Rattle.j39_plan.specs.declared.plan.unit_plan.UnitPlan.{UnitPlan}
 
 -- a unit claims as its NAME, prefers its planned address, and chooses none that is kept free
-abbrev pub claimant_of : FinSet nat_cmp → UnitPlan → PlannedUnit
-claimant_of kept p = record { name = p.name; preferred = p.address; kept = kept }
+abbrev pub planned_unit : FinSet nat_cmp → UnitPlan → PlannedUnit
+planned_unit kept p = record { name = p.name; preferred = p.address; kept = kept }
 
 -- the units in their order in the plan
 abbrev pub units_of : Plan → List PlannedUnit
-units_of plan = map (claimant_of plan.keep_free) plan.units.items
+units_of plan = map (planned_unit plan.keep_free) plan.units.items
 
 -- the unit at a place
 abbrev pub unit_at : List PlannedUnit → ℕ → PlannedUnit
