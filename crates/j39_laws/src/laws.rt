@@ -37,7 +37,7 @@ pub fn acknowledged_messages_were_reported()
     ensures { (plan : Plans) (steps : List Steps) (w : World) → Run plan first steps w → IsAcknowledgedReported w }
 {}
 
-/// From each world of each run of a plan whose NAMEs differ, whoever goes on delivering what planned_units have told each other comes to
+/// From each world of each run of a plan whose NAMEs differ, whoever goes on delivering what units have told each other comes to
 /// an end, in whatever order and with whatever lawful choices: no more Gives than a given number run through, and where none does,
 /// nothing is undelivered. It says nothing of time.
 pub fn claims_die_down()
