@@ -1,5 +1,6 @@
 -- Why a message is not begun.
-use Rattle.std.proofs.Common.{◌≡◌, ℕ, zero, suc, ◌<◌, ◌≤◌, inl, inr, Bool, true, false, not, ◌==◌, ltb, List, [], ◌∷◌, length, map, get_or, refl, sym, ap, ◌∙◌, subst, arith, Option, Some, None, is_some}
+use Rattle.std.proofs.Common.{◌≡◌, ℕ, zero, suc, ◌<◌, ◌≤◌, inl, inr, Bool, true, false, not, ◌==◌, List, [], ◌∷◌, length, map, get_or, refl, sym, ap, ◌∙◌}
+use Rattle.std.proofs.Common.{subst, arith, Option, Some, None, is_some}
 use Rattle.std.proofs.lemmas.List.{get_or-map, length-map}
 use Rattle.std.proofs.lemmas.Bool.{cases_Bool, eqb-true, true≢false}
 use Rattle.std.specs.List.{list_all, range_with_len, slice_get}
@@ -21,7 +22,8 @@ use Rattle.j39_bus.proofs.Refused.{nowhere}
 use Rattle.j39_bus.proofs.Rested.{all_below}
 
 begin_parts : (a b c d e f : Bool)
-    → refuse_unless a NoSuchFlow (refuse_unless b NotStarted (refuse_unless c NotSettled (refuse_unless d NoAddress (refuse_unless e Busy (refuse_unless f WrongLength None))))) ≡ None → (e ≡ true) × (f ≡ true)
+    → refuse_unless a NoSuchFlow (refuse_unless b NotStarted
+    (refuse_unless c NotSettled (refuse_unless d NoAddress (refuse_unless e Busy (refuse_unless f WrongLength None))))) ≡ None → (e ≡ true) × (f ≡ true)
 begin_parts true true true true true true is = (refl, refl)
 begin_parts true true true true true false is = absurd (cc is)
 begin_parts true true true true false f is = absurd (cc is)
@@ -36,12 +38,16 @@ module _ (net : Network) (f : ℕ) (r : Route) (inside : f < length net.routes.i
       (ap route_of at ∙ sym (get_or-map route_of net.routes.items f r (route_of r) inside))
 
   pub refusal_by : (n : ℕ) (w : World) (bytes : List ℕ) (x y a b c d : Bool) → can_be_sent (route_of r) ≡ x → at_ends (is_on w) r.sender r.to ≡ y
-      → is_nothing_undelivered n w.claims ≡ a → at_ends (has_address w) r.sender r.to ≡ b → not (is_some (w.sessions r.sender)) ≡ c → (length bytes == r.length) ≡ d
+      → is_nothing_undelivered n w.claims ≡ a → at_ends (has_address w) r.sender r.to ≡ b → not (is_some (w.sessions r.sender)) ≡ c
+      → (length bytes == r.length) ≡ d
       → begin_refusal n w (slice_get (map route_of net.routes.items) f) bytes
-      ≡ refuse_unless x NoSuchFlow (refuse_unless y NotStarted (refuse_unless a NotSettled (refuse_unless b NoAddress (refuse_unless c Busy (refuse_unless d WrongLength None)))))
+      ≡ refuse_unless x NoSuchFlow (refuse_unless y NotStarted
+      (refuse_unless a NotSettled (refuse_unless b NoAddress (refuse_unless c Busy (refuse_unless d WrongLength None)))))
   refusal_by n w bytes x y a b c d sendable started a_is b_is c_is d_is =
       ap (λ (o : Option Flow). begin_refusal n w o bytes) flow_is
-      ∙ (λ i. refuse_unless (sendable i) NoSuchFlow (refuse_unless (started i) NotStarted (refuse_unless (a_is i) NotSettled (refuse_unless (b_is i) NoAddress (refuse_unless (c_is i) Busy (refuse_unless (d_is i) WrongLength None))))))
+      ∙ (λ i. refuse_unless (sendable i) NoSuchFlow
+      (refuse_unless (started i) NotStarted
+      (refuse_unless (a_is i) NotSettled (refuse_unless (b_is i) NoAddress (refuse_unless (c_is i) Busy (refuse_unless (d_is i) WrongLength None))))))
 
   pub begin_met : (n : ℕ) (w : World) (bytes : List ℕ) → begin_refusal n w (slice_get (map route_of net.routes.items) f) bytes ≡ None
       → (not (is_some (w.sessions r.sender)) ≡ true) × ((length bytes == r.length) ≡ true)
@@ -56,12 +62,14 @@ flow_inside n w (x ∷ flows) zero bytes allowed = omega arith
 flow_inside n w (x ∷ flows) (suc f) bytes allowed = let less : f < length flows = flow_inside n w flows f bytes allowed in omega arith
 
 -- whether anything is undelivered
-pub settled_by : (n : ℕ) (lists : List (List (List Item))) → IsTable n lists → (b : Bool) → (b ≡ true → (u v : ℕ) → pair_in lists u v ≡ []) × (((u v : ℕ) → pair_in lists u v ≡ []) → b ≡ true)
+pub settled_by : (n : ℕ) (lists : List (List (List Item))) → IsTable n lists → (b : Bool)
+    → (b ≡ true → (u v : ℕ) → pair_in lists u v ≡ []) × (((u v : ℕ) → pair_in lists u v ≡ []) → b ≡ true)
     → is_nothing_undelivered n (pair_in lists) ≡ b
 settled_by n lists table b (none, all) = elim (cases_Bool b) [
   | inl empty ↦ nothing (none empty) ∙ sym empty
   | inr filled ↦ elim (cases_Bool (is_nothing_undelivered n (pair_in lists))) [
-    | inl nothing_there ↦ absurd (true≢false (sym (all (λ u v. is_none (pair_in lists u v) (each_list (λ xs. length xs == 0) refl n lists table nothing_there u v))) ∙ filled))
+    | inl nothing_there ↦ absurd (true≢false
+        (sym (all (λ u v. is_none (pair_in lists u v) (each_list (λ xs. length xs == 0) refl n lists table nothing_there u v))) ∙ filled))
     | inr something ↦ something ∙ sym filled
   ]
 ]

@@ -1,5 +1,5 @@
 -- The receivers once one of them has heard something, or nothing in time.
-use Rattle.std.proofs.Common.{◌≡◌, ℕ, Bool, true, false, ◌&&◌, cond, eqb, List, refl, sym, ap, ◌∙◌, subst, inl, inr}
+use Rattle.std.proofs.Common.{◌≡◌, ℕ, false, ◌&&◌, eqb, List, refl, sym, ◌∙◌, subst, inl, inr}
 use Rattle.std.proofs.lemmas.Bool.{and_parts, cases_Bool, eq-eqb, eqb-true}
 use Rattle.j39_tp.specs.inside.Gathered.{Gathers}
 use Rattle.j39_tp.specs.Receiver.{Receiving}

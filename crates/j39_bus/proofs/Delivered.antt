@@ -13,7 +13,8 @@ use Rattle.j39_bus.specs.inside.Network.{planned_units, HasAnswered}
 use Rattle.j39_bus.proofs.Worlds.{unit_at-planned_units, planned_units-set, world, world_set}
 
 pub planned_units_heard : (cs : List ClaimerValue) (v name : ℕ) (item : Item) (says : Option Say) (new : List ClaimerValue)
-    → HasAnswered cs v name item says new → planned_units new ≡ planned_units cs
+    → HasAnswered cs v name item says new
+    → planned_units new ≡ planned_units cs
 planned_units_heard cs v name item says new (s, is, answers) = (λ i. planned_units (is i))
     ∙ planned_units-set cs v (record (get_or cs v absent_unit) { state = s }) refl
 

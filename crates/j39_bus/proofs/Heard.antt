@@ -11,7 +11,8 @@ use Rattle.j39_bus.specs.inside.Network.{HasAnswered}
 use Rattle.j39_bus.proofs.Worlds.{any_default}
 
 -- by what the unit itself does at what it is told
-pub told : (cs : List ClaimerValue) (v : ℕ) → v < length cs → (old new : ClaimerValue) → old ≡ get_or cs v old → (after : ClaimState) → new ≡ record old { state = after }
+pub told : (cs : List ClaimerValue) (v : ℕ) → v < length cs → (old new : ClaimerValue) → old ≡ get_or cs v old → (after : ClaimState)
+    → new ≡ record old { state = after }
     → (name : ℕ) (item : Item) (say : Say) (number : ℕ) (says : Option Say) → item ≡ Told say → say_of number ≡ say
     → Hears old.planned old.state name (say_of number) says new.state → HasAnswered cs v name item says (set cs v new)
 told cs v inside old new at after left name item say number says is same rule =
@@ -24,7 +25,8 @@ told cs v inside old new at after left name item say number says is same rule =
     )
 
 -- at a request
-pub requested : (cs : List ClaimerValue) (v : ℕ) → v < length cs → (old : ClaimerValue) → old ≡ get_or cs v old → (name : ℕ) (item : Item) (say : Say) → item ≡ Request → say ≡ claim_of old.state.address
+pub requested : (cs : List ClaimerValue) (v : ℕ) → v < length cs → (old : ClaimerValue) → old ≡ get_or cs v old → (name : ℕ) (item : Item) (say : Say)
+    → item ≡ Request → say ≡ claim_of old.state.address
     → HasAnswered cs v name item (Some say) cs
 requested cs v inside old at name item say is said =
     let old_is : old ≡ get_or cs v absent_unit = at ∙ any_default cs v old absent_unit inside in (

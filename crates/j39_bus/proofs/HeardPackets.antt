@@ -1,5 +1,5 @@
 -- What a receiver and a sender do with a packet that is taken.
-use Rattle.std.proofs.Common.{◌≡◌, ℕ, ◌≤◌, Bool, true, false, ◌&&◌, eqb, List, [], ◌∷◌, ◌++◌, map, refl, sym, ap, ◌∙◌, Option, Some, None, vec_capacity, if◌then◌else◌}
+use Rattle.std.proofs.Common.{◌≡◌, ℕ, ◌≤◌, Bool, true, false, ◌&&◌, eqb, List, [], refl, sym, ap, ◌∙◌, Option, Some, None, vec_capacity, if◌then◌else◌}
 use Rattle.std.proofs.lemmas.Bool.{cond_both, eqb-true, true≢false}
 use Rattle.std.specs.declared.alloc.Global.{Global}
 use Rattle.std.specs.declared.vec.Vec.{Vec}
@@ -57,7 +57,8 @@ quiet_abort r pgn = elim (is_directed r.kind && eqb pgn r.pgn) as (λ b. is_comp
 ]
 
 -- data alone completes a message, and for data there is room
-pub room_for : (m : Manner) (g : Progress) (p : Packet) (bytes : Vec ℕ Global) → is_complete (hears m g p).1 ≡ true → HasRoomFor p bytes → 1785 ≤ vec_capacity bytes
+pub room_for : (m : Manner) (g : Progress) (p : Packet) (bytes : Vec ℕ Global) → is_complete (hears m g p).1 ≡ true → HasRoomFor p bytes
+    → 1785 ≤ vec_capacity bytes
 room_for m g (Dt number chunk) bytes is room = room
 room_for m g (Bam size pgn) bytes is room = absurd (true≢false (sym is ∙ quiet_open m Broadcast (opened Broadcast pgn size 255)))
 room_for m g (Rts size limit pgn) bytes is room = absurd (true≢false (sym is ∙ quiet_open m Directed (opened Directed pgn size limit)))
@@ -80,7 +81,8 @@ no_report w u v p heards.Complete is = absurd (true≢false is)
 no_report w u v p (heards.CompleteReply q) is = absurd (true≢false is)
 no_report w u v p heards.Closed is = refl
 
-pub one_report : (w : World) (u v : ℕ) (p : Packet) (x : Heard) (reports : List Reported) → is_complete x ≡ true → ReportsOne w u v p reports → Reports w u v p x reports
+pub one_report : (w : World) (u v : ℕ) (p : Packet) (x : Heard) (reports : List Reported) → is_complete x ≡ true → ReportsOne w u v p reports
+    → Reports w u v p x reports
 one_report w u v p heards.Nothing reports is one = absurd (true≢false (sym is))
 one_report w u v p (heards.Reply q) reports is one = absurd (true≢false (sym is))
 one_report w u v p heards.Complete reports is one = one

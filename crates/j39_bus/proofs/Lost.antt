@@ -7,7 +7,7 @@ use Rattle.j39_queues.specs.Queued.{Queued, pair_in}
 use Rattle.j39_bus.specs.BusState.{Histories}
 use Rattle.j39_bus.specs.inside.Network.{world_in}
 use Rattle.j39_world.specs.TransferSteps.{LostFrom}
-use Rattle.j39_world.specs.World.{World, changed_pair}
+use Rattle.j39_world.specs.World.{changed_pair}
 
 first_of : (list : List Wired) → nat_lt 0 (length list) ≡ true → (x : Wired) × (list ≡ x ∷ drop 1 list)
 first_of [] none = absurd (true≢false (sym none))

@@ -1,6 +1,5 @@
 -- An item joins the lists from a unit to each that passes a test, one after another, where there is room for it.
-use Rattle.std.proofs.Common.{◌≡◌, ◌≢◌, ℕ, ◌+◌, ◌<◌, ◌≤◌, Bool, true, false, cond, ◌&&◌, eqb, ltb, List, [], ◌∷◌, ◌++◌, is_some, refl, sym, ap, ◌∙◌, arith, inl, inr, Option, None, length, get_or}
-use Rattle.std.proofs.lemmas.List.{get_or_default, get_or_past}
+use Rattle.std.proofs.Common.{◌≡◌, ◌≢◌, ℕ, ◌+◌, ◌≤◌, Bool, true, false, cond, ◌&&◌, eqb, ltb, List, [], ◌∷◌, ◌++◌, refl, sym, ap, ◌∙◌, arith, inl, inr}
 use Rattle.std.proofs.lemmas.Bool.{cases_eq, cases_lt, eq-eqb, ne_eqb, lt-ltb, le-ltb}
 use Rattle.j39_queues.specs.Queued.{Queued, changed_in, one_at, room_at}
 
@@ -15,13 +14,6 @@ module _ {X : Type 0} (test : ℕ → Bool) (u : ℕ) (x : X) (f : ℕ → ℕ �
   -- it has joined those to places below this one
   abbrev pub IsPosted : ℕ → (ℕ → ℕ → List X) → Type 0
   IsPosted k g = (s t : ℕ) → g s t ≡ cond (eqb s u && (ltb t k && test t)) (f s t ++ x ∷ []) (f s t)
-
-  pub posted_none : IsPosted 0 f
-  posted_none s t = rw (le-ltb t 0 (omega arith)) (either (eqb s u))
-    where
-      either : (b : Bool) → f s t ≡ cond (b && false) (f s t ++ x ∷ []) (f s t)
-      either true = refl
-      either false = refl
 
   pub posted_more : (k : ℕ) (g after : ℕ → ℕ → List X) → IsPosted k g → test k ≡ true → after ≡ changed_in g u k (g u k ++ x ∷ []) → IsPosted (k + 1) after
   posted_more k g after is one after_is s t = (λ i. after_is i s t) ∙ elim (cases_eq s u) [
@@ -40,7 +32,8 @@ module _ {X : Type 0} (test : ℕ → Bool) (u : ℕ) (x : X) (f : ℕ → ℕ �
     | inr other ↦ rw (next_place t k other) refl
   ]
 
-  pub posted_all : (n k : ℕ) (g : ℕ → ℕ → List X) → n ≤ k → ((t : ℕ) → n ≤ t → test t ≡ false) → IsPosted k g → g ≡ (λ s t. cond (eqb s u && test t) (f s t ++ x ∷ []) (f s t))
+  pub posted_all : (n k : ℕ) (g : ℕ → ℕ → List X) → n ≤ k → ((t : ℕ) → n ≤ t → test t ≡ false) → IsPosted k g
+      → g ≡ (λ s t. cond (eqb s u && test t) (f s t ++ x ∷ []) (f s t))
   posted_all n k g past none is = λ i s t. at s t i
     where
       at : (s t : ℕ) → g s t ≡ cond (eqb s u && test t) (f s t ++ x ∷ []) (f s t)
@@ -97,6 +90,3 @@ module _ {X : Type 0} (u k : ℕ) (old mid : Queued X) (left : IsRoomLeft u k ol
 
       more : (v : ℕ) (less : ℕ) → room_at mid u v ≤ room_at new u v → room_at old u v ≤ room_at mid u v + less → room_at old u v ≤ room_at new u v + less
       more v less a b = omega (arith, a, b)
-
-pub room_none : {X : Type 0} (u : ℕ) (q : Queued X) → IsRoomLeft u 0 q q
-room_none u q v = rw (le-ltb v 0 (omega arith)) (omega arith)

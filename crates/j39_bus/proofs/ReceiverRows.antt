@@ -1,11 +1,11 @@
 -- Rows of receivers of which one receiver is another.
-use Rattle.std.proofs.Common.{◌≡◌, ℕ, zero, suc, ◌<◌, Bool, true, false, cond, ◌&&◌, eqb, replicate, List, [], ◌∷◌, length, map, get_or, set, refl, sym, ap, ◌∙◌, subst, arith, inl, inr, None, vec_len}
-use Rattle.std.proofs.lemmas.List.{get_or-map, get_or-replicate, length-map, length-replicate, map-set}
+use Rattle.std.proofs.Common.{◌≡◌, ℕ, zero, suc, ◌<◌, ◌&&◌, eqb, replicate, List, [], ◌∷◌, length, map, get_or, set, refl, sym, ap, ◌∙◌, subst, arith, inl}
+use Rattle.std.proofs.Common.{inr, None}
+use Rattle.std.proofs.lemmas.List.{get_or-map, length-map, length-replicate, map-set}
 use Rattle.std.proofs.Math.ListN.{length-set}
 use Rattle.std.proofs.Math.Seq.{map-set_same}
 use Rattle.std.proofs.lemmas.Bool.{and_parts, cases_Bool, eqb-true}
 use Rattle.std.specs.Vec.{with_item}
-use Rattle.j39_queues.specs.Queued.{IsTable}
 use Rattle.j39_queues.proofs.Tables.{cell_is, row_is, tabled_set, with_cell_at, with_cell_columns}
 use Rattle.j39_world.specs.Flows.{window_at}
 use Rattle.j39_world.specs.World.{changed_pair}
@@ -15,14 +15,12 @@ use Rattle.j39_bus.specs.inside.Receivers.{IsAnswering, IsReceivers, Row, Slot, 
 abbrev pub slots : Row → List Slot
 slots r = r.items
 
-abbrev same_slot : Slot → Slot
-same_slot s = s
-
 length-holdings : (rows : List Row) → length (holdings_of rows) ≡ length rows
 length-holdings rows = length-map rows (λ (r : Row). map holding_of r.items)
 
 -- what is seen of rows is known, and they are a table
-module _ (windows : List ℕ) (rows : List Row) (was : ReceiverTable) (is : record { windows = windows; holdings = holdings_of rows } ≡ was) (well : IsReceivers windows rows)
+module _ (windows : List ℕ) (rows : List Row) (was : ReceiverTable) (is : record { windows = windows; holdings = holdings_of rows } ≡ was)
+    (well : IsReceivers windows rows)
     (v u : ℕ) (below_v : v < length was.windows) (below_u : u < length was.windows) where
   pub windows_are : windows ≡ was.windows
   windows_are = ap (λ (t : ReceiverTable). t.windows) is
@@ -84,7 +82,8 @@ module _ (windows : List ℕ) (rows : List Row) (was : ReceiverTable) (is : reco
         table_same same =
             (λ i. record {
               windows = windows;
-              holdings = map-set_same (λ (r : Row). map holding_of r.items) rows v (with_item row u new) row (within ∙ ap (λ (r : Row). map holding_of r.items) at_v) i;
+              holdings = map-set_same (λ (r : Row). map holding_of r.items) rows v (with_item row u new) row
+                  (within ∙ ap (λ (r : Row). map holding_of r.items) at_v) i;
             }) ∙ is
           where
             within : map holding_of (set row.items u new) ≡ map holding_of row.items
@@ -128,7 +127,8 @@ map-replicate f zero x = refl
 map-replicate f (suc n) x = ap (λ ys. f x ∷ ys) (map-replicate f n x)
 
 pub rows_first : (n : ℕ) (rows : List Row) → map slots rows ≡ replicate n (none_in n) → holdings_of rows ≡ replicate n (replicate n closed)
-rows_first n rows are = sym (seen rows) ∙ ap (map (map holding_of)) are ∙ map-replicate (map holding_of) n (none_in n) ∙ ap (replicate n) (map-replicate holding_of n None)
+rows_first n rows are = sym (seen rows) ∙ ap (map (map holding_of)) are ∙ map-replicate (map holding_of) n (none_in n)
+    ∙ ap (replicate n) (map-replicate holding_of n None)
   where
     seen : (rows : List Row) → map (map holding_of) (map slots rows) ≡ holdings_of rows
     seen [] = refl
@@ -152,7 +152,8 @@ length_row (suc n) (suc k) m x inside = length_row n k m x (omega arith)
 pub closed_first : (n : ℕ) (rows : List Row) → map slots rows ≡ replicate n (none_in n) → (v u : ℕ) → holding_at (holdings_of rows) v u ≡ closed
 closed_first n rows are v u = ap (λ (l : List (List Holding)). holding_at l v u) (rows_first n rows are) ∙ get_row n v closed n u
 
-pub receivers_first : (windows : List ℕ) (rows : List Row) → ((v : ℕ) → 0 < window_at windows v) → map slots rows ≡ replicate (length windows) (none_in (length windows)) → IsReceivers windows rows
+pub receivers_first : (windows : List ℕ) (rows : List Row) → ((v : ℕ) → 0 < window_at windows v)
+    → map slots rows ≡ replicate (length windows) (none_in (length windows)) → IsReceivers windows rows
 receivers_first windows rows positive are =
     let n : ℕ = length windows in
     record {
@@ -161,5 +162,6 @@ receivers_first windows rows positive are =
         columns = λ s inside. ap (λ (l : List (List Holding)). length (get_or l s [])) (rows_first n rows are) ∙ length_row n s n closed inside;
       };
       lets_some = positive;
-      answering = λ v u. subst (IsAnswering (window_at windows v)) (sym (ap (λ (l : List (List Slot)). get_or (get_or l v []) u None) are ∙ get_row n v None n u)) tt;
+      answering = λ v u. subst (IsAnswering (window_at windows v))
+          (sym (ap (λ (l : List (List Slot)). get_or (get_or l v []) u None) are ∙ get_row n v None n u)) tt;
     }

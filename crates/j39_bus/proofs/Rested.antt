@@ -1,5 +1,6 @@
 -- When a sender may rest.
-use Rattle.std.proofs.Common.{◌≡◌, ℕ, zero, suc, ◌+◌, ◌<◌, ◌≤◌, Bool, true, false, not, ◌&&◌, ◌||◌, List, [], ◌∷◌, refl, sym, ap, ◌∙◌, arith, inl, inr, length, get_or, Option, Some, None, is_some}
+use Rattle.std.proofs.Common.{◌≡◌, ℕ, zero, suc, ◌+◌, ◌<◌, ◌≤◌, Bool, true, false, not, ◌&&◌, ◌||◌, List, [], ◌∷◌, refl, sym, ap, ◌∙◌, arith, inl, inr}
+use Rattle.std.proofs.Common.{length, get_or, Option, Some, None, is_some}
 use Rattle.std.proofs.lemmas.Bool.{and_right, cases_eq}
 use Rattle.std.proofs.lemmas.List.{length-map}
 use Rattle.j39_claim.specs.ClaimerValue.{ClaimerValue}

@@ -1,12 +1,14 @@
 -- Notes of the units' NAMEs alone leave room for each of them.
-use Rattle.std.proofs.Common.{◌≡◌, ℕ, zero, suc, ◌+◌, ◌-◌, ◌<◌, ◌≤◌, Bool, true, false, cond, ◌||◌, ◌⊎◌, inl, inr, eqb, ltb, List, [], ◌∷◌, length, get_or, set, refl, sym, ap, ◌∙◌, arith, Option, Some, None}
+use Rattle.std.proofs.Common.{◌≡◌, ℕ, zero, suc, ◌+◌, ◌-◌, ◌<◌, ◌≤◌, Bool, true, false, cond, ◌||◌, ◌⊎◌, inl, inr, eqb, ltb, List, [], ◌∷◌, length, get_or}
+use Rattle.std.proofs.Common.{set, refl, sym, ap, ◌∙◌, arith, Option, Some, None}
 use Rattle.std.proofs.lemmas.Bool.{cases_Bool, true≢false, or_left, or_right, eq-eqb, eqb-true, lt-ltb}
 use Rattle.std.specs.Bool.{MatchBool}
 use Rattle.std.specs.Option.{is_some}
 use Rattle.std.specs.List.{list_any}
 use Rattle.std.specs.Ordering.{nat_cmp}
 use Rattle.std.specs.Cmp.{nat_cmp_total, unsigned_tied}
-use Rattle.std.specs.FinMap.{FinMap, empty, get, insert, remove, len, get-empty, get-insert, get-remove, len-empty, len-insert, len-remove, same_map, nat_cmp-IsAntisymmetric}
+use Rattle.std.specs.FinMap.{FinMap, empty, get, insert, remove, len, get-empty, get-insert, get-remove, len-empty, len-insert, len-remove, same_map}
+use Rattle.std.specs.FinMap.{nat_cmp-IsAntisymmetric}
 use Rattle.j39_claim.specs.declared.item.Say.{Say}
 use Rattle.j39_claim.specs.declared.item.Say.TheVariants.{Claim, Cannot}
 use Rattle.j39_claim.specs.declared.item.Item.{Item}
@@ -23,10 +25,12 @@ nothing (Some x) h = absurd (h refl)
 -- a map whose keys stand in a list is no longer than the list
 len-le : (m : FinMap nat_cmp ℕ) (ns : List ℕ) → ((k : ℕ) → is_some (get m k) ≡ true → list_any (λ n. eqb k n) ns ≡ true) → len m ≤ length ns
 len-le m [] all =
-    let none : m ≡ empty = same_map nat_cmp_total nat_cmp-IsAntisymmetric m empty (λ q. nothing (get m q) (λ h. true≢false (sym (all q h))) ∙ sym (get-empty nat_cmp q)) in
+    let none : m ≡ empty = same_map nat_cmp_total nat_cmp-IsAntisymmetric m empty
+    (λ q. nothing (get m q) (λ h. true≢false (sym (all q h))) ∙ sym (get-empty nat_cmp q)) in
     omega (arith, ap len none, len-empty nat_cmp ℕ)
 len-le m (n ∷ ns) all =
-    let rest : len (remove m n) ≤ length ns = len-le (remove m n) ns (λ k h. later k (sym (ap is_some (get-remove nat_cmp_total m n k ∙ ap (λ b. cond b None (get m k)) (unsigned_tied k n))) ∙ h)) in
+    let rest : len (remove m n) ≤ length ns = len-le (remove m n) ns
+    (λ k h. later k (sym (ap is_some (get-remove nat_cmp_total m n k ∙ ap (λ b. cond b None (get m k)) (unsigned_tied k n))) ∙ h)) in
     one_less (is_some (get m n)) (len-remove nat_cmp_total m n) rest
   where
     one_less : (b : Bool) → len (remove m n) ≡ cond b (len m - 1) (len m) → len (remove m n) ≤ length ns → len m ≤ length (n ∷ ns)
@@ -40,7 +44,8 @@ len-le m (n ∷ ns) all =
     ] h (all k (some k h))
       where
         some : (k : ℕ) → is_some (cond (eqb k n) None (get m k)) ≡ true → is_some (get m k) ≡ true
-        some k h = elim (eqb k n) as (λ b. is_some (cond b None (get m k)) ≡ true → is_some (get m k) ≡ true) [ true ↦ λ g. absurd (true≢false (sym g)) | false ↦ λ g. g ] h
+        some k h = elim (eqb k n) as (λ b. is_some (cond b None (get m k)) ≡ true → is_some (get m k) ≡ true)
+            [ true ↦ λ g. absurd (true≢false (sym g)) | false ↦ λ g. g ] h
 
 length-names : (cs : List ClaimerValue) → length (names_of cs) ≡ length cs
 length-names [] = refl
@@ -50,7 +55,8 @@ length-names (c ∷ cs) = omega (arith, length-names cs)
 pub named : (cs : List ClaimerValue) (u : ℕ) → u < length cs → is_named cs (get_or cs u absent_unit).planned.name ≡ true
 named [] u inside = absurd (omega arith)
 named (c ∷ cs) zero inside = or_left (eqb c.planned.name c.planned.name) (is_named cs c.planned.name) (eq-eqb c.planned.name c.planned.name refl)
-named (c ∷ cs) (suc u) inside = or_right (eqb (get_or cs u absent_unit).planned.name c.planned.name) (is_named cs (get_or cs u absent_unit).planned.name) (named cs u (omega arith))
+named (c ∷ cs) (suc u) inside = or_right (eqb (get_or cs u absent_unit).planned.name c.planned.name) (is_named cs (get_or cs u absent_unit).planned.name)
+    (named cs u (omega arith))
 
 -- what is noted once n is
 noted_with : (notes : FinMap nat_cmp ℕ) (n a k : ℕ) → is_some (get (insert notes n a) k) ≡ true → (k ≡ n) ⊎ (is_some (get notes k) ≡ true)
@@ -68,7 +74,8 @@ noted_without notes n k h =
     ] (sym (ap is_some (get-remove nat_cmp_total notes n k ∙ ap (λ b. cond b None (get notes k)) (unsigned_tied k n))) ∙ h)
 
 -- each unit can note each
-pub can_note_all : (cs : List ClaimerValue) (ls : List (List (List Item))) (u v : ℕ) → IsWellFormed cs ls → u < length cs → can_note (station_at cs v).notes (get_or cs u absent_unit).planned.name ≡ true
+pub can_note_all : (cs : List ClaimerValue) (ls : List (List (List Item))) (u v : ℕ) → IsWellFormed cs ls → u < length cs
+    → can_note (station_at cs v).notes (get_or cs u absent_unit).planned.name ≡ true
 can_note_all cs ls u v well inside =
     let n : ℕ = (get_or cs u absent_unit).planned.name in
     let notes : FinMap nat_cmp ℕ = (station_at cs v).notes in
@@ -91,7 +98,8 @@ noted_then c s n (Told (Claim a)) says new answers k h =
     noted_with s.notes n a k (sym (ap (λ m. is_some (get m k)) (notes_are (holds_address s.address a) (ltb n c.name) answers)) ∙ h)
   where
     notes_are : (b d : Bool) → MatchBool b
-        (MatchBool d (Moves c (record s { notes = insert s.notes n a }) says new ⊎ GivesUp c (record s { notes = insert s.notes n a }) says new) ((says ≡ Some (Claim a)) × (new ≡ record s { notes = insert s.notes n a })))
+        (MatchBool d (Moves c (record s { notes = insert s.notes n a }) says new ⊎ GivesUp c (record s { notes = insert s.notes n a }) says new)
+        ((says ≡ Some (Claim a)) × (new ≡ record s { notes = insert s.notes n a })))
         ((says ≡ None) × (new ≡ record s { notes = insert s.notes n a })) → new.notes ≡ insert s.notes n a
     notes_are true true (inl (b, may, free, said, is)) = ap (λ (t : ClaimState). t.notes) is
     notes_are true true (inr (none, said, is)) = ap (λ (t : ClaimState). t.notes) is
@@ -101,7 +109,8 @@ noted_then c s n (Told Cannot) says new answers k h = inr (noted_without s.notes
 noted_then c s n Request says new answers k h = inr (sym (ap (λ (t : ClaimState). is_some (get t.notes k)) answers.1) ∙ h)
 
 -- the NAMEs stay
-pub named-set : (cs : List ClaimerValue) (v : ℕ) (c : ClaimerValue) (k : ℕ) → c.planned ≡ (get_or cs v absent_unit).planned → is_named (set cs v c) k ≡ is_named cs k
+pub named-set : (cs : List ClaimerValue) (v : ℕ) (c : ClaimerValue) (k : ℕ) → c.planned ≡ (get_or cs v absent_unit).planned
+    → is_named (set cs v c) k ≡ is_named cs k
 named-set [] v c k same = refl
 named-set (d ∷ cs) zero c k same = ap (λ (x : PlannedUnit). eqb k x.name || is_named cs k) same
 named-set (d ∷ cs) (suc v) c k same = ap (λ b. eqb k d.planned.name || b) (named-set cs v c k same)

@@ -17,13 +17,15 @@ abbrev pub HasRun : BusState → List Step → BusState → Type 0
 HasRun old steps new = (plan : Plan) (w : World) → Stands old plan w → (after : World) × RunsThrough plan w steps after × Stands new plan after
 
 module _ (old mid new : BusState) (steps : List Step) (place : ℕ) (d : Step) (inside : place < length steps) (ran : HasRun old (take place steps) mid) where
-  pub run_more : ((plan : Plan) (w : World) → Stands mid plan w → (refusal plan w (get_or steps place d) ≡ None) × ((after : World) × StepsTo plan w (get_or steps place d) after × Stands new plan after))
+  pub run_more : ((plan : Plan) (w : World) → Stands mid plan w
+      → (refusal plan w (get_or steps place d) ≡ None) × ((after : World) × StepsTo plan w (get_or steps place d) after × Stands new plan after))
       → HasRun old (take (place + 1) steps) new
   run_more done = λ plan w s.
       let (before, runs, s') = ran plan w s in
       let (allowed, (after, leads, s'')) = done plan before s' in (
         after,
-        subst (λ (l : List Step). RunsThrough plan w l after) (sym (take_more steps place d inside)) (runs_more plan w (take place steps) before (get_or steps place d) after runs allowed leads),
+        subst (λ (l : List Step). RunsThrough plan w l after) (sym (take_more steps place d inside))
+            (runs_more plan w (take place steps) before (get_or steps place d) after runs allowed leads),
         s'',
       )
 

@@ -1,5 +1,5 @@
 -- No claim is undelivered exactly where all that is undelivered are requests.
-use Rattle.std.proofs.Common.{◌≡◌, ℕ, zero, suc, Bool, true, false, ◌&&◌, List, [], ◌∷◌, refl, sym, ap, ◌∙◌, arith}
+use Rattle.std.proofs.Common.{◌≡◌, ℕ, zero, suc, Bool, true, List, [], ◌∷◌, refl, sym, ap, ◌∙◌, arith}
 use Rattle.std.proofs.lemmas.Bool.{and_parts, and_from, true≢false}
 use Rattle.std.specs.List.{Contains, list_all, range_with_len}
 use Rattle.j39_claim.specs.declared.item.Say.{Say}
@@ -21,7 +21,8 @@ untold (item ∷ items) say all (suc k, inside, is) = untold items say (and_part
 all_requests : (items : List Item) → ((a : ℕ) → ¬ Contains items (Told (Claim a))) → ¬ Contains items (Told Cannot) → are_requests items ≡ true
 all_requests [] claims cannot = refl
 all_requests (item ∷ items) claims cannot =
-    and_from (is_request item) (are_requests items) (first item refl) (all_requests items (λ a there. claims a (more (Told (Claim a)) there)) (λ there. cannot (more (Told Cannot) there)))
+    and_from (is_request item) (are_requests items) (first item refl)
+    (all_requests items (λ a there. claims a (more (Told (Claim a)) there)) (λ there. cannot (more (Told Cannot) there)))
   where
     more : (x : Item) → Contains items x → Contains (item ∷ items) x
     more x (k, inside, is) = (suc k, omega arith, is)
@@ -35,7 +36,8 @@ pub settled : (n : ℕ) (lists : List (List (List Item))) → IsTable n lists �
     → b ≡ list_all (λ u. list_all (λ v. are_requests (pair_in lists u v)) (range_with_len 0 n)) (range_with_len 0 n)
     → (b ≡ true → IsQuiet (pair_in lists)) × (IsQuiet (pair_in lists) → b ≡ true)
 settled n lists table b is = (
-  λ yes u v. let all = each_list are_requests refl n lists table (sym is ∙ yes) u v in (λ a. untold (pair_in lists u v) (Claim a) all, untold (pair_in lists u v) Cannot all),
+  λ yes u v. let all = each_list are_requests refl n lists table
+      (sym is ∙ yes) u v in (λ a. untold (pair_in lists u v) (Claim a) all, untold (pair_in lists u v) Cannot all),
   λ quiet. is ∙ all_below (λ u. list_all (λ v. are_requests (pair_in lists u v)) (range_with_len 0 n)) n
       (λ u _. all_below (λ v. are_requests (pair_in lists u v)) n (λ v _. all_requests (pair_in lists u v) (quiet u v).0 (quiet u v).1)),
 )

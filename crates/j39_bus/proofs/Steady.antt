@@ -12,7 +12,7 @@ use Rattle.j39_bus.proofs.Wires.{as_table}
 use Rattle.j39_bus.specs.BusState.{Histories, ReceiverTable, world_of}
 use Rattle.j39_bus.specs.Reports.{reported_of}
 use Rattle.j39_bus.specs.Stands.{HoldTaken}
-use Rattle.j39_bus.specs.inside.Network.{HasHeld, HasStepped, IsNetwork, IsOfPlan, IsSameNetwork, IsWellFormed, KeepsPlan, planned_units, state_of, world_in}
+use Rattle.j39_bus.specs.inside.Network.{HasHeld, HasStepped, IsOfPlan, IsSameNetwork, KeepsPlan, planned_units, state_of, world_in}
 use Rattle.j39_bus.specs.inside.Traffic.{IsTraffic, route_of}
 use Rattle.j39_world.specs.Sent.{sent_of}
 use Rattle.j39_world.specs.World.{World}
@@ -50,22 +50,8 @@ module _ (old new : Network) (same : IsSameNetwork old new) where
   pub held_same : (h : Histories) → HasHeld h old → HasHeld h new
   held_same h held = subst (HoldTaken h.taken) (sym same.receivers) held
 
-  pub network_same : IsNetwork old → IsNetwork new
-  network_same well = record {
-    claims = transport (λ i. IsWellFormed (sym same.claimers i) (sym same.claims i)) well.claims;
-    traffic = transport
-        (λ i. IsTraffic (length (sym same.claimers i)) (sym same.routes i) (sym same.sessions i) (sym same.wire i) (sym same.receivers i)) well.traffic;
-  }
-
   pub plan_same : KeepsPlan old new
   plan_same = record { planned_units = ap planned_units same.claimers; routes = same.routes; windows = ap (λ r. r.windows) same.receivers }
-
-  pub keeps_after : (after : Network) → KeepsPlan new after → KeepsPlan old after
-  keeps_after after keeps = record {
-    planned_units = keeps.planned_units ∙ ap planned_units same.claimers;
-    routes = keeps.routes ∙ same.routes;
-    windows = keeps.windows ∙ ap (λ r. r.windows) same.receivers;
-  }
 
   pub steps_after : (plan : Plan) (step : Step) (after : Network) → HasStepped plan new step after → HasStepped plan old step after
   steps_after plan step after steps h held =

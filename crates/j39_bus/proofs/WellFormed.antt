@@ -1,5 +1,6 @@
 -- What changes of a network keep of its form.
-use Rattle.std.proofs.Common.{◌≡◌, ℕ, ◌<◌, ◌≤◌, Bool, true, false, not, ◌&&◌, eqb, List, ◌++◌, length, get_or, set, refl, sym, ap, ◌∙◌, subst, arith, inl, inr, Option}
+use Rattle.std.proofs.Common.{◌≡◌, ℕ, ◌<◌, ◌≤◌, Bool, true, false, not, ◌&&◌, eqb, List, length, get_or, set, refl, sym, ap, ◌∙◌, subst, arith, inl, inr}
+use Rattle.std.proofs.Common.{Option}
 use Rattle.std.proofs.Math.ListN.{length-set}
 use Rattle.std.proofs.lemmas.Bool.{cases_eq, eq-eqb, ne_eqb, and_right, cond-true, cond-false, true≢false}
 use Rattle.std.specs.Option.{is_some}
@@ -12,14 +13,15 @@ use Rattle.j39_claim.specs.ClaimerValue.{ClaimerValue}
 use Rattle.j39_bus.specs.Stations.{absent_unit, station_at}
 use Rattle.j39_world.specs.World.{changed, is_other_on}
 use Rattle.j39_bus.specs.inside.Network.{is_named, IsWellFormed, HasAnswered}
-use Rattle.j39_queues.specs.Queued.{IsTable, KeepsRoom, Queued, room_at}
+use Rattle.j39_queues.specs.Queued.{IsTable, KeepsRoom, Queued}
 use Rattle.j39_bus.specs.inside.Claims.{HasRoomForOthers}
 use Rattle.j39_bus.proofs.Room.{named-set, noted_then}
 use Rattle.std.proofs.lemmas.List.{get_or_past}
 use Rattle.j39_bus.proofs.Worlds.{any_default, station_set}
 
 -- a unit that has noted only units' NAMEs takes the place of another
-well_set : (cs : List ClaimerValue) (lists : List (List (List Item))) → IsWellFormed cs lists → (v : ℕ) → v < length cs → (c : ClaimerValue) → c.planned ≡ (get_or cs v absent_unit).planned
+well_set : (cs : List ClaimerValue) (lists : List (List (List Item))) → IsWellFormed cs lists → (v : ℕ) → v < length cs → (c : ClaimerValue)
+    → c.planned ≡ (get_or cs v absent_unit).planned
     → ((n : ℕ) → is_some (get c.state.notes n) ≡ true → is_named cs n ≡ true)
     → (left : List (List (List Item))) → IsTable (length cs) left → IsWellFormed (set cs v c) left
 well_set cs lists well v inside c same notes left table = record {
@@ -31,23 +33,27 @@ well_set cs lists well v inside c same notes left table = record {
     old : (x n : ℕ) → is_some (get (changed (station_at cs) v c.state x).notes n) ≡ true → is_named cs n ≡ true
     old x n h = elim (cases_eq x v) [
       | inl is ↦ notes n (sym (ap (λ (s : ClaimState). is_some (get s.notes n)) (cond-true (eqb x v) c.state (station_at cs x) (eq-eqb x v is))) ∙ h)
-      | inr other ↦ well.notes x n (sym (ap (λ (s : ClaimState). is_some (get s.notes n)) (cond-false (eqb x v) c.state (station_at cs x) (ne_eqb x v other))) ∙ h)
+      | inr other ↦ well.notes x n (sym (ap (λ (s : ClaimState). is_some (get s.notes n)) (cond-false (eqb x v) c.state (station_at cs x) (ne_eqb x v other)))
+          ∙ h)
     ]
 
 -- a unit tells the others
-pub well_told : (cs : List ClaimerValue) (lists : List (List (List Item))) → IsWellFormed cs lists → (same : List ClaimerValue) (more : List (List (List Item))) → same ≡ cs → IsTable (length cs) more → IsWellFormed same more
+pub well_told : (cs : List ClaimerValue) (lists : List (List (List Item))) → IsWellFormed cs lists
+    → (same : List ClaimerValue) (more : List (List (List Item))) → same ≡ cs → IsTable (length cs) more → IsWellFormed same more
 well_told cs lists well same more same_is table =
     subst (λ (l : List ClaimerValue). IsWellFormed l more) (sym same_is) (record { few = well.few; table = table; notes = well.notes })
 
 -- a unit is switched on
-pub well_on : (cs : List ClaimerValue) (lists : List (List (List Item))) → IsWellFormed cs lists → (u : ℕ) → u < length cs → (c : ClaimerValue) → c.planned ≡ (get_or cs u absent_unit).planned
+pub well_on : (cs : List ClaimerValue) (lists : List (List (List Item))) → IsWellFormed cs lists → (u : ℕ) → u < length cs → (c : ClaimerValue)
+    → c.planned ≡ (get_or cs u absent_unit).planned
     → c.state.notes ≡ empty → (left : List (List (List Item))) → IsTable (length lists) left → IsWellFormed (set cs u c) left
 well_on cs lists well u inside c same none left table =
     well_set cs lists well u inside c same (λ n h. absurd (true≢false (sym h ∙ ap is_some (ap (λ m. get m n) none ∙ get-empty nat_cmp n)))) left
     (subst (λ (n : ℕ). IsTable n left) well.table.rows table)
 
 -- a unit has heard an item under one of the NAMEs
-pub well_heard : (cs : List ClaimerValue) (lists : List (List (List Item))) → IsWellFormed cs lists → (v : ℕ) → v < length cs → (name : ℕ) → is_named cs name ≡ true
+pub well_heard : (cs : List ClaimerValue) (lists : List (List (List Item))) → IsWellFormed cs lists → (v : ℕ) → v < length cs → (name : ℕ)
+    → is_named cs name ≡ true
     → (item : Item) (says : Option Say) (new : List ClaimerValue) → HasAnswered cs v name item says new
     → (left : List (List (List Item))) → IsTable (length lists) left → IsWellFormed new left
 well_heard cs lists well v inside name is_one item says new (s, is, answers) left table =
@@ -59,21 +65,25 @@ well_heard cs lists well v inside name is_one item says new (s, is, answers) lef
     ]) left (subst (λ (n : ℕ). IsTable n left) well.table.rows table))
 
 -- who hears a unit doesn't rest on that unit
-same_others : (cs : List ClaimerValue) (u : ℕ) (c : ClaimerValue) → u < length cs → (v : ℕ) → is_other_on (station_at (set cs u c)) u v ≡ is_other_on (station_at cs) u v
+same_others : (cs : List ClaimerValue) (u : ℕ) (c : ClaimerValue) → u < length cs → (v : ℕ)
+    → is_other_on (station_at (set cs u c)) u v ≡ is_other_on (station_at cs) u v
 same_others cs u c inside v = elim (cases_eq v u) [
   | inl same ↦ rw (same, eq-eqb u u refl) (and_right (station_at (set cs u c) u).on false refl ∙ sym (and_right (station_at cs u).on false refl))
   | inr other ↦ ap (λ (s : ClaimState). s.on && not (eqb v u)) (station_set cs u c v inside ∙ cond-false (eqb v u) c.state (station_at cs v) (ne_eqb v u other))
 ]
 
 -- there is still room for the others once a unit is another
-pub room_for_others : {X : Type 0} (old new : Queued X) (cs : List ClaimerValue) (u : ℕ) (c : ClaimerValue) (after : List ClaimerValue) → u < length cs → after ≡ set cs u c → KeepsRoom old new
+pub room_for_others : {X : Type 0} (old new : Queued X) (cs : List ClaimerValue) (u : ℕ) (c : ClaimerValue) (after : List ClaimerValue) → u < length cs
+    → after ≡ set cs u c → KeepsRoom old new
     → (items : ℕ) → HasRoomForOthers old cs u items → HasRoomForOthers new after u items
 room_for_others old new cs u c after inside is keeps items room v hearing =
-    let heard : is_other_on (station_at cs) u v ≡ true = sym (same_others cs u c inside v) ∙ ap (λ (l : List ClaimerValue). is_other_on (station_at l) u v) (sym is) ∙ hearing in
+    let heard : is_other_on (station_at cs) u v ≡ true = sym (same_others cs u c inside v)
+    ∙ ap (λ (l : List ClaimerValue). is_other_on (station_at l) u v) (sym is) ∙ hearing in
     omega (arith, room v heard, keeps u v)
 
 -- whether a unit that was looked at hears another
-pub hears_as : (cs : List ClaimerValue) (u k : ℕ) (c : ClaimerValue) → k < length cs → c ≡ get_or cs k c → (a b : Bool) → c.state.on ≡ a → eqb k u ≡ b → is_other_on (station_at cs) u k ≡ (a && not b)
+pub hears_as : (cs : List ClaimerValue) (u k : ℕ) (c : ClaimerValue) → k < length cs → c ≡ get_or cs k c → (a b : Bool) → c.state.on ≡ a → eqb k u ≡ b
+    → is_other_on (station_at cs) u k ≡ (a && not b)
 hears_as cs u k c inside at a b on same = λ i. (ap (λ (x : ClaimerValue). x.state.on) (sym (at ∙ any_default cs k c absent_unit inside)) ∙ on) i && not (same i)
 
 -- absent_unit hears at a place with no unit

@@ -1,27 +1,22 @@
 -- What is sent joins the lists of the wire.
-use Rattle.std.proofs.Common.{◌≡◌, ℕ, zero, suc, ◌+◌, ◌<◌, ◌≤◌, Bool, true, false, cond, ◌&&◌, ◌||◌, eqb, List, [], ◌∷◌, ◌++◌, length, drop, map, get_or, refl, sym, ap, ◌∙◌, subst, arith, inl, inr, append_assoc, Option, Some, None}
-use Rattle.std.proofs.lemmas.Bool.{and_right, cases_Bool, cases_eq, cond_both, and_parts, eqb-true, eq-eqb, ne_eqb, true≢false}
+use Rattle.std.proofs.Common.{◌≡◌, ℕ, zero, suc, ◌+◌, ◌<◌, ◌≤◌, Bool, true, false, cond, ◌&&◌, ◌||◌, eqb, List, [], ◌∷◌, ◌++◌, length, drop, map, get_or}
+use Rattle.std.proofs.Common.{refl, sym, ap, ◌∙◌, subst, arith, inl, inr, append_assoc, Option, Some, None}
+use Rattle.std.proofs.lemmas.Bool.{and_right, cases_eq, eq-eqb, ne_eqb, true≢false}
 use Rattle.std.proofs.lemmas.List.{map-append}
 use Rattle.std.specs.List.{filter, range_with_len}
 use Rattle.j39_tp.specs.declared.packet.Packet.{Packet}
 use Rattle.j39_world.specs.declared.wired.Wired.{Wired}
 use Rattle.j39_world.specs.declared.wired.Wired.TheVariants as wired
-use Rattle.j39_queues.specs.Queued.{IsTable, Queued, changed_in, one_at, pair_in, room_at}
+use Rattle.j39_queues.specs.Queued.{IsTable, Queued, changed_in, one_at, room_at}
 use Rattle.j39_world.specs.Sent.{Sent}
 use Rattle.j39_world.specs.SentTransfers.{address_of, packet_frame}
-use Rattle.j39_bus.specs.inside.Traffic.{AreSessions, AreUnits, HasRoomAlong, HasRoomTo, IsInside, IsSession, at_stage}
+use Rattle.j39_bus.specs.inside.Traffic.{AreUnits, HasRoomAlong, HasRoomTo, IsInside, at_stage}
 use Rattle.j39_plan.specs.declared.plan.to.To.{To}
 use Rattle.j39_plan.specs.declared.plan.to.To.TheVariants.{All as ToAll, One as ToOne}
-use Rattle.j39_bus.specs.BusState.{session_at}
 use Rattle.j39_tp.specs.declared.sending.stage.Stage.{Stage}
-use Rattle.j39_world.specs.Transfers.{Outgoing, Wire, added, is_among}
+use Rattle.j39_world.specs.Transfers.{Outgoing, added, is_among}
 use Rattle.j39_world.specs.TransferSteps.{replied, targets_of}
 use Rattle.j39_world.specs.World.{Stations, World, changed_pair, is_other_on}
-use Rattle.j39_bus.proofs.Worlds.{append_nil}
-
--- it has rows of its own number
-pub own_table : {X : Type 0} (n : ℕ) (lists : List (List (List X))) → IsTable n lists → IsTable (length lists) lists
-own_table n lists is = subst (λ (k : ℕ). IsTable k lists) (sym is.rows) is
 
 pub as_table : {X : Type 0} (n : ℕ) (lists after : List (List (List X))) → IsTable n lists → IsTable (length lists) after → IsTable n after
 as_table n lists after is own = subst (λ (k : ℕ). IsTable k after) is.rows own
@@ -60,20 +55,23 @@ room_for_rest u v vs old new kept once room t among = elim (cases_eq t v) [
 
 above : (test : ℕ → Bool) (a m v : ℕ) → v < a → is_among (filter test (range_with_len a m)) v ≡ false
 above test a zero v below = refl
-above test a (suc m) v below = elim (test a) as (λ b. is_among (cond b (a ∷ filter test (range_with_len (a + 1) m)) (filter test (range_with_len (a + 1) m))) v ≡ false) [
-  | true ↦ rw (ne_eqb v a (λ e. omega (arith, e, below))) (above test (a + 1) m v (omega arith))
-  | false ↦ above test (a + 1) m v (omega arith)
-]
+above test a (suc m) v below = elim (test a) as
+    (λ b. is_among (cond b (a ∷ filter test (range_with_len (a + 1) m)) (filter test (range_with_len (a + 1) m))) v ≡ false) [
+      | true ↦ rw (ne_eqb v a (λ e. omega (arith, e, below))) (above test (a + 1) m v (omega arith))
+      | false ↦ above test (a + 1) m v (omega arith)
+    ]
 
 pub tested_units : (test : ℕ → Bool) (a m n : ℕ) → a + m ≤ n → AreUnits n (filter test (range_with_len a m))
 tested_units test a zero n within = tt
-tested_units test a (suc m) n within = elim (test a) as (λ b. AreUnits n (cond b (a ∷ filter test (range_with_len (a + 1) m)) (filter test (range_with_len (a + 1) m)))) [
-  | true ↦ (omega arith, above test (a + 1) m a (omega arith), tested_units test (a + 1) m n (omega arith))
-  | false ↦ tested_units test (a + 1) m n (omega arith)
-]
+tested_units test a (suc m) n within = elim (test a) as
+    (λ b. AreUnits n (cond b (a ∷ filter test (range_with_len (a + 1) m)) (filter test (range_with_len (a + 1) m)))) [
+      | true ↦ (omega arith, above test (a + 1) m a (omega arith), tested_units test (a + 1) m n (omega arith))
+      | false ↦ tested_units test (a + 1) m n (omega arith)
+    ]
 
 -- one place more
-pub tested_more : (test : ℕ → Bool) (a k : ℕ) → filter test (range_with_len a (suc k)) ≡ filter test (range_with_len a k) ++ cond (test (a + k)) ((a + k) ∷ []) []
+pub tested_more : (test : ℕ → Bool) (a k : ℕ) → filter test (range_with_len a (suc k)) ≡ filter test (range_with_len a k) ++ cond (test (a + k))
+    ((a + k) ∷ []) []
 tested_more test a zero = ap (λ (j : ℕ). cond (test j) (j ∷ []) []) (omega arith)
 tested_more test a (suc k) =
     let rest = tested_more test (a + 1) k ∙ ap (λ (j : ℕ). filter test (range_with_len (a + 1) k) ++ cond (test j) (j ∷ []) []) (omega arith) in
@@ -89,14 +87,6 @@ targets_units n stations u ToAll inside = tested_units (is_other_on stations u) 
 targets_units n stations u (ToOne v) inside = (inside, refl, tt)
 
 -- ---- answers
-
-pub replied_none : (w : World) (v u : ℕ) → w ≡ replied w v u []
-replied_none w v u = λ i. record w { wire = λ s t. sym (same s t) i; frames = sym (append_nil w.frames) i }
-  where
-    same : (s t : ℕ) → changed_pair w.wire v u (w.wire v u ++ []) s t ≡ w.wire s t
-    same s t = cond_both (eqb s v && eqb t u) (w.wire v u ++ []) (w.wire s t) (λ xs. xs ≡ w.wire s t)
-        (λ is. let at = and_parts (eqb s v) (eqb t u) is in append_nil (w.wire v u) ∙ (λ i. w.wire (sym (eqb-true s v at.0) i) (sym (eqb-true t u at.1) i)))
-        (λ _. refl)
 
 -- two answers one after the other
 pub replied_twice : (w : World) (v u : ℕ) (ps qs : List Packet) → replied (replied w v u ps) v u qs ≡ replied w v u (ps ++ qs)
@@ -146,8 +136,3 @@ room_for_all q u (w ∷ vs) room v among = elim (cases_eq v w) [
 pub room_kept : (q : Queued Wired) (u : ℕ) (stage : Outgoing → Stage) (o : Option Outgoing) → HasRoomAlong q u o → HasRoomAlong q u (at_stage stage o)
 room_kept q u stage None room = tt
 room_kept q u stage (Some s) room = room
-
--- a message has room for its packet, and goes to units
-pub along : (n : ℕ) (q : Queued Wired) (u : ℕ) (list : List (Option Outgoing)) (s : Outgoing) → session_at list u ≡ Some s → AreSessions n list
-    → HasRoomAlong q u (session_at list u) → IsSession n s × HasRoomTo q u s.targets
-along n q u list s is are room = (are.each u s is, subst (HasRoomAlong q u) is room)

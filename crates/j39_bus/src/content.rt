@@ -81,9 +81,11 @@ impl Content {
 
     /// What the sender does with a packet of a receiver.
     pub(crate) fn hear(&mut self, packet: &Packet) -> Reaction
-        ensures answer { (group : ℕ) (to : To) → HasContent group to self.old → result ≡ (hears (dest_of to) group (length (bytes_in self.old)) (stage_in self.old) packet.now).1 }
+        ensures answer { (group : ℕ) (to : To) → HasContent group to self.old
+            → result ≡ (hears (dest_of to) group (length (bytes_in self.old)) (stage_in self.old) packet.now).1 }
         ensures bytes { bytes_in self.new ≡ bytes_in self.old }
-        ensures stage { (group : ℕ) (to : To) → HasContent group to self.old → stage_in self.new ≡ (hears (dest_of to) group (length (bytes_in self.old)) (stage_in self.old) packet.now).0 }
+        ensures stage { (group : ℕ) (to : To) → HasContent group to self.old
+            → stage_in self.new ≡ (hears (dest_of to) group (length (bytes_in self.old)) (stage_in self.old) packet.now).0 }
         ensures content { (group : ℕ) (to : To) → HasContent group to self.old → HasContent group to self.new }
     {
         match self {

@@ -58,7 +58,8 @@ impl Network {
         ensures rest { self.new ≡ record self.old { claims = self.new.claims; frames = self.new.frames } }
         ensures world { (h : Histories) → world_in h self.new ≡ tell (planned_units self.old.claimers.items) (world_in h self.old) from (item.now ∷ []) }
         ensures table { IsTable (length self.old.claimers.items) self.new.claims.lists }
-        ensures room { (more : ℕ) → HasRoomForOthers self.old.claims self.old.claimers.items from (1 + more) → HasRoomForOthers self.new.claims self.old.claimers.items from more }
+        ensures room { (more : ℕ) → HasRoomForOthers self.old.claims self.old.claimers.items from (1 + more)
+            → HasRoomForOthers self.new.claims self.old.claimers.items from more }
         ensures frames_len { vec_len self.new.frames ≡ vec_len self.old.frames + 1 }
         ensures frames_room { vec_capacity self.old.frames ≤ vec_capacity self.new.frames }
     {

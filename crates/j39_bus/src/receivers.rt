@@ -5,7 +5,8 @@ ghost use Rattle.j39_world.specs.Flows.{window_at};
 ghost use Rattle.j39_tp.specs.Receiver.{hears, receives, timed_out, gives_up, is_open_at, message_of};
 ghost use Rattle.j39_world.specs.World.{changed_pair};
 ghost use Rattle.j39_bus.specs.BusState.{closed, holding_at};
-ghost use Rattle.j39_bus.specs.inside.Receivers.{HasRoomFor, IsAnswering, IsReady, answering, holding_of, is_complete, left_at, left_of, message_in, opens, receiver_at};
+ghost use Rattle.j39_bus.specs.inside.Receivers.{HasRoomFor, IsAnswering, IsReady, answering, holding_of, is_complete, left_at, left_of, message_in, opens};
+ghost use Rattle.j39_bus.specs.inside.Receivers.{receiver_at};
 
 use j39_plan::UnitPlan;
 use j39_tp::{Heard, Packet, Receiver};
@@ -67,7 +68,8 @@ fn fill(alloc: Global, slot: &mut Option<Box<Receiver>>, window: u8) -> Result<(
 fn tell(slot: &mut Option<Box<Receiver>>, packet: &Packet) -> Heard
     requires ready { IsReady packet.now slot.old }
     ensures heard { (window : ℕ) → IsAnswering window slot.old → result ≡ (hears (Answering window) (holding_of slot.old).progress packet.now).1 }
-    ensures after { (window : ℕ) → IsAnswering window slot.old → answering window (holding_of slot.new) ≡ receives (answering window (holding_of slot.old)) packet.now }
+    ensures after { (window : ℕ) → IsAnswering window slot.old
+        → answering window (holding_of slot.new) ≡ receives (answering window (holding_of slot.old)) packet.now }
     ensures answering { (window : ℕ) → IsAnswering window slot.old → IsAnswering window slot.new }
 {
     match slot {
@@ -134,7 +136,8 @@ fn hear_in(
     requires room { HasRoomFor packet.now bytes.old }
     ensures heard { IfOk result (λ heard. heard ≡ (hears (Answering window) (holding_of slot.old).progress packet.now).1) }
     ensures after { OnOk result (holding_of slot.new ≡ left_of (receives (answering window (holding_of slot.old)) packet.now)) }
-    ensures message { IfOk result (λ heard. is_complete heard ≡ true → bytes.new.items ≡ message_in (receives (answering window (holding_of slot.old)) packet.now)) }
+    ensures message { IfOk result (λ heard. is_complete heard ≡ true
+        → bytes.new.items ≡ message_in (receives (answering window (holding_of slot.old)) packet.now)) }
     ensures same { OnErr result (holding_of slot.new ≡ holding_of slot.old) }
     ensures answering { IsAnswering window slot.new }
 {
@@ -212,7 +215,8 @@ impl Receivers {
         requires room { HasRoomFor packet.now bytes.old }
         ensures windows { self.new.windows ≡ self.old.windows }
         ensures heard { IfOk result (λ heard. let r = receiver_at self.old to from in heard ≡ (hears r.manner r.progress packet.now).1) }
-        ensures after { OnOk result (holding_at self.new.holdings ≡ changed_pair (holding_at self.old.holdings) to from (left_of (receives (receiver_at self.old to from) packet.now))) }
+        ensures after { OnOk result (holding_at self.new.holdings ≡ changed_pair (holding_at self.old.holdings) to from
+            (left_of (receives (receiver_at self.old to from) packet.now))) }
         ensures message { IfOk result (λ heard. is_complete heard ≡ true → bytes.new.items ≡ message_in (receives (receiver_at self.old to from) packet.now)) }
         ensures same { OnErr result (self.new ≡ self.old) }
     {

@@ -46,7 +46,8 @@ impl Network {
 
     // Of a unit that has to be on.
     fn refusal_of_unit(&self, unit: usize) -> Option<StepError>
-        ensures { result ≡ refuse_unless (nat_lt unit (length self.now.claimers.items)) StepError.UnknownUnit (refuse_unless (station_at self.now.claimers.items unit).on StepError.NotStarted None) }
+        ensures { result ≡ refuse_unless (nat_lt unit (length self.now.claimers.items)) StepError.UnknownUnit
+            (refuse_unless (station_at self.now.claimers.items unit).on StepError.NotStarted None) }
     {
         if unit >= self.claimers.len() {
             return Some(StepError::UnknownUnit);
@@ -59,7 +60,8 @@ impl Network {
 
     // Of two units that have to be on.
     fn refusal_of_pair(&self, from: usize, to: usize) -> Option<StepError>
-        ensures { result ≡ refuse_unless (both (λ x. nat_lt x (length self.now.claimers.items)) from to) StepError.UnknownUnit (refuse_unless (both (λ x. (station_at self.now.claimers.items x).on) from to) StepError.NotStarted None) }
+        ensures { result ≡ refuse_unless (both (λ x. nat_lt x (length self.now.claimers.items)) from to) StepError.UnknownUnit
+            (refuse_unless (both (λ x. (station_at self.now.claimers.items x).on) from to) StepError.NotStarted None) }
     {
         let count = self.claimers.len();
         if from >= count || to >= count {

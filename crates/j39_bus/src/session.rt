@@ -53,7 +53,15 @@ impl Session {
         targets: Vec<usize>,
     ) -> (Self, Wired)
         requires { length bytes.now ≤ 1785 }
-        ensures session { result.0 ≡ record { flow = flow; pgn = route.now.pgn; to = route.now.to; targets = targets.items; bytes = bytes.now; stage = begun_stage (route_of route.now) bytes.now } }
+        ensures session { result.0 ≡ record {
+          flow = flow;
+          pgn = route.now.pgn;
+          to = route.now.to;
+          targets = targets.items;
+          bytes = bytes.now;
+          stage = begun_stage
+              (route_of route.now) bytes.now;
+        } }
         ensures item { result.1 ≡ first_item (route_of route.now) bytes.now }
     {
         let (content, item) = Content::begin(route, bytes);

@@ -71,7 +71,8 @@ impl Network {
         ensures network { IsNetwork self.new }
         ensures plan { KeepsPlan self.old self.new }
         ensures rest { self.new ≡ record self.old { wire = self.new.wire; frames = self.new.frames } }
-        ensures world { (h : Histories) (s : Outgoing) → session_at self.old.sessions.items unit ≡ Some s → world_in h self.new ≡ sent_to_receivers (world_in h self.old) unit s packet.now }
+        ensures world { (h : Histories) (s : Outgoing) → session_at self.old.sessions.items unit ≡ Some s
+            → world_in h self.new ≡ sent_to_receivers (world_in h self.old) unit s packet.now }
     {
         if let Some(to) = sessions::goes_to(self.sessions.as_slice(), unit) {
             let frame = packet_frame(self.source(unit), self.destination(to), packet);

@@ -96,23 +96,23 @@ put_done plan b ls place written text rest empty h = record {
 -- ---- what is seen
 
 pub unit_count : (b : BusState) (plan : Plan) (w : World) → Stands b plan w → length b.units ≡ length plan.units.items
-unit_count b plan w s = sym (length-map b.units (λ c. c.planned)) ∙ ap length s.planned ∙ length-map plan.units.items (planned_unit plan.keep_free)
+unit_count b plan w s = sym (length-map b.units (λ c. c.planned)) ∙ ap length s.planned.units ∙ length-map plan.units.items (planned_unit plan.keep_free)
 
 abbrev pub seen_of : Plan → BusState → Bool → View
 seen_of plan b settled = record {
   frames = b.frames;
   units = map (λ u. unit_state (station_at b.units u)) (range_with_len 0 (length plan.units.items));
   settled = settled;
-  reports = b.traffic.reports;
+  reports = b.reports;
 }
 
 pub shown : (plan : Plan) (b : BusState) (settled : Bool) → (IsTrue settled ↔ IsQuiet (undelivered b)) → (w : World) → Stands b plan w
     → Shows plan w (seen_of plan b settled)
 shown plan b settled quiet w s = record {
-  frames = sym s.frames;
-  units = ap (λ (f : Stations). map (λ u. unit_state (f u)) (range_with_len 0 (length plan.units.items))) (sym s.stations);
-  settled = subst (λ c. IsTrue settled ↔ IsQuiet c) (sym s.claims) quiet;
-  reports = sym s.reports;
+  frames = sym (ap (λ (v : World). v.frames) s.world);
+  units = ap (λ (f : Stations). map (λ u. unit_state (f u)) (range_with_len 0 (length plan.units.items))) (sym (ap (λ (v : World). v.stations) s.world));
+  settled = subst (λ c. IsTrue settled ↔ IsQuiet c) (sym (ap (λ (v : World). v.claims) s.world)) quiet;
+  reports = sym (ap (λ (v : World). v.reports) s.world);
 }
 
 -- there is something to be seen

@@ -6,7 +6,7 @@ use Rattle.j39_id.specs.declared.frame.Frame.{Frame}
 use Rattle.j39_plan.specs.declared.plan.Plan.{Plan}
 use Rattle.j39_bus.specs.declared.report.Report.{Report}
 use Rattle.j39_world.specs.Sent.{sent_of}
-use Rattle.j39_bus.specs.Traffic.{reported_of}
+use Rattle.j39_bus.specs.Reports.{reported_of}
 use Rattle.j39_run.specs.declared.unit_state.UnitState.{UnitState}
 use Rattle.j39_run.specs.RunText.{report_line, report_lines, sent_line, sent_lines, unit_line, unit_lines}
 

@@ -3,7 +3,7 @@ ghost use Rattle.std.specs.Prelude.{◌≡◌, ◌++◌, OnOk, drop, length, map
 ghost use Rattle.std.specs.List.{range_with_len};
 ghost use Rattle.j39_bus.specs.Stations.{station_at};
 ghost use Rattle.j39_world.specs.Sent.{sent_of};
-ghost use Rattle.j39_bus.specs.Traffic.{reported_of};
+ghost use Rattle.j39_bus.specs.Reports.{reported_of};
 ghost use Rattle.j39_run.specs.Views.{unit_state};
 ghost use Rattle.j39_run.specs.RunText.{halt_lines, line_cause, refused_line, report_line, report_lines, report_route, sent_line, sent_lines, settled_line, state_text, step_cause, unit_line, unit_lines};
 

@@ -82,7 +82,8 @@ impl Network {
         requires network { IsNetwork self.old }
         requires route { IsRoute (length self.old.claimers.items) route.now }
         ensures same { IsSameNetwork self.old self.new }
-        ensures targets { IfOk result (λ targets. targets.items ≡ targets_of (length self.new.claimers.items) (station_at self.new.claimers.items) route.now.sender route.now.to) }
+        ensures targets { IfOk result (λ targets. targets.items ≡ targets_of (length self.new.claimers.items)
+            (station_at self.new.claimers.items) route.now.sender route.now.to) }
         ensures wire { IfOk result (λ targets. HasRoomTo self.new.wire route.now.sender targets.items) }
         ensures frames { OnOk result (vec_len self.new.frames < vec_capacity self.new.frames) }
     {
@@ -103,7 +104,8 @@ impl Network {
         ensures network { IsNetwork self.new }
         ensures plan { KeepsPlan self.old self.new }
         ensures receivers { self.new.receivers ≡ self.old.receivers }
-        ensures world { (h : Histories) → world_in (has_begun h flow (route_of route.now) targets.items bytes.now) self.new ≡ begins (length self.old.claimers.items) (world_in h self.old) flow (route_of route.now) bytes.now }
+        ensures world { (h : Histories) → world_in (has_begun h flow (route_of route.now) targets.items bytes.now) self.new ≡ begins
+            (length self.old.claimers.items) (world_in h self.old) flow (route_of route.now) bytes.now }
     {
         let source = self.source(route.sender);
         let destination = self.destination(route.to);

@@ -168,9 +168,11 @@ impl Network {
         ensures room { KeepsRoom self.old.wire self.new.wire }
         ensures heard { IfOk result (λ r. (h : Histories) → r.0 ≡ (hearing self.old.receivers.windows (world_in h self.old) from to packet.now).1) }
         ensures reaction { IfOk result (λ r. (h : Histories) → r.1 ≡ reaction_of ((world_in h self.old).sessions to) from packet.now) }
-        ensures world { OnOk result ((h : Histories) → world_in (has_taken h to from packet.now) self.new ≡ packet_heard self.old.receivers.windows (world_in h self.old) from to packet.now) }
+        ensures world { OnOk result ((h : Histories) → world_in (has_taken h to from packet.now) self.new ≡ packet_heard self.old.receivers.windows
+            (world_in h self.old) from to packet.now) }
         ensures held { OnOk result ((h : Histories) → HasHeld h self.old → HasHeld (has_taken h to from packet.now) self.new) }
-        ensures complete { IfOk result (λ r. (h : Histories) → HasHeld h self.old → is_complete r.0 ≡ true → (pgn : ℕ) × Carried (h.taken to from ++ packet.now ∷ []) (length (h.taken to from)) pgn bytes.new.items) }
+        ensures complete { IfOk result (λ r. (h : Histories) → HasHeld h self.old → is_complete r.0 ≡ true
+            → (pgn : ℕ) × Carried (h.taken to from ++ packet.now ∷ []) (length (h.taken to from)) pgn bytes.new.items) }
         ensures same { OnErr result (IsSameNetwork self.old self.new) }
     {
         receivers_gather_what_they_hear();
@@ -188,7 +190,8 @@ impl Network {
         requires from { from < length self.old.claimers.items }
         requires room { vec_len self.old.reports < vec_capacity self.old.reports }
         ensures rest { self.new ≡ record self.old { reports = self.new.reports } }
-        ensures world { (h : Histories) → world_in h self.new ≡ record (world_in h self.old) { reports = (world_in h self.old).reports ++ report (world_in h self.old) from to bytes.items ∷ [] } }
+        ensures world { (h : Histories) → world_in h self.new ≡ record
+            (world_in h self.old) { reports = (world_in h self.old).reports ++ report (world_in h self.old) from to bytes.items ∷ [] } }
     {
         let flow = sessions::flow_of(self.sessions.as_slice(), from);
         post(

@@ -57,7 +57,7 @@ module _ (plan : Plan) (Holds : ClaimProperty) (keeps : IsKeptByClaimSteps plan 
   given_from w here u v unit_u unit_v on (item ∷ rest) is new (says, s, answers, e) =
       subst HoldsIn (sym e) (keeps.given w.stations w.claims here u v unit_u unit_v on item rest is says s answers)
 
-  -- ---- the steps of transfers change no state, and nothing of what planned_units have told each other
+  -- ---- the steps of transfers change no state, and nothing of what claimers have told each other
 
   begun : (w : World) → HoldsIn w → (count f : ℕ) (flow : Option Flow) (bytes : List ℕ) (new : World) → BeginsAt count w f flow bytes new → HoldsIn new
   begun w here count f None bytes new never = absurd never

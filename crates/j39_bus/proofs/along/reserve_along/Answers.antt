@@ -1,4 +1,4 @@
-use Rattle.std.proofs.Common.{◌≡◌, List, ℕ, length, Some, None, sym, ◌∙◌, subst}
+use Rattle.std.proofs.Common.{◌≡◌, length, Some, None, sym, ◌∙◌, subst}
 use Rattle.j39_bus.specs.BusState.{session_at}
 use Rattle.j39_bus.specs.inside.Traffic.{AreUnits}
 use Rattle.j39_bus.proofs.Worlds.{any_default}

@@ -26,7 +26,8 @@ loop-place-preserved c =
       | in-Err-Memory w ↦ rw w.in-Err-Memory.field-0-is at w.in-Err-Memory.ensures.refused
     ] in
     subst (All IsSendable) (sym (take_more c.args.groups.now c.loop-place.place c.index-groups-place.result inside))
-    (All-push IsSendable (take c.loop-place.place c.args.groups.now) (get_or c.args.groups.now c.loop-place.place c.index-groups-place.result) c.loop-place.invariant (subst IsSendable c.index-groups-place.is sendable))
+    (All-push IsSendable (take c.loop-place.place c.args.groups.now)
+    (get_or c.args.groups.now c.loop-place.place c.index-groups-place.result) c.loop-place.invariant (subst IsSendable c.index-groups-place.is sendable))
 
 pub returns-then-memory-clause-ok : goal.returns-then-memory-clause-ok
 returns-then-memory-clause-ok c =

@@ -22,7 +22,8 @@ loop-flow-preserved c =
     let inside : k < length xs = omega arith in
     let planned : k < length plan.flows.items = omega (arith, inside, ap length c.deref-flow-items.ensures.value) in
     let at : get_or xs k d ≡ get_or plan.flows.items k d = ap (λ ys. get_or ys k d) c.deref-flow-items.ensures.value in
-    let flow : route_of c.route_of.result ≡ flow_of plan.groups.items (get_or xs k d) = c.route_of.ensures.flow ∙ ap (λ gs. flow_of gs (get_or xs k d)) c.as_slice.ensures.value in
+    let flow : route_of c.route_of.result ≡ flow_of plan.groups.items (get_or xs k d) = c.route_of.ensures.flow
+    ∙ ap (λ gs. flow_of gs (get_or xs k d)) c.as_slice.ensures.value in
     let sender : c.route_of.result.sender ≡ (get_or plan.flows.items k d).sender = ap (λ (f : Flow). f.sender) flow ∙ ap (λ (f : FlowPlan). f.sender) at in
     let to : c.route_of.result.to ≡ (get_or plan.flows.items k d).to = ap (λ (f : Flow). f.to) flow ∙ ap (λ (f : FlowPlan). f.to) at in
     let fits : IsRoute n c.route_of.result = record {
@@ -34,5 +35,6 @@ loop-flow-preserved c =
     record {
       flows = ap (map route_of) c.in_ok-push.ensures.items ∙ map-append route_of c.loop-flow.routes.items (c.route_of.result ∷ [])
           ∙ (λ i. c.loop-flow.invariant.flows i ++ flow i ∷ []) ∙ sym (map_more (flow_of plan.groups.items) xs k d inside);
-      fit = subst (All (IsRoute n)) (sym c.in_ok-push.ensures.items) (All-push (IsRoute n) c.loop-flow.routes.items c.route_of.result c.loop-flow.invariant.fit fits);
+      fit = subst (All (IsRoute n)) (sym c.in_ok-push.ensures.items)
+          (All-push (IsRoute n) c.loop-flow.routes.items c.route_of.result c.loop-flow.invariant.fit fits);
     }

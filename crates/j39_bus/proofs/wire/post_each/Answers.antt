@@ -1,7 +1,7 @@
-use Rattle.std.proofs.Common.{◌≡◌, ◌<◌, ◌≤◌, ◌∷◌, ◌+◌, [], ◌++◌, length, drop, get_or, ap, sym, ◌∙◌, subst, List, ℕ, suc, arith}
+use Rattle.std.proofs.Common.{◌≡◌, ◌<◌, ◌∷◌, ◌+◌, [], ◌++◌, length, drop, get_or, ap, sym, ◌∙◌, subst, List, ℕ, suc, arith}
 use Rattle.std.proofs.Math.Seq.{drop-cons}
 use Rattle.std.proofs.lemmas.List.{drop_all}
-use Rattle.j39_queues.specs.Queued.{IsTable, Queued, changed_in, pair_in}
+use Rattle.j39_queues.specs.Queued.{changed_in, pair_in}
 use Rattle.j39_bus.specs.inside.Traffic.{AreUnits, HasRoomTo}
 use Rattle.j39_world.specs.Transfers.{added}
 use Rattle.j39_bus.proofs.Wires.{added_first, added_none, as_table, room_for_rest, unit_inside, units_dropped}
@@ -25,7 +25,8 @@ loop-target-preserved c =
     let inside : k < length vs = omega arith in
     let next : suc k ≡ k + 1 = omega arith in
     let at : drop k vs ≡ v ∷ rest = drop-cons vs k 0 inside ∙ ap (λ (j : ℕ). v ∷ drop j vs) next in
-    let units : AreUnits (length c.args.wire.now.lists) (v ∷ rest) = subst (AreUnits (length c.args.wire.now.lists)) at (units_dropped _ vs k c.requires.targets) in
+    let units : AreUnits (length c.args.wire.now.lists) (v ∷ rest) = subst (AreUnits (length c.args.wire.now.lists)) at
+    (units_dropped _ vs k c.requires.targets) in
     let posted = c.post.ensures.lists ∙ ap (λ y. changed_in (pair_in now.lists) u v (pair_in now.lists u v ++ y ∷ [])) c.copy.ensures in
     record {
       table = as_table (length c.args.wire.now.lists) now.lists c.post.new.self.lists c.loop-target.invariant.table c.post.ensures.table;

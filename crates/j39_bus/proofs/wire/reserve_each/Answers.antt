@@ -1,4 +1,4 @@
-use Rattle.std.proofs.Common.{◌≡◌, ◌<◌, length, get_or, ap, arith}
+use Rattle.std.proofs.Common.{◌<◌, length, ap, arith}
 use Rattle.j39_bus.proofs.Wires.{room_for_all, unit_inside}
 use Rattle.j39_bus.proofs.wire.reserve_each.Goals as goal
 

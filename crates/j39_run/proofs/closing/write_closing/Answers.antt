@@ -1,6 +1,6 @@
 use Rattle.std.proofs.Common.{◌≡◌, ℕ, List, ◌++◌, map, ap, ◌∙◌, append_assoc}
 use Rattle.std.proofs.lemmas.Result.{IfOk-weaker}
-use Rattle.j39_bus.specs.Traffic.{reported_of}
+use Rattle.j39_bus.specs.Reports.{reported_of}
 use Rattle.j39_world.specs.Transfers.{Reported}
 use Rattle.j39_run.specs.RunText.{closing_text, halt_lines, report_lines, settled_line, unit_lines}
 use Rattle.j39_run.proofs.Done.{seen_of, shown}

@@ -1,5 +1,5 @@
 use Rattle.std.proofs.Common.{◌≡◌, ◌++◌, map, drop}
-use Rattle.j39_bus.specs.Traffic.{reported_of}
+use Rattle.j39_bus.specs.Reports.{reported_of}
 use Rattle.j39_run.specs.RunText.{report_lines}
 use Rattle.j39_run.proofs.run_lines.write_reports.Given as goal
 

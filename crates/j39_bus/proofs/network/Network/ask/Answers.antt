@@ -21,4 +21,5 @@ returns-clause-steps c = λ plan of.
     let mid = c.reserve.new.self in
     let of_mid = plan_kept net mid plan (plan_same net mid c.reserve.ensures.same) of in
     steps_after net mid c.reserve.ensures.same plan (Ask c.args.unit) c.request.new.self
-    (steps_same plan mid (Ask c.args.unit) c.request.new.self (λ h. c.request.ensures.world h ∙ ap (λ us. asked us (world_in h mid) c.args.unit) of_mid.units) (ap (λ (m : Network). m.receivers) c.request.ensures.rest))
+    (steps_same plan mid (Ask c.args.unit) c.request.new.self (λ h. c.request.ensures.world h ∙ ap (λ us. asked us (world_in h mid) c.args.unit) of_mid.units)
+    (ap (λ (m : Network). m.receivers) c.request.ensures.rest))

@@ -1,11 +1,9 @@
 use Rattle.std.proofs.Common.{◌≡◌, ℕ, Bool, true, false, ◌&&◌, eqb, refl, sym, ap, ◌∙◌, subst, inl, inr}
 use Rattle.j39_tp.specs.Receiver.{gives_up}
-use Rattle.j39_bus.specs.BusState.{Holding, holding_at}
 use Rattle.j39_bus.specs.Stands.{HoldTaken}
 use Rattle.j39_bus.specs.inside.Network.{world_in}
-use Rattle.j39_bus.specs.inside.Receivers.{left_of, receiver_at}
+use Rattle.j39_bus.specs.inside.Receivers.{receiver_at}
 use Rattle.j39_world.specs.TransferSteps.{packets_in, replied}
-use Rattle.j39_bus.proofs.HeardPackets.{left_gathers, left_progress}
 use Rattle.j39_bus.proofs.ChangedReceivers.{held_changed, progress_changed}
 use Rattle.j39_bus.proofs.network.Network.ask_again.Goals as goal
 

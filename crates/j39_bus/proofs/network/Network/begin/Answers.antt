@@ -17,11 +17,13 @@ pub index-requires : goal.index-requires
 index-requires c =
     let net = c.args.self.now in
     let inside : c.args.flow < length (map route_of net.routes.items) =
-    flow_inside (length net.claimers.items) (world_in nowhere net) (map route_of net.routes.items) c.args.flow c.args.bytes.now.items (c.requires.allowed nowhere) in
+    flow_inside (length net.claimers.items) (world_in nowhere net) (map route_of net.routes.items) c.args.flow c.args.bytes.now.items
+    (c.requires.allowed nowhere) in
     omega (arith, inside, length-map net.routes.items route_of)
 
 pub prepare-requires-clause-route : goal.prepare-requires-clause-route
-prepare-requires-clause-route c = route_fits c.args.self.now c.requires.network c.args.flow c.args.bytes.now.items c.requires.allowed c.index.result.now c.index.ensures
+prepare-requires-clause-route c = route_fits c.args.self.now c.requires.network c.args.flow c.args.bytes.now.items c.requires.allowed c.index.result.now
+    c.index.ensures
 
 pub start-requires-clause-route : goal.start-requires-clause-route
 start-requires-clause-route c =
@@ -45,7 +47,8 @@ returns-clause-steps c = λ plan of.
     let after : Histories = has_begun h c.args.flow (route_of r) c.in_ok-targets.targets.items c.as_slice.result.now in
     let begun : world_in after c.start.new.self ≡ begins (count_of plan) (world_in h mid) c.args.flow (route_of r) bytes.items =
     c.start.ensures.world h
-    ∙ (λ i. begins ((ap length c.prepare.ensures.same.claimers ∙ sym (units_count plan net of)) i) (world_in h mid) c.args.flow (route_of r) (c.as_slice.ensures.value i)) in (
+    ∙ (λ i. begins ((ap length c.prepare.ensures.same.claimers ∙ sym (units_count plan net of)) i) (world_in h mid) c.args.flow (route_of r)
+    (c.as_slice.ensures.value i)) in (
       after,
       subst (λ o. BeginsAt (count_of plan) (world_in h mid) c.args.flow o bytes.items (world_in after c.start.new.self)) (sym planned) begun,
       subst (HoldTaken h.taken) (sym c.start.ensures.receivers) held,

@@ -1,4 +1,4 @@
-use Rattle.std.proofs.Common.{◌≡◌, ℕ, true, ◌<◌, List, length, map, get_or, ap, sym, ◌∙◌, arith, Some, None, refl, subst}
+use Rattle.std.proofs.Common.{◌≡◌, ℕ, true, List, length, map, get_or, ap, sym, ◌∙◌, Some, None, refl, subst}
 use Rattle.std.proofs.Math.ListN.{length-set}
 use Rattle.j39_claim.specs.ClaimerValue.{ClaimerValue, can_note}
 use Rattle.j39_queues.specs.Queued.{IsTable, pair_in}

@@ -15,12 +15,14 @@ reserve-requires-clause-from g c = (pair_inside _ _ _ _ (c.requires.allowed nowh
 
 pub deliver-requires-clause-from : goal.deliver-requires-clause-from
 deliver-requires-clause-from g c =
-    let inside : (c.args.from < length c.args.self.now.claimers.items) × (c.args.to < length c.args.self.now.claimers.items) = pair_inside _ _ _ _ (c.requires.allowed nowhere) in
+    let inside : (c.args.from < length c.args.self.now.claimers.items)
+    × (c.args.to < length c.args.self.now.claimers.items) = pair_inside _ _ _ _ (c.requires.allowed nowhere) in
     omega (arith, inside.0, ap length c.reserve.ensures.same.claimers)
 
 pub deliver-requires-clause-to : goal.deliver-requires-clause-to
 deliver-requires-clause-to g c =
-    let inside : (c.args.from < length c.args.self.now.claimers.items) × (c.args.to < length c.args.self.now.claimers.items) = pair_inside _ _ _ _ (c.requires.allowed nowhere) in
+    let inside : (c.args.from < length c.args.self.now.claimers.items)
+    × (c.args.to < length c.args.self.now.claimers.items) = pair_inside _ _ _ _ (c.requires.allowed nowhere) in
     omega (arith, inside.1, ap length c.reserve.ensures.same.claimers)
 
 pub deliver-requires-clause-some : goal.deliver-requires-clause-some
@@ -35,5 +37,6 @@ returns-clause-steps g c = λ plan of.
     let of_mid = plan_kept net mid plan (plan_same net mid c.reserve.ensures.same) of in
     steps_after net mid c.reserve.ensures.same plan (Give c.args.from c.args.to) c.deliver.new.self
     (steps_same plan mid (Give c.args.from c.args.to) c.deliver.new.self
-    (λ h. subst (λ us. GivenFrom us (world_in h mid) c.args.from c.args.to (pair_in mid.claims.lists c.args.from c.args.to) (world_in h c.deliver.new.self)) of_mid.units (c.deliver.ensures.world h))
+    (λ h. subst (λ us. GivenFrom us (world_in h mid) c.args.from c.args.to (pair_in mid.claims.lists c.args.from c.args.to) (world_in h c.deliver.new.self))
+    of_mid.units (c.deliver.ensures.world h))
     (ap (λ (m : Network). m.receivers) c.deliver.ensures.rest))

@@ -63,7 +63,8 @@ returns-clause-takes c = λ h held.
           ]),
       subst (HoldTaken after.taken) (sym table_is) (elim c.if-is_complete.branch [
         | then-is_complete t ↦
-            subst (HoldTaken after.taken) (sym (ap (λ (m : Network). m.receivers) t.self-is ∙ ap (λ (m : Network). m.receivers) t.report.ensures.rest)) (listened.held h held)
+            subst (HoldTaken after.taken) (sym (ap (λ (m : Network). m.receivers) t.self-is ∙ ap (λ (m : Network). m.receivers) t.report.ensures.rest))
+            (listened.held h held)
         | else-is_complete t ↦ subst (HoldTaken after.taken) (sym (ap (λ (m : Network). m.receivers) t.self-is)) (listened.held h held)
       ]),
     )

@@ -16,10 +16,13 @@ pub returns-then-any_of_sender : goal.returns-then-any_of_sender
 returns-then-any_of_sender c = λ h.
     let at : is_open_at (holding_at c.args.self.now.receivers.holdings c.args.other c.args.unit).progress ≡ false =
     sym (c.is_open.ensures) ∙ c.if-is_open.false in
-    sym (over_from h c.args.self.now c.args.unit c.args.other false true _ at (sym (c.any_of_sender.ensures ∙ ap (list_any is_of_sender) c.between.ensures) ∙ c.if-any_of_sender.true) refl)
+    sym (over_from h c.args.self.now c.args.unit c.args.other false true _ at
+    (sym (c.any_of_sender.ensures ∙ ap (list_any is_of_sender) c.between.ensures) ∙ c.if-any_of_sender.true) refl)
 
 pub returns : goal.returns
 returns c = λ h.
     let at : is_open_at (holding_at c.args.self.now.receivers.holdings c.args.other c.args.unit).progress ≡ false =
     sym (c.is_open.ensures) ∙ c.if-is_open.false in
-    sym (over_from h c.args.self.now c.args.unit c.args.other false false c.any_of_receiver.result at (sym (c.any_of_sender.ensures ∙ ap (list_any is_of_sender) c.between.ensures) ∙ c.if-any_of_sender.false) (sym (c.any_of_receiver.ensures ∙ ap (list_any is_of_receiver) c.between-2.ensures)))
+    sym (over_from h c.args.self.now c.args.unit c.args.other false false c.any_of_receiver.result at
+    (sym (c.any_of_sender.ensures ∙ ap (list_any is_of_sender) c.between.ensures) ∙ c.if-any_of_sender.false)
+    (sym (c.any_of_receiver.ensures ∙ ap (list_any is_of_receiver) c.between-2.ensures)))

@@ -14,12 +14,14 @@ reserve_replies-requires-clause-to c = (pair_inside _ _ _ _ (c.requires.allowed 
 
 pub ask_again-requires-clause-from : goal.ask_again-requires-clause-from
 ask_again-requires-clause-from c =
-    let inside : (c.args.from < length c.args.self.now.claimers.items) × (c.args.to < length c.args.self.now.claimers.items) = pair_inside _ _ _ _ (c.requires.allowed nowhere) in
+    let inside : (c.args.from < length c.args.self.now.claimers.items)
+    × (c.args.to < length c.args.self.now.claimers.items) = pair_inside _ _ _ _ (c.requires.allowed nowhere) in
     omega (arith, inside.0, ap length c.reserve_replies.ensures.same.claimers)
 
 pub ask_again-requires-clause-to : goal.ask_again-requires-clause-to
 ask_again-requires-clause-to c =
-    let inside : (c.args.from < length c.args.self.now.claimers.items) × (c.args.to < length c.args.self.now.claimers.items) = pair_inside _ _ _ _ (c.requires.allowed nowhere) in
+    let inside : (c.args.from < length c.args.self.now.claimers.items)
+    × (c.args.to < length c.args.self.now.claimers.items) = pair_inside _ _ _ _ (c.requires.allowed nowhere) in
     omega (arith, inside.1, ap length c.reserve_replies.ensures.same.claimers)
 
 pub returns-clause-steps : goal.returns-clause-steps
@@ -28,4 +30,8 @@ returns-clause-steps c = λ plan of.
     let mid = c.reserve_replies.new.self in
     let of_mid = plan_kept net mid plan (plan_same net mid c.reserve_replies.ensures.same) of in
     steps_after net mid c.reserve_replies.ensures.same plan (LateReceiver c.args.from c.args.to) c.ask_again.new.self
-    (λ h held. (h, c.ask_again.ensures.world h ∙ ap (λ ws. receiver_timed_out ws (world_in h mid) c.args.from c.args.to) of_mid.windows, c.ask_again.ensures.held h held))
+    (λ h held. (
+      h,
+      c.ask_again.ensures.world h ∙ ap (λ ws. receiver_timed_out ws (world_in h mid) c.args.from c.args.to) of_mid.windows,
+      c.ask_again.ensures.held h held,
+    ))

@@ -1,7 +1,7 @@
-use Rattle.std.proofs.Common.{◌≡◌, ℕ, true, ◌&&◌, eqb, List, [], ◌∷◌, ◌++◌, length, drop, ap, sym, ◌∙◌, subst}
+use Rattle.std.proofs.Common.{◌≡◌, ℕ, true, ◌&&◌, eqb, List, [], ◌∷◌, ◌++◌, length, ap, sym, ◌∙◌, subst}
 use Rattle.std.proofs.lemmas.Bool.{cond-false}
 use Rattle.j39_tp.specs.Carried.{Carried}
-use Rattle.j39_tp.specs.inside.Gathered.{Gathers, HoldsCarried}
+use Rattle.j39_tp.specs.inside.Gathered.{Gathers}
 use Rattle.j39_tp.specs.Receiver.{hears, receives}
 use Rattle.j39_tp.specs.declared.packet.Packet.{Packet}
 use Rattle.j39_bus.specs.inside.Network.{world_in}

@@ -1,4 +1,4 @@
-use Rattle.std.proofs.Common.{◌≡◌, ◌∙◌, length, sym, ap, subst}
+use Rattle.std.proofs.Common.{◌∙◌, length, sym, ap, subst}
 use Rattle.j39_bus.specs.Stations.{station_at}
 use Rattle.j39_bus.specs.inside.Traffic.{AreUnits}
 use Rattle.j39_world.specs.TransferSteps.{targets_of}
@@ -10,5 +10,6 @@ reserve_each-requires-clause-targets c =
     let cs = c.args.self.now.claimers.items in
     let r = c.args.route.now in
     let units = targets_units (length cs) (station_at cs) r.sender r.to c.requires.route.receiver in
-    let targets = c.as_slice-2.ensures.value ∙ c.in_ok-targets.ensures ∙ ap (λ l. targets_of (length l) (station_at l) r.sender r.to) c.as_slice.ensures.value in
+    let targets = c.as_slice-2.ensures.value ∙ c.in_ok-targets.ensures
+    ∙ ap (λ l. targets_of (length l) (station_at l) r.sender r.to) c.as_slice.ensures.value in
     subst (λ n. AreUnits n c.as_slice-2.result.now) (sym c.requires.network.traffic.table.rows) (subst (AreUnits (length cs)) (sym targets) units)

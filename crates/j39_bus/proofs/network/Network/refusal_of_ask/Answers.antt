@@ -6,8 +6,12 @@ use Rattle.j39_bus.proofs.network.Network.refusal_of_ask.Goals as goal
 
 pub returns-then-is_any_open : goal.returns-then-is_any_open
 returns-then-is_any_open c = λ h.
-    third _ _ _ _ _ false _ (idle_by c.args.self.now h c.requires.traffic.sessions.count ∙ ap not (sym (c.is_any_open.ensures ∙ ap (list_any (λ t. is_some t)) c.as_slice.ensures.value) ∙ c.if-is_any_open.true)) (sym c.in_default.is ∙ c.refusal_of_unit.ensures)
+    third _ _ _ _ _ false _ (idle_by c.args.self.now h c.requires.traffic.sessions.count
+    ∙ ap not (sym (c.is_any_open.ensures ∙ ap (list_any (λ t. is_some t)) c.as_slice.ensures.value) ∙ c.if-is_any_open.true))
+    (sym c.in_default.is ∙ c.refusal_of_unit.ensures)
 
 pub returns : goal.returns
 returns c = λ h.
-    third _ _ _ _ _ true _ (idle_by c.args.self.now h c.requires.traffic.sessions.count ∙ ap not (sym (c.is_any_open.ensures ∙ ap (list_any (λ t. is_some t)) c.as_slice.ensures.value) ∙ c.if-is_any_open.false)) (sym c.in_default.is ∙ c.refusal_of_unit.ensures)
+    third _ _ _ _ _ true _ (idle_by c.args.self.now h c.requires.traffic.sessions.count
+    ∙ ap not (sym (c.is_any_open.ensures ∙ ap (list_any (λ t. is_some t)) c.as_slice.ensures.value) ∙ c.if-is_any_open.false))
+    (sym c.in_default.is ∙ c.refusal_of_unit.ensures)

@@ -48,8 +48,10 @@ returns-then-is_some c = λ h.
     let addressed = sym c.have_addresses.ensures ∙ c.if-not-have_addresses.false in
     let well : IsRoute n r = subst (IsRoute n) (sym at) (c.requires.traffic.flows c.args.flow r inside) in
     let sender : r.sender < length net.sessions.items = omega (arith, well.sender, c.requires.traffic.sessions.count) in
-    let idle = ap not (ap is_some (sym (c.index.ensures ∙ get_or_default net.sessions.items r.sender c.index.result.now None sender)) ∙ sym c.is_some.ensures ∙ c.if-is_some.true) in
-    sym (refusal_by net c.args.flow r inside at n (world_in h net) c.args.bytes.now.items true true true true false _ sendable started settled addressed idle refl)
+    let idle = ap not (ap is_some (sym (c.index.ensures ∙ get_or_default net.sessions.items r.sender c.index.result.now None sender)) ∙ sym c.is_some.ensures
+    ∙ c.if-is_some.true) in
+    sym (refusal_by net c.args.flow r inside at n (world_in h net) c.args.bytes.now.items true true true true false _ sendable started settled addressed idle
+    refl)
 
 pub returns-then-len-from : goal.returns-then-len-from
 returns-then-len-from c = λ h.
@@ -65,9 +67,12 @@ returns-then-len-from c = λ h.
     let addressed = sym c.have_addresses.ensures ∙ c.if-not-have_addresses.false in
     let well : IsRoute n r = subst (IsRoute n) (sym at) (c.requires.traffic.flows c.args.flow r inside) in
     let sender : r.sender < length net.sessions.items = omega (arith, well.sender, c.requires.traffic.sessions.count) in
-    let idle = ap not (ap is_some (sym (c.index.ensures ∙ get_or_default net.sessions.items r.sender c.index.result.now None sender)) ∙ sym c.is_some.ensures ∙ c.if-is_some.false) in
-    let another : (length c.args.bytes.now.items == r.length) ≡ false = ne_eqb (length c.args.bytes.now.items) r.length (λ e. c.if-len-from.true (omega (arith, e, c.len.ensures, c.from.ensures, c.args.bytes.now.ok.0))) in
-    sym (refusal_by net c.args.flow r inside at n (world_in h net) c.args.bytes.now.items true true true true true false sendable started settled addressed idle another)
+    let idle = ap not (ap is_some (sym (c.index.ensures ∙ get_or_default net.sessions.items r.sender c.index.result.now None sender)) ∙ sym c.is_some.ensures
+    ∙ c.if-is_some.false) in
+    let another : (length c.args.bytes.now.items == r.length) ≡ false = ne_eqb (length c.args.bytes.now.items) r.length
+    (λ e. c.if-len-from.true (omega (arith, e, c.len.ensures, c.from.ensures, c.args.bytes.now.ok.0))) in
+    sym (refusal_by net c.args.flow r inside at n (world_in h net) c.args.bytes.now.items true true true true true false sendable started settled addressed
+    idle another)
 
 pub returns : goal.returns
 returns c = λ h.
@@ -83,6 +88,9 @@ returns c = λ h.
     let addressed = sym c.have_addresses.ensures ∙ c.if-not-have_addresses.false in
     let well : IsRoute n r = subst (IsRoute n) (sym at) (c.requires.traffic.flows c.args.flow r inside) in
     let sender : r.sender < length net.sessions.items = omega (arith, well.sender, c.requires.traffic.sessions.count) in
-    let idle = ap not (ap is_some (sym (c.index.ensures ∙ get_or_default net.sessions.items r.sender c.index.result.now None sender)) ∙ sym c.is_some.ensures ∙ c.if-is_some.false) in
-    let as_many : (length c.args.bytes.now.items == r.length) ≡ true = eq-eqb (length c.args.bytes.now.items) r.length (omega (arith, c.if-len-from.false, c.len.ensures, c.from.ensures, c.args.bytes.now.ok.0)) in
-    sym (refusal_by net c.args.flow r inside at n (world_in h net) c.args.bytes.now.items true true true true true true sendable started settled addressed idle as_many)
+    let idle = ap not (ap is_some (sym (c.index.ensures ∙ get_or_default net.sessions.items r.sender c.index.result.now None sender)) ∙ sym c.is_some.ensures
+    ∙ c.if-is_some.false) in
+    let as_many : (length c.args.bytes.now.items == r.length) ≡ true = eq-eqb (length c.args.bytes.now.items) r.length
+    (omega (arith, c.if-len-from.false, c.len.ensures, c.from.ensures, c.args.bytes.now.ok.0)) in
+    sym (refusal_by net c.args.flow r inside at n (world_in h net) c.args.bytes.now.items true true true true true true sendable started settled addressed
+    idle as_many)

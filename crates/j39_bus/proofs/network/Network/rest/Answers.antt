@@ -1,4 +1,4 @@
-use Rattle.std.proofs.Common.{◌≡◌, ◌<◌, ℕ, None, Some, length, set, refl, ap, arith}
+use Rattle.std.proofs.Common.{◌<◌, None, length, set, arith}
 use Rattle.std.proofs.Math.ListN.{length-set}
 use Rattle.j39_bus.proofs.ChangedSessions.{none_some, session_set, sessions_changed}
 use Rattle.j39_bus.specs.inside.Network.{world_in}

@@ -12,14 +12,15 @@ use Rattle.j39_queues.specs.Queued.{pair_in}
 use Rattle.j39_world.specs.Flows.{Flow}
 use Rattle.j39_world.specs.Sent.{Sent, sent_of}
 use Rattle.j39_world.specs.Transfers.{Begun, Outgoing, added}
-use Rattle.j39_world.specs.TransferSteps.{outgoing, targets_of}
+use Rattle.j39_world.specs.TransferSteps.{outgoing}
 use Rattle.j39_world.specs.World.{changed}
 use Rattle.j39_bus.proofs.network.Network.start.Goals as goal
 
 pub post_each-requires-clause-targets : goal.post_each-requires-clause-targets
 post_each-requires-clause-targets c =
     let net = c.args.self.now in
-    let units = targets_units (length net.claimers.items) (station_at net.claimers.items) c.args.route.now.sender c.args.route.now.to c.requires.route.receiver in
+    let units = targets_units (length net.claimers.items) (station_at net.claimers.items) c.args.route.now.sender c.args.route.now.to
+    c.requires.route.receiver in
     let targets = c.targets.ensures ∙ ap (λ (s : Outgoing). s.targets) c.begin-session.ensures.session ∙ c.requires.targets in
     subst (λ n. AreUnits n c.targets.result.now) (sym c.requires.network.traffic.table.rows) (subst (AreUnits (length net.claimers.items)) (sym targets) units)
 

@@ -1,4 +1,4 @@
-use Rattle.std.proofs.Common.{◌<◌, List, length, map, set, ap, sym, ◌∙◌, subst, refl, arith}
+use Rattle.std.proofs.Common.{List, length, map, set, ap, sym, ◌∙◌, subst, refl}
 use Rattle.std.proofs.Math.ListN.{length-set}
 use Rattle.std.specs.Vec.{with_item}
 use Rattle.j39_claim.specs.ClaimerValue.{ClaimerValue}

@@ -9,12 +9,14 @@ use Rattle.j39_bus.proofs.network.Network.take.Goals as goal
 
 pub oldest-requires-clause-from : goal.oldest-requires-clause-from
 oldest-requires-clause-from c =
-    let inside : (c.args.from < length c.args.self.now.claimers.items) × (c.args.to < length c.args.self.now.claimers.items) = pair_inside _ _ _ _ (c.requires.allowed nowhere) in
+    let inside : (c.args.from < length c.args.self.now.claimers.items)
+    × (c.args.to < length c.args.self.now.claimers.items) = pair_inside _ _ _ _ (c.requires.allowed nowhere) in
     omega (arith, inside.0, c.requires.network.traffic.table.rows)
 
 pub oldest-requires-clause-to : goal.oldest-requires-clause-to
 oldest-requires-clause-to c =
-    let inside : (c.args.from < length c.args.self.now.claimers.items) × (c.args.to < length c.args.self.now.claimers.items) = pair_inside _ _ _ _ (c.requires.allowed nowhere) in
+    let inside : (c.args.from < length c.args.self.now.claimers.items)
+    × (c.args.to < length c.args.self.now.claimers.items) = pair_inside _ _ _ _ (c.requires.allowed nowhere) in
     omega (arith, inside.1, c.requires.network.traffic.table.rows)
 
 pub take_item-requires-clause-from : goal.take_item-requires-clause-from

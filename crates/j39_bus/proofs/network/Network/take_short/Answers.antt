@@ -1,6 +1,5 @@
-use Rattle.std.proofs.Common.{◌∷◌, [], ◌++◌, List, map, drop, ap, sym, ◌∙◌, subst}
+use Rattle.std.proofs.Common.{◌∷◌, [], ◌++◌, List, map, ap, sym, ◌∙◌, subst}
 use Rattle.j39_world.specs.declared.wired.Wired.{Wired}
-use Rattle.j39_queues.specs.Queued.{pair_in}
 use Rattle.j39_bus.specs.Reports.{reported_of}
 use Rattle.j39_bus.specs.Stands.{HoldTaken}
 use Rattle.j39_bus.specs.declared.network.Network.{Network}

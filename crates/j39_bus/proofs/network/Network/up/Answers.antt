@@ -21,4 +21,6 @@ returns-clause-steps c = λ plan of.
     let mid = c.reserve.new.self in
     let of_mid = plan_kept net mid plan (plan_same net mid c.reserve.ensures.same) of in
     steps_after net mid c.reserve.ensures.same plan (Up c.args.unit) c.switch_on.new.self
-    (steps_same plan mid (Up c.args.unit) c.switch_on.new.self (λ h. c.switch_on.ensures.world h ∙ ap (λ us. switched_on us (world_in h mid) c.args.unit) of_mid.units) (ap (λ (m : Network). m.receivers) c.switch_on.ensures.rest))
+    (steps_same plan mid (Up c.args.unit) c.switch_on.new.self
+    (λ h. c.switch_on.ensures.world h ∙ ap (λ us. switched_on us (world_in h mid) c.args.unit) of_mid.units)
+    (ap (λ (m : Network). m.receivers) c.switch_on.ensures.rest))

@@ -1,4 +1,4 @@
-use Rattle.std.proofs.Common.{◌≡◌, ◌<◌, ap, sym, ◌∙◌, subst, arith, Result, Ok, Err, OnOk, OnErr}
+use Rattle.std.proofs.Common.{◌≡◌, ap, sym, ◌∙◌, subst, arith, Result, Ok, Err, OnOk, OnErr}
 use Rattle.j39_tp.specs.Receiver.{receives}
 use Rattle.j39_world.specs.Flows.{window_at}
 use Rattle.j39_bus.specs.inside.Receivers.{IsAnswering, answering, left_of}

@@ -1,4 +1,4 @@
-use Rattle.std.proofs.Common.{◌<◌, arith}
+use Rattle.std.proofs.Common.{arith}
 use Rattle.j39_bus.proofs.ReceiverRows.{in_u}
 use Rattle.j39_bus.proofs.receivers.Receivers.is_open.Goals as goal
 

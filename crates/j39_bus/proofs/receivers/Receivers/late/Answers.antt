@@ -1,9 +1,8 @@
-use Rattle.std.proofs.Common.{◌≡◌, ◌<◌, ap, sym, ◌∙◌, subst, arith}
+use Rattle.std.proofs.Common.{◌∙◌, arith}
 use Rattle.j39_tp.specs.Receiver.{gives_up, timed_out}
 use Rattle.j39_world.specs.Flows.{window_at}
-use Rattle.j39_bus.specs.BusState.{holding_at}
-use Rattle.j39_bus.specs.inside.Receivers.{answering, holding_of, left_of, receiver_at}
-use Rattle.j39_bus.proofs.ReceiverRows.{answers_here, holding_is, holdings_after, in_u, receivers_after, windows_are}
+use Rattle.j39_bus.specs.inside.Receivers.{answering, left_of}
+use Rattle.j39_bus.proofs.ReceiverRows.{answers_here, holding_is, holdings_after, in_u, receivers_after}
 use Rattle.j39_bus.proofs.receivers.Receivers.late.Goals as goal
 
 pub index_mut-slot-requires : goal.index_mut-slot-requires

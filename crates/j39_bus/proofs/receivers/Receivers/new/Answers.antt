@@ -1,4 +1,4 @@
-use Rattle.std.proofs.Common.{◌≡◌, ℕ, length, map, replicate, subst, ap, sym, ◌∙◌, arith}
+use Rattle.std.proofs.Common.{◌≡◌, length, map, replicate, ap, sym, ◌∙◌, arith}
 use Rattle.std.proofs.lemmas.List.{length-map}
 use Rattle.j39_bus.proofs.ReceiverRows.{closed_first, none_in, receivers_first, slots}
 use Rattle.j39_plan.specs.declared.plan.unit_plan.UnitPlan.{UnitPlan}

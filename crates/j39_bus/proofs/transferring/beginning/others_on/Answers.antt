@@ -1,4 +1,4 @@
-use Rattle.std.proofs.Common.{◌≡◌, ◌+◌, ◌<◌, ◌∷◌, [], ◌++◌, ℕ, suc, zero, List, Bool, true, false, cond, eqb, length, ap, refl, sym, ◌∙◌, subst, arith}
+use Rattle.std.proofs.Common.{◌≡◌, ◌+◌, ◌<◌, ◌∷◌, [], ◌++◌, ℕ, suc, List, Bool, true, false, cond, eqb, length, ap, refl, sym, ◌∙◌, arith}
 use Rattle.std.proofs.lemmas.Bool.{and_right, eq-eqb, ne_eqb}
 use Rattle.std.specs.List.{filter, range_with_len}
 use Rattle.j39_world.specs.World.{is_other_on}
@@ -7,7 +7,8 @@ use Rattle.j39_bus.proofs.WellFormed.{hears_as}
 use Rattle.j39_bus.proofs.Wires.{tested_more}
 use Rattle.j39_bus.proofs.Worlds.{append_nil}
 use Rattle.j39_bus.proofs.transferring.beginning.others_on.Goals as goal
-use Rattle.j39_bus.proofs.transferring.beginning.others_on.Goals.{then-place-unit+then-is_started+in_ok-push, else-place-unit, else-place-unit-via-then-place-unit+else-is_started, else-place-unit-via-else-place-unit}
+use Rattle.j39_bus.proofs.transferring.beginning.others_on.Goals.{then-place-unit+then-is_started+in_ok-push, else-place-unit}
+use Rattle.j39_bus.proofs.transferring.beginning.others_on.Goals.{else-place-unit-via-then-place-unit+else-is_started, else-place-unit-via-else-place-unit}
 
 pub loop-place-preserved : goal.loop-place-preserved
 loop-place-preserved c =
@@ -19,7 +20,8 @@ loop-place-preserved c =
     let next : suc k ≡ k + 1 = omega arith in
     let same : k ≡ 0 + k = omega arith in
     let more : filter test (range_with_len 0 k) ++ cond (test k) (k ∷ []) [] ≡ filter test (range_with_len 0 (k + 1)) =
-    ap (λ (j : ℕ). filter test (range_with_len 0 k) ++ cond (test j) (j ∷ []) []) same ∙ sym (tested_more test 0 k) ∙ ap (λ (j : ℕ). filter test (range_with_len 0 j)) next in
+    ap (λ (j : ℕ). filter test (range_with_len 0 k) ++ cond (test j) (j ∷ []) []) same ∙ sym (tested_more test 0 k)
+    ∙ ap (λ (j : ℕ). filter test (range_with_len 0 j)) next in
     elim c.if-place-unit.branch [
       | then-place-unit+then-is_started+in_ok-push w ↦
           let one : test k ≡ true = heard true false (sym w.is_started.ensures ∙ w.if-is_started.true) (ne_eqb k c.args.unit w.if-place-unit.true) in
@@ -29,7 +31,8 @@ loop-place-preserved c =
           let none : test k ≡ false = elim w.else-place-unit.branch [
             | else-place-unit-via-then-place-unit+else-is_started v ↦ heard false (eqb k c.args.unit) (sym v.is_started.ensures ∙ v.if-is_started.false) refl
             | else-place-unit-via-else-place-unit v ↦
-                heard c.index-claimers-place.result.state.on true refl (eq-eqb k c.args.unit v.if-place-unit.false) ∙ and_right c.index-claimers-place.result.state.on false refl
+                heard c.index-claimers-place.result.state.on true refl (eq-eqb k c.args.unit v.if-place-unit.false)
+                ∙ and_right c.index-claimers-place.result.state.on false refl
           ] in
           ap (λ v. v.items) w.targets-is ∙ c.loop-place.invariant ∙ sym (append_nil (filter test (range_with_len 0 k)))
           ∙ ap (λ b. filter test (range_with_len 0 k) ++ cond b (k ∷ []) []) (sym none) ∙ more
