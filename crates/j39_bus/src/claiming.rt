@@ -89,7 +89,8 @@ impl Network {
         ensures network { IsNetwork self.new }
         ensures plan { KeepsPlan self.old self.new }
         ensures rest { self.new ≡ record self.old { claimers = self.new.claimers; claims = self.new.claims; frames = self.new.frames } }
-        ensures world { (h : Histories) → GivenFrom (planned_units self.old.claimers.items) (world_in h self.old) from to (pair_in self.old.claims.lists from to)
+        ensures world { (h : Histories) → GivenFrom (planned_units self.old.claimers.items)
+            (world_in h self.old) from to (pair_in self.old.claims.lists from to)
             (world_in h self.new) }
     {
         let name = self.claimers[from].name();

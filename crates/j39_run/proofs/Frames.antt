@@ -79,7 +79,8 @@ pub lines_grow : (plan : Plan) (old new : BusState) (w after : World) (step : St
     → sent_lines old.frames ++ sent_lines (map sent_of (drop place now)) ≡ sent_lines new.frames
 lines_grow plan old new w after step before now place s leads s' had has at =
     let (more, is) = step_grows plan w step after leads in
-    let grown : new.frames ≡ old.frames ++ more = sym (ap (λ (v : World). v.frames) s'.world) ∙ is ∙ ap (λ (f : List Sent). f ++ more) (ap (λ (v : World). v.frames) s.world) in
+    let grown : new.frames ≡ old.frames ++ more = sym (ap (λ (v : World). v.frames) s'.world) ∙ is
+    ∙ ap (λ (f : List Sent). f ++ more) (ap (λ (v : World). v.frames) s.world) in
     let count : place ≡ length old.frames = at ∙ sym (length-map before sent_of) ∙ ap length had in
     let rest : map sent_of (drop place now) ≡ more =
     sym (drop-map sent_of place now) ∙ ap (drop place) (has ∙ grown) ∙ ap (λ (n : ℕ). drop n (old.frames ++ more)) count ∙ drop-append_seam old.frames more in
