@@ -1,9 +1,7 @@
-//! Conformance tests of units: plans, claims of addresses, and transfers of long messages.
+//! Conformance tests of units: claims of addresses, and transfers of long messages.
 #![tactic(auto)]
 
 #[cfg(test)]
 mod claims;
-#[cfg(test)]
-mod plans;
 #[cfg(test)]
 mod transfers;

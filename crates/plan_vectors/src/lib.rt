@@ -1,0 +1,5 @@
+//! Conformance tests of plans as they are read and checked.
+#![tactic(auto)]
+
+#[cfg(test)]
+mod plans;
