@@ -19,13 +19,7 @@ LINES = [line for line in text_of(LOG).splitlines() if not line.endswith(" R")]
 GUIDE = text_of(os.path.join(TOP, "docs", "GUIDE.md"))
 
 
-class Logs(InFolder):
-    def read(self, name):
-        """What `read` says of a log, its counts apart."""
-        status, answer = program.call(["read", PLAN, name])
-        self.assertEqual(status, 0)
-        return answer.splitlines()[:-1], answer.splitlines()[-1]
-
+class ShownLines(InFolder):
     def shown(self, line):
         """Runs a line that the guide shows."""
         self.assertIn(line, GUIDE.replace("\\|", "|"))
@@ -35,6 +29,14 @@ class Logs(InFolder):
         """Runs a line in the folder."""
         path = os.pathsep.join([os.path.dirname(sys.executable), os.environ["PATH"]])
         subprocess.run(["sh", "-c", line], cwd=self.folder, check=True, capture_output=True, env={**os.environ, "PATH": path})
+
+
+class Logs(ShownLines):
+    def read(self, name):
+        """What `read` says of a log, its counts apart."""
+        status, answer = program.call(["read", PLAN, name])
+        self.assertEqual(status, 0)
+        return answer.splitlines()[:-1], answer.splitlines()[-1]
 
     def reports(self):
         """What `read` says of the log itself."""
@@ -73,6 +75,43 @@ class Logs(InFolder):
             self.shell(convert.replace("drive.blf", f"drive.{ending}"))
             self.shell(mend)
             self.assertEqual(self.read(self.path("drive.log")), self.reports(), ending)
+
+
+class Shown(ShownLines):
+    """Lines of the guide that call the program where it lies, on logs of the folder."""
+
+    def setUp(self):
+        super().setUp()
+        self.write("plan.toml", text_of(PLAN))
+        os.symlink(os.path.abspath(program.path()), self.path("j39plan"))
+        os.mkdir(self.path("logs"))
+        for drive in ("first", "second"):
+            self.write(f"logs/{drive}.log", text_of(LOG))
+        self.answer = program.call(["read", PLAN, LOG])[1]
+
+    def stand_in(self, name, script):
+        """A program of the folder, to be found before others."""
+        os.chmod(self.write(name, f"#!/bin/sh\n{script}\n"), 0o755)
+
+    def answers(self, line, ending):
+        """Runs a line that reads all logs, each into a file of its own."""
+        self.shown(line)
+        for drive in ("first", "second"):
+            self.assertEqual(text_of(self.path(f"logs/{drive}{ending}")), self.answer)
+
+    def test_many_logs_by_xargs(self):
+        self.answers("ls logs/*.log | xargs -P 4 -I LOG sh -c './j39plan read plan.toml LOG > LOG.txt'", ".log.txt")
+
+    @unittest.skipUnless(shutil.which("parallel"), "parallel isn't there: apt-get install parallel")
+    def test_many_logs_by_parallel(self):
+        self.answers("parallel ./j39plan read plan.toml {} '>' {.}.txt ::: logs/*.log", ".txt")
+
+    def test_a_running_bus(self):
+        line = "candump -L can0 | ./j39plan read plan.toml /dev/stdin"
+        self.assertIn(line, GUIDE)
+        self.stand_in("candump", f'[ "$*" = "-L can0" ] && cat "{LOG}"')
+        self.shell(f"PATH=.:$PATH; {line} > live.txt")
+        self.assertEqual(text_of(self.path("live.txt")), self.answer)
 
 
 if __name__ == "__main__":
