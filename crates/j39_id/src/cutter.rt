@@ -165,6 +165,7 @@ impl Cutter {
     /// Reads on in a piece of the stream as `feed` does, to the first answer that is not More: or it answers More behind a
     /// part of the piece, which is not empty unless the piece is. A line that lies whole in the piece is given as it lies
     /// there, without a copy.
+    #[inline(always)]
     pub fn advance<'p>(&mut self, piece: &'p [u8]) -> Advance<'p>
         ensures within { result.used ≤ length piece.now }
         ensures some { 0 < length piece.now → 0 < result.used }

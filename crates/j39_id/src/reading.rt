@@ -81,6 +81,7 @@ fn is_short(digits: &[u8]) -> bool
 }
 
 // The frame that a word spells.
+#[inline(always)]
 fn read_word(word: &[u8]) -> Result<Frame, LineError>
     ensures found { IfOk result (λ f. WordSpells word.now (bits f.ident) f.payload.items) }
     ensures refused { IfErr result (λ e. IsFirstFault word.now e) }
@@ -109,6 +110,7 @@ fn read_word(word: &[u8]) -> Result<Frame, LineError>
 /// byte, in either case. Words are parted by spaces, tabs and carriage returns, and those before the last may be any bytes.
 ///
 /// A line that spells no frame is refused with the first `LineError` that holds.
+#[inline(always)]
 pub fn read_frame(line: &[u8]) -> Result<Frame, LineError>
     ensures found { IfOk result (λ f. Spells line.now f) }
     ensures refused { IfErr result (λ e. HasLineFault line.now e) }

@@ -25,6 +25,7 @@ impl Model for TextBuffer {
 }
 
 // Two capital digits for each of at most eight bytes.
+#[inline(always)]
 fn digits_of(bytes: &[u8]) -> ArrayVec<u8, 16>
     requires { length bytes.now ≤ 8 }
     ensures { result.items ≡ encode_upper bytes.now }
@@ -87,6 +88,7 @@ impl TextBuffer {
 
     /// Adds a word and the decimal digits of a number.
     #[tactic(auto, unfolding(crate::specs::Texts::field_text))]
+    #[inline]
     pub fn field<I: Integer>(&mut self, word: &str, number: I) -> Result<(), AllocError>
         ensures { OnOk result (self.new ≡ self.old ++ field_text word.now (I.text number)) }
     {
@@ -102,6 +104,7 @@ impl TextBuffer {
     }
 
     /// Adds two capital digits for each byte.
+    #[inline(always)]
     pub fn hex(&mut self, bytes: &[u8]) -> Result<(), AllocError>
         ensures { OnOk result (self.new ≡ self.old ++ encode_upper bytes.now) }
     {

@@ -9,6 +9,7 @@ use std::alloc::AllocError;
 
 /// Writes where a frame goes to: to all, or to an address.
 #[tactic(auto, using(crate::proofs::Destinations::pdu2_kept), unfolding(crate::specs::FrameText::destination_text))]
+#[inline(always)]
 pub fn write_destination(text: &mut TextBuffer, ident: Ident) -> Result<(), AllocError>
     ensures { OnOk result (text.new ≡ text.old ++ destination_text ident) }
 {
