@@ -18,7 +18,7 @@ use crate::sessions;
 use crate::wire::oldest;
 use j39_tp::{Heard, Packet, Reaction, known_ranges, receivers_gather_what_they_hear};
 use j39_world::Wired;
-use std::alloc::AllocError;
+use std::alloc::{AllocError, Global};
 
 /// The longest message.
 const MESSAGE_LENGTH: usize = 1785;
@@ -44,6 +44,16 @@ fn answer_of(reaction: &Reaction) -> Option<Packet>
     match reaction {
         Reaction::Reply(packet) => Some(*packet),
         _ => None,
+    }
+}
+
+/// The same bytes in as much memory as they need, if there is so much.
+fn fitted(alloc: Global, bytes: Vec<u8>) -> Vec<u8>
+    ensures { result.items ≡ bytes.items }
+{
+    match Vec::from_slice(alloc, bytes.as_slice()) {
+        Ok(copy) => copy,
+        Err(_) => bytes,
     }
 }
 
@@ -140,7 +150,8 @@ impl Network {
     {
         let (heard, reaction) = self.listen(from, to, packet, &mut bytes)?;
         if is_complete(&heard) {
-            self.report(from, to, bytes);
+            let message = fitted(*self.frames.allocator(), bytes);
+            self.report(from, to, message);
         }
         self.reply(to, from, reply_of(&heard));
         self.reply(to, from, answer_of(&reaction));
