@@ -42,7 +42,15 @@ runs-append plan w (s ∷ done) mid more after (next, may, goes, ran) runs = (ne
 
 pub nothing_done : (plan : Plan) (b : BusState) → Stands b plan first → HasDone plan b [] 0 [] []
 unfolding sent_lines
-nothing_done plan b s = record { orders = []; read = refl; count = refl; world = first; ran = refl; stands = s; shown = ap sent_lines s.frames }
+nothing_done plan b s = record {
+  orders = [];
+  read = refl;
+  count = refl;
+  world = first;
+  ran = refl;
+  stands = s;
+  shown = ap (λ (v : World). sent_lines v.frames) s.world;
+}
 
 -- one more line
 one_more : (plan : Plan) (old new : BusState) (ls : List Line) (l : Line) (order : Option Step) (place : ℕ) (written text more : List ℕ) (after : World)
@@ -126,7 +134,7 @@ module _ (plan : Plan) (b : BusState) (ls : List Line) (place : ℕ) (written te
   written_so : (halt : Halt) → written ++ (text ++ closing_text plan view halt) ≡ end_text plan view halt
   unfolding end_text
   written_so halt =
-      let frames : b.frames ≡ view.frames = sym h.stands.frames ∙ sym (shows h.world h.stands).frames in
+      let frames : b.frames ≡ view.frames = sym (ap (λ (v : World). v.frames) h.stands.world) ∙ sym (shows h.world h.stands).frames in
       sym (append_assoc written text (closing_text plan view halt)) ∙ ap (λ (t : List ℕ). t ++ closing_text plan view halt) (h.shown ∙ ap sent_lines frames)
 
   text_at : (input : List ℕ) (halt : Halt) → EndsAt plan (readings_of plan input) h.world halt
