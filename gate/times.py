@@ -1,6 +1,6 @@
 #!/usr/bin/env python3
 """Times the gate part by part while it runs: each crate's proof, its tests, and its edits that must fail. What counts is the
-processor time of a part, which other parts and other work on the machine hardly change.
+processor time of a part, which other work on the machine lengthens less than its time by the clock.
 
 usage: times.py ci      does what rt ci does, and notes the time of each check in gate/times.tsv
        times.py table   prints the tables of docs/GATE.md
