@@ -26,8 +26,8 @@ import crates
 PROGRAM = "j39plan"
 ROOM = "j39plan-build-"
 MISSING, FAILED = 69, 70
-# The most processors that a check of one crate makes use of.
-CRATE_JOBS = 4
+# The most processors that a check of one crate makes use of, and what one gets that isn't waited for most.
+CRATE_JOBS, OTHER_JOBS = 4, 2
 # What a check takes for each processor, about, and the whole build, as docs/GATE.md says.
 JOB_BYTES = 2_000_000_000
 NEEDS = "about 25 minutes on four idle processors and 50 on one, 2 GB of memory for each processor, 4 GB of disk"
@@ -235,9 +235,9 @@ class Build:
         left.sort(key=behind.get, reverse=True)
         while (left or running) and not failed:
             for name in [it for it in left if done.issuperset(named[it])]:
-                jobs = min(CRATE_JOBS, self.lanes, self.places - sum(jobs for _, jobs in running.values()))
+                most, nice = (CRATE_JOBS, 0) if name == left[0] else (OTHER_JOBS, 10)
+                jobs = min(most, self.lanes, self.places - sum(jobs for _, jobs in running.values()))
                 if jobs > 0:
-                    nice = 0 if name == left[0] else 10
                     left.remove(name)
                     running[pool.submit(self.build, name, jobs, nice)] = name, jobs
             for it in wait(running, return_when=FIRST_COMPLETED).done:
