@@ -26,8 +26,10 @@ import crates
 PROGRAM = "j39plan"
 ROOM = "j39plan-build-"
 MISSING, FAILED = 69, 70
-# The most processors that a check of one crate makes use of, and what one gets that isn't waited for most.
+# The most processors that a check of one crate makes use of, and what one gets that is waited for less.
 CRATE_JOBS, OTHER_JOBS = 4, 2
+# Up to which niceness a crate is waited for most.
+NEARLY = 4
 # What a check takes for each processor, about, and the whole build, as docs/GATE.md says.
 JOB_BYTES = 2_000_000_000
 NEEDS = "about 20 minutes on four idle processors and 55 on one, 2 GB of memory for each processor, 4 GB of disk"
@@ -148,7 +150,7 @@ class Build:
     def __init__(self, lanes):
         self.lanes = lanes
         # a check begins and ends on one processor, so some more are started where memory allows
-        self.places = lanes if lanes == 1 else max(lanes, min(2 * lanes, (free_memory() or 0) // JOB_BYTES))
+        self.places = lanes if lanes == 1 else max(lanes, min(3 * lanes, (free_memory() or 0) // JOB_BYTES))
         self.start = time.monotonic()
         self.running = {}
         self.lock = threading.Lock()
@@ -162,7 +164,8 @@ class Build:
         words += ["run", "--jobs", str(jobs), "--", "--version"] if crates.is_program(name) else ["lib", "--jobs", str(jobs)]
         try:
             with open(f"{self.logs}/{name}", "wb") as log:
-                how = {"stdin": subprocess.DEVNULL, "stdout": log, "stderr": log, "start_new_session": True}
+                # a group of its own, so that it can be stopped with what it starts; in a session of its own nice would mean little
+                how = {"stdin": subprocess.DEVNULL, "stdout": log, "stderr": log, "preexec_fn": os.setpgrp}
                 with self.lock:
                     if self.stopped.is_set():
                         return False
@@ -230,12 +233,14 @@ class Build:
 
     def build_all(self, pool, named, left, done, failed):
         """Builds the crates that are left, each once those below it are done, until one has failed. Those with the longest chain of
-        others above them come first; one that others wait for more than for any that is left takes the processors before the rest."""
+        others above them come first; the shorter that chain is than the longest of what isn't built, the lower their priority."""
         behind, running = crates.behind({it: named[it] for it in left}), {}
         left.sort(key=behind.get, reverse=True)
         while (left or running) and not failed:
+            longest = max(behind[it] for it in [*left, *(name for name, _ in running.values())])
             for name in [it for it in left if done.issuperset(named[it])]:
-                most, nice = (CRATE_JOBS, 0) if name == left[0] else (OTHER_JOBS, 10)
+                nice = int(20 * (1 - behind[name] / longest))
+                most = CRATE_JOBS if nice < NEARLY else OTHER_JOBS
                 jobs = min(most, self.lanes, self.places - sum(jobs for _, jobs in running.values()))
                 if jobs > 0:
                     left.remove(name)

@@ -3,6 +3,8 @@
 import os
 
 TOP = os.path.dirname(os.path.dirname(os.path.realpath(__file__)))
+# What a crate costs beside its sources, in bytes of these: reading what it stands on, and writing what others read of it.
+CRATE_BYTES = 100_000
 
 
 def listed():
@@ -38,11 +40,11 @@ def sources(name):
 
 
 def behind(named):
-    """Returns how many bytes of sources a crate and the longest chain of crates above it have, by the crate's name."""
+    """Returns what a crate and the longest chain of crates above it cost, in bytes of sources, by the crate's name."""
     found = {}
     for name in reversed(sorted(named, key=lambda it: len(needed(it, named)))):
         above = [found[it] for it, libraries in named.items() if name in libraries]
-        found[name] = sum(map(os.path.getsize, sources(name))) + max(above, default=0)
+        found[name] = CRATE_BYTES + sum(map(os.path.getsize, sources(name))) + max(above, default=0)
     return found
 
 
