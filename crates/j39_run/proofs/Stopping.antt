@@ -8,9 +8,8 @@ use Rattle.j39_id.specs.Lines.{Line, lines}
 use Rattle.j39_plan.specs.declared.plan.Plan.{Plan}
 use Rattle.j39_plan.specs.declared.steps.Step.{Step}
 use Rattle.j39_world.specs.declared.step_error.StepError.{StepError}
-use Rattle.j39_world.specs.declared.step_error.StepError.TheVariants.{Memory as NoMemory}
 use Rattle.j39_bus.specs.BusState.{BusState}
-use Rattle.j39_world.specs.Run.{cause_of, refusal}
+use Rattle.j39_world.specs.Run.{refusal}
 use Rattle.j39_bus.specs.Stands.{Stands}
 use Rattle.j39_world.specs.World.{World}
 use Rattle.j39_schedule.specs.Schedule.{line_order, read_as}
@@ -47,10 +46,6 @@ by_fault (Err TooLong) A memory device fits = absurd (fits refl)
 pub on_error : {X E : Type 0} (r : Result X E) (A : Type 0) → A → OnErr r A
 on_error (Ok x) A a = tt
 on_error (Err e) A a = a
-
-pub cause_named : (e : StepError) → e ≢ NoMemory → cause_of e ≡ Some e
-cause_named NoMemory other = absurd (other refl)
-cause_named e other = refl
 
 -- ---- counts
 

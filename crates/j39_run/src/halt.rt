@@ -7,7 +7,7 @@ use j39_schedule::LineFault;
 use j39_stream::Verdict;
 
 /// Where a run of a schedule ends. Lines are named by their places from 0.
-#[derive(Clone, Copy, Debug, PartialEq, Eq)]
+#[derive(Clone, Copy)]
 pub enum Halt {
     /// After the last line.
     End,

@@ -23,7 +23,6 @@ use j39_text::{TextBuffer, put_text};
 use std::alloc::{AllocError, Global};
 
 // Where a run ends at this line, whose step was not done. A step for which memory was wanted ends no run.
-#[tactic(auto, using(crate::proofs::Stopping::cause_named))]
 fn refused_at(place: usize, error: StepError) -> Result<Halt, AllocError>
     ensures halt { IfOk result (λ halt. halt ≡ Halt.Step place error) }
     ensures cause { OnOk result (cause_of error ≡ Some error) }

@@ -7,7 +7,7 @@ use j39_bus::Bus;
 use j39_id::Address;
 
 /// What a unit is.
-#[derive(Clone, Copy, Debug, PartialEq, Eq)]
+#[derive(Clone, Copy)]
 pub enum UnitState {
     /// It is off.
     Off,
