@@ -6,7 +6,7 @@ ghost use Rattle.j39_schedule.specs.Schedule.{order_named};
 ghost use Rattle.j39_schedule.specs.inside.OrderWords.{order_word, word_text};
 
 /// A word that an order begins with.
-#[derive(Clone, Copy, Debug, PartialEq, Eq)]
+#[derive(Clone, Copy)]
 pub enum OrderWord {
     Up,
     Down,
