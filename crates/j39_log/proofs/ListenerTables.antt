@@ -1,9 +1,8 @@
 -- The listeners of a table of which one slot is written.
-use Rattle.std.proofs.Common.{◌≡◌, ◌≢◌, ℕ, zero, suc, ◌<◌, List, [], ◌∷◌, length, Option, Some, None, refl, arith}
-use Rattle.std.specs.Prelude.{Box, slice_set}
+use Rattle.std.proofs.Common.{◌≡◌, ◌≢◌, ℕ, zero, suc, ◌<◌, List, [], ◌∷◌, length, Some, None, refl, arith}
+use Rattle.std.specs.Prelude.{slice_set}
 use Rattle.std.specs.List.{slice_get}
-use Rattle.j39_tp.specs.Receiver.{Receiving}
-use Rattle.j39_log.specs.inside.Listening.{HasListener}
+use Rattle.j39_log.specs.inside.Listening.{HasListener, Slot}
 
 get_set_same : {A : Type 0} (xs : List A) (i : ℕ) (y : A) → i < length xs → slice_get (slice_set xs i y) i ≡ Some y
 get_set_same [] i y less = absurd (omega arith)
@@ -11,7 +10,6 @@ get_set_same (x ∷ xs) zero y less = refl
 get_set_same (x ∷ xs) (suc i) y less = get_set_same xs i y (omega arith)
 
 -- a slot that isn't empty has a listener
-pub has_set : {Z : Type 0} (table : List (Option (Box Receiving Z))) (k : ℕ) (slot : Option (Box Receiving Z)) → k < length table → slot ≢ None
-    → HasListener (slice_set table k slot) k
-has_set table k None less some = absurd (some refl)
-has_set table k (Some b) less some = (b, get_set_same table k (Some b) less)
+pub has_set : (slots : List Slot) (d : ℕ) (slot : Slot) → d < length slots → slot ≢ None → HasListener (slice_set slots d slot) d
+has_set slots d None less some = absurd (some refl)
+has_set slots d (Some b) less some = (b, get_set_same slots d (Some b) less)

@@ -1,31 +1,23 @@
 //! A listener for each pair of addresses.
-ghost use Rattle.std.specs.Prelude.{◌≡◌, ◌≢◌, ◌<◌, ◌==◌, ◌||◌, ℕ, [], IsTrue, true, vec_len, None, All, OnOk, IfOk, IfSome, IfNone, if◌then◌else◌};
+ghost use Rattle.std.specs.Prelude.{◌≡◌, ◌≢◌, ◌<◌, ℕ, [], true, false, vec_len, None, OnOk, IfOk, IfSome, IfNone, if◌then◌else◌};
 ghost use Rattle.j39_tp.specs.Receiver.{fresh, receives};
 ghost use Rattle.j39_tp.specs.declared.receiving.manner.Manner.TheVariants.{Listening};
-ghost use Rattle.j39_log.specs.inside.Listening.{HasListener, completes, is_announcement as announces, listener_at, listener_in, slot_of as pair_slot};
+ghost use Rattle.j39_log.specs.inside.Listening.{HasListener, completes, is_announcement as announces, is_pair, listener_at, listener_in};
+ghost use Rattle.j39_log.specs.inside.Listening.{listener_of_pair, slots_at};
 ghost use Rattle.j39_log.specs.LogPairs.{is_abort as aborts, is_heard_by};
 
 use j39_id::Ident;
 use j39_tp::{Heard, Packet, Receiver};
 use std::alloc::{AllocError, Global};
 
-// How many pairs of addresses there are.
-const PAIRS: usize = 65_536;
+// A place for the listener of one source to each destination, up to the greatest that was announced to.
+type Row = Vec<Option<Box<Receiver>>>;
 
-/// A listener for each pair of addresses that had an announcement. There is no table before the first one.
+/// A listener for each pair of addresses that had an announcement: a row for each source, up to the greatest that announced.
 #[derive(Drop)]
 pub(crate) struct Listeners {
     alloc: Global,
-    table: Vec<Option<Box<Receiver>>>,
-    ghost size: { IsTrue (vec_len table == 0 || vec_len table == 65536) },
-}
-
-// Where the listener of a pair stands.
-fn slot_of(source: u8, destination: u8) -> usize
-    ensures value { result ≡ pair_slot source destination }
-    ensures range { result < 65536 }
-{
-    256 * usize::from(source) + usize::from(destination)
+    rows: Vec<Row>,
 }
 
 // Whether a packet opens a session.
@@ -47,15 +39,26 @@ fn is_abort(packet: &Packet) -> bool
     }
 }
 
-fn empty_table(alloc: Global) -> Result<Vec<Option<Box<Receiver>>>, AllocError>
-    ensures count { IfOk result (λ table. vec_len table ≡ 65536) }
-    ensures empty { IfOk result (λ table. All (λ slot. slot ≡ None) table.items) }
+// Places up to this destination.
+fn lengthen(row: &mut Row, destination: usize) -> Result<(), AllocError>
+    ensures same { (d : ℕ) → listener_at row.new.items d ≡ listener_at row.old.items d }
+    ensures there { OnOk result (destination < vec_len row.new) }
 {
-    let mut table = Vec::with_capacity(alloc, PAIRS)?;
-    for _ in 0..PAIRS {
-        table.push(None)?;
+    while row.len() <= destination {
+        row.push(None)?;
     }
-    Ok(table)
+    Ok(())
+}
+
+// Rows up to this source.
+fn add_rows(alloc: Global, rows: &mut Vec<Row>, source: usize) -> Result<(), AllocError>
+    ensures same { (s : ℕ) → slots_at rows.new.items s ≡ slots_at rows.old.items s }
+    ensures there { OnOk result (source < vec_len rows.new) }
+{
+    while rows.len() <= source {
+        rows.push(Vec::new(alloc))?;
+    }
+    Ok(())
 }
 
 // A listener in the slot, if there is none.
@@ -87,70 +90,85 @@ fn hear_in(slot: &mut Option<Box<Receiver>>, packet: &Packet) -> bool
     }
 }
 
+// A listener at a place of a row, if there is none.
+fn open_in(alloc: Global, row: &mut Row, destination: usize) -> Result<(), AllocError>
+    ensures same { (d : ℕ) → listener_at row.new.items d ≡ listener_at row.old.items d }
+    ensures open { OnOk result (HasListener row.new.items destination) }
+{
+    lengthen(row, destination)?;
+    fill(alloc, &mut row[destination])
+}
+
+// Whether the packet completes a message of the listener at a place of a row.
+fn hear_at(row: &mut Row, destination: usize, packet: &Packet) -> bool
+    requires { announces packet.now ≡ true → HasListener row.old.items destination }
+    ensures heard { listener_at row.new.items destination ≡ receives (listener_at row.old.items destination) packet.now }
+    ensures others { (d : ℕ) → d ≢ destination → listener_at row.new.items d ≡ listener_at row.old.items d }
+    ensures told { result ≡ completes (listener_at row.old.items destination) packet.now }
+{
+    if row.len() <= destination {
+        return false;
+    }
+    hear_in(&mut row[destination], packet)
+}
+
 impl Listeners {
     pub fn new(alloc: Global) -> Self
-        ensures { result.table.items ≡ [] }
+        ensures { result.rows.items ≡ [] }
     {
         Listeners {
             alloc,
-            table: Vec::new(alloc),
+            rows: Vec::new(alloc),
         }
     }
 
-    // A table, if there is none.
-    fn open_table(&mut self) -> Result<(), AllocError>
-        ensures same { (k : ℕ) → listener_at self.new.table.items k ≡ listener_at self.old.table.items k }
-        ensures open { OnOk result (vec_len self.new.table ≡ 65536) }
+    // A listener of the pair, if there is none.
+    fn open(&mut self, source: usize, destination: usize) -> Result<(), AllocError>
+        ensures same { (s d : ℕ) → listener_of_pair self.new.rows.items s d ≡ listener_of_pair self.old.rows.items s d }
+        ensures open { OnOk result (HasListener (slots_at self.new.rows.items source) destination) }
     {
-        if self.table.is_empty() {
-            self.table = empty_table(self.alloc)?;
-        }
-        Ok(())
+        add_rows(self.alloc, &mut self.rows, source)?;
+        open_in(self.alloc, &mut self.rows[source], destination)
     }
 
-    // A listener at the place, if there is none.
-    fn open(&mut self, place: usize) -> Result<(), AllocError>
-        requires { place < 65536 }
-        ensures same { (k : ℕ) → listener_at self.new.table.items k ≡ listener_at self.old.table.items k }
-        ensures open { OnOk result (HasListener self.new.table.items place) }
+    // Whether the packet completes a message of the pair, which has a listener where the packet opens a session.
+    fn hear_by(&mut self, source: usize, destination: usize, packet: &Packet) -> bool
+        requires { announces packet.now ≡ true → HasListener (slots_at self.old.rows.items source) destination }
+        ensures heard { listener_of_pair self.new.rows.items source destination
+            ≡ receives (listener_of_pair self.old.rows.items source destination) packet.now }
+        ensures others { (s d : ℕ) → is_pair source destination s d ≡ false
+            → listener_of_pair self.new.rows.items s d ≡ listener_of_pair self.old.rows.items s d }
+        ensures told { result ≡ completes (listener_of_pair self.old.rows.items source destination) packet.now }
     {
-        self.open_table()?;
-        fill(self.alloc, &mut self.table[place])
-    }
-
-    // Whether the packet completes a message of the listener at the place.
-    fn hear_at(&mut self, place: usize, packet: &Packet) -> bool
-        requires { announces packet.now ≡ true → HasListener self.old.table.items place }
-        ensures heard { listener_at self.new.table.items place ≡ receives (listener_at self.old.table.items place) packet.now }
-        ensures others { (k : ℕ) → k ≢ place → listener_at self.new.table.items k ≡ listener_at self.old.table.items k }
-        ensures told { result ≡ completes (listener_at self.old.table.items place) packet.now }
-    {
-        if self.table.len() <= place {
+        if self.rows.len() <= source {
             return false;
         }
-        hear_in(&mut self.table[place], packet)
+        hear_at(&mut self.rows[source], destination, packet)
     }
 
     /// Whether the packet completes a message of the pair that hears it.
     pub fn hear(&mut self, source: u8, destination: u8, packet: &Packet) -> Result<bool, AllocError>
-        ensures heard { OnOk result (listener_at self.new.table.items (pair_slot source destination)
-            ≡ receives (listener_at self.old.table.items (pair_slot source destination)) packet.now) }
-        ensures others { (k : ℕ) → k ≢ pair_slot source destination → listener_at self.new.table.items k ≡ listener_at self.old.table.items k }
-        ensures told { IfOk result (λ complete. complete ≡ completes (listener_at self.old.table.items (pair_slot source destination)) packet.now) }
+        ensures heard { OnOk result (listener_of_pair self.new.rows.items source destination
+            ≡ receives (listener_of_pair self.old.rows.items source destination) packet.now) }
+        ensures others { (s d : ℕ) → is_pair source destination s d ≡ false
+            → listener_of_pair self.new.rows.items s d ≡ listener_of_pair self.old.rows.items s d }
+        ensures told { IfOk result (λ complete. complete ≡ completes (listener_of_pair self.old.rows.items source destination) packet.now) }
     {
-        let place = slot_of(source, destination);
+        let source = usize::from(source);
+        let destination = usize::from(destination);
         if is_announcement(packet) {
-            self.open(place)?;
+            self.open(source, destination)?;
         }
-        Ok(self.hear_at(place, packet))
+        Ok(self.hear_by(source, destination, packet))
     }
 
     /// The listener of a pair.
     pub fn listener(&self, source: u8, destination: u8) -> Option<&Receiver>
-        ensures some { IfSome result (λ listener. listener.now ≡ listener_at self.now.table.items (pair_slot source destination)) }
-        ensures none { IfNone result (listener_at self.now.table.items (pair_slot source destination) ≡ fresh Listening) }
+        ensures some { IfSome result (λ listener. listener.now ≡ listener_of_pair self.now.rows.items source destination) }
+        ensures none { IfNone result (listener_of_pair self.now.rows.items source destination ≡ fresh Listening) }
     {
-        match self.table.get(slot_of(source, destination)) {
+        let row = self.rows.get(usize::from(source))?;
+        match row.get(usize::from(destination)) {
             Some(Some(listener)) => Some(listener),
             _ => None,
         }
@@ -164,11 +182,11 @@ pub(super) fn listen(
     packet: &Packet,
 ) -> Result<bool, AllocError>
     ensures heard { OnOk result ((source destination : ℕ) → source < 256 → destination < 256
-        → listener_at listeners.new.table.items (pair_slot source destination)
+        → listener_of_pair listeners.new.rows.items source destination
         ≡ (if is_heard_by source destination ident packet.now
-        then receives (listener_at listeners.old.table.items (pair_slot source destination)) packet.now
-        else listener_at listeners.old.table.items (pair_slot source destination))) }
-    ensures told { IfOk result (λ complete. complete ≡ completes (listener_at listeners.old.table.items (pair_slot ident.sa ident.ps)) packet.now) }
+        then receives (listener_of_pair listeners.old.rows.items source destination) packet.now
+        else listener_of_pair listeners.old.rows.items source destination)) }
+    ensures told { IfOk result (λ complete. complete ≡ completes (listener_of_pair listeners.old.rows.items ident.sa ident.ps) packet.now) }
 {
     if is_abort(packet) && ident.sa != ident.ps {
         listeners.hear(ident.ps, ident.sa, packet)?;

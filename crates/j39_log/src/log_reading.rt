@@ -3,7 +3,7 @@ ghost use Rattle.std.specs.Prelude.{◌≡◌, ◌+◌, ◌^◌, ◌<◌, ◌≤
 ghost use Rattle.j39_id.specs.Lines.{Short, tells};
 ghost use Rattle.j39_tp.specs.Packets.{InRange};
 ghost use Rattle.j39_tp.specs.declared.receiving.progress.Progress.TheVariants.{Complete};
-ghost use Rattle.j39_log.specs.inside.Listening.{AreAllInRange, HaveHeard, IsCatalogOf, IsInRange, listener_at, slot_of};
+ghost use Rattle.j39_log.specs.inside.Listening.{AreAllInRange, HaveHeard, IsCatalogOf, IsInRange, listener_of_pair};
 ghost use Rattle.j39_log.specs.inside.Recalling.{Recalls, counted};
 ghost use Rattle.j39_log.specs.LogFrames.{IsHeardAs, planned};
 ghost use Rattle.j39_log.specs.LogPairs.{Seen};
@@ -81,10 +81,10 @@ fn write_message(
     ident: Ident,
 ) -> Result<(), AllocError>
     requires catalog { IsCatalogOf plan.now catalog.now }
-    requires complete { (pgn : ℕ) × ((listener_at listeners.now.table.items (slot_of ident.sa ident.ps)).progress ≡ Complete pgn) }
+    requires complete { (pgn : ℕ) × ((listener_of_pair listeners.now.rows.items ident.sa ident.ps).progress ≡ Complete pgn) }
     ensures { OnOk result ((pgn : ℕ) × (message : List ℕ) × (piece : List ℕ)
-        × ((listener_at listeners.now.table.items (slot_of ident.sa ident.ps)).progress ≡ Complete pgn)
-        × ((listener_at listeners.now.table.items (slot_of ident.sa ident.ps)).bytes ≡ message)
+        × ((listener_of_pair listeners.now.rows.items ident.sa ident.ps).progress ≡ Complete pgn)
+        × ((listener_of_pair listeners.now.rows.items ident.sa ident.ps).bytes ≡ message)
         × IsGroupReport plan.now (planned plan.now pgn (length message)) ident message piece
         × (text.new ≡ text.old ++ piece)) }
 {
@@ -108,9 +108,9 @@ fn write_packet(
 ) -> Result<(), AllocError>
     requires catalog { IsCatalogOf plan.now catalog.now }
     requires range { InRange packet.now }
-    ensures heard { OnOk result ((seen : List Seen) → HaveHeard listeners.old.table.items seen
-        → HaveHeard listeners.new.table.items (seen ++ record { frame = frame.now; packet = Some packet.now } ∷ [])) }
-    ensures message { OnOk result ((seen : List Seen) → HaveHeard listeners.old.table.items seen → AreAllInRange seen
+    ensures heard { OnOk result ((seen : List Seen) → HaveHeard listeners.old.rows.items seen
+        → HaveHeard listeners.new.rows.items (seen ++ record { frame = frame.now; packet = Some packet.now } ∷ [])) }
+    ensures message { OnOk result ((seen : List Seen) → HaveHeard listeners.old.rows.items seen → AreAllInRange seen
         → (piece : List ℕ) × IsFrameReport plan.now seen frame.now (Some packet.now) piece × (text.new ≡ text.old ++ piece)) }
 {
     listener_completes_what_is_carried();
@@ -129,10 +129,10 @@ fn write_frame(
     frame: &Frame,
 ) -> Result<(), AllocError>
     requires { IsCatalogOf plan.now catalog.now }
-    ensures { OnOk result ((seen : List Seen) → HaveHeard listeners.old.table.items seen → AreAllInRange seen
+    ensures { OnOk result ((seen : List Seen) → HaveHeard listeners.old.rows.items seen → AreAllInRange seen
         → (packet : Option APacket) × (piece : List ℕ) × IsHeardAs plan.now frame.now packet × IsInRange packet
         × IsFrameReport plan.now seen frame.now packet piece
-        × HaveHeard listeners.new.table.items (seen ++ record { frame = frame.now; packet = packet } ∷ [])
+        × HaveHeard listeners.new.rows.items (seen ++ record { frame = frame.now; packet = packet } ∷ [])
         × (text.new ≡ text.old ++ piece)) }
 {
     let bytes = frame.payload.as_slice();

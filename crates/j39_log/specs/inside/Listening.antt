@@ -1,5 +1,7 @@
 -- What the reader of a log keeps, and what it stands for.
-use Rattle.std.specs.Prelude.{◌≡◌, ◌==◌, ◌&&◌, ◌+◌, ◌*◌, ◌<◌, Bool, true, false, ℕ, List, length, map, All, Box, Option, Some, None}
+use Rattle.std.specs.Prelude.{◌≡◌, ◌==◌, ◌&&◌, ◌<◌, Bool, true, false, ℕ, List, [], length, map, All, Box, Option, Some, None}
+use Rattle.std.specs.declared.alloc.Global.{Global}
+use Rattle.std.specs.declared.vec.Vec.{Vec}
 use Rattle.std.specs.HashMap.{HashMap, get}
 use Rattle.std.specs.List.{position, slice_get}
 use Rattle.j39_plan.specs.declared.plan.Plan.{Plan}
@@ -58,35 +60,54 @@ is_complete _ = false
 abbrev pub completes : Receiving → Packet → Bool
 completes s p = is_complete (hears s.manner s.progress p).1
 
--- the listener in a slot of the table: in an empty one, a listener that opened nothing
-abbrev pub listener_in : {Z : Type 0} → Option (Box Receiving Z) → Receiving
+-- a place for the listener of a pair, and the places of one source
+abbrev pub Slot : Type 0
+Slot = Option (Box Receiving Global)
+
+abbrev pub Row : Type 0
+Row = Vec Slot Global
+
+-- the listener in a slot: in an empty one, a listener that opened nothing
+abbrev pub listener_in : Slot → Receiving
 listener_in None = fresh Listening
 listener_in (Some b) = b.value
 
-abbrev pub listener_of : {Z : Type 0} → Option (Option (Box Receiving Z)) → Receiving
+abbrev pub listener_of : Option Slot → Receiving
 listener_of None = fresh Listening
 listener_of (Some slot) = listener_in slot
 
-abbrev pub listener_at : {Z : Type 0} → List (Option (Box Receiving Z)) → ℕ → Receiving
-listener_at table k = listener_of (slice_get table k)
+abbrev pub listener_at : List Slot → ℕ → Receiving
+listener_at slots destination = listener_of (slice_get slots destination)
 
--- there is a listener at this place of the table
-abbrev pub HasListener : {Z : Type 0} → List (Option (Box Receiving Z)) → ℕ → Type 0
-HasListener {Z} table k = (b : Box Receiving Z) × (slice_get table k ≡ Some (Some b))
+abbrev pub slots_of : Option Row → List Slot
+slots_of None = []
+slots_of (Some row) = row.items
 
--- where the listener of a pair stands
-abbrev pub slot_of : ℕ → ℕ → ℕ
-slot_of source destination = 256 * source + destination
+-- the places of a source: none behind the last row
+abbrev pub slots_at : List Row → ℕ → List Slot
+slots_at rows source = slots_of (slice_get rows source)
+
+-- the listener of a pair
+abbrev pub listener_of_pair : List Row → ℕ → ℕ → Receiving
+listener_of_pair rows source destination = listener_at (slots_at rows source) destination
+
+-- there is a listener at this place
+abbrev pub HasListener : List Slot → ℕ → Type 0
+HasListener slots destination = (b : Box Receiving Global) × (slice_get slots destination ≡ Some (Some b))
+
+-- these are the two addresses of the pair
+abbrev pub is_pair : ℕ → ℕ → ℕ → ℕ → Bool
+is_pair source destination s d = source == s && destination == d
 
 -- a listener that heard all of these packets
 abbrev pub after_all : List Packet → Receiving
 after_all h = listened h (length h)
 
 -- each listener heard what its pair heard
-abbrev pub HaveHeard : {Z : Type 0} → List (Option (Box Receiving Z)) → List Seen → Type 0
-HaveHeard table seen =
+abbrev pub HaveHeard : List Row → List Seen → Type 0
+HaveHeard rows seen =
     (source destination : ℕ) → source < 256 → destination < 256
-    → listener_at table (slot_of source destination) ≡ after_all (heard source destination seen)
+    → listener_of_pair rows source destination ≡ after_all (heard source destination seen)
 
 -- the parts of all packets are in their ranges
 abbrev pub AreAllInRange : List Seen → Type 0

@@ -8,7 +8,7 @@ use Rattle.j39_log.specs.declared.log_reading.Reading.{Reading}
 
 -- what was read so far is this
 pub record Recalls (reading : Reading) (past : Past) : Type 0 where
-  pub heard_all : HaveHeard reading.listeners.table.items past.seen
+  pub heard_all : HaveHeard reading.listeners.rows.items past.seen
   pub ranges : AreAllInRange past.seen
   pub frames_are : reading.frames ≡ length past.seen
   pub skipped_are : reading.skipped ≡ past.skipped

@@ -23,7 +23,7 @@ returns-in-Some c =
       inl (λ none. cc (none, planned)),
       tt,
       subst (λ (place : Option ℕ). IsGroupReport plan place f.ident f.payload.items written.0) (sym planned) (rw c.as_slice-bytes.ensures.value at written.1),
-      unheard c.args.listeners.now.table.items seen f have,
+      unheard c.args.listeners.now.rows.items seen f have,
       written.2,
     ))
     c.write_group.ensures
@@ -59,6 +59,6 @@ returns-in-None c = λ seen have ranges.
       inr c.in-None.ensures.none,
       tt,
       subst (λ (place : Option ℕ). IsGroupReport plan place f.ident f.payload.items []) (sym (sym group ∙ c.in_default.is)) refl,
-      unheard c.args.listeners.now.table.items seen f have,
+      unheard c.args.listeners.now.rows.items seen f have,
       sym (append-nil c.args.text.now),
     )

@@ -4,7 +4,7 @@ use Rattle.j39_log.proofs.log_reading.Reading.new.Goals as goal
 
 pub returns-clause-past : goal.returns-clause-past
 returns-clause-past c = record {
-  heard_all = nothing_heard c.new-2.result.table.items c.new-2.ensures;
+  heard_all = nothing_heard c.new-2.result.rows.items c.new-2.ensures;
   ranges = λ k d less. absurd (omega arith);
   frames_are = refl;
   skipped_are = refl;
