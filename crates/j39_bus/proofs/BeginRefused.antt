@@ -1,20 +1,19 @@
 -- Why a message is not begun.
-use Rattle.std.proofs.Common.{◌≡◌, ℕ, zero, suc, ◌<◌, ◌≤◌, inl, inr, Bool, true, false, not, ◌==◌, List, [], ◌∷◌, length, map, get_or, refl, sym, ap, ◌∙◌}
+use Rattle.std.proofs.Common.{◌≡◌, ℕ, zero, suc, ◌<◌, ◌≤◌, inl, inr, Bool, true, false, not, ◌==◌, List, [], ◌∷◌, length, get_or, refl, sym, ap, ◌∙◌}
 use Rattle.std.proofs.Common.{subst, arith, Option, Some, None, is_some}
-use Rattle.std.proofs.lemmas.List.{get_or-map, length-map}
 use Rattle.std.proofs.lemmas.Bool.{cases_Bool, eqb-true, true≢false}
 use Rattle.std.specs.List.{list_all, range_with_len, slice_get}
 use Rattle.j39_claim.specs.declared.item.Item.{Item}
 use Rattle.j39_queues.specs.Queued.{IsTable, pair_in}
 use Rattle.j39_bus.specs.declared.network.Network.{Network}
-use Rattle.j39_bus.specs.declared.route.Route.{Route}
 use Rattle.j39_world.specs.declared.step_error.StepError.TheVariants.{NoSuchFlow, NotStarted, NotSettled, NoAddress, Busy, WrongLength}
 use Rattle.j39_bus.specs.BusState.{Histories}
-use Rattle.j39_world.specs.Flows.{Flow, flows_of, can_be_sent}
+use Rattle.j39_world.specs.Flows.{flows_of, can_be_sent}
+use Rattle.j39_world.specs.declared.flow.Flow.{Flow}
 use Rattle.j39_plan.specs.declared.plan.Plan.{Plan}
 use Rattle.j39_bus.specs.inside.Network.{IsNetwork, IsOfPlan, world_in}
 use Rattle.j39_world.specs.Run.{at_ends, begin_refusal, has_address, is_nothing_undelivered, is_on, refuse_unless}
-use Rattle.j39_bus.specs.inside.Traffic.{IsRoute, route_of}
+use Rattle.j39_bus.specs.inside.Traffic.{IsFlow}
 use Rattle.j39_world.specs.World.{World}
 use Rattle.j39_bus.proofs.Opened.{got}
 use Rattle.j39_bus.proofs.Outside.{each_list}
@@ -32,28 +31,22 @@ begin_parts true true false d e f is = absurd (cc is)
 begin_parts true false c d e f is = absurd (cc is)
 begin_parts false b c d e f is = absurd (cc is)
 
-module _ (net : Network) (f : ℕ) (r : Route) (inside : f < length net.routes.items) (at : r ≡ get_or net.routes.items f r) where
-  pub flow_is : slice_get (map route_of net.routes.items) f ≡ Some (route_of r)
-  flow_is = got (map route_of net.routes.items) f (route_of r) (omega (arith, inside, length-map net.routes.items route_of))
-      (ap route_of at ∙ sym (get_or-map route_of net.routes.items f r (route_of r) inside))
+pub refusal_by : (n : ℕ) (w : World) (flow : Flow) (bytes : List ℕ) (x y a b c d : Bool) → can_be_sent flow ≡ x
+    → at_ends (is_on w) flow.sender flow.to ≡ y → is_nothing_undelivered n w.claims ≡ a → at_ends (has_address w) flow.sender flow.to ≡ b
+    → not (is_some (w.sessions flow.sender)) ≡ c → (length bytes == flow.length) ≡ d
+    → begin_refusal n w (Some flow) bytes
+    ≡ refuse_unless x NoSuchFlow (refuse_unless y NotStarted
+    (refuse_unless a NotSettled (refuse_unless b NoAddress (refuse_unless c Busy (refuse_unless d WrongLength None)))))
+refusal_by n w flow bytes x y a b c d sendable started a_is b_is c_is d_is = λ i.
+    refuse_unless (sendable i) NoSuchFlow
+    (refuse_unless (started i) NotStarted
+    (refuse_unless (a_is i) NotSettled (refuse_unless (b_is i) NoAddress (refuse_unless (c_is i) Busy (refuse_unless (d_is i) WrongLength None)))))
 
-  pub refusal_by : (n : ℕ) (w : World) (bytes : List ℕ) (x y a b c d : Bool) → can_be_sent (route_of r) ≡ x → at_ends (is_on w) r.sender r.to ≡ y
-      → is_nothing_undelivered n w.claims ≡ a → at_ends (has_address w) r.sender r.to ≡ b → not (is_some (w.sessions r.sender)) ≡ c
-      → (length bytes == r.length) ≡ d
-      → begin_refusal n w (slice_get (map route_of net.routes.items) f) bytes
-      ≡ refuse_unless x NoSuchFlow (refuse_unless y NotStarted
-      (refuse_unless a NotSettled (refuse_unless b NoAddress (refuse_unless c Busy (refuse_unless d WrongLength None)))))
-  refusal_by n w bytes x y a b c d sendable started a_is b_is c_is d_is =
-      ap (λ (o : Option Flow). begin_refusal n w o bytes) flow_is
-      ∙ (λ i. refuse_unless (sendable i) NoSuchFlow
-      (refuse_unless (started i) NotStarted
-      (refuse_unless (a_is i) NotSettled (refuse_unless (b_is i) NoAddress (refuse_unless (c_is i) Busy (refuse_unless (d_is i) WrongLength None))))))
-
-  pub begin_met : (n : ℕ) (w : World) (bytes : List ℕ) → begin_refusal n w (slice_get (map route_of net.routes.items) f) bytes ≡ None
-      → (not (is_some (w.sessions r.sender)) ≡ true) × ((length bytes == r.length) ≡ true)
-  begin_met n w bytes allowed =
-      begin_parts (can_be_sent (route_of r)) (at_ends (is_on w) r.sender r.to) (is_nothing_undelivered n w.claims) (at_ends (has_address w) r.sender r.to)
-      (not (is_some (w.sessions r.sender))) (length bytes == r.length) (ap (λ (o : Option Flow). begin_refusal n w o bytes) (sym flow_is) ∙ allowed)
+begin_met : (n : ℕ) (w : World) (flow : Flow) (bytes : List ℕ) → begin_refusal n w (Some flow) bytes ≡ None
+    → (not (is_some (w.sessions flow.sender)) ≡ true) × ((length bytes == flow.length) ≡ true)
+begin_met n w flow bytes allowed =
+    begin_parts (can_be_sent flow) (at_ends (is_on w) flow.sender flow.to) (is_nothing_undelivered n w.claims) (at_ends (has_address w) flow.sender flow.to)
+    (not (is_some (w.sessions flow.sender))) (length bytes == flow.length) allowed
 
 -- a message is begun by a flow alone
 pub flow_inside : (n : ℕ) (w : World) (flows : List Flow) (f : ℕ) (bytes : List ℕ) → begin_refusal n w (slice_get flows f) bytes ≡ None → f < length flows
@@ -84,22 +77,23 @@ settled_by n lists table b (none, all) = elim (cases_Bool b) [
 
 -- ---- a message that may be begun
 module _ (net : Network) (well : IsNetwork net) (f : ℕ) (bytes : List ℕ)
-    (allowed : (h : Histories) → begin_refusal (length net.claimers.items) (world_in h net) (slice_get (map route_of net.routes.items) f) bytes ≡ None)
-    (r : Route) (at : r ≡ get_or net.routes.items f r) where
-  pub inside_routes : f < length net.routes.items
-  inside_routes =
-      let inside : f < length (map route_of net.routes.items) =
-      flow_inside (length net.claimers.items) (world_in nowhere net) (map route_of net.routes.items) f bytes (allowed nowhere) in
-      omega (arith, inside, length-map net.routes.items route_of)
+    (allowed : (h : Histories) → begin_refusal (length net.claimers.items) (world_in h net) (slice_get net.flows.items f) bytes ≡ None)
+    (flow : Flow) (at : flow ≡ get_or net.flows.items f flow) where
+  inside : f < length net.flows.items
+  inside = flow_inside (length net.claimers.items) (world_in nowhere net) net.flows.items f bytes (allowed nowhere)
 
-  pub route_fits : IsRoute (length net.claimers.items) r
-  route_fits = subst (IsRoute (length net.claimers.items)) (sym at) (well.traffic.flows f r inside_routes)
+  flow_is : slice_get net.flows.items f ≡ Some flow
+  flow_is = got net.flows.items f flow inside at
+
+  pub flow_fits : IsFlow (length net.claimers.items) flow
+  flow_fits = subst (IsFlow (length net.claimers.items)) (sym at) (well.traffic.flows f flow inside)
 
   pub is_in_length : length bytes ≤ 1785
   is_in_length =
-      let same : length bytes ≡ r.length =
-      eqb-true (length bytes) r.length (begin_met net f r inside_routes at (length net.claimers.items) (world_in nowhere net) bytes (allowed nowhere)).1 in
-      omega (arith, same, route_fits.length)
+      let met = begin_met (length net.claimers.items) (world_in nowhere net) flow bytes
+      (ap (λ (o : Option Flow). begin_refusal (length net.claimers.items) (world_in nowhere net) o bytes) (sym flow_is) ∙ allowed nowhere) in
+      let same : length bytes ≡ flow.length = eqb-true (length bytes) flow.length met.1 in
+      omega (arith, same, flow_fits.length)
 
-  pub planned_flow : (plan : Plan) → IsOfPlan plan net → slice_get (flows_of plan) f ≡ Some (route_of r)
-  planned_flow plan of = ap (λ (fs : List Flow). slice_get fs f) (sym of.flows) ∙ flow_is net f r inside_routes at
+  pub planned_flow : (plan : Plan) → IsOfPlan plan net → slice_get (flows_of plan) f ≡ Some flow
+  planned_flow plan of = ap (λ (fs : List Flow). slice_get fs f) (sym of.flows) ∙ flow_is

@@ -2,7 +2,8 @@
 use Rattle.std.proofs.Common.{◌≡◌, Bool, true, false, ℕ, List, length, refl, if◌then◌else◌}
 use Rattle.j39_tp.specs.Sender.{announcement}
 use Rattle.j39_bus.specs.inside.Traffic.{item_frame}
-use Rattle.j39_world.specs.Flows.{Flow, dest_of, is_short}
+use Rattle.j39_world.specs.Flows.{dest_of, is_short}
+use Rattle.j39_world.specs.declared.flow.Flow.{Flow}
 use Rattle.j39_world.specs.SentTransfers.{address_of, destination_of, packet_frame, short_frame}
 use Rattle.j39_world.specs.TransferSteps.{first_frame, first_item}
 use Rattle.j39_world.specs.World.{Stations}

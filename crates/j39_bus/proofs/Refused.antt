@@ -1,5 +1,5 @@
 -- When a step is refused.
-use Rattle.std.proofs.Common.{◌≡◌, ◌≢◌, inl, inr, ℕ, ◌<◌, ◌==◌, Bool, true, false, not, nat_lt, is_some, List, [], ◌∷◌, length, map, get_or, refl, sym, ap}
+use Rattle.std.proofs.Common.{◌≡◌, ◌≢◌, inl, inr, ℕ, ◌<◌, ◌==◌, Bool, true, false, not, nat_lt, is_some, List, [], ◌∷◌, length, get_or, refl, sym, ap}
 use Rattle.std.proofs.Common.{◌∙◌, arith, Option, Some, None}
 use Rattle.std.proofs.lemmas.Bool.{and_parts, cases_lt, eq-eqb, eqb-true, le-ltb, lt-ltb, ltb-true, true≢false}
 use Rattle.std.specs.declared.alloc.Global.{Global}
@@ -14,7 +14,8 @@ use Rattle.j39_world.specs.declared.step_error.StepError.{StepError}
 use Rattle.j39_world.specs.declared.step_error.StepError.TheVariants.{UnknownUnit, NoSuchFlow, NotStarted, AlreadyStarted, NothingUndelivered, TransferOpen}
 use Rattle.j39_world.specs.declared.step_error.StepError.TheVariants.{NotSettled, NoAddress, Busy, WrongLength, NothingToSend, NoSession, CannotRest, Memory}
 use Rattle.j39_tp.specs.Receiver.{is_open_at}
-use Rattle.j39_world.specs.Flows.{Flow, can_be_sent}
+use Rattle.j39_world.specs.Flows.{can_be_sent}
+use Rattle.j39_world.specs.declared.flow.Flow.{Flow}
 use Rattle.j39_world.specs.Resting.{can_rest}
 use Rattle.j39_bus.specs.Stations.{station_at, absent_unit}
 use Rattle.j39_bus.specs.BusState.{Histories}
@@ -22,7 +23,6 @@ use Rattle.j39_bus.specs.inside.Network.{IsOfPlan, planned_units}
 use Rattle.j39_world.specs.World.{World}
 use Rattle.j39_world.specs.Run.{at_ends, begin_refusal, both, can_emit, cause_of, has_address, is_no_transfer_open, is_nothing_undelivered, is_on, is_waiting}
 use Rattle.j39_world.specs.Run.{refusal, refusal_among, refuse_unless}
-use Rattle.j39_bus.specs.inside.Traffic.{route_of}
 use Rattle.j39_bus.proofs.Rested.{units_count}
 use Rattle.j39_bus.proofs.Worlds.{any_default}
 
@@ -129,7 +129,7 @@ cause_named e other = refl
 
 -- ---- the refusal of a network's step is the definition's
 pub refusal_is : (plan : Plan) (net : Network) → IsOfPlan plan net → (w : World) (step : Step)
-    → refusal plan w step ≡ refusal_among (length net.claimers.items) (map route_of net.routes.items) w step
+    → refusal plan w step ≡ refusal_among (length net.claimers.items) net.flows.items w step
 refusal_is plan net of w step = λ i. refusal_among (units_count plan net of i) (sym of.flows i) w step
 
 -- ---- what holds of a step that is not refused

@@ -1,5 +1,5 @@
 -- What a bus stands for, by its network.
-use Rattle.std.proofs.Common.{◌≡◌, ℕ, List, [], ◌∷◌, ◌++◌, length, map, refl, sym, ap, ◌∙◌, subst, arith, None, Result, Ok, Err, OnOk, OnErr, IfErr}
+use Rattle.std.proofs.Common.{◌≡◌, ℕ, List, [], ◌∷◌, ◌++◌, length, refl, sym, ap, ◌∙◌, subst, arith, None, Result, Ok, Err, OnOk, OnErr, IfErr}
 use Rattle.j39_plan.specs.declared.plan.Plan.{Plan}
 use Rattle.j39_bus.specs.declared.network.Network.{Network}
 use Rattle.j39_plan.specs.declared.steps.Step.{Step}
@@ -9,7 +9,6 @@ use Rattle.j39_world.specs.Run.{cause_of, refusal, refusal_among, StepsTo, RunsT
 use Rattle.j39_bus.specs.BusState.{BusState, Histories, histories_of}
 use Rattle.j39_bus.specs.Stands.{Stands}
 use Rattle.j39_bus.specs.inside.Network.{state_of, world_in, HasHeld, IsNetwork, IsBus, IsOfPlan, IsAllowed, IsSameNetwork, KeepsPlan, HasStepped, refusal_in}
-use Rattle.j39_bus.specs.inside.Traffic.{route_of}
 use Rattle.j39_bus.proofs.Refused.{length-planned_units, refusal_is}
 use Rattle.j39_bus.proofs.Steady.{plan_kept, state_is}
 
@@ -23,7 +22,7 @@ module _ {X : Type 0} (old new : Network) (b : BusState) (is_state : state_of ol
 
   refused_by : (plan : Plan) (w : World) (s : Stands (state_of old) plan w) → refusal plan w step ≡ refusal_in old (histories_of w) step
   refused_by plan w s = refusal_is plan old s.planned w step
-      ∙ (λ i. refusal_among (length old.claimers.items) (map route_of old.routes.items) (s.world i) step)
+      ∙ (λ i. refusal_among (length old.claimers.items) old.flows.items (s.world i) step)
 
   -- what a step of the network does, the bus does
   pub step_done : KeepsPlan old new → OnOk result (IsAllowed old step)

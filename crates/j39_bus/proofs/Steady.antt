@@ -4,8 +4,8 @@ use Rattle.std.proofs.Math.Path.{transport}
 use Rattle.j39_plan.specs.declared.plan.Plan.{Plan}
 use Rattle.j39_plan.specs.declared.steps.Step.{Step}
 use Rattle.j39_bus.specs.declared.network.Network.{Network}
-use Rattle.j39_bus.specs.declared.route.Route.{Route}
 use Rattle.j39_queues.specs.Queued.{IsTable}
+use Rattle.j39_world.specs.declared.flow.Flow.{Flow}
 use Rattle.j39_world.specs.Transfers.{Outgoing}
 use Rattle.j39_world.specs.declared.wired.Wired.{Wired}
 use Rattle.j39_bus.proofs.Wires.{as_table}
@@ -13,7 +13,7 @@ use Rattle.j39_bus.specs.BusState.{Histories, ReceiverTable, world_of}
 use Rattle.j39_bus.specs.Reports.{reported_of}
 use Rattle.j39_bus.specs.Stands.{HoldTaken}
 use Rattle.j39_bus.specs.inside.Network.{HasHeld, HasStepped, IsOfPlan, IsSameNetwork, KeepsPlan, planned_units, state_of, world_in}
-use Rattle.j39_bus.specs.inside.Traffic.{IsTraffic, route_of}
+use Rattle.j39_bus.specs.inside.Traffic.{IsTraffic}
 use Rattle.j39_world.specs.Sent.{sent_of}
 use Rattle.j39_world.specs.World.{World}
 use Rattle.j39_world.specs.Run.{StepsTo}
@@ -26,7 +26,7 @@ steps_same plan old step new steps same = λ h held. (h, steps h, subst (HoldTak
 pub plan_kept : (old new : Network) (plan : Plan) → KeepsPlan old new → IsOfPlan plan old → IsOfPlan plan new
 plan_kept old new plan keeps of = record {
   units = keeps.planned_units ∙ of.units;
-  flows = ap (map route_of) keeps.routes ∙ of.flows;
+  flows = keeps.flows ∙ of.flows;
   windows = keeps.windows ∙ of.windows;
 }
 
@@ -36,7 +36,7 @@ module _ (old new : Network) (same : IsSameNetwork old new) where
   state_is = λ i. record {
     units = same.claimers i;
     claims = same.claims i;
-    flows = map route_of (same.routes i);
+    flows = same.flows i;
     sessions = same.sessions i;
     wire = same.wire i;
     receivers = same.receivers i;
@@ -51,7 +51,7 @@ module _ (old new : Network) (same : IsSameNetwork old new) where
   held_same h held = subst (HoldTaken h.taken) (sym same.receivers) held
 
   pub plan_same : KeepsPlan old new
-  plan_same = record { planned_units = ap planned_units same.claimers; routes = same.routes; windows = ap (λ r. r.windows) same.receivers }
+  plan_same = record { planned_units = ap planned_units same.claimers; flows = same.flows; windows = ap (λ r. r.windows) same.receivers }
 
   pub steps_after : (plan : Plan) (step : Step) (after : Network) → HasStepped plan new step after → HasStepped plan old step after
   steps_after plan step after steps h held =
@@ -61,13 +61,13 @@ module _ (old new : Network) (same : IsSameNetwork old new) where
 -- ---- only claims and frames have changed
 
 pub told_traffic : (new mid : Network) → new ≡ record mid { claims = new.claims; frames = new.frames } → (n : ℕ) → length new.claimers.items ≡ n
-    → IsTraffic n mid.routes.items mid.sessions.items mid.wire.lists mid.receivers
-    → IsTraffic (length new.claimers.items) new.routes.items new.sessions.items new.wire.lists new.receivers
+    → IsTraffic n mid.flows.items mid.sessions.items mid.wire.lists mid.receivers
+    → IsTraffic (length new.claimers.items) new.flows.items new.sessions.items new.wire.lists new.receivers
 told_traffic new mid is n count well = transport
-    (λ i. IsTraffic (sym count i) (sym is i).routes.items (sym is i).sessions.items (sym is i).wire.lists (sym is i).receivers) well
+    (λ i. IsTraffic (sym count i) (sym is i).flows.items (sym is i).sessions.items (sym is i).wire.lists (sym is i).receivers) well
 
 -- the wire has as many lists as before
-pub wired_traffic : (n : ℕ) (routes : List Route) (sessions : List (Option Outgoing)) (lists after : List (List (List Wired))) (receivers : ReceiverTable)
-    → IsTraffic n routes sessions lists receivers → IsTable (length lists) after → IsTraffic n routes sessions after receivers
-wired_traffic n routes sessions lists after receivers well table =
+pub wired_traffic : (n : ℕ) (flows : List Flow) (sessions : List (Option Outgoing)) (lists after : List (List (List Wired))) (receivers : ReceiverTable)
+    → IsTraffic n flows sessions lists receivers → IsTable (length lists) after → IsTraffic n flows sessions after receivers
+wired_traffic n flows sessions lists after receivers well table =
     record { flows = well.flows; sessions = well.sessions; table = as_table n lists after well.table table; windows = well.windows }

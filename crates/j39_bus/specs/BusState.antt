@@ -7,7 +7,7 @@ use Rattle.j39_tp.specs.declared.packet.Packet.{Packet}
 use Rattle.j39_tp.specs.declared.receiving.progress.Progress.{Progress}
 use Rattle.j39_tp.specs.declared.receiving.progress.Progress.TheVariants.{Closed}
 use Rattle.j39_world.specs.declared.wired.Wired.{Wired}
-use Rattle.j39_world.specs.Flows.{Flow}
+use Rattle.j39_world.specs.declared.flow.Flow.{Flow}
 use Rattle.j39_world.specs.Sent.{Sent}
 use Rattle.j39_world.specs.Transfers.{Begun, Outgoing, Sessions, Reported}
 use Rattle.j39_world.specs.World.{World, Undelivered}

@@ -1,10 +1,9 @@
 //! What is sent of a message.
 ghost use Rattle.std.specs.Prelude.{◌≡◌, ℕ, ◌≤◌, length, is_some};
 
-use crate::route::Route;
 use j39_plan::To;
 use j39_tp::{Dest, Message, Outcome, Packet, Phase, Reaction, Sender};
-use j39_world::{Short, Wired};
+use j39_world::{Flow, Short, Wired};
 
 /// A message of at most so many bytes is sent in one frame.
 const FRAME_LENGTH: usize = 8;
@@ -18,7 +17,6 @@ pub(crate) enum Content {
 
 impl Content {
     ghost use Rattle.j39_world.specs.TransferSteps.{begun_stage, first_item};
-    ghost use Rattle.j39_bus.specs.inside.Traffic.{route_of};
     ghost use Rattle.j39_tp.specs.Sender.{data_next, next_number, after_packet, timeout_packet, after_timeout, hears, outcome_of};
     ghost use Rattle.j39_plan.specs.declared.plan.to.To.{To};
     ghost use Rattle.j39_world.specs.Run.{is_waiting_at};
@@ -26,12 +24,12 @@ impl Content {
     ghost use Rattle.j39_bus.specs.inside.Content.{HasContent, bytes_in, stage_in};
 
     /// What the sender has, and what it sends first: the whole message, or its announcement.
-    pub(crate) fn begin(route: &Route, bytes: &[u8]) -> (Self, Wired)
+    pub(crate) fn begin(flow: &Flow, bytes: &[u8]) -> (Self, Wired)
         requires { length bytes.now ≤ 1785 }
-        ensures content { HasContent route.now.pgn route.now.to result.0 }
+        ensures content { HasContent flow.now.pgn flow.now.to result.0 }
         ensures bytes { bytes_in result.0 ≡ bytes.now }
-        ensures stage { stage_in result.0 ≡ begun_stage (route_of route.now) bytes.now }
-        ensures item { result.1 ≡ first_item (route_of route.now) bytes.now }
+        ensures stage { stage_in result.0 ≡ begun_stage flow.now bytes.now }
+        ensures item { result.1 ≡ first_item flow.now bytes.now }
     {
         if bytes.len() <= FRAME_LENGTH {
             return (
@@ -39,10 +37,10 @@ impl Content {
                 Wired::Short(Short::new(bytes)),
             );
         }
-        let Some(message) = Message::new(route.pgn, bytes) else {
+        let Some(message) = Message::new(flow.pgn, bytes) else {
             unreachable!()
         };
-        let dest = match route.to {
+        let dest = match flow.to {
             To::All => Dest::All,
             To::One(_) => Dest::One,
         };

@@ -9,12 +9,11 @@ use crate::claims::{post_to_others, reserve_for_others};
 use crate::pushing::post;
 use crate::receivers::Receivers;
 use crate::report::Report;
-use crate::route::Route;
 use crate::session::Session;
 use j39_claim::{Claimer, Item};
 use j39_id::Frame;
 use j39_queues::Queues;
-use j39_world::Wired;
+use j39_world::{Flow, Wired};
 use std::alloc::AllocError;
 
 /// The units of a plan by their places, all that is undelivered of claims, the flows, the message that each unit sends, what is
@@ -23,7 +22,7 @@ use std::alloc::AllocError;
 pub(crate) struct Network {
     pub(crate) claimers: Vec<Claimer>,
     pub(crate) claims: Queues<Item>,
-    pub(crate) routes: Vec<Route>,
+    pub(crate) flows: Vec<Flow>,
     pub(crate) sessions: Vec<Option<Session>>,
     pub(crate) wire: Queues<Wired>,
     pub(crate) receivers: Receivers,

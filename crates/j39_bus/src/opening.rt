@@ -10,9 +10,9 @@ ghost use Rattle.j39_world.specs.World.{first};
 ghost use Rattle.j39_bus.specs.inside.SendableGroups.{HasBadGroup};
 ghost use Rattle.j39_plan.specs.PlannedGroups.{IsSendable};
 
+use crate::flows::flows_of;
 use crate::network::Network;
 use crate::receivers::Receivers;
-use crate::route::routes_of;
 use crate::session::Session;
 use crate::{Bus, BusError};
 use j39_claim::{AddressSet, Choose, Claimer};
@@ -106,14 +106,14 @@ fn network_of(alloc: Global, plan: &Plan) -> Result<Network, AllocError>
     let units = plan.units.as_slice();
     let claimers = claimers_of(alloc, &plan.keep_free, units)?;
     let claims = Queues::new(alloc, units.len())?;
-    let routes = routes_of(alloc, plan)?;
+    let flows = flows_of(alloc, plan)?;
     let sessions = no_sessions(alloc, units.len())?;
     let wire = Queues::new(alloc, units.len())?;
     let receivers = Receivers::new(alloc, units)?;
     Ok(Network {
         claimers,
         claims,
-        routes,
+        flows,
         sessions,
         wire,
         receivers,

@@ -4,22 +4,22 @@ ghost use Rattle.j39_plan.specs.declared.steps.Step.TheVariants.{Up, Give, Ask, 
 ghost use Rattle.j39_world.specs.Flows.{can_be_sent};
 ghost use Rattle.j39_bus.specs.Stations.{station_at};
 ghost use Rattle.j39_bus.specs.BusState.{Histories};
-ghost use Rattle.j39_bus.specs.inside.Network.{IsNetwork, refusal_in};
-ghost use Rattle.j39_world.specs.Run.{at_ends, both, refuse_unless};
-ghost use Rattle.j39_bus.specs.inside.Traffic.{IsRoute, route_of};
+ghost use Rattle.j39_bus.specs.inside.Network.{IsNetwork, refusal_in, world_in};
+ghost use Rattle.j39_world.specs.Run.{at_ends, begin_refusal, both, refuse_unless};
+ghost use Rattle.j39_bus.specs.inside.Traffic.{IsFlow};
 
 use crate::network::Network;
-use crate::route::Route;
 use crate::{StepError, sessions};
 use j39_plan::{Step, To};
+use j39_world::Flow;
 
 /// Whether a flow to one unit goes to another one, and its group can be sent to one.
-fn can_be_sent(route: &Route) -> bool
-    ensures { result ≡ can_be_sent (route_of route.now) }
+fn can_be_sent(flow: &Flow) -> bool
+    ensures { result ≡ can_be_sent flow.now }
 {
-    match route.to {
+    match flow.to {
         To::All => true,
-        To::One(unit) => unit != route.sender && (route.pgn.is_pdu1() || route.length > 8),
+        To::One(unit) => unit != flow.sender && (flow.pgn.is_pdu1() || flow.length > 8),
     }
 }
 
@@ -120,29 +120,38 @@ impl Network {
         None
     }
 
-    fn refusal_of_begin(&self, flow: usize, bytes: &Vec<u8>) -> Option<StepError>
+    fn refusal_of_begin(&self, place: usize, bytes: &Vec<u8>) -> Option<StepError>
         requires { IsNetwork self.now }
-        ensures { (h : Histories) → result ≡ refusal_in self.now h (Begin flow bytes.now) }
+        ensures { (h : Histories) → result ≡ refusal_in self.now h (Begin place bytes.now) }
     {
-        let Some(route) = self.routes.get(flow) else {
-            return Some(StepError::NoSuchFlow);
-        };
-        if !can_be_sent(route) {
+        match self.flows.get(place) {
+            Some(flow) => self.refusal_of_flow(flow, bytes.as_slice()),
+            None => Some(StepError::NoSuchFlow),
+        }
+    }
+
+    // Of these bytes by a planned flow.
+    fn refusal_of_flow(&self, flow: &Flow, bytes: &[u8]) -> Option<StepError>
+        requires network { IsNetwork self.now }
+        requires flow { IsFlow (length self.now.claimers.items) flow.now }
+        ensures { (h : Histories) → result ≡ begin_refusal (length self.now.claimers.items) (world_in h self.now) (Some flow.now) bytes.now }
+    {
+        if !can_be_sent(flow) {
             return Some(StepError::NoSuchFlow);
         }
-        if !self.are_started(route) {
+        if !self.are_started(flow) {
             return Some(StepError::NotStarted);
         }
         if !self.claims.is_empty() {
             return Some(StepError::NotSettled);
         }
-        if !self.have_addresses(route) {
+        if !self.have_addresses(flow) {
             return Some(StepError::NoAddress);
         }
-        if self.sessions[route.sender].is_some() {
+        if self.sessions[flow.sender].is_some() {
             return Some(StepError::Busy);
         }
-        if bytes.len() != usize::from(route.length) {
+        if bytes.len() != usize::from(flow.length) {
             return Some(StepError::WrongLength);
         }
         None
@@ -215,24 +224,24 @@ impl Network {
     }
 
     /// Whether the sender of a flow is on, and its one receiver.
-    fn are_started(&self, route: &Route) -> bool
-        requires { IsRoute (length self.now.claimers.items) route.now }
-        ensures { result ≡ at_ends (λ u. (station_at self.now.claimers.items u).on) route.now.sender route.now.to }
+    fn are_started(&self, flow: &Flow) -> bool
+        requires { IsFlow (length self.now.claimers.items) flow.now }
+        ensures { result ≡ at_ends (λ u. (station_at self.now.claimers.items u).on) flow.now.sender flow.now.to }
     {
-        self.claimers[route.sender].is_started()
-            && match route.to {
+        self.claimers[flow.sender].is_started()
+            && match flow.to {
                 To::All => true,
                 To::One(unit) => self.claimers[unit].is_started(),
             }
     }
 
     /// Whether the sender of a flow holds an address, and its one receiver.
-    fn have_addresses(&self, route: &Route) -> bool
-        requires { IsRoute (length self.now.claimers.items) route.now }
-        ensures { result ≡ at_ends (λ u. is_some (station_at self.now.claimers.items u).address) route.now.sender route.now.to }
+    fn have_addresses(&self, flow: &Flow) -> bool
+        requires { IsFlow (length self.now.claimers.items) flow.now }
+        ensures { result ≡ at_ends (λ u. is_some (station_at self.now.claimers.items u).address) flow.now.sender flow.now.to }
     {
-        self.claimers[route.sender].address().is_some()
-            && match route.to {
+        self.claimers[flow.sender].address().is_some()
+            && match flow.to {
                 To::All => true,
                 To::One(unit) => self.claimers[unit].address().is_some(),
             }

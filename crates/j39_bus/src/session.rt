@@ -1,6 +1,5 @@
 //! Messages that are sent.
 ghost use Rattle.std.specs.Prelude.{◌≡◌, ℕ, ◌≤◌, length, is_some};
-ghost use Rattle.j39_bus.specs.inside.Traffic.{route_of};
 ghost use Rattle.j39_tp.specs.Sender.{data_next, after_packet, timeout_packet, after_timeout, outcome_of, next_number};
 ghost use Rattle.j39_world.specs.Flows.{dest_of};
 ghost use Rattle.j39_world.specs.Run.{is_waiting_at};
@@ -8,11 +7,10 @@ ghost use Rattle.j39_world.specs.TransferSteps.{begun_stage, first_item, session
 ghost use Rattle.j39_world.specs.Transfers.{is_among};
 
 use crate::content::Content;
-use crate::route::Route;
 use j39_id::Pgn;
 use j39_plan::To;
 use j39_tp::{Outcome, Packet, Reaction};
-use j39_world::Wired;
+use j39_world::{Flow, Wired};
 use std::marker::Model;
 
 /// A message from its beginning until its sender rests, with the units that it goes to. Contracts see it as a world has it.
@@ -45,30 +43,29 @@ impl Model for Session {
 }
 
 impl Session {
-    /// The message of a flow that is begun, and what is sent first: the whole message, or its announcement.
+    /// The message of the flow at a place, which is begun, and what is sent first: the whole message, or its announcement.
     pub(crate) fn begin(
-        flow: usize,
-        route: &Route,
+        place: usize,
+        flow: &Flow,
         bytes: &[u8],
         targets: Vec<usize>,
     ) -> (Self, Wired)
         requires { length bytes.now ≤ 1785 }
         ensures session { result.0 ≡ record {
-          flow = flow;
-          pgn = route.now.pgn;
-          to = route.now.to;
+          flow = place;
+          pgn = flow.now.pgn;
+          to = flow.now.to;
           targets = targets.items;
           bytes = bytes.now;
-          stage = begun_stage
-              (route_of route.now) bytes.now;
+          stage = begun_stage flow.now bytes.now;
         } }
-        ensures item { result.1 ≡ first_item (route_of route.now) bytes.now }
+        ensures item { result.1 ≡ first_item flow.now bytes.now }
     {
-        let (content, item) = Content::begin(route, bytes);
+        let (content, item) = Content::begin(flow, bytes);
         let session = Session {
-            flow,
-            pgn: route.pgn,
-            to: route.to,
+            flow: place,
+            pgn: flow.pgn,
+            to: flow.to,
             targets,
             content,
         };

@@ -2,13 +2,12 @@
 ghost use Rattle.std.specs.Prelude.{◌≡◌, ◌≤◌, length};
 ghost use Rattle.j39_world.specs.Sent.{sent_of};
 ghost use Rattle.j39_world.specs.SentTransfers.{packet_frame, short_frame};
-ghost use Rattle.j39_bus.specs.inside.Traffic.{route_of};
 
 use crate::claim_frames::payload_of;
-use crate::route::Route;
 use j39_id::services::{CONNECTION_MANAGEMENT, DATA_TRANSFER};
 use j39_id::{Frame, Ident};
 use j39_tp::{Packet, to_data};
+use j39_world::Flow;
 
 /// The frame of a transport packet from one address to another.
 pub(crate) fn packet_frame(source: u8, destination: u8, packet: &Packet) -> Frame
@@ -25,13 +24,13 @@ pub(crate) fn packet_frame(source: u8, destination: u8, packet: &Packet) -> Fram
 }
 
 /// The frame of a message of at most eight bytes.
-pub(crate) fn short_frame(source: u8, destination: u8, route: &Route, bytes: &[u8]) -> Frame
-    requires priority { route.now.priority ≤ 7 }
+pub(crate) fn short_frame(source: u8, destination: u8, flow: &Flow, bytes: &[u8]) -> Frame
+    requires priority { flow.now.priority ≤ 7 }
     requires length { length bytes.now ≤ 8 }
-    ensures { sent_of result ≡ short_frame source destination (route_of route.now) bytes.now }
+    ensures { sent_of result ≡ short_frame source destination flow.now bytes.now }
 {
     Frame {
-        ident: Ident::new(route.priority, route.pgn, destination, source),
+        ident: Ident::new(flow.priority, flow.pgn, destination, source),
         payload: payload_of(bytes),
     }
 }

@@ -13,7 +13,8 @@ use Rattle.j39_world.specs.declared.wired.Wired.TheVariants as wired
 use Rattle.j39_bus.specs.BusState.{BusState}
 use Rattle.j39_world.specs.PlannedUnits.{units_of}
 use Rattle.j39_world.specs.ClaimSteps.{GivenFrom}
-use Rattle.j39_world.specs.Flows.{Flow, flows_of, windows_of}
+use Rattle.j39_world.specs.Flows.{flows_of, windows_of}
+use Rattle.j39_world.specs.declared.flow.Flow.{Flow}
 use Rattle.j39_world.specs.Run.{StepsTo, count_of}
 use Rattle.j39_world.specs.Sent.{Sent, sent_of}
 use Rattle.j39_bus.specs.Stands.{Stands}

@@ -11,14 +11,7 @@ use Rattle.j39_plan.specs.declared.plan.flow_plan.FlowPlan.{FlowPlan}
 use Rattle.j39_plan.specs.declared.plan.group_plan.GroupPlan.{GroupPlan}
 use Rattle.j39_plan.specs.declared.plan.to.To.{To}
 use Rattle.j39_plan.specs.declared.plan.to.To.TheVariants.{All, One}
-
--- a flow, with the PGN, the priority and the length of its group
-pub record Flow : Type 0 where
-  pub pgn : ℕ
-  pub priority : ℕ
-  pub length : ℕ
-  pub sender : ℕ
-  pub to : To
+use Rattle.j39_world.specs.declared.flow.Flow.{Flow}
 
 -- a planned flow; it names its group by place
 abbrev pub flow_of : List GroupPlan → FlowPlan → Flow

@@ -15,7 +15,8 @@ use Rattle.j39_world.specs.declared.step_error.StepError.TheVariants.{UnknownUni
 use Rattle.j39_world.specs.declared.step_error.StepError.TheVariants.{NotSettled, NoAddress}
 use Rattle.j39_world.specs.declared.step_error.StepError.TheVariants.{Busy, WrongLength, NothingToSend, NoSession, CannotRest, Memory}
 use Rattle.j39_world.specs.PlannedUnits.{units_of}
-use Rattle.j39_world.specs.Flows.{Flow, flows_of, windows_of, can_be_sent}
+use Rattle.j39_world.specs.Flows.{flows_of, windows_of, can_be_sent}
+use Rattle.j39_world.specs.declared.flow.Flow.{Flow}
 use Rattle.j39_world.specs.Transfers.{Outgoing}
 use Rattle.j39_world.specs.World.{World, Undelivered}
 use Rattle.j39_world.specs.ClaimSteps.{switched_on, switched_off, asked, GivenFrom}

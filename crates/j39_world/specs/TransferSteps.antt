@@ -19,7 +19,8 @@ use Rattle.j39_plan.specs.declared.plan.to.To.{To}
 use Rattle.j39_plan.specs.declared.plan.to.To.TheVariants.{All, One}
 use Rattle.j39_world.specs.declared.wired.Wired.{Wired}
 use Rattle.j39_world.specs.declared.wired.Wired.TheVariants as wired
-use Rattle.j39_world.specs.Flows.{Flow, dest_of, is_short, window_at}
+use Rattle.j39_world.specs.Flows.{dest_of, is_short, window_at}
+use Rattle.j39_world.specs.declared.flow.Flow.{Flow}
 use Rattle.j39_world.specs.Sent as frames
 use Rattle.j39_world.specs.SentTransfers.{address_of, destination_of, packet_frame, short_frame}
 use Rattle.j39_world.specs.Transfers.{Outgoing, Reported, is_among, added, closed_if_complete}

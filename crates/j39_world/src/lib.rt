@@ -2,9 +2,11 @@
 #![tactic(auto)]
 
 mod bus_error;
+mod flow;
 mod step_error;
 mod wired;
 
 pub use bus_error::BusError;
+pub use flow::Flow;
 pub use step_error::StepError;
 pub use wired::{Short, Wired};

@@ -13,7 +13,7 @@ use Rattle.j39_bus.specs.declared.network.Network.{Network}
 use Rattle.j39_world.specs.declared.step_error.StepError.{StepError}
 use Rattle.j39_world.specs.Sent.{sent_of}
 use Rattle.j39_world.specs.World.{World, changed_pair}
-use Rattle.j39_world.specs.Flows.{Flow}
+use Rattle.j39_world.specs.declared.flow.Flow.{Flow}
 use Rattle.j39_world.specs.Transfers.{added}
 use Rattle.j39_world.specs.TransferSteps.{TakenFrom}
 use Rattle.j39_world.specs.Run.{StepsTo, refusal_among}
@@ -21,7 +21,7 @@ use Rattle.j39_bus.specs.Stations.{absent_unit, station_at}
 use Rattle.j39_bus.specs.BusState.{BusState, Histories, world_of}
 use Rattle.j39_bus.specs.Reports.{reported_of}
 use Rattle.j39_bus.specs.Stands.{HoldTaken, IsPlannedBy}
-use Rattle.j39_bus.specs.inside.Traffic.{IsTraffic, route_of}
+use Rattle.j39_bus.specs.inside.Traffic.{IsTraffic}
 use Rattle.j39_queues.specs.Queued.{IsTable, pair_in}
 
 abbrev pub planned_units : List ClaimerValue → List PlannedUnit
@@ -39,7 +39,7 @@ abbrev pub state_of : Network → BusState
 state_of net = record {
   units = net.claimers.items;
   claims = net.claims.lists;
-  flows = map route_of net.routes.items;
+  flows = net.flows.items;
   sessions = net.sessions.items;
   wire = net.wire.lists;
   receivers = net.receivers;
@@ -70,7 +70,7 @@ pub record IsWellFormed (cs : List ClaimerValue) (lists : List (List (List Item)
 
 pub record IsNetwork (net : Network) : Type 0 where
   pub claims : IsWellFormed net.claimers.items net.claims.lists
-  pub traffic : IsTraffic (length net.claimers.items) net.routes.items net.sessions.items net.wire.lists net.receivers
+  pub traffic : IsTraffic (length net.claimers.items) net.flows.items net.sessions.items net.wire.lists net.receivers
 
 -- the network has the units of the plan, its flows and its windows
 abbrev pub IsOfPlan : Plan → Network → Type 0
@@ -79,7 +79,7 @@ IsOfPlan plan net = IsPlannedBy plan (state_of net)
 -- the units, the flows and the windows stay
 pub record KeepsPlan (old new : Network) : Type 0 where
   pub planned_units : planned_units new.claimers.items ≡ planned_units old.claimers.items
-  pub routes : new.routes.items ≡ old.routes.items
+  pub flows : new.flows.items ≡ old.flows.items
   pub windows : new.receivers.windows ≡ old.receivers.windows
 
 -- a step of the plan leads from one network to another, whatever histories the first has
@@ -95,7 +95,7 @@ TakesOldest old u v new =
 
 -- the first cause for which a step of a network is refused
 abbrev pub refusal_in : Network → Histories → Step → Option StepError
-refusal_in net h step = refusal_among (length net.claimers.items) (map route_of net.routes.items) (world_in h net) step
+refusal_in net h step = refusal_among (length net.claimers.items) net.flows.items (world_in h net) step
 
 -- the step is not refused
 abbrev pub IsAllowed : Network → Step → Type 0
@@ -111,7 +111,7 @@ HasAnswered cs v name item says new =
 pub record IsSameNetwork (old new : Network) : Type 0 where
   pub claimers : new.claimers.items ≡ old.claimers.items
   pub claims : new.claims.lists ≡ old.claims.lists
-  pub routes : new.routes.items ≡ old.routes.items
+  pub flows : new.flows.items ≡ old.flows.items
   pub sessions : new.sessions.items ≡ old.sessions.items
   pub wire : new.wire.lists ≡ old.wire.lists
   pub receivers : new.receivers ≡ old.receivers

@@ -5,19 +5,15 @@ use Rattle.j39_plan.specs.declared.plan.to.To.{To}
 use Rattle.j39_plan.specs.declared.plan.to.To.TheVariants.{All as ToAll, One as ToOne}
 use Rattle.j39_tp.specs.declared.packet.Packet.{Packet}
 use Rattle.j39_tp.specs.declared.sending.stage.Stage.{Stage}
-use Rattle.j39_bus.specs.declared.route.Route.{Route}
 use Rattle.j39_world.specs.declared.wired.Wired.{Wired}
 use Rattle.j39_world.specs.declared.wired.Wired.TheVariants as wired
 use Rattle.j39_bus.specs.BusState.{ReceiverTable, session_at}
 use Rattle.j39_world.specs.Sent as frames
 use Rattle.j39_world.specs.SentTransfers.{packet_frame, short_frame}
-use Rattle.j39_world.specs.Flows.{Flow}
+use Rattle.j39_world.specs.declared.flow.Flow.{Flow}
 use Rattle.j39_world.specs.Transfers.{Outgoing, closed_if_complete, is_among}
 use Rattle.j39_world.specs.TransferSteps.{hearing, session_after}
 use Rattle.j39_world.specs.World.{World, changed, changed_pair}
-
-abbrev pub route_of : Route → Flow
-route_of r = record { pgn = r.pgn; priority = r.priority; length = r.length; sender = r.sender; to = r.to }
 
 -- where a message goes there is a unit
 abbrev pub IsInside : ℕ → To → Type 0
@@ -25,11 +21,11 @@ IsInside n ToAll = Unit {0}
 IsInside n (ToOne v) = v < n
 
 -- the units of a flow are units, and its group can be sent
-pub record IsRoute (n : ℕ) (r : Route) : Type 0 where
-  pub sender : r.sender < n
-  pub receiver : IsInside n r.to
-  pub length : r.length ≤ 1785
-  pub priority : r.priority ≤ 7
+pub record IsFlow (n : ℕ) (f : Flow) : Type 0 where
+  pub sender : f.sender < n
+  pub receiver : IsInside n f.to
+  pub length : f.length ≤ 1785
+  pub priority : f.priority ≤ 7
 
 -- these are units, each named once
 abbrev pub AreUnits : ℕ → List ℕ → Type 0
@@ -45,8 +41,8 @@ pub record AreSessions (n : ℕ) (sessions : List (Option Outgoing)) : Type 0 wh
   pub count : length sessions ≡ n
   pub each : (u : ℕ) (s : Outgoing) → session_at sessions u ≡ Some s → IsSession n s
 
-pub record IsTraffic (n : ℕ) (routes : List Route) (list : List (Option Outgoing)) (lists : List (List (List Wired))) (receivers : ReceiverTable) : Type 0 where
-  pub flows : All (IsRoute n) routes
+pub record IsTraffic (n : ℕ) (planned : List Flow) (list : List (Option Outgoing)) (lists : List (List (List Wired))) (receivers : ReceiverTable) : Type 0 where
+  pub flows : All (IsFlow n) planned
   pub sessions : AreSessions n list
   pub table : IsTable n lists
   pub windows : length receivers.windows ≡ n

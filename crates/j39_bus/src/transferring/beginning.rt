@@ -6,30 +6,29 @@ ghost use Rattle.j39_plan.specs.declared.steps.Step.TheVariants.{Begin};
 ghost use Rattle.j39_bus.specs.BusState.{Histories};
 ghost use Rattle.j39_bus.specs.Stations.{station_at};
 ghost use Rattle.j39_bus.specs.inside.Network.{HasStepped, IsAllowed, IsNetwork, IsOfPlan, IsSameNetwork, KeepsPlan, has_begun, world_in};
-ghost use Rattle.j39_bus.specs.inside.Traffic.{HasRoomTo, IsRoute, item_frame, route_of};
+ghost use Rattle.j39_bus.specs.inside.Traffic.{HasRoomTo, IsFlow, item_frame};
 ghost use Rattle.j39_world.specs.Sent.{sent_of};
 ghost use Rattle.j39_world.specs.TransferSteps.{begins, targets_of};
 ghost use Rattle.j39_world.specs.World.{is_other_on};
 
 use crate::network::Network;
 use crate::pushing::post;
-use crate::route::Route;
 use crate::session::Session;
 use crate::transfer_frames::{packet_frame, short_frame};
 use crate::wire::{post_each, reserve_each};
 use j39_claim::Claimer;
 use j39_id::Frame;
 use j39_plan::To;
-use j39_world::Wired;
+use j39_world::{Flow, Wired};
 use std::alloc::{AllocError, Global};
 
 /// The frame of what is sent first.
-fn frame_of(source: u8, destination: u8, route: &Route, item: &Wired) -> Frame
-    requires { route.now.priority ≤ 7 }
-    ensures { sent_of result ≡ item_frame source destination (route_of route.now) item.now }
+fn frame_of(source: u8, destination: u8, flow: &Flow, item: &Wired) -> Frame
+    requires { flow.now.priority ≤ 7 }
+    ensures { sent_of result ≡ item_frame source destination flow.now item.now }
 {
     match item {
-        Wired::Short(short) => short_frame(source, destination, route, short.bytes()),
+        Wired::Short(short) => short_frame(source, destination, flow, short.bytes()),
         Wired::Packet(packet) => packet_frame(source, destination, packet),
     }
 }
@@ -48,11 +47,11 @@ fn others_on(alloc: Global, claimers: &[Claimer], unit: usize) -> Result<Vec<usi
 }
 
 /// The units that a message of the flow goes to.
-fn targets_of(alloc: Global, claimers: &[Claimer], route: &Route) -> Result<Vec<usize>, AllocError>
-    ensures { IfOk result (λ targets. targets.items ≡ targets_of (length claimers.now) (station_at claimers.now) route.now.sender route.now.to) }
+fn targets_of(alloc: Global, claimers: &[Claimer], flow: &Flow) -> Result<Vec<usize>, AllocError>
+    ensures { IfOk result (λ targets. targets.items ≡ targets_of (length claimers.now) (station_at claimers.now) flow.now.sender flow.now.to) }
 {
-    match route.to {
-        To::All => others_on(alloc, claimers, route.sender),
+    match flow.to {
+        To::All => others_on(alloc, claimers, flow.sender),
         To::One(unit) => {
             let mut targets = Vec::new(alloc);
             targets.push(unit)?;
@@ -63,56 +62,56 @@ fn targets_of(alloc: Global, claimers: &[Claimer], route: &Route) -> Result<Vec<
 
 impl Network {
     /// The sender of the flow at this place begins to send these bytes.
-    pub(crate) fn begin(&mut self, flow: usize, bytes: &Vec<u8>) -> Result<(), AllocError>
+    pub(crate) fn begin(&mut self, place: usize, bytes: &Vec<u8>) -> Result<(), AllocError>
         requires network { IsNetwork self.old }
-        requires allowed { IsAllowed self.old (Begin flow bytes.now) }
+        requires allowed { IsAllowed self.old (Begin place bytes.now) }
         ensures network { IsNetwork self.new }
         ensures plan { KeepsPlan self.old self.new }
-        ensures steps { OnOk result ((plan : Plan) → IsOfPlan plan self.old → HasStepped plan self.old (Begin flow bytes.now) self.new) }
+        ensures steps { OnOk result ((plan : Plan) → IsOfPlan plan self.old → HasStepped plan self.old (Begin place bytes.now) self.new) }
         ensures same { OnErr result (IsSameNetwork self.old self.new) }
     {
-        let route = self.routes[flow];
-        let targets = self.prepare(&route)?;
-        self.start(flow, &route, bytes.as_slice(), targets);
+        let flow = self.flows[place];
+        let targets = self.prepare(&flow)?;
+        self.start(place, &flow, bytes.as_slice(), targets);
         Ok(())
     }
 
     /// The units that a message of the flow goes to, and room for what is sent first.
-    fn prepare(&mut self, route: &Route) -> Result<Vec<usize>, AllocError>
+    fn prepare(&mut self, flow: &Flow) -> Result<Vec<usize>, AllocError>
         requires network { IsNetwork self.old }
-        requires route { IsRoute (length self.old.claimers.items) route.now }
+        requires flow { IsFlow (length self.old.claimers.items) flow.now }
         ensures same { IsSameNetwork self.old self.new }
         ensures targets { IfOk result (λ targets. targets.items ≡ targets_of (length self.new.claimers.items)
-            (station_at self.new.claimers.items) route.now.sender route.now.to) }
-        ensures wire { IfOk result (λ targets. HasRoomTo self.new.wire route.now.sender targets.items) }
+            (station_at self.new.claimers.items) flow.now.sender flow.now.to) }
+        ensures wire { IfOk result (λ targets. HasRoomTo self.new.wire flow.now.sender targets.items) }
         ensures frames { OnOk result (vec_len self.new.frames < vec_capacity self.new.frames) }
     {
         let alloc = *self.frames.allocator();
-        let targets = targets_of(alloc, self.claimers.as_slice(), route)?;
-        reserve_each(&mut self.wire, route.sender, targets.as_slice())?;
+        let targets = targets_of(alloc, self.claimers.as_slice(), flow)?;
+        reserve_each(&mut self.wire, flow.sender, targets.as_slice())?;
         self.frames.reserve(1)?;
         Ok(targets)
     }
 
-    fn start(&mut self, flow: usize, route: &Route, bytes: &[u8], targets: Vec<usize>)
+    fn start(&mut self, place: usize, flow: &Flow, bytes: &[u8], targets: Vec<usize>)
         requires network { IsNetwork self.old }
-        requires route { IsRoute (length self.old.claimers.items) route.now }
+        requires flow { IsFlow (length self.old.claimers.items) flow.now }
         requires bytes { length bytes.now ≤ 1785 }
-        requires targets { targets.items ≡ targets_of (length self.old.claimers.items) (station_at self.old.claimers.items) route.now.sender route.now.to }
-        requires wire { HasRoomTo self.old.wire route.now.sender targets.items }
+        requires targets { targets.items ≡ targets_of (length self.old.claimers.items) (station_at self.old.claimers.items) flow.now.sender flow.now.to }
+        requires wire { HasRoomTo self.old.wire flow.now.sender targets.items }
         requires frames { vec_len self.old.frames < vec_capacity self.old.frames }
         ensures network { IsNetwork self.new }
         ensures plan { KeepsPlan self.old self.new }
         ensures receivers { self.new.receivers ≡ self.old.receivers }
-        ensures world { (h : Histories) → world_in (has_begun h flow (route_of route.now) targets.items bytes.now) self.new ≡ begins
-            (length self.old.claimers.items) (world_in h self.old) flow (route_of route.now) bytes.now }
+        ensures world { (h : Histories) → world_in (has_begun h place flow.now targets.items bytes.now) self.new ≡ begins
+            (length self.old.claimers.items) (world_in h self.old) place flow.now bytes.now }
     {
-        let source = self.source(route.sender);
-        let destination = self.destination(route.to);
-        let (session, item) = Session::begin(flow, route, bytes, targets);
-        let frame = frame_of(source, destination, route, &item);
-        post_each(&mut self.wire, route.sender, session.targets(), &item);
+        let source = self.source(flow.sender);
+        let destination = self.destination(flow.to);
+        let (session, item) = Session::begin(place, flow, bytes, targets);
+        let frame = frame_of(source, destination, flow, &item);
+        post_each(&mut self.wire, flow.sender, session.targets(), &item);
         post(&mut self.frames, frame);
-        self.sessions[route.sender] = Some(session);
+        self.sessions[flow.sender] = Some(session);
     }
 }

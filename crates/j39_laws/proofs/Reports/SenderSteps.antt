@@ -20,7 +20,8 @@ use Rattle.j39_plan.specs.declared.plan.to.To.{To}
 use Rattle.j39_plan.specs.declared.plan.to.To.TheVariants.{All, One}
 use Rattle.j39_world.specs.declared.wired.Wired.{Wired}
 use Rattle.j39_world.specs.declared.wired.Wired.TheVariants as wired
-use Rattle.j39_world.specs.Flows.{Flow, dest_of, is_short, can_go_to}
+use Rattle.j39_world.specs.Flows.{dest_of, is_short, can_go_to}
+use Rattle.j39_world.specs.declared.flow.Flow.{Flow}
 use Rattle.j39_world.specs.Resting.{can_rest, is_over_with}
 use Rattle.j39_world.specs.Run.{count_of, is_on, at_ends, begin_refusal}
 use Rattle.j39_world.specs.Transfers.{Outgoing, Wire, outcome_in, is_among, added}

@@ -12,7 +12,8 @@ use Rattle.j39_plan.specs.declared.steps.Step.TheVariants.{Up, Down, Give, Ask, 
 use Rattle.j39_world.specs.declared.wired.Wired.{Wired}
 use Rattle.j39_world.specs.declared.wired.Wired.TheVariants as wired
 use Rattle.j39_world.specs.PlannedUnits.{units_of, unit_at}
-use Rattle.j39_world.specs.Flows.{Flow, flows_of, windows_of}
+use Rattle.j39_world.specs.Flows.{flows_of, windows_of}
+use Rattle.j39_world.specs.declared.flow.Flow.{Flow}
 use Rattle.j39_world.specs.World.{World, Stations, Undelivered, changed, changed_pair}
 use Rattle.j39_world.specs.ClaimSteps.{GivenFrom, told_to_others, without_lists_to, answer_items}
 use Rattle.j39_world.specs.TransferSteps.{BeginsAt, TakenFrom, LostFrom}

@@ -22,10 +22,10 @@ returns-clause-network c =
     let table = subst (λ n. IsTable n c.in_ok-claims.claims.lists) (ap length value) c.in_ok-claims.ensures.table in
     record {
       claims = well_opened plan.keep_free units plan.unit_count cs c.in_ok-claims.claims.lists cs_is table;
-      traffic = subst (λ n. IsTraffic n c.in_ok-routes.routes.items c.in_ok-sessions.sessions.items c.in_ok-wire.wire.lists c.in_ok-receivers.receivers)
+      traffic = subst (λ n. IsTraffic n c.in_ok-flows.flows.items c.in_ok-sessions.sessions.items c.in_ok-wire.wire.lists c.in_ok-receivers.receivers)
           (sym (length_opened plan.keep_free units cs cs_is))
           (record {
-            flows = c.in_ok-routes.ensures.fit;
+            flows = c.in_ok-flows.ensures.fit;
             sessions = sessions_first (length units) c.in_ok-sessions.sessions.items (c.in_ok-sessions.ensures ∙ ap (λ n. replicate n None) (ap length value));
             table = subst (λ n. IsTable n c.in_ok-wire.wire.lists) (ap length value) c.in_ok-wire.ensures.table;
             windows = ap length c.in_ok-receivers.ensures.windows ∙ length-map c.as_slice-units.result.now (λ (p : UnitPlan). p.window) ∙ ap length value;
@@ -38,7 +38,7 @@ returns-clause-planned c =
     let value = c.as_slice-units.ensures.value in
     record {
       units = ap planned_units (c.in_ok-claimers.ensures ∙ ap (map (unstarted plan.keep_free)) value) ∙ planned_units-unstarted plan.keep_free plan.units.items;
-      flows = c.in_ok-routes.ensures.flows;
+      flows = c.in_ok-flows.ensures.flows;
       windows = c.in_ok-receivers.ensures.windows ∙ ap (map (λ (p : UnitPlan). p.window)) value;
     }
 

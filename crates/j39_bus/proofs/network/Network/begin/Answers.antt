@@ -1,13 +1,12 @@
-use Rattle.std.proofs.Common.{◌≡◌, ◌<◌, length, map, sym, ap, ◌∙◌, subst, arith}
-use Rattle.std.proofs.lemmas.List.{length-map}
+use Rattle.std.proofs.Common.{◌≡◌, length, sym, ap, ◌∙◌, subst, arith}
 use Rattle.j39_plan.specs.declared.steps.Step.TheVariants.{Begin}
 use Rattle.j39_bus.specs.BusState.{Histories}
 use Rattle.j39_bus.specs.Stands.{HoldTaken}
 use Rattle.j39_bus.specs.inside.Network.{has_begun, world_in}
 use Rattle.j39_world.specs.Run.{count_of}
-use Rattle.j39_bus.specs.inside.Traffic.{IsRoute, route_of}
+use Rattle.j39_bus.specs.inside.Traffic.{IsFlow}
 use Rattle.j39_world.specs.TransferSteps.{BeginsAt, begins}
-use Rattle.j39_bus.proofs.BeginRefused.{flow_inside, is_in_length, planned_flow, route_fits}
+use Rattle.j39_bus.proofs.BeginRefused.{flow_inside, is_in_length, planned_flow, flow_fits}
 use Rattle.j39_bus.proofs.Refused.{nowhere}
 use Rattle.j39_bus.proofs.Rested.{units_count}
 use Rattle.j39_bus.proofs.Steady.{steps_after}
@@ -16,23 +15,22 @@ use Rattle.j39_bus.proofs.network.Network.begin.Goals as goal
 pub index-requires : goal.index-requires
 index-requires c =
     let net = c.args.self.now in
-    let inside : c.args.flow < length (map route_of net.routes.items) =
-    flow_inside (length net.claimers.items) (world_in nowhere net) (map route_of net.routes.items) c.args.flow c.args.bytes.now.items
+    let inside = flow_inside (length net.claimers.items) (world_in nowhere net) net.flows.items c.args.place c.args.bytes.now.items
     (c.requires.allowed nowhere) in
-    omega (arith, inside, length-map net.routes.items route_of)
+    omega (arith, inside, net.flows.ok.0)
 
-pub prepare-requires-clause-route : goal.prepare-requires-clause-route
-prepare-requires-clause-route c = route_fits c.args.self.now c.requires.network c.args.flow c.args.bytes.now.items c.requires.allowed c.index.result.now
+pub prepare-requires-clause-flow : goal.prepare-requires-clause-flow
+prepare-requires-clause-flow c = flow_fits c.args.self.now c.requires.network c.args.place c.args.bytes.now.items c.requires.allowed c.index.result.now
     c.index.ensures
 
-pub start-requires-clause-route : goal.start-requires-clause-route
-start-requires-clause-route c =
-    let fits = route_fits c.args.self.now c.requires.network c.args.flow c.args.bytes.now.items c.requires.allowed c.index.result.now c.index.ensures in
-    subst (λ cs. IsRoute (length cs) c.index.result.now) (sym c.prepare.ensures.same.claimers) fits
+pub start-requires-clause-flow : goal.start-requires-clause-flow
+start-requires-clause-flow c =
+    let fits = flow_fits c.args.self.now c.requires.network c.args.place c.args.bytes.now.items c.requires.allowed c.index.result.now c.index.ensures in
+    subst (λ cs. IsFlow (length cs) c.index.result.now) (sym c.prepare.ensures.same.claimers) fits
 
 pub start-requires-clause-bytes : goal.start-requires-clause-bytes
 start-requires-clause-bytes c =
-    let fits = is_in_length c.args.self.now c.requires.network c.args.flow c.args.bytes.now.items c.requires.allowed c.index.result.now c.index.ensures in
+    let fits = is_in_length c.args.self.now c.requires.network c.args.place c.args.bytes.now.items c.requires.allowed c.index.result.now c.index.ensures in
     omega (arith, fits, ap length c.as_slice.ensures.value)
 
 pub returns-clause-steps : goal.returns-clause-steps
@@ -41,15 +39,15 @@ returns-clause-steps c = λ plan of.
     let r = c.index.result.now in
     let mid = c.prepare.new.self in
     let bytes = c.args.bytes.now in
-    let planned = planned_flow net c.requires.network c.args.flow bytes.items c.requires.allowed r c.index.ensures plan of in
-    steps_after net mid c.prepare.ensures.same plan (Begin c.args.flow bytes) c.start.new.self
+    let planned = planned_flow net c.requires.network c.args.place bytes.items c.requires.allowed r c.index.ensures plan of in
+    steps_after net mid c.prepare.ensures.same plan (Begin c.args.place bytes) c.start.new.self
     (λ h held.
-    let after : Histories = has_begun h c.args.flow (route_of r) c.in_ok-targets.targets.items c.as_slice.result.now in
-    let begun : world_in after c.start.new.self ≡ begins (count_of plan) (world_in h mid) c.args.flow (route_of r) bytes.items =
+    let after : Histories = has_begun h c.args.place r c.in_ok-targets.targets.items c.as_slice.result.now in
+    let begun : world_in after c.start.new.self ≡ begins (count_of plan) (world_in h mid) c.args.place r bytes.items =
     c.start.ensures.world h
-    ∙ (λ i. begins ((ap length c.prepare.ensures.same.claimers ∙ sym (units_count plan net of)) i) (world_in h mid) c.args.flow (route_of r)
+    ∙ (λ i. begins ((ap length c.prepare.ensures.same.claimers ∙ sym (units_count plan net of)) i) (world_in h mid) c.args.place r
     (c.as_slice.ensures.value i)) in (
       after,
-      subst (λ o. BeginsAt (count_of plan) (world_in h mid) c.args.flow o bytes.items (world_in after c.start.new.self)) (sym planned) begun,
+      subst (λ o. BeginsAt (count_of plan) (world_in h mid) c.args.place o bytes.items (world_in after c.start.new.self)) (sym planned) begun,
       subst (HoldTaken h.taken) (sym c.start.ensures.receivers) held,
     ))

@@ -64,7 +64,7 @@ returns-in-Some-answer-clause-plan g c = record {
       ap (λ v. planned_units v.items) c.tell.ensures.claimers
       ∙ planned_units_heard c.args.self.now.claimers.items c.args.to c.name-name.result c.in-Some.item
       (Some c.in-Some-answer.say) c.hear-answer.new.claimers.items c.in-Some-answer.ensures.rule;
-  routes = ap (λ (m : Network). m.routes.items) c.tell.ensures.rest;
+  flows = ap (λ (m : Network). m.flows.items) c.tell.ensures.rest;
   windows = ap (λ (m : Network). m.receivers.windows) c.tell.ensures.rest;
 }
 
@@ -92,7 +92,7 @@ returns-in-None-clause-network g c =
       claims = well_heard cs c.args.self.now.claims.lists c.requires.network.claims c.args.to c.requires.to c.name-name.result is_one c.in-Some.item None
           c.hear-answer.new.claimers.items c.in-None.ensures.rule
           c.pop.new.self.lists c.pop.ensures.table;
-      traffic = subst (λ (n : ℕ). IsTraffic n net.routes.items net.sessions.items net.wire.lists net.receivers)
+      traffic = subst (λ (n : ℕ). IsTraffic n net.flows.items net.sessions.items net.wire.lists net.receivers)
           (sym (ap length c.in-None.ensures.rule.1 ∙ length-set cs c.args.to (record (get_or cs c.args.to absent_unit) { state = c.in-None.ensures.rule.0 })))
           c.requires.network.traffic;
     }
@@ -101,7 +101,7 @@ pub returns-in-None-clause-plan : goal.returns-in-None-clause-plan
 returns-in-None-clause-plan g c = record {
   planned_units = planned_units_heard c.args.self.now.claimers.items c.args.to c.name-name.result c.in-Some.item None c.hear-answer.new.claimers.items
       c.in-None.ensures.rule;
-  routes = refl;
+  flows = refl;
   windows = refl;
 }
 

@@ -43,7 +43,7 @@ returns-clause-network c =
       claims = well_on cs c.args.self.now.claims.lists c.requires.network.claims c.args.unit inside c.stop.new.self same
           (ap (λ (k : ClaimerValue). k.state.notes) c.stop.ensures)
           c.clear_to.new.self.lists c.clear_to.ensures.table;
-      traffic = subst (λ n. IsTraffic n new.routes.items new.sessions.items new.wire.lists new.receivers) (sym (length-set cs c.args.unit c.stop.new.self))
+      traffic = subst (λ n. IsTraffic n new.flows.items new.sessions.items new.wire.lists new.receivers) (sym (length-set cs c.args.unit c.stop.new.self))
           (wired_traffic _ _ _ _ _ _ c.requires.network.traffic c.clear_to-2.ensures.table);
     }
 
@@ -53,7 +53,7 @@ returns-clause-plan c =
     record {
       planned_units = planned_units_off c.args.self.now.claimers.items c.args.unit inside c.index_mut.result.now c.stop.new.self c.index_mut.ensures.value
           c.stop.ensures;
-      routes = refl;
+      flows = refl;
       windows = refl;
     }
 

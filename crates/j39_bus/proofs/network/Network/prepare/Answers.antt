@@ -8,8 +8,8 @@ use Rattle.j39_bus.proofs.network.Network.prepare.Goals as goal
 pub reserve_each-requires-clause-targets : goal.reserve_each-requires-clause-targets
 reserve_each-requires-clause-targets c =
     let cs = c.args.self.now.claimers.items in
-    let r = c.args.route.now in
-    let units = targets_units (length cs) (station_at cs) r.sender r.to c.requires.route.receiver in
+    let r = c.args.flow.now in
+    let units = targets_units (length cs) (station_at cs) r.sender r.to c.requires.flow.receiver in
     let targets = c.as_slice-2.ensures.value ∙ c.in_ok-targets.ensures
     ∙ ap (λ l. targets_of (length l) (station_at l) r.sender r.to) c.as_slice.ensures.value in
     subst (λ n. AreUnits n c.as_slice-2.result.now) (sym c.requires.network.traffic.table.rows) (subst (AreUnits (length cs)) (sym targets) units)

@@ -46,7 +46,7 @@ returns-clause-plan c = record {
       let cs : List ClaimerValue = c.args.self.now.claimers.items in
       ap (λ v. map (λ (k : ClaimerValue). k.planned) v.items) c.tell.ensures.claimers
       ∙ planned_units_on cs c.args.unit c.requires.place c.index_mut.result.now c.start-say.new.self c.index_mut.ensures.value c.start-say.ensures.started;
-  routes = ap (λ (m : Network). m.routes.items) c.tell.ensures.rest;
+  flows = ap (λ (m : Network). m.flows.items) c.tell.ensures.rest;
   windows = ap (λ (m : Network). m.receivers.windows) c.tell.ensures.rest;
 }
 

@@ -1,12 +1,13 @@
-use Rattle.std.proofs.Common.{◌≡◌, ℕ, ◌<◌, ◌∷◌, [], ◌++◌, All, length, map, get_or, refl, ap, sym, ◌∙◌, subst, arith}
-use Rattle.std.proofs.lemmas.List.{map-append, map_more}
+use Rattle.std.proofs.Common.{◌≡◌, ℕ, ◌<◌, ◌∷◌, [], ◌++◌, All, length, get_or, refl, ap, sym, ◌∙◌, subst, arith}
+use Rattle.std.proofs.lemmas.List.{map_more}
 use Rattle.std.proofs.lemmas.List.Elements.{All-push}
 use Rattle.j39_plan.specs.declared.plan.flow_plan.FlowPlan.{FlowPlan}
 use Rattle.j39_plan.specs.declared.plan.to.To.{To}
 use Rattle.j39_plan.specs.declared.plan.to.To.TheVariants.{All as ToAll, One}
-use Rattle.j39_world.specs.Flows.{Flow, flow_of}
-use Rattle.j39_bus.specs.inside.Traffic.{IsInside, IsRoute, route_of}
-use Rattle.j39_bus.proofs.route.routes_of.Goals as goal
+use Rattle.j39_world.specs.Flows.{flow_of}
+use Rattle.j39_world.specs.declared.flow.Flow.{Flow}
+use Rattle.j39_bus.specs.inside.Traffic.{IsInside, IsFlow}
+use Rattle.j39_bus.proofs.flows.flows_of.Goals as goal
 
 inside_by : (n : ℕ) (to : To) → ((v : ℕ) → to ≡ One v → v < n) → IsInside n to
 inside_by n ToAll is = tt
@@ -22,19 +23,19 @@ loop-flow-preserved c =
     let inside : k < length xs = omega arith in
     let planned : k < length plan.flows.items = omega (arith, inside, ap length c.deref-flow-items.ensures.value) in
     let at : get_or xs k d ≡ get_or plan.flows.items k d = ap (λ ys. get_or ys k d) c.deref-flow-items.ensures.value in
-    let flow : route_of c.route_of.result ≡ flow_of plan.groups.items (get_or xs k d) = c.route_of.ensures.flow
+    let flow : c.flow_of.result ≡ flow_of plan.groups.items (get_or xs k d) = c.flow_of.ensures.flow
     ∙ ap (λ gs. flow_of gs (get_or xs k d)) c.as_slice.ensures.value in
-    let sender : c.route_of.result.sender ≡ (get_or plan.flows.items k d).sender = ap (λ (f : Flow). f.sender) flow ∙ ap (λ (f : FlowPlan). f.sender) at in
-    let to : c.route_of.result.to ≡ (get_or plan.flows.items k d).to = ap (λ (f : Flow). f.to) flow ∙ ap (λ (f : FlowPlan). f.to) at in
-    let fits : IsRoute n c.route_of.result = record {
+    let sender : c.flow_of.result.sender ≡ (get_or plan.flows.items k d).sender = ap (λ (f : Flow). f.sender) flow ∙ ap (λ (f : FlowPlan). f.sender) at in
+    let to : c.flow_of.result.to ≡ (get_or plan.flows.items k d).to = ap (λ (f : Flow). f.to) flow ∙ ap (λ (f : FlowPlan). f.to) at in
+    let fits : IsFlow n c.flow_of.result = record {
       sender = subst (λ s. s < n) (sym sender) (plan.flow_senders k d planned);
       receiver = subst (IsInside n) (sym to) (inside_by n (get_or plan.flows.items k d).to (plan.flow_receivers k d planned));
-      length = c.route_of.ensures.length;
-      priority = c.route_of.ensures.priority;
+      length = c.flow_of.ensures.length;
+      priority = c.flow_of.ensures.priority;
     } in
     record {
-      flows = ap (map route_of) c.in_ok-push.ensures.items ∙ map-append route_of c.loop-flow.routes.items (c.route_of.result ∷ [])
+      flows = c.in_ok-push.ensures.items
           ∙ (λ i. c.loop-flow.invariant.flows i ++ flow i ∷ []) ∙ sym (map_more (flow_of plan.groups.items) xs k d inside);
-      fit = subst (All (IsRoute n)) (sym c.in_ok-push.ensures.items)
-          (All-push (IsRoute n) c.loop-flow.routes.items c.route_of.result c.loop-flow.invariant.fit fits);
+      fit = subst (All (IsFlow n)) (sym c.in_ok-push.ensures.items)
+          (All-push (IsFlow n) c.loop-flow.flows.items c.flow_of.result c.loop-flow.invariant.fit fits);
     }
