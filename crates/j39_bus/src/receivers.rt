@@ -110,10 +110,30 @@ fn leave(slot: &mut Option<Box<Receiver>>)
     }
 }
 
+// Room for the message that a packet completes.
+fn room_for(
+    alloc: Global,
+    slot: &Option<Box<Receiver>>,
+    packet: &Packet,
+) -> Result<Vec<u8>, AllocError>
+    ensures none { IfOk result (λ bytes. bytes.items ≡ []) }
+    ensures room { IfOk result (λ bytes. (window : ℕ) → IsAnswering window slot.now
+        → HasRoomFor (answering window (holding_of slot.now)) packet.now bytes) }
+{
+    let size = match slot {
+        Some(receiver) => receiver.completes(packet),
+        None => None,
+    };
+    match size {
+        Some(size) => Vec::with_capacity(alloc, usize::from(size.bytes())),
+        None => Ok(Vec::new(alloc)),
+    }
+}
+
 // The message that a receiver has completed joins the bytes.
 fn collect(slot: &Option<Box<Receiver>>, bytes: &mut Vec<u8>)
     requires none { bytes.old.items ≡ [] }
-    requires room { 1785 ≤ vec_capacity bytes.old }
+    requires room { length (holding_of slot.now).bytes ≤ vec_capacity bytes.old }
     ensures { bytes.new.items ≡ message_of (holding_of slot.now).progress (holding_of slot.now).bytes }
 {
     if let Some(receiver) = slot {
@@ -121,35 +141,33 @@ fn collect(slot: &Option<Box<Receiver>>, bytes: &mut Vec<u8>)
     }
 }
 
-// What a receiver of this window does with a packet. It is made by an announcement. The message that it completes joins the
-// bytes, and it is given up where it is not open.
+// What a receiver of this window does with a packet, and the message that the packet completes. A receiver is made by an
+// announcement, and given up where it is not open.
 fn hear_in(
     alloc: Global,
     slot: &mut Option<Box<Receiver>>,
     window: u8,
     packet: &Packet,
-    bytes: &mut Vec<u8>,
-) -> Result<Heard, AllocError>
+) -> Result<(Heard, Vec<u8>), AllocError>
     requires window { 0 < window }
     requires answering { IsAnswering window slot.old }
-    requires none { bytes.old.items ≡ [] }
-    requires room { HasRoomFor packet.now bytes.old }
-    ensures heard { IfOk result (λ heard. heard ≡ (hears (Answering window) (holding_of slot.old).progress packet.now).1) }
+    ensures heard { IfOk result (λ r. r.0 ≡ (hears (Answering window) (holding_of slot.old).progress packet.now).1) }
     ensures after { OnOk result (holding_of slot.new ≡ left_of (receives (answering window (holding_of slot.old)) packet.now)) }
-    ensures message { IfOk result (λ heard. is_complete heard ≡ true
-        → bytes.new.items ≡ message_in (receives (answering window (holding_of slot.old)) packet.now)) }
+    ensures message { IfOk result (λ r. is_complete r.0 ≡ true
+        → r.1.items ≡ message_in (receives (answering window (holding_of slot.old)) packet.now)) }
     ensures same { OnErr result (holding_of slot.new ≡ holding_of slot.old) }
     ensures answering { IsAnswering window slot.new }
 {
+    let mut bytes = room_for(alloc, slot, packet)?;
     if is_announcement(packet) {
         fill(alloc, slot, window)?;
     }
     let heard = tell(slot, packet);
     if is_complete(&heard) {
-        collect(slot, bytes);
+        collect(slot, &mut bytes);
     }
     leave(slot);
-    Ok(heard)
+    Ok((heard, bytes))
 }
 
 // What a receiver sends that has heard nothing in time. It is given up where it is not open.
@@ -200,30 +218,27 @@ impl Receivers {
         Ok(Receivers { windows, rows })
     }
 
-    /// What the receiver of a unit does with a packet of another. The message that it completes joins the bytes.
+    /// What the receiver of a unit does with a packet of another, and the message that the packet completes.
     pub(crate) fn hear(
         &mut self,
         alloc: Global,
         from: usize,
         to: usize,
         packet: &Packet,
-        bytes: &mut Vec<u8>,
-    ) -> Result<Heard, AllocError>
+    ) -> Result<(Heard, Vec<u8>), AllocError>
         requires from { from < length self.old.windows }
         requires to { to < length self.old.windows }
-        requires none { bytes.old.items ≡ [] }
-        requires room { HasRoomFor packet.now bytes.old }
         ensures windows { self.new.windows ≡ self.old.windows }
-        ensures heard { IfOk result (λ heard. let r = receiver_at self.old to from in heard ≡ (hears r.manner r.progress packet.now).1) }
+        ensures heard { IfOk result (λ x. let r = receiver_at self.old to from in x.0 ≡ (hears r.manner r.progress packet.now).1) }
         ensures after { OnOk result (holding_at self.new.holdings ≡ changed_pair (holding_at self.old.holdings) to from
             (left_of (receives (receiver_at self.old to from) packet.now))) }
-        ensures message { IfOk result (λ heard. is_complete heard ≡ true → bytes.new.items ≡ message_in (receives (receiver_at self.old to from) packet.now)) }
+        ensures message { IfOk result (λ x. is_complete x.0 ≡ true → x.1.items ≡ message_in (receives (receiver_at self.old to from) packet.now)) }
         ensures same { OnErr result (self.new ≡ self.old) }
     {
         let window = self.windows[to];
         let row = &mut self.rows[to];
         let slot = &mut row[from];
-        hear_in(alloc, slot, window, packet, bytes)
+        hear_in(alloc, slot, window, packet)
     }
 
     /// What the receiver of a unit sends that has heard nothing of another in time.

@@ -4,6 +4,7 @@ pub mod Gathering
 pub mod Hearing
 pub mod Holding
 pub mod Honest
+pub mod LastPackets
 pub mod PacketLaws
 pub mod Tracking
 pub mod Walks

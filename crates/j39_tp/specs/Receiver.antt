@@ -1,7 +1,7 @@
 -- The rules of a transport receiver, on plain numbers: what was announced, how many packets are held in order, the last
 -- that was granted, and how often one was asked for again (SAE J1939-21, transport protocol functions; what a receiver
 -- does with missing packets is a profile of our own).
-use Rattle.std.specs.Prelude.{ℕ, ◌+◌, ◌-◌, ◌==◌, ◌&&◌, nat_lt, nat_le, Bool, true, false, if◌then◌else◌, min, List, [], ◌++◌, take, Option, Some, None}
+use Rattle.std.specs.Prelude.{ℕ, ◌+◌, ◌-◌, ◌==◌, ◌&&◌, nat_lt, nat_le, Bool, true, false, if◌then◌else◌, min, List, [], ◌++◌, length, take, Option, Some, None}
 use Rattle.j39_tp.specs.Chunks.{packets_of}
 use Rattle.j39_tp.specs.Packets.{no_limit}
 use Rattle.j39_tp.specs.Reasons.{timeout, asked_too_often}
@@ -165,6 +165,16 @@ gives_up s = record s { progress = (timed_out s.manner s.progress).0; bytes = by
 abbrev pub message_of : Progress → List ℕ → List ℕ
 message_of (Complete pgn) bytes = bytes
 message_of _ bytes = []
+
+-- the size of a message that is told as complete
+abbrev pub size_told : Heard → List ℕ → Option ℕ
+size_told heard.Complete bytes = Some (length bytes)
+size_told (heard.CompleteReply packet) bytes = Some (length bytes)
+size_told _ bytes = None
+
+-- the size of the message that a packet completes
+abbrev pub completed_size : Receiving → Packet → Option ℕ
+completed_size s packet = size_told (hears s.manner s.progress packet).1 (receives s packet).bytes
 
 -- a receiver that was just made
 abbrev pub fresh : Manner → Receiving

@@ -1,12 +1,12 @@
 -- The table of receivers, and what it keeps true.
-use Rattle.std.specs.Prelude.{◌≡◌, ℕ, ◌<◌, ◌≤◌, Bool, true, false, List, [], map, length, Option, Some, None, slice_index_or, vec_capacity}
+use Rattle.std.specs.Prelude.{◌≡◌, ℕ, ◌<◌, ◌≤◌, Bool, true, false, List, [], map, length, Option, Some, None, slice_index_or, vec_capacity, IfSome}
 use Rattle.std.specs.declared.alloc.Global.{Global}
 use Rattle.std.specs.declared.boxed.Box.{Box}
 use Rattle.std.specs.declared.vec.Vec.{Vec}
 use Rattle.j39_queues.specs.Queued.{IsTable}
-use Rattle.j39_tp.specs.Receiver.{Receiving, message_of}
+use Rattle.j39_tp.specs.Receiver.{Receiving, completed_size, message_of}
 use Rattle.j39_tp.specs.declared.packet.Packet.{Packet}
-use Rattle.j39_tp.specs.declared.packet.Packet.TheVariants.{Rts, Bam, Dt}
+use Rattle.j39_tp.specs.declared.packet.Packet.TheVariants.{Rts, Bam}
 use Rattle.j39_tp.specs.declared.receiving.heard.Heard.{Heard}
 use Rattle.j39_tp.specs.declared.receiving.heard.Heard.TheVariants as heards
 use Rattle.j39_tp.specs.declared.receiving.manner.Manner.TheVariants.{Answering}
@@ -77,7 +77,6 @@ is_complete heards.Complete = true
 is_complete (heards.CompleteReply p) = true
 is_complete _ = false
 
--- there is room for the longest message where a packet may complete one
-abbrev pub HasRoomFor : Packet → Vec ℕ Global → Type 0
-HasRoomFor (Dt number chunk) bytes = 1785 ≤ vec_capacity bytes
-HasRoomFor _ bytes = Unit {0}
+-- there is room for the message that a packet completes
+abbrev pub HasRoomFor : Receiving → Packet → Vec ℕ Global → Type 0
+HasRoomFor r packet bytes = IfSome (completed_size r packet) (λ n. n ≤ vec_capacity bytes)

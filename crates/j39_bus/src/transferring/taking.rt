@@ -6,7 +6,7 @@ ghost use Rattle.j39_queues.specs.Queued.{KeepsRoom, pair_in, room_at};
 ghost use Rattle.j39_tp.specs.Carried.{Carried};
 ghost use Rattle.j39_bus.specs.BusState.{Histories};
 ghost use Rattle.j39_bus.specs.inside.Network.{HasHeld, HasStepped, IsAllowed, IsNetwork, IsOfPlan, IsSameNetwork, KeepsPlan, TakesOldest, has_taken, world_in};
-ghost use Rattle.j39_bus.specs.inside.Receivers.{HasRoomFor, is_complete};
+ghost use Rattle.j39_bus.specs.inside.Receivers.{is_complete};
 ghost use Rattle.j39_bus.specs.inside.Traffic.{packet_heard};
 ghost use Rattle.j39_world.specs.TransferSteps.{hearing, packets_in, reaction_of, receiver_replies, report, sender_replies};
 
@@ -18,10 +18,7 @@ use crate::sessions;
 use crate::wire::oldest;
 use j39_tp::{Heard, Packet, Reaction, known_ranges, receivers_gather_what_they_hear};
 use j39_world::Wired;
-use std::alloc::{AllocError, Global};
-
-/// The longest message.
-const MESSAGE_LENGTH: usize = 1785;
+use std::alloc::AllocError;
 
 /// How many packets a unit answers at most: its receiver one, and its sender one.
 const ANSWERS: usize = 2;
@@ -44,16 +41,6 @@ fn answer_of(reaction: &Reaction) -> Option<Packet>
     match reaction {
         Reaction::Reply(packet) => Some(*packet),
         _ => None,
-    }
-}
-
-/// The same bytes in as much memory as they need, if there is so much.
-fn fitted(alloc: Global, bytes: Vec<u8>) -> Vec<u8>
-    ensures { result.items ≡ bytes.items }
-{
-    match Vec::from_slice(alloc, bytes.as_slice()) {
-        Ok(copy) => copy,
-        Err(_) => bytes,
     }
 }
 
@@ -117,29 +104,16 @@ impl Network {
         ensures takes { OnOk result (TakesOldest self.old from to self.new) }
         ensures same { OnErr result (IsSameNetwork self.old self.new) }
     {
-        let room = match packet {
-            Packet::Dt { .. } => MESSAGE_LENGTH,
-            _ => 0,
-        };
-        let bytes = Vec::with_capacity(*self.frames.allocator(), room)?;
         self.reports.reserve(1)?;
         self.reserve_replies(to, from, ANSWERS)?;
-        self.hear_packet(from, to, packet, bytes)
+        self.hear_packet(from, to, packet)
     }
 
-    fn hear_packet(
-        &mut self,
-        from: usize,
-        to: usize,
-        packet: &Packet,
-        mut bytes: Vec<u8>,
-    ) -> Result<(), AllocError>
+    fn hear_packet(&mut self, from: usize, to: usize, packet: &Packet) -> Result<(), AllocError>
         requires network { IsNetwork self.old }
         requires from { from < length self.old.claimers.items }
         requires to { to < length self.old.claimers.items }
         requires oldest { pair_in self.old.wire.lists from to ≡ Wired.Packet packet.now ∷ drop 1 (pair_in self.old.wire.lists from to) }
-        requires none { bytes.items ≡ [] }
-        requires room { HasRoomFor packet.now bytes }
         requires reports { vec_len self.old.reports < vec_capacity self.old.reports }
         requires wire { 2 ≤ room_at self.old.wire to from }
         requires frames { vec_len self.old.frames + 2 ≤ vec_capacity self.old.frames }
@@ -148,51 +122,47 @@ impl Network {
         ensures takes { OnOk result (TakesOldest self.old from to self.new) }
         ensures same { OnErr result (IsSameNetwork self.old self.new) }
     {
-        let (heard, reaction) = self.listen(from, to, packet, &mut bytes)?;
+        let (heard, bytes, reaction) = self.listen(from, to, packet)?;
         if is_complete(&heard) {
-            let message = fitted(*self.frames.allocator(), bytes);
-            self.report(from, to, message);
+            self.report(from, to, bytes);
         }
         self.reply(to, from, reply_of(&heard));
         self.reply(to, from, answer_of(&reaction));
         Ok(())
     }
 
-    /// The receiver of the second unit for the first, and its sender, hear the packet that is the oldest on the wire. The message
-    /// that it completes joins the bytes.
+    /// The receiver of the second unit for the first, and its sender, hear the packet that is the oldest on the wire: what the
+    /// receiver does, the message that the packet completes, and what the sender does.
     fn listen(
         &mut self,
         from: usize,
         to: usize,
         packet: &Packet,
-        bytes: &mut Vec<u8>,
-    ) -> Result<(Heard, Reaction), AllocError>
+    ) -> Result<(Heard, Vec<u8>, Reaction), AllocError>
         requires network { IsNetwork self.old }
         requires from { from < length self.old.claimers.items }
         requires to { to < length self.old.claimers.items }
-        requires none { bytes.old.items ≡ [] }
-        requires room { HasRoomFor packet.now bytes.old }
         ensures network { IsNetwork self.new }
         ensures plan { KeepsPlan self.old self.new }
         ensures reports { self.new.reports ≡ self.old.reports }
         ensures frames { self.new.frames ≡ self.old.frames }
         ensures room { KeepsRoom self.old.wire self.new.wire }
         ensures heard { IfOk result (λ r. (h : Histories) → r.0 ≡ (hearing self.old.receivers.windows (world_in h self.old) from to packet.now).1) }
-        ensures reaction { IfOk result (λ r. (h : Histories) → r.1 ≡ reaction_of ((world_in h self.old).sessions to) from packet.now) }
+        ensures reaction { IfOk result (λ r. (h : Histories) → r.2 ≡ reaction_of ((world_in h self.old).sessions to) from packet.now) }
         ensures world { OnOk result ((h : Histories) → world_in (has_taken h to from packet.now) self.new ≡ packet_heard self.old.receivers.windows
             (world_in h self.old) from to packet.now) }
         ensures held { OnOk result ((h : Histories) → HasHeld h self.old → HasHeld (has_taken h to from packet.now) self.new) }
         ensures complete { IfOk result (λ r. (h : Histories) → HasHeld h self.old → is_complete r.0 ≡ true
-            → (pgn : ℕ) × Carried (h.taken to from ++ packet.now ∷ []) (length (h.taken to from)) pgn bytes.new.items) }
+            → (pgn : ℕ) × Carried (h.taken to from ++ packet.now ∷ []) (length (h.taken to from)) pgn r.1.items) }
         ensures same { OnErr result (IsSameNetwork self.old self.new) }
     {
         receivers_gather_what_they_hear();
         known_ranges(packet);
         let alloc = *self.frames.allocator();
-        let heard = self.receivers.hear(alloc, from, to, packet, bytes)?;
+        let (heard, bytes) = self.receivers.hear(alloc, from, to, packet)?;
         drop(self.wire.pop(from, to));
         let reaction = sessions::hear(&mut self.sessions, to, from, packet);
-        Ok((heard, reaction))
+        Ok((heard, bytes, reaction))
     }
 
     /// The second unit reports a message of the first.

@@ -2,13 +2,13 @@
 ghost use Rattle.std.specs.Prelude.{◌≡◌, ◌<◌, true};
 ghost use Rattle.j39_tp.specs.Chunks.{packets_of};
 ghost use Rattle.j39_tp.specs.Receiver.{going_on, takes_next, takes_later, takes, asks, hears, timed_out, pgn_at};
-ghost use Rattle.j39_tp.specs.inside.Held.{is_within};
+ghost use Rattle.j39_tp.specs.inside.Held.{is_within, last_size};
 
 use super::manner::Manner;
 use super::reception::{Kind, Reception};
 use crate::packet::NO_LIMIT;
 use crate::packet::reasons::{ASKED_TOO_OFTEN, TIMEOUT};
-use crate::{Heard, Packet};
+use crate::{Heard, Packet, Size};
 use j39_id::Pgn;
 
 /// How often a session asks again for a packet.
@@ -167,6 +167,25 @@ impl Progress {
                 (progress, Some(packet))
             }
             _ => (Progress::Closed, None),
+        }
+    }
+
+    /// The size of the message whose last packet this is.
+    pub(crate) fn last_size(self, packet: &Packet) -> Option<Size>
+        requires { is_within self ≡ true }
+        ensures { result ≡ last_size self packet.now }
+    {
+        let Progress::Open(reception) = self else {
+            return None;
+        };
+        let Packet::Dt { number, .. } = *packet else {
+            return None;
+        };
+        let size = reception.size;
+        if reception.is_last(number) {
+            Some(size)
+        } else {
+            None
         }
     }
 

@@ -72,7 +72,7 @@ fn append(bytes: &mut ArrayVec<u8, MESSAGE_BYTES>, size: Size, chunk: [u8; 7])
 impl Receiver {
     ghost use Rattle.j39_id.specs.Limits.{message_bytes};
     ghost use Rattle.j39_tp.specs.declared.receiving.manner.Manner.TheVariants.{Answering, Listening};
-    ghost use Rattle.j39_tp.specs.Receiver.{fresh, hears, receives, timed_out, gives_up, is_open_at, pgn_at, message_of};
+    ghost use Rattle.j39_tp.specs.Receiver.{fresh, hears, receives, timed_out, gives_up, is_open_at, pgn_at, message_of, completed_size};
 
     /// A closed receiver that grants at most `window` packets in each CTS; `None` for 0.
     pub fn new(window: u8) -> Option<Self>
@@ -113,6 +113,14 @@ impl Receiver {
         self.progress = progress;
         settle(&mut self.bytes, self.progress);
         heard
+    }
+
+    /// The size of the message that a packet completes, `None` where it completes none.
+    pub fn completes(&self, packet: &Packet) -> Option<Size>
+        ensures { result ≡ completed_size self.now packet.now }
+    {
+        known_ranges(packet);
+        self.progress.last_size(packet)
     }
 
     /// What it sends where nothing was heard in time.

@@ -1,5 +1,5 @@
 //! An open session of a receiver.
-ghost use Rattle.std.specs.Prelude.{◌≡◌, ◌<◌};
+ghost use Rattle.std.specs.Prelude.{◌≡◌, ◌<◌, ◌+◌, ◌==◌, ◌&&◌};
 
 use crate::packet::NO_LIMIT;
 use crate::{Packet, Size};
@@ -44,6 +44,14 @@ impl Reception {
             granted: 0,
             asked: 0,
         }
+    }
+
+    /// Whether the data packet of this number is the last one, and awaited.
+    pub(crate) fn is_last(self, number: u8) -> bool
+        requires { self.held < packets_of self.size }
+        ensures { result ≡ (number == self.held + 1 && self.held + 1 == packets_of self.size) }
+    {
+        number == self.held + 1 && number == self.size.packets()
     }
 
     /// Grants the packets after those that are held, at most a window of them.

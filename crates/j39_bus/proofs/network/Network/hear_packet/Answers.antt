@@ -27,7 +27,7 @@ returns-clause-takes c = λ h held.
     let w : World = world_in h net in
     let windows = net.receivers.windows in
     let listened = c.in_ok-heard.ensures in
-    let bytes = c.listen.new.bytes.items in
+    let bytes = c.in_ok-heard.bytes.items in
     let rest : List Wired = drop 1 (pair_in net.wire.lists u v) in
     let after : Histories = has_taken h v u p in
     let heard : Heard = (hearing windows w u v p).1 in
@@ -52,9 +52,6 @@ returns-clause-takes c = λ h held.
                 let one : Reported = report w u v bytes in
                 let reported : world_in after c.if-is_complete.self ≡ record mid { reports = w.reports ++ one ∷ [] } =
                 ap (world_in after) t.self-is ∙ t.report.ensures.world after
-                ∙ (λ i. record (world_in after c.listen.new.self) {
-                  reports = (world_in after c.listen.new.self).reports ++ report (world_in after c.listen.new.self) u v (t.fitted-message.ensures i) ∷ [];
-                })
                 ∙ (λ i. record (listened.world h i) { reports = (listened.world h i).reports ++ report (listened.world h i) u v bytes ∷ [] })
                 ∙ (λ i. record mid { reports = w.reports ++ record one { flow = flow_kept w u v p i } ∷ [] }) in
                 (one ∷ [], one_report w u v p heard (one ∷ []) (ap is_complete (sym heard_is) ∙ done) (pgn, bytes, carried, refl), answered (one ∷ []) reported)
