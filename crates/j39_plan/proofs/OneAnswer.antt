@@ -4,21 +4,21 @@ use Rattle.std.specs.List.{AllZip}
 use Rattle.std.proofs.lemmas.Option.{same_Some, none-some}
 use Rattle.toml.specs.Data.{Data, Items, no_items, item, Members}
 use Rattle.j39_signal.specs.Parts.{SignalParts}
-use Rattle.j39_plan.specs.declared.plan.Plan.{Plan}
-use Rattle.j39_plan.specs.declared.plan.unit_plan.UnitPlan.{UnitPlan}
-use Rattle.j39_plan.specs.declared.plan.group_plan.GroupPlan.{GroupPlan}
-use Rattle.j39_plan.specs.declared.plan.flow_plan.FlowPlan.{FlowPlan}
+use Rattle.j39_findings.specs.declared.plan.Plan.{Plan}
+use Rattle.j39_findings.specs.declared.plan.unit_plan.UnitPlan.{UnitPlan}
+use Rattle.j39_findings.specs.declared.plan.group_plan.GroupPlan.{GroupPlan}
+use Rattle.j39_findings.specs.declared.plan.flow_plan.FlowPlan.{FlowPlan}
 use Rattle.j39_plan.specs.declared.reading.fault.Fault.{Fault}
 use Rattle.j39_plan.specs.declared.reading.plan_error.PlanError.{PlanError}
 use Rattle.j39_plan.specs.declared.reading.plan_error.PlanError.TheVariants as errors
 use Rattle.j39_plan.specs.Elements.{Each, inside}
 use Rattle.j39_plan.specs.Outcome.{first}
-use Rattle.j39_plan.specs.Units.{IsUnitOf}
-use Rattle.j39_plan.specs.Signals.{IsSignalOf}
-use Rattle.j39_plan.specs.Groups.{IsGroupOf, signal_rule}
-use Rattle.j39_plan.specs.Flows.{IsFlowOf}
+use Rattle.j39_plan.specs.UnitTables.{IsUnitOf}
+use Rattle.j39_plan.specs.SignalTables.{IsSignalOf}
+use Rattle.j39_plan.specs.GroupTables.{IsGroupOf, signal_rule}
+use Rattle.j39_plan.specs.FlowTables.{IsFlowOf}
 use Rattle.j39_plan.specs.Schema.{tables_of}
-use Rattle.j39_plan.specs.Findings.{AreOneFlow}
+use Rattle.j39_findings.specs.Findings.{AreOneFlow}
 use Rattle.j39_plan.specs.Faults.{faults, unit_rule, group_rule, flow_rule, unit_labels, group_labels}
 use Rattle.j39_plan.specs.Described.{TellsPlan, Described, Reads}
 use Rattle.j39_plan.specs.OnePlan.{AreOneUnit, AreOneSignal, AreOneGroup, AreOnePlan, AreOneAnswer}

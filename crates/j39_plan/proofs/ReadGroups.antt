@@ -5,7 +5,7 @@ use Rattle.j39_signal.specs.Parts.{SignalParts}
 use Rattle.j39_plan.specs.declared.reading.place.Table.TheVariants as at
 use Rattle.j39_plan.specs.declared.reading.text_kind.TextKind.TheVariants as texts
 use Rattle.j39_plan.specs.Elements.{each_faults, Each, is_among}
-use Rattle.j39_plan.specs.Signals.{IsSignalOf, IsFit, signal_label, signal_faults}
+use Rattle.j39_plan.specs.SignalTables.{IsSignalOf, IsFit, signal_label, signal_faults}
 use Rattle.j39_plan.proofs.NoFaults.{none_right, fresh_label, labels_apart}
 
 abbrev pub IsRead : Data → SignalParts → Type 0

@@ -6,15 +6,15 @@ use Rattle.std.specs.Str.{is_utf8}
 use Rattle.toml.specs.Data.{Members}
 use Rattle.toml.specs.Errors.{IsBlank}
 use Rattle.toml.specs.Parse.{parse_document}
-use Rattle.j39_plan.specs.declared.plan.Plan.{Plan}
+use Rattle.j39_findings.specs.declared.plan.Plan.{Plan}
 use Rattle.j39_plan.specs.declared.reading.plan_error.PlanError.{PlanError}
 use Rattle.j39_plan.specs.declared.reading.plan_error.PlanError.TheVariants as errors
 use Rattle.j39_plan.specs.Schema.{addresses_of, tables_of}
 use Rattle.j39_plan.specs.Elements.{Each}
 use Rattle.j39_plan.specs.Outcome.{first}
-use Rattle.j39_plan.specs.Units.{IsUnitOf}
-use Rattle.j39_plan.specs.Groups.{IsGroupOf}
-use Rattle.j39_plan.specs.Flows.{IsFlowOf}
+use Rattle.j39_plan.specs.UnitTables.{IsUnitOf}
+use Rattle.j39_plan.specs.GroupTables.{IsGroupOf}
+use Rattle.j39_plan.specs.FlowTables.{IsFlowOf}
 use Rattle.j39_plan.specs.Faults.{faults, is_second, keep_free_rule, unit_rule, group_rule, flow_rule, unit_labels, group_labels}
 
 -- the addresses that a tree keeps free: none, where it isn't of the second version

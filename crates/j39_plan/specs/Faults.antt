@@ -8,9 +8,9 @@ use Rattle.j39_plan.specs.declared.reading.fault.Fault.{Fault}
 use Rattle.j39_plan.specs.Schema.{Rule, number, addresses, tables, number_of, tables_of}
 use Rattle.j39_plan.specs.TableFaults.{unknown_faults, keys_faults}
 use Rattle.j39_plan.specs.Elements.{each_faults, labels_of}
-use Rattle.j39_plan.specs.Units.{unit_faults, unit_label}
-use Rattle.j39_plan.specs.Groups.{group_faults, group_label}
-use Rattle.j39_plan.specs.Flows.{flow_faults}
+use Rattle.j39_plan.specs.UnitTables.{unit_faults, unit_label}
+use Rattle.j39_plan.specs.GroupTables.{group_faults, group_label}
+use Rattle.j39_plan.specs.FlowTables.{flow_faults}
 
 abbrev pub version_rule : Rule
 version_rule = number key.Version 1 2 None

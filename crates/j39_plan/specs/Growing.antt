@@ -6,10 +6,10 @@ use Rattle.j39_plan.specs.declared.reading.place.Table.TheVariants as at
 use Rattle.j39_plan.specs.Schema.{tables_of}
 use Rattle.j39_plan.specs.TableFaults.{table_faults}
 use Rattle.j39_plan.specs.Elements.{inside}
-use Rattle.j39_plan.specs.Signals.{signal_faults}
-use Rattle.j39_plan.specs.Units.{unit_faults}
-use Rattle.j39_plan.specs.Groups.{group_rules, signal_rule, group_faults}
-use Rattle.j39_plan.specs.Flows.{flow_faults}
+use Rattle.j39_plan.specs.SignalTables.{signal_faults}
+use Rattle.j39_plan.specs.UnitTables.{unit_faults}
+use Rattle.j39_plan.specs.GroupTables.{group_rules, signal_rule, group_faults}
+use Rattle.j39_plan.specs.FlowTables.{flow_faults}
 use Rattle.j39_plan.specs.Faults.{top_faults, unit_rule, group_rule, flow_rule, units_faults, groups_faults, group_labels, unit_labels}
 
 -- the reader of an element asks for none

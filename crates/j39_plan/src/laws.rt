@@ -1,11 +1,10 @@
-//! Laws of plans and their findings.
+//! The law of what a plan file describes.
+ghost use Rattle.std.specs.Prelude.{ℕ, List};
+ghost use Rattle.j39_plan.specs.OnePlan.{HasOneAnswer};
 
-mod conflict_runs;
-mod findings;
-mod plan_files;
-mod signals;
-
-pub use conflict_runs::conflict_runs_are_exact;
-pub use findings::{clean_parts, clean_where_none, found_exactly};
-pub use plan_files::a_file_describes_one_plan;
-pub use signals::signals_are_sound;
+/// But for want of memory, the definition allows one answer for a file: it describes one plan, or it has one first fault, or it
+/// is no TOML text, and never two of these. Two plans are one where they keep the same addresses free and have the same
+/// units, groups, signals and flows, place by place, labels by their bytes.
+pub fn a_file_describes_one_plan()
+    ensures { (bytes : List ℕ) → HasOneAnswer bytes }
+{}

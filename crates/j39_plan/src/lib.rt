@@ -1,21 +1,13 @@
-//! Network plans of SAE J1939: what they hold, how they are read, and what is wrong with them.
+//! How plan files are read. The crate hands out the plans that they describe and what is found wrong with these, too.
 #![tactic(auto)]
 
-mod checking;
-mod conflict_run;
 mod laws;
-mod plan;
-mod planned_groups;
 mod reading;
-mod steps;
 
-pub use checking::{CheckedPlan, Finding, Findings, Refused, RefusedCause, check, checked};
-pub use conflict_run::bad_run;
-pub use laws::{
-    a_file_describes_one_plan, clean_parts, clean_where_none, conflict_runs_are_exact,
-    found_exactly, signals_are_sound,
+pub use j39_findings::{
+    CheckedPlan, Finding, Findings, FlowPlan, GroupFault, GroupPlan, Plan, Refused, RefusedCause,
+    Step, To, UnitPlan, Way, bad_run, check, checked, clean_parts, clean_where_none,
+    conflict_runs_are_exact, found_exactly, layout_of, signals_are_sound,
 };
-pub use plan::{FlowPlan, GroupPlan, Plan, To, UnitPlan, Way};
-pub use planned_groups::{GroupFault, layout_of};
+pub use laws::a_file_describes_one_plan;
 pub use reading::{Cause, Fault, Key, Place, PlanError, Table, read_plan};
-pub use steps::Step;

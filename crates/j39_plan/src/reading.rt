@@ -23,13 +23,13 @@ mod text_kind;
 mod units;
 mod values;
 
-use crate::Plan;
 pub use cause::Cause;
 use elements::read_each;
 pub use fault::Fault;
 use flows::Flows;
 use groups::Groups;
 use heads::head;
+use j39_findings::Plan;
 pub use key::Key;
 pub use place::{Place, Table};
 pub use plan_error::PlanError;

@@ -2,20 +2,20 @@
 ghost use Rattle.std.specs.Prelude.{◌≡◌, List, ℕ, [], map, Some};
 ghost use Rattle.toml.specs.View.{view, table_view};
 ghost use Rattle.j39_plan.specs.Outcome.{Gives};
-ghost use Rattle.j39_plan.specs.Flows as spec;
+ghost use Rattle.j39_plan.specs.FlowTables as spec;
 
 use super::elements::ReadElement;
 use super::labels::{Labelled, place_of};
 use super::tables::{only, table_of};
 use super::values::{any_text, refused};
 use super::{Cause, Key, PlanError, Table};
-use crate::{FlowPlan, GroupPlan, To, UnitPlan};
+use j39_findings::{FlowPlan, GroupPlan, To, UnitPlan};
 use std::alloc::Global;
 use toml::Value;
 
 const FLOW_KEYS: [Key; 3] = [Key::Group, Key::From, Key::To];
 
-#[tactic(auto, unfolding(crate::specs::Flows::place_faults))]
+#[tactic(auto, unfolding(crate::specs::FlowTables::place_faults))]
 fn place<T: Labelled>(items: &[T], label: &str, table: Table, key: Key) -> Result<usize, PlanError>
     ensures { Gives result (spec.place_faults table key (map T.label_bytes items.now) (Some label.now))
         (λ p. spec.place_of (map T.label_bytes items.now) label.now ≡ Some p) }
@@ -26,7 +26,7 @@ fn place<T: Labelled>(items: &[T], label: &str, table: Table, key: Key) -> Resul
     }
 }
 
-#[tactic(auto, unfolding(crate::specs::Flows::receivers))]
+#[tactic(auto, unfolding(crate::specs::FlowTables::receivers))]
 fn receivers(units: &[UnitPlan], word: &str) -> Option<To>
     ensures { result ≡ spec.receivers (map (λ u. u.label.bytes) units.now) word.now }
 {
@@ -37,7 +37,7 @@ fn receivers(units: &[UnitPlan], word: &str) -> Option<To>
     }
 }
 
-#[tactic(auto, unfolding(crate::specs::Flows::receiver_faults))]
+#[tactic(auto, unfolding(crate::specs::FlowTables::receiver_faults))]
 fn to(units: &[UnitPlan], word: &str, table: Table) -> Result<To, PlanError>
     ensures { Gives result (spec.receiver_faults table (map (λ u. u.label.bytes) units.now) (Some word.now))
         (λ t. spec.receivers (map (λ u. u.label.bytes) units.now) word.now ≡ Some t) }
@@ -55,7 +55,7 @@ pub struct Flows<'a> {
     pub units: &'a [UnitPlan],
 }
 
-#[tactic(auto, using(crate::proofs::FirstFaults::faults_after), unfolding(crate::specs::Flows::flow_table_faults))]
+#[tactic(auto, using(crate::proofs::FirstFaults::faults_after), unfolding(crate::specs::FlowTables::flow_table_faults))]
 fn flow(
     groups: &[GroupPlan],
     units: &[UnitPlan],
@@ -81,7 +81,7 @@ fn flow(
 impl ReadElement<FlowPlan> for Flows<'_> {
     ghost use Rattle.j39_plan.specs.Growing.{NeverGrows};
     ghost use Rattle.j39_plan.specs.Faults.{no_label};
-    ghost use Rattle.j39_plan.specs.Flows.{flow_faults, IsFlowOf};
+    ghost use Rattle.j39_plan.specs.FlowTables.{flow_faults, IsFlowOf};
 
     ghost label_bytes = { λ _. [] };
 
@@ -93,7 +93,7 @@ impl ReadElement<FlowPlan> for Flows<'_> {
 
     ghost Tells = { λ r. IsFlowOf (map (λ g. g.label.bytes) r.groups.now) (map (λ u. u.label.bytes) r.units.now) };
 
-    #[tactic(auto, using(crate::proofs::FirstFaults::faults_after), unfolding(crate::specs::Flows::flow_faults))]
+    #[tactic(auto, using(crate::proofs::FirstFaults::faults_after), unfolding(crate::specs::FlowTables::flow_faults))]
     fn read(
         &self,
         _alloc: Global,

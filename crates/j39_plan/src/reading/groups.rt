@@ -3,7 +3,7 @@ ghost use Rattle.std.specs.Prelude.{◌≡◌, map};
 ghost use Rattle.toml.specs.View.{view, table_view};
 ghost use Rattle.j39_plan.specs.Outcome.{GivesGrowing};
 ghost use Rattle.j39_plan.specs.Growing.{GroupGrows};
-ghost use Rattle.j39_plan.specs.Groups.{group_table_faults, TellsGroup};
+ghost use Rattle.j39_plan.specs.GroupTables.{group_table_faults, TellsGroup};
 
 use super::elements::{ReadElement, read_each};
 use super::labels::untaken;
@@ -12,7 +12,7 @@ use super::tables::{array, only, table_of};
 use super::text_kind::TextKind;
 use super::values::{number, short_text};
 use super::{Key, PlanError, Table};
-use crate::GroupPlan;
+use j39_findings::GroupPlan;
 use j39_id::limits::MESSAGE_BYTES;
 use std::alloc::Global;
 use toml::Value;
@@ -25,7 +25,7 @@ const GROUP_KEYS: [Key; 5] = [
     Key::Signal,
 ];
 
-#[tactic(auto, using(crate::proofs::FirstFaults::faults_after), unfolding(crate::specs::Groups::group_table_faults))]
+#[tactic(auto, using(crate::proofs::FirstFaults::faults_after), unfolding(crate::specs::GroupTables::group_table_faults))]
 fn group(alloc: Global, index: usize, members: &toml::Table) -> Result<GroupPlan, PlanError>
     ensures { GivesGrowing (GroupGrows index (table_view members.now)) result
         (group_table_faults index (table_view members.now)) (TellsGroup (table_view members.now)) }
@@ -53,7 +53,7 @@ pub struct Groups;
 
 impl ReadElement<GroupPlan> for Groups {
     ghost use Rattle.j39_plan.specs.Growing.{GroupElementGrows};
-    ghost use Rattle.j39_plan.specs.Groups.{group_faults, group_label, IsGroupOf};
+    ghost use Rattle.j39_plan.specs.GroupTables.{group_faults, group_label, IsGroupOf};
 
     ghost label_bytes = { λ g. g.label.bytes };
 
@@ -65,7 +65,7 @@ impl ReadElement<GroupPlan> for Groups {
 
     ghost Tells = { λ _. IsGroupOf };
 
-    #[tactic(auto, using(crate::proofs::FirstFaults::faults_after), unfolding(crate::specs::Groups::group_faults))]
+    #[tactic(auto, using(crate::proofs::FirstFaults::faults_after), unfolding(crate::specs::GroupTables::group_faults))]
     fn read(
         &self,
         alloc: Global,

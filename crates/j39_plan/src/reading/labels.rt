@@ -5,12 +5,12 @@ ghost use Rattle.std.specs.Str.{bytes_eq};
 ghost use Rattle.j39_plan.specs.TextKinds.{takes};
 ghost use Rattle.j39_plan.specs.Elements.{repeated_faults};
 ghost use Rattle.j39_plan.specs.Outcome.{Gives};
-ghost use Rattle.j39_plan.specs.Flows.{place_of};
+ghost use Rattle.j39_plan.specs.FlowTables.{place_of};
 
 use super::text_kind::TextKind;
 use super::values::refused;
 use super::{Cause, Key, PlanError, Table};
-use crate::{GroupPlan, UnitPlan};
+use j39_findings::{GroupPlan, UnitPlan};
 use j39_signal::Signal;
 
 /// What has a label.

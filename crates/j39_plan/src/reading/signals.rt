@@ -2,11 +2,11 @@
 ghost use Rattle.std.specs.Prelude.{◌≡◌, map, codes, IsTrue, IfOk};
 ghost use Rattle.toml.specs.View.{view, table_view};
 ghost use Rattle.j39_signal.specs.Parts.{IsSignal};
-ghost use Rattle.j39_plan.specs.LabelForm.{is_label};
+ghost use Rattle.j39_findings.specs.LabelForm.{is_label};
 ghost use Rattle.j39_plan.specs.Schema.{text_of};
 ghost use Rattle.j39_plan.specs.TableFaults.{key_faults};
 ghost use Rattle.j39_plan.specs.Outcome.{Gives};
-ghost use Rattle.j39_plan.specs.Signals.{kind_of, kind_rule, signal_table_faults, TellsSignal};
+ghost use Rattle.j39_plan.specs.SignalTables.{kind_of, kind_rule, signal_table_faults, TellsSignal};
 
 use super::elements::ReadElement;
 use super::labels::{Labelled, untaken};
@@ -50,7 +50,7 @@ fn kind(members: &toml::Table, table: Table) -> Result<Kind, PlanError>
     Ok(kind_of(word))
 }
 
-#[tactic(auto, using(crate::proofs::FirstFaults::faults_after), unfolding(crate::specs::Signals::signal_table_faults))]
+#[tactic(auto, using(crate::proofs::FirstFaults::faults_after), unfolding(crate::specs::SignalTables::signal_table_faults))]
 fn signal(table: Table, members: &toml::Table) -> Result<Signal, PlanError>
     ensures gives { Gives result (signal_table_faults table (table_view members.now)) (TellsSignal (table_view members.now)) }
     ensures label_form { IfOk result (λ s. IsTrue (is_label s.label.bytes)) }
@@ -95,7 +95,7 @@ pub struct Signals {
 
 impl ReadElement<Signal> for Signals {
     ghost use Rattle.j39_plan.specs.Growing.{NeverGrows};
-    ghost use Rattle.j39_plan.specs.Signals.{signal_faults, signal_label, IsSignalOf, IsFit};
+    ghost use Rattle.j39_plan.specs.SignalTables.{signal_faults, signal_label, IsSignalOf, IsFit};
 
     ghost label_bytes = { λ s. s.label.bytes };
 
@@ -107,7 +107,7 @@ impl ReadElement<Signal> for Signals {
 
     ghost Tells = { λ _ d s. IsSignalOf d s × IsFit s };
 
-    #[tactic(auto, using(crate::proofs::FirstFaults::faults_after), unfolding(crate::specs::Signals::signal_faults))]
+    #[tactic(auto, using(crate::proofs::FirstFaults::faults_after), unfolding(crate::specs::SignalTables::signal_faults))]
     fn read(
         &self,
         _alloc: Global,

@@ -5,7 +5,7 @@ ghost use Rattle.toml.specs.View.{view, table_view};
 ghost use Rattle.j39_plan.specs.Schema.{text_of, number_of};
 ghost use Rattle.j39_plan.specs.TableFaults.{key_faults};
 ghost use Rattle.j39_plan.specs.Outcome.{Gives};
-ghost use Rattle.j39_plan.specs.Units.{way_of, address_rule, chooser_rule, unit_table_faults, TellsUnit};
+ghost use Rattle.j39_plan.specs.UnitTables.{way_of, address_rule, chooser_rule, unit_table_faults, TellsUnit};
 
 use super::elements::ReadElement;
 use super::labels::untaken;
@@ -14,7 +14,7 @@ use super::tables::{inner, only, table_of};
 use super::text_kind::TextKind;
 use super::values::{number, short_text, text};
 use super::{Key, PlanError, Table};
-use crate::{UnitPlan, Way};
+use j39_findings::{UnitPlan, Way};
 use j39_id::Address;
 use std::alloc::Global;
 use toml::Value;
@@ -63,7 +63,7 @@ fn way(members: &toml::Table, table: Table) -> Result<Way, PlanError>
     Ok(way_of(word))
 }
 
-#[tactic(auto, using(crate::proofs::FirstFaults::faults_after), unfolding(crate::specs::Units::unit_table_faults))]
+#[tactic(auto, using(crate::proofs::FirstFaults::faults_after), unfolding(crate::specs::UnitTables::unit_table_faults))]
 fn unit(index: usize, members: &toml::Table) -> Result<UnitPlan, PlanError>
     ensures { Gives result (unit_table_faults index (table_view members.now)) (TellsUnit (table_view members.now)) }
 {
@@ -90,7 +90,7 @@ pub struct Units;
 
 impl ReadElement<UnitPlan> for Units {
     ghost use Rattle.j39_plan.specs.Growing.{NeverGrows};
-    ghost use Rattle.j39_plan.specs.Units.{unit_faults, unit_label, IsUnitOf};
+    ghost use Rattle.j39_plan.specs.UnitTables.{unit_faults, unit_label, IsUnitOf};
 
     ghost label_bytes = { λ u. u.label.bytes };
 
@@ -102,7 +102,7 @@ impl ReadElement<UnitPlan> for Units {
 
     ghost Tells = { λ _. IsUnitOf };
 
-    #[tactic(auto, using(crate::proofs::FirstFaults::faults_after), unfolding(crate::specs::Units::unit_faults))]
+    #[tactic(auto, using(crate::proofs::FirstFaults::faults_after), unfolding(crate::specs::UnitTables::unit_faults))]
     fn read(
         &self,
         _alloc: Global,

@@ -5,7 +5,7 @@ use Rattle.j39_plan.specs.declared.reading.key.Key.TheVariants as key
 use Rattle.j39_plan.specs.Elements.{each_faults, Each}
 use Rattle.j39_plan.specs.Growing.{NeverGrows, EachGrows}
 use Rattle.j39_plan.specs.Outcome.{FailsGrowing}
-use Rattle.j39_plan.specs.Flows.{flow_faults, IsFlowOf}
+use Rattle.j39_plan.specs.FlowTables.{flow_faults, IsFlowOf}
 use Rattle.j39_plan.specs.Faults.{no_label}
 use Rattle.j39_plan.proofs.FirstFaults.{fails_on}
 use Rattle.j39_plan.proofs.NoFaults.{tables_count, length-Each}

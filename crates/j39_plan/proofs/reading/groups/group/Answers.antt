@@ -1,9 +1,9 @@
 use Rattle.std.proofs.Common.{IsTrue}
-use Rattle.j39_plan.specs.LabelForm.{is_label}
+use Rattle.j39_findings.specs.LabelForm.{is_label}
 use Rattle.j39_signal.specs.Parts.{IsSignal}
 use Rattle.j39_plan.specs.declared.reading.key.Key.TheVariants as key
-use Rattle.j39_plan.specs.Signals.{IsSignalOf}
-use Rattle.j39_plan.specs.Groups.{group_table_faults}
+use Rattle.j39_plan.specs.SignalTables.{IsSignalOf}
+use Rattle.j39_plan.specs.GroupTables.{group_table_faults}
 use Rattle.j39_plan.proofs.NoFaults.{tables_count, length-Each, All-from_Each, Each-weaken}
 use Rattle.j39_plan.proofs.ReadGroups.{IsRead, signals_apart}
 use Rattle.j39_plan.proofs.reading.groups.group.Goals as goal

@@ -1,0 +1,89 @@
+-- What 'no finding' says.
+use Rattle.std.proofs.Common.{ℕ, ◌+◌, ◌*◌, ◌<◌, List, All, AllPairs, get_or, length, refl, inl, inr, arith}
+use Rattle.std.proofs.lemmas.Bool.{cases_Bool, cases_lt}
+use Rattle.std.proofs.lemmas.Bool.Decides.{not_from_Decides}
+use Rattle.std.proofs.lemmas.Option.{slice_get-get_or}
+use Rattle.std.specs.FinSet.{contains}
+use Rattle.j39_claim.specs.AddressSets.{free_count}
+use Rattle.j39_id.specs.Pgn.{IsPgn, is_pgn}
+use Rattle.j39_signal.specs.Parts.{SignalParts}
+use Rattle.j39_signal.specs.Places.{WidthFits, IsInside, SharesBit, LaysOut, width_fits}
+use Rattle.j39_findings.specs.declared.plan.Plan.{Plan}
+use Rattle.j39_findings.specs.declared.plan.group_plan.GroupPlan.{GroupPlan}
+use Rattle.j39_findings.specs.declared.checking.finding.Finding.TheVariants.{SameName, SameFixedAddress, TooFewAddresses, BadPgn, SamePgn, SignalWidth}
+use Rattle.j39_findings.specs.declared.checking.finding.Finding.TheVariants.{SignalOutside, SignalOverlap, FlowToOne, FlowToSelf, FlowRepeated, KeptAddress}
+use Rattle.j39_findings.specs.ListPlaces.{ValueAt, PairAt}
+use Rattle.j39_findings.specs.Findings.{CannotBePlanned, Clean}
+use Rattle.j39_findings.specs.CleanParts.{CanBePlanned, CleanParts}
+use Rattle.j39_findings.proofs.Deciding.{Decides-is_pgn}
+
+none_at : {A : Type 0} (P : A → Type 0) (xs : List A) → ((i : ℕ) → ¬ ValueAt P xs i) → All (λ x. ¬ P x) xs
+none_at P xs none = λ i d less meets. none i (record { value = get_or xs i d; value_is = slice_get-get_or xs i d less; meets = meets })
+
+no_pair_at : {A : Type 0} (R : A → A → Type 0) (xs : List A) → ((i j : ℕ) → ¬ PairAt R xs i j) → AllPairs (λ x y. ¬ R x y) xs
+no_pair_at R xs none = λ i j d below less related. none i j (record {
+  first = get_or xs i d;
+  second = get_or xs j d;
+  below = below;
+  first_is = slice_get-get_or xs i d (omega arith);
+  second_is = slice_get-get_or xs j d less;
+  related = related;
+})
+
+group_of : (n : ℕ) → ¬ (¬ IsPgn n) → IsPgn n
+group_of n h = elim (cases_Bool (is_pgn n)) [
+  | inl is ↦ (Decides-is_pgn n).0 is
+  | inr other ↦ absurd (h (not_from_Decides (is_pgn n) (Decides-is_pgn n) other))
+]
+
+planned : (n : ℕ) → ¬ CannotBePlanned n → CanBePlanned n
+planned n h = record {
+  group = group_of n (λ none. h (inl none));
+  page = elim (cases_lt n 131072) [ inl less ↦ less | inr more ↦ absurd (h (inr (inl more))) ];
+  not_proprietary = λ is. h (inr (inr (inl is)));
+  not_service = λ is. h (inr (inr (inr is)));
+}
+
+fits : (s : SignalParts) → ¬ (¬ WidthFits s) → WidthFits s
+fits s h = elim (cases_Bool (width_fits s.kind s.bits)) [ inl is ↦ is | inr other ↦ absurd (h (λ is. absurd cc)) ]
+
+inside : (n : ℕ) (s : SignalParts) → ¬ (¬ IsInside n s) → IsInside n s
+inside n s h = elim (cases_lt (8 * n) (s.start + s.bits)) [ inl over ↦ absurd (h (λ is. omega arith)) | inr is ↦ is ]
+
+at_group : (plan : Plan) (P : GroupPlan → Type 0) (g : ℕ) (d : GroupPlan) → g < length plan.groups.items → P (get_or plan.groups.items g d)
+    → ValueAt P plan.groups.items g
+at_group plan P g d less meets = record { value = get_or plan.groups.items g d; value_is = slice_get-get_or plan.groups.items g d less; meets = meets }
+
+layout : (plan : Plan) → Clean plan → (g : ℕ) (d : GroupPlan) → g < length plan.groups.items
+    → LaysOut (get_or plan.groups.items g d).length (get_or plan.groups.items g d).signals.items
+layout plan clean g d less =
+    let group = get_or plan.groups.items g d in
+    record {
+      some_bytes = group.length_positive;
+      most_bytes = group.length_range;
+      widths = λ s e in_group. fits (get_or group.signals.items s e)
+          (none_at (λ signal. ¬ WidthFits signal) group.signals.items
+          (λ k at. clean (SignalWidth g k) (at_group plan _ g d less at)) s e in_group);
+      inside = λ s e in_group. inside group.length (get_or group.signals.items s e)
+          (none_at (λ signal. ¬ IsInside group.length signal) group.signals.items
+          (λ k at. clean (SignalOutside g k) (at_group plan _ g d less at)) s e in_group);
+      apart = no_pair_at SharesBit group.signals.items (λ s t at. clean (SignalOverlap g s t) (at_group plan _ g d less at));
+    }
+
+pub parts_of : (plan : Plan) → Clean plan → CleanParts plan
+parts_of plan clean = record {
+  names = no_pair_at _ plan.units.items (λ i j. clean (SameName i j));
+  fixed_addresses = λ i j d below less first second same.
+      no_pair_at _ plan.units.items (λ k l. clean (SameFixedAddress k l)) i j d below less (first, second, same);
+  addresses = elim (cases_lt (free_count plan.keep_free) _) [ inl more ↦ absurd (clean (TooFewAddresses _) (refl, more)) | inr few ↦ few ];
+  not_kept = λ i d less arbitrary. elim (cases_Bool (contains plan.keep_free (get_or plan.units.items i d).address)) [
+    | inl kept ↦ absurd (none_at _ plan.units.items (λ k. clean (KeptAddress k)) i d less (arbitrary, kept))
+    | inr free ↦ free
+  ];
+  groups = λ g d less. planned _ (none_at _ plan.groups.items (λ k. clean (BadPgn k)) g d less);
+  pgns = no_pair_at _ plan.groups.items (λ g h. clean (SamePgn g h));
+  layouts = layout plan clean;
+  to_one = λ f d less to_one lost. none_at _ plan.flows.items (λ k. clean (FlowToOne k)) f d less (to_one, lost);
+  to_self = none_at _ plan.flows.items (λ f. clean (FlowToSelf f));
+  flows = no_pair_at _ plan.flows.items (λ f h. clean (FlowRepeated f h));
+}

@@ -1,0 +1,217 @@
+-- What each part of the list of findings has: what holds, in order.
+use Rattle.std.proofs.Common.{◌≡◌, ℕ, ◌<◌, ◌≤◌, nat_lt, List, [], ◌∷◌, ◌++◌, Bool}
+use Rattle.std.proofs.Common.{Some, Contains, Decides, refl, sym, ◌∙◌, ap, subst, inl, inr, arith}
+use Rattle.std.specs.List.{slice_get}
+use Rattle.std.proofs.lemmas.Bool.Decides.{Decides-ltb}
+use Rattle.std.proofs.lemmas.List.Elements.{Contains-append_cases}
+use Rattle.j39_signal.specs.Parts.{SignalParts}
+use Rattle.j39_signal.specs.Places.{WidthFits, IsInside, SharesBit, shares_bit}
+use Rattle.j39_findings.specs.declared.plan.Plan.{Plan}
+use Rattle.j39_findings.specs.declared.plan.group_plan.GroupPlan.{GroupPlan}
+use Rattle.j39_findings.specs.declared.checking.finding.Finding.{Finding}
+use Rattle.j39_findings.specs.declared.checking.finding.Finding.TheVariants.{SameName, SameFixedAddress, TooFewAddresses, BadPgn, SamePgn, SignalWidth}
+use Rattle.j39_findings.specs.declared.checking.finding.Finding.TheVariants.{SignalOutside, SignalOverlap, FlowToOne, FlowToSelf, FlowRepeated, KeptAddress}
+use Rattle.j39_findings.specs.ListPlaces.{in_each, each, pairs, ValueAt, PairAt}
+use Rattle.j39_claim.specs.AddressSets.{free_count}
+use Rattle.j39_findings.specs.Findings.{HaveSameName, HaveSameFixedAddress, needed_addresses, HasBadPgn, HaveSamePgn, CannotGoToOne}
+use Rattle.j39_findings.specs.Findings.{GoesToItsSender, AreOneFlow, Holds, PrefersKept, IsBefore, IsBelow, finding_number, places_of}
+use Rattle.j39_findings.specs.Found.{too_few_addresses, unit_findings, group_findings, has_other_width}
+use Rattle.j39_findings.specs.Found.{ends_outside, overlap_findings, signal_findings, flow_findings, kept_findings}
+use Rattle.j39_findings.proofs.Members.{of_in_each, of_found_if, of_each, of_pairs}
+use Rattle.j39_findings.proofs.Rising.{Rises, Rises-append, Rises-found_if, Rises-in_each, Rises-each, Rises-pairs}
+use Rattle.j39_findings.proofs.Deciding.{Decides-have_same_name, Decides-have_same_fixed_address, Decides-has_bad_pgn}
+use Rattle.j39_findings.proofs.Deciding.{Decides-have_same_pgn, Decides-has_other_width, Decides-ends_outside, Decides-shares_bit}
+use Rattle.j39_findings.proofs.Deciding.{Decides-cannot_go_to_one, Decides-goes_to_its_sender, Decides-are_one_flow, Decides-prefers_kept}
+
+-- findings of numbers from low to high that hold, in order
+pub record Covers (plan : Plan) (low high : ℕ) (findings : List Finding) : Type 0 where
+  pub sound : (f : Finding) → Contains findings f → Holds plan f
+  pub least : (f : Finding) → Contains findings f → low ≤ finding_number f
+  pub most : (f : Finding) → Contains findings f → finding_number f ≤ high
+  pub rises : Rises IsBefore findings
+
+pub Covers-append : (plan : Plan) (a b c d : ℕ) (xs ys : List Finding) → b < c → a ≤ c → b ≤ d → Covers plan a b xs → Covers plan c d ys
+    → Covers plan a d (xs ++ ys)
+Covers-append plan a b c d xs ys less low high left right = record {
+  sound = λ f h. elim (Contains-append_cases xs ys f h) [ inl here ↦ left.sound f here | inr there ↦ right.sound f there ];
+  least = λ f h. elim (Contains-append_cases xs ys f h) [
+    | inl here ↦ left.least f here
+    | inr there ↦ let e = right.least f there in omega arith
+  ];
+  most = λ f h. elim (Contains-append_cases xs ys f h) [
+    | inl here ↦ let e = left.most f here in omega arith
+    | inr there ↦ right.most f there
+  ];
+  rises = Rises-append IsBefore xs ys left.rises right.rises (λ f g here there.
+      let e = left.most f here in
+      let l = right.least g there in
+      let below : finding_number f < finding_number g = omega arith in
+      inl below);
+}
+
+holds_at : (plan : Plan) (f g : Finding) → f ≡ g → Holds plan g → Holds plan f
+holds_at plan f g e h = let P : Finding → Type 0 = λ x. Holds plan x in subst P (sym e) h
+
+-- a family of one number, from what each of its findings is
+family : (plan : Plan) (n : ℕ) (findings : List Finding) → ((f : Finding) → Contains findings f → Holds plan f × (finding_number f ≡ n))
+    → Rises IsBefore findings
+    → Covers plan n n findings
+family plan n findings each_is rises = record {
+  sound = λ f h. (each_is f h).0;
+  least = λ f h. let e = (each_is f h).1 in omega arith;
+  most = λ f h. let e = (each_is f h).1 in omega arith;
+  rises = rises;
+}
+
+-- what holds of the finding that was made, holds of one equal to it
+made : (plan : Plan) (n : ℕ) (f g : Finding) → f ≡ g → Holds plan g → finding_number g ≡ n → Holds plan f × (finding_number f ≡ n)
+made plan n f g e h is = let P : Finding → Type 0 = λ x. Holds plan x × (finding_number x ≡ n) in subst P (sym e) (h, is)
+
+-- a finding of this number names these places
+record Names (n : ℕ) (named : List ℕ) (f : Finding) : Type 0 where
+  pub number : finding_number f ≡ n
+  pub places : places_of f ≡ named
+
+-- of two findings of one number, by the places that they name
+before : (n : ℕ) (xs ys : List ℕ) (f g : Finding) → Names n xs f → Names n ys g → IsBelow xs ys → IsBefore f g
+before n xs ys f g a b below =
+    let P : List ℕ → Type 0 = λ us. IsBelow us (places_of g) in
+    let Q : List ℕ → Type 0 = λ vs. IsBelow xs vs in
+    inr (a.number ∙ sym b.number, subst P (sym a.places) (subst Q (sym b.places) below))
+
+pairs_family : {A : Type 0} (plan : Plan) (n : ℕ) {test : A → A → Bool} (R : A → A → Type 0) → ((x y : A) → Decides (test x y) (R x y))
+    → (make : ℕ → ℕ → Finding) (xs : List A)
+    → ((i j : ℕ) → PairAt R xs i j → Holds plan (make i j)) → ((i j : ℕ) → Names n (i ∷ j ∷ []) (make i j))
+    → Covers plan n n (pairs test make xs)
+pairs_family plan n {test = test} R decides make xs holds named =
+    family plan n (pairs test make xs)
+    (λ f h. let r = of_pairs R decides make xs f h in made plan n f (make r.0 r.1) r.2 (holds r.0 r.1 r.3) (named r.0 r.1).number)
+    (Rises-pairs IsBefore test make
+    (λ i k l less. before n _ _ (make i k) (make i l) (named i k) (named i l) (inr (refl, inl less)))
+    (λ i j k l less. before n _ _ (make i k) (make j l) (named i k) (named j l) (inl less)) xs)
+
+each_family : {A : Type 0} (plan : Plan) (n : ℕ) {test : A → Bool} (P : A → Type 0) → ((x : A) → Decides (test x) (P x))
+    → (make : ℕ → Finding) (xs : List A)
+    → ((i : ℕ) → ValueAt P xs i → Holds plan (make i)) → ((i : ℕ) → Names n (i ∷ []) (make i))
+    → Covers plan n n (each test make 0 xs)
+each_family plan n {test = test} P decides make xs holds named =
+    family plan n (each test make 0 xs)
+    (λ f h. let r = of_each P decides make xs f h in made plan n f (make r.0) r.1 (holds r.0 r.2) (named r.0).number)
+    (Rises-each IsBefore test make (λ k l less. before n _ _ (make k) (make l) (named k) (named l) (inl less)) 0 xs)
+
+-- a finding of this number that names the place g first
+record IsOfGroup (n g : ℕ) (f : Finding) : Type 0 where
+  pub rest : List ℕ
+  pub names : Names n (g ∷ rest) f
+
+below_by_group : (n k l : ℕ) (f g : Finding) → k < l → IsOfGroup n k f → IsOfGroup n l g → IsBefore f g
+below_by_group n k l f g less a b = before n (k ∷ a.rest) (l ∷ b.rest) f g a.names b.names (inl less)
+
+of_group : (n g : ℕ) (f made : Finding) → f ≡ made → IsOfGroup n g made → IsOfGroup n g f
+of_group n g f made e h = let P : Finding → Type 0 = λ x. IsOfGroup n g x in subst P (sym e) h
+
+-- ---- units
+
+pub units_covered : (plan : Plan) → Covers plan 1 3 (unit_findings plan.keep_free plan.units.items)
+unfolding unit_findings
+units_covered plan =
+    let kept = plan.keep_free in
+    let units = plan.units.items in
+    Covers-append plan 1 1 2 3 _ _ (omega arith) (omega arith) (omega arith)
+    (pairs_family plan 1 HaveSameName Decides-have_same_name SameName units (λ i j h. h) (λ i j. record { number = refl; places = refl }))
+    (Covers-append plan 2 2 3 3 _ _ (omega arith) (omega arith) (omega arith)
+    (pairs_family plan 2 HaveSameFixedAddress Decides-have_same_fixed_address SameFixedAddress units (λ i j h. h)
+    (λ i j. record { number = refl; places = refl }))
+    (family plan 3 (too_few_addresses kept units)
+    (λ f h.
+    let r = of_found_if (nat_lt (free_count kept) (needed_addresses kept units)) (TooFewAddresses (needed_addresses kept units)) f h in
+    made plan 3 f (TooFewAddresses (needed_addresses kept units)) r.1 (refl, (Decides-ltb (free_count kept) (needed_addresses kept units)).0 r.0) refl)
+    (Rises-found_if IsBefore _ _)))
+
+-- ---- groups
+
+pub groups_covered : (plan : Plan) → Covers plan 4 5 (group_findings plan.groups.items)
+unfolding group_findings
+groups_covered plan =
+    Covers-append plan 4 4 5 5 _ _ (omega arith) (omega arith) (omega arith)
+    (each_family plan 4 HasBadPgn Decides-has_bad_pgn BadPgn plan.groups.items (λ i h. h) (λ i. record { number = refl; places = refl }))
+    (pairs_family plan 5 HaveSamePgn Decides-have_same_pgn SamePgn plan.groups.items (λ i j h. h) (λ i j. record { number = refl; places = refl }))
+
+-- ---- signals
+
+signals_family : (plan : Plan) (n : ℕ) (find : ℕ → GroupPlan → List Finding)
+    → ((g : ℕ) (group : GroupPlan) (f : Finding) → slice_get plan.groups.items g ≡ Some group → Contains (find g group) f → Holds plan f)
+    → ((g : ℕ) (group : GroupPlan) (f : Finding) → Contains (find g group) f → IsOfGroup n g f)
+    → ((g : ℕ) (group : GroupPlan) → Rises IsBefore (find g group))
+    → Covers plan n n (in_each find 0 plan.groups.items)
+signals_family plan n find holds named within =
+    family plan n (in_each find 0 plan.groups.items)
+    (λ f h.
+    let r = of_in_each find 0 plan.groups.items f h in
+    let at : r.k ≡ r.place = omega arith in
+    (holds r.place r.value f (ap (slice_get plan.groups.items) (sym at) ∙ r.value_is) r.among, (named r.place r.value f r.among).names.number))
+    (Rises-in_each IsBefore find within
+    (λ k l x y f g less in_k in_l. below_by_group n k l f g less (named k x f in_k) (named l y g in_l)) 0 plan.groups.items)
+
+-- one finding for each signal that meets P of its group
+each_signal : (plan : Plan) (n : ℕ) (test : GroupPlan → SignalParts → Bool) (P : GroupPlan → SignalParts → Type 0)
+    → ((group : GroupPlan) (s : SignalParts) → Decides (test group s) (P group s))
+    → (make : ℕ → ℕ → Finding)
+    → ((g s : ℕ) → ValueAt (λ group. ValueAt (P group) group.signals.items s) plan.groups.items g → Holds plan (make g s))
+    → ((g s : ℕ) → Names n (g ∷ s ∷ []) (make g s))
+    → Covers plan n n (in_each (λ g group. each (test group) (make g) 0 group.signals.items) 0 plan.groups.items)
+each_signal plan n test P decides make holds named =
+    signals_family plan n (λ g group. each (test group) (make g) 0 group.signals.items)
+    (λ g group f is h.
+    let r = of_each (P group) (decides group) (make g) group.signals.items f h in
+    holds_at plan f (make g r.0) r.1 (holds g r.0 (record { value = group; value_is = is; meets = r.2 })))
+    (λ g group f h.
+    let r = of_each (P group) (decides group) (make g) group.signals.items f h in
+    of_group n g f (make g r.0) r.1 (record { rest = r.0 ∷ []; names = named g r.0 }))
+    (λ g group. Rises-each IsBefore (test group) (make g)
+    (λ k l less. before n _ _ (make g k) (make g l) (named g k) (named g l) (inr (refl, inl less))) 0 group.signals.items)
+
+overlaps_covered : (plan : Plan) → Covers plan 8 8 (in_each overlap_findings 0 plan.groups.items)
+overlaps_covered plan =
+    signals_family plan 8 overlap_findings
+    (λ g group f is h.
+    let r = of_pairs SharesBit Decides-shares_bit (SignalOverlap g) group.signals.items f h in
+    holds_at plan f (SignalOverlap g r.0 r.1) r.2 (record { value = group; value_is = is; meets = r.3 }))
+    (λ g group f h.
+    let r = of_pairs SharesBit Decides-shares_bit (SignalOverlap g) group.signals.items f h in
+    of_group 8 g f (SignalOverlap g r.0 r.1) r.2 (record { rest = r.0 ∷ r.1 ∷ []; names = record { number = refl; places = refl } }))
+    (λ g group. Rises-pairs IsBefore shares_bit (SignalOverlap g)
+    (λ i k l less. inr (refl, inr (refl, inr (refl, inl less)))) (λ i j k l less. inr (refl, inr (refl, inl less))) group.signals.items)
+
+pub signals_covered : (plan : Plan) → Covers plan 6 8 (signal_findings plan.groups.items)
+unfolding signal_findings
+signals_covered plan =
+    Covers-append plan 6 6 7 8 _ _ (omega arith) (omega arith) (omega arith)
+    (each_signal plan 6 (λ group. has_other_width) (λ group s. ¬ WidthFits s) (λ group. Decides-has_other_width) SignalWidth
+    (λ g s h. h) (λ g s. record { number = refl; places = refl }))
+    (Covers-append plan 7 7 8 8 _ _ (omega arith) (omega arith) (omega arith)
+    (each_signal plan 7 (λ group. ends_outside group.length) (λ group s. ¬ IsInside group.length s)
+    (λ group. Decides-ends_outside group.length) SignalOutside (λ g s h. h) (λ g s. record { number = refl; places = refl }))
+    (overlaps_covered plan))
+
+-- ---- flows
+
+pub flows_covered : (plan : Plan) → Covers plan 9 11 (flow_findings plan.groups.items plan.flows.items)
+unfolding flow_findings
+flows_covered plan =
+    let groups = plan.groups.items in
+    let flows = plan.flows.items in
+    Covers-append plan 9 9 10 11 _ _ (omega arith) (omega arith) (omega arith)
+    (each_family plan 9 (CannotGoToOne groups) (Decides-cannot_go_to_one groups) FlowToOne flows (λ i h. h)
+    (λ i. record { number = refl; places = refl }))
+    (Covers-append plan 10 10 11 11 _ _ (omega arith) (omega arith) (omega arith)
+    (each_family plan 10 GoesToItsSender Decides-goes_to_its_sender FlowToSelf flows (λ i h. h) (λ i. record { number = refl; places = refl }))
+    (pairs_family plan 11 AreOneFlow Decides-are_one_flow FlowRepeated flows (λ i j h. h) (λ i j. record { number = refl; places = refl })))
+
+-- ---- units at addresses that are kept free
+
+pub kept_covered : (plan : Plan) → Covers plan 12 12 (kept_findings plan.keep_free plan.units.items)
+unfolding kept_findings
+kept_covered plan =
+    each_family plan 12 (PrefersKept plan.keep_free) (Decides-prefers_kept plan.keep_free) KeptAddress plan.units.items (λ i h. h)
+    (λ i. record { number = refl; places = refl })

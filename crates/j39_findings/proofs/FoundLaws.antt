@@ -1,0 +1,162 @@
+-- The list of findings has exactly what holds, in order.
+use Rattle.std.proofs.Common.{◌≡◌, ℕ, ◌<◌, ◌⊎◌, List, [], ◌∷◌, ◌++◌, Some, Contains, refl, sym, subst, inl, inr, arith}
+use Rattle.std.specs.List.{slice_get}
+use Rattle.std.proofs.lemmas.Bool.Decides.{Decides-ltb}
+use Rattle.std.proofs.lemmas.List.Elements.{Contains-append_left, Contains-append_right}
+use Rattle.j39_signal.specs.Places.{WidthFits, IsInside, SharesBit}
+use Rattle.j39_findings.specs.declared.plan.Plan.{Plan}
+use Rattle.j39_findings.specs.declared.plan.group_plan.GroupPlan.{GroupPlan}
+use Rattle.j39_findings.specs.declared.checking.finding.Finding.{Finding}
+use Rattle.j39_findings.specs.declared.checking.finding.Finding.TheVariants.{SameName, SameFixedAddress, TooFewAddresses, BadPgn, SamePgn, SignalWidth}
+use Rattle.j39_findings.specs.declared.checking.finding.Finding.TheVariants.{SignalOutside, SignalOverlap, FlowToOne, FlowToSelf, FlowRepeated, KeptAddress}
+use Rattle.j39_findings.specs.ListPlaces.{in_each, each, pairs}
+use Rattle.j39_claim.specs.AddressSets.{free_count}
+use Rattle.j39_findings.specs.Findings.{HaveSameName, HaveSameFixedAddress, needed_addresses, HasBadPgn, HaveSamePgn, CannotGoToOne}
+use Rattle.j39_findings.specs.Findings.{GoesToItsSender, AreOneFlow, PrefersKept, Holds, IsBefore, AreFindings, Clean}
+use Rattle.j39_findings.specs.Found.{have_same_name, have_same_fixed_address, too_few_addresses, unit_findings, has_bad_pgn, have_same_pgn}
+use Rattle.j39_findings.specs.Found.{group_findings, width_findings, outside_findings, overlap_findings, signal_findings, cannot_go_to_one}
+use Rattle.j39_findings.specs.Found.{goes_to_its_sender, are_one_flow, flow_findings, prefers_kept, kept_findings, found}
+use Rattle.j39_findings.proofs.Members.{in_each_of, found_if_of, each_of, pairs_of}
+use Rattle.j39_findings.proofs.Rising.{AllPairs-from_Rises}
+use Rattle.j39_findings.proofs.Deciding.{Decides-have_same_name, Decides-have_same_fixed_address, Decides-has_bad_pgn}
+use Rattle.j39_findings.proofs.Deciding.{Decides-have_same_pgn, Decides-has_other_width, Decides-ends_outside, Decides-shares_bit}
+use Rattle.j39_findings.proofs.Deciding.{Decides-cannot_go_to_one, Decides-goes_to_its_sender, Decides-are_one_flow, Decides-prefers_kept}
+use Rattle.j39_findings.proofs.Families.{Covers, Covers-append, units_covered, groups_covered, signals_covered, flows_covered, kept_covered}
+
+found_covered : (plan : Plan) → Covers plan 1 12 (found plan)
+unfolding found
+found_covered plan =
+    Covers-append plan 1 3 4 12 _ _ (omega arith) (omega arith) (omega arith) (units_covered plan)
+    (Covers-append plan 4 5 6 12 _ _ (omega arith) (omega arith) (omega arith) (groups_covered plan)
+    (Covers-append plan 6 8 9 12 _ _ (omega arith) (omega arith) (omega arith) (signals_covered plan)
+    (Covers-append plan 9 11 12 12 _ _ (omega arith) (omega arith) (omega arith) (flows_covered plan) (kept_covered plan))))
+
+in_units : (plan : Plan) (f : Finding) → Contains (unit_findings plan.keep_free plan.units.items) f → Contains (found plan) f
+unfolding found
+in_units plan f h = Contains-append_left (unit_findings plan.keep_free plan.units.items) _ f h
+
+in_groups : (plan : Plan) (f : Finding) → Contains (group_findings plan.groups.items) f → Contains (found plan) f
+unfolding found
+in_groups plan f h =
+    Contains-append_right (unit_findings plan.keep_free plan.units.items) _ f (Contains-append_left (group_findings plan.groups.items) _ f h)
+
+in_signals : (plan : Plan) (f : Finding) → Contains (signal_findings plan.groups.items) f → Contains (found plan) f
+unfolding found
+in_signals plan f h =
+    Contains-append_right (unit_findings plan.keep_free plan.units.items) _ f
+    (Contains-append_right (group_findings plan.groups.items) _ f (Contains-append_left (signal_findings plan.groups.items) _ f h))
+
+-- among the flows' findings, and those behind them
+in_rest : (plan : Plan) (f : Finding) → Contains (flow_findings plan.groups.items plan.flows.items ++ kept_findings plan.keep_free plan.units.items) f
+    → Contains (found plan) f
+unfolding found
+in_rest plan f h =
+    Contains-append_right (unit_findings plan.keep_free plan.units.items) _ f
+    (Contains-append_right (group_findings plan.groups.items) _ f (Contains-append_right (signal_findings plan.groups.items) _ f h))
+
+in_flows : (plan : Plan) (f : Finding) → Contains (flow_findings plan.groups.items plan.flows.items) f → Contains (found plan) f
+in_flows plan f h = in_rest plan f (Contains-append_left (flow_findings plan.groups.items plan.flows.items) _ f h)
+
+kept_found : (plan : Plan) (f : Finding) → Contains (each (prefers_kept plan.keep_free) KeptAddress 0 plan.units.items) f → Contains (found plan) f
+unfolding kept_findings
+kept_found plan f h =
+    in_rest plan f (Contains-append_right (flow_findings plan.groups.items plan.flows.items) (kept_findings plan.keep_free plan.units.items) f h)
+
+of_signal : (plan : Plan) (find : ℕ → GroupPlan → List Finding) (g : ℕ) (group : GroupPlan) (f : Finding)
+    → slice_get plan.groups.items g ≡ Some group
+    → Contains (find g group) f → Contains (in_each find 0 plan.groups.items) f
+of_signal plan find g group f is h = in_each_of find 0 plan.groups.items f g g group (omega arith) is h
+
+-- in one of the three parts of a list
+of_three : (xs ys zs : List Finding) (f : Finding) → Contains xs f ⊎ (Contains ys f ⊎ Contains zs f) → Contains (xs ++ (ys ++ zs)) f
+of_three xs ys zs f (inl one) = Contains-append_left xs (ys ++ zs) f one
+of_three xs ys zs f (inr (inl two)) = Contains-append_right xs (ys ++ zs) f (Contains-append_left ys zs f two)
+of_three xs ys zs f (inr (inr three)) = Contains-append_right xs (ys ++ zs) f (Contains-append_right ys zs f three)
+
+unit_found : (plan : Plan) (f : Finding)
+    → Contains (pairs have_same_name SameName plan.units.items) f
+    ⊎ (Contains (pairs have_same_fixed_address SameFixedAddress plan.units.items) f ⊎ Contains (too_few_addresses plan.keep_free plan.units.items) f)
+    → Contains (found plan) f
+unfolding unit_findings
+unit_found plan f h =
+    let names = pairs have_same_name SameName plan.units.items in
+    let addresses = pairs have_same_fixed_address SameFixedAddress plan.units.items in
+    in_units plan f (of_three names addresses (too_few_addresses plan.keep_free plan.units.items) f h)
+
+group_found : (plan : Plan) (f : Finding)
+    → Contains (each has_bad_pgn BadPgn 0 plan.groups.items) f ⊎ Contains (pairs have_same_pgn SamePgn plan.groups.items) f
+    → Contains (found plan) f
+unfolding group_findings
+group_found plan f h =
+    let bad = each has_bad_pgn BadPgn 0 plan.groups.items in
+    let same = pairs have_same_pgn SamePgn plan.groups.items in
+    in_groups plan f (elim h [ inl in_bad ↦ Contains-append_left bad same f in_bad | inr in_same ↦ Contains-append_right bad same f in_same ])
+
+signal_found : (plan : Plan) (f : Finding)
+    → Contains (in_each width_findings 0 plan.groups.items) f
+    ⊎ (Contains (in_each outside_findings 0 plan.groups.items) f ⊎ Contains (in_each overlap_findings 0 plan.groups.items) f)
+    → Contains (found plan) f
+unfolding signal_findings
+signal_found plan f h =
+    let groups = plan.groups.items in
+    in_signals plan f (of_three (in_each width_findings 0 groups) (in_each outside_findings 0 groups) (in_each overlap_findings 0 groups) f h)
+
+flow_found : (plan : Plan) (f : Finding)
+    → Contains (each (cannot_go_to_one plan.groups.items) FlowToOne 0 plan.flows.items) f
+    ⊎ (Contains (each goes_to_its_sender FlowToSelf 0 plan.flows.items) f ⊎ Contains (pairs are_one_flow FlowRepeated plan.flows.items) f)
+    → Contains (found plan) f
+unfolding flow_findings
+flow_found plan f h =
+    let flows = plan.flows.items in
+    let to_one = each (cannot_go_to_one plan.groups.items) FlowToOne 0 flows in
+    in_flows plan f (of_three to_one (each goes_to_its_sender FlowToSelf 0 flows) (pairs are_one_flow FlowRepeated flows) f h)
+
+found_of : (plan : Plan) (f : Finding) → Holds plan f → Contains (found plan) f
+found_of plan (SameName i j) h = unit_found plan _ (inl (pairs_of HaveSameName Decides-have_same_name SameName plan.units.items i j h))
+found_of plan (SameFixedAddress i j) h =
+    unit_found plan _ (inr (inl (pairs_of HaveSameFixedAddress Decides-have_same_fixed_address SameFixedAddress plan.units.items i j h)))
+found_of plan (TooFewAddresses n) (is, more) =
+    let needed = needed_addresses plan.keep_free plan.units.items in
+    let P : ℕ → Type 0 = λ k. Contains (too_few_addresses plan.keep_free plan.units.items) (TooFewAddresses k) in
+    let Q : ℕ → Type 0 = λ k. free_count plan.keep_free < k in
+    let passes = (Decides-ltb (free_count plan.keep_free) needed).1 (subst Q is more) in
+    unit_found plan _ (inr (inr (subst P (sym is) (found_if_of _ (TooFewAddresses needed) passes))))
+found_of plan (BadPgn g) h = group_found plan _ (inl (each_of HasBadPgn Decides-has_bad_pgn BadPgn plan.groups.items g h))
+found_of plan (SamePgn g k) h = group_found plan _ (inr (pairs_of HaveSamePgn Decides-have_same_pgn SamePgn plan.groups.items g k h))
+found_of plan (SignalWidth g s) h =
+    signal_found plan _ (inl (of_signal plan width_findings g h.value (SignalWidth g s) h.value_is
+    (each_of (λ signal. ¬ WidthFits signal) Decides-has_other_width (SignalWidth g) h.value.signals.items s h.meets)))
+found_of plan (SignalOutside g s) h =
+    signal_found plan _ (inr (inl (of_signal plan outside_findings g h.value (SignalOutside g s) h.value_is
+    (each_of (λ signal. ¬ IsInside h.value.length signal) (Decides-ends_outside h.value.length) (SignalOutside g) h.value.signals.items s h.meets))))
+found_of plan (SignalOverlap g s t) h =
+    signal_found plan _ (inr (inr (of_signal plan overlap_findings g h.value (SignalOverlap g s t) h.value_is
+    (pairs_of SharesBit Decides-shares_bit (SignalOverlap g) h.value.signals.items s t h.meets))))
+found_of plan (FlowToOne f) h =
+    flow_found plan _ (inl (each_of (CannotGoToOne plan.groups.items) (Decides-cannot_go_to_one plan.groups.items) FlowToOne plan.flows.items f h))
+found_of plan (FlowToSelf f) h = flow_found plan _ (inr (inl (each_of GoesToItsSender Decides-goes_to_its_sender FlowToSelf plan.flows.items f h)))
+found_of plan (KeptAddress i) h =
+    kept_found plan _ (each_of (PrefersKept plan.keep_free) (Decides-prefers_kept plan.keep_free) KeptAddress plan.units.items i h)
+found_of plan (FlowRepeated f k) h = flow_found plan _ (inr (inr (pairs_of AreOneFlow Decides-are_one_flow FlowRepeated plan.flows.items f k h)))
+
+pub are_findings : (plan : Plan) → AreFindings plan (found plan)
+are_findings plan = record {
+  sound = (found_covered plan).sound;
+  complete = found_of plan;
+  in_order = AllPairs-from_Rises IsBefore (found plan) (found_covered plan).rises;
+}
+
+-- ---- no finding
+
+nil_from_none : (xs : List Finding) → ((f : Finding) → Contains xs f → ⊥) → xs ≡ []
+nil_from_none [] h = refl
+nil_from_none (x ∷ xs) h = absurd (h x (0, omega arith, refl))
+
+pub clean_from_none : (plan : Plan) → found plan ≡ [] → Clean plan
+clean_from_none plan none = λ f h.
+    let P : List Finding → Type 0 = λ xs. Contains xs f in
+    let in_none = subst P none (found_of plan f h) in
+    absurd (omega arith)
+
+pub none_from_clean : (plan : Plan) → Clean plan → found plan ≡ []
+none_from_clean plan clean = nil_from_none (found plan) (λ f h. clean f ((found_covered plan).sound f h))

@@ -1,0 +1,10 @@
+pub mod AddingLemmas
+pub mod CleanLaws
+pub mod ConflictLaws
+pub mod Deciding
+pub mod Families
+pub mod FoundLaws
+pub mod LastWrites
+pub mod Members
+pub mod PlaceLemmas
+pub mod Rising

@@ -1,0 +1,149 @@
+-- What can be wrong with a plan: each finding as a plain statement on its units, groups, signals and flows, by their
+-- places from 0 (addresses and NAMEs: SAE J1939-81; groups and their destinations: SAE J1939-21; signals: SAE J1939-71).
+use Rattle.std.specs.Prelude.{◌≡◌, ℕ, ◌<◌, ◌≤◌, ◌⊎◌, List, [], ◌∷◌, Bool}
+use Rattle.std.specs.Prelude.{true, false, ◌&&◌, ◌||◌, count_by, Contains, AllPairs}
+use Rattle.std.specs.FinSet.{FinSet, contains}
+use Rattle.std.specs.Ordering.{nat_cmp}
+use Rattle.j39_claim.specs.AddressSets.{is_free, free_count}
+use Rattle.j39_id.specs.Addresses.{in_pool}
+use Rattle.j39_id.specs.Limits.{frame_bytes}
+use Rattle.j39_id.specs.Name.{is_arbitrary}
+use Rattle.j39_id.specs.Pgn.{IsPgn, pf_of}
+use Rattle.j39_id.specs.Services.{service_groups}
+use Rattle.j39_signal.specs.Places.{WidthFits, IsInside, SharesBit}
+use Rattle.j39_findings.specs.ListPlaces.{ValueAt, PairAt}
+use Rattle.j39_findings.specs.declared.plan.Plan.{Plan}
+use Rattle.j39_findings.specs.declared.plan.unit_plan.UnitPlan.{UnitPlan}
+use Rattle.j39_findings.specs.declared.plan.group_plan.GroupPlan.{GroupPlan}
+use Rattle.j39_findings.specs.declared.plan.flow_plan.FlowPlan.{FlowPlan}
+use Rattle.j39_findings.specs.declared.plan.to.To.TheVariants.{One}
+use Rattle.j39_findings.specs.declared.checking.finding.Finding.{Finding}
+use Rattle.j39_findings.specs.declared.checking.finding.Finding.TheVariants.{SameName, SameFixedAddress, TooFewAddresses, BadPgn, SamePgn, SignalWidth}
+use Rattle.j39_findings.specs.declared.checking.finding.Finding.TheVariants.{SignalOutside, SignalOverlap, FlowToOne, FlowToSelf, FlowRepeated, KeptAddress}
+
+-- ---- units
+
+-- a unit that never moves to another address
+abbrev pub IsFixed : UnitPlan → Type 0
+IsFixed unit = is_arbitrary unit.name ≡ false
+
+abbrev pub HaveSameName : UnitPlan → UnitPlan → Type 0
+HaveSameName u v = u.name ≡ v.name
+
+abbrev pub HaveSameFixedAddress : UnitPlan → UnitPlan → Type 0
+HaveSameFixedAddress u v = IsFixed u × IsFixed v × (u.address ≡ v.address)
+
+-- a unit that may hold an address of the pool that isn't kept free: an arbitrary one, or a fixed one that has its own there
+abbrev pub needs_pool_address : FinSet nat_cmp → UnitPlan → Bool
+needs_pool_address kept unit = is_arbitrary unit.name || (in_pool unit.address && is_free kept unit.address)
+
+-- how many of these addresses the units need
+abbrev pub needed_addresses : FinSet nat_cmp → List UnitPlan → ℕ
+needed_addresses kept units = count_by (needs_pool_address kept) units
+
+-- an arbitrary unit that prefers an address that is kept free
+abbrev pub PrefersKept : FinSet nat_cmp → UnitPlan → Type 0
+PrefersKept kept unit = (is_arbitrary unit.name ≡ true) × (contains kept unit.address ≡ true)
+
+-- ---- groups
+
+-- the groups whose layout is each maker's own
+abbrev pub IsProprietary : ℕ → Type 0
+IsProprietary pgn = (pgn ≡ 61184) ⊎ ((pgn ≡ 126720) ⊎ (((65280 ≤ pgn) × (pgn ≤ 65535)) ⊎ ((130816 ≤ pgn) × (pgn ≤ 131071))))
+
+-- a number that is no group's, or whose group is not for a plan; from 131072 on the extended data page is set
+abbrev pub CannotBePlanned : ℕ → Type 0
+CannotBePlanned pgn = (¬ IsPgn pgn) ⊎ ((131072 ≤ pgn) ⊎ (IsProprietary pgn ⊎ Contains service_groups pgn))
+
+abbrev pub HasBadPgn : GroupPlan → Type 0
+HasBadPgn group = CannotBePlanned group.pgn
+
+abbrev pub HaveSamePgn : GroupPlan → GroupPlan → Type 0
+HaveSamePgn g h = g.pgn ≡ h.pgn
+
+-- ---- flows
+
+-- a group that is sent in one frame, and whose frames name no destination
+abbrev pub IsOneFrameToAll : GroupPlan → Type 0
+IsOneFrameToAll group = (240 ≤ pf_of group.pgn) × (group.length ≤ frame_bytes)
+
+abbrev pub IsToOne : FlowPlan → Type 0
+IsToOne flow = (receiver : ℕ) × (flow.to ≡ One receiver)
+
+abbrev pub CannotGoToOne : List GroupPlan → FlowPlan → Type 0
+CannotGoToOne groups flow = IsToOne flow × ValueAt IsOneFrameToAll groups flow.group
+
+abbrev pub GoesToItsSender : FlowPlan → Type 0
+GoesToItsSender flow = flow.to ≡ One flow.sender
+
+abbrev pub AreOneFlow : FlowPlan → FlowPlan → Type 0
+AreOneFlow f h = (f.group ≡ h.group) × (f.sender ≡ h.sender) × (f.to ≡ h.to)
+
+-- ---- the findings
+
+-- what a finding says of a plan
+abbrev pub Holds : Plan → Finding → Type 0
+Holds plan (SameName i j) = PairAt HaveSameName plan.units.items i j
+Holds plan (SameFixedAddress i j) = PairAt HaveSameFixedAddress plan.units.items i j
+Holds plan (TooFewAddresses n) = (n ≡ needed_addresses plan.keep_free plan.units.items) × (free_count plan.keep_free < n)
+Holds plan (BadPgn g) = ValueAt HasBadPgn plan.groups.items g
+Holds plan (SamePgn g h) = PairAt HaveSamePgn plan.groups.items g h
+Holds plan (SignalWidth g s) = ValueAt (λ group. ValueAt (λ signal. ¬ WidthFits signal) group.signals.items s) plan.groups.items g
+Holds plan (SignalOutside g s) = ValueAt (λ group. ValueAt (λ signal. ¬ IsInside group.length signal) group.signals.items s) plan.groups.items g
+Holds plan (SignalOverlap g s t) = ValueAt (λ group. PairAt SharesBit group.signals.items s t) plan.groups.items g
+Holds plan (FlowToOne f) = ValueAt (CannotGoToOne plan.groups.items) plan.flows.items f
+Holds plan (FlowToSelf f) = ValueAt GoesToItsSender plan.flows.items f
+Holds plan (FlowRepeated f h) = PairAt AreOneFlow plan.flows.items f h
+Holds plan (KeptAddress i) = ValueAt (PrefersKept plan.keep_free) plan.units.items i
+
+-- nothing is wrong with the plan
+abbrev pub Clean : Plan → Type 0
+Clean plan = (finding : Finding) → ¬ Holds plan finding
+
+-- ---- their order
+
+-- the number under which a finding is known
+abbrev pub finding_number : Finding → ℕ
+finding_number (SameName i j) = 1
+finding_number (SameFixedAddress i j) = 2
+finding_number (TooFewAddresses n) = 3
+finding_number (BadPgn g) = 4
+finding_number (SamePgn g h) = 5
+finding_number (SignalWidth g s) = 6
+finding_number (SignalOutside g s) = 7
+finding_number (SignalOverlap g s t) = 8
+finding_number (FlowToOne f) = 9
+finding_number (FlowToSelf f) = 10
+finding_number (FlowRepeated f h) = 11
+finding_number (KeptAddress i) = 12
+
+-- the places that it names
+abbrev pub places_of : Finding → List ℕ
+places_of (SameName i j) = i ∷ j ∷ []
+places_of (SameFixedAddress i j) = i ∷ j ∷ []
+places_of (TooFewAddresses n) = []
+places_of (BadPgn g) = g ∷ []
+places_of (SamePgn g h) = g ∷ h ∷ []
+places_of (SignalWidth g s) = g ∷ s ∷ []
+places_of (SignalOutside g s) = g ∷ s ∷ []
+places_of (SignalOverlap g s t) = g ∷ s ∷ t ∷ []
+places_of (FlowToOne f) = f ∷ []
+places_of (FlowToSelf f) = f ∷ []
+places_of (FlowRepeated f h) = f ∷ h ∷ []
+places_of (KeptAddress i) = i ∷ []
+
+-- the first place in which two lists differ is smaller in the first list
+abbrev pub IsBelow : List ℕ → List ℕ → Type 0
+IsBelow [] ys = ⊥
+IsBelow (x ∷ xs) [] = ⊥
+IsBelow (x ∷ xs) (y ∷ ys) = (x < y) ⊎ ((x ≡ y) × IsBelow xs ys)
+
+-- by the number, then by the places
+abbrev pub IsBefore : Finding → Finding → Type 0
+IsBefore f g = (finding_number f < finding_number g) ⊎ ((finding_number f ≡ finding_number g) × IsBelow (places_of f) (places_of g))
+
+-- all that is wrong with the plan and nothing else, in order
+pub record AreFindings (plan : Plan) (findings : List Finding) : Type 0 where
+  pub sound : (finding : Finding) → Contains findings finding → Holds plan finding
+  pub complete : (finding : Finding) → Holds plan finding → Contains findings finding
+  pub in_order : AllPairs IsBefore findings

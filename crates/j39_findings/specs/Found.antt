@@ -1,0 +1,127 @@
+-- The findings of a plan as a list: a test for each statement, and the list of all that pass.
+use Rattle.std.specs.Prelude.{ℕ, List, ◌++◌, Bool, true, false, not, ◌&&◌, ◌||◌, ◌==◌, nat_le, nat_lt, Option, Some, None}
+use Rattle.std.specs.List.{slice_get}
+use Rattle.std.specs.FinSet.{FinSet, contains}
+use Rattle.std.specs.Ordering.{nat_cmp}
+use Rattle.j39_claim.specs.AddressSets.{free_count}
+use Rattle.j39_id.specs.Limits.{frame_bytes}
+use Rattle.j39_id.specs.Name.{is_arbitrary}
+use Rattle.j39_id.specs.Pgn.{is_pgn, is_pdu2}
+use Rattle.j39_id.specs.Services.{is_service}
+use Rattle.j39_signal.specs.Parts.{SignalParts}
+use Rattle.j39_signal.specs.Places.{width_fits, is_inside, shares_bit}
+use Rattle.j39_findings.specs.ListPlaces.{found_if, each, pairs, in_each}
+use Rattle.j39_findings.specs.Findings.{needed_addresses}
+use Rattle.j39_findings.specs.declared.plan.Plan.{Plan}
+use Rattle.j39_findings.specs.declared.plan.unit_plan.UnitPlan.{UnitPlan}
+use Rattle.j39_findings.specs.declared.plan.group_plan.GroupPlan.{GroupPlan}
+use Rattle.j39_findings.specs.declared.plan.flow_plan.FlowPlan.{FlowPlan}
+use Rattle.j39_findings.specs.declared.plan.to.To.{To}
+use Rattle.j39_findings.specs.declared.plan.to.To.TheVariants.{All, One}
+use Rattle.j39_findings.specs.declared.checking.finding.Finding.{Finding}
+use Rattle.j39_findings.specs.declared.checking.finding.Finding.TheVariants.{SameName, SameFixedAddress, TooFewAddresses, BadPgn, SamePgn, SignalWidth}
+use Rattle.j39_findings.specs.declared.checking.finding.Finding.TheVariants.{SignalOutside, SignalOverlap, FlowToOne, FlowToSelf, FlowRepeated, KeptAddress}
+
+-- ---- units
+
+abbrev pub have_same_name : UnitPlan → UnitPlan → Bool
+have_same_name u v = u.name == v.name
+
+abbrev pub is_fixed : UnitPlan → Bool
+is_fixed unit = not (is_arbitrary unit.name)
+
+abbrev pub have_same_fixed_address : UnitPlan → UnitPlan → Bool
+have_same_fixed_address u v = is_fixed u && (is_fixed v && u.address == v.address)
+
+abbrev pub too_few_addresses : FinSet nat_cmp → List UnitPlan → List Finding
+too_few_addresses kept units = found_if (nat_lt (free_count kept) (needed_addresses kept units)) (TooFewAddresses (needed_addresses kept units))
+
+unfoldable pub unit_findings : FinSet nat_cmp → List UnitPlan → List Finding
+unit_findings kept units =
+    pairs have_same_name SameName units ++ (pairs have_same_fixed_address SameFixedAddress units ++ too_few_addresses kept units)
+
+-- ---- units at addresses that are kept free
+
+abbrev pub prefers_kept : FinSet nat_cmp → UnitPlan → Bool
+prefers_kept kept unit = is_arbitrary unit.name && contains kept unit.address
+
+unfoldable pub kept_findings : FinSet nat_cmp → List UnitPlan → List Finding
+kept_findings kept units = each (prefers_kept kept) KeptAddress 0 units
+
+-- ---- groups
+
+abbrev pub is_proprietary : ℕ → Bool
+is_proprietary pgn = pgn == 61184 || (pgn == 126720 || ((nat_le 65280 pgn && nat_le pgn 65535) || (nat_le 130816 pgn && nat_le pgn 131071)))
+
+abbrev pub cannot_be_planned : ℕ → Bool
+cannot_be_planned pgn = not (is_pgn pgn) || (nat_le 131072 pgn || (is_proprietary pgn || is_service pgn))
+
+abbrev pub has_bad_pgn : GroupPlan → Bool
+has_bad_pgn group = cannot_be_planned group.pgn
+
+abbrev pub have_same_pgn : GroupPlan → GroupPlan → Bool
+have_same_pgn g h = g.pgn == h.pgn
+
+unfoldable pub group_findings : List GroupPlan → List Finding
+group_findings groups = each has_bad_pgn BadPgn 0 groups ++ pairs have_same_pgn SamePgn groups
+
+-- ---- signals
+
+abbrev pub has_other_width : SignalParts → Bool
+has_other_width signal = not (width_fits signal.kind signal.bits)
+
+abbrev pub ends_outside : ℕ → SignalParts → Bool
+ends_outside length signal = not (is_inside length signal)
+
+abbrev pub width_findings : ℕ → GroupPlan → List Finding
+width_findings g group = each has_other_width (SignalWidth g) 0 group.signals.items
+
+abbrev pub outside_findings : ℕ → GroupPlan → List Finding
+outside_findings g group = each (ends_outside group.length) (SignalOutside g) 0 group.signals.items
+
+abbrev pub overlap_findings : ℕ → GroupPlan → List Finding
+overlap_findings g group = pairs shares_bit (SignalOverlap g) group.signals.items
+
+unfoldable pub signal_findings : List GroupPlan → List Finding
+signal_findings groups = in_each width_findings 0 groups ++ (in_each outside_findings 0 groups ++ in_each overlap_findings 0 groups)
+
+-- ---- flows
+
+abbrev pub is_one_frame_to_all : GroupPlan → Bool
+is_one_frame_to_all group = is_pdu2 group.pgn && nat_le group.length frame_bytes
+
+abbrev pub is_group_of : (GroupPlan → Bool) → Option GroupPlan → Bool
+is_group_of test None = false
+is_group_of test (Some group) = test group
+
+abbrev pub is_to_one : To → Bool
+is_to_one All = false
+is_to_one (One receiver) = true
+
+abbrev pub is_to : To → ℕ → Bool
+is_to All unit = false
+is_to (One receiver) unit = receiver == unit
+
+abbrev pub have_same_receiver : To → To → Bool
+have_same_receiver All to = not (is_to_one to)
+have_same_receiver (One receiver) to = is_to to receiver
+
+abbrev pub cannot_go_to_one : List GroupPlan → FlowPlan → Bool
+cannot_go_to_one groups flow = is_to_one flow.to && is_group_of is_one_frame_to_all (slice_get groups flow.group)
+
+abbrev pub goes_to_its_sender : FlowPlan → Bool
+goes_to_its_sender flow = is_to flow.to flow.sender
+
+abbrev pub are_one_flow : FlowPlan → FlowPlan → Bool
+are_one_flow f h = f.group == h.group && (f.sender == h.sender && have_same_receiver f.to h.to)
+
+unfoldable pub flow_findings : List GroupPlan → List FlowPlan → List Finding
+flow_findings groups flows =
+    each (cannot_go_to_one groups) FlowToOne 0 flows ++ (each goes_to_its_sender FlowToSelf 0 flows ++ pairs are_one_flow FlowRepeated flows)
+
+-- ---- the whole list
+
+unfoldable pub found : Plan → List Finding
+found plan =
+    unit_findings plan.keep_free plan.units.items ++ (group_findings plan.groups.items ++ (signal_findings plan.groups.items
+    ++ (flow_findings plan.groups.items plan.flows.items ++ kept_findings plan.keep_free plan.units.items)))

@@ -1,0 +1,10 @@
+pub mod Adding
+pub mod CleanParts
+pub mod ConflictRuns
+pub mod Findings
+pub mod Found
+pub mod LabelForm
+pub mod ListPlaces
+pub mod PlannedGroups
+pub mod Refused
+pub mod SoundSignals

@@ -1,0 +1,35 @@
+-- Which planned groups can be sent and read, and why another can't.
+use Rattle.std.specs.Prelude.{◌≢◌, ℕ, ◌⊎◌, List, take, All}
+use Rattle.j39_id.specs.Pgn.{IsPgn}
+use Rattle.j39_signal.specs.LayoutParts.{LayoutParts}
+use Rattle.j39_signal.specs.Places.{LaysOut}
+use Rattle.j39_signal.specs.Refusals.{HasLayoutFault}
+use Rattle.j39_signal.specs.declared.layout_error.LayoutError.{LayoutError}
+use Rattle.j39_signal.specs.declared.layout_error.LayoutError.TheVariants.{Memory as NoMemory}
+use Rattle.j39_findings.specs.ListPlaces.{ValueAt}
+use Rattle.j39_findings.specs.declared.plan.group_plan.GroupPlan.{GroupPlan}
+use Rattle.j39_findings.specs.declared.planned_groups.GroupFault.{GroupFault}
+use Rattle.j39_findings.specs.declared.planned_groups.GroupFault.TheVariants.{Refused, Memory}
+
+-- the layout of a group
+abbrev pub layout_of : GroupPlan → LayoutParts
+layout_of group = record { length = group.length; signals = group.signals.items }
+
+-- the group's number is one of a group, and its signals lay out its payload
+pub record IsSendable (group : GroupPlan) : Type 0 where
+  pub number : IsPgn group.pgn
+  pub layout : LaysOut group.length group.signals.items
+
+-- its number is no group's, or there is a fault that keeps its signals from being a layout
+abbrev pub IsRefusedGroup : GroupPlan → Type 0
+IsRefusedGroup group =
+    (¬ IsPgn group.pgn) ⊎ ((e : LayoutError) × (e ≢ NoMemory) × HasLayoutFault group.length group.signals.items e)
+
+-- what keeps a group from having a layout; where it is memory alone, it could have one
+abbrev pub HasGroupFault : GroupPlan → GroupFault → Type 0
+HasGroupFault group Refused = IsRefusedGroup group
+HasGroupFault group Memory = IsSendable group
+
+-- the first group that is refused
+abbrev pub IsFirstRefused : List GroupPlan → ℕ → Type 0
+IsFirstRefused groups g = All IsSendable (take g groups) × ValueAt IsRefusedGroup groups g

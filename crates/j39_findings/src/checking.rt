@@ -1,0 +1,42 @@
+//! Everything that is wrong with a plan.
+ghost use Rattle.std.specs.Prelude.{◌≡◌, ◌≢◌, [], IfOk, IsOk, OnErr};
+ghost use Rattle.j39_findings.specs.Findings.{AreFindings, Clean};
+ghost use Rattle.j39_findings.specs.Found.{found};
+
+mod checked_plan;
+mod finding;
+mod flows;
+mod groups;
+mod kept;
+mod refused;
+mod rules;
+mod signals;
+mod units;
+
+use crate::plan::Plan;
+pub use checked_plan::{CheckedPlan, checked};
+pub use finding::{Finding, Findings};
+use flows::find_in_flows;
+use groups::find_in_groups;
+use kept::find_kept;
+pub use refused::{Refused, RefusedCause};
+use signals::find_in_signals;
+use std::alloc::{AllocError, Global};
+use units::find_in_units;
+
+/// All that is wrong with the plan, and nothing else, by the findings' numbers and then by their places in rising order.
+/// A plan in which nothing is wrong takes no memory.
+pub fn check(alloc: Global, plan: &Plan) -> Result<Findings, AllocError>
+    ensures list { IfOk result (λ findings. findings.items ≡ found plan.now) }
+    ensures exact { IfOk result (λ findings. AreFindings plan.now findings.items) }
+    ensures memory { OnErr result (found plan.now ≢ []) }
+    ensures clean { Clean plan.now → IsOk result }
+{
+    let mut findings = Vec::new(alloc);
+    find_in_units(&mut findings, &plan.keep_free, &plan.units)?;
+    find_in_groups(&mut findings, &plan.groups)?;
+    find_in_signals(&mut findings, &plan.groups)?;
+    find_in_flows(&mut findings, &plan.groups, &plan.flows)?;
+    find_kept(&mut findings, &plan.keep_free, &plan.units)?;
+    Ok(findings)
+}

@@ -1,0 +1,104 @@
+//! What is wrong with the flows of a plan.
+ghost use Rattle.std.specs.Prelude.{◌≡◌, List};
+ghost use Rattle.j39_findings.specs.Adding.{Adds};
+ghost use Rattle.j39_findings.specs.ListPlaces.{found_if};
+ghost use Rattle.j39_findings.specs.Found.{is_one_frame_to_all, cannot_go_to_one, goes_to_its_sender, are_one_flow, flow_findings};
+
+use crate::checking::finding::Finding;
+use crate::checking::rules::{PairRule, Rule, find_each, find_pairs, push_if};
+use crate::plan::{FlowPlan, GroupPlan, To};
+use j39_id::limits::FRAME_BYTES;
+use std::alloc::AllocError;
+
+// Whether the group is sent in one frame, which has no destination.
+fn is_one_frame_to_all(group: &GroupPlan) -> bool
+    ensures { result ≡ is_one_frame_to_all group.now }
+{
+    (group.pgn >> 8) & 0xff >= 240 && usize::from(group.length) <= FRAME_BYTES
+}
+
+fn cannot_go_to_one(groups: &[GroupPlan], flow: &FlowPlan) -> bool
+    ensures { result ≡ cannot_go_to_one groups.now flow.now }
+{
+    match groups.get(flow.group) {
+        Some(group) => flow.to != To::All && is_one_frame_to_all(group),
+        None => false,
+    }
+}
+
+#[derive(Clone, Copy)]
+struct FlowToOne<'a> {
+    groups: &'a [GroupPlan],
+}
+
+impl Rule<FlowPlan> for FlowToOne<'_> {
+    ghost use Rattle.j39_findings.specs.declared.checking.finding.Finding.TheVariants.{FlowToOne as FlowsToOne};
+
+    ghost gives = { λ rule f flow. found_if (cannot_go_to_one rule.groups.now flow) (FlowsToOne f) };
+
+    fn find(
+        &self,
+        findings: &mut Vec<Finding>,
+        place: usize,
+        flow: &FlowPlan,
+    ) -> Result<(), AllocError> {
+        push_if(
+            findings,
+            cannot_go_to_one(self.groups, flow),
+            Finding::FlowToOne(place),
+        )
+    }
+}
+
+#[derive(Clone, Copy)]
+struct FlowToSelf;
+
+impl Rule<FlowPlan> for FlowToSelf {
+    ghost use Rattle.j39_findings.specs.declared.checking.finding.Finding.TheVariants.{FlowToSelf as FlowsToSelf};
+
+    ghost gives = { λ _ f flow. found_if (goes_to_its_sender flow) (FlowsToSelf f) };
+
+    fn find(
+        &self,
+        findings: &mut Vec<Finding>,
+        place: usize,
+        flow: &FlowPlan,
+    ) -> Result<(), AllocError> {
+        push_if(
+            findings,
+            flow.to == To::One(flow.sender),
+            Finding::FlowToSelf(place),
+        )
+    }
+}
+
+#[derive(Clone, Copy)]
+struct FlowRepeated;
+
+impl PairRule<FlowPlan> for FlowRepeated {
+    ghost use Rattle.j39_findings.specs.declared.checking.finding.Finding.TheVariants.{FlowRepeated as FlowsRepeated};
+
+    ghost test = { are_one_flow };
+
+    ghost make = { λ _ f h. FlowsRepeated f h };
+
+    fn holds(&self, first: &FlowPlan, second: &FlowPlan) -> bool {
+        first == second
+    }
+
+    fn finding(&self, first: usize, second: usize) -> Finding {
+        Finding::FlowRepeated(first, second)
+    }
+}
+
+pub fn find_in_flows(
+    findings: &mut Vec<Finding>,
+    groups: &[GroupPlan],
+    flows: &[FlowPlan],
+) -> Result<(), AllocError>
+    ensures { Adds result findings.old.items findings.new.items (flow_findings groups.now flows.now) }
+{
+    find_each(findings, &FlowToOne { groups }, flows)?;
+    find_each(findings, &FlowToSelf, flows)?;
+    find_pairs(findings, &FlowRepeated, flows)
+}

@@ -1,0 +1,144 @@
+//! What is wrong with the signals of each group of a plan.
+ghost use Rattle.std.specs.Prelude.{◌≡◌, List};
+ghost use Rattle.j39_findings.specs.Adding.{Adds};
+ghost use Rattle.j39_signal.specs.Places.{shares_bit};
+ghost use Rattle.j39_findings.specs.ListPlaces.{found_if, each, pairs};
+ghost use Rattle.j39_findings.specs.Found.{has_other_width, ends_outside, width_findings, outside_findings, overlap_findings, signal_findings};
+
+use crate::checking::finding::Finding;
+use crate::checking::rules::{PairRule, Rule, find_each, find_pairs, push_if};
+use crate::plan::GroupPlan;
+use j39_signal::Signal;
+use std::alloc::AllocError;
+
+#[derive(Clone, Copy)]
+struct SignalWidth {
+    group: usize,
+}
+
+impl Rule<Signal> for SignalWidth {
+    ghost use Rattle.j39_findings.specs.declared.checking.finding.Finding.TheVariants.{SignalWidth as Widths};
+
+    ghost gives = { λ rule s signal. found_if (has_other_width signal) (Widths rule.group s) };
+
+    fn find(
+        &self,
+        findings: &mut Vec<Finding>,
+        place: usize,
+        signal: &Signal,
+    ) -> Result<(), AllocError> {
+        push_if(
+            findings,
+            !signal.width_fits(),
+            Finding::SignalWidth(self.group, place),
+        )
+    }
+}
+
+#[derive(Clone, Copy)]
+struct SignalOutside {
+    group: usize,
+    length: u16,
+}
+
+impl Rule<Signal> for SignalOutside {
+    ghost use Rattle.j39_findings.specs.declared.checking.finding.Finding.TheVariants.{SignalOutside as Outsides};
+
+    ghost gives = { λ rule s signal. found_if (ends_outside rule.length signal) (Outsides rule.group s) };
+
+    fn find(
+        &self,
+        findings: &mut Vec<Finding>,
+        place: usize,
+        signal: &Signal,
+    ) -> Result<(), AllocError> {
+        push_if(
+            findings,
+            !signal.is_inside(self.length),
+            Finding::SignalOutside(self.group, place),
+        )
+    }
+}
+
+#[derive(Clone, Copy)]
+struct SignalOverlap {
+    group: usize,
+}
+
+impl PairRule<Signal> for SignalOverlap {
+    ghost use Rattle.j39_findings.specs.declared.checking.finding.Finding.TheVariants.{SignalOverlap as Overlaps};
+
+    ghost test = { shares_bit };
+
+    ghost make = { λ rule s t. Overlaps rule.group s t };
+
+    fn holds(&self, first: &Signal, second: &Signal) -> bool {
+        first.shares_bit(second)
+    }
+
+    fn finding(&self, first: usize, second: usize) -> Finding {
+        Finding::SignalOverlap(self.group, first, second)
+    }
+}
+
+#[derive(Clone, Copy)]
+struct Widths;
+
+impl Rule<GroupPlan> for Widths {
+    ghost gives = { λ _ g group. width_findings g group };
+
+    #[tactic(auto, unfolding(crate::specs::ListPlaces::each))]
+    fn find(
+        &self,
+        findings: &mut Vec<Finding>,
+        place: usize,
+        group: &GroupPlan,
+    ) -> Result<(), AllocError> {
+        find_each(findings, &SignalWidth { group: place }, &group.signals)
+    }
+}
+
+#[derive(Clone, Copy)]
+struct Outsides;
+
+impl Rule<GroupPlan> for Outsides {
+    ghost gives = { λ _ g group. outside_findings g group };
+
+    #[tactic(auto, unfolding(crate::specs::ListPlaces::each))]
+    fn find(
+        &self,
+        findings: &mut Vec<Finding>,
+        place: usize,
+        group: &GroupPlan,
+    ) -> Result<(), AllocError> {
+        let rule = SignalOutside {
+            group: place,
+            length: group.length,
+        };
+        find_each(findings, &rule, &group.signals)
+    }
+}
+
+#[derive(Clone, Copy)]
+struct Overlaps;
+
+impl Rule<GroupPlan> for Overlaps {
+    ghost gives = { λ _ g group. overlap_findings g group };
+
+    fn find(
+        &self,
+        findings: &mut Vec<Finding>,
+        place: usize,
+        group: &GroupPlan,
+    ) -> Result<(), AllocError> {
+        find_pairs(findings, &SignalOverlap { group: place }, &group.signals)
+    }
+}
+
+pub fn find_in_signals(findings: &mut Vec<Finding>, groups: &[GroupPlan]) -> Result<(), AllocError>
+    ensures { Adds result findings.old.items findings.new.items (signal_findings groups.now) }
+{
+    find_each(findings, &Widths, groups)?;
+    find_each(findings, &Outsides, groups)?;
+    find_each(findings, &Overlaps, groups)
+}

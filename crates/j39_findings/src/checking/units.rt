@@ -1,0 +1,86 @@
+//! What is wrong with the units of a plan.
+ghost use Rattle.std.specs.Prelude.{◌≡◌, List};
+ghost use Rattle.j39_findings.specs.Adding.{Adds};
+ghost use Rattle.j39_findings.specs.Findings.{needed_addresses, needs_pool_address};
+ghost use Rattle.j39_findings.specs.Found.{have_same_name, have_same_fixed_address, is_fixed, unit_findings};
+
+use crate::checking::finding::Finding;
+use crate::checking::rules::{PairRule, find_pairs, push_if};
+use crate::plan::UnitPlan;
+use j39_claim::AddressSet;
+use j39_id::addresses::is_in_pool;
+use std::alloc::AllocError;
+
+#[derive(Clone, Copy)]
+struct SameName;
+
+impl PairRule<UnitPlan> for SameName {
+    ghost use Rattle.j39_findings.specs.declared.checking.finding.Finding.TheVariants.{SameName as SameNames};
+
+    ghost test = { have_same_name };
+
+    ghost make = { λ _ i j. SameNames i j };
+
+    fn holds(&self, first: &UnitPlan, second: &UnitPlan) -> bool {
+        first.name == second.name
+    }
+
+    fn finding(&self, first: usize, second: usize) -> Finding {
+        Finding::SameName(first, second)
+    }
+}
+
+fn is_fixed(unit: &UnitPlan) -> bool
+    ensures { result ≡ is_fixed unit.now }
+{
+    !unit.name.is_arbitrary()
+}
+
+#[derive(Clone, Copy)]
+struct SameFixedAddress;
+
+impl PairRule<UnitPlan> for SameFixedAddress {
+    ghost use Rattle.j39_findings.specs.declared.checking.finding.Finding.TheVariants.{SameFixedAddress as SameAddresses};
+
+    ghost test = { have_same_fixed_address };
+
+    ghost make = { λ _ i j. SameAddresses i j };
+
+    fn holds(&self, first: &UnitPlan, second: &UnitPlan) -> bool {
+        is_fixed(first) && is_fixed(second) && first.address == second.address
+    }
+
+    fn finding(&self, first: usize, second: usize) -> Finding {
+        Finding::SameFixedAddress(first, second)
+    }
+}
+
+// An arbitrary unit needs some address of the pool that isn't kept free, and a fixed one has its own there.
+fn needs_pool_address(kept: &AddressSet, unit: &UnitPlan) -> bool
+    ensures { result ≡ needs_pool_address kept.now unit.now }
+{
+    unit.name.is_arbitrary() || is_in_pool(unit.address.number()) && !kept.has(unit.address)
+}
+
+fn needed_addresses(kept: &AddressSet, units: &[UnitPlan]) -> usize
+    ensures { result ≡ needed_addresses kept.now units.now }
+{
+    units
+        .iter()
+        .filter(|unit| needs_pool_address(kept, unit))
+        .count()
+}
+
+pub fn find_in_units(
+    findings: &mut Vec<Finding>,
+    kept: &AddressSet,
+    units: &[UnitPlan],
+) -> Result<(), AllocError>
+    ensures { Adds result findings.old.items findings.new.items (unit_findings kept.now units.now) }
+{
+    find_pairs(findings, &SameName, units)?;
+    find_pairs(findings, &SameFixedAddress, units)?;
+    let needed = needed_addresses(kept, units);
+    let room = kept.free_count();
+    push_if(findings, needed > room, Finding::TooFewAddresses(needed))
+}

@@ -1,0 +1,10 @@
+//! The law of runs that show a conflict.
+ghost use Rattle.j39_findings.specs.declared.plan.Plan.{Plan};
+ghost use Rattle.j39_findings.specs.declared.checking.finding.Finding.{Finding};
+ghost use Rattle.j39_findings.specs.ConflictRuns.{RunsAreExact};
+
+/// There is a run exactly where the finding tells of two fixed units of the plan that have one address and different
+/// NAMEs, and it begins with the unit of the larger NAME.
+pub fn conflict_runs_are_exact()
+    ensures { (plan : Plan) (finding : Finding) → RunsAreExact plan finding }
+{}

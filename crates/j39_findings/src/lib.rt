@@ -1,0 +1,18 @@
+//! Network plans of SAE J1939: what they hold, and what is wrong with them.
+#![tactic(auto)]
+
+mod checking;
+mod conflict_run;
+mod laws;
+mod plan;
+mod planned_groups;
+mod steps;
+
+pub use checking::{CheckedPlan, Finding, Findings, Refused, RefusedCause, check, checked};
+pub use conflict_run::bad_run;
+pub use laws::{
+    clean_parts, clean_where_none, conflict_runs_are_exact, found_exactly, signals_are_sound,
+};
+pub use plan::{FlowPlan, GroupPlan, Plan, To, UnitPlan, Way};
+pub use planned_groups::{GroupFault, layout_of};
+pub use steps::Step;

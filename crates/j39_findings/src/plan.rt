@@ -1,0 +1,38 @@
+//! A plan: the units of a network, the groups that they send, and who sends which group to whom.
+ghost use Rattle.std.specs.Prelude.{◌≡◌, ◌≢◌, ℕ, true, ◌<◌, ◌≤◌, length, All, AllPairs};
+ghost use Rattle.std.specs.FinSet.{contains};
+ghost use Rattle.j39_id.specs.Addresses.{in_pool};
+ghost use Rattle.j39_findings.specs.declared.plan.to.To.TheVariants.{One};
+
+mod flow_plan;
+mod group_plan;
+mod to;
+mod unit_plan;
+mod way;
+
+pub use flow_plan::FlowPlan;
+pub use group_plan::GroupPlan;
+use j39_claim::AddressSet;
+pub use to::To;
+pub use unit_plan::UnitPlan;
+pub use way::Way;
+
+/// A plan of a network: at most 128 units, 256 groups and 512 flows, named by their places from 0.
+/// No two units have one label, and no two groups.
+#[derive(Debug, Drop)]
+pub struct Plan {
+    /// Addresses of 128 to 247 that no arbitrary unit may hold.
+    pub keep_free: AddressSet,
+    pub units: Vec<UnitPlan>,
+    pub groups: Vec<GroupPlan>,
+    pub flows: Vec<FlowPlan>,
+    pub ghost keep_free_range: { (a : ℕ) → contains keep_free a ≡ true → in_pool a ≡ true },
+    pub ghost unit_count: { length units.items ≤ 128 },
+    pub ghost group_count: { length groups.items ≤ 256 },
+    pub ghost flow_count: { length flows.items ≤ 512 },
+    pub ghost unit_labels: { AllPairs (λ u w. u.label.bytes ≢ w.label.bytes) units.items },
+    pub ghost group_labels: { AllPairs (λ g h. g.label.bytes ≢ h.label.bytes) groups.items },
+    pub ghost flow_groups: { All (λ f. f.group < length groups.items) flows.items },
+    pub ghost flow_senders: { All (λ f. f.sender < length units.items) flows.items },
+    pub ghost flow_receivers: { All (λ f. (r : ℕ) → f.to ≡ One r → r < length units.items) flows.items },
+}

@@ -1,0 +1,25 @@
+//! A unit of a plan.
+ghost use Rattle.std.specs.Prelude.{◌^◌, ◌<◌, ◌≤◌, IsTrue};
+ghost use Rattle.j39_id.specs.Addresses.{null_address};
+ghost use Rattle.j39_findings.specs.LabelForm.{is_unit_label};
+
+use super::Way;
+use j39_id::{Address, Label, Name};
+
+/// An electronic unit.
+#[derive(Clone, Copy, Debug)]
+pub struct UnitPlan {
+    /// 1 to 32 ASCII letters, digits and `_`, and not `all`.
+    pub label: Label,
+    /// The preferred address.
+    pub address: Address,
+    pub name: Name,
+    pub way: Way,
+    /// How many packets the unit takes in a row, 1 to 255.
+    pub window: u8,
+    pub ghost label_form: { IsTrue (is_unit_label label.bytes) },
+    pub ghost address_range: { address < null_address },
+    pub ghost name_range: { name < 2 ^ 64 },
+    pub ghost window_positive: { 1 ≤ window },
+    pub ghost window_range: { window ≤ 255 },
+}

@@ -1,5 +1,0 @@
-use Rattle.j39_plan.proofs.FoundLaws.{clean_from_none, none_from_clean}
-use Rattle.j39_plan.proofs.laws.findings.clean_where_none.Goals as goal
-
-pub returns : goal.returns
-returns c = λ plan. (clean_from_none plan, none_from_clean plan)

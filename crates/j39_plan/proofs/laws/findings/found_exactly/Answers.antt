@@ -1,5 +1,0 @@
-use Rattle.j39_plan.proofs.FoundLaws.{are_findings}
-use Rattle.j39_plan.proofs.laws.findings.found_exactly.Goals as goal
-
-pub returns : goal.returns
-returns c = are_findings

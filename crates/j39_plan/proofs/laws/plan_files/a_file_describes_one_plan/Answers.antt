@@ -1,6 +1,0 @@
-use Rattle.j39_plan.specs.Described.{tree_of}
-use Rattle.j39_plan.proofs.OneAnswer.{one_answer}
-use Rattle.j39_plan.proofs.laws.plan_files.a_file_describes_one_plan.Goals as goal
-
-pub returns : goal.returns
-returns c = λ bytes. one_answer (tree_of bytes)

@@ -1,0 +1,114 @@
+-- The tables of units, and of their NAMEs (SAE J1939-81, NAME fields).
+use Rattle.std.specs.Prelude.{◌≡◌, ℕ, List, [], ◌∷◌, ◌++◌, false, if◌then◌else◌, Some, None, unwrap_or, codes}
+use Rattle.std.specs.Str.{bytes_eq}
+use Rattle.std.specs.Option.{option_map_or}
+use Rattle.toml.specs.Data.{Data, Members, no_members, as_table}
+use Rattle.j39_id.specs.declared.name_fields.NameFields.{NameFields}
+use Rattle.j39_id.specs.Name.{name_number}
+use Rattle.j39_findings.specs.declared.plan.way.Way.{Way}
+use Rattle.j39_findings.specs.declared.plan.way.Way.TheVariants.{Lowest, Upward}
+use Rattle.j39_findings.specs.declared.plan.unit_plan.UnitPlan.{UnitPlan}
+use Rattle.j39_plan.specs.declared.reading.key.Key.TheVariants as key
+use Rattle.j39_plan.specs.declared.reading.place.Table.TheVariants as at
+use Rattle.j39_plan.specs.declared.reading.fault.Fault.{Fault}
+use Rattle.j39_plan.specs.declared.reading.text_kind.TextKind.TheVariants as texts
+use Rattle.j39_plan.specs.Schema.{Rule, number, flag, text, inner_table, number_of, flag_of, text_of, table_of}
+use Rattle.j39_plan.specs.TableFaults.{table_faults, table_only_faults}
+use Rattle.j39_plan.specs.Elements.{inside, repeated_faults}
+
+-- ---- the NAME
+
+abbrev pub identity_rule : Rule
+identity_rule = number key.Identity 0 2097151 None
+
+abbrev pub manufacturer_rule : Rule
+manufacturer_rule = number key.Manufacturer 0 2047 (Some 0)
+
+abbrev pub ecu_rule : Rule
+ecu_rule = number key.Ecu 0 7 (Some 0)
+
+abbrev pub function_instance_rule : Rule
+function_instance_rule = number key.FunctionInstance 0 31 (Some 0)
+
+abbrev pub function_rule : Rule
+function_rule = number key.Function 0 255 (Some 0)
+
+abbrev pub system_rule : Rule
+system_rule = number key.System 0 127 (Some 0)
+
+abbrev pub system_instance_rule : Rule
+system_instance_rule = number key.SystemInstance 0 15 (Some 0)
+
+abbrev pub industry_rule : Rule
+industry_rule = number key.Industry 0 7 (Some 0)
+
+abbrev pub arbitrary_rule : Rule
+arbitrary_rule = flag key.Arbitrary false
+
+abbrev pub name_rules : List Rule
+name_rules = identity_rule ∷ manufacturer_rule ∷ ecu_rule ∷ function_instance_rule ∷ function_rule
+    ∷ system_rule ∷ system_instance_rule ∷ industry_rule ∷ arbitrary_rule ∷ []
+
+-- the fields that a table tells; the reserved bit of a planned NAME is 0
+unfoldable pub fields_of : Members → NameFields
+fields_of ms = record {
+  identity = number_of identity_rule ms;
+  manufacturer = number_of manufacturer_rule ms;
+  ecu = number_of ecu_rule ms;
+  function_instance = number_of function_instance_rule ms;
+  function = number_of function_rule ms;
+  reserved = 0;
+  system = number_of system_rule ms;
+  system_instance = number_of system_instance_rule ms;
+  industry = number_of industry_rule ms;
+  arbitrary = if flag_of arbitrary_rule ms then 1 else 0;
+}
+
+unfoldable pub name_faults : ℕ → Members → List Fault
+name_faults i = table_faults (at.UnitName i) name_rules
+
+-- ---- the unit
+
+abbrev pub label_rule : Rule
+label_rule = text key.Label texts.UnitLabel None
+
+abbrev pub address_rule : Rule
+address_rule = number key.Address 0 253 None
+
+abbrev pub chooser_rule : Rule
+chooser_rule = text key.Chooser texts.Chooser (Some (codes "lowest"))
+
+abbrev pub window_rule : Rule
+window_rule = number key.Window 1 255 (Some 255)
+
+abbrev pub name_rule : Rule
+name_rule = inner_table key.Name
+
+abbrev pub unit_rules : List Rule
+unit_rules = label_rule ∷ address_rule ∷ chooser_rule ∷ window_rule ∷ name_rule ∷ []
+
+abbrev pub way_of : List ℕ → Way
+way_of t = if bytes_eq t (codes "upward") then Upward else Lowest
+
+-- the unit that a table tells
+pub record TellsUnit (ms : Members) (u : UnitPlan) : Type 0 where
+  pub has_label : u.label.bytes ≡ text_of label_rule ms
+  pub has_address : u.address ≡ number_of address_rule ms
+  pub has_way : u.way ≡ way_of (text_of chooser_rule ms)
+  pub has_window : u.window ≡ number_of window_rule ms
+  pub has_name : u.name ≡ name_number (fields_of (unwrap_or (table_of name_rule ms) no_members))
+
+abbrev pub IsUnitOf : Data → UnitPlan → Type 0
+IsUnitOf d u = TellsUnit (inside d) u
+
+abbrev pub unit_label : Data → List ℕ
+unit_label d = text_of label_rule (inside d)
+
+unfoldable pub unit_table_faults : ℕ → Members → List Fault
+unit_table_faults i ms = table_faults (at.Unit i) unit_rules ms ++ option_map_or (name_faults i) (table_of name_rule ms) []
+
+-- the faults of the i-th unit, behind those with the labels seen
+unfoldable pub unit_faults : ℕ → List (List ℕ) → Data → List Fault
+unit_faults i seen d = table_only_faults (at.Unit i) d
+    ++ option_map_or (unit_table_faults i) (as_table d) []
+    ++ repeated_faults (at.Unit i) texts.UnitLabel seen (unit_label d)
