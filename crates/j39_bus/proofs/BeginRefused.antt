@@ -10,7 +10,7 @@ use Rattle.j39_world.specs.declared.step_error.StepError.TheVariants.{NoSuchFlow
 use Rattle.j39_bus.specs.BusState.{Histories}
 use Rattle.j39_world.specs.Flows.{flows_of, can_be_sent}
 use Rattle.j39_world.specs.declared.flow.Flow.{Flow}
-use Rattle.j39_plan.specs.declared.plan.Plan.{Plan}
+use Rattle.j39_findings.specs.declared.plan.Plan.{Plan}
 use Rattle.j39_bus.specs.inside.Network.{IsNetwork, IsOfPlan, world_in}
 use Rattle.j39_world.specs.Run.{at_ends, begin_refusal, has_address, is_nothing_undelivered, is_on, refuse_unless}
 use Rattle.j39_bus.specs.inside.Traffic.{IsFlow}

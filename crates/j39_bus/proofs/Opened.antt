@@ -9,7 +9,7 @@ use Rattle.std.specs.FinMap.{get, get-empty}
 use Rattle.std.specs.FinSet.{FinSet}
 use Rattle.j39_claim.specs.ClaimRule.{PlannedUnit, ClaimState, off}
 use Rattle.j39_claim.specs.ClaimerValue.{ClaimerValue}
-use Rattle.j39_plan.specs.declared.plan.unit_plan.UnitPlan.{UnitPlan}
+use Rattle.j39_findings.specs.declared.plan.unit_plan.UnitPlan.{UnitPlan}
 use Rattle.j39_claim.specs.declared.item.Item.{Item}
 use Rattle.j39_world.specs.PlannedUnits.{planned_unit, unit_at}
 use Rattle.j39_world.specs.Transfers.{Outgoing}

@@ -4,7 +4,7 @@ use Rattle.std.proofs.Common.{length, get_or, Option, Some, None, is_some}
 use Rattle.std.proofs.lemmas.Bool.{and_right, cases_eq}
 use Rattle.std.proofs.lemmas.List.{length-map}
 use Rattle.j39_claim.specs.ClaimerValue.{ClaimerValue}
-use Rattle.j39_plan.specs.declared.plan.Plan.{Plan}
+use Rattle.j39_findings.specs.declared.plan.Plan.{Plan}
 use Rattle.j39_world.specs.PlannedUnits.{planned_unit}
 use Rattle.j39_world.specs.Run.{count_of, is_no_transfer_open}
 use Rattle.std.specs.List.{list_all, list_any, range_with_len}

@@ -1,7 +1,7 @@
 //! What is sent of a message.
 ghost use Rattle.std.specs.Prelude.{◌≡◌, ℕ, ◌≤◌, length, is_some};
 
-use j39_plan::To;
+use j39_findings::To;
 use j39_tp::{Dest, Message, Outcome, Packet, Phase, Reaction, Sender};
 use j39_world::{Flow, Short, Wired};
 
@@ -18,7 +18,7 @@ pub(crate) enum Content {
 impl Content {
     ghost use Rattle.j39_world.specs.TransferSteps.{begun_stage, first_item};
     ghost use Rattle.j39_tp.specs.Sender.{data_next, next_number, after_packet, timeout_packet, after_timeout, hears, outcome_of};
-    ghost use Rattle.j39_plan.specs.declared.plan.to.To.{To};
+    ghost use Rattle.j39_findings.specs.declared.plan.to.To.{To};
     ghost use Rattle.j39_world.specs.Run.{is_waiting_at};
     ghost use Rattle.j39_world.specs.Flows.{dest_of};
     ghost use Rattle.j39_bus.specs.inside.Content.{HasContent, bytes_in, stage_in};

@@ -2,10 +2,10 @@
 ghost use Rattle.std.specs.Prelude.{◌≡◌, ◌<◌, ◌≤◌, length, All, IfOk};
 ghost use Rattle.j39_world.specs.Flows.{flow_of, flows_of};
 ghost use Rattle.j39_bus.specs.inside.Traffic.{IsFlow};
-ghost use Rattle.j39_plan.specs.PlannedGroups.{IsSendable};
+ghost use Rattle.j39_findings.specs.PlannedGroups.{IsSendable};
 
+use j39_findings::{FlowPlan, GroupPlan, Plan};
 use j39_id::Pgn;
-use j39_plan::{FlowPlan, GroupPlan, Plan};
 use j39_world::Flow;
 use std::alloc::{AllocError, Global};
 

@@ -8,7 +8,7 @@ ghost use Rattle.j39_bus.specs.Stands.{Stands};
 ghost use Rattle.j39_bus.specs.inside.Network.{HasHeld, IsNetwork, IsOfPlan, world_in};
 ghost use Rattle.j39_world.specs.World.{first};
 ghost use Rattle.j39_bus.specs.inside.SendableGroups.{HasBadGroup};
-ghost use Rattle.j39_plan.specs.PlannedGroups.{IsSendable};
+ghost use Rattle.j39_findings.specs.PlannedGroups.{IsSendable};
 
 use crate::flows::flows_of;
 use crate::network::Network;
@@ -16,7 +16,7 @@ use crate::receivers::Receivers;
 use crate::session::Session;
 use crate::{Bus, BusError};
 use j39_claim::{AddressSet, Choose, Claimer};
-use j39_plan::{GroupFault, GroupPlan, Plan, UnitPlan, layout_of};
+use j39_findings::{GroupFault, GroupPlan, Plan, UnitPlan, layout_of};
 use j39_queues::Queues;
 use std::alloc::{AllocError, Global};
 

@@ -1,6 +1,6 @@
 //! Why steps are refused.
 ghost use Rattle.std.specs.Prelude.{◌≡◌, ◌<◌, true, None, Some, nat_lt, length, is_some};
-ghost use Rattle.j39_plan.specs.declared.steps.Step.TheVariants.{Up, Give, Ask, Begin, Emit, Take, LateSender, LateReceiver, Rest};
+ghost use Rattle.j39_findings.specs.declared.steps.Step.TheVariants.{Up, Give, Ask, Begin, Emit, Take, LateSender, LateReceiver, Rest};
 ghost use Rattle.j39_world.specs.Flows.{can_be_sent};
 ghost use Rattle.j39_bus.specs.Stations.{station_at};
 ghost use Rattle.j39_bus.specs.BusState.{Histories};
@@ -10,7 +10,7 @@ ghost use Rattle.j39_bus.specs.inside.Traffic.{IsFlow};
 
 use crate::network::Network;
 use crate::{StepError, sessions};
-use j39_plan::{Step, To};
+use j39_findings::{Step, To};
 use j39_world::Flow;
 
 /// Whether a flow to one unit goes to another one, and its group can be sent to one.

@@ -7,8 +7,8 @@ ghost use Rattle.j39_world.specs.TransferSteps.{begun_stage, first_item, session
 ghost use Rattle.j39_world.specs.Transfers.{is_among};
 
 use crate::content::Content;
+use j39_findings::To;
 use j39_id::Pgn;
-use j39_plan::To;
 use j39_tp::{Outcome, Packet, Reaction};
 use j39_world::{Flow, Wired};
 use std::marker::Model;

@@ -12,7 +12,7 @@ ghost use Rattle.j39_world.specs.Transfers.{Outgoing, outcome_in};
 ghost use Rattle.j39_world.specs.World.{changed};
 
 use crate::session::Session;
-use j39_plan::To;
+use j39_findings::To;
 use j39_tp::{Outcome, Packet, Reaction};
 
 /// Whether some unit sends a message.

@@ -1,6 +1,6 @@
 //! A unit is switched off.
-ghost use Rattle.j39_plan.specs.declared.plan.Plan.{Plan};
-ghost use Rattle.j39_plan.specs.declared.steps.Step.TheVariants.{Down};
+ghost use Rattle.j39_findings.specs.declared.plan.Plan.{Plan};
+ghost use Rattle.j39_findings.specs.declared.steps.Step.TheVariants.{Down};
 ghost use Rattle.j39_bus.specs.inside.Network.{IsAllowed, IsNetwork, IsOfPlan, KeepsPlan, HasStepped};
 
 use crate::network::Network;

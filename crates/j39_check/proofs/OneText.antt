@@ -1,14 +1,14 @@
 -- Check has one text.
 use Rattle.std.proofs.Common.{◌≡◌, ℕ, List, [], Some, Err, refl, subst, sym, ap, ◌∙◌}
 use Rattle.std.proofs.lemmas.Option.{same_Some}
-use Rattle.j39_plan.specs.declared.plan.Plan.{Plan}
+use Rattle.j39_findings.specs.declared.plan.Plan.{Plan}
 use Rattle.j39_plan.specs.declared.reading.fault.Fault.{Fault}
 use Rattle.j39_plan.specs.declared.reading.plan_error.PlanError.{PlanError}
 use Rattle.j39_plan.specs.declared.reading.plan_error.PlanError.TheVariants as errors
 use Rattle.j39_plan.specs.Described.{Reads, tree_of}
 use Rattle.j39_plan.specs.Faults.{faults}
 use Rattle.j39_plan.specs.Outcome.{first}
-use Rattle.j39_plan.proofs.FoundLaws.{none_from_clean}
+use Rattle.j39_findings.proofs.FoundLaws.{none_from_clean}
 use Rattle.j39_text.specs.PlanText.{Describes, IsRefusalLine, fault_line}
 use Rattle.j39_stream.specs.declared.verdict.Verdict.TheVariants.{Done, Findings, Refused, Unreadable}
 use Rattle.j39_check.specs.CheckText.{HasOneRefusal, HasOneReport, IsNotRefused}

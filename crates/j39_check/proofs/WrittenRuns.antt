@@ -5,12 +5,12 @@ use Rattle.std.proofs.lemmas.Option.{slice_get_within}
 use Rattle.std.specs.List.{All}
 use Rattle.std.specs.Option.{option_map_or}
 use Rattle.std.specs.Prelude.{unwrap_or}
-use Rattle.j39_plan.specs.declared.plan.Plan.{Plan}
-use Rattle.j39_plan.specs.declared.checking.finding.Finding.{Finding}
-use Rattle.j39_plan.specs.declared.steps.Step.{Step}
-use Rattle.j39_plan.specs.declared.steps.Step.TheVariants.{Up, Give}
-use Rattle.j39_plan.specs.ConflictRuns.{IsConflictRun, conflict_run, conflict_steps}
-use Rattle.j39_plan.proofs.ConflictLaws.{runs_are_exact}
+use Rattle.j39_findings.specs.declared.plan.Plan.{Plan}
+use Rattle.j39_findings.specs.declared.checking.finding.Finding.{Finding}
+use Rattle.j39_findings.specs.declared.steps.Step.{Step}
+use Rattle.j39_findings.specs.declared.steps.Step.TheVariants.{Up, Give}
+use Rattle.j39_findings.specs.ConflictRuns.{IsConflictRun, conflict_run, conflict_steps}
+use Rattle.j39_findings.proofs.ConflictLaws.{runs_are_exact}
 use Rattle.j39_laws.proofs.Conflicts.ConflictShown.{leaves_without_address}
 use Rattle.j39_schedule.specs.Schedule.{read_as, readings_of}
 use Rattle.j39_schedule.specs.StepLines.{IsStepOf, IsUnit, step_lines}

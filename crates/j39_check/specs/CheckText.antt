@@ -1,9 +1,9 @@
 -- The text that the check command writes for a plan file.
 use Rattle.std.specs.Prelude.{◌≡◌, ◌≢◌, ◌⊎◌, ℕ, List, [], ◌∷◌, ◌++◌, codes, length}
-use Rattle.j39_plan.specs.declared.plan.Plan.{Plan}
-use Rattle.j39_plan.specs.declared.checking.finding.Finding.{Finding}
-use Rattle.j39_plan.specs.Findings.{Clean}
-use Rattle.j39_plan.specs.Found.{found}
+use Rattle.j39_findings.specs.declared.plan.Plan.{Plan}
+use Rattle.j39_findings.specs.declared.checking.finding.Finding.{Finding}
+use Rattle.j39_findings.specs.Findings.{Clean}
+use Rattle.j39_findings.specs.Found.{found}
 use Rattle.j39_world.specs.SoundPlan.{IsSound}
 use Rattle.j39_check.specs.FindingLines.{finding_lines}
 use Rattle.j39_text.specs.PlanText.{Describes, IsRefusedText}

@@ -1,12 +1,12 @@
 -- The lines of findings, with the labels of what they name by places, and the runs that show conflicts.
 use Rattle.std.specs.Prelude.{◌≡◌, ℕ, List, [], ◌∷◌, ◌++◌, map, codes, Some, unwrap_or}
 use Rattle.std.specs.Option.{option_map_or}
-use Rattle.j39_plan.specs.ConflictRuns.{IsConflictRun, TellsOfConflict, conflict_run}
-use Rattle.j39_plan.specs.declared.steps.Step.{Step}
+use Rattle.j39_findings.specs.ConflictRuns.{IsConflictRun, TellsOfConflict, conflict_run}
+use Rattle.j39_findings.specs.declared.steps.Step.{Step}
 use Rattle.j39_world.specs.Conflict.{LeavesWithoutAddress}
-use Rattle.j39_plan.specs.declared.plan.Plan.{Plan}
-use Rattle.j39_plan.specs.declared.checking.finding.Finding.{Finding}
-use Rattle.j39_plan.specs.declared.checking.finding.Finding.TheVariants.{SameName, SameFixedAddress, TooFewAddresses, BadPgn, SamePgn, SignalWidth, SignalOutside, SignalOverlap, FlowToOne, FlowToSelf, FlowRepeated, KeptAddress}
+use Rattle.j39_findings.specs.declared.plan.Plan.{Plan}
+use Rattle.j39_findings.specs.declared.checking.finding.Finding.{Finding}
+use Rattle.j39_findings.specs.declared.checking.finding.Finding.TheVariants.{SameName, SameFixedAddress, TooFewAddresses, BadPgn, SamePgn, SignalWidth, SignalOutside, SignalOverlap, FlowToOne, FlowToSelf, FlowRepeated, KeptAddress}
 use Rattle.j39_text.specs.Labels.{group_label, group_pgn, group_text, signal_bits, signal_end, signal_label, unit_address, unit_label, units_text}
 use Rattle.j39_text.specs.Texts.{field, place_field}
 use Rattle.j39_schedule.specs.Schedule.{read_as, readings_of}

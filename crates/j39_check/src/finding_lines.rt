@@ -1,10 +1,10 @@
 //! The lines of findings.
 ghost use Rattle.std.specs.Prelude.{◌≡◌, ◌++◌, OnOk};
-ghost use Rattle.j39_plan.specs.declared.checking.finding.Finding.TheVariants.{SameFixedAddress, BadPgn, SamePgn, SignalWidth, SignalOutside, SignalOverlap, FlowRepeated, KeptAddress};
+ghost use Rattle.j39_findings.specs.declared.checking.finding.Finding.TheVariants.{SameFixedAddress, BadPgn, SamePgn, SignalWidth, SignalOutside, SignalOverlap, FlowRepeated, KeptAddress};
 ghost use Rattle.j39_text.specs.Labels.{group_text, units_text};
 ghost use Rattle.j39_check.specs.FindingLines.{finding_line, finding_lines, finding_report, finding_text, run_lines, signal_text};
 
-use j39_plan::{Finding, Plan, bad_run};
+use j39_findings::{Finding, Plan, bad_run};
 use j39_schedule::write_steps;
 use j39_text::{
     TextBuffer, group_label, group_pgn, signal_bits, signal_end, signal_label, unit_address,

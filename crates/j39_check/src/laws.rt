@@ -1,6 +1,6 @@
 //! The laws of what check writes.
 ghost use Rattle.std.specs.Prelude.{ℕ, List};
-ghost use Rattle.j39_plan.specs.declared.plan.Plan.{Plan};
+ghost use Rattle.j39_findings.specs.declared.plan.Plan.{Plan};
 ghost use Rattle.j39_check.specs.CheckText.{HasOneRefusal, HasOneReport, IsNotRefused};
 ghost use Rattle.j39_check.specs.FindingLines.{RunReadsBack, RunShowsConflict};
 

@@ -3,8 +3,8 @@ ghost use Rattle.std.specs.Prelude.{◌≡◌, ◌++◌, OnOk, IfOk};
 ghost use Rattle.j39_check.specs.CheckText.{IsReport, findings_text, ok_line};
 
 use crate::finding_lines::write_lines;
+use j39_findings::{Finding, Plan, Refused, RefusedCause, checked};
 use j39_laws::certify;
-use j39_plan::{Finding, Plan, Refused, RefusedCause, checked};
 use j39_stream::Verdict;
 use j39_text::TextBuffer;
 use std::alloc::{AllocError, Global};

@@ -4,10 +4,10 @@ use Rattle.std.specs.List.{Contains}
 use Rattle.j39_claim.specs.declared.item.Say.TheVariants.{Claim, Cannot}
 use Rattle.j39_claim.specs.declared.item.Item.{Item}
 use Rattle.j39_claim.specs.declared.item.Item.TheVariants.{Told}
-use Rattle.j39_plan.specs.Findings.{Clean}
-use Rattle.j39_plan.specs.SoundSignals.{SoundSignals}
-use Rattle.j39_plan.specs.declared.plan.Plan.{Plan}
-use Rattle.j39_plan.specs.declared.steps.Step.{Step}
+use Rattle.j39_findings.specs.Findings.{Clean}
+use Rattle.j39_findings.specs.SoundSignals.{SoundSignals}
+use Rattle.j39_findings.specs.declared.plan.Plan.{Plan}
+use Rattle.j39_findings.specs.declared.steps.Step.{Step}
 use Rattle.j39_world.specs.World.{World, Undelivered, first}
 use Rattle.j39_world.specs.Run.{Run}
 use Rattle.j39_world.specs.PlannedUnits.{units_of}

@@ -5,7 +5,7 @@ use crate::laws::{
     acknowledged_messages_were_reported, addresses_are_sound, claims_die_down,
     kept_addresses_stay_free, reports_are_sound,
 };
-use j39_plan::{CheckedPlan, signals_are_sound};
+use j39_findings::{CheckedPlan, signals_are_sound};
 
 /// A checked plan is sound: in every world of every run of it, with all lawful choices and whatever is lost, addresses and reports
 /// are sound, what it keeps free stays free, claims die down, and its signals read back what they were last given. It does nothing

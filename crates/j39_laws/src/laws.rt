@@ -1,11 +1,11 @@
 //! Laws of all runs of a plan.
 ghost use Rattle.std.specs.Prelude.{List};
-ghost use Rattle.j39_plan.specs.Findings.{Clean};
-ghost use Rattle.j39_plan.specs.declared.plan.Plan.{Plan as Plans};
-ghost use Rattle.j39_plan.specs.declared.steps.Step.{Step as Steps};
+ghost use Rattle.j39_findings.specs.Findings.{Clean};
+ghost use Rattle.j39_findings.specs.declared.plan.Plan.{Plan as Plans};
+ghost use Rattle.j39_findings.specs.declared.steps.Step.{Step as Steps};
 ghost use Rattle.j39_world.specs.World.{World, first};
-ghost use Rattle.j39_plan.specs.ConflictRuns.{IsConflictRun};
-ghost use Rattle.j39_plan.specs.declared.checking.finding.Finding.{Finding as Findings};
+ghost use Rattle.j39_findings.specs.ConflictRuns.{IsConflictRun};
+ghost use Rattle.j39_findings.specs.declared.checking.finding.Finding.{Finding as Findings};
 ghost use Rattle.j39_world.specs.PlannedUnits.{units_of};
 ghost use Rattle.j39_world.specs.Conflict.{LeavesWithoutAddress};
 ghost use Rattle.j39_world.specs.Opening.{AreNamesDistinct};

@@ -5,9 +5,9 @@ use Rattle.std.proofs.lemmas.List.Quantifiers.{position-Some}
 use Rattle.std.proofs.lemmas.Option.{slice_get-get_or}
 use Rattle.std.proofs.lemmas.List.{get_or-map}
 use Rattle.j39_signal.specs.LayoutParts.{LayoutParts}
-use Rattle.j39_plan.specs.declared.plan.Plan.{Plan}
-use Rattle.j39_plan.specs.declared.plan.group_plan.GroupPlan.{GroupPlan}
-use Rattle.j39_plan.specs.PlannedGroups.{layout_of}
+use Rattle.j39_findings.specs.declared.plan.Plan.{Plan}
+use Rattle.j39_findings.specs.declared.plan.group_plan.GroupPlan.{GroupPlan}
+use Rattle.j39_findings.specs.PlannedGroups.{layout_of}
 use Rattle.j39_log.specs.inside.Listening.{IsCatalogOf}
 use Rattle.j39_log.specs.LogFrames.{planned_group, is_planned_as, planned}
 use Rattle.j39_log.specs.LogReports.{group_report}

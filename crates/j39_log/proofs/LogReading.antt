@@ -6,7 +6,7 @@ use Rattle.j39_id.specs.Lines.{Line, Pending, answer_to_end, at_start, behind_al
 use Rattle.j39_id.specs.declared.cut.Cut.{Cut}
 use Rattle.j39_id.specs.declared.cut.Cut.TheVariants as cuts
 use Rattle.j39_id.proofs.CutLines.{tells_lines, told-append}
-use Rattle.j39_plan.specs.declared.plan.Plan.{Plan}
+use Rattle.j39_findings.specs.declared.plan.Plan.{Plan}
 use Rattle.j39_stream.specs.Streams.{AppendsPart}
 use Rattle.j39_stream.proofs.Parts.{front_of, part_after}
 use Rattle.j39_log.specs.ReadText.{IsLogText, Past, ReadsLines, count_line, counts_line, nothing_yet}

@@ -3,10 +3,10 @@ ghost use Rattle.std.specs.Prelude.{◌≡◌, ◌<◌, List, [], ◌∷◌, ◌
 ghost use Rattle.std.specs.List.{HoldsAt, position};
 ghost use Rattle.j39_log.specs.inside.Listening.{IsBadCatalog, IsCatalogOf, IsIndex};
 ghost use Rattle.j39_log.specs.LogFrames.{is_planned_as};
-ghost use Rattle.j39_plan.specs.PlannedGroups.{IsSendable, layout_of as parts_of};
-ghost use Rattle.j39_plan.specs.declared.plan.group_plan.GroupPlan.{GroupPlan as APlannedGroup};
+ghost use Rattle.j39_findings.specs.PlannedGroups.{IsSendable, layout_of as parts_of};
+ghost use Rattle.j39_findings.specs.declared.plan.group_plan.GroupPlan.{GroupPlan as APlannedGroup};
 
-use j39_plan::{GroupFault, GroupPlan, Plan, layout_of};
+use j39_findings::{GroupFault, GroupPlan, Plan, layout_of};
 use j39_signal::Layout;
 use std::alloc::{AllocError, Global};
 use std::collections::HashMap;

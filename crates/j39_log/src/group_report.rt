@@ -2,8 +2,8 @@
 ghost use Rattle.std.specs.Prelude.{◌≡◌, ◌++◌, ◌<◌, length, OnOk};
 ghost use Rattle.j39_log.specs.LogReports.{group_line, group_report, signal_line, signal_lines, signal_state_text, unit_text, value_text, way_text};
 
+use j39_findings::GroupPlan;
 use j39_id::{Ident, Label};
-use j39_plan::GroupPlan;
 use j39_signal::{Layout, Signal, State};
 use j39_text::{TextBuffer, write_destination};
 use std::alloc::AllocError;

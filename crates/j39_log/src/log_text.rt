@@ -9,8 +9,8 @@ ghost use Rattle.j39_log.specs.inside.Recalling.{HasReadLines, HasWritten, count
 
 use crate::catalog::{Catalog, CatalogError};
 use crate::log_reading::Reading;
+use j39_findings::Plan;
 use j39_id::Cutter;
-use j39_plan::Plan;
 use j39_stream::{Fault, Intake, Sink, Source, Verdict, put_all};
 use j39_text::{TextBuffer, group_label, put_text};
 use std::alloc::{AllocError, Global};

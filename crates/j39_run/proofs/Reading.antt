@@ -10,7 +10,7 @@ use Rattle.j39_id.specs.Lines.{Line, Pending, answer_to, answer_to_end, at_start
 use Rattle.j39_id.specs.declared.cut.Cut.{Cut}
 use Rattle.j39_id.specs.declared.cut.Cut.TheVariants as cuts
 use Rattle.j39_id.proofs.CutLines.{tells_lines, told-append, behind_all-append}
-use Rattle.j39_plan.specs.declared.plan.Plan.{Plan}
+use Rattle.j39_findings.specs.declared.plan.Plan.{Plan}
 use Rattle.j39_stream.specs.Intakes.{HasRead, no_counts}
 use Rattle.j39_stream.specs.Streams.{KeepsLimits, PassesLimits, input_limit, read_calls}
 use Rattle.j39_stream.proofs.Parts.{front_of, none_read}

@@ -5,8 +5,8 @@ use Rattle.std.proofs.KnownBytes.{Appends-trans}
 use Rattle.std.proofs.lemmas.List.{append-nil, length-map}
 use Rattle.std.specs.Io.KnownBytes.{Appends, Consumes, IsAtEnd}
 use Rattle.j39_id.specs.Lines.{Line, lines}
-use Rattle.j39_plan.specs.declared.plan.Plan.{Plan}
-use Rattle.j39_plan.specs.declared.steps.Step.{Step}
+use Rattle.j39_findings.specs.declared.plan.Plan.{Plan}
+use Rattle.j39_findings.specs.declared.steps.Step.{Step}
 use Rattle.j39_world.specs.declared.step_error.StepError.{StepError}
 use Rattle.j39_bus.specs.BusState.{BusState}
 use Rattle.j39_world.specs.Run.{refusal}

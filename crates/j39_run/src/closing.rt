@@ -10,7 +10,7 @@ ghost use Rattle.j39_stream.specs.Streams.{AppendsPart, HasFailed};
 use crate::halt::Halt;
 use crate::run_lines::{settled_line, write_halt, write_reports, write_units};
 use j39_bus::Bus;
-use j39_plan::Plan;
+use j39_findings::Plan;
 use j39_stream::{Fault, Sink, Verdict, put_all};
 use j39_text::TextBuffer;
 use std::alloc::AllocError;

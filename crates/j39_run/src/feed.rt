@@ -7,8 +7,8 @@ ghost use Rattle.j39_stream.specs.Streams.{HasFailed, PassesLimits};
 ghost use Rattle.j39_run.specs.inside.Feeding.{Comes, IsFed, IsShorter, to_do, unfed};
 
 use crate::next::{Next, next_of};
+use j39_findings::Plan;
 use j39_id::Cutter;
-use j39_plan::Plan;
 use j39_schedule::UnitIndex;
 use j39_stream::{Fault, Intake, Source};
 use std::alloc::{AllocError, Global};

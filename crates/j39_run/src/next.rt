@@ -4,8 +4,8 @@ ghost use Rattle.j39_id.specs.Lines.{tells};
 ghost use Rattle.j39_schedule.specs.UnitIndexes.{IsIndexOf};
 ghost use Rattle.j39_run.specs.inside.Feeding.{IsNext};
 
+use j39_findings::{Plan, Step};
 use j39_id::Cut;
-use j39_plan::{Plan, Step};
 use j39_schedule::{LineFault, UnitIndex, Unread, read_line};
 use std::alloc::{AllocError, Global};
 

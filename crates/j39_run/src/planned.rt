@@ -6,7 +6,7 @@ ghost use Rattle.j39_stream.specs.Streams.{AppendsPart, HasFailed, KeepsLimits, 
 
 use crate::run_text;
 use j39_claim::{Choose, Lowest, Upward};
-use j39_plan::{Plan, Way};
+use j39_findings::{Plan, Way};
 use j39_stream::{Fault, Sink, Source, Verdict};
 use std::alloc::Global;
 

@@ -8,7 +8,7 @@ use crate::refusal::plan_refusal;
 use crate::running::run_bus;
 use j39_bus::{Bus, BusError};
 use j39_claim::Choose;
-use j39_plan::Plan;
+use j39_findings::Plan;
 use j39_schedule::UnitIndex;
 use j39_stream::{Fault, Sink, Source, Verdict, put_all};
 use std::alloc::Global;

@@ -16,7 +16,7 @@ use crate::halt::Halt;
 use crate::next::Next;
 use crate::run_lines::write_frames;
 use j39_bus::{Bus, StepError};
-use j39_plan::Plan;
+use j39_findings::Plan;
 use j39_schedule::UnitIndex;
 use j39_stream::{Fault, Sink, Source, Verdict};
 use j39_text::{TextBuffer, put_text};

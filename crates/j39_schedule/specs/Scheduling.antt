@@ -1,6 +1,6 @@
 -- What the reader of schedules gives.
 use Rattle.std.specs.Prelude.{◌≡◌, ⊤, Option, Result, Ok, Err}
-use Rattle.j39_plan.specs.declared.steps.Step.{Step}
+use Rattle.j39_findings.specs.declared.steps.Step.{Step}
 use Rattle.j39_schedule.specs.Schedule.{Reading, read_as}
 use Rattle.j39_schedule.specs.declared.unread.Unread.{Unread}
 use Rattle.j39_schedule.specs.declared.unread.Unread.TheVariants as unread

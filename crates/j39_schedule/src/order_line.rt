@@ -13,7 +13,7 @@ use crate::order_word::OrderWord;
 use crate::unit_index::UnitIndex;
 use crate::unread::Unread;
 use crate::values::{Values, values_of};
-use j39_plan::{Plan, Step};
+use j39_findings::{Plan, Step};
 use std::alloc::Global;
 
 /// The unit of a label, by its place.

@@ -4,9 +4,9 @@ use Rattle.std.specs.List.{slice_get}
 use Rattle.std.specs.Option.{option_map_or}
 use Rattle.j39_signal.specs.Parts.{SignalParts}
 use Rattle.j39_signal.specs.Places.{end_of}
-use Rattle.j39_plan.specs.declared.plan.Plan.{Plan}
-use Rattle.j39_plan.specs.declared.plan.unit_plan.UnitPlan.{UnitPlan}
-use Rattle.j39_plan.specs.declared.plan.group_plan.GroupPlan.{GroupPlan}
+use Rattle.j39_findings.specs.declared.plan.Plan.{Plan}
+use Rattle.j39_findings.specs.declared.plan.unit_plan.UnitPlan.{UnitPlan}
+use Rattle.j39_findings.specs.declared.plan.group_plan.GroupPlan.{GroupPlan}
 
 unfoldable pub unit_label : Plan → ℕ → List ℕ
 unit_label plan i = option_map_or (λ (unit : UnitPlan). unit.label.bytes) (slice_get plan.units.items i) []

@@ -6,7 +6,8 @@ ghost use Rattle.j39_stream.specs.Streams.{AppendsPart, HasFailed, KeepsLimits, 
 
 mod refusals;
 
-use j39_plan::{Plan, read_plan};
+use j39_findings::Plan;
+use j39_plan::read_plan;
 use j39_stream::{Fault, Sink, Source, load, put_all};
 use refusals::refusal;
 use std::alloc::Global;

@@ -1,8 +1,8 @@
 -- Which plans have a bus, and why another has none.
 use Rattle.std.specs.Prelude.{◌≡◌, ◌≢◌, ℕ, ◌<◌, List, length, All}
 use Rattle.j39_claim.specs.ClaimRule.{PlannedUnit}
-use Rattle.j39_plan.specs.PlannedGroups.{IsSendable, IsFirstRefused}
-use Rattle.j39_plan.specs.declared.plan.Plan.{Plan}
+use Rattle.j39_findings.specs.PlannedGroups.{IsSendable, IsFirstRefused}
+use Rattle.j39_findings.specs.declared.plan.Plan.{Plan}
 use Rattle.j39_world.specs.declared.bus_error.BusError.{BusError}
 use Rattle.j39_world.specs.declared.bus_error.BusError.TheVariants.{ChooserCount, SameName, BadGroup, Memory}
 use Rattle.j39_world.specs.PlannedUnits.{units_of, unit_at}

@@ -3,8 +3,8 @@ use Rattle.std.specs.Prelude.{ℕ, List, map, slice_index_or}
 use Rattle.std.specs.FinSet.{FinSet, empty}
 use Rattle.std.specs.Ordering.{nat_cmp}
 use Rattle.j39_claim.specs.ClaimRule.{PlannedUnit}
-use Rattle.j39_plan.specs.declared.plan.Plan.{Plan}
-use Rattle.j39_plan.specs.declared.plan.unit_plan.UnitPlan.{UnitPlan}
+use Rattle.j39_findings.specs.declared.plan.Plan.{Plan}
+use Rattle.j39_findings.specs.declared.plan.unit_plan.UnitPlan.{UnitPlan}
 
 -- a unit claims as its NAME, prefers its planned address, and chooses none that is kept free
 abbrev pub planned_unit : FinSet nat_cmp → UnitPlan → PlannedUnit

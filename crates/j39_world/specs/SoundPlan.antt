@@ -1,9 +1,9 @@
 -- What a plan without findings has: its addresses, its signals and its reports are sound, what it keeps free stays free, and its
 -- claims die down.
 use Rattle.std.specs.Prelude.{◌≡◌, ℕ, List, Some}
-use Rattle.j39_plan.specs.SoundSignals.{SoundSignals}
-use Rattle.j39_plan.specs.declared.plan.Plan.{Plan}
-use Rattle.j39_plan.specs.declared.steps.Step.{Step}
+use Rattle.j39_findings.specs.SoundSignals.{SoundSignals}
+use Rattle.j39_findings.specs.declared.plan.Plan.{Plan}
+use Rattle.j39_findings.specs.declared.steps.Step.{Step}
 use Rattle.j39_world.specs.Transfers.{Outgoing}
 use Rattle.j39_world.specs.World.{World, first}
 use Rattle.j39_world.specs.Run.{Run}

@@ -1,6 +1,6 @@
 //! Flows of a plan.
+use j39_findings::To;
 use j39_id::Pgn;
-use j39_plan::To;
 
 /// A flow of a plan, with the PGN, the priority and the length of its group.
 #[derive(Clone, Copy)]

@@ -7,8 +7,8 @@ use Rattle.j39_claim.specs.declared.item.Item.{Item}
 use Rattle.j39_claim.specs.ClaimRule.{PlannedUnit, ClaimState, Answers}
 use Rattle.j39_claim.specs.ClaimerValue.{ClaimerValue}
 use Rattle.j39_tp.specs.declared.packet.Packet.{Packet}
-use Rattle.j39_plan.specs.declared.plan.Plan.{Plan}
-use Rattle.j39_plan.specs.declared.steps.Step.{Step}
+use Rattle.j39_findings.specs.declared.plan.Plan.{Plan}
+use Rattle.j39_findings.specs.declared.steps.Step.{Step}
 use Rattle.j39_bus.specs.declared.network.Network.{Network}
 use Rattle.j39_world.specs.declared.step_error.StepError.{StepError}
 use Rattle.j39_world.specs.Sent.{sent_of}

@@ -1,7 +1,7 @@
 //! A sender goes on.
 ghost use Rattle.std.specs.Prelude.{◌≡◌, ◌≢◌, ◌<◌, true, length, vec_len, vec_capacity, OnOk, OnErr, IfErr};
-ghost use Rattle.j39_plan.specs.declared.plan.Plan.{Plan};
-ghost use Rattle.j39_plan.specs.declared.steps.Step.TheVariants.{Emit};
+ghost use Rattle.j39_findings.specs.declared.plan.Plan.{Plan};
+ghost use Rattle.j39_findings.specs.declared.steps.Step.TheVariants.{Emit};
 ghost use Rattle.j39_bus.specs.inside.Network.{IsAllowed, IsNetwork, IsOfPlan, IsSameNetwork, KeepsPlan, HasStepped, world_in};
 ghost use Rattle.j39_bus.specs.BusState.{Histories, session_at};
 ghost use Rattle.j39_world.specs.Run.{can_emit};

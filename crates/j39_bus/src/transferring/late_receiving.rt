@@ -1,7 +1,7 @@
 //! A receiver hears nothing in time.
 ghost use Rattle.std.specs.Prelude.{◌≡◌, ◌≢◌, ◌<◌, length, vec_len, vec_capacity, OnOk, OnErr, IfErr};
-ghost use Rattle.j39_plan.specs.declared.plan.Plan.{Plan};
-ghost use Rattle.j39_plan.specs.declared.steps.Step.TheVariants.{LateReceiver};
+ghost use Rattle.j39_findings.specs.declared.plan.Plan.{Plan};
+ghost use Rattle.j39_findings.specs.declared.steps.Step.TheVariants.{LateReceiver};
 ghost use Rattle.j39_bus.specs.BusState.{Histories};
 ghost use Rattle.j39_bus.specs.inside.Network.{HasHeld, IsAllowed, IsNetwork, IsOfPlan, IsSameNetwork, KeepsPlan, HasStepped, world_in};
 ghost use Rattle.j39_queues.specs.Queued.{room_at};

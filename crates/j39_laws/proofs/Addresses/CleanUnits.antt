@@ -10,10 +10,10 @@ use Rattle.j39_claim.specs.AddressSets.{is_free, free_count}
 use Rattle.j39_claim.specs.ClaimRule.{PlannedUnit}
 use Rattle.j39_id.specs.Name.{is_arbitrary}
 use Rattle.j39_id.specs.Addresses.{in_pool}
-use Rattle.j39_plan.specs.Findings.{Clean, needed_addresses, needs_pool_address}
-use Rattle.j39_plan.specs.declared.checking.finding.Finding.TheVariants.{SameName, SameFixedAddress, TooFewAddresses, KeptAddress}
-use Rattle.j39_plan.specs.declared.plan.Plan.{Plan}
-use Rattle.j39_plan.specs.declared.plan.unit_plan.UnitPlan.{UnitPlan}
+use Rattle.j39_findings.specs.Findings.{Clean, needed_addresses, needs_pool_address}
+use Rattle.j39_findings.specs.declared.checking.finding.Finding.TheVariants.{SameName, SameFixedAddress, TooFewAddresses, KeptAddress}
+use Rattle.j39_findings.specs.declared.plan.Plan.{Plan}
+use Rattle.j39_findings.specs.declared.plan.unit_plan.UnitPlan.{UnitPlan}
 use Rattle.j39_world.specs.PlannedUnits.{planned_unit, units_of, unit_at}
 use Rattle.j39_world.specs.Opening.{AreNamesDistinct}
 

@@ -13,14 +13,14 @@ use Rattle.j39_claim.specs.declared.item.Say.TheVariants.{Claim, Cannot}
 use Rattle.j39_claim.specs.declared.item.Item.{Item}
 use Rattle.j39_claim.specs.declared.item.Item.TheVariants.{Told}
 use Rattle.j39_claim.specs.ClaimRule.{PlannedUnit, ClaimState, Answers, holds_address, started}
-use Rattle.j39_plan.specs.Findings.{IsFixed}
-use Rattle.j39_plan.specs.ConflictRuns.{IsConflictRun, conflict_steps}
-use Rattle.j39_plan.specs.declared.checking.finding.Finding.TheVariants.{SameFixedAddress}
-use Rattle.j39_plan.specs.declared.plan.Plan.{Plan}
-use Rattle.j39_plan.specs.declared.plan.unit_plan.UnitPlan.{UnitPlan}
-use Rattle.j39_plan.specs.declared.checking.finding.Finding.{Finding}
-use Rattle.j39_plan.specs.declared.steps.Step.{Step}
-use Rattle.j39_plan.specs.declared.steps.Step.TheVariants.{Up, Give}
+use Rattle.j39_findings.specs.Findings.{IsFixed}
+use Rattle.j39_findings.specs.ConflictRuns.{IsConflictRun, conflict_steps}
+use Rattle.j39_findings.specs.declared.checking.finding.Finding.TheVariants.{SameFixedAddress}
+use Rattle.j39_findings.specs.declared.plan.Plan.{Plan}
+use Rattle.j39_findings.specs.declared.plan.unit_plan.UnitPlan.{UnitPlan}
+use Rattle.j39_findings.specs.declared.checking.finding.Finding.{Finding}
+use Rattle.j39_findings.specs.declared.steps.Step.{Step}
+use Rattle.j39_findings.specs.declared.steps.Step.TheVariants.{Up, Give}
 use Rattle.j39_world.specs.declared.step_error.StepError.TheVariants.{UnknownUnit, NotStarted, AlreadyStarted, NothingUndelivered, TransferOpen}
 use Rattle.j39_world.specs.PlannedUnits.{planned_unit, units_of, unit_at}
 use Rattle.j39_world.specs.ClaimSteps.{GivenFrom, switched_on, given, told_to_others, without_lists_to, answer_items}

@@ -7,8 +7,8 @@ use Rattle.j39_claim.specs.declared.item.Item.{Item}
 use Rattle.j39_claim.specs.declared.item.Item.TheVariants.{Told, Request}
 use Rattle.j39_claim.specs.declared.item.Say.TheVariants.{Claim}
 use Rattle.j39_claim.specs.ClaimRule.{claim_of, off, started}
-use Rattle.j39_plan.specs.declared.plan.Plan.{Plan}
-use Rattle.j39_plan.specs.declared.steps.Step.TheVariants.{Up, Down, Give, Ask, Begin, Emit, Take, Lose, LateSender, LateReceiver, Rest}
+use Rattle.j39_findings.specs.declared.plan.Plan.{Plan}
+use Rattle.j39_findings.specs.declared.steps.Step.TheVariants.{Up, Down, Give, Ask, Begin, Emit, Take, Lose, LateSender, LateReceiver, Rest}
 use Rattle.j39_world.specs.PlannedUnits.{units_of, unit_at}
 use Rattle.j39_world.specs.ClaimSteps.{switched_on, switched_off, asked, GivenFrom, told_to_others, without_lists_to, answer_items}
 use Rattle.j39_world.specs.Flows.{flows_of, windows_of}

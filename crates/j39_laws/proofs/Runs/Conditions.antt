@@ -2,7 +2,7 @@
 use Rattle.std.proofs.Common.{◌≡◌, ℕ, Bool, true, false, refl, Option, None}
 use Rattle.std.specs.Prelude.{nat_lt}
 use Rattle.j39_world.specs.declared.step_error.StepError.{StepError}
-use Rattle.j39_plan.specs.declared.plan.Plan.{Plan}
+use Rattle.j39_findings.specs.declared.plan.Plan.{Plan}
 use Rattle.j39_world.specs.Run.{count_of, refuse_unless}
 
 -- a place of a unit

@@ -12,9 +12,9 @@ use Rattle.j39_claim.specs.ClaimRule.{PlannedUnit, ClaimState, Answers, claim_of
 use Rattle.j39_claim.specs.ExactAnswer.{Pick, IsLawful, said_after, state_after}
 use Rattle.j39_claim.proofs.FreeAddresses.{lowest_free_in}
 use Rattle.j39_claim.proofs.Hearing.{lawful_follows}
-use Rattle.j39_plan.specs.declared.plan.Plan.{Plan}
-use Rattle.j39_plan.specs.declared.steps.Step.{Step}
-use Rattle.j39_plan.specs.declared.steps.Step.TheVariants.{Up, Down, Give, Ask, Begin, Emit, Take, Lose, LateSender, LateReceiver, Rest}
+use Rattle.j39_findings.specs.declared.plan.Plan.{Plan}
+use Rattle.j39_findings.specs.declared.steps.Step.{Step}
+use Rattle.j39_findings.specs.declared.steps.Step.TheVariants.{Up, Down, Give, Ask, Begin, Emit, Take, Lose, LateSender, LateReceiver, Rest}
 use Rattle.j39_world.specs.declared.step_error.StepError.TheVariants.{UnknownUnit, NotStarted, NothingUndelivered}
 use Rattle.j39_world.specs.PlannedUnits.{units_of, unit_at}
 use Rattle.j39_world.specs.ClaimSteps.{GivenFrom, given}

@@ -2,7 +2,7 @@
 use Rattle.std.specs.Prelude.{◌≡◌, ◌⊎◌, ⊤, ℕ, ◌+◌, ◌*◌, ◌-◌, ◌<◌, ◌≤◌, Bool, true, false, List, [], ◌∷◌, ◌++◌, length, Option, Some, None, Err}
 use Rattle.std.specs.Io.KnownBytes.{Consumes, IsAtEnd}
 use Rattle.j39_id.specs.Lines.{Line, Pending, at_start, behind_all, lines, told, told_at_end}
-use Rattle.j39_plan.specs.declared.plan.Plan.{Plan}
+use Rattle.j39_findings.specs.declared.plan.Plan.{Plan}
 use Rattle.j39_schedule.specs.Schedule.{line_order, read_as}
 use Rattle.j39_stream.specs.Intakes.{Counts, HasRead, no_counts}
 use Rattle.j39_stream.specs.Streams.{KeepsLimits, input_limit, read_calls}

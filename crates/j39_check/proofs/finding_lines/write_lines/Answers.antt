@@ -1,6 +1,6 @@
 use Rattle.std.proofs.Common.{append_assoc}
 use Rattle.std.proofs.lemmas.List.{append-nil, drop_all}
-use Rattle.j39_plan.specs.declared.checking.finding.Finding.TheVariants.{SameName}
+use Rattle.j39_findings.specs.declared.checking.finding.Finding.TheVariants.{SameName}
 use Rattle.j39_check.specs.FindingLines.{finding_lines}
 use Rattle.j39_check.proofs.FindingLists.{lines_from}
 use Rattle.j39_check.proofs.finding_lines.write_lines.Goals as goal

@@ -1,6 +1,6 @@
 use Rattle.std.proofs.Common.{sym, ap, subst, Result, Ok, Err, OnOk, OnErr}
-use Rattle.j39_plan.specs.declared.plan.Plan.{Plan}
-use Rattle.j39_plan.specs.declared.steps.Step.{Step}
+use Rattle.j39_findings.specs.declared.plan.Plan.{Plan}
+use Rattle.j39_findings.specs.declared.steps.Step.{Step}
 use Rattle.j39_bus.specs.inside.Network.{IsAllowed, IsOfPlan, HasStepped}
 use Rattle.j39_world.specs.Run.{takes_memory}
 use Rattle.j39_bus.proofs.network.Network.act.Goals as goal

@@ -2,7 +2,7 @@ use Rattle.std.proofs.Common.{◌<◌, List, length, map, refl, ap, sym, subst, 
 use Rattle.std.proofs.Math.ListN.{length-set}
 use Rattle.std.specs.Vec.{with_item}
 use Rattle.j39_claim.specs.ClaimerValue.{ClaimerValue}
-use Rattle.j39_plan.specs.declared.steps.Step.TheVariants.{Down}
+use Rattle.j39_findings.specs.declared.steps.Step.TheVariants.{Down}
 use Rattle.j39_bus.specs.declared.network.Network.{Network}
 use Rattle.j39_queues.specs.Queued.{pair_in}
 use Rattle.j39_bus.specs.inside.Network.{world_in}

@@ -1,5 +1,5 @@
 use Rattle.std.proofs.Common.{◌<◌, length, ap, sym, ◌∙◌, subst, arith}
-use Rattle.j39_plan.specs.declared.steps.Step.TheVariants.{Emit}
+use Rattle.j39_findings.specs.declared.steps.Step.TheVariants.{Emit}
 use Rattle.j39_bus.specs.Stands.{HoldTaken}
 use Rattle.j39_bus.specs.BusState.{session_at}
 use Rattle.j39_world.specs.Run.{can_emit}

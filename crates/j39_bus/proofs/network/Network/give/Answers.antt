@@ -1,5 +1,5 @@
 use Rattle.std.proofs.Common.{◌<◌, List, length, subst, sym, ap, arith}
-use Rattle.j39_plan.specs.declared.steps.Step.TheVariants.{Give}
+use Rattle.j39_findings.specs.declared.steps.Step.TheVariants.{Give}
 use Rattle.j39_world.specs.ClaimSteps.{GivenFrom}
 use Rattle.std.proofs.lemmas.Bool.{ltb-true}
 use Rattle.j39_claim.specs.declared.item.Item.{Item}

@@ -1,5 +1,5 @@
 use Rattle.std.proofs.Common.{length, ◌<◌, refl, arith}
-use Rattle.j39_plan.specs.declared.steps.Step.TheVariants.{Lose}
+use Rattle.j39_findings.specs.declared.steps.Step.TheVariants.{Lose}
 use Rattle.j39_bus.proofs.Lost.{lost_from}
 use Rattle.j39_bus.proofs.Refused.{all_met, nowhere, pair_inside}
 use Rattle.j39_bus.proofs.Steady.{steps_same, wired_traffic}
