@@ -8,7 +8,8 @@ use Rattle.std.proofs.lemmas.Option.{none-some, same_Some}
 use Rattle.std.specs.FinSet.{FinSet}
 use Rattle.std.specs.Ordering.{nat_cmp}
 use Rattle.j39_id.specs.Name.{is_arbitrary}
-use Rattle.j39_id.specs.Pgn.{IsPgn, pf_of, is_pgn}
+use Rattle.j39_id.specs.Limits.{frame_bytes}
+use Rattle.j39_id.specs.Pgn.{pgn_end, pdu2_first, IsPgn, pf_of, is_pgn}
 use Rattle.j39_id.specs.Services.{service_groups}
 use Rattle.j39_signal.specs.Parts.{SignalParts}
 use Rattle.j39_signal.specs.Places.{WidthFits, IsInside, SharesBit, shares_bit}
@@ -47,19 +48,19 @@ Decides-prefers_kept kept u = Decides-and _ _ (λ e. e, λ e. e) (λ e. e, λ e.
 
 -- ---- groups
 
-group_from : (n : ℕ) → (n < 262144) × ((240 ≤ pf_of n) ⊎ (n % 256 ≡ 0)) → IsPgn n
+group_from : (n : ℕ) → (n < pgn_end) × ((pdu2_first ≤ pf_of n) ⊎ (n % 256 ≡ 0)) → IsPgn n
 group_from n h = record {
   range = h.0;
   low = λ to_one. elim h.1 [ inl to_all ↦ absurd (omega arith) | inr low ↦ low ];
 }
 
-group_parts : (n : ℕ) → IsPgn n → (n < 262144) × ((240 ≤ pf_of n) ⊎ (n % 256 ≡ 0))
-group_parts n g = (g.range, elim (cases_lt (pf_of n) 240) [ inl to_one ↦ inr (g.low to_one) | inr to_all ↦ inl to_all ])
+group_parts : (n : ℕ) → IsPgn n → (n < pgn_end) × ((pdu2_first ≤ pf_of n) ⊎ (n % 256 ≡ 0))
+group_parts n g = (g.range, elim (cases_lt (pf_of n) pdu2_first) [ inl to_one ↦ inr (g.low to_one) | inr to_all ↦ inl to_all ])
 
 pub Decides-is_pgn : (n : ℕ) → Decides (is_pgn n) (IsPgn n)
 Decides-is_pgn n =
     Decides-like _ (group_from n) (group_parts n)
-    (Decides-and _ _ (Decides-ltb n 262144) (Decides-or _ _ (Decides-leb 240 (pf_of n)) (Decides-eqb (n % 256) 0)))
+    (Decides-and _ _ (Decides-ltb n pgn_end) (Decides-or _ _ (Decides-leb pdu2_first (pf_of n)) (Decides-eqb (n % 256) 0)))
 
 pub Decides-is_proprietary : (n : ℕ) → Decides (is_proprietary n) (IsProprietary n)
 Decides-is_proprietary n =
@@ -116,7 +117,7 @@ Decides-have_same_receiver All (One receiver) = (λ e. absurd (false≢true e), 
 Decides-have_same_receiver (One receiver) other = Decides-like _ (λ e. sym e) (λ e. sym e) (Decides-is_to other receiver)
 
 one_frame_decides : (g : GroupPlan) → Decides (is_one_frame_to_all g) (IsOneFrameToAll g)
-one_frame_decides g = Decides-and _ _ (Decides-leb 240 (pf_of g.pgn)) (Decides-leb g.length 8)
+one_frame_decides g = Decides-and _ _ (Decides-leb pdu2_first (pf_of g.pgn)) (Decides-leb g.length frame_bytes)
 
 group_of_decides : (gs : List GroupPlan) (i : ℕ) (o : Option GroupPlan) → slice_get gs i ≡ o
     → Decides (is_group_of is_one_frame_to_all o) (ValueAt IsOneFrameToAll gs i)

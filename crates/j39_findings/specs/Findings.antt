@@ -8,7 +8,7 @@ use Rattle.j39_claim.specs.AddressSets.{is_free, free_count}
 use Rattle.j39_id.specs.Addresses.{in_pool}
 use Rattle.j39_id.specs.Limits.{frame_bytes}
 use Rattle.j39_id.specs.Name.{is_arbitrary}
-use Rattle.j39_id.specs.Pgn.{IsPgn, pf_of}
+use Rattle.j39_id.specs.Pgn.{IsPgn, pdu2_first, pf_of}
 use Rattle.j39_id.specs.Services.{service_groups}
 use Rattle.j39_signal.specs.Places.{WidthFits, IsInside, SharesBit}
 use Rattle.j39_findings.specs.ListPlaces.{ValueAt, PairAt}
@@ -65,7 +65,7 @@ HaveSamePgn g h = g.pgn ≡ h.pgn
 
 -- a group that is sent in one frame, and whose frames name no destination
 abbrev pub IsOneFrameToAll : GroupPlan → Type 0
-IsOneFrameToAll group = (240 ≤ pf_of group.pgn) × (group.length ≤ frame_bytes)
+IsOneFrameToAll group = (pdu2_first ≤ pf_of group.pgn) × (group.length ≤ frame_bytes)
 
 abbrev pub IsToOne : FlowPlan → Type 0
 IsToOne flow = (receiver : ℕ) × (flow.to ≡ One receiver)
