@@ -2,7 +2,7 @@
 use Rattle.std.specs.Prelude.{◌≡◌, ◌⊎◌, ℕ, List, string_bytes, length}
 use Rattle.j39_check.specs.CheckText.{IsCheckText}
 use Rattle.j39_text.specs.FrameText.{IsFrameText}
-use Rattle.j39_text.specs.PlanText.{Describes, IsRefusedText}
+use Rattle.j39_check.specs.PlanText.{Describes, IsRefusedText}
 use Rattle.j39_log.specs.ReadText.{IsReadText}
 use Rattle.j39_run.specs.RunText.{IsRunText}
 use Rattle.j39_findings.specs.declared.plan.Plan.{Plan}

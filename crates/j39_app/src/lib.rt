@@ -5,13 +5,13 @@ mod exit_status;
 mod program;
 
 pub use exit_status::status;
-pub use j39_check::check_text;
+pub use j39_check::{check_text, plan_text};
 pub use j39_log::read_text;
 pub use j39_run::{refused_lines_end_the_text, run_planned, run_text};
 pub use j39_schedule::LineFault;
 pub use j39_stream::{
     Failed, Fault, FromRead, Pieces, Sink, Source, Stop, ToWrite, Verdict, load, put_all,
 };
-pub use j39_text::{frame_text, input_text, plan_text};
+pub use j39_text::{frame_text, input_text};
 pub use j39_words::{Order, WordsFault, order};
 pub use program::run_program;

@@ -9,7 +9,7 @@ use Rattle.j39_plan.specs.Described.{Reads, tree_of}
 use Rattle.j39_plan.specs.Faults.{faults}
 use Rattle.j39_plan.specs.Outcome.{first}
 use Rattle.j39_findings.proofs.FoundLaws.{none_from_clean}
-use Rattle.j39_text.specs.PlanText.{Describes, IsRefusalLine, fault_line}
+use Rattle.j39_check.specs.PlanText.{Describes, IsRefusalLine, fault_line}
 use Rattle.j39_stream.specs.declared.verdict.Verdict.TheVariants.{Done, Findings, Refused, Unreadable}
 use Rattle.j39_check.specs.CheckText.{HasOneRefusal, HasOneReport, IsNotRefused}
 

@@ -6,7 +6,7 @@ use Rattle.j39_findings.specs.Findings.{Clean}
 use Rattle.j39_findings.specs.Found.{found}
 use Rattle.j39_world.specs.SoundPlan.{IsSound}
 use Rattle.j39_check.specs.FindingLines.{finding_lines}
-use Rattle.j39_text.specs.PlanText.{Describes, IsRefusedText}
+use Rattle.j39_check.specs.PlanText.{Describes, IsRefusedText}
 use Rattle.j39_text.specs.Texts.{field}
 use Rattle.j39_stream.specs.declared.verdict.Verdict.{Verdict}
 use Rattle.j39_stream.specs.declared.verdict.Verdict.TheVariants.{Done, Findings, Refused, Unreadable}

@@ -1,2 +1,3 @@
 pub mod CheckText
 pub mod FindingLines
+pub mod PlanText

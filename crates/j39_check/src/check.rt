@@ -4,9 +4,9 @@ ghost use Rattle.std.specs.Io.KnownBytes.{Appends, Consumes, IsAtEnd};
 ghost use Rattle.j39_check.specs.CheckText.{IsCheckText};
 ghost use Rattle.j39_stream.specs.Streams.{AppendsPart, HasFailed, KeepsLimits, PassesLimits};
 
+use crate::plan_file::plan_text;
 use crate::plan_report::report;
 use j39_stream::{Fault, Sink, Source, Verdict, put_all};
-use j39_text::plan_text;
 use std::alloc::Global;
 
 /// Writes everything that is wrong with the plan that a file describes, or that nothing is, or why the file describes none.

@@ -1,10 +1,12 @@
-//! The check command: everything that is wrong with a plan.
+//! What is written of a plan file: why it is refused, and everything that is wrong with the plan.
 #![tactic(auto)]
 
 mod check;
 mod finding_lines;
 mod laws;
+mod plan_file;
 mod plan_report;
 
 pub use check::check_text;
 pub use laws::{check_has_one_text, written_runs_read_back, written_runs_show_the_conflict};
+pub use plan_file::plan_text;

@@ -1,4 +1,3 @@
 pub mod FrameText
 pub mod Labels
-pub mod PlanText
 pub mod Texts

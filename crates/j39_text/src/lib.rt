@@ -1,11 +1,10 @@
-//! Texts of frames and of plan files, and the buffer that all texts are written in.
+//! Texts of frames, and the buffer that all texts are written in.
 #![tactic(auto)]
 
 mod frame;
 mod input;
 mod labels;
 mod laws;
-mod plan_file;
 mod putting;
 mod text_buffer;
 
@@ -16,6 +15,5 @@ pub use labels::{
     write_group, write_units,
 };
 pub use laws::a_line_has_one_text;
-pub use plan_file::plan_text;
 pub use putting::put_text;
 pub use text_buffer::TextBuffer;

@@ -1,6 +1,6 @@
 use Rattle.std.proofs.Common.{◌≡◌, [], inr}
 use Rattle.std.proofs.lemmas.Result.{IfOk-weaker}
-use Rattle.j39_text.specs.PlanText.{Describes}
+use Rattle.j39_check.specs.PlanText.{Describes}
 use Rattle.j39_app.proofs.program.read_files.Goals as goal
 
 pub returns : goal.returns

@@ -1,6 +1,6 @@
 use Rattle.std.proofs.Common.{rules, ◌≡◌, [], refl, inl, inr}
 use Rattle.std.specs.Prelude.{IsErrOf}
-use Rattle.j39_text.specs.PlanText.{Describes}
+use Rattle.j39_check.specs.PlanText.{Describes}
 use Rattle.j39_stream.specs.declared.fault.Fault.TheVariants.{Device}
 use Rattle.j39_stream.specs.declared.verdict.Verdict.TheVariants.{Unreadable}
 use Rattle.j39_check.proofs.check.check_text.Goals as goal

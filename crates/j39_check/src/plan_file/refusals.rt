@@ -1,9 +1,9 @@
 //! Why a plan file is refused.
 ghost use Rattle.std.specs.Prelude.{◌≡◌, ◌++◌, OnOk, IfOk};
-ghost use Rattle.j39_text.specs.PlanText.{IsRefusalLine, fault_line, key_text, table_text};
+ghost use Rattle.j39_check.specs.PlanText.{IsRefusalLine, fault_line, key_text, table_text};
 
-use crate::TextBuffer;
 use j39_plan::{Fault, Key, PlanError, Table};
+use j39_text::TextBuffer;
 use std::alloc::{AllocError, Global};
 
 #[tactic(auto, unfolding(crate::specs::PlanText::table_text))]

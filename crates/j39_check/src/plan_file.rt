@@ -1,7 +1,7 @@
 //! What is written of a plan file.
 ghost use Rattle.std.specs.Prelude.{◌≡◌, ◌⊎◌, ℕ, List, IfOk, IsErrOf, OnOk, OnSome};
 ghost use Rattle.std.specs.Io.KnownBytes.{Appends, Consumes, IsAtEnd};
-ghost use Rattle.j39_text.specs.PlanText.{IsPlanText, IsRefusedText};
+ghost use Rattle.j39_check.specs.PlanText.{IsPlanText, IsRefusedText};
 ghost use Rattle.j39_stream.specs.Streams.{AppendsPart, HasFailed, KeepsLimits, PassesLimits};
 
 mod refusals;
