@@ -1,5 +1,5 @@
 -- The bytes of a packet are read as that packet, and as no other.
-use Rattle.std.proofs.Common.{◌≡◌, ℕ, ◌+◌, ◌*◌, ◌/◌, ◌%◌, ◌<◌, ◌==◌, ◌&&◌, true, false, if◌then◌else◌, inl, inr, List, ◌∷◌, slice_index}
+use Rattle.std.proofs.Common.{◌≡◌, ℕ, ◌+◌, ◌*◌, ◌/◌, ◌%◌, ◌<◌, ◌==◌, ◌&&◌, true, false, if◌then◌else◌, inl, inr, List, ◌∷◌, length, slice_index}
 use Rattle.std.proofs.Common.{Some, None, Result, Ok, Err, refl, ap, sym, ◌∙◌, subst, arith}
 use Rattle.std.specs.Prelude.{nat_lt, IfOk, IfErr}
 use Rattle.std.proofs.lemmas.Bool.{cases_lt, lt-ltb, le-ltb, le-leb, lt-leb, eq-eqb, ne_eqb}
@@ -7,8 +7,8 @@ use Rattle.j39_id.specs.FirstFault.{first_fault}
 use Rattle.j39_id.specs.Limits.{frame_bytes, message_bytes}
 use Rattle.j39_id.specs.Pgn.{pgn_end, pdu2_first, pf_of, IsPgn, is_pdu2, is_pgn}
 use Rattle.j39_tp.specs.Chunks.{IsSize, packets_of}
-use Rattle.j39_tp.specs.Packets.{data_of, InRange, IsReadable, IsManagement, ManagementReads, DataReads, size_in, pgn_in}
-use Rattle.j39_tp.specs.Packets.{rts_control, cts_control, end_control, bam_control, is_size, management_faults}
+use Rattle.j39_tp.specs.Packets.{data_of, GivesSize, InRange, IsReadable, IsManagement, ManagementReads, DataReads, size_in, pgn_in}
+use Rattle.j39_tp.specs.Packets.{rts_control, cts_control, end_control, bam_control, gives_size, is_control, is_size, management_faults}
 use Rattle.j39_tp.specs.declared.packet.Packet.{Packet}
 use Rattle.j39_tp.specs.declared.packet.Packet.TheVariants.{Rts, Cts, EndAck, Bam, Abort, Dt}
 use Rattle.j39_tp.specs.declared.packet.packet_error.PacketError.{PacketError}
@@ -79,56 +79,37 @@ numbers_pass count first some = elim (cases_lt 0 count) [
   | inr none ↦ let none_sent : nat_lt 0 count ≡ false = le-ltb 0 count none in rw none_sent refl
 ]
 
--- bytes that are a packet have no fault
-no_management_fault : (bytes : List ℕ) (p : Packet) → ManagementReads bytes p → first_fault (management_faults bytes) ≡ None
-no_management_fault bytes (Rts size limit named) r =
-    let eight = r.eight in
-    let control = r.fields.0 in
-    let size_is = r.fields.1.size_is in
-    let packets_are = r.fields.1.packets_are in
+-- bytes that give a size
+no_sized_fault : (bytes : List ℕ) (control size : ℕ) → length bytes ≡ 8 → slice_index bytes 0 ≡ control → is_control control ≡ true
+    → gives_size control ≡ true → (control == cts_control) ≡ false → GivesSize bytes size → IsPgn (pgn_in bytes)
+    → first_fault (management_faults bytes) ≡ None
+no_sized_fault bytes control size eight first known sized other gives group =
+    let size_is = gives.size_is in
+    let packets_are = gives.packets_are in
     rw (
       eight,
-      control,
+      first,
+      known,
+      sized,
+      other,
       size_is,
       packets_are,
-      size_passes size r.fields.1.size_fits,
+      size_passes size gives.size_fits,
       eq-eqb (packets_of size) (packets_of size) refl,
-      group_passes (pgn_in bytes) r.pgn,
+      group_passes (pgn_in bytes) group,
     ) refl
+
+-- bytes that are a packet have no fault
+no_management_fault : (bytes : List ℕ) (p : Packet) → ManagementReads bytes p → first_fault (management_faults bytes) ≡ None
+no_management_fault bytes (Rts size limit named) r = no_sized_fault bytes rts_control size r.eight r.fields.0 refl refl refl r.fields.1 r.pgn
+no_management_fault bytes (EndAck size named) r = no_sized_fault bytes end_control size r.eight r.fields.0 refl refl refl r.fields.1 r.pgn
+no_management_fault bytes (Bam size named) r = no_sized_fault bytes bam_control size r.eight r.fields.0 refl refl refl r.fields.1 r.pgn
 no_management_fault bytes (Cts count first named) r =
     let eight = r.eight in
     let control = r.fields.0 in
     let count_is = r.fields.1 in
     let first_is = r.fields.2 in
     rw (eight, control, count_is, first_is, numbers_pass count first r.fields.3, group_passes (pgn_in bytes) r.pgn) refl
-no_management_fault bytes (EndAck size named) r =
-    let eight = r.eight in
-    let control = r.fields.0 in
-    let size_is = r.fields.1.size_is in
-    let packets_are = r.fields.1.packets_are in
-    rw (
-      eight,
-      control,
-      size_is,
-      packets_are,
-      size_passes size r.fields.1.size_fits,
-      eq-eqb (packets_of size) (packets_of size) refl,
-      group_passes (pgn_in bytes) r.pgn,
-    ) refl
-no_management_fault bytes (Bam size named) r =
-    let eight = r.eight in
-    let control = r.fields.0 in
-    let size_is = r.fields.1.size_is in
-    let packets_are = r.fields.1.packets_are in
-    rw (
-      eight,
-      control,
-      size_is,
-      packets_are,
-      size_passes size r.fields.1.size_fits,
-      eq-eqb (packets_of size) (packets_of size) refl,
-      group_passes (pgn_in bytes) r.pgn,
-    ) refl
 no_management_fault bytes (Abort reason named) r =
     let eight = r.eight in
     let control = r.fields.0 in
