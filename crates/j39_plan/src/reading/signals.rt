@@ -33,12 +33,10 @@ const SIGNAL_KEYS: [Key; 8] = [
 fn kind_of(word: &str) -> Kind
     ensures { result ≡ kind_of word.now }
 {
-    if word == "measured" {
-        Kind::Measured
-    } else if word == "discrete" {
-        Kind::Discrete
-    } else {
-        Kind::Raw
+    match word {
+        "measured" => Kind::Measured,
+        "discrete" => Kind::Discrete,
+        _ => Kind::Raw,
     }
 }
 
