@@ -17,8 +17,8 @@ use Rattle.j39_bus.proofs.network.Network.deliver.Goals as goal
 pub hear-answer-requires-clause-room : goal.hear-answer-requires-clause-room
 hear-answer-requires-clause-room g c =
     let cs : List ClaimerValue = c.args.self.now.claimers.items in
-    ap (can_note (station_at cs c.args.to).notes) c.name_of-name.ensures ∙ can_note_all cs c.args.self.now.claims.lists c.args.from c.args.to c.requires.network.claims
-    c.requires.from
+    ap (can_note (station_at cs c.args.to).notes) c.name_of-name.ensures
+    ∙ can_note_all cs c.args.self.now.claims.lists c.args.from c.args.to c.requires.network.claims c.requires.from
 
 pub tell-requires-clause-room : goal.tell-requires-clause-room
 tell-requires-clause-room g c =
