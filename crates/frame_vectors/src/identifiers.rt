@@ -4,62 +4,11 @@ ghost use Rattle.std.specs.Prelude.{◌<◌};
 use arrayvec::ArrayVec;
 use j39_id::addresses::{GLOBAL_ADDRESS, NULL_ADDRESS, is_in_pool};
 use j39_id::{
-    Address, Cut, Cutter, Frame, Ident, Label, LineError, Name, NameError, NameField, NameFields,
-    Pgn, a_cutter_tells_the_lines, canonical_text_spells, names_and_bytes_are_inverse, one_reading,
+    Address, Cut, Cutter, Frame, Ident, Label, Name, NameError, NameField, NameFields, Pgn,
+    a_cutter_tells_the_lines, canonical_text_spells, names_and_bytes_are_inverse, one_reading,
     print_frame, read_frame, services,
 };
 use std::test::Fail;
-
-#[test]
-fn lines_are_read_and_printed_in_capitals(rt: HostRuntime) -> Result<(), Fail> {
-    for (line, word) in [
-        ("0CF00400#FFFFFFE02EFFFFFF", "0CF00400#FFFFFFE02EFFFFFF"),
-        (
-            "(1.5) can0 18eeff00#0100800c00000010",
-            "18EEFF00#0100800C00000010",
-        ),
-        (
-            "(1.5)\tcan0 18eeff00#0100800C00000010 \t\r",
-            "18EEFF00#0100800C00000010",
-        ),
-        ("1FFFFFFF#", "1FFFFFFF#"),
-    ] {
-        let frame = read_frame(line.as_bytes())?;
-        let text = print_frame(&frame);
-        assert_eq!(rt; text.as_slice(), word.as_bytes(), "at {line}");
-    }
-    Ok(())
-}
-
-#[test]
-fn earlier_words_may_be_no_text(rt: HostRuntime) -> Result<(), Fail> {
-    let frame = read_frame(b"\xff\x00# 123 00000001#2A")?;
-    assert_eq!(rt; frame.ident.to_bits(), 1);
-    assert_eq!(rt; frame.payload.as_slice(), [0x2a].as_slice());
-    Ok(())
-}
-
-#[test]
-fn lines_are_refused_by_their_first_fault(rt: HostRuntime) {
-    for (line, error) in [
-        ("", LineError::Empty),
-        (" \t\r", LineError::Empty),
-        ("18EEFF00", LineError::NoHash),
-        ("123#00", LineError::ShortIdent),
-        ("123#zz", LineError::ShortIdent),
-        ("20000000#", LineError::BadIdent),
-        ("18EEFF000#", LineError::BadIdent),
-        ("1G3#", LineError::BadIdent),
-        ("#00", LineError::BadIdent),
-        ("18EEFF00#000000000000000000", LineError::TooLong),
-        ("18EEFF00#1", LineError::BadData),
-        ("18EEFF00#0#", LineError::BadData),
-        ("18EEFF00#00 R", LineError::NoHash),
-    ] {
-        let answer = read_frame(line.as_bytes());
-        assert_eq!(rt; answer, Err(error), "at {line:?}");
-    }
-}
 
 #[test]
 fn a_printed_frame_reads_back(rt: HostRuntime) -> Result<(), Fail> {
