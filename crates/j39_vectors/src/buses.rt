@@ -1,4 +1,5 @@
 //! Buses that are stepped: outcomes, which no schedule shows, and the largest bus.
+use crate::rows::CHECK_OF_A_PLAN;
 use j39_bus::{Bus, StepError};
 use j39_claim::{Choose, Lowest};
 use j39_plan::{Plan, Step, read_plan};
@@ -6,30 +7,6 @@ use j39_tp::Outcome;
 use std::alloc::{AllocError, Global};
 use std::process::Abort;
 use std::test::Fail;
-
-const PLAN: &str = "version = 1
-[[unit]]
-label = \"A\"
-address = 0
-name = { identity = 1 }
-[[unit]]
-label = \"B\"
-address = 3
-name = { identity = 2 }
-[[group]]
-label = \"VI\"
-pgn = 65260
-priority = 6
-length = 17
-[[flow]]
-group = \"VI\"
-from = \"A\"
-to = \"all\"
-[[flow]]
-group = \"VI\"
-from = \"A\"
-to = \"B\"
-";
 
 const BYTES: [u8; 17] = [0, 1, 2, 3, 4, 5, 6, 7, 8, 9, 10, 11, 12, 13, 14, 15, 16];
 
@@ -77,7 +54,7 @@ fn ends(
     outcome: Option<Outcome>,
     counts: (usize, usize),
 ) -> Result<(), Fail> {
-    let plan = read_plan(alloc, PLAN.as_bytes())?;
+    let plan = read_plan(alloc, CHECK_OF_A_PLAN.plan.as_bytes())?;
     assert_eq!(rt; plan.units.len(), 2);
     let choosers = choosers_of(alloc, &plan)?;
     let mut bus = Bus::new(alloc, &plan, choosers)?;

@@ -1,4 +1,4 @@
-//! Worked rows of the commands, and tests of the commands, the command line and a bus that is stepped.
+//! Worked rows of the commands, and tests of sources, sinks, choosers and a bus that is stepped.
 #![tactic(auto)]
 
 mod performing;
@@ -17,6 +17,6 @@ mod buses;
 #[cfg(test)]
 mod choosers;
 #[cfg(test)]
-mod steps;
+mod sources_and_sinks;
 #[cfg(test)]
-mod words;
+mod steps;
