@@ -14,6 +14,21 @@ pub record IsLastWordAt (line : List ℕ) (start stop : ℕ) : Type 0 where
   pub parted : 0 < start → is_separator (slice_index line (start - 1)) ≡ true
   pub last : AllWithin (λ c. is_separator c ≡ true) line stop (length line)
 
+-- the word that ends the first part of a line is the line's last, where separators alone stand behind that part
+pub last_word_of_front : (line : List ℕ) (start stop : ℕ) → stop ≤ length line → start < length (take stop line)
+    → AllWithin (λ c. is_separator c ≡ false) (take stop line) start (length (take stop line))
+    → (0 < start → is_separator (slice_index (take stop line) (start - 1)) ≡ true)
+    → AllWithin (λ c. is_separator c ≡ true) line stop (length line) → IsLastWordAt line start stop
+last_word_of_front line start stop within less whole parted last =
+    let count : length (take stop line) ≡ stop = length-take-le stop line within in
+    record {
+      some = omega (arith, less, count);
+      within = within;
+      whole = λ k d low high. rw (get_or-take stop line k d high) at (whole k d low (omega (arith, high, count)));
+      parted = λ front. rw (get_or-take stop line (start - 1) 0 (omega (arith, less, count))) at (parted front);
+      last = last;
+    }
+
 -- a line, cut at two places
 cut_twice : (line : List ℕ) (start stop : ℕ) → start ≤ stop → take start line ++ (slice_range line start stop ++ drop stop line) ≡ line
 cut_twice line start stop h =

@@ -1,6 +1,7 @@
 //! Reading frame lines.
-ghost use Rattle.std.specs.Prelude.{◌≡◌, ◌==◌, ◌&&◌, ℕ, ◌≤◌, ◌↔◌, length, Some, None, Ok, IsOk, IsSome, IfSome, IfNone, IfOk, IfErr, IsTrue};
-ghost use Rattle.std.specs.List.{AllPass, list_all, position};
+ghost use Rattle.std.specs.Prelude.{◌≡◌, ◌==◌, ◌&&◌, ◌-◌, ◌<◌, ◌≤◌, ◌↔◌, ℕ, true, false, length, slice_index};
+ghost use Rattle.std.specs.Prelude.{Some, None, Ok, IsOk, IsSome, IfSome, IfNone, IfOk, IfErr, IsTrue};
+ghost use Rattle.std.specs.List.{AllPass, AllWithin, list_all, position};
 ghost use Rattle.hex.specs.Hex.{decode_of, is_hex_digit};
 ghost use Rattle.j39_id.specs.Ident.{bits};
 ghost use Rattle.j39_id.specs.FrameLine.{is_separator as separates, IsLastWord, is_hash, identifier_in, payload_digits, IsFirstFault, WordSpells, Spells};
@@ -17,6 +18,22 @@ fn is_separator(byte: u8) -> bool
     matches!(byte, b' ' | b'\t' | b'\r')
 }
 
+// Where the last word begins of a line that ends in one. By itself its loop takes six instructions a byte, within its caller ten.
+#[inline(never)]
+fn word_start(line: &[u8]) -> usize
+    requires some { 0 < length line.now }
+    requires ends { separates (slice_index line.now (length line.now - 1)) ≡ false }
+    ensures start { result < length line.now }
+    ensures word { AllWithin (λ c. separates c ≡ false) line.now result (length line.now) }
+    ensures parted { 0 < result → separates (slice_index line.now (result - 1)) ≡ true }
+{
+    let mut start = line.len() - 1;
+    while start > 0 && !is_separator(line[start - 1]) {
+        start -= 1;
+    }
+    start
+}
+
 // The last word of a line.
 fn last_word(line: &[u8]) -> Option<&[u8]>
     ensures found { IfSome result (λ word. IsLastWord line.now word.now) }
@@ -29,14 +46,12 @@ fn last_word(line: &[u8]) -> Option<&[u8]>
     if stop == 0 {
         return None;
     }
-    let mut start = stop - 1;
-    while start > 0 && !is_separator(line[start - 1]) {
-        start -= 1;
-    }
+    let start = word_start(&line[..stop]);
     Some(&line[start..stop])
 }
 
 // The identifier that eight digits spell.
+#[inline(always)]
 fn read_ident(digits: &[u8]) -> Option<Ident>
     ensures found { IfSome result (λ ident. identifier_in digits.now ≡ Some (bits ident)) }
     ensures none { IfNone result (identifier_in digits.now ≡ None) }
@@ -47,6 +62,7 @@ fn read_ident(digits: &[u8]) -> Option<Ident>
 }
 
 // The bytes that pairs of digits spell.
+#[inline(always)]
 fn read_payload(text: &[u8]) -> Option<ArrayVec<u8, FRAME_BYTES>>
     requires { length text.now ≤ payload_digits }
     ensures found { IfSome result (λ payload. decode_of text.now ≡ Ok payload.items) }
@@ -55,7 +71,9 @@ fn read_payload(text: &[u8]) -> Option<ArrayVec<u8, FRAME_BYTES>>
     let mut bytes = [0; FRAME_BYTES];
     let count = text.len() / 2;
     decode_digits(text, &mut bytes[..count]).ok()?;
-    ArrayVec::try_from(&bytes[..count]).ok()
+    let mut payload = ArrayVec::from(bytes);
+    payload.truncate(count);
+    Some(payload)
 }
 
 // Where the first hash stands.
