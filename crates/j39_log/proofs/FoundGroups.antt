@@ -1,14 +1,17 @@
 -- The group that is found for a number and a length.
 use Rattle.std.proofs.Common.{◌≡◌, ℕ, ◌<◌, ◌==◌, ◌&&◌, Bool, true, false, List, length, map, get_or, Option, Some, refl, sym, ap, ◌∙◌, eqb-true}
+use Rattle.std.proofs.Common.{Vec, Global, inl, inr, arith}
 use Rattle.std.specs.List.{HoldsAt}
 use Rattle.std.proofs.lemmas.List.Quantifiers.{position-Some}
-use Rattle.std.proofs.lemmas.Option.{slice_get-get_or}
-use Rattle.std.proofs.lemmas.List.{get_or-map}
+use Rattle.std.proofs.lemmas.Option.{slice_get-get_or, slice_get_cases}
+use Rattle.std.proofs.lemmas.List.{get_or-map, length-map}
 use Rattle.j39_signal.specs.LayoutParts.{LayoutParts}
 use Rattle.j39_findings.specs.declared.plan.Plan.{Plan}
 use Rattle.j39_findings.specs.declared.plan.group_plan.GroupPlan.{GroupPlan}
 use Rattle.j39_findings.specs.PlannedGroups.{layout_of}
 use Rattle.j39_log.specs.inside.Listening.{IsCatalogOf}
+use Rattle.j39_log.specs.inside.ValueLines.{items_of, value_lines_of}
+use Rattle.j39_log.specs.declared.value_line.ValueLine.{ValueLine}
 use Rattle.j39_log.specs.LogFrames.{planned_group, is_planned_as, planned}
 use Rattle.j39_log.specs.LogReports.{group_report}
 use Rattle.j39_log.specs.ReadText.{IsGroupReport}
@@ -38,6 +41,22 @@ laid_there plan catalog place group layout of less here at =
     let mapped : get_or (map layout_of plan.groups.items) place layout ≡ layout_of (get_or plan.groups.items place group) =
     get_or-map layout_of plan.groups.items place group layout less in
     sym kept ∙ ap (λ (xs : List LayoutParts). get_or xs place layout) of.layouts ∙ mapped ∙ ap layout_of (sym here)
+
+-- what stands around its values is that of its signals
+pub lined_there : (plan : Plan) (catalog : Catalog) (place : ℕ) (group : GroupPlan) (lines : List ValueLine) → IsCatalogOf plan catalog
+    → place < length plan.groups.items → group ≡ get_or plan.groups.items place group
+    → HoldsAt (λ (l : Vec ValueLine Global). items_of l ≡ lines) catalog.lines.items place → lines ≡ value_lines_of group
+lined_there plan catalog place group lines of less here at =
+    let rows = catalog.lines.items in
+    let groups = plan.groups.items in
+    let count : length rows ≡ length groups = sym (length-map rows items_of) ∙ ap length of.lines ∙ length-map groups value_lines_of in
+    elim (slice_get_cases rows place).1 [
+      | inl found ↦
+          sym (at found.0) ∙ sym (get_or-map items_of rows place found.0 lines (omega (arith, less, count)))
+          ∙ ap (λ (xs : List (List ValueLine)). get_or xs place lines) of.lines ∙ get_or-map value_lines_of groups place group lines less
+          ∙ ap value_lines_of (sym here)
+      | inr past ↦ absurd (omega (arith, less, count, past.0))
+    ]
 
 -- its report is that of the place
 pub report_there : (plan : Plan) (place : ℕ) (group : GroupPlan) (i : Ident) (bytes : List ℕ) → place < length plan.groups.items

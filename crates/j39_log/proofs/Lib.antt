@@ -7,3 +7,4 @@ pub mod OneText
 pub mod Outcomes
 pub mod PairLists
 pub mod SignalLists
+pub mod ValueLines

@@ -2,10 +2,12 @@
 ghost use Rattle.std.specs.Prelude.{◌≡◌, ◌<◌, List, [], ◌∷◌, ◌++◌, length, map, All, OnOk, IfOk, IfErr};
 ghost use Rattle.std.specs.List.{HoldsAt, position};
 ghost use Rattle.j39_log.specs.inside.Listening.{IsBadCatalog, IsCatalogOf, IsIndex};
+ghost use Rattle.j39_log.specs.inside.ValueLines.{items_of};
 ghost use Rattle.j39_log.specs.LogFrames.{is_planned_as};
 ghost use Rattle.j39_findings.specs.PlannedGroups.{IsSendable, layout_of as parts_of};
 ghost use Rattle.j39_findings.specs.declared.plan.group_plan.GroupPlan.{GroupPlan as APlannedGroup};
 
+use crate::value_line::{ValueLine, value_lines_of};
 use j39_findings::{GroupFault, GroupPlan, Plan, layout_of};
 use j39_signal::Layout;
 use std::alloc::{AllocError, Global};
@@ -20,10 +22,12 @@ pub(crate) enum CatalogError {
     Memory,
 }
 
-/// The groups of a plan: their layouts by place, and the first place of each number and length.
+/// The groups of a plan: their layouts by place, what stands around the values of their signals, and the first place of each
+/// number and length.
 #[derive(Drop)]
 pub(crate) struct Catalog {
     layouts: Vec<Layout>,
+    lines: Vec<Vec<ValueLine>>,
     places: HashMap<(u32, usize), usize>,
 }
 
@@ -88,10 +92,17 @@ impl Catalog {
         ensures refused { IfErr result (IsBadCatalog plan.now.groups.items) }
     {
         let layouts = layouts_of(alloc, plan.groups.as_slice())?;
+        let Ok(lines) = value_lines_of(alloc, plan.groups.as_slice()) else {
+            return Err(CatalogError::Memory);
+        };
         let Ok(places) = places_of(alloc, plan.groups.as_slice()) else {
             return Err(CatalogError::Memory);
         };
-        Ok(Catalog { layouts, places })
+        Ok(Catalog {
+            layouts,
+            lines,
+            places,
+        })
     }
 
     /// The place of the first group of this number and length.
@@ -107,5 +118,13 @@ impl Catalog {
         ensures { HoldsAt (λ l. l ≡ result.now) self.now.layouts.items place }
     {
         &self.layouts[place]
+    }
+
+    /// What stands around the values of the signals of the group at a place.
+    pub fn lines(&self, place: usize) -> &[ValueLine]
+        requires { place < length self.now.lines.items }
+        ensures { HoldsAt (λ l. items_of l ≡ result.now) self.now.lines.items place }
+    {
+        &self.lines[place]
     }
 }

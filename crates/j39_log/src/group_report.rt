@@ -1,68 +1,79 @@
 //! The lines that report a group.
-ghost use Rattle.std.specs.Prelude.{◌≡◌, ◌++◌, ◌<◌, length, OnOk};
-ghost use Rattle.j39_log.specs.LogReports.{group_line, group_report, signal_line, signal_lines, signal_state_text, unit_text, value_text, way_text};
+ghost use Rattle.std.specs.Prelude.{◌≡◌, [], ◌∷◌, ◌++◌, ◌<◌, codes, length, map, OnOk};
+ghost use Rattle.std.specs.Fmt.{signed_decimal};
+ghost use Rattle.j39_text.specs.Texts.{field};
+ghost use Rattle.j39_log.specs.LogReports.{group_line, group_report, signal_line, signal_lines, way_text};
+ghost use Rattle.j39_log.specs.inside.ValueLines.{value_line_of, value_lines_of};
 
+use crate::value_line::ValueLine;
 use j39_findings::GroupPlan;
-use j39_id::{Ident, Label};
+use j39_id::Ident;
 use j39_signal::{Layout, Signal, State};
 use j39_text::{TextBuffer, write_destination};
 use std::alloc::AllocError;
 
-#[tactic(auto, unfolding(crate::specs::LogReports::unit_text))]
-fn write_unit(text: &mut TextBuffer, unit: &Label) -> Result<(), AllocError>
-    ensures { OnOk result (text.new ≡ text.old ++ unit_text unit.now.bytes) }
+// The line of a value, between what stands around it.
+fn write_value(text: &mut TextBuffer, line: &ValueLine, value: i64) -> Result<(), AllocError>
+    ensures { OnOk result (text.new ≡ text.old ++ (line.now.before ++ (signed_decimal value ++ line.now.after))) }
 {
-    if unit.is_empty() {
-        return Ok(());
-    }
-    text.word(" ")?;
-    text.word(unit.as_str())
+    text.bytes(line.before.as_slice())?;
+    text.number(value)?;
+    text.bytes(line.after.as_slice())
 }
 
-#[tactic(auto, unfolding(crate::specs::LogReports::value_text))]
-fn write_value(text: &mut TextBuffer, unit: &Label, value: i64) -> Result<(), AllocError>
-    ensures { OnOk result (text.new ≡ text.old ++ value_text unit.now.bytes value) }
-{
-    text.field(" value ", value)?;
-    write_unit(text, unit)
-}
-
-#[tactic(auto, unfolding(crate::specs::LogReports::signal_state_text))]
-fn write_state(text: &mut TextBuffer, unit: &Label, state: State) -> Result<(), AllocError>
-    ensures { OnOk result (text.new ≡ text.old ++ signal_state_text unit.now.bytes state) }
-{
-    match state {
-        State::Value(value) => write_value(text, unit, value),
-        State::Specific(raw) => text.field(" specific ", raw),
-        State::Reserved(raw) => text.field(" reserved ", raw),
-        State::Fault(raw) => text.field(" fault ", raw),
-        State::Absent => text.word(" absent"),
-    }
-}
-
-#[tactic(auto, unfolding(crate::specs::LogReports::signal_line))]
-fn write_signal(text: &mut TextBuffer, signal: &Signal, state: State) -> Result<(), AllocError>
-    ensures { OnOk result (text.new ≡ text.old ++ signal_line signal.now state) }
+// The line of a raw number that is no value, behind the word for it.
+fn write_raw(text: &mut TextBuffer, signal: &Signal, word: &str, raw: u32) -> Result<(), AllocError>
+    ensures { OnOk result (text.new ≡ text.old ++ (codes "  " ++ (signal.now.label.bytes ++ (field word.now raw ++ 10 ∷ [])))) }
 {
     text.word("  ")?;
     text.word(signal.label().as_str())?;
-    write_state(text, signal.unit(), state)?;
+    text.field(word, raw)?;
     text.end_line()
+}
+
+fn write_absent(text: &mut TextBuffer, signal: &Signal) -> Result<(), AllocError>
+    ensures { OnOk result (text.new ≡ text.old ++ (codes "  " ++ (signal.now.label.bytes ++ (codes " absent" ++ 10 ∷ [])))) }
+{
+    text.word("  ")?;
+    text.word(signal.label().as_str())?;
+    text.word(" absent")?;
+    text.end_line()
+}
+
+#[tactic(auto, unfolding(crate::specs::LogReports::signal_line, crate::specs::LogReports::signal_state_text))]
+fn write_signal(
+    text: &mut TextBuffer,
+    signal: &Signal,
+    line: &ValueLine,
+    state: State,
+) -> Result<(), AllocError>
+    requires { line.now ≡ value_line_of signal.now }
+    ensures { OnOk result (text.new ≡ text.old ++ signal_line signal.now state) }
+{
+    match state {
+        State::Value(value) => write_value(text, line, value),
+        State::Specific(raw) => write_raw(text, signal, " specific ", raw),
+        State::Reserved(raw) => write_raw(text, signal, " reserved ", raw),
+        State::Fault(raw) => write_raw(text, signal, " fault ", raw),
+        State::Absent => write_absent(text, signal),
+    }
 }
 
 // The signals of a group, which lay out the bytes.
 fn write_signals(
     text: &mut TextBuffer,
     signals: &[Signal],
+    lines: &[ValueLine],
     layout: &Layout,
     bytes: &[u8],
 ) -> Result<(), AllocError>
     requires signals { layout.now.signals ≡ signals.now }
+    requires lines { lines.now ≡ map value_line_of signals.now }
     requires bytes { length bytes.now ≡ layout.now.length }
     ensures { OnOk result (text.new ≡ text.old ++ signal_lines signals.now bytes.now) }
 {
     for (place, signal) in signals.iter().enumerate() {
-        write_signal(text, signal, layout.read(bytes, place))?;
+        write_signal(text, signal, &lines[place], layout.read(bytes, place))?;
     }
     Ok(())
 }
@@ -98,14 +109,16 @@ fn write_group_line(
 pub(super) fn write_report(
     text: &mut TextBuffer,
     group: &GroupPlan,
+    lines: &[ValueLine],
     layout: &Layout,
     ident: Ident,
     bytes: &[u8],
 ) -> Result<(), AllocError>
     requires signals { layout.now.signals ≡ group.now.signals.items }
+    requires lines { lines.now ≡ value_lines_of group.now }
     requires bytes { length bytes.now ≡ layout.now.length }
     ensures { OnOk result (text.new ≡ text.old ++ group_report group.now ident bytes.now) }
 {
     write_group_line(text, group, ident, bytes)?;
-    write_signals(text, group.signals.as_slice(), layout, bytes)
+    write_signals(text, group.signals.as_slice(), lines, layout, bytes)
 }

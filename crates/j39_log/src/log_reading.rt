@@ -47,6 +47,7 @@ fn write_group(
     write_report(
         text,
         &plan.groups[place],
+        catalog.lines(place),
         catalog.layout(place),
         ident,
         bytes,

@@ -20,6 +20,7 @@ use Rattle.j39_findings.specs.PlannedGroups.{IsFirstRefused, layout_of}
 use Rattle.j39_log.specs.declared.catalog.CatalogError.{CatalogError}
 use Rattle.j39_log.specs.declared.catalog.CatalogError.TheVariants.{BadGroup, Memory}
 use Rattle.j39_log.specs.declared.catalog.Catalog.{Catalog}
+use Rattle.j39_log.specs.inside.ValueLines.{items_of, value_lines_of}
 
 -- ---- groups
 
@@ -38,6 +39,7 @@ IsIndex groups places = (key : ℕ × ℕ) → get is_same_key places key ≡ po
 -- a catalog has the groups of the plan
 pub record IsCatalogOf (plan : Plan) (catalog : Catalog) : Type 0 where
   pub layouts : catalog.layouts.items ≡ map layout_of plan.groups.items
+  pub lines : map items_of catalog.lines.items ≡ map value_lines_of plan.groups.items
   pub index : IsIndex plan.groups.items catalog.places
 
 -- ---- listeners

@@ -1,0 +1,20 @@
+-- What stands around the value in the line of a signal.
+use Rattle.std.specs.Prelude.{◌++◌, ◌∷◌, [], List, map, codes}
+use Rattle.std.specs.declared.alloc.Global.{Global}
+use Rattle.std.specs.declared.vec.Vec.{Vec}
+use Rattle.j39_findings.specs.declared.plan.group_plan.GroupPlan.{GroupPlan}
+use Rattle.j39_signal.specs.Parts.{SignalParts}
+use Rattle.j39_log.specs.LogReports.{unit_text}
+use Rattle.j39_log.specs.declared.value_line.ValueLine.{ValueLine}
+
+abbrev pub value_line_of : SignalParts → ValueLine
+value_line_of s = record {
+  before = codes "  " ++ (s.label.bytes ++ codes " value ");
+  after = unit_text s.unit.bytes ++ 10 ∷ [];
+}
+
+abbrev pub value_lines_of : GroupPlan → List ValueLine
+value_lines_of group = map value_line_of group.signals.items
+
+abbrev pub items_of : Vec ValueLine Global → List ValueLine
+items_of lines = lines.items
