@@ -1,5 +1,6 @@
 //! What is sent of a message.
 ghost use Rattle.std.specs.Prelude.{◌≡◌, ℕ, ◌≤◌, length, is_some};
+ghost use Rattle.j39_id.specs.Limits.{message_bytes};
 
 use j39_findings::To;
 use j39_tp::{Dest, Message, Outcome, Packet, Phase, Reaction, Sender};
@@ -25,7 +26,7 @@ impl Content {
 
     /// What the sender has, and what it sends first: the whole message, or its announcement.
     pub(crate) fn begin(flow: &Flow, bytes: &[u8]) -> (Self, Wired)
-        requires { length bytes.now ≤ 1785 }
+        requires { length bytes.now ≤ message_bytes }
         ensures content { HasContent flow.now.pgn flow.now.to result.0 }
         ensures bytes { bytes_in result.0 ≡ bytes.now }
         ensures stage { stage_in result.0 ≡ begun_stage flow.now bytes.now }

@@ -1,5 +1,6 @@
 //! The flows of a plan, with what their groups say.
 ghost use Rattle.std.specs.Prelude.{◌≡◌, ◌<◌, ◌≤◌, length, All, IfOk};
+ghost use Rattle.j39_id.specs.Limits.{message_bytes};
 ghost use Rattle.j39_world.specs.Flows.{flow_of, flows_of};
 ghost use Rattle.j39_bus.specs.inside.Traffic.{IsFlow};
 ghost use Rattle.j39_findings.specs.PlannedGroups.{IsSendable};
@@ -14,7 +15,7 @@ fn flow_of(groups: &[GroupPlan], flow: &FlowPlan) -> Flow
     requires groups { All IsSendable groups.now }
     requires group { flow.now.group < length groups.now }
     ensures flow { result ≡ flow_of groups.now flow.now }
-    ensures length { result.length ≤ 1785 }
+    ensures length { result.length ≤ message_bytes }
     ensures priority { result.priority ≤ 7 }
 {
     let group = &groups[flow.group];

@@ -7,6 +7,7 @@ ghost use Rattle.j39_bus.specs.inside.Network.{HasAnswered};
 
 use j39_claim::{Choose, Claimer, Item, Say};
 use j39_id::Name;
+use j39_id::addresses::NULL_ADDRESS;
 
 /// The number of the address that is claimed, or of none.
 fn number_of(say: &Say) -> u8
@@ -14,7 +15,7 @@ fn number_of(say: &Say) -> u8
 {
     match say {
         Say::Claim(address) => address.number(),
-        Say::Cannot => 254,
+        Say::Cannot => NULL_ADDRESS,
     }
 }
 

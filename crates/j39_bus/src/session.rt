@@ -1,5 +1,6 @@
 //! Messages that are sent.
 ghost use Rattle.std.specs.Prelude.{◌≡◌, ℕ, ◌≤◌, length, is_some};
+ghost use Rattle.j39_id.specs.Limits.{message_bytes};
 ghost use Rattle.j39_tp.specs.Sender.{data_next, after_packet, timeout_packet, after_timeout, outcome_of, next_number};
 ghost use Rattle.j39_world.specs.Flows.{dest_of};
 ghost use Rattle.j39_world.specs.Run.{is_waiting_at};
@@ -50,7 +51,7 @@ impl Session {
         bytes: &[u8],
         targets: Vec<usize>,
     ) -> (Self, Wired)
-        requires { length bytes.now ≤ 1785 }
+        requires { length bytes.now ≤ message_bytes }
         ensures session { result.0 ≡ record {
           flow = place;
           pgn = flow.now.pgn;

@@ -5,15 +5,16 @@ use Rattle.std.specs.FinMap.{FinMap, get, len, code}
 use Rattle.std.specs.FinSet as set
 use Rattle.std.specs.FinSet.{FinSet}
 use Rattle.std.specs.Coded.{Coded, code_by, coded×, coded_ℕ, coded_bool, coded_option}
+use Rattle.j39_id.specs.Limits.{unit_limit}
 use Rattle.j39_claim.specs.ClaimRule.{PlannedUnit, ClaimState}
 
 pub record ClaimerValue : Type 0 where
   pub planned : PlannedUnit
   pub state : ClaimState
 
--- n is noted already, or fewer than 128 NAMEs are
+-- n is noted already, or fewer NAMEs are than a network has units
 abbrev pub can_note : FinMap nat_cmp ℕ → ℕ → Bool
-can_note notes n = is_some (get notes n) || nat_lt (len notes) 128
+can_note notes n = is_some (get notes n) || nat_lt (len notes) unit_limit
 
 abbrev pub coded_planned_unit : Coded PlannedUnit
 coded_planned_unit =

@@ -102,7 +102,7 @@ impl Claimer {
         self.address
     }
 
-    /// Whether it can note what it hears of the NAME: it has noted it already, or fewer than 128 NAMEs.
+    /// Whether it can note what it hears of the NAME: it has noted it already, or fewer NAMEs than a network has units.
     pub fn can_note(&self, name: Name) -> bool
         ensures { result ≡ can_note self.now.state.notes name }
     {

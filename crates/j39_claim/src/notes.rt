@@ -10,13 +10,14 @@ ghost use Rattle.j39_claim.specs.inside.Noting.{IsAt, IsGapFor};
 use crate::AddressSet;
 use crate::address_counts::AddressCounts;
 use arrayvec::ArrayVec;
+use j39_id::limits::UNIT_LIMIT;
 use j39_id::{Address, Name};
 use std::marker::Model;
 
-/// The address last heard from each NAME, of at most 128 NAMEs, in rising order of NAME.
+/// The address last heard from each NAME, of at most `UNIT_LIMIT` NAMEs, in rising order of NAME.
 #[derive(Drop)]
 pub(crate) struct Notes {
-    pairs: ArrayVec<(Name, Address), 128>,
+    pairs: ArrayVec<(Name, Address), UNIT_LIMIT>,
     counts: AddressCounts,
 }
 
@@ -50,7 +51,7 @@ impl Notes {
     pub fn can_note(&self, name: Name) -> bool
         ensures { result ≡ can_note self.now name }
     {
-        place_of(self.pairs.as_slice(), name).is_ok() || self.pairs.len() < 128
+        place_of(self.pairs.as_slice(), name).is_ok() || self.pairs.len() < UNIT_LIMIT
     }
 
     /// Notes the address of a NAME in place of what was noted of it.

@@ -9,7 +9,9 @@ use Rattle.std.specs.FinSet.{FinSet}
 use Rattle.std.specs.Ordering.{nat_cmp}
 use Rattle.j39_id.specs.Name.{is_arbitrary}
 use Rattle.j39_id.specs.Limits.{frame_bytes}
-use Rattle.j39_id.specs.Pgn.{pgn_end, pdu2_first, IsPgn, pf_of, is_pgn}
+use Rattle.j39_id.specs.Pgn.{pgn_end, extended_page, pdu2_first, IsPgn, pf_of, is_pgn}
+use Rattle.j39_id.specs.Proprietary.{proprietary_a, proprietary_a2, proprietary_b_first, proprietary_b_last, proprietary_b2_first, proprietary_b2_last}
+use Rattle.j39_id.specs.Proprietary.{is_proprietary}
 use Rattle.j39_id.specs.Services.{service_groups}
 use Rattle.j39_signal.specs.Parts.{SignalParts}
 use Rattle.j39_signal.specs.Places.{WidthFits, IsInside, SharesBit, shares_bit}
@@ -22,7 +24,7 @@ use Rattle.j39_findings.specs.declared.plan.to.To.{To}
 use Rattle.j39_findings.specs.declared.plan.to.To.TheVariants.{All, One}
 use Rattle.j39_findings.specs.Findings.{HaveSameName, HaveSameFixedAddress, PrefersKept, IsProprietary, CannotBePlanned}
 use Rattle.j39_findings.specs.Findings.{HasBadPgn, HaveSamePgn, IsOneFrameToAll, CannotGoToOne, GoesToItsSender, AreOneFlow}
-use Rattle.j39_findings.specs.Found.{have_same_name, have_same_fixed_address, prefers_kept, is_proprietary, cannot_be_planned}
+use Rattle.j39_findings.specs.Found.{have_same_name, have_same_fixed_address, prefers_kept, cannot_be_planned}
 use Rattle.j39_findings.specs.Found.{has_bad_pgn, have_same_pgn, has_other_width, ends_outside, is_one_frame_to_all, is_group_of}
 use Rattle.j39_findings.specs.Found.{is_to_one, is_to, have_same_receiver, cannot_go_to_one, goes_to_its_sender, are_one_flow}
 
@@ -64,8 +66,9 @@ Decides-is_pgn n =
 
 pub Decides-is_proprietary : (n : ℕ) → Decides (is_proprietary n) (IsProprietary n)
 Decides-is_proprietary n =
-    Decides-or _ _ (Decides-eqb n 61184) (Decides-or _ _ (Decides-eqb n 126720)
-    (Decides-or _ _ (Decides-and _ _ (Decides-leb 65280 n) (Decides-leb n 65535)) (Decides-and _ _ (Decides-leb 130816 n) (Decides-leb n 131071))))
+    Decides-or _ _ (Decides-eqb n proprietary_a) (Decides-or _ _ (Decides-eqb n proprietary_a2)
+    (Decides-or _ _ (Decides-and _ _ (Decides-leb proprietary_b_first n) (Decides-leb n proprietary_b_last))
+    (Decides-and _ _ (Decides-leb proprietary_b2_first n) (Decides-leb n proprietary_b2_last))))
 
 contains_from : (n x : ℕ) (xs : List ℕ) → (x ≡ n) ⊎ Contains xs n → Contains (x ∷ xs) n
 contains_from n x xs (inl here) = (0, omega arith, here)
@@ -81,7 +84,7 @@ Decides-list_any n (x ∷ xs) = Decides-like _ (contains_from n x xs) (contains_
 
 pub Decides-cannot_be_planned : (n : ℕ) → Decides (cannot_be_planned n) (CannotBePlanned n)
 Decides-cannot_be_planned n =
-    Decides-or _ _ (Decides-not _ (Decides-is_pgn n)) (Decides-or _ _ (Decides-leb 131072 n)
+    Decides-or _ _ (Decides-not _ (Decides-is_pgn n)) (Decides-or _ _ (Decides-leb extended_page n)
     (Decides-or _ _ (Decides-is_proprietary n) (Decides-list_any n service_groups)))
 
 pub Decides-has_bad_pgn : (g : GroupPlan) → Decides (has_bad_pgn g) (HasBadPgn g)

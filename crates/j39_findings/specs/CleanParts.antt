@@ -3,7 +3,7 @@ use Rattle.std.specs.Prelude.{◌≡◌, ◌≢◌, ℕ, true, false, ◌<◌, �
 use Rattle.std.specs.FinSet.{contains}
 use Rattle.j39_claim.specs.AddressSets.{free_count}
 use Rattle.j39_id.specs.Name.{is_arbitrary}
-use Rattle.j39_id.specs.Pgn.{IsPgn}
+use Rattle.j39_id.specs.Pgn.{IsPgn, extended_page}
 use Rattle.j39_id.specs.Services.{service_groups}
 use Rattle.j39_signal.specs.Places.{LaysOut}
 use Rattle.j39_findings.specs.ListPlaces.{ValueAt}
@@ -19,7 +19,7 @@ HoldApart u v = IsFixed u → IsFixed v → u.address ≢ v.address
 -- a group of one data page that is neither proprietary nor a service of the network
 pub record CanBePlanned (pgn : ℕ) : Type 0 where
   pub group : IsPgn pgn
-  pub page : pgn < 131072
+  pub page : pgn < extended_page
   pub not_proprietary : ¬ IsProprietary pgn
   pub not_service : ¬ Contains service_groups pgn
 

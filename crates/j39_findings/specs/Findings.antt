@@ -8,7 +8,8 @@ use Rattle.j39_claim.specs.AddressSets.{is_free, free_count}
 use Rattle.j39_id.specs.Addresses.{in_pool}
 use Rattle.j39_id.specs.Limits.{frame_bytes}
 use Rattle.j39_id.specs.Name.{is_arbitrary}
-use Rattle.j39_id.specs.Pgn.{IsPgn, pdu2_first, pf_of}
+use Rattle.j39_id.specs.Pgn.{IsPgn, extended_page, pdu2_first, pf_of}
+use Rattle.j39_id.specs.Proprietary.{proprietary_a, proprietary_a2, proprietary_b_first, proprietary_b_last, proprietary_b2_first, proprietary_b2_last}
 use Rattle.j39_id.specs.Services.{service_groups}
 use Rattle.j39_signal.specs.Places.{WidthFits, IsInside, SharesBit}
 use Rattle.j39_findings.specs.ListPlaces.{ValueAt, PairAt}
@@ -47,13 +48,15 @@ PrefersKept kept unit = (is_arbitrary unit.name ≡ true) × (contains kept unit
 
 -- ---- groups
 
--- the groups whose layout is each maker's own
+-- the groups whose content is each maker's own
 abbrev pub IsProprietary : ℕ → Type 0
-IsProprietary pgn = (pgn ≡ 61184) ⊎ ((pgn ≡ 126720) ⊎ (((65280 ≤ pgn) × (pgn ≤ 65535)) ⊎ ((130816 ≤ pgn) × (pgn ≤ 131071))))
+IsProprietary pgn =
+    (pgn ≡ proprietary_a) ⊎ ((pgn ≡ proprietary_a2)
+    ⊎ (((proprietary_b_first ≤ pgn) × (pgn ≤ proprietary_b_last)) ⊎ ((proprietary_b2_first ≤ pgn) × (pgn ≤ proprietary_b2_last))))
 
--- a number that is no group's, or whose group is not for a plan; from 131072 on the extended data page is set
+-- a number that is no group's, or whose group is not for a plan, as those of the extended data page
 abbrev pub CannotBePlanned : ℕ → Type 0
-CannotBePlanned pgn = (¬ IsPgn pgn) ⊎ ((131072 ≤ pgn) ⊎ (IsProprietary pgn ⊎ Contains service_groups pgn))
+CannotBePlanned pgn = (¬ IsPgn pgn) ⊎ ((extended_page ≤ pgn) ⊎ (IsProprietary pgn ⊎ Contains service_groups pgn))
 
 abbrev pub HasBadPgn : GroupPlan → Type 0
 HasBadPgn group = CannotBePlanned group.pgn

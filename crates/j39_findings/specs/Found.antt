@@ -6,7 +6,8 @@ use Rattle.std.specs.Ordering.{nat_cmp}
 use Rattle.j39_claim.specs.AddressSets.{free_count}
 use Rattle.j39_id.specs.Limits.{frame_bytes}
 use Rattle.j39_id.specs.Name.{is_arbitrary}
-use Rattle.j39_id.specs.Pgn.{is_pgn, is_pdu2}
+use Rattle.j39_id.specs.Pgn.{is_pgn, is_pdu2, extended_page}
+use Rattle.j39_id.specs.Proprietary.{is_proprietary}
 use Rattle.j39_id.specs.Services.{is_service}
 use Rattle.j39_signal.specs.Parts.{SignalParts}
 use Rattle.j39_signal.specs.Places.{width_fits, is_inside, shares_bit}
@@ -50,11 +51,8 @@ kept_findings kept units = each (prefers_kept kept) KeptAddress 0 units
 
 -- ---- groups
 
-abbrev pub is_proprietary : ℕ → Bool
-is_proprietary pgn = pgn == 61184 || (pgn == 126720 || ((nat_le 65280 pgn && nat_le pgn 65535) || (nat_le 130816 pgn && nat_le pgn 131071)))
-
 abbrev pub cannot_be_planned : ℕ → Bool
-cannot_be_planned pgn = not (is_pgn pgn) || (nat_le 131072 pgn || (is_proprietary pgn || is_service pgn))
+cannot_be_planned pgn = not (is_pgn pgn) || (nat_le extended_page pgn || (is_proprietary pgn || is_service pgn))
 
 abbrev pub has_bad_pgn : GroupPlan → Bool
 has_bad_pgn group = cannot_be_planned group.pgn

@@ -2,6 +2,7 @@
 ghost use Rattle.std.specs.Prelude.{◌≡◌, ◌≢◌, ℕ, true, ◌<◌, ◌≤◌, length, All, AllPairs};
 ghost use Rattle.std.specs.FinSet.{contains};
 ghost use Rattle.j39_id.specs.Addresses.{in_pool};
+ghost use Rattle.j39_id.specs.Limits.{unit_limit};
 ghost use Rattle.j39_findings.specs.declared.plan.to.To.TheVariants.{One};
 
 mod flow_plan;
@@ -27,7 +28,7 @@ pub struct Plan {
     pub groups: Vec<GroupPlan>,
     pub flows: Vec<FlowPlan>,
     pub ghost keep_free_range: { (a : ℕ) → contains keep_free a ≡ true → in_pool a ≡ true },
-    pub ghost unit_count: { length units.items ≤ 128 },
+    pub ghost unit_count: { length units.items ≤ unit_limit },
     pub ghost group_count: { length groups.items ≤ 256 },
     pub ghost flow_count: { length flows.items ≤ 512 },
     pub ghost unit_labels: { AllPairs (λ u w. u.label.bytes ≢ w.label.bytes) units.items },

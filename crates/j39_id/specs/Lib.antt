@@ -6,5 +6,6 @@ pub mod Limits
 pub mod Lines
 pub mod Name
 pub mod Pgn
+pub mod Proprietary
 pub mod Services
 pub mod inside

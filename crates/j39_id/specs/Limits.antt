@@ -1,4 +1,4 @@
--- How many bytes are sent at once (SAE J1939-21).
+-- How many bytes are sent at once (SAE J1939-21), and how many units a network has.
 use Rattle.std.specs.Prelude.{ℕ}
 
 -- the bytes that a frame has room for
@@ -12,3 +12,7 @@ packet_bytes = 7
 -- the bytes of the longest message: those of 255 packets
 abbrev pub message_bytes : ℕ
 message_bytes = 1785
+
+-- the most units of a network
+abbrev pub unit_limit : ℕ
+unit_limit = 128

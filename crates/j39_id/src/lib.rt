@@ -17,6 +17,7 @@ mod name;
 mod name_fields;
 mod pgn;
 mod printing;
+pub mod proprietary;
 mod reading;
 pub mod services;
 
@@ -33,6 +34,6 @@ pub use laws::{
 pub use line_error::LineError;
 pub use name::Name;
 pub use name_fields::{NameError, NameField, NameFields};
-pub use pgn::{PDU2_FIRST, Pgn};
+pub use pgn::{EXTENDED_PAGE, PDU2_FIRST, Pgn};
 pub use printing::print_frame;
 pub use reading::read_frame;

@@ -7,6 +7,9 @@ use std::marker::Model;
 /// The first PF of PDU2, whose frames name no destination.
 pub const PDU2_FIRST: u8 = 240;
 
+/// From this one on group numbers have the extended data page.
+pub const EXTENDED_PAGE: u32 = 1 << 17;
+
 // Group numbers have 18 bits.
 const PGN_END: u32 = 1 << 18;
 

@@ -2,6 +2,7 @@
 use Rattle.std.specs.Prelude.{ℕ, ◌==◌, List, [], ◌∷◌, ◌++◌, map, Bool, if◌then◌else◌, None}
 use Rattle.toml.specs.Data.{Data, Members}
 use Rattle.j39_id.specs.Addresses.{pool_size}
+use Rattle.j39_id.specs.Limits.{unit_limit}
 use Rattle.j39_plan.specs.declared.reading.key.Key.TheVariants as key
 use Rattle.j39_plan.specs.declared.reading.place.Table.TheVariants as at
 use Rattle.j39_plan.specs.declared.reading.fault.Fault.{Fault}
@@ -24,7 +25,7 @@ abbrev pub keep_free_rule : Rule
 keep_free_rule = addresses key.KeepFree pool_size
 
 abbrev pub unit_rule : Rule
-unit_rule = tables key.Unit 128
+unit_rule = tables key.Unit unit_limit
 
 abbrev pub group_rule : Rule
 group_rule = tables key.Group 256

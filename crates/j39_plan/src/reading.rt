@@ -30,6 +30,7 @@ use flows::Flows;
 use groups::Groups;
 use heads::head;
 use j39_findings::Plan;
+use j39_id::limits::UNIT_LIMIT;
 pub use key::Key;
 pub use place::{Place, Table};
 pub use plan_error::PlanError;
@@ -43,7 +44,7 @@ fn read_top(alloc: Global, members: &toml::Table) -> Result<Plan, PlanError>
     ensures { GivesGrowing (PlanGrows (table_view members.now)) result (faults (table_view members.now)) (TellsPlan (table_view members.now)) }
 {
     let keep_free = head(members)?;
-    let unit_values = array(members, Table::Top, Key::Unit, 128)?;
+    let unit_values = array(members, Table::Top, Key::Unit, UNIT_LIMIT)?;
     let group_values = array(members, Table::Top, Key::Group, 256)?;
     let flow_values = array(members, Table::Top, Key::Flow, 512)?;
     let units = read_each(alloc, &Units, unit_values)?;

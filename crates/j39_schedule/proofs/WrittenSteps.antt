@@ -7,6 +7,7 @@ use Rattle.std.specs.List.{All}
 use Rattle.std.specs.Prelude.{decimal}
 use Rattle.hex.specs.Hex.{IsBytes, encode_upper, upper_digits}
 use Rattle.hex.proofs.HexLemmas.{decode_of-encode_upper, length-encode_with}
+use Rattle.j39_id.specs.Limits.{message_bytes}
 use Rattle.j39_id.specs.Lines.{Short, line_of, lines}
 use Rattle.j39_findings.specs.declared.plan.Plan.{Plan}
 use Rattle.j39_findings.specs.declared.steps.Step.{Step}
@@ -85,7 +86,7 @@ units_step plan word step u v inside is few begun other =
 -- ---- the step that begins a message
 
 begin_step : (plan : Plan) (step : Step) (f : ℕ) (bytes : List ℕ) → f < length plan.flows.items → 0 < length bytes
-    → length bytes ≤ 1785 → IsBytes bytes → as_ordered step ≡ begins f bytes
+    → length bytes ≤ message_bytes → IsBytes bytes → as_ordered step ≡ begins f bytes
     → Spells plan (place_field (codes "begin ") f ++ (codes " " ++ encode_upper bytes)) step
 unfolding field_text words_order order_named
 begin_step plan step f bytes inside some few are is =

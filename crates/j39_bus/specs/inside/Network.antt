@@ -2,6 +2,7 @@
 use Rattle.std.specs.Prelude.{◌≡◌, ℕ, ◌≤◌, Bool, true, nat_eq, List, [], ◌∷◌, ◌++◌, map, length, Option, None, is_some, slice_index_or, slice_set}
 use Rattle.std.specs.List.{list_any}
 use Rattle.std.specs.FinMap.{get}
+use Rattle.j39_id.specs.Limits.{unit_limit}
 use Rattle.j39_claim.specs.declared.item.Say.{Say}
 use Rattle.j39_claim.specs.declared.item.Item.{Item}
 use Rattle.j39_claim.specs.ClaimRule.{PlannedUnit, ClaimState, Answers}
@@ -62,7 +63,7 @@ is_named cs n = list_any (λ m. nat_eq n m) (names_of cs)
 
 pub record IsWellFormed (cs : List ClaimerValue) (lists : List (List (List Item))) : Type 0 where
   -- few enough units for a note of each
-  pub few : length cs ≤ 128
+  pub few : length cs ≤ unit_limit
   -- there is a list from each unit to each
   pub table : IsTable (length cs) lists
   -- each unit has noted only NAMEs of these units

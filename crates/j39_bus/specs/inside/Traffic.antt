@@ -1,5 +1,6 @@
 -- What is kept true of the messages that units send one another.
 use Rattle.std.specs.Prelude.{◌≡◌, ℕ, ◌<◌, ◌≤◌, true, false, List, [], ◌∷◌, ◌++◌, drop, length, Option, Some, None, All}
+use Rattle.j39_id.specs.Limits.{message_bytes}
 use Rattle.j39_queues.specs.Queued.{IsTable, Queued, room_at}
 use Rattle.j39_findings.specs.declared.plan.to.To.{To}
 use Rattle.j39_findings.specs.declared.plan.to.To.TheVariants.{All as ToAll, One as ToOne}
@@ -24,7 +25,7 @@ IsInside n (ToOne v) = v < n
 pub record IsFlow (n : ℕ) (f : Flow) : Type 0 where
   pub sender : f.sender < n
   pub receiver : IsInside n f.to
-  pub length : f.length ≤ 1785
+  pub length : f.length ≤ message_bytes
   pub priority : f.priority ≤ 7
 
 -- these are units, each named once

@@ -1,6 +1,7 @@
 //! A message is begun.
 ghost use Rattle.std.specs.Prelude.{◌≡◌, ℕ, ◌<◌, ◌≤◌, length, vec_len, vec_capacity, OnOk, OnErr, IfOk};
 ghost use Rattle.std.specs.List.{filter, range_with_len};
+ghost use Rattle.j39_id.specs.Limits.{message_bytes};
 ghost use Rattle.j39_findings.specs.declared.plan.Plan.{Plan};
 ghost use Rattle.j39_findings.specs.declared.steps.Step.TheVariants.{Begin};
 ghost use Rattle.j39_bus.specs.BusState.{Histories};
@@ -96,7 +97,7 @@ impl Network {
     fn start(&mut self, place: usize, flow: &Flow, bytes: &[u8], targets: Vec<usize>)
         requires network { IsNetwork self.old }
         requires flow { IsFlow (length self.old.claimers.items) flow.now }
-        requires bytes { length bytes.now ≤ 1785 }
+        requires bytes { length bytes.now ≤ message_bytes }
         requires targets { targets.items ≡ targets_of (length self.old.claimers.items) (station_at self.old.claimers.items) flow.now.sender flow.now.to }
         requires wire { HasRoomTo self.old.wire flow.now.sender targets.items }
         requires frames { vec_len self.old.frames < vec_capacity self.old.frames }

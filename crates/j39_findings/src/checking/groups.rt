@@ -2,25 +2,20 @@
 ghost use Rattle.std.specs.Prelude.{◌≡◌, List};
 ghost use Rattle.j39_findings.specs.Adding.{Adds};
 ghost use Rattle.j39_findings.specs.ListPlaces.{found_if};
-ghost use Rattle.j39_findings.specs.Found.{is_proprietary, cannot_be_planned, has_bad_pgn, have_same_pgn, group_findings};
+ghost use Rattle.j39_findings.specs.Found.{cannot_be_planned, has_bad_pgn, have_same_pgn, group_findings};
 
 use crate::checking::finding::Finding;
 use crate::checking::rules::{PairRule, Rule, find_each, find_pairs, push_if};
 use crate::plan::GroupPlan;
-use j39_id::Pgn;
+use j39_id::proprietary::is_proprietary;
 use j39_id::services::is_service;
+use j39_id::{EXTENDED_PAGE, Pgn};
 use std::alloc::AllocError;
-
-fn is_proprietary(pgn: u32) -> bool
-    ensures { result ≡ is_proprietary pgn }
-{
-    matches!(pgn, 61_184 | 126_720 | 65_280..=65_535 | 130_816..=131_071)
-}
 
 fn cannot_be_planned(pgn: u32) -> bool
     ensures { result ≡ cannot_be_planned pgn }
 {
-    Pgn::new(pgn).is_none() || pgn >= 131_072 || is_proprietary(pgn) || is_service(pgn)
+    Pgn::new(pgn).is_none() || pgn >= EXTENDED_PAGE || is_proprietary(pgn) || is_service(pgn)
 }
 
 #[derive(Clone, Copy)]
