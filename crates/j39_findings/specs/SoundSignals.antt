@@ -1,9 +1,9 @@
 -- What a plan's signals keep on the bus: whatever is written to the others, each reads back what it was last given.
-use Rattle.std.specs.Prelude.{◌≡◌, ◌≢◌, ℕ, ◌<◌, ℤ, List, ◌∷◌, ◌++◌, length, replicate, All}
+use Rattle.std.specs.Prelude.{◌≡◌, ◌≢◌, ℕ, ◌<◌, ℤ, List, ◌∷◌, ◌++◌, length, All}
 use Rattle.std.specs.List.{HoldsAt}
 use Rattle.j39_signal.specs.Bits.{all_ones, raw_of}
 use Rattle.j39_signal.specs.Parts.{SignalParts}
-use Rattle.j39_signal.specs.Laid.{KeepsWrites, Write, Chain, last_payload, given_up}
+use Rattle.j39_signal.specs.Laid.{KeepsWrites, Write, Chain, blank, last_payload, given_up}
 use Rattle.j39_signal.specs.State.{IsRawOf, state_of, value_of}
 use Rattle.j39_signal.specs.declared.state.State.{State}
 use Rattle.j39_signal.specs.declared.state.State.TheVariants.{Value}
@@ -18,22 +18,22 @@ pub record ReadsBack (s : SignalParts) : Type 0 where
   pub values : (value : ℤ) (raw : ℕ) → IsRawOf s value raw → state_of s raw ≡ Value value
   pub given_up : state_of s (all_ones s) ≡ unset_state s
 
--- what a signal reads from a payload of this length in which these writes followed one another, from all bytes 255 on
+-- what a signal reads from a payload of this length in which these writes followed one another, from a blank payload on
 abbrev pub state_after : ℕ → List Write → SignalParts → State
-state_after bytes writes s = state_of s (raw_of (last_payload (replicate bytes 255) writes) s)
+state_after bytes writes s = state_of s (raw_of (last_payload (blank bytes) writes) s)
 
 -- none of the writes is for the signal at this place
 abbrev pub LeaveAlone : List Write → ℕ → Type 0
 LeaveAlone writes place = All (λ w. w.place ≢ place) writes
 
--- Writes that follow one another, from all bytes 255 on. A signal whose last write gave a value reads that value; one
+-- Writes that follow one another, from a blank payload on. A signal whose last write gave a value reads that value; one
 -- whose last write gave it up, or that no write was for, reads as unset.
 pub record ReadsLastGiven (bytes : ℕ) (signals : List SignalParts) : Type 0 where
-  pub given : (before after : List Write) (w : Write) → Chain signals (replicate bytes 255) (before ++ w ∷ after) → LeaveAlone after w.place
+  pub given : (before after : List Write) (w : Write) → Chain signals (blank bytes) (before ++ w ∷ after) → LeaveAlone after w.place
       → (value : ℤ) → HoldsAt (λ s. IsRawOf s value w.raw → state_after bytes (before ++ w ∷ after) s ≡ Value value) signals w.place
-  pub given_up : (before after : List Write) (w : Write) → Chain signals (replicate bytes 255) (before ++ w ∷ after) → LeaveAlone after w.place
+  pub given_up : (before after : List Write) (w : Write) → Chain signals (blank bytes) (before ++ w ∷ after) → LeaveAlone after w.place
       → HoldsAt (λ s. w.raw ≡ all_ones s → state_after bytes (before ++ w ∷ after) s ≡ unset_state s) signals w.place
-  pub never_given : (writes : List Write) (place : ℕ) → Chain signals (replicate bytes 255) writes → LeaveAlone writes place
+  pub never_given : (writes : List Write) (place : ℕ) → Chain signals (blank bytes) writes → LeaveAlone writes place
       → place < length signals → HoldsAt (λ s. state_after bytes writes s ≡ unset_state s) signals place
 
 pub record SoundSignals (plan : Plan) : Type 0 where

@@ -1,6 +1,6 @@
 -- A payload that is written keeps its other signals.
 use Rattle.std.proofs.Common.{◌≡◌, ◌≢◌, ℕ, ℤ, zero, suc, ◌+◌, ◌-◌, ◌*◌, ◌/◌, ◌%◌, ◌^◌, ◌<◌, ◌≤◌, ◌==◌, ◌||◌, true, List, [], ◌∷◌, length}
-use Rattle.std.proofs.Common.{slice_index, slice_index_or, slice_set, replicate, map, sym, refl, ap, ◌∙◌, inl, inr, arith}
+use Rattle.std.proofs.Common.{slice_index, slice_index_or, slice_set, map, sym, refl, ap, ◌∙◌, inl, inr, arith}
 use Rattle.std.specs.Prelude.{nat_lt, IsTrue}
 use Rattle.std.specs.List.{AllPairs}
 use Rattle.std.proofs.lemmas.Bool.{cases_order, or_cases, eqb-true, lt-ltb}
@@ -8,7 +8,7 @@ use Rattle.std.proofs.lemmas.Nat.{pow_pos}
 use Rattle.std.proofs.lemmas.Nat.Bits.{bit_at_ones}
 use Rattle.std.proofs.lemmas.List.{get_or-replicate, get_or-set_same, get_or-set_other, get_or-map, length-set, length-map, length-replicate}
 use Rattle.j39_signal.specs.Bits.{bit, number_at, raw_of, all_ones, Put}
-use Rattle.j39_signal.specs.Laid.{Laid, Write, IsWrittenFrom, Chain, last_payload, last_raws, given_up}
+use Rattle.j39_signal.specs.Laid.{Laid, Write, IsWrittenFrom, Chain, blank, last_payload, last_raws, given_up}
 use Rattle.j39_signal.specs.Parts.{SignalParts}
 use Rattle.j39_signal.specs.Places.{LaysOut, SharesBit, width_fits}
 use Rattle.j39_signal.specs.State.{Ranges, ranges_of, state_in, state_of, value_of, IsRawOf}
@@ -94,17 +94,17 @@ laid_along bytes signals raws payload (w ∷ ws) apart laid chain =
 
 -- ---- a blank payload
 
-blank_bit : (bytes j : ℕ) → j < 8 * bytes → bit (replicate bytes 255) j ≡ 1
+blank_bit : (bytes j : ℕ) → j < 8 * bytes → bit (blank bytes) j ≡ 1
 blank_bit bytes j h =
     ap (λ (b : ℕ). b / 2 ^ (j % 8) % 2) (get_or-replicate bytes (j / 8) 255 0 (omega arith)) ∙ bit_at_ones 8 (j % 8) (omega arith)
 
-blank_number : (bytes start k : ℕ) → start + k ≤ 8 * bytes → number_at (replicate bytes 255) start k ≡ 2 ^ k - 1
+blank_number : (bytes start k : ℕ) → start + k ≤ 8 * bytes → number_at (blank bytes) start k ≡ 2 ^ k - 1
 blank_number bytes start k inside =
-    number_at-same (replicate bytes 255) start (2 ^ k - 1) k (omega (arith, pow_pos k))
+    number_at-same (blank bytes) start (2 ^ k - 1) k (omega (arith, pow_pos k))
     (λ j h. blank_bit bytes (start + j) (omega arith) ∙ sym (bit_at_ones k j h))
 
 -- a blank payload has all ones in each signal
-blank_laid : (bytes : ℕ) (signals : List SignalParts) → LaysOut bytes signals → Laid bytes signals (map all_ones signals) (replicate bytes 255)
+blank_laid : (bytes : ℕ) (signals : List SignalParts) → LaysOut bytes signals → Laid bytes signals (map all_ones signals) (blank bytes)
 blank_laid bytes signals out = record {
   same_length = length-replicate bytes 255;
   counted = length-map signals all_ones;
@@ -115,10 +115,10 @@ blank_laid bytes signals out = record {
 }
 
 pub keeps_writes : (bytes : ℕ) (signals : List SignalParts) → LaysOut bytes signals → (writes : List Write)
-    → Chain signals (replicate bytes 255) writes
-    → Laid bytes signals (last_raws (map all_ones signals) writes) (last_payload (replicate bytes 255) writes)
+    → Chain signals (blank bytes) writes
+    → Laid bytes signals (last_raws (map all_ones signals) writes) (last_payload (blank bytes) writes)
 keeps_writes bytes signals out writes chain =
-    laid_along bytes signals (map all_ones signals) (replicate bytes 255) writes out.apart (blank_laid bytes signals out) chain
+    laid_along bytes signals (map all_ones signals) (blank bytes) writes out.apart (blank_laid bytes signals out) chain
 
 -- ---- what is read
 

@@ -52,13 +52,17 @@ given_up Measured value = Absent
 given_up Discrete value = Absent
 given_up Raw value = Value value
 
+-- a payload in which every bit is 1, so that no signal is available
+abbrev pub blank : ℕ → List ℕ
+blank bytes = replicate bytes 255
+
 -- ---- laws
 
--- every chain of writes that begins with all bytes 255 ends in a payload that holds the raw number last put for each
+-- every chain of writes that begins with a blank payload ends in a payload that holds the raw number last put for each
 -- signal, all ones where there was none
 abbrev pub KeepsWrites : ℕ → List SignalParts → Type 0
-KeepsWrites bytes signals = (writes : List Write) → Chain signals (replicate bytes 255) writes
-    → Laid bytes signals (last_raws (map all_ones signals) writes) (last_payload (replicate bytes 255) writes)
+KeepsWrites bytes signals = (writes : List Write) → Chain signals (blank bytes) writes
+    → Laid bytes signals (last_raws (map all_ones signals) writes) (last_payload (blank bytes) writes)
 
 -- so do all signals that lay out a payload
 abbrev pub LaidOutKeepWrites : Type 0

@@ -1,8 +1,9 @@
 //! Layouts.
-ghost use Rattle.std.specs.Prelude.{◌≡◌, ◌≢◌, ℕ, ◌<◌, length, replicate, All, IfOk, IfErr, IfSome, IfNone, OnOk, OnErr};
+ghost use Rattle.std.specs.Prelude.{◌≡◌, ◌≢◌, ℕ, ◌<◌, length, All, IfOk, IfErr, IfSome, IfNone, OnOk, OnErr};
 ghost use Rattle.std.specs.List.{HoldsAt};
 ghost use Rattle.j39_id.specs.FirstFault.{first_fault};
 ghost use Rattle.j39_signal.specs.Bits.{Put, raw_of, all_ones};
+ghost use Rattle.j39_signal.specs.Laid.{blank};
 ghost use Rattle.j39_signal.specs.Places.{WidthFits, IsInside, SharesBit, LaysOut};
 ghost use Rattle.j39_signal.specs.Refusals.{HasLayoutFault, first_sharer as sharer_of, signal_faults};
 ghost use Rattle.j39_signal.specs.State.{state_of, RefusesValue, WritesValue};
@@ -96,7 +97,7 @@ impl Layout {
 
     /// A payload in which every bit is 1, so that no signal is available.
     pub fn blank(&self, alloc: Global) -> Result<Vec<u8>, AllocError>
-        ensures { IfOk result (λ payload. payload.items ≡ replicate self.now.length 255) }
+        ensures { IfOk result (λ payload. payload.items ≡ blank self.now.length) }
     {
         vec![in alloc; 255; usize::from(self.bytes)]
     }
