@@ -1,8 +1,9 @@
 -- Why a message is not begun.
 use Rattle.std.proofs.Common.{◌≡◌, ℕ, zero, suc, ◌<◌, ◌≤◌, inl, inr, Bool, true, false, not, ◌==◌, List, [], ◌∷◌, length, get_or, refl, sym, ap, ◌∙◌}
 use Rattle.std.proofs.Common.{subst, arith, Option, Some, None, is_some}
-use Rattle.std.proofs.lemmas.Bool.{cases_Bool, eqb-true, true≢false}
+use Rattle.std.proofs.lemmas.Bool.{cases_Bool, eqb-true, not-false, true≢false}
 use Rattle.std.specs.List.{list_all, range_with_len, slice_get}
+use Rattle.j39_id.specs.FirstFault.{first_fault}
 use Rattle.j39_claim.specs.declared.item.Item.{Item}
 use Rattle.j39_queues.specs.Queued.{IsTable, pair_in}
 use Rattle.j39_bus.specs.declared.network.Network.{Network}
@@ -12,7 +13,8 @@ use Rattle.j39_world.specs.Flows.{flows_of, can_be_sent}
 use Rattle.j39_world.specs.declared.flow.Flow.{Flow}
 use Rattle.j39_findings.specs.declared.plan.Plan.{Plan}
 use Rattle.j39_bus.specs.inside.Network.{IsNetwork, IsOfPlan, world_in}
-use Rattle.j39_world.specs.Run.{at_ends, begin_refusal, has_address, is_nothing_undelivered, is_on, refuse_unless}
+use Rattle.j39_world.specs.Run.{at_ends, begin_refusal, begin_refusals, has_address, is_nothing_undelivered, is_on}
+use Rattle.j39_world.proofs.Refusals.{none_hold}
 use Rattle.j39_bus.specs.inside.Traffic.{IsFlow}
 use Rattle.j39_world.specs.World.{World}
 use Rattle.j39_bus.proofs.Opened.{got}
@@ -20,33 +22,18 @@ use Rattle.j39_bus.proofs.Outside.{each_list}
 use Rattle.j39_bus.proofs.Refused.{nowhere}
 use Rattle.j39_bus.proofs.Rested.{all_below}
 
-begin_parts : (a b c d e f : Bool)
-    → refuse_unless a NoSuchFlow (refuse_unless b NotStarted
-    (refuse_unless c NotSettled (refuse_unless d NoAddress (refuse_unless e Busy (refuse_unless f WrongLength None))))) ≡ None → (e ≡ true) × (f ≡ true)
-begin_parts true true true true true true is = (refl, refl)
-begin_parts true true true true true false is = absurd (cc is)
-begin_parts true true true true false f is = absurd (cc is)
-begin_parts true true true false e f is = absurd (cc is)
-begin_parts true true false d e f is = absurd (cc is)
-begin_parts true false c d e f is = absurd (cc is)
-begin_parts false b c d e f is = absurd (cc is)
+not_not : (b : Bool) → b ≡ not (not b)
+not_not true = refl
+not_not false = refl
 
 pub refusal_by : (n : ℕ) (w : World) (flow : Flow) (bytes : List ℕ) (x y a b c d : Bool) → can_be_sent flow ≡ x
-    → at_ends (is_on w) flow.sender flow.to ≡ y → is_nothing_undelivered n w.claims ≡ a → at_ends (has_address w) flow.sender flow.to ≡ b
-    → not (is_some (w.sessions flow.sender)) ≡ c → (length bytes == flow.length) ≡ d
+    → at_ends (is_on w.stations) flow.sender flow.to ≡ y → is_nothing_undelivered n w.claims ≡ a
+    → at_ends (has_address w.stations) flow.sender flow.to ≡ b → not (is_some (w.sessions flow.sender)) ≡ c → (length bytes == flow.length) ≡ d
     → begin_refusal n w (Some flow) bytes
-    ≡ refuse_unless x NoSuchFlow (refuse_unless y NotStarted
-    (refuse_unless a NotSettled (refuse_unless b NoAddress (refuse_unless c Busy (refuse_unless d WrongLength None)))))
-refusal_by n w flow bytes x y a b c d sendable started a_is b_is c_is d_is = λ i.
-    refuse_unless (sendable i) NoSuchFlow
-    (refuse_unless (started i) NotStarted
-    (refuse_unless (a_is i) NotSettled (refuse_unless (b_is i) NoAddress (refuse_unless (c_is i) Busy (refuse_unless (d_is i) WrongLength None)))))
-
-begin_met : (n : ℕ) (w : World) (flow : Flow) (bytes : List ℕ) → begin_refusal n w (Some flow) bytes ≡ None
-    → (not (is_some (w.sessions flow.sender)) ≡ true) × ((length bytes == flow.length) ≡ true)
-begin_met n w flow bytes allowed =
-    begin_parts (can_be_sent flow) (at_ends (is_on w) flow.sender flow.to) (is_nothing_undelivered n w.claims) (at_ends (has_address w) flow.sender flow.to)
-    (not (is_some (w.sessions flow.sender))) (length bytes == flow.length) allowed
+    ≡ first_fault ((NoSuchFlow, not x) ∷ (NotStarted, not y) ∷ (NotSettled, not a) ∷ (NoAddress, not b) ∷ (Busy, not c) ∷ (WrongLength, not d) ∷ [])
+refusal_by n w flow bytes x y a b c d sendable started a_is b_is c_is d_is = λ i. first_fault (
+    (NoSuchFlow, not (sendable i)) ∷ (NotStarted, not (started i)) ∷ (NotSettled, not (a_is i)) ∷ (NoAddress, not (b_is i))
+    ∷ (Busy, (not_not (is_some (w.sessions flow.sender)) ∙ ap not c_is) i) ∷ (WrongLength, not (d_is i)) ∷ [])
 
 -- a message is begun by a flow alone
 pub flow_inside : (n : ℕ) (w : World) (flows : List Flow) (f : ℕ) (bytes : List ℕ) → begin_refusal n w (slice_get flows f) bytes ≡ None → f < length flows
@@ -90,9 +77,10 @@ module _ (net : Network) (well : IsNetwork net) (f : ℕ) (bytes : List ℕ)
 
   pub is_in_length : length bytes ≤ 1785
   is_in_length =
-      let met = begin_met (length net.claimers.items) (world_in nowhere net) flow bytes
+      let (sendable, (on, (told, (addressed, (free, (fits, rest)))))) =
+      none_hold (begin_refusals (length net.claimers.items) (world_in nowhere net) (Some flow) bytes)
       (ap (λ (o : Option Flow). begin_refusal (length net.claimers.items) (world_in nowhere net) o bytes) (sym flow_is) ∙ allowed nowhere) in
-      let same : length bytes ≡ flow.length = eqb-true (length bytes) flow.length met.1 in
+      let same : length bytes ≡ flow.length = eqb-true (length bytes) flow.length (not-false _ fits) in
       omega (arith, same, flow_fits.length)
 
   pub planned_flow : (plan : Plan) → IsOfPlan plan net → slice_get (flows_of plan) f ≡ Some flow

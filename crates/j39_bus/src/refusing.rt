@@ -5,7 +5,8 @@ ghost use Rattle.j39_world.specs.Flows.{can_be_sent};
 ghost use Rattle.j39_bus.specs.Stations.{station_at};
 ghost use Rattle.j39_bus.specs.BusState.{Histories};
 ghost use Rattle.j39_bus.specs.inside.Network.{IsNetwork, refusal_in, world_in};
-ghost use Rattle.j39_world.specs.Run.{at_ends, begin_refusal, both, refuse_unless};
+ghost use Rattle.j39_id.specs.FirstFault.{first_fault};
+ghost use Rattle.j39_world.specs.Run.{at_ends, begin_refusal, has_address, is_on, pair_refusals, unit_refusals};
 ghost use Rattle.j39_bus.specs.inside.Traffic.{IsFlow};
 
 use crate::network::Network;
@@ -46,8 +47,7 @@ impl Network {
 
     // Of a unit that has to be on.
     fn refusal_of_unit(&self, unit: usize) -> Option<StepError>
-        ensures { result ≡ refuse_unless (nat_lt unit (length self.now.claimers.items)) StepError.UnknownUnit
-            (refuse_unless (station_at self.now.claimers.items unit).on StepError.NotStarted None) }
+        ensures { result ≡ first_fault (unit_refusals (length self.now.claimers.items) (station_at self.now.claimers.items) unit) }
     {
         if unit >= self.claimers.len() {
             return Some(StepError::UnknownUnit);
@@ -60,8 +60,7 @@ impl Network {
 
     // Of two units that have to be on.
     fn refusal_of_pair(&self, from: usize, to: usize) -> Option<StepError>
-        ensures { result ≡ refuse_unless (both (λ x. nat_lt x (length self.now.claimers.items)) from to) StepError.UnknownUnit
-            (refuse_unless (both (λ x. (station_at self.now.claimers.items x).on) from to) StepError.NotStarted None) }
+        ensures { result ≡ first_fault (pair_refusals (length self.now.claimers.items) (station_at self.now.claimers.items) from to) }
     {
         let count = self.claimers.len();
         if from >= count || to >= count {
@@ -226,7 +225,7 @@ impl Network {
     /// Whether the sender of a flow is on, and its one receiver.
     fn are_started(&self, flow: &Flow) -> bool
         requires { IsFlow (length self.now.claimers.items) flow.now }
-        ensures { result ≡ at_ends (λ u. (station_at self.now.claimers.items u).on) flow.now.sender flow.now.to }
+        ensures { result ≡ at_ends (is_on (station_at self.now.claimers.items)) flow.now.sender flow.now.to }
     {
         self.claimers[flow.sender].is_started()
             && match flow.to {
@@ -238,7 +237,7 @@ impl Network {
     /// Whether the sender of a flow holds an address, and its one receiver.
     fn have_addresses(&self, flow: &Flow) -> bool
         requires { IsFlow (length self.now.claimers.items) flow.now }
-        ensures { result ≡ at_ends (λ u. is_some (station_at self.now.claimers.items u).address) flow.now.sender flow.now.to }
+        ensures { result ≡ at_ends (has_address (station_at self.now.claimers.items)) flow.now.sender flow.now.to }
     {
         self.claimers[flow.sender].address().is_some()
             && match flow.to {

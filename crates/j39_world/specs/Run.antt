@@ -1,6 +1,7 @@
 -- When a step is refused, where it leads, and runs.
-use Rattle.std.specs.Prelude.{◌≡◌, ℕ, ◌==◌, Bool, true, false, not, ◌&&◌, nat_lt, cond, List, [], ◌∷◌, length, Option, Some, None, MatchBool, is_some}
+use Rattle.std.specs.Prelude.{◌≡◌, ℕ, ◌==◌, Bool, true, false, not, ◌&&◌, ◌||◌, nat_lt, List, [], ◌∷◌, ◌++◌, length, Option, Some, None, MatchBool, is_some}
 use Rattle.std.specs.List.{slice_get, range_with_len, list_all}
+use Rattle.j39_id.specs.FirstFault.{first_fault}
 use Rattle.j39_tp.specs.Receiver.{is_open_at}
 use Rattle.j39_tp.specs.Sender.{next_number}
 use Rattle.j39_tp.specs.declared.sending.stage.Stage.{Stage}
@@ -18,7 +19,7 @@ use Rattle.j39_world.specs.PlannedUnits.{units_of}
 use Rattle.j39_world.specs.Flows.{flows_of, windows_of, can_be_sent}
 use Rattle.j39_world.specs.declared.flow.Flow.{Flow}
 use Rattle.j39_world.specs.Transfers.{Outgoing}
-use Rattle.j39_world.specs.World.{World, Undelivered}
+use Rattle.j39_world.specs.World.{World, Stations, Undelivered}
 use Rattle.j39_world.specs.ClaimSteps.{switched_on, switched_off, asked, GivenFrom}
 use Rattle.j39_world.specs.Resting.{can_rest}
 use Rattle.j39_world.specs.TransferSteps.{BeginsAt, Emits, TakenFrom, LostFrom, SenderTimesOut, receiver_timed_out, rested}
@@ -28,24 +29,41 @@ use Rattle.j39_world.specs.TransferSteps.{BeginsAt, Emits, TakenFrom, LostFrom, 
 abbrev pub count_of : Plan → ℕ
 count_of plan = length plan.units.items
 
--- this holds of one unit, or of two
+-- this holds of both of two units, or of one of them
 abbrev pub both : (ℕ → Bool) → ℕ → ℕ → Bool
 both test u v = test u && test v
 
-abbrev pub is_on : World → ℕ → Bool
-is_on w u = (w.stations u).on
+abbrev pub either : (ℕ → Bool) → ℕ → ℕ → Bool
+either test u v = test u || test v
 
-abbrev pub has_address : World → ℕ → Bool
-has_address w u = is_some (w.stations u).address
+-- none of so many units has this place
+abbrev pub is_unknown : ℕ → ℕ → Bool
+is_unknown count u = not (nat_lt u count)
+
+abbrev pub is_on : Stations → ℕ → Bool
+is_on stations u = (stations u).on
+
+abbrev pub is_off : Stations → ℕ → Bool
+is_off stations u = not (is_on stations u)
+
+abbrev pub has_address : Stations → ℕ → Bool
+has_address stations u = is_some (stations u).address
 
 -- it holds of the sender of a flow and of its one receiver, if it goes to one
 abbrev pub at_ends : (ℕ → Bool) → ℕ → To → Bool
 at_ends test u All = test u
 at_ends test u (One v) = both test u v
 
--- no unit is between its Begin and its Rest
+-- no unit is between its Begin and its Rest, or one is
 abbrev pub is_no_transfer_open : ℕ → World → Bool
 is_no_transfer_open count w = list_all (λ u. not (is_some (w.sessions u))) (range_with_len 0 count)
+
+abbrev pub is_a_transfer_open : ℕ → World → Bool
+is_a_transfer_open count w = not (is_no_transfer_open count w)
+
+-- nothing of this is left to deliver
+abbrev pub is_empty : {X : Type 0} → List X → Bool
+is_empty xs = not (nat_lt 0 (length xs))
 
 -- no claim and no request is undelivered
 abbrev pub is_nothing_undelivered : ℕ → Undelivered → Bool
@@ -63,66 +81,49 @@ abbrev pub is_waiting : Option Outgoing → Bool
 is_waiting None = false
 is_waiting (Some s) = is_waiting_at s.stage
 
--- ---- refusals
+-- ---- refusals, in their order, each with whether it holds
 
--- this cause where the condition doesn't hold, else what else there is
-abbrev pub refuse_unless : Bool → StepError → Option StepError → Option StepError
-refuse_unless holds e more = cond holds more (Some e)
+-- of a unit that has to be on, and of two
+abbrev pub unit_refusals : ℕ → Stations → ℕ → List (StepError × Bool)
+unit_refusals count stations u = (UnknownUnit, is_unknown count u) ∷ (NotStarted, is_off stations u) ∷ []
 
+abbrev pub pair_refusals : ℕ → Stations → ℕ → ℕ → List (StepError × Bool)
+pair_refusals count stations u v = (UnknownUnit, either (is_unknown count) u v) ∷ (NotStarted, either (is_off stations) u v) ∷ []
+
+-- of a message of these bytes by a flow
+abbrev pub begin_refusals : ℕ → World → Option Flow → List ℕ → List (StepError × Bool)
+begin_refusals count w None bytes = (NoSuchFlow, true) ∷ []
+begin_refusals count w (Some flow) bytes =
+    (NoSuchFlow, not (can_be_sent flow))
+    ∷ (NotStarted, not (at_ends (is_on w.stations) flow.sender flow.to))
+    ∷ (NotSettled, not (is_nothing_undelivered count w.claims))
+    ∷ (NoAddress, not (at_ends (has_address w.stations) flow.sender flow.to))
+    ∷ (Busy, is_some (w.sessions flow.sender))
+    ∷ (WrongLength, not (length bytes == flow.length))
+    ∷ []
+
+-- of a step among so many units with these flows; want of memory is none of the world's
+abbrev pub step_refusals : ℕ → List Flow → World → Step → List (StepError × Bool)
+step_refusals count flows w (Up u) =
+    (UnknownUnit, is_unknown count u) ∷ (AlreadyStarted, is_on w.stations u) ∷ (TransferOpen, is_a_transfer_open count w) ∷ []
+step_refusals count flows w (Down u) = unit_refusals count w.stations u ++ (TransferOpen, is_a_transfer_open count w) ∷ []
+step_refusals count flows w (Give u v) =
+    (UnknownUnit, either (is_unknown count) u v) ∷ (NotStarted, is_off w.stations v) ∷ (NothingUndelivered, is_empty (w.claims u v)) ∷ []
+step_refusals count flows w (Ask u) = unit_refusals count w.stations u ++ (TransferOpen, is_a_transfer_open count w) ∷ []
+step_refusals count flows w (Begin f bytes) = begin_refusals count w (slice_get flows f) bytes.items
+step_refusals count flows w (Emit u) = unit_refusals count w.stations u ++ (NothingToSend, not (can_emit (w.sessions u))) ∷ []
+step_refusals count flows w (Take u v) = pair_refusals count w.stations u v ++ (NothingUndelivered, is_empty (w.wire u v)) ∷ []
+step_refusals count flows w (Lose u v) = pair_refusals count w.stations u v ++ (NothingUndelivered, is_empty (w.wire u v)) ∷ []
+step_refusals count flows w (LateSender u) = unit_refusals count w.stations u ++ (NoSession, not (is_waiting (w.sessions u))) ∷ []
+step_refusals count flows w (LateReceiver u v) = pair_refusals count w.stations u v ++ (NoSession, not (is_open_at (w.receivers v u))) ∷ []
+step_refusals count flows w (Rest u) = unit_refusals count w.stations u ++ (CannotRest, not (can_rest count w u)) ∷ []
+
+-- the first that holds
 abbrev pub begin_refusal : ℕ → World → Option Flow → List ℕ → Option StepError
-begin_refusal count w None bytes = Some NoSuchFlow
-begin_refusal count w (Some flow) bytes =
-    refuse_unless (can_be_sent flow) NoSuchFlow (
-    refuse_unless (at_ends (is_on w) flow.sender flow.to) NotStarted (
-    refuse_unless (is_nothing_undelivered count w.claims) NotSettled (
-    refuse_unless (at_ends (has_address w) flow.sender flow.to) NoAddress (
-    refuse_unless (not (is_some (w.sessions flow.sender))) Busy (
-    refuse_unless (length bytes == flow.length) WrongLength None)))))
+begin_refusal count w flow bytes = first_fault (begin_refusals count w flow bytes)
 
--- the first cause in the numbered order for which a step is refused, among so many units with these flows; want of memory is
--- none of the world's
 abbrev pub refusal_among : ℕ → List Flow → World → Step → Option StepError
-refusal_among count flows w (Up u) =
-    refuse_unless (nat_lt u count) UnknownUnit (
-    refuse_unless (not (is_on w u)) AlreadyStarted (
-    refuse_unless (is_no_transfer_open count w) TransferOpen None))
-refusal_among count flows w (Down u) =
-    refuse_unless (nat_lt u count) UnknownUnit (
-    refuse_unless (is_on w u) NotStarted (
-    refuse_unless (is_no_transfer_open count w) TransferOpen None))
-refusal_among count flows w (Give u v) =
-    refuse_unless (both (λ x. nat_lt x count) u v) UnknownUnit (
-    refuse_unless (is_on w v) NotStarted (
-    refuse_unless (nat_lt 0 (length (w.claims u v))) NothingUndelivered None))
-refusal_among count flows w (Ask u) =
-    refuse_unless (nat_lt u count) UnknownUnit (
-    refuse_unless (is_on w u) NotStarted (
-    refuse_unless (is_no_transfer_open count w) TransferOpen None))
-refusal_among count flows w (Begin f bytes) = begin_refusal count w (slice_get flows f) bytes.items
-refusal_among count flows w (Emit u) =
-    refuse_unless (nat_lt u count) UnknownUnit (
-    refuse_unless (is_on w u) NotStarted (
-    refuse_unless (can_emit (w.sessions u)) NothingToSend None))
-refusal_among count flows w (Take u v) =
-    refuse_unless (both (λ x. nat_lt x count) u v) UnknownUnit (
-    refuse_unless (both (is_on w) u v) NotStarted (
-    refuse_unless (nat_lt 0 (length (w.wire u v))) NothingUndelivered None))
-refusal_among count flows w (Lose u v) =
-    refuse_unless (both (λ x. nat_lt x count) u v) UnknownUnit (
-    refuse_unless (both (is_on w) u v) NotStarted (
-    refuse_unless (nat_lt 0 (length (w.wire u v))) NothingUndelivered None))
-refusal_among count flows w (LateSender u) =
-    refuse_unless (nat_lt u count) UnknownUnit (
-    refuse_unless (is_on w u) NotStarted (
-    refuse_unless (is_waiting (w.sessions u)) NoSession None))
-refusal_among count flows w (LateReceiver u v) =
-    refuse_unless (both (λ x. nat_lt x count) u v) UnknownUnit (
-    refuse_unless (both (is_on w) u v) NotStarted (
-    refuse_unless (is_open_at (w.receivers v u)) NoSession None))
-refusal_among count flows w (Rest u) =
-    refuse_unless (nat_lt u count) UnknownUnit (
-    refuse_unless (is_on w u) NotStarted (
-    refuse_unless (can_rest count w u) CannotRest None))
+refusal_among count flows w step = first_fault (step_refusals count flows w step)
 
 abbrev pub refusal : Plan → World → Step → Option StepError
 refusal plan w step = refusal_among (count_of plan) (flows_of plan) w step

@@ -2,7 +2,7 @@
 use Rattle.std.proofs.Common.{◌≡◌, ◌≢◌, ℕ, zero, suc, ◌+◌, ◌<◌, Bool, true, false, cond, not, ◌&&◌, eqb, ltb, inl, inr, List, [], ◌∷◌, ◌++◌, length}
 use Rattle.std.proofs.Common.{map, refl, sym, ap, ◌∙◌, subst, arith, Option, Some, None}
 use Rattle.std.proofs.lemmas.Bool.{MatchBool-at_true, cases_eq, and_from, and_left, and_right, cond_both, cond-true, cond-false, eq-eqb, ne_eqb}
-use Rattle.std.proofs.lemmas.Bool.{lt-ltb, true≢false}
+use Rattle.std.proofs.lemmas.Bool.{lt-ltb, not_from_true, true≢false}
 use Rattle.std.specs.FinSet.{FinSet}
 use Rattle.std.specs.Ordering.{nat_cmp}
 use Rattle.std.specs.List.{list_all, range_with_len, slice_get}
@@ -21,17 +21,16 @@ use Rattle.j39_findings.specs.declared.plan.unit_plan.UnitPlan.{UnitPlan}
 use Rattle.j39_findings.specs.declared.checking.finding.Finding.{Finding}
 use Rattle.j39_findings.specs.declared.steps.Step.{Step}
 use Rattle.j39_findings.specs.declared.steps.Step.TheVariants.{Up, Give}
-use Rattle.j39_world.specs.declared.step_error.StepError.TheVariants.{UnknownUnit, NotStarted, AlreadyStarted, NothingUndelivered, TransferOpen}
 use Rattle.j39_world.specs.PlannedUnits.{planned_unit, units_of, unit_at}
 use Rattle.j39_world.specs.ClaimSteps.{GivenFrom, switched_on, given, told_to_others, without_lists_to, answer_items}
 use Rattle.j39_world.specs.Conflict.{IsLeftWithoutAddress, LeavesWithoutAddress}
-use Rattle.j39_world.specs.Run.{count_of, both, is_on, is_no_transfer_open, refusal, Run, RunsThrough}
+use Rattle.j39_world.specs.Run.{count_of, is_on, is_no_transfer_open, refusal, Run, RunsThrough}
 use Rattle.j39_world.specs.World.{World, Stations, Undelivered, first, changed, changed_pair, is_other_on}
 use Rattle.j39_laws.proofs.Certified.{quiet_where_empty}
 use Rattle.j39_laws.proofs.Settling.SettlingRuns.{answered}
 use Rattle.j39_laws.proofs.Runs.Changed.{IsElsewhere, changed_here, changed_elsewhere, pair_here_or_elsewhere, pair_here, pair_elsewhere}
 use Rattle.j39_laws.proofs.Runs.Always.{follows_to_leads, leads_to_follows}
-use Rattle.j39_laws.proofs.Runs.Conditions.{is_unit, not_refused}
+use Rattle.j39_laws.proofs.Runs.Conditions.{is_unit, none_unknown, not_refused}
 
 -- ---- who is told, where few are on
 
@@ -126,8 +125,7 @@ module _ (plan : Plan) (l s : ℕ) (unit_l : is_unit plan l ≡ true) (unit_s : 
   nothing false xs is = is
 
   up_l : refusal plan first (Up l) ≡ None
-  up_l = not_refused (is_unit plan l) true (is_no_transfer_open (count_of plan) first) UnknownUnit AlreadyStarted TransferOpen unit_l refl
-      (none_open (count_of plan) first (λ u. refl))
+  up_l = not_refused plan first (Up l) (not_from_true _ unit_l, (refl, (not_from_true _ (none_open (count_of plan) first (λ u. refl)), tt)))
 
   one_on : IsOneOn (switched_on (units_of plan) first l)
   one_on =
@@ -143,8 +141,7 @@ module _ (plan : Plan) (l s : ℕ) (unit_l : is_unit plan l ≡ true) (unit_s : 
       }
 
   up_s : (w : World) → IsOneOn w → refusal plan w (Up s) ≡ None
-  up_s w is = not_refused (is_unit plan s) (not (is_on w s)) (is_no_transfer_open (count_of plan) w) UnknownUnit AlreadyStarted TransferOpen
-      unit_s (ap not (is.off s (λ e. apart (sym e)))) (none_open (count_of plan) w is.silent)
+  up_s w is = not_refused plan w (Up s) (not_from_true _ unit_s, (is.off s (λ e. apart (sym e)), (not_from_true _ (none_open (count_of plan) w is.silent), tt)))
 
   still_one : (w : World) → IsOneOn w → (switched_on (units_of plan) w s).stations l ≡ started loser
   still_one w is = changed_elsewhere w.stations s (started winner) l apart ∙ is.one
@@ -167,12 +164,11 @@ module _ (plan : Plan) (l s : ℕ) (unit_l : is_unit plan l ≡ true) (unit_s : 
         told = λ x y elsewhere. no_other_told new mid s items l apart off x y elsewhere ∙ nothing (eqb y s) (w.claims x y) (is.told x y);
       }
 
-  gives : (w : World) (item : Item) (from to : ℕ) → AreTwoOn item from to w → is_unit plan from ≡ true → is_unit plan to ≡ true → is_on w to ≡ true
+  gives : (w : World) (item : Item) (from to : ℕ) → AreTwoOn item from to w → is_unit plan from ≡ true → is_unit plan to ≡ true → is_on w.stations to ≡ true
       → refusal plan w (Give from to) ≡ None
   gives w item from to is unit_from unit_to on_to =
       let some : ltb 0 (length (w.claims from to)) ≡ true = lt-ltb 0 (length (w.claims from to)) (rw is.list (omega arith)) in
-      not_refused (both (is_unit plan) from to) (is_on w to) (ltb 0 (length (w.claims from to))) UnknownUnit NotStarted NothingUndelivered
-      (and_from (is_unit plan from) (is_unit plan to) unit_from unit_to) on_to some
+      not_refused plan w (Give from to) (none_unknown plan from to unit_from unit_to, (not_from_true _ on_to, (not_from_true _ some, tt)))
 
   -- after the oldest item was heard nothing is undelivered
   heard_all : (claims : Undelivered) (from to : ℕ) → ((x y : ℕ) → IsElsewhere from to x y → claims x y ≡ []) → (x y : ℕ)

@@ -2,7 +2,7 @@
 use Rattle.j39_id.specs.Pgn.{is_pdu2}
 use Rattle.std.proofs.Common.{◌≡◌, ◌≢◌, ℕ, Bool, true, false, cond, not, ◌&&◌, ◌||◌, eqb, List, [], ◌∷◌, ◌++◌, length, refl, sym, ap, ◌∙◌, subst}
 use Rattle.std.proofs.Common.{inl, inr, Option, Some, None}
-use Rattle.std.proofs.lemmas.Bool.{cond_both, and_parts, cases_eq, eqb-true, eq-eqb, ne_eqb}
+use Rattle.std.proofs.lemmas.Bool.{cond_both, and_parts, cases_eq, eqb-true, eq-eqb, ne_eqb, not-false}
 use Rattle.std.specs.Prelude.{nat_lt}
 use Rattle.std.specs.Option.{is_some}
 use Rattle.std.specs.List.{filter, list_all, range_with_len}
@@ -23,7 +23,8 @@ use Rattle.j39_world.specs.declared.wired.Wired.TheVariants as wired
 use Rattle.j39_world.specs.Flows.{dest_of, is_short, can_go_to}
 use Rattle.j39_world.specs.declared.flow.Flow.{Flow}
 use Rattle.j39_world.specs.Resting.{can_rest, is_over_with}
-use Rattle.j39_world.specs.Run.{count_of, is_on, at_ends, begin_refusal}
+use Rattle.j39_world.proofs.Refusals.{none_hold}
+use Rattle.j39_world.specs.Run.{count_of, is_on, at_ends, begin_refusal, begin_refusals}
 use Rattle.j39_world.specs.Transfers.{Outgoing, Wire, outcome_in, is_among, added}
 use Rattle.j39_world.specs.TransferSteps.{targets_of, sent_to_receivers, begun_stage, outgoing, first_item, begins, BeginsAt, Emits, SenderTimesOut, rested}
 use Rattle.j39_world.specs.World.{World, changed, is_other_on}
@@ -31,7 +32,7 @@ use Rattle.j39_world.specs.Sound.{reported}
 use Rattle.j39_tp.specs.HonestPackets.{GoesOn}
 use Rattle.j39_laws.proofs.Reports.Orderly.{IsPlanned, PlannedAt, DeliveredBefore, all_delivered, sessions_keep}
 use Rattle.j39_laws.proofs.Runs.Changed.{changed_each}
-use Rattle.j39_laws.proofs.Runs.Conditions.{is_unit, first_holds}
+use Rattle.j39_laws.proofs.Runs.Conditions.{is_unit}
 use Rattle.j39_laws.proofs.Runs.Units.{units_all}
 use Rattle.j39_laws.proofs.Reports.Exchanges.{Pair, pair_of, Message, message_for, message_to, begun_of, IsUnacknowledging, Begins, Exchange}
 use Rattle.j39_laws.proofs.Reports.ExchangeSteps.{begins_keeps, goes_on_keeps, back_keeps}
@@ -133,8 +134,8 @@ other_place x u e same = let is : eqb x u ≡ true = eq-eqb x u same in let no_m
 same_one : (v x : ℕ) → One v ≡ One x → v ≡ x
 same_one v x e = cc e
 
-planned_to : (plan : Plan) (w : World) → ((x : ℕ) → is_on w x ≡ true → is_unit plan x ≡ true) → (flow : Flow) (count : ℕ) (to : To)
-    → at_ends (is_on w) flow.sender to ≡ true → can_go_to flow to ≡ true
+planned_to : (plan : Plan) (w : World) → ((x : ℕ) → is_on w.stations x ≡ true → is_unit plan x ≡ true) → (flow : Flow) (count : ℕ) (to : To)
+    → at_ends (is_on w.stations) flow.sender to ≡ true → can_go_to flow to ≡ true
     → IsPlanned plan flow.sender to (targets_of count w.stations flow.sender to)
 planned_to plan w units flow count All on can = record {
   unit = units flow.sender on;
@@ -144,7 +145,7 @@ planned_to plan w units flow count All on can = record {
   one = λ v e. absurd (cc e);
 }
 planned_to plan w units flow count (One x) on can =
-    let ends = and_parts (is_on w flow.sender) (is_on w x) on in
+    let ends = and_parts (is_on w.stations flow.sender) (is_on w.stations x) on in
     let other = and_parts (not (eqb x flow.sender)) (not (is_pdu2 flow.pgn && is_short flow.length)) can in
     record {
       unit = units flow.sender ends.0;
@@ -153,7 +154,7 @@ planned_to plan w units flow count (One x) on can =
       one = λ v e. ap (λ k. k ∷ []) (same_one x v e);
     }
 
-no_session : (o : Option Outgoing) → not (is_some o) ≡ true → o ≡ None
+no_session : (o : Option Outgoing) → is_some o ≡ false → o ≡ None
 no_session None is = refl
 no_session (Some s) is = absurd (cc is)
 
@@ -161,17 +162,13 @@ module _ (plan : Plan) (w : World) (inv : TransferInvariant plan w) where
   begins_keep : (f : ℕ) (flow : Flow) (bytes : List ℕ) → begin_refusal (count_of plan) w (Some flow) bytes ≡ None
       → TransferInvariant plan (begins (count_of plan) w f flow bytes)
   begins_keep f flow bytes allowed =
-      let sent = first_holds _ _ _ allowed in
-      let on = first_holds _ _ _ sent.1 in
-      let told = first_holds _ _ _ on.1 in
-      let addressed = first_holds _ _ _ told.1 in
-      let free = first_holds _ _ _ addressed.1 in
+      let (sendable, (on, (told, (addressed, (free, rest))))) = none_hold (begin_refusals (count_of plan) w (Some flow) bytes) allowed in
       let o : Outgoing = outgoing (count_of plan) w.stations f flow bytes in
       record {
         order = sessions_keep plan w.stations w.claims w.sessions inv.order flow.sender (Some o)
-            (planned_to plan w inv.order.units flow (count_of plan) flow.to on.0 sent.0)
-            (all_delivered plan w.stations w.claims w.sessions inv.order told.0);
-        exchanges = begun_exchanges w inv.exchanges flow.sender o (first_item flow bytes) (no_session (w.sessions flow.sender) free.0)
+            (planned_to plan w inv.order.units flow (count_of plan) flow.to (not-false _ on) (not-false _ sendable))
+            (all_delivered plan w.stations w.claims w.sessions inv.order (not-false _ told));
+        exchanges = begun_exchanges w inv.exchanges flow.sender o (first_item flow bytes) (no_session (w.sessions flow.sender) free)
             (first_begins flow bytes (message_of o) refl refl) (first_other flow bytes);
         acknowledged = changed_each (λ s (x : Option Outgoing). (t : ℕ) → AckedAt x t (reported w.reports t s)) w.sessions flow.sender (Some o)
             (λ t acked. absurd (stage_unacked flow bytes acked)) inv.acknowledged;

@@ -1,6 +1,6 @@
 -- In each world of a run reports are sound, and acknowledged messages were reported.
 use Rattle.std.proofs.Common.{Some, ◌≡◌, ℕ, Bool, true, false, cond, not, eqb, ltb, List, [], ◌∷◌, length, refl, sym, ap, subst, Option, None}
-use Rattle.std.proofs.lemmas.Bool.{and_parts, true≢false}
+use Rattle.std.proofs.lemmas.Bool.{not-false, true≢false}
 use Rattle.std.specs.Option.{is_some}
 use Rattle.std.specs.Prelude.{slice_get}
 use Rattle.j39_claim.specs.declared.item.Item.{Item}
@@ -25,7 +25,7 @@ use Rattle.j39_laws.proofs.Reports.Reporting.{AckedAt}
 use Rattle.j39_laws.proofs.Reports.SenderSteps.{begin_keeps, emit_keeps, late_sender_keeps, rest_keeps}
 use Rattle.j39_laws.proofs.Reports.TransferInvariant.{AreExchanges, TransferInvariant}
 use Rattle.j39_laws.proofs.Runs.Always.{IsPreserved, always}
-use Rattle.j39_laws.proofs.Runs.Conditions.{is_unit, three_hold}
+use Rattle.j39_laws.proofs.Runs.Conditions.{is_unit, none_refuses, units_known}
 use Rattle.j39_laws.proofs.Runs.Units.{AreUnitsOn, AreBetweenUnits, units_all, units_on, without_lists_empty, told_between}
 
 at_first : (plan : Plan) → TransferInvariant plan first
@@ -119,26 +119,29 @@ module _ (plan : Plan) (w : World) (inv : TransferInvariant plan w) where
 
 steps_keep : (plan : Plan) → IsPreserved plan (TransferInvariant plan)
 steps_keep plan w inv (Up u) allowed new e =
-    let asks = three_hold _ _ _ _ _ _ allowed in
-    subst (TransferInvariant plan) (sym e) (up_keeps plan w inv u asks.0 asks.2)
+    let (known, (off, (idle, none))) = none_refuses plan w (Up u) allowed in
+    subst (TransferInvariant plan) (sym e) (up_keeps plan w inv u (not-false _ known) (not-false _ idle))
 steps_keep plan w inv (Down u) allowed new e =
-    let asks = three_hold _ _ _ _ _ _ allowed in
-    subst (TransferInvariant plan) (sym e) (down_keeps plan w inv u asks.0 asks.2)
+    let (known, (on, (idle, none))) = none_refuses plan w (Down u) allowed in
+    subst (TransferInvariant plan) (sym e) (down_keeps plan w inv u (not-false _ known) (not-false _ idle))
 steps_keep plan w inv (Give u v) allowed new leads =
-    let asks = three_hold _ _ _ _ _ _ allowed in
-    let units = and_parts (is_unit plan u) (is_unit plan v) asks.0 in
-    give_keeps plan w inv u v units.0 units.1 asks.2 (w.claims u v) new leads
+    let (known, (on, (some, none))) = none_refuses plan w (Give u v) allowed in
+    let units = units_known plan u v known in
+    give_keeps plan w inv u v units.0 units.1 (not-false _ some) (w.claims u v) new leads
 steps_keep plan w inv (Ask u) allowed new e =
-    let asks = three_hold _ _ _ _ _ _ allowed in
-    subst (TransferInvariant plan) (sym e) (ask_keeps plan w inv u asks.0 asks.2)
+    let (known, (on, (idle, none))) = none_refuses plan w (Ask u) allowed in
+    subst (TransferInvariant plan) (sym e) (ask_keeps plan w inv u (not-false _ known) (not-false _ idle))
 steps_keep plan w inv (Begin f bytes) allowed new leads = begin_keeps plan w inv f (slice_get (flows_of plan) f) bytes.items allowed new leads
 steps_keep plan w inv (Emit u) allowed new leads = emit_keeps plan w inv u new leads
 steps_keep plan w inv (Take u v) allowed new leads = take_keeps plan w inv (windows_of plan) u v (w.wire u v) refl new leads
 steps_keep plan w inv (Lose u v) allowed new leads = lose_keeps plan w inv u v (w.wire u v) refl new leads
 steps_keep plan w inv (LateSender u) allowed new leads = late_sender_keeps plan w inv u new leads
 steps_keep plan w inv (LateReceiver u v) allowed new e =
-    subst (TransferInvariant plan) (sym e) (late_receiver_keeps plan w inv (windows_of plan) u v (three_hold _ _ _ _ _ _ allowed).2)
-steps_keep plan w inv (Rest u) allowed new e = subst (TransferInvariant plan) (sym e) (rest_keeps plan w inv u (three_hold _ _ _ _ _ _ allowed).2)
+    let (known, (on, (hears, none))) = none_refuses plan w (LateReceiver u v) allowed in
+    subst (TransferInvariant plan) (sym e) (late_receiver_keeps plan w inv (windows_of plan) u v (not-false _ hears))
+steps_keep plan w inv (Rest u) allowed new e =
+    let (known, (on, (over, none))) = none_refuses plan w (Rest u) allowed in
+    subst (TransferInvariant plan) (sym e) (rest_keeps plan w inv u (not-false _ over))
 
 transfers_keep : (plan : Plan) → Always plan (TransferInvariant plan)
 transfers_keep plan = always plan (TransferInvariant plan) (at_first plan) (steps_keep plan)

@@ -1,6 +1,6 @@
 -- What the steps of units that claim addresses keep holds in every world of every run.
 use Rattle.std.proofs.Common.{◌≡◌, ℕ, true, List, [], ◌∷◌, refl, sym, subst, Option, Some, None}
-use Rattle.std.proofs.lemmas.Bool.{and_parts}
+use Rattle.std.proofs.lemmas.Bool.{not-false}
 use Rattle.std.specs.List.{slice_get}
 use Rattle.j39_claim.specs.declared.item.Say.{Say}
 use Rattle.j39_claim.specs.declared.item.Say.TheVariants.{Claim}
@@ -19,7 +19,7 @@ use Rattle.j39_world.specs.ClaimSteps.{GivenFrom, told_to_others, without_lists_
 use Rattle.j39_world.specs.TransferSteps.{BeginsAt, TakenFrom, LostFrom}
 use Rattle.j39_world.specs.Run.{count_of}
 use Rattle.j39_laws.proofs.Runs.Always.{IsPreserved}
-use Rattle.j39_laws.proofs.Runs.Conditions.{is_unit, first_holds}
+use Rattle.j39_laws.proofs.Runs.Conditions.{is_unit, none_refuses, units_known}
 
 -- a property of what units are and what is undelivered between them
 abbrev pub ClaimProperty : Type 1
@@ -76,15 +76,17 @@ module _ (plan : Plan) (Holds : ClaimProperty) (keeps : IsKeptByClaimSteps plan 
   -- ---- each step
 
   pub claim_steps_keep : IsPreserved plan HoldsIn
-  claim_steps_keep w here (Up u) allowed new e = subst HoldsIn (sym e) (keeps.switched_on w.stations w.claims here u (first_holds _ _ _ allowed).0)
+  claim_steps_keep w here (Up u) allowed new e =
+      let (known, more) = none_refuses plan w (Up u) allowed in
+      subst HoldsIn (sym e) (keeps.switched_on w.stations w.claims here u (not-false _ known))
   claim_steps_keep w here (Down u) allowed new e = subst HoldsIn (sym e) (keeps.switched_off w.stations w.claims here u)
   claim_steps_keep w here (Give u v) allowed new leads =
-      let known = first_holds _ _ _ allowed in
-      let units = and_parts (is_unit plan u) (is_unit plan v) known.0 in
-      given_from w here u v units.0 units.1 (first_holds _ _ _ known.1).0 (w.claims u v) refl new leads
+      let (known, (on, more)) = none_refuses plan w (Give u v) allowed in
+      let units = units_known plan u v known in
+      given_from w here u v units.0 units.1 (not-false _ on) (w.claims u v) refl new leads
   claim_steps_keep w here (Ask u) allowed new e =
-      let known = first_holds _ _ _ allowed in
-      subst HoldsIn (sym e) (keeps.asked w.stations w.claims here u known.0 (first_holds _ _ _ known.1).0)
+      let (known, (on, more)) = none_refuses plan w (Ask u) allowed in
+      subst HoldsIn (sym e) (keeps.asked w.stations w.claims here u (not-false _ known) (not-false _ on))
   claim_steps_keep w here (Begin f bytes) allowed new leads = begun w here (count_of plan) f (slice_get (flows_of plan) f) bytes.items new leads
   claim_steps_keep w here (Emit u) allowed new (s, p, session, next, e) = subst HoldsIn (sym e) here
   claim_steps_keep w here (Take u v) allowed new leads = taken w here (windows_of plan) u v (w.wire u v) new leads

@@ -1,6 +1,6 @@
 -- In each world of a run what is undelivered can be delivered, and all deliveries come to an end.
 use Rattle.std.proofs.Common.{◌≡◌, ◌≢◌, ℕ, ◌<◌, ◌≤◌, Bool, true, false, ltb, List, [], ◌∷◌, length, refl, sym, subst, arith, Option, Some, None}
-use Rattle.std.proofs.lemmas.Bool.{and_parts, lt-ltb}
+use Rattle.std.proofs.lemmas.Bool.{and_parts, lt-ltb, not-false, not_from_true}
 use Rattle.std.proofs.lemmas.List.Elements.{All-head, All-tail}
 use Rattle.std.specs.List.{All}
 use Rattle.std.specs.Option.{unwrap_or}
@@ -15,7 +15,6 @@ use Rattle.j39_claim.proofs.Hearing.{lawful_follows}
 use Rattle.j39_findings.specs.declared.plan.Plan.{Plan}
 use Rattle.j39_findings.specs.declared.steps.Step.{Step}
 use Rattle.j39_findings.specs.declared.steps.Step.TheVariants.{Up, Down, Give, Ask, Begin, Emit, Take, Lose, LateSender, LateReceiver, Rest}
-use Rattle.j39_world.specs.declared.step_error.StepError.TheVariants.{UnknownUnit, NotStarted, NothingUndelivered}
 use Rattle.j39_world.specs.PlannedUnits.{units_of, unit_at}
 use Rattle.j39_world.specs.ClaimSteps.{GivenFrom, given}
 use Rattle.j39_world.specs.Opening.{AreNamesDistinct}
@@ -23,7 +22,7 @@ use Rattle.j39_world.specs.Run.{both, is_on, refusal, StepsTo, RunsThrough}
 use Rattle.j39_world.specs.Settling.{IsGive, Settles}
 use Rattle.j39_world.specs.SoundPlan.{Always}
 use Rattle.j39_world.specs.World.{World}
-use Rattle.j39_laws.proofs.Runs.Conditions.{is_unit, three_hold, not_refused}
+use Rattle.j39_laws.proofs.Runs.Conditions.{is_unit, none_refuses, none_unknown, not_refused, units_known}
 use Rattle.j39_laws.proofs.Runs.Units.{in_units, names_differ}
 use Rattle.j39_laws.proofs.Settling.Deliveries.{AreDeliverable, apart, responds, deliverable_steps, deliverable}
 use Rattle.j39_laws.proofs.Settling.Lowered.{lowered}
@@ -45,7 +44,7 @@ answered c s n Request = (Some (claim_of s.address), s, (refl, refl))
 -- ---- a Give that runs through
 
 module _ (plan : Plan) (distinct : AreNamesDistinct (units_of plan)) (w : World) (old : AreDeliverable plan w.stations w.claims) where
-  lowered_from : (u v : ℕ) → is_unit plan u ≡ true → is_unit plan v ≡ true → is_on w v ≡ true → (list : List Item) → w.claims u v ≡ list
+  lowered_from : (u v : ℕ) → is_unit plan u ≡ true → is_unit plan v ≡ true → is_on w.stations v ≡ true → (list : List Item) → w.claims u v ≡ list
       → (new : World) → GivenFrom (units_of plan) w u v list new
       → measure (units_of plan) new.stations new.claims < measure (units_of plan) w.stations w.claims
   lowered_from u v unit_u unit_v on [] is new never = absurd never
@@ -59,21 +58,22 @@ module _ (plan : Plan) (distinct : AreNamesDistinct (units_of plan)) (w : World)
   give_lowers : (u v : ℕ) → refusal plan w (Give u v) ≡ None → (new : World) → StepsTo plan w (Give u v) new
       → measure (units_of plan) new.stations new.claims < measure (units_of plan) w.stations w.claims
   give_lowers u v allowed new leads =
-      let asks = three_hold _ _ _ _ _ _ allowed in
-      let units = and_parts (is_unit plan u) (is_unit plan v) asks.0 in
-      lowered_from u v units.0 units.1 asks.1 (w.claims u v) refl new leads
+      let (known, (on, (some, none))) = none_refuses plan w (Give u v) allowed in
+      let units = units_known plan u v known in
+      lowered_from u v units.0 units.1 (not-false _ on) (w.claims u v) refl new leads
 
   delivers : (u v : ℕ) (list : List Item) → w.claims u v ≡ list → w.claims u v ≢ [] → (after : World) × RunsThrough plan w (Give u v ∷ []) after
   delivers u v [] is some = absurd (some is)
   delivers u v (item ∷ rest) is some =
       let units : both (is_unit plan) u v ≡ true = true_unless (both (is_unit plan) u v) (λ outside. some (old.between u v outside)) in
-      let on : is_on w v ≡ true = true_unless (is_on w v) (λ off. some (old.heard u v off)) in
+      let on : is_on w.stations v ≡ true = true_unless (is_on w.stations v) (λ off. some (old.heard u v off)) in
       let some_items : 0 < length (w.claims u v) = rw is (omega arith) in
       let long : ltb 0 (length (w.claims u v)) ≡ true = lt-ltb 0 (length (w.claims u v)) some_items in
       let (says, s, answers) = answered (unit_at (units_of plan) v) (w.stations v) (unit_at (units_of plan) u).name item in
       let after : World = given (units_of plan) w u v rest says s in
       let leads : GivenFrom (units_of plan) w u v (item ∷ rest) after = (says, s, answers, refl) in
-      let allowed = not_refused (both (is_unit plan) u v) (is_on w v) (ltb 0 (length (w.claims u v))) UnknownUnit NotStarted NothingUndelivered units on long in
+      let parts = and_parts (is_unit plan u) (is_unit plan v) units in
+      let allowed = not_refused plan w (Give u v) (none_unknown plan u v parts.0 parts.1, (not_from_true _ on, (not_from_true _ long, tt))) in
       (after, (after, allowed, subst (λ (xs : List Item). GivenFrom (units_of plan) w u v xs after) (sym is) leads, refl))
     where
       true_unless : (b : Bool) → (b ≡ false → ⊥) → b ≡ true

@@ -1,11 +1,11 @@
 use Rattle.std.proofs.Common.{◌<◌, List, length, subst, sym, ap, arith}
 use Rattle.j39_findings.specs.declared.steps.Step.TheVariants.{Give}
 use Rattle.j39_world.specs.ClaimSteps.{GivenFrom}
-use Rattle.std.proofs.lemmas.Bool.{ltb-true}
+use Rattle.std.proofs.lemmas.Bool.{ltb-true, not-false}
 use Rattle.j39_claim.specs.declared.item.Item.{Item}
 use Rattle.j39_queues.specs.Queued.{pair_in}
 use Rattle.j39_bus.specs.inside.Network.{world_in}
-use Rattle.j39_bus.proofs.Refused.{all_met, nowhere, pair_inside}
+use Rattle.j39_bus.proofs.Refused.{none_refuses, nowhere, pair_inside}
 use Rattle.j39_bus.specs.declared.network.Network.{Network}
 use Rattle.j39_bus.proofs.Steady.{plan_kept, plan_same, steps_after, steps_same}
 use Rattle.j39_bus.proofs.network.Network.give.Goals as goal
@@ -27,8 +27,9 @@ deliver-requires-clause-to g c =
 
 pub deliver-requires-clause-some : goal.deliver-requires-clause-some
 deliver-requires-clause-some g c =
-    let some = (all_met _ _ _ _ _ _ (c.requires.allowed nowhere)).2 in
-    subst (λ (lists : List (List (List Item))). 0 < length (pair_in lists c.args.from c.args.to)) (sym c.reserve.ensures.same.claims) (ltb-true 0 _ some)
+    let (known, (on, (some, none))) = none_refuses c.args.self.now nowhere (Give c.args.from c.args.to) (c.requires.allowed nowhere) in
+    subst (λ (lists : List (List (List Item))). 0 < length (pair_in lists c.args.from c.args.to)) (sym c.reserve.ensures.same.claims)
+    (ltb-true 0 _ (not-false _ some))
 
 pub returns-clause-steps : goal.returns-clause-steps
 returns-clause-steps g c = λ plan of.

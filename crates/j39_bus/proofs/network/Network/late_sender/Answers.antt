@@ -3,7 +3,8 @@ use Rattle.j39_findings.specs.declared.steps.Step.TheVariants.{LateSender}
 use Rattle.j39_bus.specs.Stands.{HoldTaken}
 use Rattle.j39_bus.specs.BusState.{session_at}
 use Rattle.j39_world.specs.Run.{is_waiting}
-use Rattle.j39_bus.proofs.Refused.{all_met, nowhere, unit_inside}
+use Rattle.std.proofs.lemmas.Bool.{not-false}
+use Rattle.j39_bus.proofs.Refused.{none_refuses, nowhere, unit_inside}
 use Rattle.j39_bus.proofs.Steady.{steps_after}
 use Rattle.j39_bus.proofs.network.Network.late_sender.Goals as goal
 
@@ -17,7 +18,8 @@ give_up-requires-clause-unit c =
 
 pub give_up-requires-clause-waits : goal.give_up-requires-clause-waits
 give_up-requires-clause-waits c =
-    ap (λ ts. is_waiting (session_at ts c.args.unit)) c.reserve_along.ensures.same.sessions ∙ (all_met _ _ _ _ _ _ (c.requires.allowed nowhere)).2
+    ap (λ ts. is_waiting (session_at ts c.args.unit)) c.reserve_along.ensures.same.sessions
+    ∙ not-false _ (none_refuses c.args.self.now nowhere (LateSender c.args.unit) (c.requires.allowed nowhere)).1.1.0
 
 pub returns-clause-steps : goal.returns-clause-steps
 returns-clause-steps c = λ plan planned.

@@ -1,7 +1,8 @@
 use Rattle.std.proofs.Common.{length, ◌<◌, refl, arith}
 use Rattle.j39_findings.specs.declared.steps.Step.TheVariants.{Lose}
 use Rattle.j39_bus.proofs.Lost.{lost_from}
-use Rattle.j39_bus.proofs.Refused.{all_met, nowhere, pair_inside}
+use Rattle.std.proofs.lemmas.Bool.{not-false}
+use Rattle.j39_bus.proofs.Refused.{none_refuses, nowhere, pair_inside}
 use Rattle.j39_bus.proofs.Steady.{steps_same, wired_traffic}
 use Rattle.j39_bus.proofs.network.Network.lose.Goals as goal
 
@@ -22,7 +23,8 @@ returns-clause-steps c = λ plan planned.
     let inside : (c.args.from < length c.args.self.now.claimers.items)
     × (c.args.to < length c.args.self.now.claimers.items) = pair_inside _ _ _ _ (c.requires.allowed nowhere) in
     steps_same plan c.args.self.now (Lose c.args.from c.args.to) (record c.args.self.now { wire = c.pop.new.self })
-    (λ h. lost_from c.args.self.now c.args.from c.args.to h (all_met _ _ _ _ _ _ (c.requires.allowed h)).2 c.pop.new.self c.pop.ensures.lists)
+    (λ h. lost_from c.args.self.now c.args.from c.args.to h
+    (not-false _ (none_refuses c.args.self.now h (Lose c.args.from c.args.to) (c.requires.allowed h)).1.1.0) c.pop.new.self c.pop.ensures.lists)
     refl
 
 pub returns-clause-network : goal.returns-clause-network
