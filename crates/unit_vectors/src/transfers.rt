@@ -221,7 +221,17 @@ fn answered(receiver: &mut Receiver, met: Met) -> Result<Answer, PacketError> {
     })
 }
 
-// Receives, and sees each answer on the way, that nothing is open at the end, and the bytes that came whole.
+// How many bytes the message has that is then complete.
+fn completed(receiver: &Receiver, met: Met) -> Result<Option<u16>, PacketError> {
+    Ok(match met {
+        Met::Late | Met::Sends => None,
+        Met::Heard(bytes) => receiver
+            .completes(&packet_of(&bytes)?)
+            .map(|size| size.bytes()),
+    })
+}
+
+// Receives, and sees before each answer whether it completes the message, that nothing is open at the end, and the bytes that came whole.
 fn receives(
     rt: &impl Abort,
     mut receiver: Receiver,
@@ -229,6 +239,11 @@ fn receives(
     bytes: &[u8],
 ) -> Result<(), Fail> {
     for (met, answer) in turns {
+        let is_whole = matches!(answer, Answer::Complete | Answer::CompletePacket(_));
+        assert_eq!(rt;
+            completed(&receiver, *met)?,
+            if is_whole { Some(17) } else { None }
+        );
         assert_eq!(rt; answered(&mut receiver, *met)?, *answer);
     }
     assert!(rt; !receiver.is_open());
