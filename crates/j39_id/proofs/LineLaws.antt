@@ -105,7 +105,7 @@ separator_not_digit c h s =
 hash_not_digit : (c : ℕ) → is_hex_digit c ≡ true → is_hash c ≡ true → ⊥
 hash_not_digit c h e = let k : c ≡ 35 = eqb-true c 35 e in true≢false (sym (rw k at h))
 
-digit_is_whole : (c : ℕ) → is_hex_digit c ≡ true → is_separator c ≡ false
+pub digit_is_whole : (c : ℕ) → is_hex_digit c ≡ true → is_separator c ≡ false
 digit_is_whole c h = false_from_ne_true (is_separator c) (separator_not_digit c h)
 
 digit_no_hash : (c : ℕ) → is_hex_digit c ≡ true → is_hash c ≡ false
@@ -283,15 +283,6 @@ canon_spells n p h room bytes =
       },
     )
 
--- what the last word of a line is read as is the frame that the line spells
-pub only_reading : (line w : List ℕ) (r : Result Frame LineError) → IsLastWord line w
-    → IfOk r (λ f. WordSpells w (bits f.ident) f.payload.items) → IfErr r (λ e. IsFirstFault w e)
-    → (f : Frame) → Spells line f → r ≡ Ok f
-only_reading line w (Ok g) last ok err f x =
-    let same = one_frame line (bits g.ident) (bits f.ident) g.payload.items f.payload.items (w, last, ok) x in
-    ap Ok (same_frame g f same.0 same.1)
-only_reading line w (Err e) last ok err f x = absurd (fault_of_other line w (bits f.ident) f.payload.items e x last err)
-
 -- a line spells one frame
 pub one_spelled : (line : List ℕ) (f g : Frame) → Spells line f → Spells line g → f ≡ g
 one_spelled line f g x y =
@@ -301,3 +292,9 @@ one_spelled line f g x y =
 -- a line that spells a frame has no fault
 pub not_both : (line : List ℕ) (f : Frame) (e : LineError) → Spells line f → HasLineFault line e → ⊥
 not_both line f e x h = spelled_not_refused line (bits f.ident) f.payload.items e x h
+
+-- what a line is read as is the frame that it spells
+pub only_reading : (line : List ℕ) (r : Result Frame LineError) → IfOk r (λ f. Spells line f) → IfErr r (λ e. HasLineFault line e)
+    → (f : Frame) → Spells line f → r ≡ Ok f
+only_reading line (Ok g) ok err f x = ap Ok (one_spelled line g f ok x)
+only_reading line (Err e) ok err f x = absurd (not_both line f e x err)

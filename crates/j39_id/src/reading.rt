@@ -6,6 +6,8 @@ ghost use Rattle.hex.specs.Hex.{decode_of, is_hex_digit};
 ghost use Rattle.j39_id.specs.Ident.{bits};
 ghost use Rattle.j39_id.specs.FrameLine.{is_separator as separates, IsLastWord, is_hash, identifier_in, payload_digits, IsFirstFault, WordSpells, Spells};
 ghost use Rattle.j39_id.specs.FrameLine.{HasLineFault};
+ghost use Rattle.j39_id.specs.Limits.{frame_bytes};
+ghost use Rattle.j39_id.specs.inside.LineEnd.{MayBeginAt};
 
 use crate::hex_digits::decode_digits;
 use crate::limits::FRAME_BYTES;
@@ -124,6 +126,64 @@ fn read_word(word: &[u8]) -> Result<Frame, LineError>
     Ok(Frame { ident, payload })
 }
 
+// Where the last word of a line begins, if it has the length and the hash of a frame of so many bytes.
+#[inline(always)]
+fn start_before(line: &[u8], bytes: usize) -> Option<usize>
+    requires { bytes ≤ frame_bytes }
+    ensures { IfSome result (MayBeginAt line.now) }
+{
+    let length = 9 + 2 * bytes;
+    if line.len() < length || line[line.len() - length + 8] != b'#' {
+        return None;
+    }
+    let start = line.len() - length;
+    if start > 0 && !is_separator(line[start - 1]) {
+        return None;
+    }
+    Some(start)
+}
+
+// Where the last word of a line begins, if it has the length and the hash of a frame.
+#[inline(always)]
+fn likely_start(line: &[u8]) -> Option<usize>
+    ensures { IfSome result (MayBeginAt line.now) }
+{
+    let mut bytes = FRAME_BYTES;
+    loop {
+        if let Some(start) = start_before(line, bytes) {
+            return Some(start);
+        }
+        if bytes == 0 {
+            return None;
+        }
+        bytes -= 1;
+    }
+}
+
+// The frame that the end of a line spells, read without a look for its last word: most lines of a log end so.
+#[inline(always)]
+fn read_end(line: &[u8]) -> Option<Frame>
+    ensures { IfSome result (λ f. Spells line.now f) }
+{
+    let start = likely_start(line)?;
+    let ident = read_ident(&line[start..start + 8])?;
+    let payload = read_payload(&line[start + 9..])?;
+    Some(Frame { ident, payload })
+}
+
+// The frame that the last word of a line spells.
+#[cold]
+#[inline(never)]
+fn read_last_word(line: &[u8]) -> Result<Frame, LineError>
+    ensures found { IfOk result (λ f. Spells line.now f) }
+    ensures refused { IfErr result (λ e. HasLineFault line.now e) }
+{
+    let Some(word) = last_word(line) else {
+        return Err(LineError::Empty);
+    };
+    read_word(word)
+}
+
 /// The frame that the last word of a line spells, as `candump -L` writes it: eight hex digits, `#` and two hex digits a
 /// byte, in either case. Words are parted by spaces, tabs and carriage returns, and those before the last may be any bytes.
 ///
@@ -136,8 +196,8 @@ pub fn read_frame(line: &[u8]) -> Result<Frame, LineError>
     // A line that spells a frame is read as that frame.
     ensures only { (f : Frame) → Spells line.now f → result ≡ Ok f }
 {
-    let Some(word) = last_word(line) else {
-        return Err(LineError::Empty);
-    };
-    read_word(word)
+    match read_end(line) {
+        Some(frame) => Ok(frame),
+        None => read_last_word(line),
+    }
 }

@@ -1,9 +1,9 @@
-use Rattle.j39_id.proofs.LineLaws.{not_blank, only_reading}
+use Rattle.std.proofs.Common.{Ok, ap}
+use Rattle.j39_id.proofs.LineLaws.{one_spelled, only_reading}
 use Rattle.j39_id.proofs.reading.read_frame.Goals as goal
 
-pub returns-clause-only : goal.returns-clause-only
-returns-clause-only c =
-    only_reading c.args.line.now c.in-Some.word.now c.read_word.result c.in-Some.ensures.found c.read_word.ensures.found c.read_word.ensures.refused
+pub returns-in-Some-clause-only : goal.returns-in-Some-clause-only
+returns-in-Some-clause-only c = λ f x. ap Ok (one_spelled c.args.line.now c.in-Some.frame f c.in-Some.ensures x)
 
-pub returns-in_default-clause-only : goal.returns-in_default-clause-only
-returns-in_default-clause-only c = λ f x. absurd (not_blank c.args.line.now x.0 x.1 c.in_default.ensures.none)
+pub returns-in-None-clause-only : goal.returns-in-None-clause-only
+returns-in-None-clause-only c = only_reading c.args.line.now c.read_last_word.result c.read_last_word.ensures.found c.read_last_word.ensures.refused
