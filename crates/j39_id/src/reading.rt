@@ -63,6 +63,18 @@ fn read_ident(digits: &[u8]) -> Option<Ident>
     Ident::from_bits(u32::from_be_bytes(bytes))
 }
 
+// The bytes of a full frame, which pairs of digits spell.
+#[inline(always)]
+fn read_full(text: &[u8]) -> Option<[u8; FRAME_BYTES]>
+    requires { length text.now ≡ payload_digits }
+    ensures found { IfSome result (λ bytes. decode_of text.now ≡ Ok bytes) }
+    ensures only { IsSome result ↔ IsOk (decode_of text.now) }
+{
+    let mut bytes = [0; FRAME_BYTES];
+    decode_digits(text, &mut bytes).ok()?;
+    Some(bytes)
+}
+
 // The bytes that pairs of digits spell.
 #[inline(always)]
 fn read_payload(text: &[u8]) -> Option<ArrayVec<u8, FRAME_BYTES>>
@@ -70,6 +82,9 @@ fn read_payload(text: &[u8]) -> Option<ArrayVec<u8, FRAME_BYTES>>
     ensures found { IfSome result (λ payload. decode_of text.now ≡ Ok payload.items) }
     ensures only { IsSome result ↔ IsOk (decode_of text.now) }
 {
+    if text.len() == 2 * FRAME_BYTES {
+        return Some(ArrayVec::from(read_full(text)?));
+    }
     let mut bytes = [0; FRAME_BYTES];
     let count = text.len() / 2;
     decode_digits(text, &mut bytes[..count]).ok()?;
@@ -160,20 +175,8 @@ fn likely_start(line: &[u8]) -> Option<usize>
     }
 }
 
-// The frame that the end of a line spells, read without a look for its last word: most lines of a log end so.
-#[inline(always)]
-fn read_end(line: &[u8]) -> Option<Frame>
-    ensures { IfSome result (λ f. Spells line.now f) }
-{
-    let start = likely_start(line)?;
-    let ident = read_ident(&line[start..start + 8])?;
-    let payload = read_payload(&line[start + 9..])?;
-    Some(Frame { ident, payload })
-}
-
 // The frame that the last word of a line spells.
-#[cold]
-#[inline(never)]
+#[inline(always)]
 fn read_last_word(line: &[u8]) -> Result<Frame, LineError>
     ensures found { IfOk result (λ f. Spells line.now f) }
     ensures refused { IfErr result (λ e. HasLineFault line.now e) }
@@ -196,8 +199,11 @@ pub fn read_frame(line: &[u8]) -> Result<Frame, LineError>
     // A line that spells a frame is read as that frame.
     ensures only { (f : Frame) → Spells line.now f → result ≡ Ok f }
 {
-    match read_end(line) {
-        Some(frame) => Ok(frame),
-        None => read_last_word(line),
+    if let Some(start) = likely_start(line)
+        && let Some(ident) = read_ident(&line[start..start + 8])
+        && let Some(payload) = read_payload(&line[start + 9..])
+    {
+        return Ok(Frame { ident, payload });
     }
+    read_last_word(line)
 }
