@@ -1,7 +1,7 @@
 -- A new bus stands for the first world.
-use Rattle.std.proofs.Common.{◌≡◌, ℕ, zero, suc, ◌<◌, ◌≤◌, List, [], ◌∷◌, length, map, get_or, replicate, refl, sym, ap, ◌∙◌, subst, arith, Option, Some, None}
+use Rattle.std.proofs.Common.{◌≡◌, ℕ, zero, suc, ◌+◌, ◌<◌, ◌≤◌, List, [], ◌∷◌, ◌++◌, length, map, take, get_or, replicate, refl, sym, ap, ◌∙◌, subst, arith, Option, Some, None}
 use Rattle.std.proofs.lemmas.Bool.{true≢false}
-use Rattle.std.proofs.lemmas.List.{length-replicate}
+use Rattle.std.proofs.lemmas.List.{length-replicate, map_more}
 use Rattle.std.specs.List.{slice_get}
 use Rattle.std.specs.Option.{is_some}
 use Rattle.std.specs.Ordering.{nat_cmp}
@@ -46,6 +46,16 @@ well_opened kept units few cs lists cs_is table = record {
       (sym h ∙ ap is_some (ap (λ (s : ClaimState). get s.notes n) (ap (λ (l : List ClaimerValue). station_at l v) cs_is ∙ station_unstarted kept units v)
       ∙ get-empty nat_cmp n)));
 }
+
+-- one more of what is made of each
+pub mapped_more : {X Y : Type 0} (f : X → Y) (xs : List X) (k : ℕ) (x : X) → k < length xs → (old new : List Y) (y : Y) → new ≡ old ++ y ∷ []
+    → old ≡ map f (take k xs) → y ≡ f (get_or xs k x) → new ≡ map f (take (k + 1) xs)
+mapped_more f xs k x inside old new y added was is = added ∙ (λ i. was i ++ is i ∷ []) ∙ sym (map_more f xs k x inside)
+
+-- one more of the same
+pub replicate_more : {X : Type 0} (n : ℕ) (x : X) → replicate n x ++ x ∷ [] ≡ replicate (suc n) x
+replicate_more zero x = refl
+replicate_more (suc n) x = ap (λ xs. x ∷ xs) (replicate_more n x)
 
 -- no unit sends anything
 pub none_sent : (n u : ℕ) → session_at (replicate n None) u ≡ None
