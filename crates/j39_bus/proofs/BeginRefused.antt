@@ -4,6 +4,7 @@ use Rattle.std.proofs.Common.{subst, arith, Option, Some, None, is_some}
 use Rattle.std.proofs.lemmas.Bool.{cases_Bool, eqb-true, not-false, true≢false}
 use Rattle.std.specs.List.{list_all, range_with_len, slice_get}
 use Rattle.j39_id.specs.FirstFault.{first_fault}
+use Rattle.j39_id.specs.Limits.{message_bytes}
 use Rattle.j39_claim.specs.declared.item.Item.{Item}
 use Rattle.j39_queues.specs.Queued.{IsTable, pair_in}
 use Rattle.j39_bus.specs.declared.network.Network.{Network}
@@ -75,7 +76,7 @@ module _ (net : Network) (well : IsNetwork net) (f : ℕ) (bytes : List ℕ)
   pub flow_fits : IsFlow (length net.claimers.items) flow
   flow_fits = subst (IsFlow (length net.claimers.items)) (sym at) (well.traffic.flows f flow inside)
 
-  pub is_in_length : length bytes ≤ 1785
+  pub is_in_length : length bytes ≤ message_bytes
   is_in_length =
       let (sendable, (on, (told, (addressed, (free, (fits, rest)))))) =
       none_hold (begin_refusals (length net.claimers.items) (world_in nowhere net) (Some flow) bytes)
