@@ -3,6 +3,7 @@ ghost use Rattle.std.specs.Prelude.{◌<◌};
 
 use arrayvec::ArrayVec;
 use j39_id::addresses::{GLOBAL_ADDRESS, NULL_ADDRESS, is_in_pool};
+use j39_id::proprietary::is_proprietary;
 use j39_id::{
     Address, Cut, Cutter, Frame, Ident, Label, Name, NameError, NameField, NameFields, Pgn,
     a_cutter_tells_the_lines, canonical_text_spells, names_and_bytes_are_inverse, one_reading,
@@ -65,6 +66,13 @@ fn the_standard_has_these_numbers(rt: HostRuntime) {
         assert!(rt; services::is_service(*number));
     }
     assert!(rt; !services::is_service(59905));
+    let numbers = [
+        61183, 61184, 65279, 65280, 65535, 126_720, 130_815, 130_816, 131_071,
+    ];
+    assert_eq!(rt;
+        numbers.map(|number| is_proprietary(number)),
+        [false, true, false, true, true, true, false, true, true]
+    );
     let in_pool = [127, 128, 247, 248].map(|number| is_in_pool(number));
     assert_eq!(rt; in_pool, [false, true, true, false]);
 }
