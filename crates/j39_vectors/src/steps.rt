@@ -1,8 +1,8 @@
-//! Steps as lines of a schedule.
+//! Steps as lines of a schedule, and the units that such lines name.
 
 use crate::rows::CHECK_OF_A_PLAN;
 use j39_plan::{Step, read_plan};
-use j39_schedule::write_steps;
+use j39_schedule::{UnitIndex, write_steps};
 use j39_text::TextBuffer;
 use std::test::Fail;
 
@@ -17,6 +17,18 @@ const LINES: &str = "  up A
   late A
   late A B
   rest A
+";
+
+// Two labels of one checksum.
+const ALIKE: &str = "version = 1
+[[unit]]
+label = \"Aa\"
+address = 0
+name = { identity = 1 }
+[[unit]]
+label = \"BB\"
+address = 1
+name = { identity = 2 }
 ";
 
 #[test]
@@ -39,5 +51,22 @@ fn each_step_has_its_line(rt: HostRuntime) -> Result<(), Fail> {
     let mut text = TextBuffer::new(alloc);
     write_steps(&mut text, &plan, steps.as_slice())?;
     assert!(rt; text.as_slice() == LINES.as_bytes());
+    Ok(())
+}
+
+#[test]
+fn units_are_found_by_their_labels(rt: HostRuntime) -> Result<(), Fail> {
+    let plan = read_plan(rt.alloc(), ALIKE.as_bytes())?;
+    let index = UnitIndex::new(rt.alloc(), &plan)?;
+    for (label, place) in [
+        ("Aa", Some(0)),
+        ("BB", Some(1)),
+        ("C#", None),
+        ("A", None),
+        ("Aaa", None),
+        ("", None),
+    ] {
+        assert_eq!(rt; index.find(&plan, label.as_bytes()), place, "at {label}");
+    }
     Ok(())
 }
