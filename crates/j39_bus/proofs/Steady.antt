@@ -4,7 +4,7 @@ use Rattle.std.proofs.Math.Path.{transport}
 use Rattle.j39_findings.specs.declared.plan.Plan.{Plan}
 use Rattle.j39_findings.specs.declared.steps.Step.{Step}
 use Rattle.j39_bus.specs.declared.network.Network.{Network}
-use Rattle.j39_queues.specs.Queued.{IsTable}
+use Rattle.j39_queues.specs.Queued.{IsTable, pair_in}
 use Rattle.j39_world.specs.declared.flow.Flow.{Flow}
 use Rattle.j39_world.specs.Transfers.{Outgoing}
 use Rattle.j39_world.specs.declared.wired.Wired.{Wired}
@@ -12,9 +12,11 @@ use Rattle.j39_bus.proofs.Wires.{as_table}
 use Rattle.j39_bus.specs.BusState.{Histories, ReceiverTable, world_of}
 use Rattle.j39_bus.specs.Reports.{reported_of}
 use Rattle.j39_bus.specs.Stands.{HoldTaken}
-use Rattle.j39_bus.specs.inside.Network.{HasHeld, HasStepped, IsOfPlan, IsSameNetwork, KeepsPlan, planned_units, state_of, world_in}
+use Rattle.j39_bus.specs.inside.Network.{HasHeld, HasStepped, IsNetwork, IsOfPlan, IsSameNetwork, IsWellFormed, KeepsPlan}
+use Rattle.j39_bus.specs.inside.Network.{TakesOldest, planned_units, state_of, world_in}
 use Rattle.j39_bus.specs.inside.Traffic.{IsTraffic}
 use Rattle.j39_world.specs.Sent.{sent_of}
+use Rattle.j39_world.specs.TransferSteps.{TakenFrom}
 use Rattle.j39_world.specs.World.{World}
 use Rattle.j39_world.specs.Run.{StepsTo}
 
@@ -28,6 +30,14 @@ plan_kept old new plan keeps of = record {
   units = keeps.planned_units ∙ of.units;
   flows = keeps.flows ∙ of.flows;
   windows = keeps.windows ∙ of.windows;
+}
+
+-- one change after another
+pub plan_then : (old mid new : Network) → KeepsPlan old mid → KeepsPlan mid new → KeepsPlan old new
+plan_then old mid new first next = record {
+  planned_units = next.planned_units ∙ first.planned_units;
+  flows = next.flows ∙ first.flows;
+  windows = next.windows ∙ first.windows;
 }
 
 -- ---- a network of which nothing that is seen has changed
@@ -57,6 +67,21 @@ module _ (old new : Network) (same : IsSameNetwork old new) where
   steps_after plan step after steps h held =
       let (next, goes, has) = steps h (held_same h held) in
       (next, subst (λ (w : World). StepsTo plan w step (world_in next after)) (world_same h) goes, has)
+
+  pub takes_after : (u v : ℕ) (after : Network) → TakesOldest new u v after → TakesOldest old u v after
+  takes_after u v after takes h held =
+      let (next, taken, has) = takes h (held_same h held) in (
+        next,
+        transport (λ i. TakenFrom (same.receivers i).windows (world_same h i) u v (pair_in (same.wire i) u v) (world_in next after)) taken,
+        has,
+      )
+
+  pub network_same : IsNetwork old → IsNetwork new
+  network_same well = record {
+    claims = transport (λ i. IsWellFormed (sym same.claimers i) (sym same.claims i)) well.claims;
+    traffic = transport
+        (λ i. IsTraffic (length (sym same.claimers i)) (sym same.flows i) (sym same.sessions i) (sym same.wire i) (sym same.receivers i)) well.traffic;
+  }
 
 -- ---- only claims and frames have changed
 

@@ -1,5 +1,5 @@
-use Rattle.std.proofs.Common.{◌≡◌, ℕ, ◌<◌, ◌∷◌, [], ◌++◌, All, length, get_or, refl, ap, sym, ◌∙◌, subst, arith}
-use Rattle.std.proofs.lemmas.List.{map_more}
+use Rattle.std.proofs.Common.{◌≡◌, ℕ, ◌<◌, ◌≤◌, All, length, map, get_or, refl, ap, sym, ◌∙◌, subst, arith}
+use Rattle.std.proofs.lemmas.List.{take_all}
 use Rattle.std.proofs.lemmas.List.Elements.{All-push}
 use Rattle.j39_findings.specs.declared.plan.flow_plan.FlowPlan.{FlowPlan}
 use Rattle.j39_findings.specs.declared.plan.to.To.{To}
@@ -7,6 +7,8 @@ use Rattle.j39_findings.specs.declared.plan.to.To.TheVariants.{All as ToAll, One
 use Rattle.j39_world.specs.Flows.{flow_of}
 use Rattle.j39_world.specs.declared.flow.Flow.{Flow}
 use Rattle.j39_bus.specs.inside.Traffic.{IsInside, IsFlow}
+use Rattle.j39_bus.proofs.Opened.{mapped_more}
+use Rattle.j39_findings.specs.PlannedGroups.{IsSendable}
 use Rattle.j39_bus.proofs.flows.flows_of.Goals as goal
 
 inside_by : (n : ℕ) (to : To) → ((v : ℕ) → to ≡ One v → v < n) → IsInside n to
@@ -34,8 +36,21 @@ loop-flow-preserved c =
       priority = c.flow_of.ensures.priority;
     } in
     record {
-      flows = c.in_ok-push.ensures.items
-          ∙ (λ i. c.loop-flow.invariant.flows i ++ flow i ∷ []) ∙ sym (map_more (flow_of plan.groups.items) xs k d inside);
+      flows = mapped_more (flow_of plan.groups.items) xs k d inside c.loop-flow.flows.items c.push.new.self.items c.flow_of.result
+          c.in_ok-push.ensures.items c.loop-flow.invariant.flows flow;
       fit = subst (All (IsFlow n)) (sym c.in_ok-push.ensures.items)
           (All-push (IsFlow n) c.loop-flow.flows.items c.flow_of.result c.loop-flow.invariant.fit fits);
     }
+
+pub flow_of-requires-clause-groups : goal.flow_of-requires-clause-groups
+flow_of-requires-clause-groups c = subst (All IsSendable) (sym c.as_slice.ensures.value) c.requires
+
+pub returns-clause-flows : goal.returns-clause-flows
+returns-clause-flows c =
+    let plan = c.args.plan.now in
+    let xs = c.deref-flow-items.result.now in
+    let past : length xs ≤ c.loop-flow.flow-index = omega arith in
+    c.loop-flow.invariant.flows ∙ ap (map (flow_of plan.groups.items)) (take_all c.loop-flow.flow-index xs past ∙ c.deref-flow-items.ensures.value)
+
+pub returns-clause-fit : goal.returns-clause-fit
+returns-clause-fit c = c.loop-flow.invariant.fit

@@ -1,8 +1,9 @@
-use Rattle.std.proofs.Common.{◌≡◌, ◌<◌, ◌≤◌, ◌∷◌, [], ◌++◌, All, length, take, map, ap, sym, ◌∙◌, subst, arith, inl, inr}
+use Rattle.std.proofs.Common.{◌<◌, ◌≤◌, All, length, map, ap, sym, ◌∙◌, subst, arith, inl, inr}
 use Rattle.std.proofs.lemmas.Bool.{cases_lt}
-use Rattle.std.proofs.lemmas.List.{get_or_past, map_more, take_all}
+use Rattle.std.proofs.lemmas.List.{get_or_past, take_all}
 use Rattle.std.proofs.lemmas.List.Elements.{All-push}
 use Rattle.j39_findings.specs.declared.plan.unit_plan.UnitPlan.{UnitPlan}
+use Rattle.j39_bus.proofs.Opened.{mapped_more}
 use Rattle.j39_bus.proofs.receivers.windows_of.Goals as goal
 
 pub loop-unit-preserved : goal.loop-unit-preserved
@@ -12,8 +13,8 @@ loop-unit-preserved c =
     let inside : c.loop-unit.unit-index < length units = omega arith in
     let added = c.in_ok-push.ensures.items in
     record {
-      windows = added ∙ (λ i. c.loop-unit.invariant.windows i ++ (c.unit-item.is i).window ∷ [])
-          ∙ sym (map_more (λ (p : UnitPlan). p.window) units c.loop-unit.unit-index unit inside);
+      windows = mapped_more (λ (p : UnitPlan). p.window) units c.loop-unit.unit-index unit inside c.loop-unit.windows.items c.push.new.self.items unit.window
+          added c.loop-unit.invariant.windows (ap (λ (p : UnitPlan). p.window) c.unit-item.is);
       positive = subst (All (λ k. 0 < k)) (sym added)
           (All-push (λ k. 0 < k) c.loop-unit.windows.items unit.window c.loop-unit.invariant.positive unit.window_positive);
     }

@@ -117,3 +117,111 @@ rest-requires-clause-allowed g c = subst (IsAllowed c.args.self.now) c.in-Rest.i
 pub returns-in-Rest-clause-steps : goal.returns-in-Rest-clause-steps
 returns-in-Rest-clause-steps g c = subst (λ (s : Step). (plan : Plan) → IsOfPlan plan c.args.self.now → HasStepped plan c.args.self.now s c.rest.new.self)
     (sym c.in-Rest.is) c.rest.ensures.steps
+
+pub returns-in-Down-clause-memory : goal.returns-in-Down-clause-memory
+returns-in-Down-clause-memory g c = tt
+
+pub returns-in-Down-clause-same : goal.returns-in-Down-clause-same
+returns-in-Down-clause-same g c = tt
+
+pub returns-in-Lose-clause-memory : goal.returns-in-Lose-clause-memory
+returns-in-Lose-clause-memory g c = tt
+
+pub returns-in-Lose-clause-same : goal.returns-in-Lose-clause-same
+returns-in-Lose-clause-same g c = tt
+
+pub returns-in-Rest-clause-memory : goal.returns-in-Rest-clause-memory
+returns-in-Rest-clause-memory g c = tt
+
+pub returns-in-Rest-clause-same : goal.returns-in-Rest-clause-same
+returns-in-Rest-clause-same g c = tt
+
+pub returns-in-Up-clause-network : goal.returns-in-Up-clause-network
+returns-in-Up-clause-network g c = c.up.ensures.network
+
+pub returns-in-Up-clause-plan : goal.returns-in-Up-clause-plan
+returns-in-Up-clause-plan g c = c.up.ensures.plan
+
+pub returns-in-Up-clause-same : goal.returns-in-Up-clause-same
+returns-in-Up-clause-same g c = c.up.ensures.same
+
+pub returns-in-Down-clause-network : goal.returns-in-Down-clause-network
+returns-in-Down-clause-network g c = c.down.ensures.network
+
+pub returns-in-Down-clause-plan : goal.returns-in-Down-clause-plan
+returns-in-Down-clause-plan g c = c.down.ensures.plan
+
+pub returns-in-Give-clause-network : goal.returns-in-Give-clause-network
+returns-in-Give-clause-network g c = c.give.ensures.network
+
+pub returns-in-Give-clause-plan : goal.returns-in-Give-clause-plan
+returns-in-Give-clause-plan g c = c.give.ensures.plan
+
+pub returns-in-Give-clause-same : goal.returns-in-Give-clause-same
+returns-in-Give-clause-same g c = c.give.ensures.same
+
+pub returns-in-Ask-clause-network : goal.returns-in-Ask-clause-network
+returns-in-Ask-clause-network g c = c.ask.ensures.network
+
+pub returns-in-Ask-clause-plan : goal.returns-in-Ask-clause-plan
+returns-in-Ask-clause-plan g c = c.ask.ensures.plan
+
+pub returns-in-Ask-clause-same : goal.returns-in-Ask-clause-same
+returns-in-Ask-clause-same g c = c.ask.ensures.same
+
+pub returns-in-Begin-clause-network : goal.returns-in-Begin-clause-network
+returns-in-Begin-clause-network g c = c.begin.ensures.network
+
+pub returns-in-Begin-clause-plan : goal.returns-in-Begin-clause-plan
+returns-in-Begin-clause-plan g c = c.begin.ensures.plan
+
+pub returns-in-Begin-clause-same : goal.returns-in-Begin-clause-same
+returns-in-Begin-clause-same g c = c.begin.ensures.same
+
+pub returns-in-Emit-clause-network : goal.returns-in-Emit-clause-network
+returns-in-Emit-clause-network g c = c.emit.ensures.network
+
+pub returns-in-Emit-clause-plan : goal.returns-in-Emit-clause-plan
+returns-in-Emit-clause-plan g c = c.emit.ensures.plan
+
+pub returns-in-Emit-clause-same : goal.returns-in-Emit-clause-same
+returns-in-Emit-clause-same g c = c.emit.ensures.same
+
+pub returns-in-Take-clause-network : goal.returns-in-Take-clause-network
+returns-in-Take-clause-network g c = c.take.ensures.network
+
+pub returns-in-Take-clause-plan : goal.returns-in-Take-clause-plan
+returns-in-Take-clause-plan g c = c.take.ensures.plan
+
+pub returns-in-Take-clause-same : goal.returns-in-Take-clause-same
+returns-in-Take-clause-same g c = c.take.ensures.same
+
+pub returns-in-Lose-clause-network : goal.returns-in-Lose-clause-network
+returns-in-Lose-clause-network g c = c.lose.ensures.network
+
+pub returns-in-Lose-clause-plan : goal.returns-in-Lose-clause-plan
+returns-in-Lose-clause-plan g c = c.lose.ensures.plan
+
+pub returns-in-LateSender-clause-network : goal.returns-in-LateSender-clause-network
+returns-in-LateSender-clause-network g c = c.late_sender.ensures.network
+
+pub returns-in-LateSender-clause-plan : goal.returns-in-LateSender-clause-plan
+returns-in-LateSender-clause-plan g c = c.late_sender.ensures.plan
+
+pub returns-in-LateSender-clause-same : goal.returns-in-LateSender-clause-same
+returns-in-LateSender-clause-same g c = c.late_sender.ensures.same
+
+pub returns-in-LateReceiver-clause-network : goal.returns-in-LateReceiver-clause-network
+returns-in-LateReceiver-clause-network g c = c.late_receiver.ensures.network
+
+pub returns-in-LateReceiver-clause-plan : goal.returns-in-LateReceiver-clause-plan
+returns-in-LateReceiver-clause-plan g c = c.late_receiver.ensures.plan
+
+pub returns-in-LateReceiver-clause-same : goal.returns-in-LateReceiver-clause-same
+returns-in-LateReceiver-clause-same g c = c.late_receiver.ensures.same
+
+pub returns-in-Rest-clause-network : goal.returns-in-Rest-clause-network
+returns-in-Rest-clause-network g c = c.rest.ensures.network
+
+pub returns-in-Rest-clause-plan : goal.returns-in-Rest-clause-plan
+returns-in-Rest-clause-plan g c = c.rest.ensures.plan
