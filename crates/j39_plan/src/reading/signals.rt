@@ -1,12 +1,13 @@
 //! The signals of a group.
-ghost use Rattle.std.specs.Prelude.{◌≡◌, map, codes, IsTrue, IfOk};
+ghost use Rattle.std.specs.Prelude.{◌≡◌, ◌≤◌, map, codes, IsTrue, IfOk};
 ghost use Rattle.toml.specs.View.{view, table_view};
 ghost use Rattle.j39_signal.specs.Parts.{IsSignal};
 ghost use Rattle.j39_findings.specs.LabelForm.{is_label};
 ghost use Rattle.j39_plan.specs.Schema.{text_of};
 ghost use Rattle.j39_plan.specs.TableFaults.{key_faults};
 ghost use Rattle.j39_plan.specs.Outcome.{Gives};
-ghost use Rattle.j39_plan.specs.SignalTables.{kind_of, kind_rule, signal_table_faults, TellsSignal};
+ghost use Rattle.j39_id.specs.Limits.{message_bytes};
+ghost use Rattle.j39_plan.specs.SignalTables.{kind_of, kind_rule, signal_table_faults, start_of, TellsSignal};
 
 use super::elements::ReadElement;
 use super::labels::{Labelled, untaken};
@@ -48,6 +49,16 @@ fn kind(members: &toml::Table, table: Table) -> Result<Kind, PlanError>
     Ok(kind_of(word))
 }
 
+// The first bit, counted from 0, of a byte and a bit in it, which are counted from 1.
+fn start_of(byte: u32, bit: u32) -> u16
+    requires byte { (1 ≤ byte) × (byte ≤ message_bytes) }
+    requires bit { (1 ≤ bit) × (bit ≤ 8) }
+    ensures { result ≡ start_of byte bit }
+{
+    let start = 8 * (byte - 1) + (bit - 1);
+    start as u16
+}
+
 #[tactic(auto, using(crate::proofs::FirstFaults::faults_after), unfolding(crate::specs::SignalTables::signal_table_faults))]
 fn signal(table: Table, members: &toml::Table) -> Result<Signal, PlanError>
     ensures gives { Gives result (signal_table_faults table (table_view members.now)) (TellsSignal (table_view members.now)) }
@@ -70,10 +81,9 @@ fn signal(table: Table, members: &toml::Table) -> Result<Signal, PlanError>
         Some(0),
     )?;
     let unit = short_text(members, table, Key::Unit, TextKind::SignalUnit, Some(""))?;
-    let start = 8 * (byte - 1) + (bit - 1);
     match Signal::new(
         label,
-        start as u16,
+        start_of(byte, bit),
         bits as u8,
         kind,
         i64::from(step),
