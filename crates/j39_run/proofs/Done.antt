@@ -24,7 +24,7 @@ use Rattle.j39_run.specs.RunText.{EndsAt, IsBusText, closing_text, end_text, sen
 use Rattle.j39_run.specs.Views.{Shows, View, unit_state}
 use Rattle.j39_run.specs.declared.halt.Halt.{Halt}
 use Rattle.j39_run.specs.declared.halt.Halt.TheVariants.{End, Step as AtStep, Line as AtLine}
-use Rattle.j39_run.specs.inside.Doing.{HasDone}
+use Rattle.j39_run.specs.inside.Doing.{HasDone, HasStepped}
 use Rattle.j39_run.proofs.Frames.{lines_grow}
 use Rattle.j39_run.proofs.Quiet.{quiet_test}
 
@@ -74,19 +74,27 @@ pub blank_done : (plan : Plan) (b : BusState) (ls : List Line) (l : Line) (place
     → line_order plan l ≡ read_as None → HasDone plan b (ls ++ l ∷ []) (place + 1) written text
 blank_done plan b ls l place written text h is = one_more plan b b ls l None place written text text h.world h is refl h.stands h.shown
 
-pub step_done : (plan : Plan) (old new : BusState) (ls : List Line) (l : Line) (step : Step) (place shown : ℕ) (written text more : List ℕ)
-    (before now : List Frame)
-    → HasDone plan old ls place written text → line_order plan l ≡ read_as (Some step)
-    → ((p : Plan) (w : World) → Stands old p w → (refusal p w step ≡ None) × ((after : World) × StepsTo p w step after × Stands new p after))
-    → map sent_of before ≡ old.frames → map sent_of now ≡ new.frames → shown ≡ length before → more ≡ text ++ sent_lines (map sent_of (drop shown now))
+pub step_done : (plan : Plan) (old new : BusState) (ls : List Line) (l : Line) (step : Step) (place : ℕ) (written text more : List ℕ)
+    → HasDone plan old ls place written text → line_order plan l ≡ read_as (Some step) → HasStepped step old new text more
     → HasDone plan new (ls ++ l ∷ []) (place + 1) written more
-step_done plan old new ls l step place shown written text more before now h is done had has at more_is =
-    let (allowed, (after, leads, s)) = done plan h.world h.stands in
-    let sent : List ℕ = sent_lines (map sent_of (drop shown now)) in
-    let all : written ++ more ≡ sent_lines new.frames =
-    ap (λ (t : List ℕ). written ++ t) more_is ∙ sym (append_assoc written text sent) ∙ ap (λ (t : List ℕ). t ++ sent) h.shown
-    ∙ lines_grow plan old new h.world after step before now shown h.stands leads s had has at in
-    one_more plan old new ls l (Some step) place written text more after h is (after, allowed, leads, refl) s all
+step_done plan old new ls l step place written text more h is done =
+    let (allowed, (after, leads, s)) = done.leads plan h.world h.stands in
+    one_more plan old new ls l (Some step) place written text more after h is (after, allowed, leads, refl) s
+    (done.shown plan h.world h.stands written h.shown)
+
+-- the frames that a step sends are written behind those before them
+pub has_stepped : (step : Step) (old new : BusState) (text more : List ℕ) (before now : List Frame) (place : ℕ)
+    → ((p : Plan) (w : World) → Stands old p w → (refusal p w step ≡ None) × ((after : World) × StepsTo p w step after × Stands new p after))
+    → map sent_of before ≡ old.frames → map sent_of now ≡ new.frames → place ≡ length before → more ≡ text ++ sent_lines (map sent_of (drop place now))
+    → HasStepped step old new text more
+has_stepped step old new text more before now place leads had has at more_is = record {
+  leads = leads;
+  shown = λ plan w stands written so_far.
+      let (allowed, (after, goes, s)) = leads plan w stands in
+      let sent : List ℕ = sent_lines (map sent_of (drop place now)) in
+      ap (λ (t : List ℕ). written ++ t) more_is ∙ sym (append_assoc written text sent) ∙ ap (λ (t : List ℕ). t ++ sent) so_far
+      ∙ lines_grow plan old new w after step before now place stands goes s had has at;
+}
 
 -- what was to be written is written
 pub put_done : (plan : Plan) (b : BusState) (ls : List Line) (place : ℕ) (written text rest : List ℕ) → rest ≡ [] → HasDone plan b ls place written text

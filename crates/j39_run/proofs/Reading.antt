@@ -1,5 +1,5 @@
 -- A schedule that is read piece after piece.
-use Rattle.std.proofs.Common.{◌≡◌, ◌≢◌, ℕ, ◌+◌, ◌-◌, ◌*◌, ◌<◌, ◌≤◌, ◌==◌, Bool, true, false, List, [], ◌∷◌, ◌++◌, length, take, drop, inl, inr, refl, sym, ap, ◌∙◌, subst, arith, append_assoc, Bor, Option, Some, None, Err}
+use Rattle.std.proofs.Common.{◌≡◌, ◌≢◌, ℕ, ◌+◌, ◌-◌, ◌<◌, ◌≤◌, ◌==◌, Bool, true, false, List, [], ◌∷◌, ◌++◌, length, take, drop, inl, inr, refl, sym, ap, ◌∙◌, subst, arith, append_assoc, Bor, Option, Some, None}
 use Rattle.std.proofs.lemmas.Bool.{cases_Bool, eqb-true, eqb-false}
 use Rattle.std.proofs.lemmas.List.{append-nil, drop-drop, length-append, length-take, length-take-le, take-append-le, take_all}
 use Rattle.std.proofs.Math.Seq.{take-add}
@@ -11,12 +11,12 @@ use Rattle.j39_id.specs.declared.cut.Cut.{Cut}
 use Rattle.j39_id.specs.declared.cut.Cut.TheVariants as cuts
 use Rattle.j39_id.proofs.CutLines.{tells_lines, told-append, behind_all-append}
 use Rattle.j39_findings.specs.declared.plan.Plan.{Plan}
-use Rattle.j39_stream.specs.Intakes.{HasRead, no_counts}
+use Rattle.j39_stream.specs.Intakes.{HasRead}
 use Rattle.j39_stream.specs.Streams.{KeepsLimits, PassesLimits, input_limit, read_calls}
 use Rattle.j39_stream.proofs.Parts.{front_of, none_read}
 use Rattle.j39_run.specs.declared.next.Next.{Next}
 use Rattle.j39_run.specs.declared.next.Next.TheVariants.{Wait, More, Blank, Step as AStep, Refused, End}
-use Rattle.j39_run.specs.inside.Feeding.{Comes, Feeding, GoesOn, HasEnded, IsEnding, IsFed, IsFedSo, IsNext, IsReading, IsShorter, left_in, to_do, unfed}
+use Rattle.j39_run.specs.inside.Feeding.{Comes, Feeding, GoesOn, HasEnded, IsEnding, IsFed, IsFedSo, IsNext, IsReading, IsShorter, to_do, unfed}
 
 -- ---- a piece
 

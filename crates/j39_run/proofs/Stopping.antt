@@ -2,7 +2,7 @@
 use Rattle.std.proofs.Common.{◌≡◌, ◌≢◌, ℕ, ◌+◌, List, [], ◌∷◌, ◌++◌, length, refl, sym, ap, ◌∙◌, subst, arith, ◌≤◌, Option, Some, Err, Ok, Result, IfOk, OnOk, OnErr}
 use Rattle.std.specs.Prelude.{IsErrOf}
 use Rattle.std.proofs.KnownBytes.{Appends-trans}
-use Rattle.std.proofs.lemmas.List.{append-nil, length-map}
+use Rattle.std.proofs.lemmas.List.{append-nil, length-map, take_all}
 use Rattle.std.specs.Io.KnownBytes.{Appends, Consumes, IsAtEnd}
 use Rattle.j39_id.specs.Lines.{Line, lines}
 use Rattle.j39_findings.specs.declared.plan.Plan.{Plan}
@@ -14,18 +14,17 @@ use Rattle.j39_bus.specs.Stands.{Stands}
 use Rattle.j39_world.specs.World.{World}
 use Rattle.j39_schedule.specs.Schedule.{line_order, read_as}
 use Rattle.j39_schedule.specs.declared.line_fault.LineFault.{LineFault}
-use Rattle.j39_stream.specs.Streams.{AppendsPart, input_limit}
+use Rattle.j39_stream.specs.Streams.{AppendsPart, KeepsLimits, input_limit}
 use Rattle.j39_stream.specs.declared.fault.Fault.{Fault}
 use Rattle.j39_stream.specs.declared.fault.Fault.TheVariants.{Memory, Device, TooLong}
 use Rattle.j39_stream.specs.declared.verdict.Verdict.{Verdict}
-use Rattle.j39_stream.specs.declared.verdict.Verdict.TheVariants.{Done}
 use Rattle.j39_stream.proofs.Parts.{part_after}
 use Rattle.j39_run.specs.RunText.{IsBusText, closing_text, verdict_of}
 use Rattle.j39_run.specs.Views.{Shows, View}
 use Rattle.j39_run.specs.declared.halt.Halt.{Halt}
 use Rattle.j39_run.specs.declared.halt.Halt.TheVariants.{End, Step as AtStep, Line as AtLine}
 use Rattle.j39_run.specs.inside.Doing.{HasDone}
-use Rattle.j39_run.specs.inside.Ending.{HasRunTo}
+use Rattle.j39_run.specs.inside.Ending.{Closes, CutOff, HasEndedSo, HasHalted, HasRunTo}
 use Rattle.j39_run.specs.inside.Feeding.{Feeding, IsFed}
 use Rattle.j39_run.proofs.Done.{end_done, line_refused, partly, step_refused}
 use Rattle.j39_run.proofs.Reading.{BeginWith, few_lines, input_of}
@@ -58,11 +57,9 @@ few_done plan b ls place written text h first now p q f seen fed =
 
 -- ---- cut off
 
--- what was written is some first bytes of the text of a schedule that begins like this one
-abbrev pub CutOff : Plan → Option (List ℕ) → Option (List ℕ) → Option (List ℕ) → Option (List ℕ) → Type 0
-CutOff plan old new taken_old taken_new =
-    (input : List ℕ) × (rest : List ℕ) × (text : List ℕ) × (halt : Halt) × Consumes old new (input ++ rest)
-    × IsBusText plan input halt text × AppendsPart taken_old taken_new text
+-- all of a text was taken
+pub all_taken : (a b : Option (List ℕ)) (text : List ℕ) → Appends a b text → AppendsPart a b text
+all_taken a b text taken = (length text, subst (Appends a b) (sym (take_all (length text) text (omega arith))) taken)
 
 pub cut_off : (plan : Plan) (b : BusState) (ls : List Line) (place : ℕ) (written text : List ℕ) (first now then : Option (List ℕ)) (p q : ℕ) (f : Feeding)
     (seen : List ℕ) (x y z : Option (List ℕ))
@@ -76,50 +73,56 @@ cut_off plan b ls place written text first now then p q f seen x y z fed kept h 
 
 -- ---- ended
 
--- the text that a run has which ends so
-abbrev pub Closes : Plan → BusState → Halt → List ℕ → List ℕ → Option (List ℕ) → List ℕ → Type 0
-Closes plan b halt written text now input =
-    (view : View) → ((w : World) → Stands b plan w → Shows plan w view) → (more : List ℕ) → (IsAtEnd now → more ≡ [])
-    → IsBusText plan (input ++ more) halt (written ++ (text ++ closing_text plan view halt))
+ended_so : (plan : Plan) (first now : Option (List ℕ)) (p q : ℕ) (x z : Option (List ℕ)) (r : Result Verdict Fault) → IfOk r (HasRunTo plan first now x z)
+    → KeepsLimits first now p q → OnErr r (CutOff plan first now x z) → HasEndedSo plan first now p q x z r
+ended_so plan first now p q x z (Ok verdict) ran limits cut = (ran, limits)
+ended_so plan first now p q x z (Err fault) ran limits cut = cut
 
-module _ (plan : Plan) (b : BusState) (halt : Halt) (written text : List ℕ) (first now x y z : Option (List ℕ)) (input : List ℕ)
-    (consumed : Consumes first now input)
-    (closes : Closes plan b halt written text now input) (taken : Appends x y written) (r : Result Verdict Fault) where
-  pub stopped : IfOk r (λ verdict. verdict ≡ verdict_of halt) → (verdict_of halt ≡ Done → IsAtEnd now)
+module _ (plan : Plan) (b : BusState) (halt : Halt) (text : List ℕ) (first now x y z : Option (List ℕ)) (p q : ℕ)
+    (h : HasHalted plan b text first now p q x y halt) (r : Result Verdict Fault) where
+  pub stopped : IfOk r (λ verdict. verdict ≡ verdict_of halt)
       → OnOk r ((view : View) × Appends y z (text ++ closing_text plan view halt) × ((w : World) → Stands b plan w → Shows plan w view))
       → IfOk r (HasRunTo plan first now x z)
-  stopped judged end closed =
+  stopped judged closed =
       both r (λ verdict. verdict ≡ verdict_of halt) _ (HasRunTo plan first now x z) judged closed
       (λ verdict is (view, appended, shows). record {
-        input = input;
-        text = written ++ (text ++ closing_text plan view halt);
+        input = h.input;
+        text = h.written ++ (text ++ closing_text plan view halt);
         halt = halt;
-        consumed = consumed;
-        written = Appends-trans x y z written (text ++ closing_text plan view halt) taken appended;
+        consumed = h.consumed;
+        written = Appends-trans x y z h.written (text ++ closing_text plan view halt) h.taken appended;
         judged = is;
-        end = λ done. end (sym is ∙ done);
-        is_text = closes view shows;
+        end = λ done. h.end (sym is ∙ done);
+        is_text = h.closes view shows;
       })
 
-  pub stopped_short : CutOff plan first now x y → (IsErrOf r Memory → z ≡ y)
+  pub stopped_short : (IsErrOf r Memory → z ≡ y)
       → (IsErrOf r Device → (view : View) × AppendsPart y z (text ++ closing_text plan view halt) × ((w : World) → Stands b plan w → Shows plan w view))
       → r ≢ Err TooLong → OnErr r (CutOff plan first now x z)
-  stopped_short before same part fits =
-      by_fault r (CutOff plan first now x z) (λ is. subst (CutOff plan first now x) (sym (same is)) before)
+  stopped_short same part fits =
+      by_fault r (CutOff plan first now x z) (λ is. subst (CutOff plan first now x) (sym (same is)) h.cut)
       (λ is.
       let (view, some, shows) = part is in
-      let whole : List ℕ = written ++ (text ++ closing_text plan view halt) in
-      let none : input ++ [] ≡ input = append-nil input in (
-        input,
+      let whole : List ℕ = h.written ++ (text ++ closing_text plan view halt) in
+      let none : h.input ++ [] ≡ h.input = append-nil h.input in (
+        h.input,
         [],
         whole,
         halt,
-        subst (Consumes first now) (sym none) consumed,
-        subst (λ (t : List ℕ). IsBusText plan t halt whole) none (closes view shows [] (λ _. refl)),
-        part_after x y z written (text ++ closing_text plan view halt) [] whole
-            (ap (λ (t : List ℕ). written ++ t) (sym (append-nil (text ++ closing_text plan view halt)))) taken some,
+        subst (Consumes first now) (sym none) h.consumed,
+        subst (λ (t : List ℕ). IsBusText plan t halt whole) none (h.closes view shows [] (λ _. refl)),
+        part_after x y z h.written (text ++ closing_text plan view halt) [] whole
+            (ap (λ (t : List ℕ). h.written ++ t) (sym (append-nil (text ++ closing_text plan view halt)))) h.taken some,
       ))
       fits
+
+  -- so the whole run ends
+  pub ends_so : IfOk r (λ verdict. verdict ≡ verdict_of halt)
+      → OnOk r ((view : View) × Appends y z (text ++ closing_text plan view halt) × ((w : World) → Stands b plan w → Shows plan w view))
+      → (IsErrOf r Memory → z ≡ y)
+      → (IsErrOf r Device → (view : View) × AppendsPart y z (text ++ closing_text plan view halt) × ((w : World) → Stands b plan w → Shows plan w view))
+      → r ≢ Err TooLong → HasEndedSo plan first now p q x z r
+  ends_so judged closed same part fits = ended_so plan first now p q x z r (stopped judged closed) h.limits (stopped_short same part fits)
 
 -- at a line that can't be read
 pub closes_line : (plan : Plan) (b : BusState) (ls more : List Line) (l : Line) (place : ℕ) (written text : List ℕ) (fault : LineFault)

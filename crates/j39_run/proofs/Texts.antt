@@ -1,20 +1,37 @@
 -- The text of a schedule, by what a bus did.
-use Rattle.std.proofs.Common.{◌≡◌, ◌++◌, List, ℕ, Option, Some, None, [], ap, sym, inl, inr, refl, subst, ◌∙◌, ◌⊎◌, ◌≢◌, Result, Err, IfOk, OnOk, OnErr}
+use Rattle.std.proofs.Common.{◌≡◌, ◌++◌, List, ℕ, Option, Some, None, [], sym, inl, inr, refl, subst, ◌∙◌, ◌⊎◌, ◌≢◌, Result, Ok, Err, IfOk, OnOk, OnErr}
 use Rattle.std.specs.Prelude.{IsErrOf}
 use Rattle.std.proofs.lemmas.List.{append-nil}
 use Rattle.std.specs.Io.KnownBytes.{Appends, Consumes, IsAtEnd}
 use Rattle.j39_findings.specs.declared.plan.Plan.{Plan}
 use Rattle.j39_world.specs.declared.bus_error.BusError.{BusError}
 use Rattle.j39_world.specs.Opening.{CanOpen, IsNotOpened}
-use Rattle.j39_stream.specs.Streams.{AppendsPart}
+use Rattle.j39_stream.specs.Streams.{AppendsPart, KeepsLimits}
 use Rattle.j39_stream.specs.declared.fault.Fault.{Fault}
 use Rattle.j39_stream.specs.declared.fault.Fault.TheVariants.{Memory, Device, TooLong}
 use Rattle.j39_stream.specs.declared.verdict.Verdict.{Verdict}
 use Rattle.j39_stream.specs.declared.verdict.Verdict.TheVariants.{Done, Refused}
 use Rattle.j39_stream.proofs.Parts.{none_read}
 use Rattle.j39_run.specs.RunText.{IsPlanRefusal, IsRunText, verdict_of}
-use Rattle.j39_run.specs.inside.Ending.{HasRunTo}
-use Rattle.j39_run.proofs.Stopping.{CutOff, both, by_fault}
+use Rattle.j39_run.specs.inside.Ending.{CutOff, HasEndedSo, HasRunTo}
+use Rattle.j39_run.proofs.Stopping.{both, by_fault}
+
+-- ---- how the run ended
+
+module _ (plan : Plan) (old new : Option (List ℕ)) (p q : ℕ) (x y : Option (List ℕ)) where
+  pub done_of : (r : Result Verdict Fault) → HasEndedSo plan old new p q x y r → IfOk r (HasRunTo plan old new x y)
+  done_of (Ok verdict) ends = ends.0
+  done_of (Err fault) ends = tt
+
+  pub limits_of : (r : Result Verdict Fault) → HasEndedSo plan old new p q x y r → OnOk r (KeepsLimits old new p q)
+  limits_of (Ok verdict) ends = ends.1
+  limits_of (Err fault) ends = tt
+
+  pub cut_of : (r : Result Verdict Fault) → HasEndedSo plan old new p q x y r → OnErr r (CutOff plan old new x y)
+  cut_of (Ok verdict) ends = tt
+  cut_of (Err fault) ends = ends
+
+-- ---- the text of a bus
 
 module _ (plan : Plan) (choosers : ℕ) (opens : CanOpen choosers plan) (old new x y : Option (List ℕ)) (verdict : Verdict)
     (ran : HasRunTo plan old new x y verdict) where

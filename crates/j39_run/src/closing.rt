@@ -1,10 +1,11 @@
 //! The end of a run.
-ghost use Rattle.std.specs.Prelude.{◌≡◌, ◌++◌, IfOk, OnOk, OnErr, IsErrOf, Ok, Err, ◌≢◌, length};
+ghost use Rattle.std.specs.Prelude.{◌≡◌, ◌≢◌, ◌⊎◌, ◌++◌, ℕ, List, Option, Err, IfErr, IfOk, IsErrOf, OnErr, OnOk, length};
 ghost use Rattle.std.specs.Io.KnownBytes.{Appends};
 ghost use Rattle.j39_bus.specs.Stands.{Stands};
 ghost use Rattle.j39_world.specs.World.{World};
 ghost use Rattle.j39_run.specs.RunText.{closing_text, verdict_of};
 ghost use Rattle.j39_run.specs.Views.{Shows, View};
+ghost use Rattle.j39_run.specs.inside.Ending.{EndsSo, HasEndedSo};
 ghost use Rattle.j39_stream.specs.Streams.{AppendsPart, HasFailed};
 
 use crate::halt::Halt;
@@ -33,8 +34,8 @@ fn write_closing(
     write_reports(text, plan, bus.reports())
 }
 
-/// Writes what is still to be written of a run, and where it ended.
-pub fn close<W: Sink>(
+// Writes what is still to be written of a run that ended there.
+fn put_closing<W: Sink>(
     text: &mut TextBuffer,
     plan: &Plan,
     bus: &Bus,
@@ -54,4 +55,23 @@ pub fn close<W: Sink>(
     write_closing(text, plan, bus, halt)?;
     put_all(sink, text.as_slice())?;
     Ok(halt.verdict())
+}
+
+/// Writes what is still to be written of a run, unless it was cut off by a fault.
+pub fn close<W: Sink>(
+    text: &mut TextBuffer,
+    plan: &Plan,
+    bus: &Bus,
+    end: Result<Halt, Fault>,
+    sink: &mut W,
+) -> Result<Verdict, Fault>
+    requires { OnOk end (length bus.now.units ≡ length plan.now.units.items) }
+    ensures ends { (first now : Option (List ℕ)) (first_pulls pulls : ℕ) (first_taken : Option (List ℕ))
+        → EndsSo plan.now bus.now text.old first now first_pulls pulls first_taken (W.taken sink.old) end
+        → HasEndedSo plan.now first now first_pulls pulls first_taken (W.taken sink.new) result }
+    ensures fault { IfErr end (λ fault. (result ≡ Err fault) × (sink.new ≡ sink.old)) }
+    ensures long { IsErrOf result Fault.TooLong → end ≡ Err Fault.TooLong }
+    ensures device { IsErrOf result Fault.Device → (end ≡ Err Fault.Device) ⊎ HasFailed (W.failures sink.old) (W.failures sink.new) }
+{
+    put_closing(text, plan, bus, end?, sink)
 }

@@ -2,10 +2,12 @@
 #![tactic(auto)]
 
 mod closing;
+mod due;
 mod feed;
 mod halt;
 mod laws;
 mod next;
+mod pieces;
 mod planned;
 mod refusal;
 mod run;

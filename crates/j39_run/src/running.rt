@@ -1,34 +1,32 @@
 //! A schedule that runs on a bus as it is read.
-ghost use Rattle.std.specs.Prelude.{◌≡◌, ◌⊎◌, ◌++◌, ℕ, List, Some, IfOk, OnErr, OnOk, IsErrOf};
-ghost use Rattle.std.specs.Io.KnownBytes.{Consumes};
-ghost use Rattle.j39_world.specs.Run.{cause_of};
+ghost use Rattle.std.specs.Prelude.{◌≡◌, ◌⊎◌, IfErr, IfOk, OnOk, IsErrOf, Some};
 ghost use Rattle.j39_bus.specs.Stands.{Stands};
+ghost use Rattle.j39_world.specs.Run.{cause_of};
 ghost use Rattle.j39_world.specs.World.{first};
 ghost use Rattle.j39_schedule.specs.UnitIndexes.{IsIndexOf};
-ghost use Rattle.j39_run.specs.RunText.{IsBusText};
-ghost use Rattle.j39_run.specs.declared.halt.Halt.{Halt as Halts};
-ghost use Rattle.j39_run.specs.inside.Ending.{HasRunTo};
-ghost use Rattle.j39_stream.specs.Streams.{AppendsPart, HasFailed, KeepsLimits, PassesLimits};
+ghost use Rattle.j39_run.specs.inside.Ending.{HasEndedSo};
+ghost use Rattle.j39_stream.specs.Streams.{HasFailed, PassesLimits};
 
 use crate::closing::close;
+use crate::due::{Due, next_due};
 use crate::feed::Feed;
 use crate::halt::Halt;
-use crate::next::Next;
 use crate::run_lines::write_frames;
 use j39_bus::{Bus, StepError};
 use j39_findings::Plan;
 use j39_schedule::UnitIndex;
 use j39_stream::{Fault, Sink, Source, Verdict};
-use j39_text::{TextBuffer, put_text};
-use std::alloc::{AllocError, Global};
+use j39_text::TextBuffer;
+use std::alloc::Global;
 
 // Where a run ends at this line, whose step was not done. A step for which memory was wanted ends no run.
-fn refused_at(place: usize, error: StepError) -> Result<Halt, AllocError>
+fn refused_at(place: usize, error: StepError) -> Result<Halt, Fault>
     ensures halt { IfOk result (λ halt. halt ≡ Halt.Step place error) }
     ensures cause { OnOk result (cause_of error ≡ Some error) }
+    ensures memory { IfErr result (λ fault. fault ≡ Fault.Memory) }
 {
     match error {
-        StepError::Memory => Err(AllocError),
+        StepError::Memory => Err(Fault::Memory),
         refused => Ok(Halt::Step(place, refused)),
     }
 }
@@ -45,40 +43,36 @@ pub fn run_bus<S: Source, W: Sink>(
 ) -> Result<Verdict, Fault>
     requires indexed { IsIndexOf plan.now index.now }
     requires stands { Stands bus plan.now first }
-    ensures done { IfOk result (HasRunTo plan.now (S.left source.old) (S.left source.new) (W.taken sink.old) (W.taken sink.new)) }
-    ensures limits { OnOk result (KeepsLimits (S.left source.old) (S.left source.new) (S.pulls source.old) (S.pulls source.new)) }
+    ensures ends { HasEndedSo plan.now (S.left source.old) (S.left source.new) (S.pulls source.old) (S.pulls source.new)
+        (W.taken sink.old) (W.taken sink.new) result }
     ensures long { IsErrOf result Fault.TooLong → PassesLimits (S.left source.old) (S.left source.new) (S.pulls source.old) (S.pulls source.new) }
     ensures device { IsErrOf result Fault.Device → HasFailed (S.failures source.old) (S.failures source.new)
         ⊎ HasFailed (W.failures sink.old) (W.failures sink.new) }
-    ensures cut { OnErr result ((input : List ℕ) × (rest : List ℕ) × (text : List ℕ) × (halt : Halts)
-        × Consumes (S.left source.old) (S.left source.new) (input ++ rest)
-        × IsBusText plan.now input halt text × AppendsPart (W.taken sink.old) (W.taken sink.new) text) }
 {
     let mut bus = bus;
     let mut feed = Feed::new();
-    let mut text = TextBuffer::new(alloc);
     let mut place = 0;
-    loop {
-        match feed.next(alloc, index, plan)? {
-            Next::Wait => {
-                put_text(sink, &mut text)?;
-                feed.read_on(source)?;
-            }
-            Next::More => {}
-            Next::Blank => place += 1,
-            Next::Step(step) => {
-                let shown = bus.frames().len();
-                if let Err(error) = bus.step(&step) {
-                    let halt = refused_at(place, error)?;
-                    return close(&mut text, plan, &bus, halt, sink);
+    let mut text = TextBuffer::new(alloc);
+    // (the bus has one way out of here, since what a way drops is part of its proof)
+    let end = loop {
+        match next_due(
+            alloc, index, plan, &mut feed, &mut place, &mut text, source, sink,
+        ) {
+            Err(fault) => break Err(fault),
+            Ok(due) => match due {
+                Due::Halt(halt) => break Ok(halt),
+                Due::Step(step) => {
+                    let shown = bus.frames().len();
+                    if let Err(error) = bus.step(&step) {
+                        break refused_at(place, error);
+                    }
+                    if write_frames(&mut text, bus.frames(), shown).is_err() {
+                        break Err(Fault::Memory);
+                    }
+                    place += 1;
                 }
-                write_frames(&mut text, bus.frames(), shown)?;
-                place += 1;
-            }
-            Next::Refused(fault) => {
-                return close(&mut text, plan, &bus, Halt::Line(place, fault), sink);
-            }
-            Next::End => return close(&mut text, plan, &bus, Halt::End, sink),
+            },
         }
-    }
+    };
+    close(&mut text, plan, &bus, end, sink)
 }

@@ -1,10 +1,10 @@
--- How far a run of a schedule has come.
-use Rattle.std.specs.Prelude.{◌≡◌, ℕ, List, [], ◌++◌, length, map, Option}
+-- How far a run of a schedule has come, and what a step does.
+use Rattle.std.specs.Prelude.{◌≡◌, ℕ, List, ◌++◌, length, map, Option, None}
 use Rattle.j39_id.specs.Lines.{Line}
 use Rattle.j39_findings.specs.declared.plan.Plan.{Plan}
 use Rattle.j39_findings.specs.declared.steps.Step.{Step}
 use Rattle.j39_bus.specs.BusState.{BusState}
-use Rattle.j39_world.specs.Run.{RunsThrough}
+use Rattle.j39_world.specs.Run.{RunsThrough, StepsTo, refusal}
 use Rattle.j39_bus.specs.Stands.{Stands}
 use Rattle.j39_world.specs.World.{World, first}
 use Rattle.j39_schedule.specs.Schedule.{line_order, read_as}
@@ -19,3 +19,10 @@ pub record HasDone (plan : Plan) (b : BusState) (ls : List Line) (place : ℕ) (
   pub ran : RunsThrough plan first (steps_of orders) world
   pub stands : Stands b plan world
   pub shown : written ++ text ≡ sent_lines b.frames
+
+-- the step was done, and the lines of what it sent stand behind the text
+pub record HasStepped (step : Step) (old new : BusState) (text more : List ℕ) : Type 0 where
+  pub leads : (plan : Plan) (w : World) → Stands old plan w
+      → (refusal plan w step ≡ None) × ((after : World) × StepsTo plan w step after × Stands new plan after)
+  pub shown : (plan : Plan) (w : World) → Stands old plan w → (written : List ℕ) → written ++ text ≡ sent_lines old.frames
+      → written ++ more ≡ sent_lines new.frames

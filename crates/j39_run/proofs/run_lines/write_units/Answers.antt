@@ -1,7 +1,6 @@
-use Rattle.std.proofs.Common.{◌≡◌, ◌<◌, ◌≤◌, length, append_assoc, arith, ap}
+use Rattle.std.proofs.Common.{◌<◌, ◌≤◌, length, append_assoc, arith}
 use Rattle.std.proofs.lemmas.List.{append-nil}
 use Rattle.j39_bus.specs.Stations.{station_at}
-use Rattle.j39_run.specs.RunText.{unit_lines}
 use Rattle.j39_run.specs.Views.{unit_state}
 use Rattle.j39_run.proofs.RunLists.{no_units, units_from}
 use Rattle.j39_run.proofs.run_lines.write_units.Goals as goal

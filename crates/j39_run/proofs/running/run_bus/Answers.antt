@@ -1,109 +1,75 @@
-use Rattle.std.proofs.Common.{refl, sym, ap, ◌∙◌, arith}
-use Rattle.std.proofs.lemmas.Result.{IfOk-weaker}
-use Rattle.j39_run.specs.RunText.{verdict_of}
-use Rattle.j39_run.proofs.Arms.{at_end, blank, cut_before, cut_putting, cut_reading, ended, ended_short, few_places, halts_end, halts_line, halts_step, limited, started, stepped, waited}
-use Rattle.j39_run.proofs.Stopping.{on_error}
+use Rattle.std.proofs.Common.{◌≡◌, ◌∙◌, refl, sym, arith, is_err, false, Ok, Err, OnOk, Result}
+use Rattle.j39_run.specs.inside.Ending.{EndsSo, IsDue}
+use Rattle.j39_run.proofs.Arms.{refused_ends, started}
+use Rattle.j39_run.proofs.Done.{has_stepped}
 use Rattle.j39_run.proofs.running.run_bus.Goals as goal
+use Rattle.j39_run.proofs.running.run_bus.Goals.{in-Err, in-Ok+in-Halt, in-Ok+in-Step+in-Err-step, in-Ok+in-Step+in_default+then-is_err}
 
-pub loop-text-init : goal.loop-text-init
-loop-text-init g c = (started _ _ _ _ _ _ _ c.requires.stands c.new-feed.ensures c.new-text.ensures, refl, refl)
+on_ok : {X E : Type 0} (r : Result X E) (A : Type 0) → is_err r ≡ false → OnOk r A → A
+on_ok (Ok x) A fine a = a
+on_ok (Err e) A fine a = cc
 
-pub returns-in_err-next-clause-cut : goal.returns-in_err-next-clause-cut
-returns-in_err-next-clause-cut g c = on_error c.from_residual.result _ (cut_before c.loop-text.invariant.0)
-
-pub returns-in_err-halt-in-Step-clause-cut : goal.returns-in_err-halt-in-Step-clause-cut
-returns-in_err-halt-in-Step-clause-cut g c = on_error c.from_residual-in_err-halt-in-Step.result _ (cut_before c.loop-text.invariant.0)
-
-pub returns-in_err-write_frames-in-Step-clause-cut : goal.returns-in_err-write_frames-in-Step-clause-cut
-returns-in_err-write_frames-in-Step-clause-cut g c = on_error c.from_residual-in_err-write_frames-in-Step.result _ (cut_before c.loop-text.invariant.0)
-
-pub returns-in_err-put_text-in-Wait-clause-cut : goal.returns-in_err-put_text-in-Wait-clause-cut
-returns-in_err-put_text-in-Wait-clause-cut g c =
-    on_error c.from_residual-in_err-put_text-in-Wait.result _ (cut_putting c.loop-text.invariant.0 _ c.in_err-put_text-in-Wait.ensures.cut)
-
-pub returns-in_err-read_on-in-Wait-clause-cut : goal.returns-in_err-read_on-in-Wait-clause-cut
-returns-in_err-read_on-in-Wait-clause-cut g c =
-    on_error c.from_residual-in_err-read_on-in-Wait.result _
-    (cut_reading c.loop-text.invariant.0 _ _ (λ t consumed. c.read_on.ensures.kept _ t consumed) c.in_ok-put_text-in-Wait.ensures.ok)
-
-pub loop-text-preserved-in-Continue-branch-4 : goal.loop-text-preserved-in-Continue-branch-4
-loop-text-preserved-in-Continue-branch-4 g c = (
-  waited c.loop-text.invariant.0 _ _ (c.in_ok-next.ensures.comes _ _ _ _) _ _ _ _ _ c.in-Wait.is
-      (c.in_ok-read_on-in-Wait.ensures.fed _ _) c.in_ok-put_text-in-Wait.ensures.empty c.in_ok-put_text-in-Wait.ensures.ok,
-  c.in_ok-read_on-in-Wait.ensures.calm (λ e. cc e) ∙ c.loop-text.invariant.1,
-  c.in_ok-put_text-in-Wait.ensures.whole ∙ c.loop-text.invariant.2,
-)
+pub loop-fault-init : goal.loop-fault-init
+loop-fault-init g c = record { running = started _ _ _ _ _ _ _ c.requires.stands c.new-feed.ensures c.new-text.ensures; read = refl; put = refl }
 
 pub overflow_add-place : goal.overflow_add-place
-overflow_add-place g c = let few = few_places c.loop-text.invariant.0 in omega (arith, few)
+overflow_add-place g c =
+    let due : IsDue _ _ _ _ _ _ _ _ _ _ _ c.in-Step.step = rw c.in-Step.is at (c.in-Ok.ensures.goes _ _ _ _ c.loop-fault.invariant.running) in
+    let few = due.few in
+    omega (arith, few)
 
-pub overflow_add-place-in-Step : goal.overflow_add-place-in-Step
-overflow_add-place-in-Step g c = let few = few_places c.loop-text.invariant.0 in omega (arith, few)
+pub loop-fault-preserved-else-is_err : goal.loop-fault-preserved-else-is_err
+loop-fault-preserved-else-is_err g c =
+    let due : IsDue _ _ _ _ _ _ _ _ _ _ _ c.in-Step.step = rw c.in-Step.is at (c.in-Ok.ensures.goes _ _ _ _ c.loop-fault.invariant.running) in
+    record {
+      running = due.done _ _
+          (has_stepped c.in-Step.step _ _ _ _ c.frames-shown.result.now c.frames.result.now _ c.in_default.ensures.ok c.frames-shown.ensures
+          c.frames.ensures refl
+          (on_ok c.write_frames.result _ (sym c.is_err.ensures.value ∙ c.if-is_err.false) c.write_frames.ensures));
+      read = c.in-Ok.ensures.calm.0 ∙ c.loop-fault.invariant.read;
+      put = c.in-Ok.ensures.calm.1 ∙ c.loop-fault.invariant.put;
+    }
 
-pub loop-text-preserved-in-Blank : goal.loop-text-preserved-in-Blank
-loop-text-preserved-in-Blank g c =
-    (blank c.loop-text.invariant.0 _ _ (c.in_ok-next.ensures.comes _ _ _ _) c.in-Blank.is, c.loop-text.invariant.1, c.loop-text.invariant.2)
+pub loop-fault-preserved : goal.loop-fault-preserved
+loop-fault-preserved g c =
+    let due : IsDue _ _ _ _ _ _ _ _ _ _ _ c.in-Step.step = rw c.in-Step.is at (c.in-Ok.ensures.goes _ _ _ _ c.loop-fault.invariant.running) in
+    record {
+      running = due.done _ _
+          (has_stepped c.in-Step.step _ _ _ _ c.frames-shown.result.now c.frames.result.now _ c.in_default.ensures.ok c.frames-shown.ensures
+          c.frames.ensures refl
+          (on_ok c.write_frames.result _ (sym c.is_err.ensures.value ∙ c.if-is_err.false) c.write_frames.ensures));
+      read = c.in-Ok.ensures.calm.0 ∙ c.loop-fault.invariant.read;
+      put = c.in-Ok.ensures.calm.1 ∙ c.loop-fault.invariant.put;
+    }
 
-pub loop-text-preserved-in_ok-write_frames-in-Step : goal.loop-text-preserved-in_ok-write_frames-in-Step
-loop-text-preserved-in_ok-write_frames-in-Step g c = (
-  stepped c.loop-text.invariant.0 _ _ (c.in_ok-next.ensures.comes _ _ _ _) c.in-Step.step _ _ c.frames-shown.result.now c.frames.result.now _ c.in-Step.is
-      c.in_default.ensures.ok c.frames-shown.ensures c.frames.ensures refl c.in_ok-write_frames-in-Step.ensures,
-  c.loop-text.invariant.1,
-  c.loop-text.invariant.2,
-)
+pub returns-clause-ends : goal.returns-clause-ends
+returns-clause-ends g c =
+    let running = c.loop-fault.invariant.running in
+    let ends : EndsSo c.args.plan.now c.match-next_due.bus c.match-next_due.text (g.S.Source.left c.args.source.now) (g.S.Source.left c.next_due.new.source)
+    (g.S.Source.pulls c.args.source.now) (g.S.Source.pulls c.next_due.new.source) (g.W.Sink.taken c.args.sink.now) (g.W.Sink.taken c.next_due.new.sink)
+    c.match-next_due.end =
+    elim c.match-next_due.branch [
+      | in-Err w ↦ rw w.end-is (w.in-Err.ensures.cut _ _ _ _ running)
+      | in-Ok+in-Halt w ↦ rw (w.end-is, w.bus-is, w.text-is) (rw w.in-Halt.is at (w.in-Ok.ensures.goes _ _ _ _ running))
+      | in-Ok+in-Step+in-Err-step w ↦
+          let due : IsDue _ _ _ _ _ _ _ _ _ _ _ w.in-Step.step = rw w.in-Step.is at (w.in-Ok.ensures.goes _ _ _ _ running) in
+          rw (w.end-is, w.bus-is, w.text-is)
+          (refused_ends due w.step.new.self w.in-Err-step.error w.refused_at-end.result w.in-Err-step.ensures.same w.in-Err-step.ensures.refused
+          w.refused_at-end.ensures.halt w.refused_at-end.ensures.cause)
+      | in-Ok+in-Step+in_default+then-is_err w ↦
+          let due : IsDue _ _ _ _ _ _ _ _ _ _ _ w.in-Step.step = rw w.in-Step.is at (w.in-Ok.ensures.goes _ _ _ _ running) in
+          rw w.end-is due.cut
+    ] in
+    c.close.ensures.ends _ _ _ _ _ ends
 
-pub loop-text-preserved : goal.loop-text-preserved
-loop-text-preserved g c = (
-  stepped c.loop-text.invariant.0 _ _ (c.in_ok-next.ensures.comes _ _ _ _) c.in-Step.step _ _ c.frames-shown.result.now c.frames.result.now _ c.in-Step.is
-      c.in_default.ensures.ok c.frames-shown.ensures c.frames.ensures refl c.in_ok-write_frames-in-Step.ensures,
-  c.loop-text.invariant.1,
-  c.loop-text.invariant.2,
-)
-
-pub returns-in-Refused-clause-done : goal.returns-in-Refused-clause-done
-returns-in-Refused-clause-done g c =
-    let r = c.loop-text.invariant.0 in
-    let halts = halts_line r _ _ (c.in_ok-next.ensures.comes _ _ _ _) c.in-Refused.fault c.in-Refused.is in
-    ended r _ _ _ c.close-in-Refused.result halts c.close-in-Refused.ensures.verdict (λ e. cc e) c.close-in-Refused.ensures.ok
-
-pub returns-in-Refused-clause-cut : goal.returns-in-Refused-clause-cut
-returns-in-Refused-clause-cut g c =
-    let r = c.loop-text.invariant.0 in
-    let halts = halts_line r _ _ (c.in_ok-next.ensures.comes _ _ _ _) c.in-Refused.fault c.in-Refused.is in
-    ended_short r _ _ _ c.close-in-Refused.result halts
-    (λ wants. ap g.W.Sink.taken (c.close-in-Refused.ensures.memory wants)) c.close-in-Refused.ensures.cut c.close-in-Refused.ensures.fits
-
-pub returns-in-End-clause-done : goal.returns-in-End-clause-done
-returns-in-End-clause-done g c =
-    let r = c.loop-text.invariant.0 in
-    let halts = halts_end r _ _ (c.in_ok-next.ensures.comes _ _ _ _) c.in-End.is in
-    let all = at_end r _ _ (c.in_ok-next.ensures.comes _ _ _ _) c.in-End.is in
-    ended r _ _ _ c.close-in-End.result halts c.close-in-End.ensures.verdict (λ _. all) c.close-in-End.ensures.ok
-
-pub returns-in-End-clause-cut : goal.returns-in-End-clause-cut
-returns-in-End-clause-cut g c =
-    let r = c.loop-text.invariant.0 in
-    let halts = halts_end r _ _ (c.in_ok-next.ensures.comes _ _ _ _) c.in-End.is in
-    ended_short r _ _ _ c.close-in-End.result halts
-    (λ wants. ap g.W.Sink.taken (c.close-in-End.ensures.memory wants)) c.close-in-End.ensures.cut c.close-in-End.ensures.fits
-
-pub returns-in-Err-clause-done : goal.returns-in-Err-clause-done
-returns-in-Err-clause-done g c =
-    let r = c.loop-text.invariant.0 in
-    let at = c.in_ok-halt-in-Step.ensures.halt in
-    let halts = halts_step r _ _ (c.in_ok-next.ensures.comes _ _ _ _) c.in-Step.step c.in-Err.error _ _ c.in-Step.is c.in-Err.ensures.same at
-    (λ w stands. c.in-Err.ensures.refused _ w stands ∙ c.in_ok-halt-in-Step.ensures.cause) in
-    ended r _ _ _ c.close.result halts c.close.ensures.verdict (λ e. cc (sym (ap verdict_of at) ∙ e)) c.close.ensures.ok
-
-pub returns-in-Err-clause-cut : goal.returns-in-Err-clause-cut
-returns-in-Err-clause-cut g c =
-    let r = c.loop-text.invariant.0 in
-    let halts = halts_step r _ _ (c.in_ok-next.ensures.comes _ _ _ _) c.in-Step.step c.in-Err.error _ _ c.in-Step.is c.in-Err.ensures.same
-    c.in_ok-halt-in-Step.ensures.halt (λ w stands. c.in-Err.ensures.refused _ w stands ∙ c.in_ok-halt-in-Step.ensures.cause) in
-    ended_short r _ _ _ c.close.result halts
-    (λ wants. ap g.W.Sink.taken (c.close.ensures.memory wants)) c.close.ensures.cut c.close.ensures.fits
-
-pub returns-in-Err-clause-limits : goal.returns-in-Err-clause-limits
-returns-in-Err-clause-limits g c =
-    let limits = limited c.loop-text.invariant.0 _ _ (c.in_ok-next.ensures.comes _ _ _ _) c.in-Step.step c.in-Step.is in
-    IfOk-weaker c.close.result _ _ (λ _ _. limits) c.close.ensures.verdict
+pub returns-clause-long : goal.returns-clause-long
+returns-clause-long g c is =
+    let long = c.close.ensures.long is in
+    elim c.match-next_due.branch [
+      | in-Err w ↦ w.in-Err.ensures.long (cc (sym w.end-is ∙ long)) _ _ _ _ c.loop-fault.invariant.running
+      | in-Ok+in-Halt w ↦ cc (w.end-is, long)
+      | in-Ok+in-Step+in-Err-step w ↦
+          let wants = rw (sym w.end-is ∙ long) at w.refused_at-end.ensures.memory in
+          cc wants
+      | in-Ok+in-Step+in_default+then-is_err w ↦ cc (w.end-is, long)
+    ]

@@ -1,0 +1,39 @@
+//! From one piece of a schedule to the next.
+ghost use Rattle.std.specs.Prelude.{◌≡◌, ◌≢◌, ◌⊎◌, ◌<◌, ◌++◌, ℕ, List, Option, [], Err, false, IsErrOf, OnErr, OnOk};
+ghost use Rattle.std.specs.Io.KnownBytes.{Appends, Consumes};
+ghost use Rattle.j39_id.specs.Lines.{Line};
+ghost use Rattle.j39_stream.specs.Streams.{AppendsPart, HasFailed, PassesLimits};
+ghost use Rattle.j39_run.specs.inside.Feeding.{IsFed, to_do};
+
+use crate::feed::Feed;
+use j39_stream::{Fault, Sink, Source};
+use j39_text::{TextBuffer, put_text};
+
+/// Puts what is to be written of the piece that was told, and reads the next one.
+pub fn next_piece<S: Source, W: Sink>(
+    feed: &mut Feed,
+    text: &mut TextBuffer,
+    source: &mut S,
+    sink: &mut W,
+) -> Result<(), Fault>
+    requires unread { feed.old.unread ≡ [] }
+    requires going { feed.old.ended ≡ false }
+    ensures fed { OnOk result ((first : Option (List ℕ)) (pulls : ℕ) (seen : List ℕ) (ls : List Line)
+        → IsFed first (S.left source.old) pulls (S.pulls source.old) feed.old seen ls
+        → IsFed first (S.left source.new) pulls (S.pulls source.new) feed.new seen ls) }
+    ensures shorter { OnOk result (to_do feed.new < to_do feed.old) }
+    ensures put { OnOk result (Appends (W.taken sink.old) (W.taken sink.new) text.old) }
+    ensures empty { OnOk result (text.new ≡ []) }
+    ensures calm { OnOk result ((S.failures source.new ≡ S.failures source.old) × (W.failures sink.new ≡ W.failures sink.old)) }
+    ensures long { IsErrOf result Fault.TooLong → (first : Option (List ℕ)) (pulls : ℕ) (seen : List ℕ) (ls : List Line)
+        → IsFed first (S.left source.old) pulls (S.pulls source.old) feed.old seen ls
+        → PassesLimits first (S.left source.new) pulls (S.pulls source.new) }
+    ensures device { IsErrOf result Fault.Device → HasFailed (S.failures source.old) (S.failures source.new)
+        ⊎ HasFailed (W.failures sink.old) (W.failures sink.new) }
+    ensures kept { OnErr result ((first : Option (List ℕ)) (text : List ℕ) → Consumes first (S.left source.old) text
+        → (more : List ℕ) × Consumes first (S.left source.new) (text ++ more)) }
+    ensures cut { OnErr result (AppendsPart (W.taken sink.old) (W.taken sink.new) text.old) }
+{
+    put_text(sink, text)?;
+    feed.read_on(source)
+}
