@@ -1,6 +1,9 @@
 -- What stays where a step changes other parts of a network.
 use Rattle.std.proofs.Common.{◌≡◌, ℕ, List, Option, length, map, sym, ap, ◌∙◌, subst}
 use Rattle.std.proofs.Math.Path.{transport}
+use Rattle.std.proofs.lemmas.List.{length-map}
+use Rattle.j39_claim.specs.ClaimRule.{PlannedUnit}
+use Rattle.j39_claim.specs.ClaimerValue.{ClaimerValue}
 use Rattle.j39_findings.specs.declared.plan.Plan.{Plan}
 use Rattle.j39_findings.specs.declared.steps.Step.{Step}
 use Rattle.j39_bus.specs.declared.network.Network.{Network}
@@ -38,6 +41,24 @@ plan_then old mid new first next = record {
   planned_units = next.planned_units ∙ first.planned_units;
   flows = next.flows ∙ first.flows;
   windows = next.windows ∙ first.windows;
+}
+
+-- there are as many units as before
+pub units_kept : (old new : Network) → KeepsPlan old new → length new.claimers.items ≡ length old.claimers.items
+units_kept old new keeps = sym (length-map new.claimers.items planned) ∙ ap length keeps.planned_units ∙ length-map old.claimers.items planned
+  where
+    planned : ClaimerValue → PlannedUnit
+    planned c = c.planned
+
+-- only reports have changed
+pub reported_network : (mid new : Network) → new ≡ record mid { reports = new.reports } → IsNetwork mid → IsNetwork new
+reported_network mid new is well = transport (λ i. IsNetwork (sym is i)) (record { claims = well.claims; traffic = well.traffic })
+
+pub reported_plan : (mid new : Network) → new ≡ record mid { reports = new.reports } → KeepsPlan mid new
+reported_plan mid new is = record {
+  planned_units = ap (λ (m : Network). planned_units m.claimers.items) is;
+  flows = ap (λ (m : Network). m.flows.items) is;
+  windows = ap (λ (m : Network). m.receivers.windows) is;
 }
 
 -- ---- a network of which nothing that is seen has changed
