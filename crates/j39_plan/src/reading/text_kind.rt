@@ -4,7 +4,7 @@ ghost use Rattle.std.specs.List.{list_all};
 ghost use Rattle.j39_findings.specs.LabelForm.{is_label_byte, is_label};
 
 /// Which texts a key takes.
-#[derive(Clone, Copy, Debug, PartialEq, Eq)]
+#[derive(Clone, Copy)]
 pub enum TextKind {
     Label,
     UnitLabel,

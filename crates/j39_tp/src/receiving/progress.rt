@@ -15,7 +15,7 @@ use j39_id::Pgn;
 const ASK_LIMIT: u8 = 2;
 
 /// Where a receiver stands.
-#[derive(Clone, Copy, Debug, PartialEq, Eq)]
+#[derive(Clone, Copy)]
 pub enum Progress {
     /// No session is open, and no message is held.
     Closed,

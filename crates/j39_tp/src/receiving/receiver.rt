@@ -53,7 +53,7 @@ fn hold(bytes: &mut ArrayVec<u8, MESSAGE_BYTES>, progress: Progress, packet: &Pa
 fn settle(bytes: &mut ArrayVec<u8, MESSAGE_BYTES>, progress: Progress)
     ensures { bytes.new.items ≡ bytes_at progress bytes.old.items }
 {
-    if progress == Progress::Closed {
+    if matches!(progress, Progress::Closed) {
         bytes.clear();
     }
 }

@@ -6,7 +6,7 @@ use crate::{Packet, Size};
 use j39_id::Pgn;
 
 /// How a message was announced.
-#[derive(Clone, Copy, Debug, PartialEq, Eq)]
+#[derive(Clone, Copy, PartialEq, Eq)]
 pub enum Kind {
     /// To all, by BAM.
     Broadcast,
@@ -16,7 +16,7 @@ pub enum Kind {
 
 /// A session from its announcement on: what was announced, how many packets are held in order,
 /// the last that was granted by a CTS, and how often a packet was asked for again.
-#[derive(Clone, Copy, Debug, PartialEq, Eq)]
+#[derive(Clone, Copy)]
 pub struct Reception {
     pub(crate) kind: Kind,
     pub(crate) pgn: Pgn,

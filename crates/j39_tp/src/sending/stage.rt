@@ -4,7 +4,7 @@ use crate::{Dest, Outcome, Packet, Phase, Reaction, Size};
 use j39_id::Pgn;
 
 /// Where a session of a sender stands, from its announcement on.
-#[derive(Clone, Copy, Debug, PartialEq, Eq)]
+#[derive(Clone, Copy)]
 pub enum Stage {
     /// The data packets from `next` to `last` are to be sent.
     Sending { next: u8, last: u8 },
