@@ -1,6 +1,6 @@
 //! The commands, with their help.
-ghost use Rattle.std.specs.Prelude.{◌≡◌, false, IfOk, codes};
-ghost use Rattle.clap.specs.Words.{app_of, with_rule, with_subcommand};
+ghost use Rattle.std.specs.Prelude.{◌≡◌, false, IfOk, IsOkAnd, codes};
+ghost use Rattle.clap.specs.Words.{app_of, rule_of, with_rule, with_subcommand};
 ghost use Rattle.clap.specs.declared.builder.command.Command.TheViews.{out-Command as fields_of};
 ghost use Rattle.j39_words.specs.Commands.{commands, one_value, program, two_values, value_rule};
 
@@ -33,19 +33,28 @@ fn program<'a>(alloc: Global) -> Result<Command<'a>, AllocError>
         .bin_name("j39plan")
 }
 
+// A value that has to be given.
+fn value<'a>(alloc: Global, name: &'a str, help: &'a str) -> Arg<'a>
+    ensures rule { rule_of result ≡ value_rule name.entry.now }
+    ensures local { result.global ≡ false }
+{
+    Arg::new(alloc, name).required(true).help(help)
+}
+
 // A command that takes one value.
 fn one_value<'a>(
     alloc: Global,
     name: &'a str,
     about: &'a str,
-    value: &'a str,
+    first: &'a str,
     help: &'a str,
 ) -> Result<Command<'a>, AllocError>
-    ensures app { IfOk result (λ c. app_of c ≡ one_value name.entry.now value.entry.now) }
+    ensures app { IfOk result (λ c. app_of c ≡ one_value name.entry.now first.entry.now) }
     ensures local { IfOk result (λ c. (fields_of c).has_globals ≡ false) }
 {
-    let value = Arg::new(alloc, value).required(true).help(help);
-    Command::new(alloc, name).about(about).arg(value)
+    Command::new(alloc, name)
+        .about(about)
+        .arg(value(alloc, first, help))
 }
 
 // A command that takes two values.
@@ -61,61 +70,82 @@ fn two_values<'a>(
     ensures app { IfOk result (λ c. app_of c ≡ two_values name.entry.now first.entry.now second.entry.now) }
     ensures local { IfOk result (λ c. (fields_of c).has_globals ≡ false) }
 {
-    let value = Arg::new(alloc, second).required(true).help(second_help);
-    one_value(alloc, name, about, first, first_help)?.arg(value)
+    one_value(alloc, name, about, first, first_help)?.arg(value(alloc, second, second_help))
+}
+
+fn with<'a>(
+    program: Command<'a>,
+    subcommand: Result<Command<'a>, AllocError>,
+) -> Result<Command<'a>, AllocError>
+    requires { IfOk subcommand (λ c. (fields_of c).has_globals ≡ false) }
+    ensures { IfOk result (λ c. IsOkAnd subcommand.entry (λ s. app_of c ≡ with_subcommand (app_of program.entry) (app_of s).top)) }
+{
+    program.subcommand(subcommand?)
 }
 
 fn with_frame<'a>(alloc: Global, program: Command<'a>) -> Result<Command<'a>, AllocError>
     ensures { IfOk result (λ c. app_of c ≡ with_subcommand (app_of program.entry) (one_value (codes "frame") (codes "LINE")).top) }
 {
-    program.subcommand(one_value(
-        alloc,
-        "frame",
-        "Shows what the frame line LINE says",
-        "LINE",
-        "A line of a CAN log; its last word is the frame, as 18EEFF00#0100800C00000010",
-    )?)
+    with(
+        program,
+        one_value(
+            alloc,
+            "frame",
+            "Shows what the frame line LINE says",
+            "LINE",
+            "A line of a CAN log; its last word is the frame, as 18EEFF00#0100800C00000010",
+        ),
+    )
 }
 
 fn with_check<'a>(alloc: Global, program: Command<'a>) -> Result<Command<'a>, AllocError>
     ensures { IfOk result (λ c. app_of c ≡ with_subcommand (app_of program.entry) (one_value (codes "check") (codes "PLAN")).top) }
 {
-    program.subcommand(one_value(
-        alloc,
-        "check",
-        "Shows what is wrong with the plan of the file PLAN",
-        "PLAN",
-        "The name of a plan file",
-    )?)
+    with(
+        program,
+        one_value(
+            alloc,
+            "check",
+            "Shows what is wrong with the plan of the file PLAN",
+            "PLAN",
+            "The name of a plan file",
+        ),
+    )
 }
 
 fn with_run<'a>(alloc: Global, program: Command<'a>) -> Result<Command<'a>, AllocError>
     ensures { IfOk result (λ c. app_of c ≡ with_subcommand (app_of program.entry) (two_values (codes "run") (codes "PLAN") (codes "SCHEDULE")).top) }
 {
-    program.subcommand(two_values(
-        alloc,
-        "run",
-        "Shows what happens on the bus of the plan by the schedule",
-        "PLAN",
-        "The name of a plan file",
-        "SCHEDULE",
-        "The name of a schedule file",
-    )?)
+    with(
+        program,
+        two_values(
+            alloc,
+            "run",
+            "Shows what happens on the bus of the plan by the schedule",
+            "PLAN",
+            "The name of a plan file",
+            "SCHEDULE",
+            "The name of a schedule file",
+        ),
+    )
 }
 
 fn with_read<'a>(alloc: Global, program: Command<'a>) -> Result<Command<'a>, AllocError>
     ensures { IfOk result (λ c. app_of c ≡ with_subcommand (app_of program.entry) (two_values (codes "read") (codes "PLAN") (codes "LOG")).top) }
 {
-    program.subcommand(two_values(
-        alloc,
-        "read",
-        "Shows what the log says of the plan's groups",
-        "PLAN",
-        "The name of a plan file",
-        "LOG",
-        "The name of a file as candump -L writes it. If the last line counts bad lines, words behind the data, as R or T, \
+    with(
+        program,
+        two_values(
+            alloc,
+            "read",
+            "Shows what the log says of the plan's groups",
+            "PLAN",
+            "The name of a plan file",
+            "LOG",
+            "The name of a file as candump -L writes it. If the last line counts bad lines, words behind the data, as R or T, \
             are the usual cause: sed -E 's/ [RT]\\r?$//' LOG takes them away",
-    )?)
+        ),
+    )
 }
 
 /// The commands.

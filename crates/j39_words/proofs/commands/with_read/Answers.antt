@@ -1,10 +1,6 @@
-use Rattle.std.proofs.Common.{ap, ◌∙◌}
-use Rattle.std.proofs.lemmas.Result.{IfOk-weaker}
-use Rattle.clap.specs.Words.{App, app_of, with_subcommand}
+use Rattle.clap.specs.Words.{app_of}
+use Rattle.j39_words.proofs.CommandLaws.{added}
 use Rattle.j39_words.proofs.commands.with_read.Goals as goal
 
 pub returns : goal.returns
-returns c = IfOk-weaker c.subcommand.result _ _
-    (λ r adds. adds.shape c.in_ok-two_values.ensures.local
-    ∙ ap (λ (a : App). with_subcommand (app_of c.args.program) a.top) c.in_ok-two_values.ensures.app)
-    c.subcommand.ensures
+returns c = added (app_of c.args.program) _ c.with.result c.two_values.result c.two_values.ensures.app c.with.ensures
