@@ -1,13 +1,15 @@
 //! The program.
-ghost use Rattle.std.specs.Prelude.{ℕ, IfOk, List};
+ghost use Rattle.std.specs.Prelude.{◌≡◌, ℕ, IfOk, List, OnSome};
 ghost use Rattle.std.specs.Io.KnownBytes.{Appends};
 ghost use Rattle.j39_app.specs.Answers.{IsAnswer, IsAnswerOfTwo, IsPlannedRun};
+ghost use Rattle.j39_check.specs.PlanText.{IsPlanText};
 ghost use Rattle.j39_log.specs.ReadText.{IsReadText};
 
 use crate::{
     Fault, FromRead, Order, Sink, ToWrite, Verdict, WordsFault, check_text, frame_text, input_text,
     order, plan_text, put_all, read_text, run_planned, status,
 };
+use j39_findings::Plan;
 use std::env::Env;
 use std::fmt::Display;
 use std::io::ErrorKind;
@@ -35,6 +37,43 @@ fn opened<R: Files>(rt: &R, name: &str) -> Result<FromRead<R::File>, Fault> {
     }
 }
 
+// The plan of a file. Where the file describes none, writes why, and gives none.
+fn plan_of<R: Files + AllocGlobal, W: Sink>(
+    rt: &R,
+    name: &str,
+    sink: &mut W,
+) -> Result<Option<Plan>, Fault>
+    ensures written { IfOk result (λ plan. (bytes : List ℕ) × (text : List ℕ)
+        × IsPlanText bytes text plan × Appends (W.taken sink.old) (W.taken sink.new) text) }
+    ensures silent { IfOk result (λ plan. OnSome plan (sink.new ≡ sink.old)) }
+{
+    plan_text(rt.alloc(), &mut opened(rt, name)?, sink)
+}
+
+fn run_by<R: Files + AllocGlobal, W: Sink>(
+    rt: &R,
+    plan: &Plan,
+    schedule: &str,
+    sink: &mut W,
+) -> Result<Verdict, Fault>
+    ensures { IfOk result (λ verdict. (bytes : List ℕ) × (text : List ℕ)
+        × IsPlannedRun plan.now bytes text verdict × Appends (W.taken sink.old) (W.taken sink.new) text) }
+{
+    run_planned(rt.alloc(), plan, &mut opened(rt, schedule)?, sink)
+}
+
+fn read_by<R: Files + AllocGlobal, W: Sink>(
+    rt: &R,
+    plan: &Plan,
+    log: &str,
+    sink: &mut W,
+) -> Result<Verdict, Fault>
+    ensures { IfOk result (λ verdict. (bytes : List ℕ) × (text : List ℕ)
+        × IsReadText plan.now bytes text verdict × Appends (W.taken sink.old) (W.taken sink.new) text) }
+{
+    read_text(rt.alloc(), plan, &mut opened(rt, log)?, sink)
+}
+
 // Writes what happens on the bus of a plan by a schedule, whose file is opened once the plan was read.
 fn run_files<R: Files + AllocGlobal, W: Sink>(
     rt: &R,
@@ -44,10 +83,10 @@ fn run_files<R: Files + AllocGlobal, W: Sink>(
 ) -> Result<Verdict, Fault>
     ensures { IfOk result (λ verdict. (text : List ℕ) × IsAnswerOfTwo IsPlannedRun text verdict × Appends (W.taken sink.old) (W.taken sink.new) text) }
 {
-    let Some(plan) = plan_text(rt.alloc(), &mut opened(rt, plan)?, sink)? else {
-        return Ok(Verdict::Unreadable);
-    };
-    run_planned(rt.alloc(), &plan, &mut opened(rt, schedule)?, sink)
+    match plan_of(rt, plan, sink)? {
+        Some(plan) => run_by(rt, &plan, schedule, sink),
+        None => Ok(Verdict::Unreadable),
+    }
 }
 
 // Writes what a log says of the groups of a plan; the log's file is opened once the plan was read.
@@ -59,10 +98,10 @@ fn read_files<R: Files + AllocGlobal, W: Sink>(
 ) -> Result<Verdict, Fault>
     ensures { IfOk result (λ verdict. (text : List ℕ) × IsAnswerOfTwo IsReadText text verdict × Appends (W.taken sink.old) (W.taken sink.new) text) }
 {
-    let Some(plan) = plan_text(rt.alloc(), &mut opened(rt, plan)?, sink)? else {
-        return Ok(Verdict::Unreadable);
-    };
-    read_text(rt.alloc(), &plan, &mut opened(rt, log)?, sink)
+    match plan_of(rt, plan, sink)? {
+        Some(plan) => read_by(rt, &plan, log, sink),
+        None => Ok(Verdict::Unreadable),
+    }
 }
 
 // Does what the words order.

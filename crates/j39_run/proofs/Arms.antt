@@ -139,7 +139,8 @@ module _ {plan : Plan} {b : BusState} {place : ℕ} {text : List ℕ} {f : Feedi
 
 -- a step that is refused ends the lines, and one for which memory was wanted cuts them off
 pub refused_ends : {plan : Plan} {b : BusState} {place : ℕ} {text : List ℕ} {f : Feeding} {first now : Option (List ℕ)} {p q : ℕ}
-    {x y : Option (List ℕ)} {step : Step} → IsDue plan b place text f first now p q x y step → (bus : BusState) (error : StepError) (end : Result Halt Fault) → bus ≡ b
+    {x y : Option (List ℕ)} {step : Step} → IsDue plan b place text f first now p q x y step
+    → (bus : BusState) (error : StepError) (end : Result Halt Fault) → bus ≡ b
     → ((l : Plan) (w : World) → Stands b l w → refusal l w step ≡ cause_of error) → IfOk end (λ halt. halt ≡ AtStep place error)
     → OnOk end (cause_of error ≡ Some error) → EndsSo plan bus text first now p q x y end
 refused_ends {plan} {b} {place} {text} {f} {first} {now} {p} {q} {x} {y} d bus error (Ok halt) same refuses at told =
