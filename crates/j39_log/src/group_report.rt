@@ -1,6 +1,7 @@
 //! The lines that report a group.
 ghost use Rattle.std.specs.Prelude.{◌≡◌, [], ◌∷◌, ◌++◌, ◌<◌, codes, length, map, OnOk};
 ghost use Rattle.std.specs.Fmt.{signed_decimal};
+ghost use Rattle.hex.specs.Hex.{encode_upper};
 ghost use Rattle.j39_text.specs.Texts.{field};
 ghost use Rattle.j39_log.specs.LogReports.{group_line, group_report, signal_line, signal_lines, way_text};
 ghost use Rattle.j39_log.specs.inside.ValueLines.{value_line_of, value_lines_of};
@@ -8,6 +9,7 @@ ghost use Rattle.j39_log.specs.inside.ValueLines.{value_line_of, value_lines_of}
 use crate::value_line::ValueLine;
 use j39_findings::GroupPlan;
 use j39_id::Ident;
+use j39_id::limits::FRAME_BYTES;
 use j39_signal::{Layout, Signal, State};
 use j39_text::{TextBuffer, write_destination};
 use std::alloc::AllocError;
@@ -87,6 +89,18 @@ fn write_way(text: &mut TextBuffer, ident: Ident) -> Result<(), AllocError>
     write_destination(text, ident)
 }
 
+// The digits of the bytes. Those of a full frame are written apart, which is faster since their count is known there.
+#[inline(always)]
+fn write_digits(text: &mut TextBuffer, bytes: &[u8]) -> Result<(), AllocError>
+    ensures { OnOk result (text.new ≡ text.old ++ encode_upper bytes.now) }
+{
+    if bytes.len() == FRAME_BYTES {
+        text.hex(&bytes[..FRAME_BYTES])
+    } else {
+        text.hex(bytes)
+    }
+}
+
 #[tactic(auto, unfolding(crate::specs::LogReports::group_line))]
 fn write_group_line(
     text: &mut TextBuffer,
@@ -100,7 +114,7 @@ fn write_group_line(
     text.word(group.label.as_str())?;
     write_way(text, ident)?;
     text.word(" bytes ")?;
-    text.hex(bytes)?;
+    write_digits(text, bytes)?;
     text.end_line()
 }
 
