@@ -5,7 +5,7 @@ use Rattle.j39_bus.proofs.bus.Bus.new.Goals as goal
 
 pub returns-then-len-clause-refused : goal.returns-then-len-clause-refused
 returns-then-len-clause-refused g c = λ same.
-    c.if-len.true (omega (arith, same, c.len.ensures, c.len-2.ensures, c.args.choosers.ok.0, c.args.plan.now.units.ok.0))
+    omega (arith, same, c.if-len.true, c.len.ensures, c.len-2.ensures, c.args.choosers.ok.0, c.args.plan.now.units.ok.0)
 
 pub returns-in-Some-clause-refused : goal.returns-in-Some-clause-refused
 returns-in-Some-clause-refused g c =
