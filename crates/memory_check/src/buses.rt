@@ -83,6 +83,7 @@ fn are_alike(first: &Bus, second: &Bus) -> bool {
 }
 
 // Does the steps on two buses of these choosers. A step that wants memory leaves its bus like the other, and is done again.
+// (The buses have one way out, since each way drops them.)
 fn are_done(
     alloc: Global,
     plan: &Plan,
@@ -92,6 +93,7 @@ fn are_done(
 ) -> Result<bool, BusError> {
     let mut bus = Bus::new(alloc, plan, choosers)?;
     let mut other = Bus::new(alloc, plan, other_choosers)?;
+    let mut is_done = true;
     for step in steps {
         let mut first = bus.step(step);
         if first == Err(StepError::Memory) && are_alike(&bus, &other) {
@@ -101,11 +103,17 @@ fn are_done(
         if second == Err(StepError::Memory) {
             second = other.step(step);
         }
-        if first.is_err() || second.is_err() || !are_alike(&bus, &other) {
-            return Ok(false);
-        }
+        is_done &= first.is_ok() && second.is_ok() && are_alike(&bus, &other);
     }
-    Ok(bus.reports().len() == 1)
+    Ok(is_done && bus.reports().len() == 1)
+}
+
+fn steps_of(alloc: Global, moves: &[Move]) -> Result<Vec<Step>, AllocError> {
+    let mut steps = Vec::new(alloc);
+    for step in moves {
+        steps.push(step_of(alloc, *step)?)?;
+    }
+    Ok(steps)
 }
 
 /// Whether each move is done, on two buses that are alike after each.
@@ -115,15 +123,12 @@ pub fn is_answered(alloc: Global, plan: &str, moves: &[Move]) -> Result<bool, Al
         Err(PlanError::Memory) => return Err(AllocError),
         Err(_) => return Ok(false),
     };
+    let steps = steps_of(alloc, moves)?;
     let mut choosers: Vec<Box<dyn Choose>> = Vec::new(alloc);
     let mut other_choosers: Vec<Box<dyn Choose>> = Vec::new(alloc);
     for _ in 0..plan.units.len() {
         choosers.push(Box::new(alloc, Lowest)?)?;
         other_choosers.push(Box::new(alloc, Lowest)?)?;
-    }
-    let mut steps = Vec::new(alloc);
-    for step in moves {
-        steps.push(step_of(alloc, *step)?)?;
     }
     match are_done(alloc, &plan, choosers, other_choosers, steps.as_slice()) {
         Err(BusError::Memory) => Err(AllocError),
