@@ -10,6 +10,7 @@ mod words;
 use j39_vectors::{
     CHECK_OF_A_FINDING, CHECK_OF_A_PLAN, ROWS, RUN_OF_A_BROADCAST, RUN_OF_A_MESSAGE,
 };
+use std::alloc::Global;
 
 fn say(rt: &impl Print, what: &str, is_right: bool) -> Result<(), anyhow::Error> {
     let answer = if is_right { "right" } else { "wrong" };
@@ -18,35 +19,50 @@ fn say(rt: &impl Print, what: &str, is_right: bool) -> Result<(), anyhow::Error>
 }
 
 // Each call is made again where a growth of its own was refused.
-fn main(rt: HostRuntime) -> Result<(), anyhow::Error> {
-    let alloc = rt.alloc();
+fn say_commands(rt: &impl Print, alloc: Global) -> Result<(), anyhow::Error> {
     for row in ROWS {
         let answer = commands::is_answered(alloc, &row);
         say(
-            &rt,
+            rt,
             row.name,
             answer.or_else(|_| commands::is_answered(alloc, &row))?,
         )?;
     }
+    Ok(())
+}
+
+fn say_plans(rt: &impl Print, alloc: Global) -> Result<(), anyhow::Error> {
     for row in [CHECK_OF_A_PLAN, CHECK_OF_A_FINDING] {
         let answer = plans::comes_back(alloc, &row);
         say(
-            &rt,
+            rt,
             "a plan, checked",
             answer.or_else(|_| plans::comes_back(alloc, &row))?,
         )?;
     }
+    Ok(())
+}
+
+fn say_buses(rt: &impl Print, alloc: Global) -> Result<(), anyhow::Error> {
     for (plan, moves) in [
         (RUN_OF_A_BROADCAST.plan, buses::BROADCAST.as_slice()),
         (RUN_OF_A_MESSAGE.plan, &buses::MESSAGE),
     ] {
         let answer = buses::is_answered(alloc, plan, moves);
         say(
-            &rt,
+            rt,
             "a bus",
             answer.or_else(|_| buses::is_answered(alloc, plan, moves))?,
         )?;
     }
+    Ok(())
+}
+
+fn main(rt: HostRuntime) -> Result<(), anyhow::Error> {
+    let alloc = rt.alloc();
+    say_commands(&rt, alloc)?;
+    say_plans(&rt, alloc)?;
+    say_buses(&rt, alloc)?;
     let answer = words::are_answered(alloc);
     say(
         &rt,

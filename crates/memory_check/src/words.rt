@@ -19,17 +19,32 @@ fn ordered(alloc: Global, texts: &[&str]) -> Result<Result<Order, WordsFault>, A
     }
 }
 
+fn is_input(answer: Result<Order, WordsFault>) -> bool {
+    matches!(&answer, Ok(Order::Input))
+}
+
+fn is_frame(answer: Result<Order, WordsFault>, wanted: &str) -> bool {
+    matches!(&answer, Ok(Order::Frame(line)) if line.as_str() == wanted)
+}
+
+fn is_run(answer: Result<Order, WordsFault>, wanted: &str) -> bool {
+    matches!(&answer, Ok(Order::Run(_, schedule)) if schedule.as_str() == wanted)
+}
+
+fn is_help(answer: Result<Order, WordsFault>, wanted: &str) -> bool {
+    matches!(&answer, Ok(Order::Help(text)) if text.as_str() == wanted)
+}
+
+fn is_bad(answer: Result<Order, WordsFault>) -> bool {
+    matches!(&answer, Err(WordsFault::Bad))
+}
+
 /// Whether words of each kind are understood.
 pub fn are_answered(alloc: Global) -> Result<bool, AllocError> {
-    let none = ordered(alloc, &[])?;
-    let frame = ordered(alloc, &["frame", "123#00"])?;
-    let run = ordered(alloc, &["run", "a", "b"])?;
-    let version = ordered(alloc, &["--version"])?;
-    let bad = ordered(alloc, &["jump"])?;
-    let are_commands = matches!(&none, Ok(Order::Input))
-        && matches!(&frame, Ok(Order::Frame(line)) if line.as_str() == "123#00")
-        && matches!(&run, Ok(Order::Run(_, schedule)) if schedule.as_str() == "b");
-    let are_texts = matches!(&version, Ok(Order::Help(text)) if text.as_str() == "j39plan 0.1.0\n")
-        && matches!(&bad, Err(WordsFault::Bad));
-    Ok(are_commands && are_texts)
+    let none = is_input(ordered(alloc, &[])?);
+    let frame = is_frame(ordered(alloc, &["frame", "123#00"])?, "123#00");
+    let run = is_run(ordered(alloc, &["run", "a", "b"])?, "b");
+    let version = is_help(ordered(alloc, &["--version"])?, "j39plan 0.1.0\n");
+    let bad = is_bad(ordered(alloc, &["jump"])?);
+    Ok(none && frame && run && version && bad)
 }
