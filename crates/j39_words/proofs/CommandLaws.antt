@@ -1,13 +1,23 @@
 -- What is known of the commands.
-use Rattle.std.proofs.Common.{◌≡◌, ◌∙◌, ap, refl, true, Err, IfOk, IsOkAnd, Ok, Result}
-use Rattle.clap.specs.Words.{App, app_of, is_simple, with_subcommand}
+use Rattle.std.proofs.Common.{◌≡◌, ◌⊎◌, ◌∙◌, ap, inl, inr, refl, subst, sym, true, false, Err, IfOk, IsOkAnd, List, Ok, Result}
+use Rattle.std.proofs.lemmas.Bool.{true≢false}
+use Rattle.clap.specs.Words.{App, HasKind, IsAmong, Text, app_of, fault_of, is_simple, is_simple_and_free, with_subcommand}
 use Rattle.clap.specs.declared.builder.command.Command.{Command}
+use Rattle.clap.specs.declared.error.Error.{Error}
+use Rattle.clap.specs.declared.error.kind.ErrorKind.{ErrorKind}
+use Rattle.clap.specs.declared.error.kind.ErrorKind.TheVariants.{OutOfMemory}
 use Rattle.j39_words.specs.Commands.{commands}
+use Rattle.j39_words.specs.Orders.{AreRefused, AsksHelp, faults, is_request}
 
 -- the command is one of which `clap` gives the matches
 pub is_simple_commands : is_simple commands ≡ true
 unfolding commands
 is_simple_commands = refl
+
+-- no value of the command has a rule on another
+pub is_simple_and_free_commands : is_simple_and_free commands ≡ true
+unfolding commands
+is_simple_and_free_commands = refl
 
 -- a subcommand was added
 pub added : {E : Type 0} (program wanted : App) (made sub : Result Command E) → IfOk sub (λ s. app_of s ≡ wanted)
@@ -16,3 +26,19 @@ pub added : {E : Type 0} (program wanted : App) (made sub : Result Command E) �
 added program wanted (Ok c) (Ok s) is adds = adds ∙ ap (λ (a : App). with_subcommand program a.top) is
 added program wanted (Ok c) (Err e) is adds = absurd adds
 added program wanted (Err e) sub is adds = tt
+
+-- what is told of words is a fault of theirs, or want of memory
+pub has_fault : (a : App) (words : List Text) (e : Error) → a ≡ commands → HasKind (fault_of a words) e → HasKind (faults words) e
+unfolding faults
+has_fault a words e is has = subst (λ (b : App). HasKind (fault_of b words) e) is has
+
+-- a request that is told is one of the words
+pub asks : (words : List Text) (k : ErrorKind) → (k ≡ OutOfMemory) ⊎ IsAmong k (faults words) → is_request k ≡ true → AsksHelp words
+asks words k (inl memory) is = absurd (true≢false (sym is ∙ ap is_request memory))
+asks words k (inr among) is = (k, among, is)
+
+-- another fault that is told is one of the words, unless memory was wanted
+pub refuses : (words : List Text) (k : ErrorKind) → (k ≡ OutOfMemory) ⊎ IsAmong k (faults words) → is_request k ≡ false
+    → (k ≡ OutOfMemory → ⊥) → AreRefused words
+refuses words k (inl memory) is other = absurd (other memory)
+refuses words k (inr among) is other = inl (k, among, is)

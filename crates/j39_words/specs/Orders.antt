@@ -1,7 +1,9 @@
 -- What a command line orders.
-use Rattle.std.specs.Prelude.{◌≡◌, List, Option, Some, codes, string_bytes, [], ◌∷◌}
-use Rattle.clap.specs.Words.{Row, Text, first_of, subcommand_of}
+use Rattle.std.specs.Prelude.{◌≡◌, ◌⊎◌, Bool, true, false, List, Option, Some, codes, string_bytes, [], ◌∷◌}
+use Rattle.clap.specs.Words.{IsAmong, Kinds, Row, Text, fault_of, first_of, subcommand_of}
 use Rattle.j39_words.specs.Commands.{commands}
+use Rattle.clap.specs.declared.error.kind.ErrorKind.{ErrorKind}
+use Rattle.clap.specs.declared.error.kind.ErrorKind.TheVariants as kind
 use Rattle.j39_words.specs.declared.orders.Order.{Order}
 use Rattle.j39_words.specs.declared.orders.Order.TheVariants.{Input, Frame, Check, Run, Read, Help}
 
@@ -32,3 +34,25 @@ IsHelp (Read plan log) = ⊥
 abbrev pub Answers : List Text → Order → Type 0
 Answers [] order = order ≡ Input
 Answers (word ∷ words) order = Orders (subcommand_of commands (word ∷ words)) order
+
+-- nothing is ordered, but a text of help may be asked for
+abbrev pub OrdersNothing : Option (Text × List Row) → Type 0
+OrdersNothing met = (order : Order) → Orders met order → IsHelp order
+
+-- a call for the help or the version, which clap tells as it tells a fault
+abbrev pub is_request : ErrorKind → Bool
+is_request kind.DisplayHelp = true
+is_request kind.DisplayVersion = true
+is_request _ = false
+
+-- the faults of the words, of which one is told
+unfoldable pub faults : List Text → Kinds
+faults words = fault_of commands words
+
+-- the words ask for a text of help
+abbrev pub AsksHelp : List Text → Type 0
+AsksHelp words = (k : ErrorKind) × IsAmong k (faults words) × (is_request k ≡ true)
+
+-- the words are no command with its values: they have a fault, or nothing is ordered by them
+abbrev pub AreRefused : List Text → Type 0
+AreRefused words = ((k : ErrorKind) × IsAmong k (faults words) × (is_request k ≡ false)) ⊎ OrdersNothing (subcommand_of commands words)

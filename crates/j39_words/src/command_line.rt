@@ -1,8 +1,10 @@
 //! The words of the command line, read.
-ghost use Rattle.std.specs.Prelude.{◌≡◌, [], IfOk, Some, map, string_bytes};
-ghost use Rattle.clap.specs.Words.{first_of, found_of, rows_of, subcommand_of, subcommand_rows_of};
+ghost use Rattle.std.specs.Prelude.{◌≡◌, Err, None, true, false, [], IfOk, Some, map, string_bytes};
+ghost use Rattle.clap.specs.Words.{first_of, found_of, kind_of, rows_of, subcommand_of, subcommand_rows_of};
 ghost use Rattle.j39_words.specs.Commands.{commands};
-ghost use Rattle.j39_words.specs.Orders.{Answers, IsHelp, Orders};
+ghost use Rattle.j39_words.specs.Orders.{Answers, AreRefused, AsksHelp, IsHelp, Orders, OrdersNothing, is_request};
+ghost use Rattle.j39_words.specs.declared.orders.WordsFault.TheVariants.{Bad};
+ghost use Rattle.clap.specs.declared.error.kind.ErrorKind.TheVariants.{OutOfMemory};
 
 use crate::commands::commands;
 use crate::orders::{Order, WordsFault};
@@ -12,7 +14,8 @@ use std::alloc::Global;
 
 // The value that a command asks for by this name.
 fn value(alloc: Global, values: &ArgMatches, name: &str) -> Result<String, WordsFault>
-    ensures { IfOk result (λ s. first_of name.now (rows_of (found_of values.now)) ≡ Some (string_bytes s)) }
+    ensures given { IfOk result (λ s. first_of name.now (rows_of (found_of values.now)) ≡ Some (string_bytes s)) }
+    ensures missing { result ≡ Err Bad → first_of name.now (rows_of (found_of values.now)) ≡ None }
 {
     match values.get_str(name) {
         Some(text) => Ok(String::from_str(alloc, text)?),
@@ -21,7 +24,9 @@ fn value(alloc: Global, values: &ArgMatches, name: &str) -> Result<String, Words
 }
 
 fn command(alloc: Global, name: &str, values: &ArgMatches) -> Result<Order, WordsFault>
-    ensures { IfOk result (Orders (Some (name.now, rows_of (found_of values.now)))) }
+    ensures ordered { IfOk result (Orders (Some (name.now, rows_of (found_of values.now)))) }
+    ensures named { IfOk result (λ o. IsHelp o → ⊥) }
+    ensures refused { result ≡ Err Bad → OrdersNothing (Some (name.now, rows_of (found_of values.now))) }
 {
     match name {
         "frame" => Ok(Order::Frame(value(alloc, values, "LINE")?)),
@@ -37,7 +42,9 @@ fn command(alloc: Global, name: &str, values: &ArgMatches) -> Result<Order, Word
 
 // What the matches order.
 fn met(alloc: Global, matches: &ArgMatches) -> Result<Order, WordsFault>
-    ensures { IfOk result (Orders (subcommand_rows_of matches.now)) }
+    ensures ordered { IfOk result (Orders (subcommand_rows_of matches.now)) }
+    ensures named { IfOk result (λ o. IsHelp o → ⊥) }
+    ensures refused { result ≡ Err Bad → OrdersNothing (subcommand_rows_of matches.now) }
 {
     match matches.subcommand() {
         Some((name, values)) => command(alloc, name, values),
@@ -47,7 +54,10 @@ fn met(alloc: Global, matches: &ArgMatches) -> Result<Order, WordsFault>
 
 // What is ordered by words that give no matches.
 fn unmet(alloc: Global, error: &Error) -> Result<Order, WordsFault>
-    ensures { IfOk result IsHelp }
+    ensures helped { IfOk result IsHelp }
+    ensures request { IfOk result (λ _. is_request (kind_of error.now) ≡ true) }
+    ensures fault { result ≡ Err Bad → is_request (kind_of error.now) ≡ false }
+    ensures memory { kind_of error.now ≡ OutOfMemory → result ≡ Err Bad → ⊥ }
 {
     match error.kind() {
         ErrorKind::OutOfMemory => Err(WordsFault::Memory),
@@ -59,7 +69,9 @@ fn unmet(alloc: Global, error: &Error) -> Result<Order, WordsFault>
 }
 
 fn parsed(alloc: Global, words: &[String]) -> Result<Order, WordsFault>
-    ensures { IfOk result (Orders (subcommand_of commands (map string_bytes words.now))) }
+    ensures ordered { IfOk result (Orders (subcommand_of commands (map string_bytes words.now))) }
+    ensures helped { IfOk result (λ o. IsHelp o → AsksHelp (map string_bytes words.now)) }
+    ensures refused { result ≡ Err Bad → AreRefused (map string_bytes words.now) }
 {
     match commands(alloc)?.try_get_matches_from(words) {
         Ok(matches) => met(alloc, &matches),
@@ -71,6 +83,8 @@ fn parsed(alloc: Global, words: &[String]) -> Result<Order, WordsFault>
 pub fn order(alloc: Global, words: Vec<String>) -> Result<Order, WordsFault>
     ensures input { words.items ≡ [] → result ≡ Ok Order.Input }
     ensures ordered { IfOk result (Answers (map string_bytes words.items)) }
+    ensures helped { IfOk result (λ o. IsHelp o → AsksHelp (map string_bytes words.items)) }
+    ensures refused { result ≡ Err Bad → AreRefused (map string_bytes words.items) }
 {
     if words.is_empty() {
         Ok(Order::Input)
