@@ -73,6 +73,7 @@ fn two_values<'a>(
     one_value(alloc, name, about, first, first_help)?.arg(value(alloc, second, second_help))
 }
 
+// Adds a subcommand, if it could be made.
 fn with<'a>(
     program: Command<'a>,
     subcommand: Result<Command<'a>, AllocError>,
