@@ -1,13 +1,10 @@
 -- What stays where a step changes other parts of a network.
 use Rattle.std.proofs.Common.{◌≡◌, ℕ, List, Option, length, map, sym, ap, ◌∙◌, subst}
 use Rattle.std.proofs.Math.Path.{transport}
-use Rattle.std.proofs.lemmas.List.{length-map}
-use Rattle.j39_claim.specs.ClaimRule.{PlannedUnit}
-use Rattle.j39_claim.specs.ClaimerValue.{ClaimerValue}
 use Rattle.j39_findings.specs.declared.plan.Plan.{Plan}
 use Rattle.j39_findings.specs.declared.steps.Step.{Step}
 use Rattle.j39_bus.specs.declared.network.Network.{Network}
-use Rattle.j39_queues.specs.Queued.{IsTable, pair_in}
+use Rattle.j39_queues.specs.Queued.{IsTable}
 use Rattle.j39_world.specs.declared.flow.Flow.{Flow}
 use Rattle.j39_world.specs.Transfers.{Outgoing}
 use Rattle.j39_world.specs.declared.wired.Wired.{Wired}
@@ -15,11 +12,9 @@ use Rattle.j39_bus.proofs.Wires.{as_table}
 use Rattle.j39_bus.specs.BusState.{Histories, ReceiverTable, world_of}
 use Rattle.j39_bus.specs.Reports.{reported_of}
 use Rattle.j39_bus.specs.Stands.{HoldTaken}
-use Rattle.j39_bus.specs.inside.Network.{HasHeld, HasStepped, IsNetwork, IsOfPlan, IsSameNetwork, IsWellFormed, KeepsPlan}
-use Rattle.j39_bus.specs.inside.Network.{TakesOldest, planned_units, state_of, world_in}
+use Rattle.j39_bus.specs.inside.Network.{HasHeld, HasStepped, IsOfPlan, IsSameNetwork, KeepsPlan, planned_units, state_of, world_in}
 use Rattle.j39_bus.specs.inside.Traffic.{IsTraffic}
 use Rattle.j39_world.specs.Sent.{sent_of}
-use Rattle.j39_world.specs.TransferSteps.{TakenFrom}
 use Rattle.j39_world.specs.World.{World}
 use Rattle.j39_world.specs.Run.{StepsTo}
 
@@ -33,32 +28,6 @@ plan_kept old new plan keeps of = record {
   units = keeps.planned_units ∙ of.units;
   flows = keeps.flows ∙ of.flows;
   windows = keeps.windows ∙ of.windows;
-}
-
--- one change after another
-pub plan_then : (old mid new : Network) → KeepsPlan old mid → KeepsPlan mid new → KeepsPlan old new
-plan_then old mid new first next = record {
-  planned_units = next.planned_units ∙ first.planned_units;
-  flows = next.flows ∙ first.flows;
-  windows = next.windows ∙ first.windows;
-}
-
--- there are as many units as before
-pub units_kept : (old new : Network) → KeepsPlan old new → length new.claimers.items ≡ length old.claimers.items
-units_kept old new keeps = sym (length-map new.claimers.items planned) ∙ ap length keeps.planned_units ∙ length-map old.claimers.items planned
-  where
-    planned : ClaimerValue → PlannedUnit
-    planned c = c.planned
-
--- only reports have changed
-pub reported_network : (mid new : Network) → new ≡ record mid { reports = new.reports } → IsNetwork mid → IsNetwork new
-reported_network mid new is well = transport (λ i. IsNetwork (sym is i)) (record { claims = well.claims; traffic = well.traffic })
-
-pub reported_plan : (mid new : Network) → new ≡ record mid { reports = new.reports } → KeepsPlan mid new
-reported_plan mid new is = record {
-  planned_units = ap (λ (m : Network). planned_units m.claimers.items) is;
-  flows = ap (λ (m : Network). m.flows.items) is;
-  windows = ap (λ (m : Network). m.receivers.windows) is;
 }
 
 -- ---- a network of which nothing that is seen has changed
@@ -88,21 +57,6 @@ module _ (old new : Network) (same : IsSameNetwork old new) where
   steps_after plan step after steps h held =
       let (next, goes, has) = steps h (held_same h held) in
       (next, subst (λ (w : World). StepsTo plan w step (world_in next after)) (world_same h) goes, has)
-
-  pub takes_after : (u v : ℕ) (after : Network) → TakesOldest new u v after → TakesOldest old u v after
-  takes_after u v after takes h held =
-      let (next, taken, has) = takes h (held_same h held) in (
-        next,
-        transport (λ i. TakenFrom (same.receivers i).windows (world_same h i) u v (pair_in (same.wire i) u v) (world_in next after)) taken,
-        has,
-      )
-
-  pub network_same : IsNetwork old → IsNetwork new
-  network_same well = record {
-    claims = transport (λ i. IsWellFormed (sym same.claimers i) (sym same.claims i)) well.claims;
-    traffic = transport
-        (λ i. IsTraffic (length (sym same.claimers i)) (sym same.flows i) (sym same.sessions i) (sym same.wire i) (sym same.receivers i)) well.traffic;
-  }
 
 -- ---- only claims and frames have changed
 

@@ -1,9 +1,7 @@
 use Rattle.std.proofs.Common.{◌≡◌, ℕ, ◌≤◌, List, length, vec_capacity, sym, ap, ◌∙◌, subst}
-use Rattle.std.proofs.lemmas.Bool.{true≢false}
-use Rattle.j39_tp.specs.declared.receiving.manner.Manner.TheVariants.{Answering}
 use Rattle.j39_tp.specs.Receiver.{Receiving, hears, receives}
 use Rattle.j39_bus.specs.BusState.{Holding}
-use Rattle.j39_bus.specs.inside.Receivers.{HasRoomFor, IsAnswering, answering, holding_of, is_complete, left_of}
+use Rattle.j39_bus.specs.inside.Receivers.{HasRoomFor, IsAnswering, answering, holding_of, is_complete}
 use Rattle.j39_bus.proofs.HeardPackets.{room_enough}
 use Rattle.j39_bus.proofs.receivers.hear_in.Goals as goal
 use Rattle.j39_bus.proofs.receivers.hear_in.Goals.{then-is_announcement+in_ok-fill, else-is_announcement}
@@ -37,38 +35,3 @@ returns-clause-answering c =
       | else-is_announcement w ↦ subst (IsAnswering c.args.window) (sym w.slot-is) c.requires.answering
     ] in
     c.leave.ensures.answering c.args.window (c.tell-heard.ensures.answering c.args.window answers)
-
-pub tell-heard-requires : goal.tell-heard-requires
-tell-heard-requires c = record {
-  ready = elim c.if-is_announcement.branch [
-    | then-is_announcement+in_ok-fill w ↦ λ opened none. w.in_ok-fill.ensures.filled (sym w.slot-is ∙ none)
-    | else-is_announcement w ↦ λ opened none. absurd (true≢false (sym opened ∙ sym c.is_announcement.ensures ∙ w.if-is_announcement.false))
-  ];
-}
-
-pub returns-clause-heard : goal.returns-clause-heard
-returns-clause-heard c =
-    let slot = c.if-is_announcement.slot in
-    let answers : IsAnswering c.args.window slot = elim c.if-is_announcement.branch [
-      | then-is_announcement+in_ok-fill w ↦ subst (IsAnswering c.args.window) (sym w.slot-is) w.fill.ensures.answering
-      | else-is_announcement w ↦ subst (IsAnswering c.args.window) (sym w.slot-is) c.requires.answering
-    ] in
-    let same : holding_of slot ≡ holding_of c.args.slot.now = elim c.if-is_announcement.branch [
-      | then-is_announcement+in_ok-fill w ↦ ap holding_of w.slot-is ∙ w.fill.ensures.same
-      | else-is_announcement w ↦ ap holding_of w.slot-is
-    ] in
-    c.tell-heard.ensures.heard c.args.window answers ∙ (λ i. (hears (Answering c.args.window) (same i).progress c.args.packet.now).1)
-
-pub returns-clause-after : goal.returns-clause-after
-returns-clause-after c =
-    let slot = c.if-is_announcement.slot in
-    let answers : IsAnswering c.args.window slot = elim c.if-is_announcement.branch [
-      | then-is_announcement+in_ok-fill w ↦ subst (IsAnswering c.args.window) (sym w.slot-is) w.fill.ensures.answering
-      | else-is_announcement w ↦ subst (IsAnswering c.args.window) (sym w.slot-is) c.requires.answering
-    ] in
-    let same : holding_of slot ≡ holding_of c.args.slot.now = elim c.if-is_announcement.branch [
-      | then-is_announcement+in_ok-fill w ↦ ap holding_of w.slot-is ∙ w.fill.ensures.same
-      | else-is_announcement w ↦ ap holding_of w.slot-is
-    ] in
-    c.leave.ensures.left ∙ ap left_of (c.tell-heard.ensures.after c.args.window answers)
-    ∙ (λ i. left_of (receives (answering c.args.window (same i)) c.args.packet.now))

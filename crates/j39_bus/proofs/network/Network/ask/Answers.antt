@@ -4,7 +4,7 @@ use Rattle.j39_world.specs.ClaimSteps.{asked}
 use Rattle.j39_bus.specs.inside.Network.{world_in}
 use Rattle.j39_bus.proofs.Refused.{nowhere, unit_inside}
 use Rattle.j39_bus.specs.declared.network.Network.{Network}
-use Rattle.j39_bus.proofs.Steady.{network_same, plan_kept, plan_same, plan_then, steps_after, steps_same}
+use Rattle.j39_bus.proofs.Steady.{plan_kept, plan_same, steps_after, steps_same}
 use Rattle.j39_bus.proofs.network.Network.ask.Goals as goal
 
 pub reserve-requires-clause-from : goal.reserve-requires-clause-from
@@ -23,17 +23,3 @@ returns-clause-steps c = λ plan of.
     steps_after net mid c.reserve.ensures.same plan (Ask c.args.unit) c.request.new.self
     (steps_same plan mid (Ask c.args.unit) c.request.new.self (λ h. c.request.ensures.world h ∙ ap (λ us. asked us (world_in h mid) c.args.unit) of_mid.units)
     (ap (λ (m : Network). m.receivers) c.request.ensures.rest))
-
-pub returns-in_err-reserve-clause-network : goal.returns-in_err-reserve-clause-network
-returns-in_err-reserve-clause-network c = network_same c.args.self.now c.reserve.new.self c.reserve.ensures.same c.requires.network
-
-pub returns-in_err-reserve-clause-plan : goal.returns-in_err-reserve-clause-plan
-returns-in_err-reserve-clause-plan c = plan_same c.args.self.now c.reserve.new.self c.reserve.ensures.same
-
-pub request-requires-clause-network : goal.request-requires-clause-network
-request-requires-clause-network c = network_same c.args.self.now c.reserve.new.self c.reserve.ensures.same c.requires.network
-
-pub returns-clause-plan : goal.returns-clause-plan
-returns-clause-plan c =
-    plan_then c.args.self.now c.reserve.new.self c.request.new.self (plan_same c.args.self.now c.reserve.new.self c.reserve.ensures.same)
-    c.request.ensures.plan

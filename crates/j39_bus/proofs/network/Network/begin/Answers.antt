@@ -9,7 +9,7 @@ use Rattle.j39_world.specs.TransferSteps.{BeginsAt, begins}
 use Rattle.j39_bus.proofs.BeginRefused.{flow_inside, is_in_length, planned_flow, flow_fits}
 use Rattle.j39_bus.proofs.Refused.{nowhere}
 use Rattle.j39_bus.proofs.Rested.{units_count}
-use Rattle.j39_bus.proofs.Steady.{network_same, plan_same, plan_then, steps_after}
+use Rattle.j39_bus.proofs.Steady.{steps_after}
 use Rattle.j39_bus.proofs.network.Network.begin.Goals as goal
 
 pub index-requires : goal.index-requires
@@ -51,16 +51,3 @@ returns-clause-steps c = λ plan of.
       subst (λ o. BeginsAt (count_of plan) (world_in h mid) c.args.place o bytes.items (world_in after c.start.new.self)) (sym planned) begun,
       subst (HoldTaken h.taken) (sym c.start.ensures.receivers) held,
     ))
-
-pub returns-in_err-targets-clause-network : goal.returns-in_err-targets-clause-network
-returns-in_err-targets-clause-network c = network_same c.args.self.now c.prepare.new.self c.prepare.ensures.same c.requires.network
-
-pub returns-in_err-targets-clause-plan : goal.returns-in_err-targets-clause-plan
-returns-in_err-targets-clause-plan c = plan_same c.args.self.now c.prepare.new.self c.prepare.ensures.same
-
-pub start-requires-clause-network : goal.start-requires-clause-network
-start-requires-clause-network c = network_same c.args.self.now c.prepare.new.self c.prepare.ensures.same c.requires.network
-
-pub returns-clause-plan : goal.returns-clause-plan
-returns-clause-plan c =
-    plan_then c.args.self.now c.prepare.new.self c.start.new.self (plan_same c.args.self.now c.prepare.new.self c.prepare.ensures.same) c.start.ensures.plan

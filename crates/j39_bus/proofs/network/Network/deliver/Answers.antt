@@ -1,4 +1,4 @@
-use Rattle.std.proofs.Common.{◌≡◌, ℕ, true, List, length, map, get_or, ap, sym, ◌∙◌, Some, None, refl, subst, arith}
+use Rattle.std.proofs.Common.{◌≡◌, ℕ, true, List, length, map, get_or, ap, sym, ◌∙◌, Some, None, refl, subst}
 use Rattle.std.proofs.Math.ListN.{length-set}
 use Rattle.j39_claim.specs.ClaimerValue.{ClaimerValue, can_note}
 use Rattle.j39_queues.specs.Queued.{IsTable, pair_in}
@@ -103,18 +103,3 @@ returns-in-None-clause-world g c = λ h.
     _ (sym (told_nothing (planned_units c.hear-answer.new.claimers.items)
     (world (world_in h c.args.self.now) c.hear-answer.new.claimers.items (pair_in c.pop.new.self.lists) (map sent_of c.args.self.now.frames.items))
     c.args.to))
-
-pub pop-requires-clause-from : goal.pop-requires-clause-from
-pop-requires-clause-from g c =
-    omega (arith, c.requires.from, c.requires.network.claims.table.rows)
-
-pub pop-requires-clause-to : goal.pop-requires-clause-to
-pop-requires-clause-to g c =
-    omega (arith, c.requires.to, c.requires.network.claims.table.rows)
-
-pub tell-requires-clause-from : goal.tell-requires-clause-from
-tell-requires-clause-from g c =
-    let cs : List ClaimerValue = c.args.self.now.claimers.items in
-    let same = ap length c.in-Some-answer.ensures.rule.1 ∙ length-set cs c.args.to
-    (record (get_or cs c.args.to absent_unit) { state = c.in-Some-answer.ensures.rule.0 }) in
-    omega (arith, c.requires.to, same)

@@ -7,7 +7,7 @@ use Rattle.j39_queues.specs.Queued.{pair_in}
 use Rattle.j39_bus.specs.inside.Network.{world_in}
 use Rattle.j39_bus.proofs.Refused.{none_refuses, nowhere, pair_inside}
 use Rattle.j39_bus.specs.declared.network.Network.{Network}
-use Rattle.j39_bus.proofs.Steady.{network_same, plan_kept, plan_same, plan_then, steps_after, steps_same}
+use Rattle.j39_bus.proofs.Steady.{plan_kept, plan_same, steps_after, steps_same}
 use Rattle.j39_bus.proofs.network.Network.give.Goals as goal
 
 pub reserve-requires-clause-from : goal.reserve-requires-clause-from
@@ -41,17 +41,3 @@ returns-clause-steps g c = λ plan of.
     (λ h. subst (λ us. GivenFrom us (world_in h mid) c.args.from c.args.to (pair_in mid.claims.lists c.args.from c.args.to) (world_in h c.deliver.new.self))
     of_mid.units (c.deliver.ensures.world h))
     (ap (λ (m : Network). m.receivers) c.deliver.ensures.rest))
-
-pub returns-in_err-reserve-clause-network : goal.returns-in_err-reserve-clause-network
-returns-in_err-reserve-clause-network g c = network_same c.args.self.now c.reserve.new.self c.reserve.ensures.same c.requires.network
-
-pub returns-in_err-reserve-clause-plan : goal.returns-in_err-reserve-clause-plan
-returns-in_err-reserve-clause-plan g c = plan_same c.args.self.now c.reserve.new.self c.reserve.ensures.same
-
-pub deliver-requires-clause-network : goal.deliver-requires-clause-network
-deliver-requires-clause-network g c = network_same c.args.self.now c.reserve.new.self c.reserve.ensures.same c.requires.network
-
-pub returns-clause-plan : goal.returns-clause-plan
-returns-clause-plan g c =
-    plan_then c.args.self.now c.reserve.new.self c.deliver.new.self (plan_same c.args.self.now c.reserve.new.self c.reserve.ensures.same)
-    c.deliver.ensures.plan

@@ -1,8 +1,8 @@
-use Rattle.std.proofs.Common.{◌≡◌, ◌∷◌, ◌++◌, ◌<◌, ◌≤◌, [], List, length, vec_len, vec_capacity, refl, ap, sym, ◌∙◌, subst, drop, arith, Option, Some, None}
+use Rattle.std.proofs.Common.{◌≡◌, ◌∷◌, ◌++◌, [], List, refl, ap, sym, ◌∙◌, subst, drop}
 use Rattle.j39_tp.specs.declared.packet.Packet.{Packet}
 use Rattle.j39_tp.specs.declared.receiving.heard.Heard.{Heard}
 use Rattle.j39_world.specs.declared.wired.Wired.{Wired}
-use Rattle.j39_queues.specs.Queued.{pair_in, room_at}
+use Rattle.j39_queues.specs.Queued.{pair_in}
 use Rattle.j39_bus.specs.BusState.{Histories}
 use Rattle.j39_bus.specs.Stands.{HoldTaken}
 use Rattle.j39_bus.specs.declared.network.Network.{Network}
@@ -13,16 +13,10 @@ use Rattle.j39_world.specs.Transfers.{Reported}
 use Rattle.j39_world.specs.World.{World}
 use Rattle.j39_world.specs.TransferSteps.{TakenFrom, hearing, packets_in, reaction_of, receiver_replies, replied, report, sender_replies}
 use Rattle.j39_bus.proofs.HeardPackets.{flow_kept, no_report, one_report}
-use Rattle.j39_bus.proofs.Steady.{plan_then, reported_network, reported_plan, units_kept}
 use Rattle.j39_bus.proofs.Wires.{replied_twice}
 use Rattle.j39_bus.proofs.Worlds.{append_nil}
 use Rattle.j39_bus.proofs.network.Network.hear_packet.Goals as goal
 use Rattle.j39_bus.proofs.network.Network.hear_packet.Goals.{then-is_complete, else-is_complete}
-
--- at most one packet
-packets_most : (o : Option Packet) → length (packets_in o) ≤ 1
-packets_most None = omega arith
-packets_most (Some p) = omega arith
 
 pub returns-clause-takes : goal.returns-clause-takes
 returns-clause-takes c = λ h held.
@@ -74,144 +68,3 @@ returns-clause-takes c = λ h held.
         | else-is_complete t ↦ subst (HoldTaken after.taken) (sym (ap (λ (m : Network). m.receivers) t.self-is)) (listened.held h held)
       ]),
     )
-
-pub report-requires-clause-from : goal.report-requires-clause-from
-report-requires-clause-from c =
-    omega (arith, c.requires.from, units_kept c.args.self.now c.listen.new.self c.listen.ensures.plan)
-
-pub report-requires-clause-room : goal.report-requires-clause-room
-report-requires-clause-room c =
-    subst (λ r. vec_len r < vec_capacity r) (sym c.listen.ensures.reports) c.requires.reports
-
-pub reply-requires-clause-network : goal.reply-requires-clause-network
-reply-requires-clause-network c =
-    let mid = c.listen.new.self in
-    let now = c.if-is_complete.self in
-    let same : now ≡ record mid { reports = now.reports } = elim c.if-is_complete.branch [
-      | then-is_complete t ↦ t.self-is ∙ t.report.ensures.rest ∙ (λ i. record mid { reports = (sym t.self-is i).reports })
-      | else-is_complete t ↦ t.self-is ∙ (λ i. record mid { reports = (sym t.self-is i).reports })
-    ] in
-    reported_network mid now same c.listen.ensures.network
-
-pub reply-requires-clause-from : goal.reply-requires-clause-from
-reply-requires-clause-from c =
-    let mid = c.listen.new.self in
-    let now = c.if-is_complete.self in
-    let same : now ≡ record mid { reports = now.reports } = elim c.if-is_complete.branch [
-      | then-is_complete t ↦ t.self-is ∙ t.report.ensures.rest ∙ (λ i. record mid { reports = (sym t.self-is i).reports })
-      | else-is_complete t ↦ t.self-is ∙ (λ i. record mid { reports = (sym t.self-is i).reports })
-    ] in
-    let count = units_kept c.args.self.now mid c.listen.ensures.plan in
-    let count_now = ap (λ (m : Network). length m.claimers.items) same in
-    omega (arith, c.requires.to, count, count_now)
-
-pub reply-requires-clause-to : goal.reply-requires-clause-to
-reply-requires-clause-to c =
-    let mid = c.listen.new.self in
-    let now = c.if-is_complete.self in
-    let same : now ≡ record mid { reports = now.reports } = elim c.if-is_complete.branch [
-      | then-is_complete t ↦ t.self-is ∙ t.report.ensures.rest ∙ (λ i. record mid { reports = (sym t.self-is i).reports })
-      | else-is_complete t ↦ t.self-is ∙ (λ i. record mid { reports = (sym t.self-is i).reports })
-    ] in
-    let count = units_kept c.args.self.now mid c.listen.ensures.plan in
-    let count_now = ap (λ (m : Network). length m.claimers.items) same in
-    omega (arith, c.requires.from, count, count_now)
-
-pub reply-requires-clause-wire : goal.reply-requires-clause-wire
-reply-requires-clause-wire c =
-    let mid = c.listen.new.self in
-    let now = c.if-is_complete.self in
-    let same : now ≡ record mid { reports = now.reports } = elim c.if-is_complete.branch [
-      | then-is_complete t ↦ t.self-is ∙ t.report.ensures.rest ∙ (λ i. record mid { reports = (sym t.self-is i).reports })
-      | else-is_complete t ↦ t.self-is ∙ (λ i. record mid { reports = (sym t.self-is i).reports })
-    ] in
-    let one = packets_most c.reply_of.result in
-    let wire = ap (λ (m : Network). room_at m.wire c.args.to c.args.from) same in
-    let kept = c.listen.ensures.room c.args.to c.args.from in
-    omega (arith, c.requires.wire, one, wire, kept)
-
-pub reply-requires-clause-frames : goal.reply-requires-clause-frames
-reply-requires-clause-frames c =
-    let mid = c.listen.new.self in
-    let now = c.if-is_complete.self in
-    let same : now ≡ record mid { reports = now.reports } = elim c.if-is_complete.branch [
-      | then-is_complete t ↦ t.self-is ∙ t.report.ensures.rest ∙ (λ i. record mid { reports = (sym t.self-is i).reports })
-      | else-is_complete t ↦ t.self-is ∙ (λ i. record mid { reports = (sym t.self-is i).reports })
-    ] in
-    let one = packets_most c.reply_of.result in
-    let long = ap (λ (m : Network). vec_len m.frames) same ∙ ap vec_len c.listen.ensures.frames in
-    let room = ap (λ (m : Network). vec_capacity m.frames) same ∙ ap vec_capacity c.listen.ensures.frames in
-    omega (arith, c.requires.frames, one, long, room)
-
-pub reply-requires-2-clause-network : goal.reply-requires-2-clause-network
-reply-requires-2-clause-network c =
-    c.reply.ensures.network
-
-pub reply-requires-2-clause-from : goal.reply-requires-2-clause-from
-reply-requires-2-clause-from c =
-    let mid = c.listen.new.self in
-    let now = c.if-is_complete.self in
-    let same : now ≡ record mid { reports = now.reports } = elim c.if-is_complete.branch [
-      | then-is_complete t ↦ t.self-is ∙ t.report.ensures.rest ∙ (λ i. record mid { reports = (sym t.self-is i).reports })
-      | else-is_complete t ↦ t.self-is ∙ (λ i. record mid { reports = (sym t.self-is i).reports })
-    ] in
-    let count = units_kept c.args.self.now mid c.listen.ensures.plan in
-    let count_now = ap (λ (m : Network). length m.claimers.items) same in
-    let count_then = units_kept now c.reply.new.self c.reply.ensures.plan in
-    omega (arith, c.requires.to, count, count_now, count_then)
-
-pub reply-requires-2-clause-to : goal.reply-requires-2-clause-to
-reply-requires-2-clause-to c =
-    let mid = c.listen.new.self in
-    let now = c.if-is_complete.self in
-    let same : now ≡ record mid { reports = now.reports } = elim c.if-is_complete.branch [
-      | then-is_complete t ↦ t.self-is ∙ t.report.ensures.rest ∙ (λ i. record mid { reports = (sym t.self-is i).reports })
-      | else-is_complete t ↦ t.self-is ∙ (λ i. record mid { reports = (sym t.self-is i).reports })
-    ] in
-    let count = units_kept c.args.self.now mid c.listen.ensures.plan in
-    let count_now = ap (λ (m : Network). length m.claimers.items) same in
-    let count_then = units_kept now c.reply.new.self c.reply.ensures.plan in
-    omega (arith, c.requires.from, count, count_now, count_then)
-
-pub reply-requires-2-clause-wire : goal.reply-requires-2-clause-wire
-reply-requires-2-clause-wire c =
-    let mid = c.listen.new.self in
-    let now = c.if-is_complete.self in
-    let same : now ≡ record mid { reports = now.reports } = elim c.if-is_complete.branch [
-      | then-is_complete t ↦ t.self-is ∙ t.report.ensures.rest ∙ (λ i. record mid { reports = (sym t.self-is i).reports })
-      | else-is_complete t ↦ t.self-is ∙ (λ i. record mid { reports = (sym t.self-is i).reports })
-    ] in
-    let one = packets_most c.reply_of.result in
-    let more = packets_most c.answer_of.result in
-    let wire = ap (λ (m : Network). room_at m.wire c.args.to c.args.from) same in
-    let kept = c.listen.ensures.room c.args.to c.args.from in
-    omega (arith, c.requires.wire, one, more, wire, kept, c.reply.ensures.wire)
-
-pub reply-requires-2-clause-frames : goal.reply-requires-2-clause-frames
-reply-requires-2-clause-frames c =
-    let mid = c.listen.new.self in
-    let now = c.if-is_complete.self in
-    let same : now ≡ record mid { reports = now.reports } = elim c.if-is_complete.branch [
-      | then-is_complete t ↦ t.self-is ∙ t.report.ensures.rest ∙ (λ i. record mid { reports = (sym t.self-is i).reports })
-      | else-is_complete t ↦ t.self-is ∙ (λ i. record mid { reports = (sym t.self-is i).reports })
-    ] in
-    let one = packets_most c.reply_of.result in
-    let more = packets_most c.answer_of.result in
-    let long = ap (λ (m : Network). vec_len m.frames) same ∙ ap vec_len c.listen.ensures.frames in
-    let room = ap (λ (m : Network). vec_capacity m.frames) same ∙ ap vec_capacity c.listen.ensures.frames in
-    omega (arith, c.requires.frames, one, more, long, room, c.reply.ensures.frames, c.reply.ensures.frames_len)
-
-pub returns-clause-network : goal.returns-clause-network
-returns-clause-network c =
-    c.reply-2.ensures.network
-
-pub returns-clause-plan : goal.returns-clause-plan
-returns-clause-plan c =
-    let mid = c.listen.new.self in
-    let now = c.if-is_complete.self in
-    let same : now ≡ record mid { reports = now.reports } = elim c.if-is_complete.branch [
-      | then-is_complete t ↦ t.self-is ∙ t.report.ensures.rest ∙ (λ i. record mid { reports = (sym t.self-is i).reports })
-      | else-is_complete t ↦ t.self-is ∙ (λ i. record mid { reports = (sym t.self-is i).reports })
-    ] in
-    plan_then c.args.self.now now c.reply-2.new.self (plan_then c.args.self.now mid now c.listen.ensures.plan (reported_plan mid now same))
-    (plan_then now c.reply.new.self c.reply-2.new.self c.reply.ensures.plan c.reply-2.ensures.plan)

@@ -3,7 +3,7 @@ use Rattle.j39_findings.specs.declared.steps.Step.TheVariants.{LateReceiver}
 use Rattle.j39_bus.specs.inside.Network.{world_in}
 use Rattle.j39_world.specs.TransferSteps.{receiver_timed_out}
 use Rattle.j39_bus.proofs.Refused.{nowhere, pair_inside}
-use Rattle.j39_bus.proofs.Steady.{network_same, plan_kept, plan_same, plan_then, steps_after}
+use Rattle.j39_bus.proofs.Steady.{plan_kept, plan_same, steps_after}
 use Rattle.j39_bus.proofs.network.Network.late_receiver.Goals as goal
 
 pub reserve_replies-requires-clause-from : goal.reserve_replies-requires-clause-from
@@ -35,18 +35,3 @@ returns-clause-steps c = λ plan of.
       c.ask_again.ensures.world h ∙ ap (λ ws. receiver_timed_out ws (world_in h mid) c.args.from c.args.to) of_mid.windows,
       c.ask_again.ensures.held h held,
     ))
-
-pub returns-in_err-reserve_replies-clause-network : goal.returns-in_err-reserve_replies-clause-network
-returns-in_err-reserve_replies-clause-network c = network_same c.args.self.now c.reserve_replies.new.self c.reserve_replies.ensures.same c.requires.network
-
-pub returns-in_err-reserve_replies-clause-plan : goal.returns-in_err-reserve_replies-clause-plan
-returns-in_err-reserve_replies-clause-plan c = plan_same c.args.self.now c.reserve_replies.new.self c.reserve_replies.ensures.same
-
-pub ask_again-requires-clause-network : goal.ask_again-requires-clause-network
-ask_again-requires-clause-network c = network_same c.args.self.now c.reserve_replies.new.self c.reserve_replies.ensures.same c.requires.network
-
-pub returns-clause-plan : goal.returns-clause-plan
-returns-clause-plan c =
-    plan_then c.args.self.now c.reserve_replies.new.self c.ask_again.new.self
-    (plan_same c.args.self.now c.reserve_replies.new.self c.reserve_replies.ensures.same)
-    c.ask_again.ensures.plan

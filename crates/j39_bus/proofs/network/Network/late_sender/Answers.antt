@@ -5,7 +5,7 @@ use Rattle.j39_bus.specs.BusState.{session_at}
 use Rattle.j39_world.specs.Run.{is_waiting}
 use Rattle.std.proofs.lemmas.Bool.{not-false}
 use Rattle.j39_bus.proofs.Refused.{none_refuses, nowhere, unit_inside}
-use Rattle.j39_bus.proofs.Steady.{network_same, plan_same, plan_then, steps_after}
+use Rattle.j39_bus.proofs.Steady.{steps_after}
 use Rattle.j39_bus.proofs.network.Network.late_sender.Goals as goal
 
 pub reserve_along-requires-clause-unit : goal.reserve_along-requires-clause-unit
@@ -26,17 +26,3 @@ returns-clause-steps c = λ plan planned.
     let mid = c.reserve_along.new.self in
     steps_after c.args.self.now mid c.reserve_along.ensures.same plan (LateSender c.args.unit) c.give_up.new.self
     (λ h held. (h, c.give_up.ensures.world h, subst (HoldTaken h.taken) (sym c.give_up.ensures.receivers) held))
-
-pub returns-in_err-reserve_along-clause-network : goal.returns-in_err-reserve_along-clause-network
-returns-in_err-reserve_along-clause-network c = network_same c.args.self.now c.reserve_along.new.self c.reserve_along.ensures.same c.requires.network
-
-pub returns-in_err-reserve_along-clause-plan : goal.returns-in_err-reserve_along-clause-plan
-returns-in_err-reserve_along-clause-plan c = plan_same c.args.self.now c.reserve_along.new.self c.reserve_along.ensures.same
-
-pub give_up-requires-clause-network : goal.give_up-requires-clause-network
-give_up-requires-clause-network c = network_same c.args.self.now c.reserve_along.new.self c.reserve_along.ensures.same c.requires.network
-
-pub returns-clause-plan : goal.returns-clause-plan
-returns-clause-plan c =
-    plan_then c.args.self.now c.reserve_along.new.self c.give_up.new.self (plan_same c.args.self.now c.reserve_along.new.self c.reserve_along.ensures.same)
-    c.give_up.ensures.plan

@@ -1,4 +1,4 @@
-use Rattle.std.proofs.Common.{◌≡◌, ℕ, true, ◌&&◌, eqb, List, [], ◌∷◌, ◌++◌, length, refl, ap, sym, ◌∙◌, subst, arith}
+use Rattle.std.proofs.Common.{◌≡◌, ℕ, true, ◌&&◌, eqb, List, [], ◌∷◌, ◌++◌, length, ap, sym, ◌∙◌, subst}
 use Rattle.std.proofs.lemmas.Bool.{cond-false}
 use Rattle.j39_tp.specs.Carried.{Carried}
 use Rattle.j39_tp.specs.inside.Gathered.{Gathers}
@@ -74,30 +74,3 @@ returns-clause-complete c = λ h held done.
       holds.pgn,
       subst (Carried (h.taken v u ++ p ∷ []) (length (h.taken v u)) holds.pgn) (sym (c.in_ok-heard.ensures.message done)) holds.carried,
     )
-
-pub hear-requires-clause-from : goal.hear-requires-clause-from
-hear-requires-clause-from c = omega (arith, c.requires.from, c.requires.network.traffic.windows)
-
-pub hear-requires-clause-to : goal.hear-requires-clause-to
-hear-requires-clause-to c = omega (arith, c.requires.to, c.requires.network.traffic.windows)
-
-pub pop-requires-clause-from : goal.pop-requires-clause-from
-pop-requires-clause-from c = omega (arith, c.requires.from, c.requires.network.traffic.table.rows)
-
-pub pop-requires-clause-to : goal.pop-requires-clause-to
-pop-requires-clause-to c = omega (arith, c.requires.to, c.requires.network.traffic.table.rows)
-
-pub hear-reaction-requires : goal.hear-reaction-requires
-hear-reaction-requires c = omega (arith, c.requires.to, c.requires.network.traffic.sessions.count)
-
-pub returns-clause-plan : goal.returns-clause-plan
-returns-clause-plan c = record { planned_units = refl; flows = refl; windows = c.hear.ensures.windows }
-
-pub returns-clause-room : goal.returns-clause-room
-returns-clause-room c = c.pop.ensures.room
-
-pub returns-clause-heard : goal.returns-clause-heard
-returns-clause-heard c = λ h. c.in_ok-heard.ensures.heard
-
-pub returns-clause-reaction : goal.returns-clause-reaction
-returns-clause-reaction c = λ h. c.hear-reaction.ensures.reaction

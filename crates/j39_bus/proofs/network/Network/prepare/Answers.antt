@@ -1,4 +1,4 @@
-use Rattle.std.proofs.Common.{◌∙◌, length, refl, sym, ap, subst, arith}
+use Rattle.std.proofs.Common.{◌∙◌, length, sym, ap, subst}
 use Rattle.j39_bus.specs.Stations.{station_at}
 use Rattle.j39_bus.specs.inside.Traffic.{AreUnits}
 use Rattle.j39_world.specs.TransferSteps.{targets_of}
@@ -13,19 +13,3 @@ reserve_each-requires-clause-targets c =
     let targets = c.as_slice-2.ensures.value ∙ c.in_ok-targets.ensures
     ∙ ap (λ l. targets_of (length l) (station_at l) r.sender r.to) c.as_slice.ensures.value in
     subst (λ n. AreUnits n c.as_slice-2.result.now) (sym c.requires.network.traffic.table.rows) (subst (AreUnits (length cs)) (sym targets) units)
-
-pub reserve_each-requires-clause-from : goal.reserve_each-requires-clause-from
-reserve_each-requires-clause-from c =
-    omega (arith, c.requires.flow.sender, c.requires.network.traffic.table.rows)
-
-pub returns-clause-same : goal.returns-clause-same
-returns-clause-same c = record {
-  claimers = refl;
-  claims = refl;
-  flows = refl;
-  sessions = refl;
-  wire = c.reserve_each.ensures.lists;
-  receivers = refl;
-  reports = refl;
-  frames = c.reserve.ensures.items;
-}

@@ -5,7 +5,6 @@ use Rattle.j39_claim.specs.ClaimerValue.{ClaimerValue}
 use Rattle.j39_queues.specs.Queued.{IsTable}
 use Rattle.j39_world.specs.ClaimSteps.{tell}
 use Rattle.j39_bus.specs.inside.Claims.{HasRoomForOthers}
-use Rattle.j39_bus.specs.declared.network.Network.{Network}
 use Rattle.j39_bus.specs.Stations.{absent_unit, station_at}
 use Rattle.j39_bus.specs.inside.Network.{planned_units, world_in}
 use Rattle.j39_bus.proofs.WellFormed.{well_told}
@@ -49,18 +48,3 @@ returns-clause-world c = λ h.
     c.tell-2.ensures.world h
     ∙ (λ i. tell (planned_units (same i)) (c.tell.ensures.world h i) c.args.unit (Told (said i) ∷ []))
     ∙ told_twice (planned_units cs) (world_in h c.args.self.now) c.args.unit Request (Told (claim_of (station_at cs c.args.unit).address))
-
-pub tell-requires-clause-table : goal.tell-requires-clause-table
-tell-requires-clause-table c = c.requires.network.claims.table
-
-pub tell-requires-2-clause-from : goal.tell-requires-2-clause-from
-tell-requires-2-clause-from c = omega (arith, c.requires.place, ap (λ v. length v.items) c.tell.ensures.claimers)
-
-pub returns-clause-plan : goal.returns-clause-plan
-returns-clause-plan c =
-    let told = ap (λ v. v.items) (c.tell-2.ensures.claimers ∙ c.tell.ensures.claimers) in
-    record {
-      planned_units = ap planned_units told;
-      flows = ap (λ (m : Network). m.flows.items) c.tell-2.ensures.rest ∙ ap (λ (m : Network). m.flows.items) c.tell.ensures.rest;
-      windows = ap (λ (m : Network). m.receivers.windows) c.tell-2.ensures.rest ∙ ap (λ (m : Network). m.receivers.windows) c.tell.ensures.rest;
-    }

@@ -4,11 +4,11 @@ use Rattle.std.proofs.lemmas.List.{map-append}
 use Rattle.j39_bus.specs.BusState.{session_at}
 use Rattle.j39_bus.specs.Stations.{station_at}
 use Rattle.j39_bus.specs.inside.Network.{world_in}
-use Rattle.j39_bus.specs.inside.Traffic.{AreUnits, HasRoomTo, IsSession, item_frame}
+use Rattle.j39_bus.specs.inside.Traffic.{AreUnits, IsSession, item_frame}
 use Rattle.j39_bus.proofs.Begun.{first_framed}
 use Rattle.j39_bus.proofs.ChangedSessions.{session_set, sessions_changed, some_is}
 use Rattle.j39_bus.proofs.Wires.{as_table, targets_units}
-use Rattle.j39_queues.specs.Queued.{IsTable, pair_in}
+use Rattle.j39_queues.specs.Queued.{pair_in}
 use Rattle.j39_world.specs.declared.flow.Flow.{Flow}
 use Rattle.j39_world.specs.Sent.{Sent, sent_of}
 use Rattle.j39_world.specs.Transfers.{Begun, Outgoing, added}
@@ -71,20 +71,3 @@ returns-clause-world c = λ h.
     (c.frame_of-frame.ensures ∙ (λ i. item_frame (c.source-source.ensures i) (c.destination-destination.ensures i) flow (c.begin-session.ensures.item i))
     ∙ first_framed stations flow c.args.bytes.now) in
     λ i. record (world_in h net) { sessions = sessions_are i; wire = wire_is i; begun = begun_is i; frames = frames_are i }
-
-pub post_each-requires-clause-table : goal.post_each-requires-clause-table
-post_each-requires-clause-table c =
-    subst (λ n. IsTable n c.args.self.now.wire.lists) (sym c.requires.network.traffic.table.rows) c.requires.network.traffic.table
-
-pub post_each-requires-clause-from : goal.post_each-requires-clause-from
-post_each-requires-clause-from c =
-    omega (arith, c.requires.flow.sender, c.requires.network.traffic.table.rows)
-
-pub post_each-requires-clause-room : goal.post_each-requires-clause-room
-post_each-requires-clause-room c =
-    subst (HasRoomTo c.args.self.now.wire c.args.flow.now.sender)
-    (sym (c.targets.ensures ∙ ap (λ (s : Outgoing). s.targets) c.begin-session.ensures.session)) c.requires.wire
-
-pub index_mut-requires : goal.index_mut-requires
-index_mut-requires c =
-    omega (arith, c.requires.flow.sender, c.requires.network.traffic.sessions.count, c.args.self.now.sessions.ok.0)

@@ -1,4 +1,4 @@
-use Rattle.std.proofs.Common.{List, length, map, set, ap, sym, ◌∙◌, subst, refl, arith}
+use Rattle.std.proofs.Common.{List, length, map, set, ap, sym, ◌∙◌, subst, refl}
 use Rattle.std.proofs.Math.ListN.{length-set}
 use Rattle.std.specs.Vec.{with_item}
 use Rattle.j39_claim.specs.ClaimerValue.{ClaimerValue}
@@ -58,19 +58,3 @@ returns-clause-world c = λ h.
     (map sent_of c.args.self.now.frames.items) c.clear_to.ensures.lists
     (pair_in c.clear_to-2.new.self.lists) c.clear_to-2.ensures.lists
     c.start-say.result c.start-say.ensures.said _ (c.tell.ensures.world h)
-
-pub clear_to-requires : goal.clear_to-requires
-clear_to-requires c =
-    omega (arith, c.requires.place, c.requires.network.claims.table.rows)
-
-pub clear_to-requires-2 : goal.clear_to-requires-2
-clear_to-requires-2 c =
-    omega (arith, c.requires.place, c.requires.network.traffic.table.rows)
-
-pub index_mut-requires : goal.index_mut-requires
-index_mut-requires c =
-    omega (arith, c.requires.place, c.args.self.now.claimers.ok.0)
-
-pub tell-requires-clause-from : goal.tell-requires-clause-from
-tell-requires-clause-from c =
-    omega (arith, c.requires.place, length-set c.args.self.now.claimers.items c.args.unit c.start-say.new.self)

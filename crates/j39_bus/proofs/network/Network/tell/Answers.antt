@@ -1,11 +1,10 @@
-use Rattle.std.proofs.Common.{◌≡◌, ◌∷◌, [], ◌++◌, ◌+◌, List, length, map, get_or, ap, sym, ◌∙◌, subst, arith}
+use Rattle.std.proofs.Common.{◌≡◌, ◌∷◌, [], ◌++◌, List, map, get_or, ap, ◌∙◌, subst}
 use Rattle.std.proofs.lemmas.List.{map-append}
 use Rattle.j39_claim.specs.ClaimerValue.{ClaimerValue}
 use Rattle.j39_queues.specs.Queued.{IsTable, pair_in}
 use Rattle.j39_world.specs.ClaimSteps.{told_to_others}
 use Rattle.j39_world.specs.Sent.{Sent, sent_of, frame_of}
 use Rattle.j39_world.specs.World.{Undelivered, World}
-use Rattle.j39_bus.specs.inside.Claims.{HasRoomForOthers}
 use Rattle.j39_bus.specs.inside.Network.{world_in}
 use Rattle.j39_bus.specs.Stations.{absent_unit, station_at}
 use Rattle.j39_bus.proofs.Worlds.{any_default, world, world_told}
@@ -31,28 +30,3 @@ returns-clause-world c = λ h.
 
 pub returns-clause-table : goal.returns-clause-table
 returns-clause-table c = subst (λ n. IsTable n c.post_to_others.new.claims.lists) c.requires.table.rows c.post_to_others.ensures.table
-
-pub index-claimer-requires : goal.index-claimer-requires
-index-claimer-requires c =
-    omega (arith, c.requires.from, c.args.self.now.claimers.ok.0)
-
-pub post_to_others-requires-clause-table : goal.post_to_others-requires-clause-table
-post_to_others-requires-clause-table c =
-    subst (λ n. IsTable n c.args.self.now.claims.lists) (sym c.requires.table.rows) c.requires.table
-
-pub post_to_others-requires-clause-units : goal.post_to_others-requires-clause-units
-post_to_others-requires-clause-units c =
-    ap length c.as_slice.ensures.value ∙ sym c.requires.table.rows
-
-pub post_to_others-requires-clause-from : goal.post_to_others-requires-clause-from
-post_to_others-requires-clause-from c =
-    omega (arith, c.requires.from, c.requires.table.rows)
-
-pub post_to_others-requires-clause-room : goal.post_to_others-requires-clause-room
-post_to_others-requires-clause-room c =
-    subst (λ cs. HasRoomForOthers c.args.self.now.claims cs c.args.from 1) (sym c.as_slice.ensures.value) c.requires.room
-
-pub returns-clause-room : goal.returns-clause-room
-returns-clause-room c =
-    λ more room. subst (λ cs. HasRoomForOthers c.post_to_others.new.claims cs c.args.from more) c.as_slice.ensures.value
-    (c.post_to_others.ensures.room more (subst (λ cs. HasRoomForOthers c.args.self.now.claims cs c.args.from (1 + more)) (sym c.as_slice.ensures.value) room))

@@ -4,7 +4,7 @@ use Rattle.j39_world.specs.ClaimSteps.{switched_on}
 use Rattle.j39_bus.specs.inside.Network.{world_in}
 use Rattle.j39_bus.proofs.Refused.{nowhere, unit_inside}
 use Rattle.j39_bus.specs.declared.network.Network.{Network}
-use Rattle.j39_bus.proofs.Steady.{network_same, plan_kept, plan_same, plan_then, steps_after, steps_same}
+use Rattle.j39_bus.proofs.Steady.{plan_kept, plan_same, steps_after, steps_same}
 use Rattle.j39_bus.proofs.network.Network.up.Goals as goal
 
 pub reserve-requires-clause-from : goal.reserve-requires-clause-from
@@ -24,17 +24,3 @@ returns-clause-steps c = λ plan of.
     (steps_same plan mid (Up c.args.unit) c.switch_on.new.self
     (λ h. c.switch_on.ensures.world h ∙ ap (λ us. switched_on us (world_in h mid) c.args.unit) of_mid.units)
     (ap (λ (m : Network). m.receivers) c.switch_on.ensures.rest))
-
-pub returns-in_err-reserve-clause-network : goal.returns-in_err-reserve-clause-network
-returns-in_err-reserve-clause-network c = network_same c.args.self.now c.reserve.new.self c.reserve.ensures.same c.requires.network
-
-pub returns-in_err-reserve-clause-plan : goal.returns-in_err-reserve-clause-plan
-returns-in_err-reserve-clause-plan c = plan_same c.args.self.now c.reserve.new.self c.reserve.ensures.same
-
-pub switch_on-requires-clause-network : goal.switch_on-requires-clause-network
-switch_on-requires-clause-network c = network_same c.args.self.now c.reserve.new.self c.reserve.ensures.same c.requires.network
-
-pub returns-clause-plan : goal.returns-clause-plan
-returns-clause-plan c =
-    plan_then c.args.self.now c.reserve.new.self c.switch_on.new.self (plan_same c.args.self.now c.reserve.new.self c.reserve.ensures.same)
-    c.switch_on.ensures.plan
