@@ -1,7 +1,6 @@
 pub mod BegunFlows
 pub mod FirstFault
 pub mod Numbers
-pub mod OrderNames
 pub mod Splits
 pub mod StepLists
 pub mod TextWords

@@ -1,9 +1,7 @@
 //! The words that orders begin with.
 ghost use Rattle.std.specs.Prelude.{◌≡◌, option_map};
-ghost use Rattle.std.specs.List.{find};
-ghost use Rattle.std.specs.Str.{bytes_eq};
 ghost use Rattle.j39_schedule.specs.Schedule.{order_named};
-ghost use Rattle.j39_schedule.specs.inside.OrderWords.{order_word, word_text};
+ghost use Rattle.j39_schedule.specs.inside.OrderWords.{order_word};
 
 /// A word that an order begins with.
 #[derive(Clone, Copy)]
@@ -20,52 +18,24 @@ pub enum OrderWord {
     Rest,
 }
 
-const ORDER_WORDS: [OrderWord; 10] = [
-    OrderWord::Up,
-    OrderWord::Down,
-    OrderWord::Give,
-    OrderWord::Ask,
-    OrderWord::Begin,
-    OrderWord::Emit,
-    OrderWord::Take,
-    OrderWord::Lose,
-    OrderWord::Late,
-    OrderWord::Rest,
-];
-
 impl OrderWord {
     /// The order word that is spelled so.
-    #[tactic(auto, using(crate::proofs::OrderNames::word_of_order))]
+    #[tactic(auto, unfolding(crate::specs::Schedule::order_named))]
     pub fn spelled(text: &[u8]) -> Option<Self>
         ensures { option_map order_word result ≡ order_named text.now }
     {
-        first_spelled(&ORDER_WORDS, text)
-    }
-
-    fn text(self) -> &'static str
-        ensures { result.now ≡ word_text self }
-    {
-        match self {
-            OrderWord::Up => "up",
-            OrderWord::Down => "down",
-            OrderWord::Give => "give",
-            OrderWord::Ask => "ask",
-            OrderWord::Begin => "begin",
-            OrderWord::Emit => "emit",
-            OrderWord::Take => "take",
-            OrderWord::Lose => "lose",
-            OrderWord::Late => "late",
-            OrderWord::Rest => "rest",
+        match text {
+            b"up" => Some(OrderWord::Up),
+            b"down" => Some(OrderWord::Down),
+            b"give" => Some(OrderWord::Give),
+            b"ask" => Some(OrderWord::Ask),
+            b"begin" => Some(OrderWord::Begin),
+            b"emit" => Some(OrderWord::Emit),
+            b"take" => Some(OrderWord::Take),
+            b"lose" => Some(OrderWord::Lose),
+            b"late" => Some(OrderWord::Late),
+            b"rest" => Some(OrderWord::Rest),
+            _ => None,
         }
     }
-}
-
-/// The first of these words that is spelled so.
-fn first_spelled(words: &[OrderWord], text: &[u8]) -> Option<OrderWord>
-    ensures { result ≡ find (λ w. bytes_eq (word_text w) text.now) words.now }
-{
-    words
-        .iter()
-        .copied()
-        .find(|word| word.text().as_bytes() == text)
 }

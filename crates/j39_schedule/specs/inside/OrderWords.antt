@@ -1,22 +1,8 @@
 -- The words of the code, as the orders of a schedule.
-use Rattle.std.specs.Prelude.{ℕ, List, [], ◌∷◌, codes}
 use Rattle.j39_findings.specs.declared.steps.Step.TheVariants.{Up, Down, Give, Ask, Emit, Take, Lose, LateSender, LateReceiver, Rest}
 use Rattle.j39_schedule.specs.Schedule.{Order, of_unit, of_units, of_unit_or_units, of_message}
 use Rattle.j39_schedule.specs.declared.order_word.OrderWord.{OrderWord}
 use Rattle.j39_schedule.specs.declared.order_word.OrderWord.TheVariants as words
-
--- how a word is spelled
-abbrev pub word_text : OrderWord → List ℕ
-word_text words.Up = codes "up"
-word_text words.Down = codes "down"
-word_text words.Give = codes "give"
-word_text words.Ask = codes "ask"
-word_text words.Begin = codes "begin"
-word_text words.Emit = codes "emit"
-word_text words.Take = codes "take"
-word_text words.Lose = codes "lose"
-word_text words.Late = codes "late"
-word_text words.Rest = codes "rest"
 
 -- the order that it begins
 abbrev pub order_word : OrderWord → Order
@@ -30,8 +16,3 @@ order_word words.Take = of_units Take
 order_word words.Lose = of_units Lose
 order_word words.Late = of_unit_or_units LateSender LateReceiver
 order_word words.Rest = of_unit Rest
-
--- all words, in the order of the orders
-abbrev pub order_words : List OrderWord
-order_words =
-    words.Up ∷ words.Down ∷ words.Give ∷ words.Ask ∷ words.Begin ∷ words.Emit ∷ words.Take ∷ words.Lose ∷ words.Late ∷ words.Rest ∷ []
