@@ -110,15 +110,14 @@ impl Session {
         self.content.late()
     }
 
-    /// What the sender does with a packet of a unit: it hears those alone that its message goes to.
+    /// What the sender does with a packet of a unit: it hears the one alone that its message goes to, and of a message to all nobody.
     pub(crate) fn hear(&mut self, from: usize, packet: &Packet) -> Reaction
         ensures reaction { result ≡ (session_hears self.old from packet.now).1 }
         ensures after { self.new ≡ record self.old { stage = (session_hears self.old from packet.now).0 } }
     {
-        if is_among(self.targets.as_slice(), from) {
-            self.content.hear(packet)
-        } else {
-            Reaction::Nothing
+        match self.to {
+            To::One(_) if is_among(self.targets.as_slice(), from) => self.content.hear(packet),
+            _ => Reaction::Nothing,
         }
     }
 
