@@ -96,10 +96,10 @@ class Names(InFolder):
                     self.assertIn(heading, anchors(page(target)), f"{name}: {link}")
 
     def test_what_is_called_proved_is_there(self):
-        sections = re.findall(r"\n## ((?:`j39_\w+`(?:, )?)+):.*?\n(.*?)(?=\n## )", page("docs/PROOFS.md"), re.DOTALL)
+        sections = proved_sections()
         self.assertGreaterEqual(len(sections), 10)
-        for heading, body in sections:
-            source = "\n".join(source_of(crate) for crate in re.findall(r"j39_\w+", heading))
+        for crates, body in sections:
+            heading, source = ", ".join(crates), "\n".join(source_of(crate) for crate in crates)
             for names, proved in re.findall(r"\n\| (`[^|]*) \| (.*) \|", body):
                 for name in re.findall(r"`([\w:]+)`", names):
                     pattern = rf"pub (?:fn|struct|enum|trait|type) {name.split('::')[-1]}\b"
@@ -107,6 +107,14 @@ class Names(InFolder):
                 for name in re.findall(r"\(((?:`\w+`(?:, )?)+)\)", proved):
                     for clause in re.findall(r"\w+", name):
                         self.assertTrue(re.search(rf"ensures {clause}\b", source), f"{heading}: {clause}")
+
+    def test_each_law_is_called_proved(self):
+        """The section of a library in docs/PROOFS.md names each law that it hands out: a public function with an empty body."""
+        sections = proved_sections()
+        named = {(crate, name) for crates, body in sections for crate in crates for name in re.findall(r"`(\w+)`", body)}
+        laws = {(crate, law) for crate in os.listdir(os.path.join(TOP, "crates")) for law in laws_of(crate)}
+        self.assertGreaterEqual(len(laws), 30)
+        self.assertEqual(sorted(laws - named), [])
 
     def test_each_module_of_definitions_has_its_place(self):
         """The table of rules in docs/ARCHITECTURE.md has each module of specs/, and no other; specs/inside/ are for proofs."""
@@ -135,10 +143,24 @@ class Names(InFolder):
             self.assertEqual(sorted(name for name in files if number.search(files[name])), homes, high + low)
 
 
+def proved_sections():
+    """The sections of docs/PROOFS.md on what is proved, each as its crates and its text."""
+    sections = re.findall(r"\n## ((?:`j39_\w+`(?:, )?)+):.*?\n(.*?)(?=\n## )", page("docs/PROOFS.md"), re.DOTALL)
+    return [(re.findall(r"j39_\w+", heading), body) for heading, body in sections]
+
+
 def source_of(crate):
     """The sources of a crate; a trait's functions are as public as it is."""
     names = glob.glob(os.path.join(TOP, "crates", crate, "src", "**", "*.rt"), recursive=True)
     return "\n".join(re.sub(r"\n    fn ", "\n    pub fn ", text_of(name)) for name in names if "tests" not in name)
+
+
+def laws_of(crate):
+    """The laws among what a crate's lib.rt hands out of its own functions."""
+    lib = os.path.join(TOP, "crates", crate, "src", "lib.rt")
+    handed_out = " ".join(re.findall(r"pub use [^;]+;", text_of(lib))) if os.path.exists(lib) else ""
+    empty = re.findall(r"^pub fn (\w+)\([^)]*\)\n(?:    .*\n)*\{\}\n", source_of(crate), re.MULTILINE)
+    return [name for name in empty if re.search(rf"\b{name}\b", handed_out)]
 
 
 def anchors(text):
