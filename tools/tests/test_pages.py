@@ -126,6 +126,13 @@ class Names(InFolder):
         there = {(crate, module) for crate, module in there if module not in ("Lib", "inside")}
         self.assertEqual(sorted(there ^ shown), [])
 
+    def test_files_to_change_are_there(self):
+        """The lists of docs/ARCHITECTURE.md on what is added where name files and folders that are there."""
+        names = re.findall(r"`([\w.-]+(?:/[\w.-]*)*)`", page("docs/ARCHITECTURE.md").split("## To add a step")[1])
+        files = [name for name in names if "/" in name]
+        self.assertGreaterEqual(len(files), 40)
+        for name in files:
+            self.assertTrue(any(os.path.exists(os.path.join(TOP, below, name)) for below in ("crates", "")), name)
 
     def test_numbers_of_services_have_one_home(self):
         """The number of a group by which the network runs stands in j39_id alone, once as code and once as a definition."""
