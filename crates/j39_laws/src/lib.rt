@@ -7,5 +7,6 @@ mod laws;
 pub use certificate::certify;
 pub use laws::{
     acknowledged_messages_were_reported, addresses_are_sound, claims_die_down,
-    conflict_runs_show_the_conflict, reports_are_sound, runs_through_are_runs,
+    conflict_runs_show_the_conflict, kept_addresses_stay_free, reports_are_sound,
+    runs_through_are_runs,
 };
