@@ -7,7 +7,6 @@ deviation is told once, at its first line, with how often it was met; proprietar
 
 import argparse
 import re
-import sys
 import tempfile
 import tomllib
 from functools import cache
@@ -26,10 +25,6 @@ ANNOUNCEMENTS = (16, 32)
 NULL = 254
 
 
-class Refused(Exception):
-    """The plan has no bus, or can't be read."""
-
-
 @cache
 def meant(word):
     """PGN, sender and destination of a frame, and the NAME that it claims an address for; or None."""
@@ -41,16 +36,23 @@ def meant(word):
     return int(found.group(1)), int(found.group(2)), found.group(3), name and name.group(1)
 
 
+def run_of(plan, schedule):
+    """The lines that the program answers to a schedule of a plan."""
+    status, answer = program.call(["run", "--", plan, schedule])
+    lines = answer.splitlines()
+    if status != 0:
+        raise program.Refused(status, lines[-1] if lines else "")
+    return lines
+
+
 def planned_units(plan, labels):
     """The units of a plan by NAME: label, preferred address, and whether it may choose."""
     with tempfile.NamedTemporaryFile("w", suffix=".schedule") as schedule:
         schedule.writelines(f"up {label}\n" for label in labels)
         schedule.flush()
-        status, answer = program.call(["run", "--", plan, schedule.name])
-    if status != 0:
-        raise Refused(answer.splitlines()[-1] if answer else f"status {status}")
+        frames = run_of(plan, schedule.name)
     units = {}
-    for label, frame in zip(labels, answer.splitlines()):
+    for label, frame in zip(labels, frames):
         _, address, _, name = meant(frame)
         units[name] = label, address, int(name, 16) >> 63 == 1
     return units
@@ -143,10 +145,7 @@ class Comparison:
 
 def compare(plan, log):
     """The comparison of a log with a plan."""
-    status, answer = program.call(["run", "--", plan, "/dev/null"])
-    if status != 0:
-        raise Refused(answer.splitlines()[-1] if answer else f"status {status}")
-    labels = [line.split()[1] for line in answer.splitlines() if line.startswith("unit ")]
+    labels = [line.split()[1] for line in run_of(plan, "/dev/null") if line.startswith("unit ")]
     with open(plan, "rb") as file:
         comparison = Comparison(tomllib.load(file), planned_units(plan, labels))
     with open(log, encoding="utf-8", errors="replace") as lines:
@@ -159,16 +158,12 @@ def compare(plan, log):
 
 
 def main(words=None):
-    """Writes the deviations; 0 where there is none, 1 where there is one, 2 where the plan or the log can't be read."""
+    """Writes the deviations; 0 where there is none, 1 where there is one."""
     parser = argparse.ArgumentParser(description=__doc__.split("\n", maxsplit=1)[0])
     parser.add_argument("plan", metavar="PLAN", help="the name of a plan file")
     parser.add_argument("log", metavar="LOG", help="the name of a file as candump -L writes it")
     given = parser.parse_args(words)
-    try:
-        found = list(compare(given.plan, given.log).deviations())
-    except (Refused, OSError, tomllib.TOMLDecodeError) as fault:
-        print(f"against: {fault}", file=sys.stderr)
-        return 2
+    found = list(compare(given.plan, given.log).deviations())
     for line, text, count in found:
         place = given.plan if line is None else f"{given.log}:{line}"
         print(f"{place}: {text}" + (f"  ({count} times)" if count > 1 else ""))
@@ -177,4 +172,4 @@ def main(words=None):
 
 
 if __name__ == "__main__":
-    sys.exit(main())
+    program.end(main)

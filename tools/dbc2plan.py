@@ -14,7 +14,7 @@ from decimal import Decimal
 from fractions import Fraction
 from math import lcm
 
-MISSING = 69
+import program
 
 # The keys of a NAME, each with the attribute of a DBC node that has it and the most that it may be.
 NAME_ATTRIBUTES = {
@@ -331,9 +331,11 @@ def load(name, bus):
         import canmatrix.formats
     except ImportError:
         print("dbc2plan: canmatrix isn't there: apt-get install python3-canmatrix python3-lxml", file=sys.stderr)
-        sys.exit(MISSING)
+        sys.exit(program.MISSING)
     try:
         buses = canmatrix.formats.loadp(name)
+    except OSError:
+        raise
     except Exception as fault:  # canmatrix raises what its parsers do
         raise LeftOut(f"canmatrix can't read it: {fault}") from fault
     if not buses:
@@ -372,4 +374,4 @@ def main(words=None):
 
 
 if __name__ == "__main__":
-    sys.exit(main())
+    program.end(main)

@@ -16,10 +16,6 @@ NULL_ADDRESS = 254
 POOL = range(128, 248)
 
 
-class Refused(Exception):
-    """The program didn't run the schedule."""
-
-
 def answer_of(plan, steps):
     """The lines that the program answers to a schedule of these steps."""
     with tempfile.NamedTemporaryFile("w", suffix=".schedule") as schedule:
@@ -28,7 +24,9 @@ def answer_of(plan, steps):
         status, answer = program.call(["run", "--", plan, schedule.name])
     lines = answer.splitlines()
     if status != 0:
-        raise Refused(next((line for line in lines if line.startswith("refused")), f"status {status}"))
+        refusal = next((line for line in lines if line.startswith("refused")), "")
+        # Of the schedule itself nothing is refused, unless the rule is played otherwise here.
+        raise program.Refused(program.FAULT if refusal.startswith("refused line") else status, refusal)
     return lines
 
 
@@ -105,7 +103,7 @@ def start_up(plan, order):
         claims = answers
     lines = answer_of(plan, steps)
     if lines[-1] != "settled":
-        raise Refused("claims are left undelivered")
+        raise program.Refused(program.FAULT, "claims are left undelivered")
     return steps, lines
 
 
@@ -113,23 +111,20 @@ def ordered(units, first):
     """All units, those that are named first in front."""
     unknown = [unit for unit in first if unit not in units]
     if unknown:
-        raise Refused(f"no unit is called {unknown[0]}")
+        raise program.Refused(program.UNREADABLE, f"no unit is called {unknown[0]}")
     return list(dict.fromkeys(first)) + [unit for unit in units if unit not in first]
 
 
 def main(words=None):
-    """Writes the schedule; 0, or 1 where there is none."""
+    """Writes the schedule."""
     parser = argparse.ArgumentParser(description=__doc__.split("\n", maxsplit=1)[0])
     parser.add_argument("plan", metavar="PLAN", help="the name of a plan file")
-    parser.add_argument("first", metavar="UNIT", nargs="*", help="units that are switched on first, in this order; "
+    parser.add_argument("first", metavar="UNIT", nargs="*", default=[],
+                        help="units that are switched on first, in this order; "
                         "then come the others, in the order of the plan")
     given = parser.parse_args(words)
-    try:
-        order = ordered(units_of(given.plan), given.first)
-        steps, lines = start_up(given.plan, order)
-    except Refused as refused:
-        print(f"startup: {refused}", file=sys.stderr)
-        return 1
+    order = ordered(units_of(given.plan), given.first)
+    steps, lines = start_up(given.plan, order)
     print(f"# Start-up of {given.plan}: all units are switched on, and every claim is delivered.")
     for step in steps:
         print(step)
@@ -140,4 +135,4 @@ def main(words=None):
 
 
 if __name__ == "__main__":
-    sys.exit(main())
+    program.end(main)

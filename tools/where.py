@@ -267,4 +267,4 @@ def main(words=None):
 
 
 if __name__ == "__main__":
-    sys.exit(main())
+    program.end(main)

@@ -112,13 +112,14 @@ class Against(InFolder):
 
     def test_what_cannot_be_compared(self):
         log = self.write("drive.log", "")
-        for plan, said in [
-            (example("findings/f01_same_name.toml"), "refused plan SameName BOOM_LEFT BOOM_RIGHT"),
-            (self.write("plan.toml", "version = 3\n"), "refused Range top key version"),
+        for plan, status, said in [
+            (example("findings/f01_same_name.toml"), 1, "refused plan SameName BOOM_LEFT BOOM_RIGHT"),
+            (self.write("plan.toml", "version = 3\n"), 2, "refused Range top key version"),
         ]:
-            self.assertEqual(run("against.py", plan, log), (2, "", f"against: {said}\n"))
-        status, _, said = run("against.py", example("first_plan.toml"), self.path("none.log"))
-        self.assertEqual((status, "none.log" in said), (2, True))
+            self.assertEqual(run("against.py", plan, log), (status, "", f"against: {said}\n"))
+        missing = self.path("none.log")
+        said = f"against: {missing}: No such file or directory\n"
+        self.assertEqual(run("against.py", example("first_plan.toml"), missing), (4, "", said))
 
 
 if __name__ == "__main__":

@@ -47,12 +47,16 @@ class Startup(InFolder):
         self.assertEqual((len(schedule), shown), (1, ["settled"]))
 
     def test_why_there_is_none(self):
-        for plan, first, said in [
-            (example("findings/f01_same_name.toml"), [], "refused plan SameName BOOM_LEFT BOOM_RIGHT"),
-            (self.write("plan.toml", "version = 3\n"), [], "refused Range top key version"),
-            (example("first_plan.toml"), ["MOTOR"], "no unit is called MOTOR"),
+        for plan, first, status, said in [
+            (example("findings/f01_same_name.toml"), [], 1, "refused plan SameName BOOM_LEFT BOOM_RIGHT"),
+            (self.write("plan.toml", "version = 3\n"), [], 2, "refused Range top key version"),
+            (example("first_plan.toml"), ["MOTOR"], 2, "no unit is called MOTOR"),
         ]:
-            self.assertEqual(run("startup.py", plan, *first), (1, "", f"startup: {said}\n"))
+            self.assertEqual(run("startup.py", plan, *first), (status, "", f"startup: {said}\n"))
+
+    def test_without_words_a_plan_is_wanted(self):
+        status, _, said = run("startup.py")
+        self.assertEqual((status, said.splitlines()[-1].split(": ")[-1]), (2, "PLAN"))
 
 
 if __name__ == "__main__":

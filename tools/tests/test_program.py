@@ -1,0 +1,79 @@
+"""How the tools end."""
+
+import os
+import subprocess
+import sys
+import unittest
+
+import program
+from tests.support import TOOLS, InFolder, example, run, text_of
+
+PLAN, LOG = example("tractor_and_implement.toml"), example("tractor_and_implement.start.log")
+CALLS = [["where.py", PLAN], ["startup.py", PLAN], ["against.py", PLAN, LOG], ["dbc2plan.py", "--help"]]
+
+# A tool of one line, as the tools are called.
+TOOL = "import sys; sys.path.insert(0, {tools!r}); sys.argv[0] = 'tool.py'; import program; program.end({main})"
+
+
+class End(InFolder):
+    def ended(self, words, **more):
+        """A tool's exit status and standard error, its standard output being given."""
+        ended = subprocess.run([sys.executable, *words], stderr=subprocess.PIPE, text=True, check=False,
+                               env={**os.environ, "J39PLAN": program.path()}, **more)
+        return ended.returncode, ended.stderr
+
+    def main(self, main):
+        """How a tool ends of which this is the main function."""
+        return self.ended(["-c", TOOL.format(tools=TOOLS, main=main)], stdout=subprocess.PIPE)
+
+    def test_the_status_is_that_of_main(self):
+        for status in (0, 1, 2):
+            self.assertEqual(self.main(f"lambda: {status}"), (status, ""))
+
+    def test_a_fault_of_a_tool_is_none_of_a_plan(self):
+        for main in ("lambda: {}['keep_free']", "lambda: int('x')", "lambda: [][0]"):
+            status, said = self.main(main)
+            self.assertEqual((status, said.startswith("Traceback")), (70, True), said)
+
+    def test_what_a_tool_refuses(self):
+        self.assertEqual(self.main("lambda: (_ for _ in ()).throw(program.Refused(1, 'no bus'))"), (1, "tool: no bus\n"))
+        self.assertEqual(self.main("lambda: (_ for _ in ()).throw(program.Refused(4))"), (4, ""))
+
+    def test_no_memory(self):
+        self.assertEqual(self.main("lambda: (_ for _ in ()).throw(MemoryError)"), (3, "tool: out of memory\n"))
+
+    def test_a_file_that_is_not_there(self):
+        self.assertEqual(self.main("lambda: open('/none')"), (4, "tool: /none: No such file or directory\n"))
+
+    def test_a_closed_pipe(self):
+        for words in CALLS:
+            reader, writer = os.pipe()
+            os.close(reader)
+            status, said = self.ended([os.path.join(TOOLS, words[0]), *words[1:]], stdout=writer)
+            os.close(writer)
+            self.assertEqual(status, 4, words)
+            self.assertNotIn("Traceback", said)
+            self.assertNotIn("Exception", said)
+
+    def test_a_full_device(self):
+        for words in CALLS:
+            with open("/dev/full", "w", encoding="utf-8") as full:
+                status, said = self.ended([os.path.join(TOOLS, words[0]), *words[1:]], stdout=full)
+            self.assertEqual((status, said.splitlines()[-1]), (4, f"{words[0][:-3]}: No space left on device"))
+
+    def test_what_the_program_says_is_passed_on(self):
+        missing, refused = self.path("none.toml"), self.write("plan.toml", "version = 3\n")
+        f01 = example("findings/f01_same_name.toml")
+        for tool, more in (("where.py", []), ("startup.py", []), ("against.py", [LOG])):
+            self.assertEqual(run(tool, missing, *more), (4, "", "j39plan: device fault\n"), tool)
+            self.assertEqual(run(tool, refused, *more)[0], 2, tool)
+            self.assertEqual(run(tool, f01, *more)[0], 1, tool)
+
+    def test_the_page_has_each_status(self):
+        page = text_of(os.path.join(TOOLS, "..", "docs", "TOOLS.md")).split("## Exit statuses\n")[1].split("\n## ")[0]
+        shown = [line.split("|")[1].strip() for line in page.splitlines() if line.startswith("| ") and line[2].isdigit()]
+        self.assertEqual(shown, ["0", "1", "2", "3", "4", "69", "70"])
+
+
+if __name__ == "__main__":
+    unittest.main()
