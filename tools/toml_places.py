@@ -59,6 +59,17 @@ class Places:
         size = len(place) + 1
         return [other[-1] for other in self.lines if len(other) == size and other[:-1] == place]
 
+    def number(self, place):
+        """The integer at the place, or None."""
+        try:
+            return int(self.spelled.get(place, ""), 0)
+        except ValueError:
+            return None
+
+    def elements(self, array):
+        """The places of the elements of the array at a place."""
+        return [array + (number,) for number in range(1, self._counts.get(array, 0) + 1)]
+
     def _read(self):
         table = ()
         while self._skip() < len(self._text):

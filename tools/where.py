@@ -53,7 +53,7 @@ class Plan:
         """The keys that the table at a place may have, with what the schema says of each."""
         names = [part for part in place if isinstance(part, str)]
         listed = (self.schema["definitions"][names[-1]] if names else self.schema)["properties"]
-        if names or self.places.spelled.get(("version",)) == "2":
+        if names or self.places.number(("version",)) == 2:
             return listed
         return {key: rule for key, rule in listed.items() if key != "keep_free"}
 
@@ -120,16 +120,12 @@ def unknown_key(plan, place):
 
 def kept_fault(plan, key):
     """The place in an array of addresses of the first that is out of range or there twice, if one is."""
-    spelled, at, seen = plan.places.spelled, 1, set()
-    while (key, at) in spelled:
-        try:
-            number = int(spelled[key, at], 0)
-        except ValueError:
-            return (at,)
+    seen = set()
+    for place in plan.places.elements((key,)):
+        number = plan.places.number(place)
         if number in seen or number not in range(128, 248):
-            return (at,)
+            return place[1:]
         seen.add(number)
-        at += 1
     return ()
 
 

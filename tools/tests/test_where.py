@@ -129,6 +129,15 @@ class Where(InFolder):
         hint = "(key address: kept free: a unit with arbitrary = true may not hold it)"
         self.assertEqual(self.answer(plan.format("242") + unit)[1][0], f"9: F12 KeptAddress A 241  {hint}")
 
+    def test_each_spelling_of_a_version(self):
+        for version in ("2", "0x2", "0b10", "0o2", "+2", "0x0_2"):
+            plan = f"version = {version}\nkeep_free = [\n  240, 241,\n  0xF0]\n"
+            hint = "(key keep_free: an array of integers 128..247, each once)"
+            self.assertEqual(self.answer(plan), (2, [f"4: refused Repeated top key keep_free  {hint}"]))
+        for version in ("1", "0x1", "+1"):
+            hint = "(key keep_free: only with version = 2)"
+            self.assertEqual(self.answer(f"version = {version}\nkeep_free = []\n"), (2, [f"2: refused UnknownKey top  {hint}"]))
+
     def test_bytes_that_are_no_text(self):
         with open(self.path("plan.toml"), "wb") as file:
             file.write(b'version = 1\n[[unit]]\nlabel = "\xb0"\n')
