@@ -8,10 +8,10 @@ deviation is told once, at its first line, with how often it was met; proprietar
 import argparse
 import re
 import tempfile
-import tomllib
 from functools import cache
 
 import program
+from toml_places import places_of
 
 FRAME = re.compile(r"([0-9A-Fa-f]{8})#((?:[0-9A-Fa-f]{2}){0,8})")
 ROUTE = re.compile(r"priority \d pgn (\d+) from (\d+) to (\d+|all)( other)?")
@@ -58,13 +58,26 @@ def planned_units(plan, labels):
     return units
 
 
+def planned_groups(places):
+    """The groups of a plan by PGN: label and length."""
+    return {
+        places.number(group + ("pgn",)): (places.texts[group + ("label",)], places.number(group + ("length",)))
+        for group in places.elements(("group",))
+    }
+
+
+def planned_flows(places):
+    """The flows of a plan: group, sender and destination."""
+    return [tuple(places.texts[flow + (key,)] for key in ("group", "from", "to")) for flow in places.elements(("flow",))]
+
+
 class Comparison:
     """What was met in a log that isn't as the plan has it."""
 
-    def __init__(self, plan, units):
+    def __init__(self, places, units):
         self.units = units
-        self.groups = {group["pgn"]: group for group in plan.get("group", [])}
-        self.flows = {(flow["group"], flow["from"], flow["to"]): 0 for flow in plan.get("flow", [])}
+        self.groups = planned_groups(places)
+        self.flows = dict.fromkeys(planned_flows(places), 0)
         self.holders = {address: name for name, (_, address, _) in units.items()}
         self.met = {}
 
@@ -99,14 +112,14 @@ class Comparison:
             self.tell(line, f"address {sender} sends: no unit has it")
         if pgn in UNPLANNED:
             return
-        group = self.groups.get(pgn)
-        if group is None:
+        if pgn not in self.groups:
             self.tell(line, f"PGN {pgn} from {who or sender}: no group has it")
             return
-        if length != group["length"]:
-            self.tell(line, f"{group['label']} from {who or sender} has {length} bytes, planned are {group['length']}")
+        label, planned = self.groups[pgn]
+        if length != planned:
+            self.tell(line, f"{label} from {who or sender} has {length} bytes, planned are {planned}")
         if who is not None:
-            self.flow(line, group["label"], who, destination)
+            self.flow(line, label, who, destination)
 
     def flow(self, line, group, who, destination):
         """A group that was sent by a unit to an address or to all."""
@@ -146,8 +159,7 @@ class Comparison:
 def compare(plan, log):
     """The comparison of a log with a plan."""
     labels = [line.split()[1] for line in run_of(plan, "/dev/null") if line.startswith("unit ")]
-    with open(plan, "rb") as file:
-        comparison = Comparison(tomllib.load(file), planned_units(plan, labels))
+    comparison = Comparison(places_of(plan), planned_units(plan, labels))
     with open(log, encoding="utf-8", errors="replace") as lines:
         for number, line in enumerate(lines, 1):
             words = line.split()

@@ -8,9 +8,9 @@ only where nothing in it is refused and it ends settled, and that run shows whic
 import argparse
 import sys
 import tempfile
-import tomllib
 
 import program
+from toml_places import places_of
 
 NULL_ADDRESS = 254
 POOL = range(128, 248)
@@ -73,19 +73,18 @@ def claim_of(frame):
     return int.from_bytes(bytes.fromhex(payload), "little"), int(identifier[-2:], 16)
 
 
-def units_on(plan, order):
-    """The units, once they are switched on in this order."""
-    with open(plan, "rb") as file:
-        tree = tomllib.load(file)
-    ways = {unit["label"]: unit.get("chooser") == "upward" for unit in tree.get("unit", [])}
-    frames = frames_of(answer_of(plan, [f"up {unit}" for unit in order]))
-    kept = frozenset(tree.get("keep_free", []))
+def units_on(plan, labels, order):
+    """The units of these labels, once they are switched on in an order."""
+    places = places_of(plan)
+    ways = {label: places.texts.get(("unit", number, "chooser")) == "upward" for number, label in enumerate(labels, 1)}
+    frames = frames_of(answer_of(plan, [f"up {label}" for label in order]))
+    kept = frozenset(places.number(place) for place in places.elements(("keep_free",)))
     return {label: Unit(frame, ways[label], kept) for label, frame in zip(order, frames)}
 
 
-def start_up(plan, order):
-    """The steps of a start-up in this order, and what the program answers to them."""
-    units = units_on(plan, order)
+def start_up(plan, labels, order):
+    """The steps of a start-up of the units of these labels in an order, and what the program answers to them."""
+    units = units_on(plan, labels, order)
     steps = [f"up {label}" for label in order]
     # Who is to hear what from whom: first the earlier units each later one's claim.
     claims = [
@@ -123,8 +122,8 @@ def main(words=None):
                         help="units that are switched on first, in this order; "
                         "then come the others, in the order of the plan")
     given = parser.parse_args(words)
-    order = ordered(units_of(given.plan), given.first)
-    steps, lines = start_up(given.plan, order)
+    labels = units_of(given.plan)
+    steps, lines = start_up(given.plan, labels, ordered(labels, given.first))
     print(f"# Start-up of {given.plan}: all units are switched on, and every claim is delivered.")
     for step in steps:
         print(step)

@@ -1,7 +1,7 @@
 """Where the tables and keys of a TOML text stand.
 
 A place is a tuple of keys and, for the elements of arrays, of numbers from 1: ("unit", 2, "name", "identity"). The text is one
-that TOML allows; where it isn't, the places up to there are found.
+that TOML 1.1 allows; where it isn't, the places up to there are found.
 """
 
 import bisect
@@ -18,18 +18,34 @@ STRING = re.compile(
 )
 KEY = re.compile(r'[A-Za-z0-9_-]+|"(?:\\.|[^"\\\n])*"|\'[^\'\n]*\'')
 OTHER = re.compile(r"[^,\]}#\r\n]+")
+ESCAPE = re.compile(r"\\(?:(e)|x([0-9A-Fa-f]{2})|.)", re.DOTALL)
+MARK = "\ufeff"
 
 
 class _Unexpected(Exception):
     """The text isn't what TOML allows."""
 
 
+def _older(escape):
+    """An escape of TOML 1.1 as TOML 1.0 spells it, others as they are."""
+    digits = "1B" if escape.group(1) else escape.group(2)
+    return f"\\u00{digits}" if digits else escape.group()
+
+
 def text_of(spelled):
     """The text that a TOML string spells."""
+    if spelled.startswith('"'):
+        spelled = ESCAPE.sub(_older, spelled)
     try:
         return tomllib.loads(f"x = {spelled}")["x"]
     except tomllib.TOMLDecodeError:
         return spelled.strip("\"'")
+
+
+def places_of(name):
+    """The places of the text in a file."""
+    with open(name, "rb") as file:
+        return Places(file.read().decode(errors="replace"))
 
 
 class Places:
@@ -40,7 +56,7 @@ class Places:
         self.texts = {}
         self.spelled = {}
         self._text = text
-        self._at = 0
+        self._at = len(MARK) if text.startswith(MARK) else 0
         self._feeds = [found.start() for found in re.finditer("\n", text)]
         self._counts = {}
         try:

@@ -14,6 +14,41 @@ TOOLS = os.path.dirname(os.path.dirname(os.path.realpath(__file__)))
 TOP = os.path.dirname(TOOLS)
 EXAMPLES = os.path.join(TOP, "examples")
 
+# A plan that TOML 1.1 allows and TOML 1.0 doesn't, and the same in other words behind a byte order mark.
+NEWER = """version = 0b10
+keep_free = [0xC9, 2_02,]
+unit = [{
+  label = "\\x41",  # a comment
+  address = 0x0,
+  name = { identity = 1, },
+}, { label = 'B', address = 200, chooser = "\\u0075pward",
+     name = { identity = 2, arbitrary = true } }]
+group = [{ "label" = \"""ET1\""", pgn = 0xFEEE, priority = 6,
+  length = +8 }]
+flow = [{ group = "ET1", from = "A", to = "all", }]
+"""
+MARKED = """\ufeffversion = 2
+keep_free = [201, 202]
+[[unit]]
+label = "A"
+address = 0
+name.identity = 1
+[[unit]]
+label = "B"
+address = 200
+chooser = "upward"
+name = { identity = 2, arbitrary = true }
+[[group]]
+label = "ET1"
+pgn = 65262
+priority = 6
+length = 8
+[[flow]]
+group = "ET1"
+from = "A"
+to = "all"
+"""
+
 
 def example(name):
     """The file name of an example."""

@@ -2,7 +2,7 @@
 
 import unittest
 
-from tests.support import InFolder, example, run
+from tests.support import MARKED, NEWER, InFolder, example, run
 
 PLAN = """version = 1
 [[unit]]
@@ -109,6 +109,11 @@ class Against(InFolder):
     def test_what_is_no_deviation(self):
         services = ["18EAFF00#00EE00", "1CEBFF00#01FFFFFFFFFFFFFF", "18FF1000#00", "18EF8000#00", "1FFFFFFF#", "123#00", "x", ""]
         self.assertEqual(self.deviations(*services), [])
+
+    def test_plans_of_toml_1_1(self):
+        for text in (NEWER, MARKED):
+            plan, log = self.write("plan.toml", text), self.write("drive.log", "(1.0) can0 18FEEE00#7DFFFFFFFFFFFFFF\n")
+            self.assertEqual(run("against.py", plan, log), (0, "deviations 0\n", ""))
 
     def test_what_cannot_be_compared(self):
         log = self.write("drive.log", "")

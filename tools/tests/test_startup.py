@@ -3,7 +3,7 @@
 import unittest
 
 import program
-from tests.support import InFolder, example, examples, run
+from tests.support import MARKED, NEWER, InFolder, example, examples, run
 
 UNIT = '[[unit]]\nlabel = "U{0}"\naddress = 200\nchooser = "{1}"\nname = {{ identity = {0}, arbitrary = true }}\n'
 
@@ -41,6 +41,13 @@ class Startup(InFolder):
             plan = "version = 1\n" + "".join(UNIT.format(number, chooser) for number in range(1, 7))
             _, shown = self.ends(self.write("plan.toml", plan))
             self.assertEqual([int(line.split()[-1]) for line in shown[:-1]], addresses)
+
+    def test_plans_of_toml_1_1(self):
+        """Two units that prefer 200: the one with the larger NAME passes over what is kept free."""
+        for text in (NEWER, MARKED):
+            plan = self.write("plan.toml", text.replace("address = 0x0", "address = 200").replace("address = 0\n", "address = 200\n"))
+            _, shown = self.ends(plan)
+            self.assertEqual(shown, ["unit A address 200", "unit B address 203", "settled"])
 
     def test_a_plan_without_units(self):
         schedule, shown = self.ends(self.write("plan.toml", "version = 1\n"))
