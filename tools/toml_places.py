@@ -19,6 +19,10 @@ STRING = re.compile(
 KEY = re.compile(r'[A-Za-z0-9_-]+|"(?:\\.|[^"\\\n])*"|\'[^\'\n]*\'')
 OTHER = re.compile(r"[^,\]}#\r\n]+")
 ESCAPE = re.compile(r"\\(?:(e)|x([0-9A-Fa-f]{2})|.)", re.DOTALL)
+
+# Strings with an escape, and times without seconds, that TOML 1.0 doesn't have.
+NEWER = re.compile(r'"(?:[^\\]|\\[^ex])*\\[ex]|[-\dTt ]*\d\d:\d\d(?!:)')
+
 MARK = "\ufeff"
 
 
@@ -42,6 +46,18 @@ def text_of(spelled):
         return spelled.strip("\"'")
 
 
+def fault_of(text):
+    """Line and description of the fault that Python's reader of TOML 1.0 finds in a text, if it finds one."""
+    try:
+        tomllib.loads(text)
+    except tomllib.TOMLDecodeError as fault:
+        found = re.search(r"at line (\d+)", str(fault))
+        return int(found.group(1)) if found else text.count("\n") + 1, str(fault)
+    except (ValueError, RecursionError):  # a number of very many digits, brackets in very many brackets
+        pass
+    return None
+
+
 def places_of(name):
     """The places of the text in a file."""
     with open(name, "rb") as file:
@@ -49,19 +65,24 @@ def places_of(name):
 
 
 class Places:
-    """The line of each table and key of a TOML text, and the texts and other values as they are spelled."""
+    """The line of each table and key of a TOML text, and the texts and other values as they are spelled.
+
+    `statements` is where its headers and top pairs begin, `newer` where there is what TOML 1.0 doesn't have."""
 
     def __init__(self, text):
         self.lines = {(): 1}
         self.texts = {}
         self.spelled = {}
+        self.statements = []
+        self.newer = []
         self._text = text
         self._at = len(MARK) if text.startswith(MARK) else 0
         self._feeds = [found.start() for found in re.finditer("\n", text)]
         self._counts = {}
+        self._depth = 0
         try:
             self._read()
-        except _Unexpected:
+        except (_Unexpected, RecursionError):
             pass
 
     def line(self, place):
@@ -86,9 +107,14 @@ class Places:
         """The places of the elements of the array at a place."""
         return [array + (number,) for number in range(1, self._counts.get(array, 0) + 1)]
 
+    def line_at(self, at):
+        """The line of a position in the text."""
+        return bisect.bisect_left(self._feeds, at) + 1
+
     def _read(self):
         table = ()
         while self._skip() < len(self._text):
+            self.statements.append(self._at)
             if self._text.startswith("[[", self._at):
                 table = self._element(self._header("[[", "]]"))
             elif self._text.startswith("[", self._at):
@@ -97,13 +123,17 @@ class Places:
                 self._pair(table)
 
     def _skip(self):
-        self._at = BLANK.match(self._text, self._at).end()
+        start, self._at = self._at, BLANK.match(self._text, self._at).end()
+        if self._depth and "\n" in self._text[start:self._at]:
+            self.newer.append(start)
         return self._at
 
     def _take(self, pattern):
         found = pattern.match(self._text, self._at)
         if not found:
             raise _Unexpected
+        if NEWER.match(found.group()):
+            self.newer.append(self._at)
         self._at = found.end()
         return found.group()
 
@@ -118,7 +148,7 @@ class Places:
         return self._text.startswith(mark, self._at)
 
     def _note(self, place, at):
-        self.lines.setdefault(place, bisect.bisect_left(self._feeds, at) + 1)
+        self.lines.setdefault(place, self.line_at(at))
 
     def _dotted(self):
         keys = []
@@ -185,10 +215,14 @@ class Places:
 
     def _table(self, place):
         self._expect("{")
+        self._depth += 1
         while not self._comes("}"):
             self._pair(place)
             if not self._comes("}"):
                 self._expect(",")
+                if self._comes("}"):
+                    self.newer.append(self._at)
+        self._depth -= 1
         self._expect("}")
 
     def _array(self, place):

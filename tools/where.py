@@ -2,15 +2,19 @@
 """Checks a plan with j39plan and says where in the file each answer belongs, as FILE:LINE: ANSWER  (hint)."""
 
 import argparse
+import bisect
 import difflib
 import json
 import os
 import re
 import sys
-import tomllib
+import tempfile
 
 import program
-from toml_places import Places
+from toml_places import MARK, Places, fault_of
+
+# How TOML spells integers.
+INTEGER = re.compile(r"[+-]?(?:[0-9_]+|0x[0-9A-Fa-f_]+|0o[0-7_]+|0b[01_]+)")
 
 SCHEMA = os.path.join(os.path.dirname(os.path.realpath(__file__)), "plan.schema.json")
 
@@ -92,16 +96,52 @@ def likely(word, words):
     return f"; did you mean {meant[0]}?" if meant else ""
 
 
-def text_fault(data):
+def is_no_toml(text):
+    """Whether the program refuses a text as no TOML."""
+    with tempfile.NamedTemporaryFile(suffix=".toml") as file:
+        file.write(text.encode())
+        file.flush()
+        return program.call(["check", "--", file.name])[1].startswith("refused Text")
+
+
+def faulty_statement(text, places):
+    """Where the first statement begins and ends that the program doesn't take behind those above it."""
+    starts = [0, *places.statements]
+    at = bisect.bisect_left(starts, True, lo=1, key=lambda start: is_no_toml(text[:start]))
+    return starts[at - 1], starts[at] if at < len(starts) else len(text)
+
+
+def is_beyond_64_bits(spelled):
+    """Whether a value is an integer that no 64 bits hold."""
+    if not INTEGER.fullmatch(spelled):
+        return False
+    try:
+        return not -2**63 <= int(spelled, 0) < 2**63
+    except ValueError:  # a leading zero, or more digits than Python reads
+        return len(spelled) > 1000
+
+
+def statement_fault(text, places, start, end):
+    """Line and hint of what is wrong in a statement, as far as that can be told; else its first line."""
+    first, last = places.line_at(start), places.line_at(end)
+    if not any(start <= at < end for at in places.newer):
+        for part in (text[:end].removeprefix(MARK), "\n" * (first - 1) + text[start:end].removeprefix(MARK)):
+            line, hint = fault_of(part) or (0, None)
+            if first <= line <= last:
+                return line, hint
+    for place, spelled in places.spelled.items():
+        if first <= places.line(place) <= last and is_beyond_64_bits(spelled):
+            return places.line(place), "an integer beyond 64 bits"
+    return first, None
+
+
+def text_fault(plan, data):
     """Line and hint of a file that is no TOML."""
     try:
-        tomllib.loads(data.decode())
+        text = data.decode()
     except UnicodeDecodeError as fault:
         return data.count(b"\n", 0, fault.start) + 1, f"byte {data[fault.start]:02X} is no UTF-8"
-    except tomllib.TOMLDecodeError as fault:
-        found = re.search(r"at line (\d+)", str(fault))
-        return int(found.group(1)) if found else data.count(b"\n") + 1, str(fault)
-    return 1, None
+    return statement_fault(text, plan.places, *faulty_statement(text, plan.places))
 
 
 def unknown_key(plan, place):
@@ -159,7 +199,7 @@ def refusal(plan, data, line):
     found = re.fullmatch(r"refused (\w+)(?: (.*?))?(?: key (\w+))?", line)
     cause, place, key = found.group(1), place_named(found.group(2) or "top"), found.group(3)
     if cause == "Text":
-        return text_fault(data)
+        return text_fault(plan, data)
     if cause == "UnknownKey":
         return unknown_key(plan, place)
     if key is None:

@@ -61,6 +61,13 @@ class End(InFolder):
                 status, said = self.ended([os.path.join(TOOLS, words[0]), *words[1:]], stdout=full)
             self.assertEqual((status, said.splitlines()[-1]), (4, f"{words[0][:-3]}: No space left on device"))
 
+    def test_another_python(self):
+        for words in CALLS:
+            older = f"import runpy, sys; sys.version_info = (3, 10, 0); sys.path.insert(0, {TOOLS!r}); sys.modules['tomllib'] = None; "
+            script = older + f"runpy.run_path({os.path.join(TOOLS, words[0])!r}, run_name='__main__')"
+            self.assertEqual(self.ended(["-c", script], stdout=subprocess.PIPE),
+                             (69, "the tools of j39plan need Python 3.11 or later\n"), words)
+
     def test_what_the_program_says_is_passed_on(self):
         missing, refused = self.path("none.toml"), self.write("plan.toml", "version = 3\n")
         f01 = example("findings/f01_same_name.toml")

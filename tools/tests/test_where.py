@@ -9,7 +9,7 @@ import unittest
 
 import program
 import where
-from tests.support import TOOLS, TOP, InFolder, example, examples, run, shown_refusals, text_of
+from tests.support import MARKED, NEWER, TOOLS, TOP, InFolder, example, examples, run, shown_refusals, text_of
 
 UNIT = '[[unit]]\nlabel = "{}"\naddress = {}\nname = {{ identity = {} }}\n'
 
@@ -137,6 +137,45 @@ class Where(InFolder):
         for version in ("1", "0x1", "+1"):
             hint = "(key keep_free: only with version = 2)"
             self.assertEqual(self.answer(f"version = {version}\nkeep_free = []\n"), (2, [f"2: refused UnknownKey top  {hint}"]))
+
+    def test_a_byte_order_mark(self):
+        plan = "\ufeffversion = 1\n\n" + UNIT.format("A", 254, 1)
+        self.assertEqual(self.answer(plan), (2, ["5: refused Range unit 1 key address  (address = 254: integer 0..253)"]))
+        status, answer = self.answer(plan.replace("254", "x"))
+        self.assertEqual((status, answer), (2, ["5: refused Text  (Invalid value (at line 5, column 11))"]))
+
+    def test_what_toml_1_1_allows_is_no_fault(self):
+        for plan in (NEWER, MARKED):
+            self.assertEqual(self.answer(plan)[1], ["ok 2 units 1 groups 1 flows"])
+            line = plan.split("ET1")[0].count("\n") + 1
+            status, answer = self.answer(plan.replace("ET1", "E-1"))
+            self.assertEqual((status, answer[0].split("  ")[0]), (2, f"{line}: refused Range group 1 key label"))
+            self.assertEqual(self.answer(plan + "x = \n")[1][0].split("  ")[0], f"{plan.count(chr(10)) + 1}: refused Text")
+
+    def test_a_statement_of_toml_1_1_with_a_fault(self):
+        """What is wrong in it can't be told from what TOML 1.0 doesn't have: the line is that of its beginning."""
+        for fault, line, hint in [
+            ("address = x", 3, ""), ("address = 01", 3, ""), ("address = 1, address = 2", 3, ""), ("label = 'B'", 3, ""),
+            ("address = 9223372036854775808", 6, "  (an integer beyond 64 bits)"),
+        ]:
+            plan = f"version = 1\ngroup = []\nunit = [{{\n  label = 'A',\n  name = {{ identity = 1, }},\n  {fault},\n}}]\n"
+            self.assertEqual(self.answer(plan), (2, [f"{line}: refused Text{hint}"]), fault)
+
+    def test_integers_beyond_64_bits(self):
+        for number in ("99999999999999999999", "-9223372036854775809", "0x1_0000_0000_0000_0000", "9" * 5000):
+            plan = f"version = 1\n[[unit]]\nlabel = 'A'\naddress = {number}\nname = {{ identity = 1 }}\n"
+            self.assertEqual(self.answer(plan), (2, ["4: refused Text  (an integer beyond 64 bits)"]))
+        plan = "version = 2\nkeep_free = [\n  240,\n  9999999999999999999,\n]\n"
+        self.assertEqual(self.answer(plan), (2, ["4: refused Text  (an integer beyond 64 bits)"]))
+
+    def test_faults_that_only_the_program_knows(self):
+        for fault in ("1e400", "[" * 2000 + "]" * 2000):
+            self.assertEqual(self.answer(f"version = 1\nx = 1\ny = {fault}\nz = 2\n"), (2, ["3: refused Text"]))
+
+    def test_a_key_that_is_given_twice(self):
+        hint = "(Cannot overwrite a value (at line 5, column 12))"
+        self.assertEqual(self.answer("version = 1\n[[unit]]\naddress = 1\nlabel = 'A'\naddress = 2\nx = 1\n"),
+                         (2, [f"5: refused Text  {hint}"]))
 
     def test_bytes_that_are_no_text(self):
         with open(self.path("plan.toml"), "wb") as file:
