@@ -7,13 +7,15 @@ deviation is told once, at its first line, with how often it was met; proprietar
 
 import argparse
 import re
+import shlex
 import tempfile
 from functools import cache
 
 import program
 from toml_places import places_of
 
-FRAME = re.compile(r"([0-9A-Fa-f]{8})#((?:[0-9A-Fa-f]{2}){0,8})")
+FRAME = re.compile(r"([01][0-9A-Fa-f]{7})#((?:[0-9A-Fa-f]{2}){0,8})")
+SHORT_FRAME = re.compile(r"[0-9A-Fa-f]{3}#.*")
 ROUTE = re.compile(r"priority \d pgn (\d+) from (\d+) to (\d+|all)( other)?")
 
 # Groups that no plan has (docs/PLAN.md, F4).
@@ -80,6 +82,7 @@ class Comparison:
         self.flows = dict.fromkeys(planned_flows(places), 0)
         self.holders = {address: name for name, (_, address, _) in units.items()}
         self.met = {}
+        self.unread = self.marked = 0
 
     def tell(self, line, text):
         """Notes a deviation, or that it was met again."""
@@ -147,6 +150,16 @@ class Comparison:
         elif pgn != CLAIM:
             self.group(line, pgn, len(data) // 2, sender, destination)
 
+    def line(self, number, line):
+        """A line of the log. One with an identifier of 11 bits is passed over."""
+        words = line.split()
+        found = FRAME.fullmatch(words[-1]) if words else None
+        if found:
+            self.frame(number, found.group(1), found.group(2))
+        elif words and not SHORT_FRAME.fullmatch(words[-1]):
+            self.unread += 1
+            self.marked += words[-1] in ("R", "T")
+
     def deviations(self):
         """Line, text and count of each deviation; a flow that was never met has no line."""
         for text, (line, count) in self.met.items():
@@ -162,10 +175,7 @@ def compare(plan, log):
     comparison = Comparison(places_of(plan), planned_units(plan, labels))
     with open(log, encoding="utf-8", errors="replace") as lines:
         for number, line in enumerate(lines, 1):
-            words = line.split()
-            found = FRAME.fullmatch(words[-1]) if words else None
-            if found:
-                comparison.frame(number, found.group(1), found.group(2))
+            comparison.line(number, line)
     return comparison
 
 
@@ -175,7 +185,11 @@ def main(words=None):
     parser.add_argument("plan", metavar="PLAN", help="the name of a plan file")
     parser.add_argument("log", metavar="LOG", help="the name of a file as candump -L writes it")
     given = parser.parse_args(words)
-    found = list(compare(given.plan, given.log).deviations())
+    comparison = compare(given.plan, given.log)
+    if comparison.unread:
+        mend = f"; words behind the data go by: sed -E 's/ [RT]\\r?$//' {shlex.quote(given.log)} > mended.log"
+        program.say(f"{comparison.unread} lines spell no frame{mend if comparison.marked else ''}")
+    found = list(comparison.deviations())
     for line, text, count in found:
         place = given.plan if line is None else f"{given.log}:{line}"
         print(f"{place}: {text}" + (f"  ({count} times)" if count > 1 else ""))

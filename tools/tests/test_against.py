@@ -1,7 +1,10 @@
 """A log against a plan."""
 
+import re
+import subprocess
 import unittest
 
+import program
 from tests.support import MARKED, NEWER, InFolder, example, run
 
 PLAN = """version = 1
@@ -107,8 +110,26 @@ class Against(InFolder):
         self.assertEqual(run("against.py", plan, log), (1, "\n".join([*found, "deviations 3\n"]), ""))
 
     def test_what_is_no_deviation(self):
-        services = ["18EAFF00#00EE00", "1CEBFF00#01FFFFFFFFFFFFFF", "18FF1000#00", "18EF8000#00", "1FFFFFFF#", "123#00", "x", ""]
+        services = ["18EAFF00#00EE00", "1CEBFF00#01FFFFFFFFFFFFFF", "18FF1000#00", "18EF8000#00", "1FFFFFFF#", "123#00"]
         self.assertEqual(self.deviations(*services), [])
+
+    def test_lines_that_spell_no_frame(self):
+        """They are counted as `read` counts bad lines."""
+        plan = self.write("plan.toml", PLAN)
+        bad = ["FFFFFFFF#00", "1234#00", "18EAFFFE#00E", "12#", "x", ""]
+        good = ["18FEEE00#7DFFFFFFFFFFFFFF", "123#00", "123##100", "123#XX"]
+        log = self.write("drive.log", "".join(f"(1.0) can0 {frame}\n" for frame in bad + good) + "\n  \n")
+        self.assertEqual(run("against.py", plan, log)[2], "against: 6 lines spell no frame\n")
+        self.assertIn(" bad 6\n", program.call(["read", plan, log])[1])
+
+    def test_words_behind_the_data(self):
+        plan = self.write("plan.toml", PLAN)
+        log = self.write("the drive.log", "".join(f"(1.0) can0 {frame} {word}\n" for frame in FLOWS for word in "RT"))
+        status, answer, said = run("against.py", plan, log)
+        self.assertEqual((status, answer.splitlines()[-1]), (1, "deviations 3"))
+        mend = re.fullmatch(r"against: 6 lines spell no frame; words behind the data go by: (sed .*)\n", said).group(1)
+        subprocess.run(["sh", "-c", mend], cwd=self.folder, check=True)
+        self.assertEqual(run("against.py", plan, self.path("mended.log")), (0, "deviations 0\n", ""))
 
     def test_plans_of_toml_1_1(self):
         for text in (NEWER, MARKED):
