@@ -19,12 +19,17 @@ SHORT_FRAME = re.compile(r"[0-9A-Fa-f]{3}#.*")
 ROUTE = re.compile(r"priority \d pgn (\d+) from (\d+) to (\d+|all)( other)?")
 
 # Groups that no plan has (docs/PLAN.md, F4).
-CLAIM, MANAGEMENT = 60928, 60416
-UNPLANNED = {59392, 59904, 60160, MANAGEMENT, CLAIM, 65240, 61184, 126720, *range(65280, 65536), *range(130816, 131072)}
+REQUEST, CLAIM, MANAGEMENT = 59904, 60928, 60416
+UNPLANNED = {59392, REQUEST, 60160, MANAGEMENT, CLAIM, 65240, 61184, 126720, *range(65280, 65536), *range(130816, 131072)}
 
 # The first bytes of announcements (SAE J1939-21): RTS and BAM.
 ANNOUNCEMENTS = (16, 32)
 NULL = 254
+
+
+def is_from_nobody(pgn, sender, data):
+    """Whether a frame asks for address claims from the null address, as a unit without an address may (SAE J1939-81)."""
+    return sender == NULL and pgn == REQUEST and bytes.fromhex(data)[:3] == CLAIM.to_bytes(3, "little")
 
 
 @cache
@@ -147,7 +152,7 @@ class Comparison:
             if packet[0] in ANNOUNCEMENTS:
                 size, carried = int.from_bytes(packet[1:3], "little"), int.from_bytes(packet[5:8], "little")
                 self.group(line, carried, size, sender, destination)
-        elif pgn != CLAIM:
+        elif pgn != CLAIM and not is_from_nobody(pgn, sender, data):
             self.group(line, pgn, len(data) // 2, sender, destination)
 
     def line(self, number, line):

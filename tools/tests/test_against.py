@@ -113,6 +113,12 @@ class Against(InFolder):
         services = ["18EAFF00#00EE00", "1CEBFF00#01FFFFFFFFFFFFFF", "18FF1000#00", "18EF8000#00", "1FFFFFFF#", "123#00"]
         self.assertEqual(self.deviations(*services), [])
 
+    def test_a_unit_without_an_address_may_ask_for_claims(self):
+        self.assertEqual(self.deviations("18EAFFFE#00EE00", "18EA00FE#00EE00FFFFFFFFFF", *CLAIMS), [])
+        said = ["L:1: address 254 sends: no unit has it"]
+        for other in ("18EAFFFE#EEFE00", "18EAFFFE#", "18FF10FE#00EE00"):
+            self.assertEqual(self.deviations(other), said)
+
     def test_lines_that_spell_no_frame(self):
         """They are counted as `read` counts bad lines."""
         plan = self.write("plan.toml", PLAN)
