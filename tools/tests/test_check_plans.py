@@ -2,27 +2,29 @@
 
 import os
 import subprocess
+import sys
 import unittest
 
 import program
-from tests.support import TOOLS, InFolder, example
+from tests.support import TOOLS, InFolder, example, text_of
 
 CLEAN, FOUND = example("first_plan.toml"), example("findings/f10_flow_to_self.toml")
 
 
 class CheckPlans(InFolder):
-    def status(self, *plans):
+    def status(self, *plans, check=""):
         """The exit status over these plans, and what is written."""
+        environment = {**os.environ, "J39PLAN": os.path.abspath(program.path()), "CHECK": check}
         ended = subprocess.run(
             [os.path.join(TOOLS, "check-plans"), *plans],
-            capture_output=True, text=True, check=False, env={**os.environ, "J39PLAN": program.path()},
+            cwd=self.folder, capture_output=True, text=True, check=False, env=environment,
         )
         return ended.returncode, ended.stdout
 
     def test_the_worst_counts(self):
         refused, missing = self.write("plan.toml", "version = 3\n"), self.path("none.toml")
         for plans, status in [
-            ([], 0), ([CLEAN, CLEAN], 0), ([FOUND], 1), ([refused], 1), ([missing], 2),
+            ([], 2), ([CLEAN, CLEAN], 0), ([FOUND], 1), ([refused], 1), ([missing], 2),
             ([FOUND, CLEAN], 1), ([missing, FOUND], 2), ([CLEAN, refused, missing], 2),
         ]:
             self.assertEqual(self.status(*plans)[0], status, plans)
@@ -30,6 +32,15 @@ class CheckPlans(InFolder):
     def test_what_is_written(self):
         written = f"{CLEAN}\nok 2 units 1 groups 1 flows\n{FOUND}\nF10 FlowToSelf 1\nfindings 1\n"
         self.assertEqual(self.status(CLEAN, FOUND), (1, written))
+
+    def test_plans_whose_names_begin_with_a_hyphen(self):
+        self.write("-x.toml", text_of(CLEAN))
+        for check in ("", os.path.join(TOOLS, "where.py")):
+            self.assertEqual(self.status("-x.toml", check=check), (0, "-x.toml\nok 2 units 1 groups 1 flows\n"))
+
+    def test_a_fault_of_a_tool_is_a_fault_of_the_job(self):
+        tool = self.write("tool.py", f"import sys; sys.path.insert(0, {TOOLS!r}); import program; program.end(lambda: [][0])\n")
+        self.assertEqual(self.status(CLEAN, check=f"{sys.executable} {tool}")[0], 2)
 
 
 if __name__ == "__main__":
