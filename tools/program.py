@@ -77,6 +77,9 @@ def written(main):
 
 def status_of(main):
     """Runs a tool and answers its exit status."""
+    if sys.stdout is None:
+        say("standard output is closed")
+        return DEVICE
     try:
         return written(main)
     except Refused as refused:

@@ -61,6 +61,12 @@ class End(InFolder):
                 status, said = self.ended([os.path.join(TOOLS, words[0]), *words[1:]], stdout=full)
             self.assertEqual((status, said.splitlines()[-1]), (4, f"{words[0][:-3]}: No space left on device"))
 
+    def test_a_closed_standard_output(self):
+        for words in CALLS[:3]:
+            tool = [sys.executable, os.path.join(TOOLS, words[0]), *words[1:]]
+            ended = self.ended(["-c", f"import os; os.close(1); os.execv({sys.executable!r}, {tool!r})"])
+            self.assertEqual(ended, (4, f"{words[0][:-3]}: standard output is closed\n"))
+
     def test_another_python(self):
         for words in CALLS:
             older = f"import runpy, sys; sys.version_info = (3, 10, 0); sys.path.insert(0, {TOOLS!r}); sys.modules['tomllib'] = None; "
