@@ -84,7 +84,8 @@ class Comparison:
     def __init__(self, places, units):
         self.units = units
         self.groups = planned_groups(places)
-        self.flows = dict.fromkeys(planned_flows(places), 0)
+        self.planned = planned_flows(places)
+        self.flows = dict.fromkeys(self.planned, 0)
         self.holders = {address: name for name, (_, address, _) in units.items()}
         self.met = {}
         self.unread = self.marked = 0
@@ -169,8 +170,8 @@ class Comparison:
         """Line, text and count of each deviation; a flow that was never met has no line."""
         for text, (line, count) in self.met.items():
             yield line, text, count
-        for number, ((group, sender, to), count) in enumerate(self.flows.items(), 1):
-            if count == 0:
+        for number, (group, sender, to) in enumerate(self.planned, 1):
+            if self.flows[group, sender, to] == 0:
                 yield None, f"flow {number}, {group} from {sender} to {to}: never sent", 0
 
 

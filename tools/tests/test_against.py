@@ -109,6 +109,13 @@ class Against(InFolder):
                  ("1, ET1 from ENGINE to all", "2, TSC1 from DISPLAY to ENGINE", "3, VI from ENGINE to all")]
         self.assertEqual(run("against.py", plan, log), (1, "\n".join([*found, "deviations 3\n"]), ""))
 
+    def test_flows_have_the_numbers_of_the_plan(self):
+        """One that stands twice (F11) counts twice, as `check` counts it."""
+        plan = self.write("plan.toml", PLAN + '[[flow]]\ngroup = "ET1"\nfrom = "ENGINE"\nto = "all"\n')
+        log = self.write("drive.log", "".join(f"(1.0) can0 {frame}\n" for frame in FLOWS[1:]))
+        found = [f"{plan}: flow {number}, ET1 from ENGINE to all: never sent" for number in (1, 4)]
+        self.assertEqual(run("against.py", plan, log), (1, "\n".join([*found, "deviations 2\n"]), ""))
+
     def test_what_is_no_deviation(self):
         services = ["18EAFF00#00EE00", "1CEBFF00#01FFFFFFFFFFFFFF", "18FF1000#00", "18EF8000#00", "1FFFFFFF#", "123#00"]
         self.assertEqual(self.deviations(*services), [])
