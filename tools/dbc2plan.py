@@ -332,10 +332,10 @@ def load(name, bus):
     except ImportError:
         print("dbc2plan: canmatrix isn't there: apt-get install python3-canmatrix python3-lxml", file=sys.stderr)
         sys.exit(program.MISSING)
+    with open(name, "rb"):  # a file that can't be opened is told apart from one that can't be read
+        pass
     try:
         buses = canmatrix.formats.loadp(name)
-    except OSError:
-        raise
     except Exception as fault:  # canmatrix raises what its parsers do
         raise LeftOut(f"canmatrix can't read it: {fault}") from fault
     if not buses:

@@ -202,10 +202,13 @@ class FromDbc(InFolder):
         self.assertEqual(said[-1], f"2 units 4 groups 5 flows, notes {len(said) - 1}")
 
     def test_a_file_that_cannot_be_read(self):
-        for name in ("none.dbc", "plan.txt"):
-            status, plan, said = run("dbc2plan.py", self.write(name, "") if name == "plan.txt" else self.path(name))
-            self.assertEqual((status, plan), (2, ""))
-            self.assertTrue(said.startswith("dbc2plan: "), said)
+        status, plan, said = run("dbc2plan.py", self.write("plan.txt", ""))
+        self.assertEqual((status, plan), (2, ""))
+        self.assertTrue(said.startswith("dbc2plan: "), said)
+
+    def test_a_file_that_is_not_there(self):
+        missing = self.path("none.dbc")
+        self.assertEqual(run("dbc2plan.py", missing), (4, "", f"dbc2plan: {missing}: No such file or directory\n"))
 
     def test_what_it_writes_can_be_read(self):
         """Files of random nodes, frames and signals, of which much can't be carried over."""
