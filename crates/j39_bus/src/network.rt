@@ -43,8 +43,7 @@ impl Network {
         ensures frames { OnOk result (vec_len self.new.frames + items ≤ vec_capacity self.new.frames) }
     {
         reserve_for_others(&mut self.claims, self.claimers.as_slice(), from, items)?;
-        self.frames.reserve(items)?;
-        Ok(())
+        self.frames.reserve(items)
     }
 
     /// A unit tells all others.

@@ -58,8 +58,7 @@ impl Network {
         ensures frames { OnOk result (vec_len self.new.frames < vec_capacity self.new.frames) }
     {
         reserve_along(&mut self.wire, self.sessions.as_slice(), unit)?;
-        self.frames.reserve(1)?;
-        Ok(())
+        self.frames.reserve(1)
     }
 
     /// A unit sends a packet to those that its message goes to.
@@ -94,8 +93,7 @@ impl Network {
         ensures reports { self.new.reports ≡ self.old.reports }
     {
         self.wire.reserve(from, to, packets)?;
-        self.frames.reserve(packets)?;
-        Ok(())
+        self.frames.reserve(packets)
     }
 
     /// A unit answers another by a packet, if there is one.

@@ -80,12 +80,12 @@ fn is_of_receiver(item: &Wired) -> bool
 pub(crate) fn any_of_sender(queue: &VecDeque<Wired>) -> bool
     ensures { result ≡ list_any is_of_sender queue.now.items }
 {
-    queue.iter().any(|item| is_of_sender(item))
+    queue.iter().any(is_of_sender)
 }
 
 /// Whether there is something that a receiver answers.
 pub(crate) fn any_of_receiver(queue: &VecDeque<Wired>) -> bool
     ensures { result ≡ list_any is_of_receiver queue.now.items }
 {
-    queue.iter().any(|item| is_of_receiver(item))
+    queue.iter().any(is_of_receiver)
 }

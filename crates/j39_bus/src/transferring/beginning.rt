@@ -87,10 +87,10 @@ impl Network {
         ensures wire { IfOk result (λ targets. HasRoomTo self.new.wire flow.now.sender targets.items) }
         ensures frames { OnOk result (vec_len self.new.frames < vec_capacity self.new.frames) }
     {
+        self.frames.reserve(1)?;
         let alloc = *self.frames.allocator();
         let targets = targets_of(alloc, self.claimers.as_slice(), flow)?;
         reserve_each(&mut self.wire, flow.sender, targets.as_slice())?;
-        self.frames.reserve(1)?;
         Ok(targets)
     }
 
