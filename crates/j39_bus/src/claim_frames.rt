@@ -1,6 +1,7 @@
 //! The frames that tell of addresses.
 ghost use Rattle.std.specs.Prelude.{◌≡◌, ◌≤◌, length};
 ghost use Rattle.j39_id.specs.Ident.{bits};
+ghost use Rattle.j39_claim.specs.ClaimRule.{say_of};
 ghost use Rattle.j39_tp.specs.Packets.{pgn_bytes};
 ghost use Rattle.j39_world.specs.Sent.{source_of, sent_of, frame_of, to_all, claimed_by};
 
@@ -34,8 +35,10 @@ pub(crate) fn source_of(held: Option<Address>) -> u8
     }
 }
 
-fn source_of_say(say: &Say) -> u8
-    ensures { result ≡ source_of (claimed_by say.now) }
+/// The number of the address that is claimed, or of none.
+pub(crate) fn number_of(say: &Say) -> u8
+    ensures says { say_of result ≡ say.now }
+    ensures source { result ≡ source_of (claimed_by say.now) }
 {
     match say {
         Say::Claim(address) => address.number(),
@@ -58,7 +61,7 @@ pub(crate) fn frame_of(name: Name, held: Option<Address>, item: &Item) -> Frame
 {
     match item {
         Item::Told(say) => Frame {
-            ident: to_all(ADDRESS_CLAIMED, source_of_say(say)),
+            ident: to_all(ADDRESS_CLAIMED, number_of(say)),
             payload: payload_of(&name.to_bytes()),
         },
         Item::Request => Frame {

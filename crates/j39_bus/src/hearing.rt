@@ -1,23 +1,12 @@
 //! What a unit answers to what it hears.
 ghost use Rattle.std.specs.Prelude.{◌≡◌, ◌<◌, true, length};
-ghost use Rattle.j39_claim.specs.ClaimRule.{say_of};
 ghost use Rattle.j39_claim.specs.ClaimerValue.{can_note};
 ghost use Rattle.j39_bus.specs.Stations.{station_at};
 ghost use Rattle.j39_bus.specs.inside.Network.{HasAnswered};
 
+use crate::claim_frames::number_of;
 use j39_claim::{Choose, Claimer, Item, Say};
 use j39_id::Name;
-use j39_id::addresses::NULL_ADDRESS;
-
-/// The number of the address that is claimed, or of none.
-fn number_of(say: &Say) -> u8
-    ensures { say_of result ≡ say.now }
-{
-    match say {
-        Say::Claim(address) => address.number(),
-        Say::Cannot => NULL_ADDRESS,
-    }
-}
 
 /// A unit hears an item under a NAME.
 pub(crate) fn hear(

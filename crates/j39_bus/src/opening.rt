@@ -1,5 +1,5 @@
 //! A new bus.
-ghost use Rattle.std.specs.Prelude.{◌≡◌, ◌<◌, ℕ, length, map, replicate, take, None, All, IfOk, IfErr, IfSome, IfNone, OnOk};
+ghost use Rattle.std.specs.Prelude.{◌≡◌, ◌<◌, ℕ, length, map, take, All, IfOk, IfErr, IfSome, IfNone, OnOk};
 ghost use Rattle.j39_world.specs.PlannedUnits.{units_of};
 ghost use Rattle.j39_bus.specs.Stations.{unstarted};
 ghost use Rattle.j39_world.specs.Opening.{HaveOneName, AreNamesDistinct, IsFirstOfOneName, CanOpen, IsNotOpened};
@@ -12,8 +12,8 @@ ghost use Rattle.j39_findings.specs.PlannedGroups.{IsSendable};
 
 use crate::flows::flows_of;
 use crate::network::Network;
+use crate::pushing::empty_places;
 use crate::receivers::Receivers;
-use crate::session::Session;
 use crate::{Bus, BusError};
 use j39_claim::{AddressSet, Choose, Claimer};
 use j39_findings::{GroupFault, GroupPlan, Plan, UnitPlan, layout_of};
@@ -84,17 +84,6 @@ fn claimers_of(
     Ok(claimers)
 }
 
-// No unit sends a message.
-fn no_sessions(alloc: Global, units: usize) -> Result<Vec<Option<Session>>, AllocError>
-    ensures { IfOk result (λ sessions. sessions.items ≡ replicate units None) }
-{
-    let mut sessions = Vec::with_capacity(alloc, units)?;
-    for _ in 0..units {
-        sessions.push(None)?;
-    }
-    Ok(sessions)
-}
-
 /// The network of a plan before any step.
 fn network_of(alloc: Global, plan: &Plan) -> Result<Network, AllocError>
     requires { All IsSendable plan.now.groups.items }
@@ -107,7 +96,7 @@ fn network_of(alloc: Global, plan: &Plan) -> Result<Network, AllocError>
     let claimers = claimers_of(alloc, &plan.keep_free, units)?;
     let claims = Queues::new(alloc, units.len())?;
     let flows = flows_of(alloc, plan)?;
-    let sessions = no_sessions(alloc, units.len())?;
+    let sessions = empty_places(alloc, units.len())?;
     let wire = Queues::new(alloc, units.len())?;
     let receivers = Receivers::new(alloc, units)?;
     Ok(Network {
@@ -122,6 +111,28 @@ fn network_of(alloc: Global, plan: &Plan) -> Result<Network, AllocError>
     })
 }
 
+/// The network of a plan before any step, where there are so many choosers.
+fn opened(alloc: Global, plan: &Plan, choosers: usize) -> Result<Network, BusError>
+    ensures ok { OnOk result (CanOpen choosers plan.now) }
+    ensures network { IfOk result (λ net. IsNetwork net) }
+    ensures planned { IfOk result (λ net. IsOfPlan plan.now net) }
+    ensures world { IfOk result (λ net. world_in (histories_of first) net ≡ first) }
+    ensures held { IfOk result (λ net. HasHeld (histories_of first) net) }
+    ensures refused { IfErr result (IsNotOpened choosers plan.now) }
+{
+    if choosers != plan.units.len() {
+        return Err(BusError::ChooserCount);
+    }
+    if let Some((first, second)) = same_name(plan) {
+        return Err(BusError::SameName(first, second));
+    }
+    try_groups(alloc, plan.groups.as_slice())?;
+    match network_of(alloc, plan) {
+        Ok(network) => Ok(network),
+        Err(AllocError) => Err(BusError::Memory),
+    }
+}
+
 impl Bus {
     /// A bus of the plan, on which no unit is started, with a chooser for each unit by its place. It keeps the allocator.
     /// On an error the choosers are dropped.
@@ -131,16 +142,7 @@ impl Bus {
         ensures units { IfOk result (λ bus. length bus.units ≡ length plan.now.units.items) }
         ensures refused { IfErr result (IsNotOpened (length choosers.items) plan.now) }
     {
-        if choosers.len() != plan.units.len() {
-            return Err(BusError::ChooserCount);
-        }
-        if let Some((first, second)) = same_name(plan) {
-            return Err(BusError::SameName(first, second));
-        }
-        try_groups(alloc, plan.groups.as_slice())?;
-        let Ok(network) = network_of(alloc, plan) else {
-            return Err(BusError::Memory);
-        };
+        let network = opened(alloc, plan, choosers.len())?;
         Ok(Bus { network, choosers })
     }
 }

@@ -1,5 +1,5 @@
 //! A receiver of each unit for what each other sends.
-ghost use Rattle.std.specs.Prelude.{◌≡◌, ◌≢◌, ℕ, ◌<◌, ◌≤◌, true, None, [], length, map, replicate, vec_capacity, OnOk, OnErr, IfOk};
+ghost use Rattle.std.specs.Prelude.{◌≡◌, ◌≢◌, ℕ, ◌<◌, ◌≤◌, true, None, [], length, map, vec_capacity, OnOk, OnErr, IfOk};
 ghost use Rattle.j39_tp.specs.declared.receiving.manner.Manner.TheVariants.{Answering};
 ghost use Rattle.j39_world.specs.Flows.{window_at};
 ghost use Rattle.j39_tp.specs.Receiver.{hears, receives, timed_out, gives_up, is_open_at, message_of};
@@ -8,6 +8,7 @@ ghost use Rattle.j39_bus.specs.BusState.{closed, holding_at};
 ghost use Rattle.j39_bus.specs.inside.Receivers.{HasRoomFor, IsAnswering, IsReady, answering, holding_of, is_complete, left_at, left_of, message_in, opens};
 ghost use Rattle.j39_bus.specs.inside.Receivers.{receiver_at};
 
+use crate::pushing::empty_places;
 use j39_findings::UnitPlan;
 use j39_tp::{Heard, Packet, Receiver};
 use std::alloc::{AllocError, Global};
@@ -75,18 +76,6 @@ fn tell(slot: &mut Option<Box<Receiver>>, packet: &Packet) -> Heard
     match slot {
         Some(receiver) => receiver.hear(packet),
         None => Heard::Nothing,
-    }
-}
-
-// What a receiver sends that has heard nothing in time.
-fn time_out(slot: &mut Option<Box<Receiver>>) -> Option<Packet>
-    ensures packet { (window : ℕ) → IsAnswering window slot.old → result ≡ (timed_out (Answering window) (holding_of slot.old).progress).1 }
-    ensures after { (window : ℕ) → IsAnswering window slot.old → answering window (holding_of slot.new) ≡ gives_up (answering window (holding_of slot.old)) }
-    ensures answering { (window : ℕ) → IsAnswering window slot.old → IsAnswering window slot.new }
-{
-    match slot {
-        Some(receiver) => receiver.late(),
-        None => None,
     }
 }
 
@@ -176,7 +165,10 @@ fn late_in(slot: &mut Option<Box<Receiver>>) -> Option<Packet>
     ensures after { (window : ℕ) → IsAnswering window slot.old → holding_of slot.new ≡ left_of (gives_up (answering window (holding_of slot.old))) }
     ensures answering { (window : ℕ) → IsAnswering window slot.old → IsAnswering window slot.new }
 {
-    let packet = time_out(slot);
+    let packet = match slot {
+        Some(receiver) => receiver.late(),
+        None => None,
+    };
     leave(slot);
     packet
 }
@@ -193,17 +185,6 @@ fn windows_of(alloc: Global, units: &[UnitPlan]) -> Result<Vec<u8>, AllocError>
     Ok(windows)
 }
 
-// No receiver for any of so many units.
-fn empty_row(alloc: Global, units: usize) -> Result<Vec<Option<Box<Receiver>>>, AllocError>
-    ensures { IfOk result (λ row. row.items ≡ replicate units None) }
-{
-    let mut row = Vec::with_capacity(alloc, units)?;
-    for _ in 0..units {
-        row.push(None)?;
-    }
-    Ok(row)
-}
-
 impl Receivers {
     /// No receiver between any two of these units.
     pub(crate) fn new(alloc: Global, units: &[UnitPlan]) -> Result<Self, AllocError>
@@ -213,7 +194,7 @@ impl Receivers {
         let windows = windows_of(alloc, units)?;
         let mut rows = Vec::with_capacity(alloc, units.len())?;
         for _ in 0..units.len() {
-            rows.push(empty_row(alloc, units.len())?)?;
+            rows.push(empty_places(alloc, units.len())?)?;
         }
         Ok(Receivers { windows, rows })
     }

@@ -1,6 +1,6 @@
-use Rattle.std.proofs.Common.{◌≡◌, ◌+◌, ◌∷◌, [], ◌++◌, suc, length, map, replicate, ap, sym, ◌∙◌, arith}
+use Rattle.std.proofs.Common.{◌≡◌, ◌∷◌, [], ◌++◌, length, map, replicate, ap, sym, ◌∙◌, arith}
 use Rattle.std.proofs.lemmas.List.{length-map, map-append}
-use Rattle.j39_bus.proofs.Opened.{replicate_more}
+use Rattle.j39_bus.proofs.Opened.{same_more}
 use Rattle.j39_bus.proofs.ReceiverRows.{closed_first, none_in, receivers_first, slots}
 use Rattle.j39_findings.specs.declared.plan.unit_plan.UnitPlan.{UnitPlan}
 use Rattle.j39_bus.proofs.receivers.Receivers.new.Goals as goal
@@ -22,7 +22,7 @@ returns-clause-closed c =
 
 pub loop-preserved : goal.loop-preserved
 loop-preserved c =
-    let n = length c.args.units.now in
-    let next : suc c.loop.counter ≡ c.loop.counter + 1 = omega arith in
-    ap (map slots) c.in_ok-push.ensures.items ∙ map-append slots c.loop.rows.items (c.in_ok-empty_row.field-0 ∷ [])
-    ∙ (λ i. c.loop.invariant i ++ c.in_ok-empty_row.ensures i ∷ []) ∙ replicate_more c.loop.counter (none_in n) ∙ ap (λ k. replicate k (none_in n)) next
+    same_more c.loop.counter (none_in (length c.args.units.now)) (map slots c.loop.rows.items) (map slots c.push.new.self.items)
+    (ap (map slots) c.in_ok-push.ensures.items ∙ map-append slots c.loop.rows.items (c.in_ok-empty_places.field-0 ∷ [])
+    ∙ ap (λ row. map slots c.loop.rows.items ++ row ∷ []) c.in_ok-empty_places.ensures)
+    c.loop.invariant
