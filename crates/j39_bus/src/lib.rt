@@ -1,7 +1,6 @@
 //! A simulated bus of a planned network.
 #![tactic(auto)]
 
-mod along;
 mod bus;
 mod claim_frames;
 mod claiming;

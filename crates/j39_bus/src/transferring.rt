@@ -17,38 +17,38 @@ mod losing;
 mod resting;
 mod taking;
 
-use crate::along::{post_along, reserve_along};
 use crate::claim_frames::source_of;
 use crate::network::Network;
 use crate::pushing::post;
-use crate::sessions;
 use crate::transfer_frames::packet_frame;
+use crate::wire::{post_each, reserve_each};
+use j39_claim::Claimer;
 use j39_findings::To;
 use j39_id::addresses::GLOBAL_ADDRESS;
 use j39_tp::Packet;
 use j39_world::Wired;
 use std::alloc::AllocError;
 
+/// The address that a unit sends from.
+fn source(claimers: &[Claimer], unit: usize) -> u8
+    requires { unit < length claimers.now }
+    ensures { result ≡ address_of (station_at claimers.now) unit }
+{
+    source_of(claimers[unit].address())
+}
+
+/// The address that a message goes to.
+fn destination(claimers: &[Claimer], to: To) -> u8
+    requires { IsInside (length claimers.now) to }
+    ensures { result ≡ destination_of (station_at claimers.now) to }
+{
+    match to {
+        To::All => GLOBAL_ADDRESS,
+        To::One(unit) => source(claimers, unit),
+    }
+}
+
 impl Network {
-    /// The address that a unit sends from.
-    fn source(&self, unit: usize) -> u8
-        requires { unit < length self.now.claimers.items }
-        ensures { result ≡ address_of (station_at self.now.claimers.items) unit }
-    {
-        source_of(self.claimers[unit].address())
-    }
-
-    /// The address that a message goes to.
-    fn destination(&self, to: To) -> u8
-        requires { IsInside (length self.now.claimers.items) to }
-        ensures { result ≡ destination_of (station_at self.now.claimers.items) to }
-    {
-        match to {
-            To::All => GLOBAL_ADDRESS,
-            To::One(unit) => self.source(unit),
-        }
-    }
-
     /// Makes room for a packet to those that the message of a unit goes to.
     fn reserve_along(&mut self, unit: usize) -> Result<(), AllocError>
         requires network { IsNetwork self.old }
@@ -57,7 +57,9 @@ impl Network {
         ensures wire { OnOk result (HasRoomAlong self.new.wire unit (session_at self.new.sessions.items unit)) }
         ensures frames { OnOk result (vec_len self.new.frames < vec_capacity self.new.frames) }
     {
-        reserve_along(&mut self.wire, self.sessions.as_slice(), unit)?;
+        if let Some(session) = &self.sessions[unit] {
+            reserve_each(&mut self.wire, unit, session.targets())?;
+        }
         self.frames.reserve(1)
     }
 
@@ -73,10 +75,12 @@ impl Network {
         ensures world { (h : Histories) (s : Outgoing) → session_at self.old.sessions.items unit ≡ Some s
             → world_in h self.new ≡ sent_to_receivers (world_in h self.old) unit s packet.now }
     {
-        if let Some(to) = sessions::goes_to(self.sessions.as_slice(), unit) {
-            let frame = packet_frame(self.source(unit), self.destination(to), packet);
+        if let Some(session) = &self.sessions[unit] {
+            let claimers = self.claimers.as_slice();
+            let to = destination(claimers, session.to());
+            let frame = packet_frame(source(claimers, unit), to, packet);
             let item = Wired::Packet(*packet);
-            post_along(&mut self.wire, self.sessions.as_slice(), unit, &item);
+            post_each(&mut self.wire, unit, session.targets(), &item);
             post(&mut self.frames, frame);
         }
     }
@@ -112,7 +116,8 @@ impl Network {
         ensures world { (h : Histories) → world_in h self.new ≡ replied (world_in h self.old) from to (packets_in packet) }
     {
         if let Some(packet) = packet {
-            let frame = packet_frame(self.source(from), self.source(to), &packet);
+            let claimers = self.claimers.as_slice();
+            let frame = packet_frame(source(claimers, from), source(claimers, to), &packet);
             self.wire.post(from, to, Wired::Packet(packet));
             post(&mut self.frames, frame);
         }

@@ -12,6 +12,7 @@ ghost use Rattle.j39_world.specs.Sent.{sent_of};
 ghost use Rattle.j39_world.specs.TransferSteps.{begins, targets_of};
 ghost use Rattle.j39_world.specs.World.{is_other_on};
 
+use super::{destination, source};
 use crate::network::Network;
 use crate::pushing::post;
 use crate::session::Session;
@@ -107,8 +108,9 @@ impl Network {
         ensures world { (h : Histories) → world_in (has_begun h place flow.now targets.items bytes.now) self.new ≡ begins
             (length self.old.claimers.items) (world_in h self.old) place flow.now bytes.now }
     {
-        let source = self.source(flow.sender);
-        let destination = self.destination(flow.to);
+        let claimers = self.claimers.as_slice();
+        let source = source(claimers, flow.sender);
+        let destination = destination(claimers, flow.to);
         let (session, item) = Session::begin(place, flow, bytes, targets);
         let frame = frame_of(source, destination, flow, &item);
         post_each(&mut self.wire, flow.sender, session.targets(), &item);

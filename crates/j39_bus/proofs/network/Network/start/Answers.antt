@@ -12,7 +12,8 @@ use Rattle.j39_queues.specs.Queued.{pair_in}
 use Rattle.j39_world.specs.declared.flow.Flow.{Flow}
 use Rattle.j39_world.specs.Sent.{Sent, sent_of}
 use Rattle.j39_world.specs.Transfers.{Begun, Outgoing, added}
-use Rattle.j39_world.specs.TransferSteps.{outgoing}
+use Rattle.j39_world.specs.SentTransfers.{address_of, destination_of}
+use Rattle.j39_world.specs.TransferSteps.{first_item, outgoing}
 use Rattle.j39_world.specs.World.{changed}
 use Rattle.j39_bus.proofs.network.Network.start.Goals as goal
 
@@ -69,5 +70,7 @@ returns-clause-world c = λ h.
     let frames_are = ap (map sent_of) c.post.ensures.items ∙ map-append sent_of net.frames.items (c.frame_of-frame.result ∷ [])
     ∙ ap (λ (f : Sent). sent ++ f ∷ [])
     (c.frame_of-frame.ensures ∙ (λ i. item_frame (c.source-source.ensures i) (c.destination-destination.ensures i) flow (c.begin-session.ensures.item i))
+    ∙ ap (λ cs. item_frame (address_of (station_at cs) u) (destination_of (station_at cs) flow.to) flow (first_item flow c.args.bytes.now))
+    c.as_slice-claimers.ensures.value
     ∙ first_framed stations flow c.args.bytes.now) in
     λ i. record (world_in h net) { sessions = sessions_are i; wire = wire_is i; begun = begun_is i; frames = frames_are i }
