@@ -111,28 +111,6 @@ fn network_of(alloc: Global, plan: &Plan) -> Result<Network, AllocError>
     })
 }
 
-/// The network of a plan before any step, where there are so many choosers.
-fn opened(alloc: Global, plan: &Plan, choosers: usize) -> Result<Network, BusError>
-    ensures ok { OnOk result (CanOpen choosers plan.now) }
-    ensures network { IfOk result (λ net. IsNetwork net) }
-    ensures planned { IfOk result (λ net. IsOfPlan plan.now net) }
-    ensures world { IfOk result (λ net. world_in (histories_of first) net ≡ first) }
-    ensures held { IfOk result (λ net. HasHeld (histories_of first) net) }
-    ensures refused { IfErr result (IsNotOpened choosers plan.now) }
-{
-    if choosers != plan.units.len() {
-        return Err(BusError::ChooserCount);
-    }
-    if let Some((first, second)) = same_name(plan) {
-        return Err(BusError::SameName(first, second));
-    }
-    try_groups(alloc, plan.groups.as_slice())?;
-    match network_of(alloc, plan) {
-        Ok(network) => Ok(network),
-        Err(AllocError) => Err(BusError::Memory),
-    }
-}
-
 impl Bus {
     /// A bus of the plan, on which no unit is started, with a chooser for each unit by its place. It keeps the allocator.
     /// On an error the choosers are dropped.
@@ -142,7 +120,16 @@ impl Bus {
         ensures units { IfOk result (λ bus. length bus.units ≡ length plan.now.units.items) }
         ensures refused { IfErr result (IsNotOpened (length choosers.items) plan.now) }
     {
-        let network = opened(alloc, plan, choosers.len())?;
+        if choosers.len() != plan.units.len() {
+            return Err(BusError::ChooserCount);
+        }
+        if let Some((first, second)) = same_name(plan) {
+            return Err(BusError::SameName(first, second));
+        }
+        try_groups(alloc, plan.groups.as_slice())?;
+        let Ok(network) = network_of(alloc, plan) else {
+            return Err(BusError::Memory);
+        };
         Ok(Bus { network, choosers })
     }
 }
