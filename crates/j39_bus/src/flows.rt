@@ -39,7 +39,7 @@ pub(crate) fn flows_of(alloc: Global, plan: &Plan) -> Result<Vec<Flow>, AllocErr
 {
     let mut flows = Vec::with_capacity(alloc, plan.flows.len())?;
     for flow in &plan.flows {
-        flows.push(flow_of(plan.groups.as_slice(), flow))?;
+        flows.push_reserved(flow_of(plan.groups.as_slice(), flow));
     }
     Ok(flows)
 }

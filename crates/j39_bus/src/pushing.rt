@@ -21,7 +21,7 @@ pub(crate) fn empty_places<T: Drop>(
 {
     let mut places = Vec::with_capacity(alloc, count)?;
     for _ in 0..count {
-        places.push(None)?;
+        places.push_reserved(None);
     }
     Ok(places)
 }

@@ -180,7 +180,7 @@ fn windows_of(alloc: Global, units: &[UnitPlan]) -> Result<Vec<u8>, AllocError>
 {
     let mut windows = Vec::with_capacity(alloc, units.len())?;
     for unit in units {
-        windows.push(unit.window)?;
+        windows.push_reserved(unit.window);
     }
     Ok(windows)
 }
@@ -194,7 +194,7 @@ impl Receivers {
         let windows = windows_of(alloc, units)?;
         let mut rows = Vec::with_capacity(alloc, units.len())?;
         for _ in 0..units.len() {
-            rows.push(empty_places(alloc, units.len())?)?;
+            rows.push_reserved(empty_places(alloc, units.len())?);
         }
         Ok(Receivers { windows, rows })
     }

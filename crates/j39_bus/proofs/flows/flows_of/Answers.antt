@@ -36,9 +36,11 @@ loop-flow-preserved c =
       priority = c.flow_of.ensures.priority;
     } in
     record {
-      flows = mapped_more (flow_of plan.groups.items) xs k d inside c.loop-flow.flows.items c.push.new.self.items c.flow_of.result
-          c.in_ok-push.ensures.items c.loop-flow.invariant.flows flow;
-      fit = subst (All (IsFlow n)) (sym c.in_ok-push.ensures.items)
+      flows = mapped_more (flow_of plan.groups.items) xs k d inside c.loop-flow.flows.items c.push_reserved.new.self.items c.flow_of.result
+          c.push_reserved.ensures.items c.loop-flow.invariant.flows flow;
+      len = omega arith;
+      room = omega arith;
+      fit = subst (All (IsFlow n)) (sym c.push_reserved.ensures.items)
           (All-push (IsFlow n) c.loop-flow.flows.items c.flow_of.result c.loop-flow.invariant.fit fits);
     }
 

@@ -1,5 +1,9 @@
-use Rattle.std.proofs.Common.{◌≡◌, None, replicate}
+use Rattle.std.proofs.Common.{◌≡◌, ◌≤◌, None, replicate, vec_len, vec_capacity}
 use Rattle.j39_bus.proofs.pushing.empty_places.Given as goal
 
 abbrev pub invariant-loop : goal.invariant-loop
-invariant-loop g l = l.places.items ≡ replicate l.counter None
+invariant-loop g l = record {
+  places : l.places.items ≡ replicate l.counter None;
+  len : vec_len l.places ≡ l.counter;
+  room : l.count ≤ vec_capacity l.places;
+}

@@ -11,10 +11,12 @@ loop-unit-preserved c =
     let units = c.args.units.now in
     let unit = c.unit-item.result in
     let inside : c.loop-unit.unit-index < length units = omega arith in
-    let added = c.in_ok-push.ensures.items in
+    let added = c.push_reserved.ensures.items in
     record {
-      windows = mapped_more (λ (p : UnitPlan). p.window) units c.loop-unit.unit-index unit inside c.loop-unit.windows.items c.push.new.self.items unit.window
+      windows = mapped_more (λ (p : UnitPlan). p.window) units c.loop-unit.unit-index unit inside c.loop-unit.windows.items c.push_reserved.new.self.items unit.window
           added c.loop-unit.invariant.windows (ap (λ (p : UnitPlan). p.window) c.unit-item.is);
+      len = omega arith;
+      room = omega arith;
       positive = subst (All (λ k. 0 < k)) (sym added)
           (All-push (λ k. 0 < k) c.loop-unit.windows.items unit.window c.loop-unit.invariant.positive unit.window_positive);
     }

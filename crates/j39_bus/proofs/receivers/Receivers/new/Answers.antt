@@ -12,17 +12,21 @@ invariant_of-result c =
     let many : length windows ≡ length c.args.units.now =
     ap length c.in_ok-windows.ensures.windows ∙ length-map c.args.units.now (λ (p : UnitPlan). p.window) in
     let rows : map slots c.loop.rows.items ≡ replicate (length windows) (none_in (length windows)) =
-    c.loop.invariant ∙ (λ i. replicate ((all ∙ sym many) i) (none_in (sym many i))) in
+    c.loop.invariant.rows ∙ (λ i. replicate ((all ∙ sym many) i) (none_in (sym many i))) in
     receivers_first windows c.loop.rows.items c.in_ok-windows.ensures.lets_some rows
 
 pub returns-clause-closed : goal.returns-clause-closed
 returns-clause-closed c =
     let all : c.loop.counter ≡ length c.args.units.now = omega arith in
-    closed_first (length c.args.units.now) c.loop.rows.items (c.loop.invariant ∙ (λ i. replicate (all i) (none_in (length c.args.units.now))))
+    closed_first (length c.args.units.now) c.loop.rows.items (c.loop.invariant.rows ∙ (λ i. replicate (all i) (none_in (length c.args.units.now))))
 
 pub loop-preserved : goal.loop-preserved
 loop-preserved c =
-    same_more c.loop.counter (none_in (length c.args.units.now)) (map slots c.loop.rows.items) (map slots c.push.new.self.items)
-    (ap (map slots) c.in_ok-push.ensures.items ∙ map-append slots c.loop.rows.items (c.in_ok-empty_places.field-0 ∷ [])
-    ∙ ap (λ row. map slots c.loop.rows.items ++ row ∷ []) c.in_ok-empty_places.ensures)
-    c.loop.invariant
+    record {
+      rows = same_more c.loop.counter (none_in (length c.args.units.now)) (map slots c.loop.rows.items) (map slots c.push_reserved.new.self.items)
+          (ap (map slots) c.push_reserved.ensures.items ∙ map-append slots c.loop.rows.items (c.in_ok-empty_places.field-0 ∷ [])
+          ∙ ap (λ row. map slots c.loop.rows.items ++ row ∷ []) c.in_ok-empty_places.ensures)
+          c.loop.invariant.rows;
+      len = omega arith;
+      room = omega arith;
+    }
