@@ -1,5 +1,5 @@
 //! A receiver of each unit for what each other sends.
-ghost use Rattle.std.specs.Prelude.{◌≡◌, ◌≢◌, ℕ, ◌<◌, ◌≤◌, true, None, [], length, map, vec_capacity, OnOk, OnErr, IfOk};
+ghost use Rattle.std.specs.Prelude.{◌≡◌, ℕ, ◌<◌, ◌≤◌, true, [], length, map, vec_capacity, OnOk, OnErr, IfOk};
 ghost use Rattle.j39_tp.specs.declared.receiving.manner.Manner.TheVariants.{Answering};
 ghost use Rattle.j39_world.specs.Flows.{window_at};
 ghost use Rattle.j39_tp.specs.Receiver.{hears, receives, timed_out, gives_up, is_open_at, message_of};
@@ -48,15 +48,20 @@ pub(crate) fn is_complete(heard: &Heard) -> bool
     matches!(heard, Heard::Complete | Heard::CompleteReply(_))
 }
 
-// A closed receiver with this window, if there is none.
-fn fill(alloc: Global, slot: &mut Option<Box<Receiver>>, window: u8) -> Result<(), AllocError>
+// A closed receiver with this window for a packet that announces a message, if there is none.
+fn fill(
+    alloc: Global,
+    slot: &mut Option<Box<Receiver>>,
+    window: u8,
+    packet: &Packet,
+) -> Result<(), AllocError>
     requires window { 0 < window }
     requires answering { IsAnswering window slot.old }
     ensures same { holding_of slot.new ≡ holding_of slot.old }
-    ensures filled { OnOk result (slot.new ≢ None) }
+    ensures ready { OnOk result (IsReady packet.now slot.new) }
     ensures answering { IsAnswering window slot.new }
 {
-    if slot.is_none() {
+    if is_announcement(packet) && slot.is_none() {
         let Some(receiver) = Receiver::new(window) else {
             unreachable!()
         };
@@ -148,9 +153,7 @@ fn hear_in(
     ensures answering { IsAnswering window slot.new }
 {
     let mut bytes = room_for(alloc, slot, packet)?;
-    if is_announcement(packet) {
-        fill(alloc, slot, window)?;
-    }
+    fill(alloc, slot, window, packet)?;
     let heard = tell(slot, packet);
     if is_complete(&heard) {
         collect(slot, &mut bytes);

@@ -35,7 +35,10 @@ impl Network {
             Step::Down(unit) => self.refusal_of_ask(*unit),
             Step::Give(from, to) => self.refusal_of_give(*from, *to),
             Step::Ask(unit) => self.refusal_of_ask(*unit),
-            Step::Begin(flow, bytes) => self.refusal_of_begin(*flow, bytes),
+            Step::Begin(place, bytes) => match self.flows.get(*place) {
+                Some(flow) => self.refusal_of_flow(flow, bytes.as_slice()),
+                None => Some(StepError::NoSuchFlow),
+            },
             Step::Emit(unit) => self.refusal_of_emit(*unit),
             Step::Take(from, to) => self.refusal_of_take(*from, *to),
             Step::Lose(from, to) => self.refusal_of_take(*from, *to),
@@ -117,16 +120,6 @@ impl Network {
             return Some(StepError::TransferOpen);
         }
         None
-    }
-
-    fn refusal_of_begin(&self, place: usize, bytes: &Vec<u8>) -> Option<StepError>
-        requires { IsNetwork self.now }
-        ensures { (h : Histories) → result ≡ refusal_in self.now h (Begin place bytes.now) }
-    {
-        match self.flows.get(place) {
-            Some(flow) => self.refusal_of_flow(flow, bytes.as_slice()),
-            None => Some(StepError::NoSuchFlow),
-        }
     }
 
     // Of these bytes by a planned flow.

@@ -54,11 +54,7 @@ fn targets_of(alloc: Global, claimers: &[Claimer], flow: &Flow) -> Result<Vec<us
 {
     match flow.to {
         To::All => others_on(alloc, claimers, flow.sender),
-        To::One(unit) => {
-            let mut targets = Vec::new(alloc);
-            targets.push(unit)?;
-            Ok(targets)
-        }
+        To::One(unit) => Vec::from_slice(alloc, &[unit]),
     }
 }
 

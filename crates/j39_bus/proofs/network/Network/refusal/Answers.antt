@@ -1,5 +1,10 @@
-use Rattle.std.proofs.Common.{sym, ap, ◌∙◌}
-use Rattle.j39_bus.specs.inside.Network.{refusal_in}
+use Rattle.std.proofs.Common.{◌<◌, ◌≤◌, length, get_or, sym, ap, ◌∙◌, subst, arith}
+use Rattle.j39_bus.specs.inside.Network.{refusal_in, world_in}
+use Rattle.std.proofs.lemmas.Bool.{ltb-false}
+use Rattle.std.proofs.lemmas.Option.{slice_get_past}
+use Rattle.j39_bus.specs.inside.Traffic.{IsFlow}
+use Rattle.j39_world.specs.Run.{begin_refusal}
+use Rattle.j39_bus.proofs.Opened.{got}
 use Rattle.j39_bus.proofs.network.Network.refusal.Goals as goal
 
 pub returns-in-Up : goal.returns-in-Up
@@ -14,8 +19,31 @@ returns-in-Give c = λ h. c.refusal_of_give.ensures h ∙ ap (refusal_in c.args.
 pub returns-in-Ask : goal.returns-in-Ask
 returns-in-Ask c = λ h. c.refusal_of_ask-in-Ask.ensures h ∙ ap (refusal_in c.args.self.now h) (sym c.in-Ask.is)
 
-pub returns-in-Begin : goal.returns-in-Begin
-returns-in-Begin c = λ h. c.refusal_of_begin.ensures h ∙ ap (refusal_in c.args.self.now h) (sym c.in-Begin.is)
+pub refusal_of_flow-requires-clause-flow : goal.refusal_of_flow-requires-clause-flow
+refusal_of_flow-requires-clause-flow c =
+    let net = c.args.self.now in
+    let flows_are = c.deref.ensures.value in
+    let inside : c.in-Begin.place < length net.flows.items = omega (arith, c.in-Some.ensures.lookup.3.0, ap length flows_are) in
+    let at = c.in-Some.ensures.lookup.1 ∙ ap (λ fs. get_or fs c.in-Begin.place c.in-Some.flow.now) flows_are in
+    subst (IsFlow (length net.claimers.items)) (sym at) (c.requires.traffic.flows c.in-Begin.place c.in-Some.flow.now inside)
+
+pub returns-in-Some : goal.returns-in-Some
+returns-in-Some c = λ h.
+    let net = c.args.self.now in
+    let n = length net.claimers.items in
+    let flows_are = c.deref.ensures.value in
+    let inside : c.in-Begin.place < length net.flows.items = omega (arith, c.in-Some.ensures.lookup.3.0, ap length flows_are) in
+    let at = c.in-Some.ensures.lookup.1 ∙ ap (λ fs. get_or fs c.in-Begin.place c.in-Some.flow.now) flows_are in
+    c.refusal_of_flow.ensures h
+    ∙ (λ i. begin_refusal n (world_in h net) (sym (got net.flows.items c.in-Begin.place c.in-Some.flow.now inside at) i) (c.as_slice.ensures.value i))
+    ∙ ap (refusal_in net h) (sym c.in-Begin.is)
+
+pub returns-in-None : goal.returns-in-None
+returns-in-None c = λ h.
+    let net = c.args.self.now in
+    let past : length net.flows.items ≤ c.in-Begin.place = omega (arith, ltb-false _ _ (sym c.in-None.ensures.lookup.0), ap length c.deref.ensures.value) in
+    ap (λ f. begin_refusal (length net.claimers.items) (world_in h net) f c.in-Begin.bytes.items) (sym (slice_get_past net.flows.items c.in-Begin.place past))
+    ∙ ap (refusal_in net h) (sym c.in-Begin.is)
 
 pub returns-in-Emit : goal.returns-in-Emit
 returns-in-Emit c = λ h. c.refusal_of_emit.ensures h ∙ ap (refusal_in c.args.self.now h) (sym c.in-Emit.is)
