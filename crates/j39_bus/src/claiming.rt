@@ -1,18 +1,16 @@
 //! The steps of units that claim addresses (SAE J1939-81).
-ghost use Rattle.std.specs.Prelude.{◌≡◌, ◌≢◌, ◌<◌, ◌≤◌, ◌+◌, ◌*◌, Some, length, slice_index_or, vec_len, vec_capacity, OnOk, OnErr, IfErr};
+ghost use Rattle.std.specs.Prelude.{◌≡◌, ◌≢◌, ◌<◌, ◌≤◌, ◌+◌, ◌*◌, Some, length, vec_len, vec_capacity, OnOk, OnErr, IfErr};
 ghost use Rattle.j39_findings.specs.declared.plan.Plan.{Plan};
 ghost use Rattle.j39_findings.specs.declared.steps.Step.TheVariants.{Up, Give, Ask};
 ghost use Rattle.j39_world.specs.ClaimSteps.{switched_on, asked, GivenFrom};
 ghost use Rattle.j39_bus.specs.inside.Claims.{HasRoomForOthers};
 ghost use Rattle.j39_queues.specs.Queued.{pair_in};
 ghost use Rattle.j39_bus.specs.BusState.{Histories};
-ghost use Rattle.j39_bus.specs.Stations.{absent_unit};
 ghost use Rattle.j39_bus.specs.inside.Network.{IsAllowed, IsNetwork, IsOfPlan, IsSameNetwork, KeepsPlan, HasStepped, planned_units, world_in};
 
 use crate::hearing::hear;
 use crate::network::Network;
 use j39_claim::{Choose, Item};
-use j39_id::Name;
 use std::alloc::AllocError;
 
 impl Network {
@@ -80,14 +78,6 @@ impl Network {
         self.tell(unit, &Item::Told(say));
     }
 
-    // The NAME of a unit.
-    fn name_of(&self, unit: usize) -> Name
-        requires { unit < length self.now.claimers.items }
-        ensures { result ≡ (slice_index_or self.now.claimers.items unit absent_unit).planned.name }
-    {
-        self.claimers[unit].name()
-    }
-
     fn deliver(&mut self, choosers: &[Box<dyn Choose>], from: usize, to: usize)
         requires network { IsNetwork self.old }
         requires choosers { length choosers.now ≡ length self.old.claimers.items }
@@ -103,7 +93,7 @@ impl Network {
             (world_in h self.old) from to (pair_in self.old.claims.lists from to)
             (world_in h self.new) }
     {
-        let name = self.name_of(from);
+        let name = self.claimers[from].name();
         let Some(item) = self.claims.pop(from, to) else {
             unreachable!()
         };

@@ -39,10 +39,10 @@ fn frame_of(source: u8, destination: u8, flow: &Flow, item: &Wired) -> Frame
 fn others_on(alloc: Global, claimers: &[Claimer], unit: usize) -> Result<Vec<usize>, AllocError>
     ensures { IfOk result (λ targets. targets.items ≡ filter (is_other_on (station_at claimers.now) unit) (range_with_len 0 (length claimers.now))) }
 {
-    let mut targets = Vec::new(alloc);
+    let mut targets = Vec::with_capacity(alloc, claimers.len())?;
     for (place, claimer) in claimers.iter().enumerate() {
         if place != unit && claimer.is_started() {
-            targets.push(place)?;
+            targets.push_reserved(place);
         }
     }
     Ok(targets)

@@ -1,4 +1,4 @@
-use Rattle.std.proofs.Common.{◌≡◌, ℕ, true, List, length, map, get_or, ap, sym, ◌∙◌, Some, None, refl, subst}
+use Rattle.std.proofs.Common.{◌≡◌, ℕ, ◌<◌, true, List, length, map, get_or, ap, sym, ◌∙◌, Some, None, refl, subst}
 use Rattle.std.proofs.Math.ListN.{length-set}
 use Rattle.j39_claim.specs.ClaimerValue.{ClaimerValue, can_note}
 use Rattle.j39_queues.specs.Queued.{IsTable, pair_in}
@@ -11,13 +11,17 @@ use Rattle.j39_bus.specs.declared.network.Network.{Network}
 use Rattle.j39_bus.specs.inside.Traffic.{IsTraffic}
 use Rattle.j39_bus.proofs.Steady.{told_traffic}
 use Rattle.j39_bus.proofs.WellFormed.{room_for_others, well_told, well_heard}
-use Rattle.j39_bus.proofs.Worlds.{world, told_nothing}
+use Rattle.j39_bus.proofs.Worlds.{any_default, world, told_nothing}
 use Rattle.j39_bus.proofs.network.Network.deliver.Goals as goal
+
+name_at : (cs : List ClaimerValue) (u : ℕ) (d : ClaimerValue) (n : ℕ) → u < length cs → d ≡ get_or cs u d → n ≡ d.planned.name
+    → n ≡ (get_or cs u absent_unit).planned.name
+name_at cs u d n inside at is = is ∙ ap (λ (k : ClaimerValue). k.planned.name) (at ∙ any_default cs u d absent_unit inside)
 
 pub hear-answer-requires-clause-room : goal.hear-answer-requires-clause-room
 hear-answer-requires-clause-room g c =
     let cs : List ClaimerValue = c.args.self.now.claimers.items in
-    ap (can_note (station_at cs c.args.to).notes) c.name_of-name.ensures
+    ap (can_note (station_at cs c.args.to).notes) (name_at c.args.self.now.claimers.items c.args.from c.index.result.now c.name-name.result c.requires.from c.index.ensures c.name-name.ensures)
     ∙ can_note_all cs c.args.self.now.claims.lists c.args.from c.args.to c.requires.network.claims c.requires.from
 
 pub tell-requires-clause-room : goal.tell-requires-clause-room
@@ -38,9 +42,9 @@ returns-in-Some-answer-clause-network g c =
     let cs : List ClaimerValue = c.args.self.now.claimers.items in
     let new : List ClaimerValue = c.hear-answer.new.claimers.items in
     let rule = c.in-Some-answer.ensures.rule in
-    let is_one : is_named cs c.name_of-name.result ≡ true = ap (is_named cs) c.name_of-name.ensures ∙ named cs c.args.from c.requires.from in
+    let is_one : is_named cs c.name-name.result ≡ true = ap (is_named cs) (name_at c.args.self.now.claimers.items c.args.from c.index.result.now c.name-name.result c.requires.from c.index.ensures c.name-name.ensures) ∙ named cs c.args.from c.requires.from in
     let well : IsWellFormed new c.pop.new.self.lists =
-    well_heard cs c.args.self.now.claims.lists c.requires.network.claims c.args.to c.requires.to c.name_of-name.result is_one c.in-Some.item
+    well_heard cs c.args.self.now.claims.lists c.requires.network.claims c.args.to c.requires.to c.name-name.result is_one c.in-Some.item
     (Some c.in-Some-answer.say) new rule c.pop.new.self.lists c.pop.ensures.table in
     record {
       claims = well_told new c.pop.new.self.lists well c.tell.new.self.claimers.items c.tell.new.self.claims.lists
@@ -56,7 +60,7 @@ pub returns-in-Some-answer-clause-plan : goal.returns-in-Some-answer-clause-plan
 returns-in-Some-answer-clause-plan g c = record {
   planned_units =
       ap (λ v. planned_units v.items) c.tell.ensures.claimers
-      ∙ planned_units_heard c.args.self.now.claimers.items c.args.to c.name_of-name.result c.in-Some.item
+      ∙ planned_units_heard c.args.self.now.claimers.items c.args.to c.name-name.result c.in-Some.item
       (Some c.in-Some-answer.say) c.hear-answer.new.claimers.items c.in-Some-answer.ensures.rule;
   flows = ap (λ (m : Network). m.flows.items) c.tell.ensures.rest;
   windows = ap (λ (m : Network). m.receivers.windows) c.tell.ensures.rest;
@@ -67,7 +71,7 @@ returns-in-Some-answer-clause-world g c = λ h.
     let cs : List ClaimerValue = c.args.self.now.claimers.items in
     delivered (world_in h c.args.self.now) cs (pair_in c.args.self.now.claims.lists) (pair_in c.pop.new.self.lists)
     (map sent_of c.args.self.now.frames.items) c.args.from c.args.to c.requires.to
-    c.in-Some.item c.in-Some.ensures.some c.pop.ensures.lists c.name_of-name.result c.name_of-name.ensures
+    c.in-Some.item c.in-Some.ensures.some c.pop.ensures.lists c.name-name.result (name_at c.args.self.now.claimers.items c.args.from c.index.result.now c.name-name.result c.requires.from c.index.ensures c.name-name.ensures)
     (Some c.in-Some-answer.say) c.hear-answer.new.claimers.items c.in-Some-answer.ensures.rule
     _ (c.tell.ensures.world h)
 
@@ -75,9 +79,9 @@ pub returns-in-None-clause-network : goal.returns-in-None-clause-network
 returns-in-None-clause-network g c =
     let net = c.args.self.now in
     let cs : List ClaimerValue = c.args.self.now.claimers.items in
-    let is_one : is_named cs c.name_of-name.result ≡ true = ap (is_named cs) c.name_of-name.ensures ∙ named cs c.args.from c.requires.from in
+    let is_one : is_named cs c.name-name.result ≡ true = ap (is_named cs) (name_at c.args.self.now.claimers.items c.args.from c.index.result.now c.name-name.result c.requires.from c.index.ensures c.name-name.ensures) ∙ named cs c.args.from c.requires.from in
     record {
-      claims = well_heard cs c.args.self.now.claims.lists c.requires.network.claims c.args.to c.requires.to c.name_of-name.result is_one c.in-Some.item None
+      claims = well_heard cs c.args.self.now.claims.lists c.requires.network.claims c.args.to c.requires.to c.name-name.result is_one c.in-Some.item None
           c.hear-answer.new.claimers.items c.in-None.ensures.rule
           c.pop.new.self.lists c.pop.ensures.table;
       traffic = subst (λ (n : ℕ). IsTraffic n net.flows.items net.sessions.items net.wire.lists net.receivers)
@@ -87,7 +91,7 @@ returns-in-None-clause-network g c =
 
 pub returns-in-None-clause-plan : goal.returns-in-None-clause-plan
 returns-in-None-clause-plan g c = record {
-  planned_units = planned_units_heard c.args.self.now.claimers.items c.args.to c.name_of-name.result c.in-Some.item None c.hear-answer.new.claimers.items
+  planned_units = planned_units_heard c.args.self.now.claimers.items c.args.to c.name-name.result c.in-Some.item None c.hear-answer.new.claimers.items
       c.in-None.ensures.rule;
   flows = refl;
   windows = refl;
@@ -98,7 +102,7 @@ returns-in-None-clause-world g c = λ h.
     let cs : List ClaimerValue = c.args.self.now.claimers.items in
     delivered (world_in h c.args.self.now) cs (pair_in c.args.self.now.claims.lists) (pair_in c.pop.new.self.lists)
     (map sent_of c.args.self.now.frames.items) c.args.from c.args.to c.requires.to
-    c.in-Some.item c.in-Some.ensures.some c.pop.ensures.lists c.name_of-name.result c.name_of-name.ensures
+    c.in-Some.item c.in-Some.ensures.some c.pop.ensures.lists c.name-name.result (name_at c.args.self.now.claimers.items c.args.from c.index.result.now c.name-name.result c.requires.from c.index.ensures c.name-name.ensures)
     None c.hear-answer.new.claimers.items c.in-None.ensures.rule
     _ (sym (told_nothing (planned_units c.hear-answer.new.claimers.items)
     (world (world_in h c.args.self.now) c.hear-answer.new.claimers.items (pair_in c.pop.new.self.lists) (map sent_of c.args.self.now.frames.items))
