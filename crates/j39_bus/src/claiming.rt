@@ -75,7 +75,7 @@ impl Network {
         self.claims.clear_to(unit);
         self.wire.clear_to(unit);
         let say = self.claimers[unit].start();
-        self.tell(unit, &Item::Told(say));
+        self.tell(unit, Item::Told(say));
     }
 
     fn deliver(&mut self, choosers: &[Box<dyn Choose>], from: usize, to: usize)
@@ -99,7 +99,7 @@ impl Network {
         };
         let answer = hear(&mut self.claimers, choosers, to, name, &item);
         match answer {
-            Some(say) => self.tell(to, &Item::Told(say)),
+            Some(say) => self.tell(to, Item::Told(say)),
             None => {}
         }
     }
@@ -114,8 +114,8 @@ impl Network {
         ensures rest { self.new ≡ record self.old { claimers = self.new.claimers; claims = self.new.claims; frames = self.new.frames } }
         ensures world { (h : Histories) → world_in h self.new ≡ asked (planned_units self.old.claimers.items) (world_in h self.old) unit }
     {
-        self.tell(unit, &Item::Request);
+        self.tell(unit, Item::Request);
         let say = self.claimers[unit].hear_request();
-        self.tell(unit, &Item::Told(say));
+        self.tell(unit, Item::Told(say));
     }
 }

@@ -47,14 +47,14 @@ impl Network {
     }
 
     /// A unit tells all others.
-    pub(crate) fn tell(&mut self, from: usize, item: &Item)
+    pub(crate) fn tell(&mut self, from: usize, item: Item)
         requires from { from < length self.old.claimers.items }
         requires table { IsTable (length self.old.claimers.items) self.old.claims.lists }
         requires room { HasRoomForOthers self.old.claims self.old.claimers.items from 1 }
         requires frames { vec_len self.old.frames < vec_capacity self.old.frames }
         ensures claimers { self.new.claimers ≡ self.old.claimers }
         ensures rest { self.new ≡ record self.old { claims = self.new.claims; frames = self.new.frames } }
-        ensures world { (h : Histories) → world_in h self.new ≡ tell (planned_units self.old.claimers.items) (world_in h self.old) from (item.now ∷ []) }
+        ensures world { (h : Histories) → world_in h self.new ≡ tell (planned_units self.old.claimers.items) (world_in h self.old) from (item ∷ []) }
         ensures table { IsTable (length self.old.claimers.items) self.new.claims.lists }
         ensures room { (more : ℕ) → HasRoomForOthers self.old.claims self.old.claimers.items from (1 + more)
             → HasRoomForOthers self.new.claims self.old.claimers.items from more }
@@ -62,8 +62,8 @@ impl Network {
         ensures frames_room { vec_capacity self.old.frames ≤ vec_capacity self.new.frames }
     {
         let claimer = &self.claimers[from];
-        let frame = frame_of(claimer.name(), claimer.address(), item);
-        post_to_others(&mut self.claims, self.claimers.as_slice(), from, item);
+        let frame = frame_of(claimer.name(), claimer.address(), &item);
+        post_to_others(&mut self.claims, self.claimers.as_slice(), from, &item);
         post(&mut self.frames, frame);
     }
 }

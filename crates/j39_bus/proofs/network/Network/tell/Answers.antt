@@ -18,14 +18,14 @@ returns-clause-world c = λ h.
     let sent : List Sent = map sent_of c.args.self.now.frames.items in
     let at : c.index-claimer.result.now ≡ get_or cs c.args.from absent_unit = c.index-claimer.ensures
     ∙ any_default cs c.args.from c.index-claimer.result.now absent_unit c.requires.from in
-    let told : pair_in c.post_to_others.new.claims.lists ≡ told_to_others (station_at cs) claims c.args.from (c.args.item.now ∷ []) =
-    c.post_to_others.ensures.lists ∙ ap (λ (ks : List ClaimerValue). told_to_others (station_at ks) claims c.args.from (c.args.item.now ∷ []))
+    let told : pair_in c.post_to_others.new.claims.lists ≡ told_to_others (station_at cs) claims c.args.from (c.args.item ∷ []) =
+    c.post_to_others.ensures.lists ∙ ap (λ (ks : List ClaimerValue). told_to_others (station_at ks) claims c.args.from (c.args.item ∷ []))
     c.as_slice.ensures.value in
-    let frames : map sent_of c.post.new.list.items ≡ sent ++ frame_of c.name.result c.address.result c.args.item.now ∷ [] =
+    let frames : map sent_of c.post.new.list.items ≡ sent ++ frame_of c.name.result c.address.result c.args.item ∷ [] =
     ap (map sent_of) c.post.ensures.items ∙ map-append sent_of c.args.self.now.frames.items (c.frame_of-frame.result ∷ [])
     ∙ ap (λ (f : Sent). sent ++ f ∷ []) c.frame_of-frame.ensures in
     (λ i. world b cs (pair_in c.post_to_others.new.claims.lists) (frames i))
-    ∙ world_told b cs claims (pair_in c.post_to_others.new.claims.lists) sent c.args.from c.args.item.now c.name.result c.address.result told
+    ∙ world_told b cs claims (pair_in c.post_to_others.new.claims.lists) sent c.args.from c.args.item c.name.result c.address.result told
     (c.name.ensures ∙ ap (λ (k : ClaimerValue). k.planned.name) at) (c.address.ensures.address ∙ ap (λ (k : ClaimerValue). k.state.address) at)
 
 pub returns-clause-table : goal.returns-clause-table
