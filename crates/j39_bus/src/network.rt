@@ -6,7 +6,6 @@ ghost use Rattle.j39_bus.specs.inside.Claims.{HasRoomForOthers};
 
 use crate::claim_frames::frame_of;
 use crate::claims::{post_to_others, reserve_for_others};
-use crate::pushing::post;
 use crate::receivers::Receivers;
 use crate::report::Report;
 use crate::session::Session;
@@ -64,6 +63,6 @@ impl Network {
         let claimer = &self.claimers[from];
         let frame = frame_of(claimer.name(), claimer.address(), &item);
         post_to_others(&mut self.claims, self.claimers.as_slice(), from, &item);
-        post(&mut self.frames, frame);
+        self.frames.push_reserved(frame);
     }
 }

@@ -19,7 +19,6 @@ mod taking;
 
 use crate::claim_frames::source_of;
 use crate::network::Network;
-use crate::pushing::post;
 use crate::transfer_frames::packet_frame;
 use crate::wire::{post_each, reserve_each};
 use j39_claim::Claimer;
@@ -81,7 +80,7 @@ impl Network {
             let frame = packet_frame(source(claimers, unit), to, packet);
             let item = Wired::Packet(*packet);
             post_each(&mut self.wire, unit, session.targets(), &item);
-            post(&mut self.frames, frame);
+            self.frames.push_reserved(frame);
         }
     }
 
@@ -119,7 +118,7 @@ impl Network {
             let claimers = self.claimers.as_slice();
             let frame = packet_frame(source(claimers, from), source(claimers, to), &packet);
             self.wire.post(from, to, Wired::Packet(packet));
-            post(&mut self.frames, frame);
+            self.frames.push_reserved(frame);
         }
     }
 }

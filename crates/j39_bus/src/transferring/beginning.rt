@@ -14,7 +14,6 @@ ghost use Rattle.j39_world.specs.World.{is_other_on};
 
 use super::{destination, source};
 use crate::network::Network;
-use crate::pushing::post;
 use crate::session::Session;
 use crate::transfer_frames::{packet_frame, short_frame};
 use crate::wire::{post_each, reserve_each};
@@ -110,7 +109,7 @@ impl Network {
         let (session, item) = Session::begin(place, flow, bytes, targets);
         let frame = frame_of(source, destination, flow, &item);
         post_each(&mut self.wire, flow.sender, session.targets(), &item);
-        post(&mut self.frames, frame);
+        self.frames.push_reserved(frame);
         self.sessions[flow.sender] = Some(session);
     }
 }

@@ -18,7 +18,7 @@ pub returns-in-Some-clause-world : goal.returns-in-Some-clause-world
 returns-in-Some-clause-world c = λ h.
     let net = c.args.self.now in
     let sent : List Sent = map sent_of net.frames.items in
-    let frames_are = ap (map sent_of) c.post-in-Some.ensures.items ∙ map-append sent_of net.frames.items (c.packet_frame-frame.result ∷ [])
+    let frames_are = ap (map sent_of) c.push_reserved.ensures.items ∙ map-append sent_of net.frames.items (c.packet_frame-frame.result ∷ [])
     ∙ ap (λ (f : Sent). sent ++ f ∷ [])
     (c.packet_frame-frame.ensures ∙ (λ i. packet_frame (c.source.ensures i) (c.source-in-Some.ensures i) c.in-Some.packet)
     ∙ ap (λ cs. packet_frame (address_of (station_at cs) c.args.from) (address_of (station_at cs) c.args.to) c.in-Some.packet)

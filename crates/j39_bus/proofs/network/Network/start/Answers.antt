@@ -67,7 +67,7 @@ returns-clause-world c = λ h.
     let targets_are = c.targets.ensures ∙ ap (λ (o : Outgoing). o.targets) out_is in
     let wire_is = c.post_each.ensures.lists ∙ (λ i. added (pair_in lists) u (targets_are i) (c.begin-session.ensures.item i)) in
     let begun_is = ap (λ (l : List ℕ). added h.begun u l message) c.requires.targets in
-    let frames_are = ap (map sent_of) c.post.ensures.items ∙ map-append sent_of net.frames.items (c.frame_of-frame.result ∷ [])
+    let frames_are = ap (map sent_of) c.push_reserved.ensures.items ∙ map-append sent_of net.frames.items (c.frame_of-frame.result ∷ [])
     ∙ ap (λ (f : Sent). sent ++ f ∷ [])
     (c.frame_of-frame.ensures ∙ (λ i. item_frame (c.source-source.ensures i) (c.destination-destination.ensures i) flow (c.begin-session.ensures.item i))
     ∙ ap (λ cs. item_frame (address_of (station_at cs) u) (destination_of (station_at cs) flow.to) flow (first_item flow c.args.bytes.now))

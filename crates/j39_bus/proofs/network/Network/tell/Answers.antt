@@ -21,8 +21,8 @@ returns-clause-world c = λ h.
     let told : pair_in c.post_to_others.new.claims.lists ≡ told_to_others (station_at cs) claims c.args.from (c.args.item ∷ []) =
     c.post_to_others.ensures.lists ∙ ap (λ (ks : List ClaimerValue). told_to_others (station_at ks) claims c.args.from (c.args.item ∷ []))
     c.as_slice.ensures.value in
-    let frames : map sent_of c.post.new.list.items ≡ sent ++ frame_of c.name.result c.address.result c.args.item ∷ [] =
-    ap (map sent_of) c.post.ensures.items ∙ map-append sent_of c.args.self.now.frames.items (c.frame_of-frame.result ∷ [])
+    let frames : map sent_of c.push_reserved.new.self.items ≡ sent ++ frame_of c.name.result c.address.result c.args.item ∷ [] =
+    ap (map sent_of) c.push_reserved.ensures.items ∙ map-append sent_of c.args.self.now.frames.items (c.frame_of-frame.result ∷ [])
     ∙ ap (λ (f : Sent). sent ++ f ∷ []) c.frame_of-frame.ensures in
     (λ i. world b cs (pair_in c.post_to_others.new.claims.lists) (frames i))
     ∙ world_told b cs claims (pair_in c.post_to_others.new.claims.lists) sent c.args.from c.args.item c.name.result c.address.result told
