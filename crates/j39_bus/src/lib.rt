@@ -10,7 +10,7 @@ mod flows;
 mod hearing;
 mod network;
 mod opening;
-mod pushing;
+mod places;
 mod receivers;
 mod refusing;
 mod report;

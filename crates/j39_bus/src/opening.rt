@@ -12,7 +12,7 @@ ghost use Rattle.j39_findings.specs.PlannedGroups.{IsSendable};
 
 use crate::flows::flows_of;
 use crate::network::Network;
-use crate::pushing::empty_places;
+use crate::places::empty_places;
 use crate::receivers::Receivers;
 use crate::{Bus, BusError};
 use j39_claim::{AddressSet, Choose, Claimer};

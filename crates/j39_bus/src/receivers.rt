@@ -8,7 +8,7 @@ ghost use Rattle.j39_bus.specs.BusState.{closed, holding_at};
 ghost use Rattle.j39_bus.specs.inside.Receivers.{HasRoomFor, IsAnswering, IsReady, answering, holding_of, is_complete, left_at, left_of, message_in, opens};
 ghost use Rattle.j39_bus.specs.inside.Receivers.{receiver_at};
 
-use crate::pushing::empty_places;
+use crate::places::empty_places;
 use j39_findings::UnitPlan;
 use j39_tp::{Heard, Packet, Receiver};
 use std::alloc::{AllocError, Global};

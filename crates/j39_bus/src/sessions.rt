@@ -1,7 +1,7 @@
 //! The messages that units send, by the places of the units.
 ghost use Rattle.std.specs.Prelude.{◌≡◌, ◌<◌, Some, is_some, length};
 ghost use Rattle.std.specs.List.{list_any};
-ghost use Rattle.std.specs.Option.{option_and_then, option_map};
+ghost use Rattle.std.specs.Option.{option_and_then};
 ghost use Rattle.j39_bus.specs.BusState.{session_at};
 ghost use Rattle.j39_bus.specs.inside.Traffic.{at_stage};
 ghost use Rattle.j39_tp.specs.Sender.{data_next, after_packet, timeout_packet, after_timeout};
@@ -12,7 +12,6 @@ ghost use Rattle.j39_world.specs.Transfers.{Outgoing, outcome_in};
 ghost use Rattle.j39_world.specs.World.{changed};
 
 use crate::session::Session;
-use j39_findings::To;
 use j39_tp::{Outcome, Packet, Reaction};
 
 /// Whether some unit sends a message.
@@ -52,17 +51,6 @@ pub(crate) fn is_waiting(sessions: &[Option<Session>], unit: usize) -> bool
     match &sessions[unit] {
         Some(session) => session.is_waiting(),
         None => false,
-    }
-}
-
-/// Where the message of a unit goes, if it has one.
-pub(crate) fn goes_to(sessions: &[Option<Session>], unit: usize) -> Option<To>
-    requires { unit < length sessions.now }
-    ensures { result ≡ option_map (λ (s : Outgoing). s.to) (session_at sessions.now unit) }
-{
-    match &sessions[unit] {
-        Some(session) => Some(session.to()),
-        None => None,
     }
 }
 

@@ -11,7 +11,6 @@ ghost use Rattle.j39_bus.specs.inside.Traffic.{packet_heard};
 ghost use Rattle.j39_world.specs.TransferSteps.{hearing, packets_in, reaction_of, receiver_replies, report, sender_replies};
 
 use crate::network::Network;
-use crate::pushing::post;
 use crate::receivers::is_complete;
 use crate::report::Report;
 use crate::sessions;
@@ -175,14 +174,11 @@ impl Network {
             (world_in h self.old) { reports = (world_in h self.old).reports ++ report (world_in h self.old) from to bytes.items ∷ [] } }
     {
         let flow = sessions::flow_of(self.sessions.as_slice(), from);
-        post(
-            &mut self.reports,
-            Report {
-                receiver: to,
-                sender: from,
-                flow,
-                bytes,
-            },
-        );
+        self.reports.push_reserved(Report {
+            receiver: to,
+            sender: from,
+            flow,
+            bytes,
+        });
     }
 }

@@ -16,6 +16,6 @@ returns-clause-world c = λ h.
     let reports : List Reported = map reported_of net.reports.items in
     let flow : c.flow_of-flow.result ≡ flow_in (session_at net.sessions.items c.args.from) =
     c.flow_of-flow.ensures ∙ ap (λ l. flow_in (session_at l c.args.from)) c.as_slice.ensures.value in
-    let added = ap (map reported_of) c.post.ensures.items ∙ map-append reported_of net.reports.items _
+    let added = ap (map reported_of) c.push_reserved.ensures.items ∙ map-append reported_of net.reports.items _
     ∙ (λ i. reports ++ record { receiver = c.args.to; sender = c.args.from; flow = flow i; bytes = c.args.bytes.items } ∷ []) in
     λ i. record (world_in h net) { reports = added i }

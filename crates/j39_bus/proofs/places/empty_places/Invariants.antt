@@ -1,5 +1,5 @@
 use Rattle.std.proofs.Common.{◌≡◌, ◌≤◌, None, replicate, vec_len, vec_capacity}
-use Rattle.j39_bus.proofs.pushing.empty_places.Given as goal
+use Rattle.j39_bus.proofs.places.empty_places.Given as goal
 
 abbrev pub invariant-loop : goal.invariant-loop
 invariant-loop g l = record {

@@ -1,6 +1,6 @@
 use Rattle.std.proofs.Common.{◌≡◌, None, arith, subst, replicate}
 use Rattle.j39_bus.proofs.Opened.{same_more}
-use Rattle.j39_bus.proofs.pushing.empty_places.Goals as goal
+use Rattle.j39_bus.proofs.places.empty_places.Goals as goal
 
 pub loop-preserved : goal.loop-preserved
 loop-preserved g c = record {
