@@ -15,33 +15,12 @@ impl Network {
     ghost use Rattle.j39_bus.specs.BusState.{Histories};
     ghost use Rattle.j39_bus.specs.inside.Network.{IsAllowed, IsNetwork, IsOfPlan, IsSameNetwork, KeepsPlan, HasStepped, refusal_in};
 
-    /// Does a step. A refused step changes nothing, nor does one for which there is no memory.
-    pub(crate) fn step(
+    /// Does a step that is not refused.
+    pub(crate) fn act(
         &mut self,
         choosers: &[Box<dyn Choose>],
         step: &Step,
-    ) -> Result<(), StepError>
-        requires network { IsNetwork self.old }
-        requires choosers { length choosers.now ≡ length self.old.claimers.items }
-        ensures network { IsNetwork self.new }
-        ensures plan { KeepsPlan self.old self.new }
-        ensures allowed { OnOk result (IsAllowed self.old step.now) }
-        ensures steps { OnOk result ((plan : Plan) → IsOfPlan plan self.old → HasStepped plan self.old step.now self.new) }
-        ensures refused { IfErr result (λ e. (h : Histories) → refusal_in self.old h step.now ≡ cause_of e) }
-        ensures memory { IfErr result (λ e. e ≡ StepError.Memory → takes_memory step.now ≡ true) }
-        ensures same { OnErr result (IsSameNetwork self.old self.new) }
-    {
-        if let Some(error) = self.refusal(step) {
-            return Err(error);
-        }
-        let Ok(()) = self.act(choosers, step) else {
-            return Err(StepError::Memory);
-        };
-        Ok(())
-    }
-
-    /// Does a step that is not refused.
-    fn act(&mut self, choosers: &[Box<dyn Choose>], step: &Step) -> Result<(), AllocError>
+    ) -> Result<(), AllocError>
         requires network { IsNetwork self.old }
         requires choosers { length choosers.now ≡ length self.old.claimers.items }
         requires allowed { IsAllowed self.old step.now }
@@ -87,7 +66,13 @@ impl Bus {
         ensures same { OnErr result (self.new ≡ self.old) }
         ensures units { length self.new.units ≡ length self.old.units }
     {
-        self.network.step(self.choosers.as_slice(), step)
+        if let Some(error) = self.network.refusal(step) {
+            return Err(error);
+        }
+        let Ok(()) = self.network.act(self.choosers.as_slice(), step) else {
+            return Err(StepError::Memory);
+        };
+        Ok(())
     }
 
     /// Does the steps in turn, up to the first that is refused. An error has that step's place; those before it are done.
