@@ -1,5 +1,5 @@
 //! A new bus.
-ghost use Rattle.std.specs.Prelude.{◌≡◌, ◌<◌, ℕ, length, map, take, All, IfOk, IfErr, IfSome, IfNone, OnOk};
+ghost use Rattle.std.specs.Prelude.{◌≡◌, ◌<◌, ℕ, length, map, All, IfOk, IfErr, IfSome, IfNone, OnOk};
 ghost use Rattle.j39_world.specs.PlannedUnits.{units_of};
 ghost use Rattle.j39_bus.specs.Stations.{unstarted};
 ghost use Rattle.j39_world.specs.Opening.{HaveOneName, AreNamesDistinct, IsFirstOfOneName, CanOpen, IsNotOpened};

@@ -1,5 +1,5 @@
 //! Why steps are refused.
-ghost use Rattle.std.specs.Prelude.{◌≡◌, ◌<◌, true, None, Some, nat_lt, length, is_some};
+ghost use Rattle.std.specs.Prelude.{◌≡◌, ◌<◌, true, None, Some, length, is_some};
 ghost use Rattle.j39_findings.specs.declared.steps.Step.TheVariants.{Up, Give, Ask, Begin, Emit, Take, LateSender, LateReceiver, Rest};
 ghost use Rattle.j39_world.specs.Flows.{can_be_sent};
 ghost use Rattle.j39_bus.specs.Stations.{station_at};

@@ -12,10 +12,9 @@ use j39_findings::Step;
 use std::alloc::AllocError;
 
 impl Network {
-    ghost use Rattle.j39_bus.specs.BusState.{Histories};
-    ghost use Rattle.j39_bus.specs.inside.Network.{IsAllowed, IsNetwork, IsOfPlan, IsSameNetwork, KeepsPlan, HasStepped, refusal_in};
+    ghost use Rattle.j39_bus.specs.inside.Network.{IsAllowed, IsNetwork, IsOfPlan, IsSameNetwork, KeepsPlan, HasStepped};
 
-    /// Does a step that is not refused.
+    /// Does a step that is not refused. Where there is no memory for it, nothing changes.
     pub(crate) fn act(
         &mut self,
         choosers: &[Box<dyn Choose>],

@@ -1,5 +1,5 @@
 //! A message is begun.
-ghost use Rattle.std.specs.Prelude.{◌≡◌, ℕ, ◌<◌, ◌≤◌, length, vec_len, vec_capacity, OnOk, OnErr, IfOk};
+ghost use Rattle.std.specs.Prelude.{◌≡◌, ◌<◌, ◌≤◌, length, vec_len, vec_capacity, OnOk, OnErr, IfOk};
 ghost use Rattle.std.specs.List.{filter, range_with_len};
 ghost use Rattle.j39_id.specs.Limits.{message_bytes};
 ghost use Rattle.j39_findings.specs.declared.plan.Plan.{Plan};

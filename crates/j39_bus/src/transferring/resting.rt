@@ -1,9 +1,9 @@
 //! A sender rests.
-ghost use Rattle.std.specs.Prelude.{◌≡◌, ◌≢◌, ◌<◌, length, OnOk, OnErr, IfErr};
+ghost use Rattle.std.specs.Prelude.{◌≡◌, ◌<◌, length};
 ghost use Rattle.j39_findings.specs.declared.plan.Plan.{Plan};
 ghost use Rattle.j39_findings.specs.declared.steps.Step.TheVariants.{Rest};
 ghost use Rattle.j39_bus.specs.BusState.{Histories};
-ghost use Rattle.j39_bus.specs.inside.Network.{IsAllowed, IsNetwork, IsOfPlan, IsSameNetwork, KeepsPlan, HasStepped, world_in};
+ghost use Rattle.j39_bus.specs.inside.Network.{IsAllowed, IsNetwork, IsOfPlan, KeepsPlan, HasStepped, world_in};
 ghost use Rattle.j39_world.specs.Resting.{can_rest, is_over_with};
 
 use crate::network::Network;
