@@ -7,6 +7,7 @@ use Rattle.j39_bus.proofs.receivers.late_in.Goals.{in-Some, in-None}
 pub returns-clause-answering : goal.returns-clause-answering
 returns-clause-answering c = λ window is.
     c.leave.ensures.answering window (elim c.match-slot.branch [
-      | in-Some w ↦ subst (IsAnswering window) (sym w.slot-is) (ap (λ (r : Receiving). r.manner) (w.late-packet.ensures.after ∙ ap gives_up w.deref_mut.ensures.value) ∙ subst (IsAnswering window) w.in-Some.is is)
+      | in-Some w ↦ subst (IsAnswering window) (sym w.slot-is)
+          (ap (λ (r : Receiving). r.manner) (w.late-packet.ensures.after ∙ ap gives_up w.deref_mut.ensures.value) ∙ subst (IsAnswering window) w.in-Some.is is)
       | in-None w ↦ subst (IsAnswering window) (sym w.slot-is) is
     ])

@@ -13,8 +13,8 @@ loop-unit-preserved c =
     let inside : c.loop-unit.unit-index < length units = omega arith in
     let added = c.push_reserved.ensures.items in
     record {
-      windows = mapped_more (λ (p : UnitPlan). p.window) units c.loop-unit.unit-index unit inside c.loop-unit.windows.items c.push_reserved.new.self.items unit.window
-          added c.loop-unit.invariant.windows (ap (λ (p : UnitPlan). p.window) c.unit-item.is);
+      windows = mapped_more (λ (p : UnitPlan). p.window) units c.loop-unit.unit-index unit inside c.loop-unit.windows.items
+          c.push_reserved.new.self.items unit.window added c.loop-unit.invariant.windows (ap (λ (p : UnitPlan). p.window) c.unit-item.is);
       len = omega arith;
       room = omega arith;
       positive = subst (All (λ k. 0 < k)) (sym added)

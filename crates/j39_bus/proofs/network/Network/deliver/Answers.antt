@@ -20,8 +20,10 @@ name_at cs u d n inside at is = is ∙ ap (λ (k : ClaimerValue). k.planned.name
 
 pub hear-answer-requires-clause-room : goal.hear-answer-requires-clause-room
 hear-answer-requires-clause-room g c =
+    let named_is = name_at c.args.self.now.claimers.items c.args.from c.index.result.now c.name-name.result c.requires.from c.index.ensures
+    c.name-name.ensures in
     let cs : List ClaimerValue = c.args.self.now.claimers.items in
-    ap (can_note (station_at cs c.args.to).notes) (name_at c.args.self.now.claimers.items c.args.from c.index.result.now c.name-name.result c.requires.from c.index.ensures c.name-name.ensures)
+    ap (can_note (station_at cs c.args.to).notes) named_is
     ∙ can_note_all cs c.args.self.now.claims.lists c.args.from c.args.to c.requires.network.claims c.requires.from
 
 pub tell-requires-clause-room : goal.tell-requires-clause-room
@@ -39,10 +41,12 @@ tell-requires-clause-table g c =
 
 pub returns-in-Some-answer-clause-network : goal.returns-in-Some-answer-clause-network
 returns-in-Some-answer-clause-network g c =
+    let named_is = name_at c.args.self.now.claimers.items c.args.from c.index.result.now c.name-name.result c.requires.from c.index.ensures
+    c.name-name.ensures in
     let cs : List ClaimerValue = c.args.self.now.claimers.items in
     let new : List ClaimerValue = c.hear-answer.new.claimers.items in
     let rule = c.in-Some-answer.ensures.rule in
-    let is_one : is_named cs c.name-name.result ≡ true = ap (is_named cs) (name_at c.args.self.now.claimers.items c.args.from c.index.result.now c.name-name.result c.requires.from c.index.ensures c.name-name.ensures) ∙ named cs c.args.from c.requires.from in
+    let is_one : is_named cs c.name-name.result ≡ true = ap (is_named cs) named_is ∙ named cs c.args.from c.requires.from in
     let well : IsWellFormed new c.pop.new.self.lists =
     well_heard cs c.args.self.now.claims.lists c.requires.network.claims c.args.to c.requires.to c.name-name.result is_one c.in-Some.item
     (Some c.in-Some-answer.say) new rule c.pop.new.self.lists c.pop.ensures.table in
@@ -68,18 +72,22 @@ returns-in-Some-answer-clause-plan g c = record {
 
 pub returns-in-Some-answer-clause-world : goal.returns-in-Some-answer-clause-world
 returns-in-Some-answer-clause-world g c = λ h.
+    let named_is = name_at c.args.self.now.claimers.items c.args.from c.index.result.now c.name-name.result c.requires.from c.index.ensures
+    c.name-name.ensures in
     let cs : List ClaimerValue = c.args.self.now.claimers.items in
     delivered (world_in h c.args.self.now) cs (pair_in c.args.self.now.claims.lists) (pair_in c.pop.new.self.lists)
     (map sent_of c.args.self.now.frames.items) c.args.from c.args.to c.requires.to
-    c.in-Some.item c.in-Some.ensures.some c.pop.ensures.lists c.name-name.result (name_at c.args.self.now.claimers.items c.args.from c.index.result.now c.name-name.result c.requires.from c.index.ensures c.name-name.ensures)
+    c.in-Some.item c.in-Some.ensures.some c.pop.ensures.lists c.name-name.result named_is
     (Some c.in-Some-answer.say) c.hear-answer.new.claimers.items c.in-Some-answer.ensures.rule
     _ (c.tell.ensures.world h)
 
 pub returns-in-None-clause-network : goal.returns-in-None-clause-network
 returns-in-None-clause-network g c =
+    let named_is = name_at c.args.self.now.claimers.items c.args.from c.index.result.now c.name-name.result c.requires.from c.index.ensures
+    c.name-name.ensures in
     let net = c.args.self.now in
     let cs : List ClaimerValue = c.args.self.now.claimers.items in
-    let is_one : is_named cs c.name-name.result ≡ true = ap (is_named cs) (name_at c.args.self.now.claimers.items c.args.from c.index.result.now c.name-name.result c.requires.from c.index.ensures c.name-name.ensures) ∙ named cs c.args.from c.requires.from in
+    let is_one : is_named cs c.name-name.result ≡ true = ap (is_named cs) named_is ∙ named cs c.args.from c.requires.from in
     record {
       claims = well_heard cs c.args.self.now.claims.lists c.requires.network.claims c.args.to c.requires.to c.name-name.result is_one c.in-Some.item None
           c.hear-answer.new.claimers.items c.in-None.ensures.rule
@@ -99,10 +107,12 @@ returns-in-None-clause-plan g c = record {
 
 pub returns-in-None-clause-world : goal.returns-in-None-clause-world
 returns-in-None-clause-world g c = λ h.
+    let named_is = name_at c.args.self.now.claimers.items c.args.from c.index.result.now c.name-name.result c.requires.from c.index.ensures
+    c.name-name.ensures in
     let cs : List ClaimerValue = c.args.self.now.claimers.items in
     delivered (world_in h c.args.self.now) cs (pair_in c.args.self.now.claims.lists) (pair_in c.pop.new.self.lists)
     (map sent_of c.args.self.now.frames.items) c.args.from c.args.to c.requires.to
-    c.in-Some.item c.in-Some.ensures.some c.pop.ensures.lists c.name-name.result (name_at c.args.self.now.claimers.items c.args.from c.index.result.now c.name-name.result c.requires.from c.index.ensures c.name-name.ensures)
+    c.in-Some.item c.in-Some.ensures.some c.pop.ensures.lists c.name-name.result named_is
     None c.hear-answer.new.claimers.items c.in-None.ensures.rule
     _ (sym (told_nothing (planned_units c.hear-answer.new.claimers.items)
     (world (world_in h c.args.self.now) c.hear-answer.new.claimers.items (pair_in c.pop.new.self.lists) (map sent_of c.args.self.now.frames.items))

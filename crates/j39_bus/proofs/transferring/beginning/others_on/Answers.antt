@@ -1,4 +1,5 @@
-use Rattle.std.proofs.Common.{◌≡◌, ◌+◌, ◌<◌, ◌≤◌, vec_len, vec_capacity, ◌∷◌, [], ◌++◌, ℕ, suc, List, Bool, true, false, cond, eqb, length, ap, refl, sym, ◌∙◌, arith}
+use Rattle.std.proofs.Common.{◌≡◌, ◌+◌, ◌<◌, ◌≤◌, vec_len, vec_capacity, ◌∷◌, [], ◌++◌, ℕ, suc, List}
+use Rattle.std.proofs.Common.{Bool, true, false, cond, eqb, length, ap, refl, sym, ◌∙◌, arith}
 use Rattle.std.proofs.lemmas.Bool.{and_right, eq-eqb, ne_eqb}
 use Rattle.std.specs.List.{filter, range_with_len}
 use Rattle.j39_world.specs.World.{is_other_on}
