@@ -1,5 +1,5 @@
 //! Cutting a byte stream into lines.
-ghost use Rattle.std.specs.Prelude.{◌≡◌, ◌≤◌, ◌<◌, ◌≢◌, ℕ, List, [], true, false, length, take, All, slice_index, IsTrue, unwrap_or};
+ghost use Rattle.std.specs.Prelude.{◌≡◌, ◌≤◌, ◌<◌, [], false, length, take, All, slice_index, IsTrue, unwrap_or};
 ghost use Rattle.std.specs.Option.{option_copied};
 ghost use Rattle.j39_id.specs.Lines.{is_line_feed, at_start, answer_to, behind, answer_to_end, given, tells, told, behind_all};
 ghost use Rattle.j39_id.specs.inside.Cutting.{pending_of, line_in, phase_after};

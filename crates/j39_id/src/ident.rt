@@ -1,5 +1,5 @@
 //! The 29-bit identifier of a frame.
-ghost use Rattle.std.specs.Prelude.{◌≡◌, ◌+◌, ◌*◌, ◌^◌, ◌<◌, ◌≤◌, ◌↔◌, IsSome, IfSome};
+ghost use Rattle.std.specs.Prelude.{◌≡◌, ◌<◌, ◌≤◌, ◌↔◌, IsSome, IfSome};
 
 use crate::pgn::pf_of;
 use crate::{PDU2_FIRST, Pgn};

@@ -1,5 +1,5 @@
 //! Reading frame lines.
-ghost use Rattle.std.specs.Prelude.{◌≡◌, ◌==◌, ◌&&◌, ◌-◌, ◌<◌, ◌≤◌, ◌↔◌, ℕ, true, false, length, slice_index};
+ghost use Rattle.std.specs.Prelude.{◌≡◌, ◌==◌, ◌&&◌, ◌-◌, ◌<◌, ◌≤◌, ◌↔◌, true, false, length, slice_index};
 ghost use Rattle.std.specs.Prelude.{Some, None, Ok, IsOk, IsSome, IfSome, IfNone, IfOk, IfErr, IsTrue};
 ghost use Rattle.std.specs.List.{AllPass, AllWithin, list_all, position};
 ghost use Rattle.hex.specs.Hex.{decode_of, is_hex_digit};
