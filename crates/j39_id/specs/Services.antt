@@ -26,6 +26,14 @@ address_claimed = 60928
 abbrev pub commanded_address : ℕ
 commanded_address = 65240
 
+-- the priority of a request and of an address claimed
+abbrev pub claim_priority : ℕ
+claim_priority = 6
+
+-- the priority of TP.DT and TP.CM
+abbrev pub transport_priority : ℕ
+transport_priority = 7
+
 -- all of them
 abbrev pub service_groups : List ℕ
 service_groups =

@@ -1,8 +1,7 @@
 //! The 29-bit identifier of a frame.
 ghost use Rattle.std.specs.Prelude.{◌≡◌, ◌<◌, ◌≤◌, ◌↔◌, IsSome, IfSome};
 
-use crate::pgn::pf_of;
-use crate::{PDU2_FIRST, Pgn};
+use crate::{PDU2_FIRST, Pgn, pf_of};
 
 // Identifiers have 29 bits.
 const IDENTIFIER_END: u32 = 1 << 29;

@@ -34,6 +34,6 @@ pub use laws::{
 pub use line_error::LineError;
 pub use name::Name;
 pub use name_fields::{NameError, NameField, NameFields};
-pub use pgn::{EXTENDED_PAGE, PDU2_FIRST, Pgn};
+pub use pgn::{EXTENDED_PAGE, PDU2_FIRST, Pgn, pf_of};
 pub use printing::print_frame;
-pub use reading::read_frame;
+pub use reading::{is_separator, read_frame};

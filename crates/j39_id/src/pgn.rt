@@ -35,8 +35,8 @@ impl Model for Pgn {
     ghost inverse = { λ n. record { number = n } };
 }
 
-// The PF of a group number.
-pub(crate) fn pf_of(number: u32) -> u8
+/// The PF of a group number.
+pub fn pf_of(number: u32) -> u8
     ensures { result ≡ pf_of number }
 {
     (number >> 8 & 0xff) as u8

@@ -14,7 +14,9 @@ use crate::limits::FRAME_BYTES;
 use crate::{Frame, Ident, LineError};
 use arrayvec::ArrayVec;
 
-fn is_separator(byte: u8) -> bool
+/// Whether it parts the words of a line: a space, a tab or a carriage return.
+#[inline(always)]
+pub fn is_separator(byte: u8) -> bool
     ensures { result ≡ separates byte }
 {
     matches!(byte, b' ' | b'\t' | b'\r')

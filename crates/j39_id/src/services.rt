@@ -22,6 +22,12 @@ pub const ADDRESS_CLAIMED: Pgn = Pgn { number: 60928 };
 /// Tells a unit to take another address.
 pub const COMMANDED_ADDRESS: Pgn = Pgn { number: 65240 };
 
+/// The priority of a request and of an address claimed.
+pub const CLAIM_PRIORITY: u8 = 6;
+
+/// The priority of TP.DT and TP.CM.
+pub const TRANSPORT_PRIORITY: u8 = 7;
+
 /// All of them.
 pub const SERVICE_GROUPS: [Pgn; 6] = [
     ACKNOWLEDGEMENT,
