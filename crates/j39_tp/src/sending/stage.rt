@@ -16,7 +16,6 @@ pub enum Stage {
 
 impl Stage {
     ghost use Rattle.std.specs.Prelude.{◌≡◌};
-    ghost use Rattle.j39_tp.specs.Chunks.{packets_of};
     ghost use Rattle.j39_tp.specs.Sender.{begun, after_packet, cleared, ended, hears, after_timeout, timeout_packet, phase_of, outcome_of};
 
     /// Where a session stands once its message was announced.
