@@ -43,44 +43,31 @@ fn managed(bytes: &[u8]) -> Result<Packet, PacketError>
     let &[control, second, third, fourth, fifth, low, middle, high] = bytes else {
         return Err(PacketError::Length);
     };
+    let pgn = pgn_of(low, middle, high);
     match control {
-        RTS => {
-            let size = size_of(second, third, fourth)?;
-            let pgn = pgn_of(low, middle, high)?;
-            Ok(Packet::Rts {
-                size,
-                limit: fifth,
-                pgn,
-            })
-        }
-        CTS => {
-            if second > 0 && third == 0 {
-                return Err(PacketError::Number);
-            }
-            let pgn = pgn_of(low, middle, high)?;
-            Ok(Packet::Cts {
-                count: second,
-                first: third,
-                pgn,
-            })
-        }
-        END_ACK => {
-            let size = size_of(second, third, fourth)?;
-            let pgn = pgn_of(low, middle, high)?;
-            Ok(Packet::EndAck { size, pgn })
-        }
-        BAM => {
-            let size = size_of(second, third, fourth)?;
-            let pgn = pgn_of(low, middle, high)?;
-            Ok(Packet::Bam { size, pgn })
-        }
-        ABORT => {
-            let pgn = pgn_of(low, middle, high)?;
-            Ok(Packet::Abort {
-                reason: second,
-                pgn,
-            })
-        }
+        RTS => Ok(Packet::Rts {
+            size: size_of(second, third, fourth)?,
+            limit: fifth,
+            pgn: pgn?,
+        }),
+        CTS if second > 0 && third == 0 => Err(PacketError::Number),
+        CTS => Ok(Packet::Cts {
+            count: second,
+            first: third,
+            pgn: pgn?,
+        }),
+        END_ACK => Ok(Packet::EndAck {
+            size: size_of(second, third, fourth)?,
+            pgn: pgn?,
+        }),
+        BAM => Ok(Packet::Bam {
+            size: size_of(second, third, fourth)?,
+            pgn: pgn?,
+        }),
+        ABORT => Ok(Packet::Abort {
+            reason: second,
+            pgn: pgn?,
+        }),
         _ => Err(PacketError::Control),
     }
 }
