@@ -1,6 +1,6 @@
 -- The eight bytes of each transport packet (SAE J1939-21, connection management and data transfer).
 use Rattle.std.specs.Prelude.{◌≡◌, ℕ, ◌+◌, ◌*◌, ◌/◌, ◌%◌, ◌<◌, ◌==◌, ◌||◌, ◌&&◌, not, nat_lt, nat_le, Bool, List, [], ◌∷◌, length, slice_index}
-use Rattle.j39_id.specs.Limits.{frame_bytes, message_bytes}
+use Rattle.j39_id.specs.Limits.{frame_bytes, packet_bytes, message_bytes}
 use Rattle.j39_id.specs.Pgn.{IsPgn, is_pgn}
 use Rattle.j39_tp.specs.Chunks.{IsSize, packets_of, unused}
 use Rattle.j39_tp.specs.declared.packet.Packet.{Packet}
@@ -60,7 +60,7 @@ InRange (Cts count first pgn) = IsPgn pgn
 InRange (EndAck size pgn) = IsSize size × IsPgn pgn
 InRange (Bam size pgn) = IsSize size × IsPgn pgn
 InRange (Abort reason pgn) = IsPgn pgn
-InRange (Dt number chunk) = length chunk ≡ 7
+InRange (Dt number chunk) = length chunk ≡ packet_bytes
 
 -- ---- what is read
 

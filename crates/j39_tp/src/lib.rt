@@ -12,6 +12,6 @@ pub use laws::{
     listener_completes_what_is_carried, receivers_gather_what_they_hear, sent_packets_read_back,
 };
 pub use message::Message;
-pub use packet::{Packet, PacketError, Size, from_cm, from_dt, known_ranges, to_data};
+pub use packet::{Chunk, Packet, PacketError, Size, from_cm, from_dt, known_ranges, to_data};
 pub use receiving::{Heard, Receiver};
 pub use sending::{Busy, Dest, Outcome, Phase, Reaction, Sender};

@@ -1,12 +1,13 @@
 //! Messages.
 ghost use Rattle.std.specs.Prelude.{◌≡◌, ◌-◌, ◌≤◌, ◌++◌, ◌↔◌, length, replicate, IsSome, IfSome};
+ghost use Rattle.j39_id.specs.Limits.{packet_bytes};
 ghost use Rattle.j39_tp.specs.Chunks.{IsSize, unused, chunk};
 
-use crate::Size;
 use crate::packet::UNUSED;
+use crate::{Chunk, Size};
 use arrayvec::ArrayVec;
 use j39_id::Pgn;
-use j39_id::limits::{FRAME_BYTES, MESSAGE_BYTES};
+use j39_id::limits::{FRAME_BYTES, MESSAGE_BYTES, PACKET_BYTES};
 use std::marker::Model;
 
 /// A message of 9 to 1785 bytes of a group.
@@ -60,14 +61,15 @@ impl Message {
     }
 
     /// The seven bytes that a data packet of this number carries, filled up with unused ones.
-    pub fn chunk(&self, number: u8) -> [u8; 7]
+    pub fn chunk(&self, number: u8) -> Chunk
         ensures { result ≡ chunk self.now.bytes number }
     {
-        let rest = match self.bytes.get(7 * usize::from(number.saturating_sub(1))..) {
+        let start = PACKET_BYTES * usize::from(number.saturating_sub(1));
+        let rest = match self.bytes.get(start..) {
             Some(rest) => rest,
             None => &[],
         };
-        filled(&rest[..rest.len().min(7)])
+        filled(&rest[..rest.len().min(PACKET_BYTES)])
     }
 
     /// Its bytes.
@@ -80,11 +82,11 @@ impl Message {
 }
 
 // At most seven bytes, filled up with unused ones.
-fn filled(part: &[u8]) -> [u8; 7]
-    requires { length part.now ≤ 7 }
-    ensures { result ≡ part.now ++ replicate (7 - length part.now) unused }
+fn filled(part: &[u8]) -> Chunk
+    requires { length part.now ≤ packet_bytes }
+    ensures { result ≡ part.now ++ replicate (packet_bytes - length part.now) unused }
 {
-    let mut chunk = [UNUSED; 7];
+    let mut chunk = [UNUSED; PACKET_BYTES];
     chunk[..part.len()].copy_from_slice(part);
     chunk
 }

@@ -1,8 +1,10 @@
 //! Transport packets.
 ghost use Rattle.std.specs.Prelude.{◌≡◌, length};
+ghost use Rattle.j39_id.specs.Limits.{packet_bytes};
 ghost use Rattle.j39_tp.specs.Packets.{InRange};
 
 use j39_id::Pgn;
+use j39_id::limits::PACKET_BYTES;
 
 mod control;
 mod packet_error;
@@ -22,6 +24,9 @@ pub(crate) const NO_LIMIT: u8 = 255;
 /// What stands in a byte that says nothing.
 pub(crate) const UNUSED: u8 = 255;
 
+/// The bytes of a message that a data packet carries.
+pub type Chunk = [u8; PACKET_BYTES];
+
 /// A packet of the transport protocol (SAE J1939-21): five of connection management, and data.
 #[derive(Clone, Copy, Debug, PartialEq, Eq)]
 pub enum Packet {
@@ -36,12 +41,12 @@ pub enum Packet {
     /// The session is given up.
     Abort { reason: u8, pgn: Pgn },
     /// Seven bytes of the message, packets being counted from 1.
-    Dt { number: u8, chunk: [u8; 7] },
+    Dt { number: u8, chunk: Chunk },
 }
 
 // A chunk has seven bytes.
-fn known_length(chunk: [u8; 7])
-    ensures { length chunk ≡ 7 }
+fn known_length(chunk: Chunk)
+    ensures { length chunk ≡ packet_bytes }
 {}
 
 /// The parts of a packet are in their ranges.

@@ -1,5 +1,6 @@
 -- What a receiver holds while a session is open: the invariant of its bytes.
 use Rattle.std.specs.Prelude.{ℕ, ◌+◌, ◌*◌, ◌==◌, ◌&&◌, nat_lt, Bool, true, if◌then◌else◌, List, length, Option, Some, None}
+use Rattle.j39_id.specs.Limits.{packet_bytes}
 use Rattle.j39_tp.specs.Chunks.{packets_of}
 use Rattle.j39_tp.specs.declared.packet.Packet.{Packet}
 use Rattle.j39_tp.specs.declared.packet.Packet.TheVariants.{Dt}
@@ -12,7 +13,7 @@ is_within (Open r) = nat_lt r.held (packets_of r.size)
 is_within _ = true
 
 abbrev pub is_held_at : Progress → List ℕ → Bool
-is_held_at (Open r) bytes = length bytes == 7 * r.held
+is_held_at (Open r) bytes = length bytes == packet_bytes * r.held
 is_held_at Closed bytes = length bytes == 0
 is_held_at (Complete pgn) bytes = true
 

@@ -4,7 +4,7 @@ ghost use Rattle.j39_tp.specs.Packets.{data_of, pgn_bytes, size_bytes};
 
 use super::UNUSED;
 use super::control::{ABORT, BAM, CTS, END_ACK, RTS};
-use crate::{Packet, Size};
+use crate::{Chunk, Packet, Size};
 use j39_id::Pgn;
 
 // A connection management packet: its own bytes and the PGN.
@@ -25,7 +25,7 @@ fn sized(control: u8, size: Size, limit: u8, pgn: Pgn) -> [u8; 8]
 }
 
 // A data packet: its number and its chunk.
-fn numbered(number: u8, chunk: [u8; 7]) -> [u8; 8]
+fn numbered(number: u8, chunk: Chunk) -> [u8; 8]
     ensures { result ≡ number ∷ chunk }
 {
     let [first, second, third, fourth, fifth, sixth, seventh] = chunk;

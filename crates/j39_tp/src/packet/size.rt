@@ -2,7 +2,7 @@
 ghost use Rattle.std.specs.Prelude.{◌≡◌, ℕ, ◌↔◌, IsSome, IfSome};
 ghost use Rattle.j39_tp.specs.Chunks.{IsSize, packets_of};
 
-use j39_id::limits::{FRAME_BYTES, MESSAGE_BYTES};
+use j39_id::limits::{FRAME_BYTES, MESSAGE_BYTES, PACKET_BYTES};
 use std::marker::Model;
 
 /// The size of a message that the transport protocol of SAE J1939-21 carries: 9 to 1785 bytes.
@@ -48,6 +48,6 @@ impl Size {
         ensures { result ≡ packets_of self }
     {
         let Size { bytes } = self;
-        bytes.div_ceil(7) as u8
+        bytes.div_ceil(PACKET_BYTES as u16) as u8
     }
 }

@@ -5,10 +5,10 @@ ghost use Rattle.j39_tp.specs.inside.Held.{is_within, is_held_at};
 
 use super::manner::Manner;
 use super::progress::Progress;
-use crate::{Heard, Packet, Size, known_ranges};
+use crate::{Chunk, Heard, Packet, Size, known_ranges};
 use arrayvec::ArrayVec;
 use j39_id::Pgn;
-use j39_id::limits::MESSAGE_BYTES;
+use j39_id::limits::{MESSAGE_BYTES, PACKET_BYTES};
 use std::marker::Model;
 
 /// A receiver of the messages of one sender (SAE J1939-21, transport protocol).
@@ -59,12 +59,12 @@ fn settle(bytes: &mut ArrayVec<u8, MESSAGE_BYTES>, progress: Progress)
 }
 
 // Appends the bytes of a chunk that belong to a message of this size.
-fn append(bytes: &mut ArrayVec<u8, MESSAGE_BYTES>, size: Size, chunk: [u8; 7])
+fn append(bytes: &mut ArrayVec<u8, MESSAGE_BYTES>, size: Size, chunk: Chunk)
     requires { length bytes.old.items ≤ size }
     ensures { bytes.new.items ≡ take size (bytes.old.items ++ chunk) }
 {
     let missing = usize::from(size.bytes()) - bytes.len();
-    let Ok(()) = bytes.try_extend_from_slice(&chunk[..missing.min(7)]) else {
+    let Ok(()) = bytes.try_extend_from_slice(&chunk[..missing.min(PACKET_BYTES)]) else {
         unreachable!()
     };
 }
