@@ -1,5 +1,5 @@
 -- The eight bytes of each transport packet (SAE J1939-21, connection management and data transfer).
-use Rattle.std.specs.Prelude.{◌≡◌, ℕ, ◌+◌, ◌*◌, ◌/◌, ◌%◌, ◌<◌, ◌==◌, ◌||◌, ◌&&◌, not, nat_lt, nat_le, Bool, List, [], ◌∷◌, length, slice_index}
+use Rattle.std.specs.Prelude.{◌≡◌, ℕ, ◌+◌, ◌*◌, ◌/◌, ◌%◌, ◌<◌, ◌==◌, ◌||◌, ◌&&◌, not, nat_lt, nat_le, Bool, true, false, List, [], ◌∷◌, length, slice_index}
 use Rattle.j39_id.specs.Limits.{frame_bytes, packet_bytes, message_bytes}
 use Rattle.j39_id.specs.Pgn.{IsPgn, is_pgn}
 use Rattle.j39_tp.specs.Chunks.{IsSize, packets_of, unused}
@@ -61,6 +61,12 @@ InRange (EndAck size pgn) = IsSize size × IsPgn pgn
 InRange (Bam size pgn) = IsSize size × IsPgn pgn
 InRange (Abort reason pgn) = IsPgn pgn
 InRange (Dt number chunk) = length chunk ≡ packet_bytes
+
+-- it announces a message
+abbrev pub is_announcement : Packet → Bool
+is_announcement (Rts size limit pgn) = true
+is_announcement (Bam size pgn) = true
+is_announcement _ = false
 
 -- ---- what is read
 

@@ -166,6 +166,12 @@ abbrev pub message_of : Progress → List ℕ → List ℕ
 message_of (Complete pgn) bytes = bytes
 message_of _ bytes = []
 
+-- a message is told as complete
+abbrev pub is_complete : Heard → Bool
+is_complete heard.Complete = true
+is_complete (heard.CompleteReply packet) = true
+is_complete _ = false
+
 -- the size of a message that is told as complete
 abbrev pub size_told : Heard → List ℕ → Option ℕ
 size_told heard.Complete bytes = Some (length bytes)

@@ -44,6 +44,17 @@ pub enum Packet {
     Dt { number: u8, chunk: Chunk },
 }
 
+impl Packet {
+    ghost use Rattle.j39_tp.specs.Packets.{is_announcement};
+
+    /// Whether it announces a message.
+    pub fn is_announcement(&self) -> bool
+        ensures { result ≡ is_announcement self.now }
+    {
+        matches!(self, Packet::Rts { .. } | Packet::Bam { .. })
+    }
+}
+
 // A chunk has seven bytes.
 fn known_length(chunk: Chunk)
     ensures { length chunk ≡ packet_bytes }

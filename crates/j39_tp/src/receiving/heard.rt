@@ -15,3 +15,15 @@ pub enum Heard {
     /// The session ended without a message.
     Closed,
 }
+
+impl Heard {
+    ghost use Rattle.std.specs.Prelude.{◌≡◌};
+    ghost use Rattle.j39_tp.specs.Receiver.{is_complete};
+
+    /// Whether a message is complete.
+    pub fn is_complete(&self) -> bool
+        ensures { result ≡ is_complete self.now }
+    {
+        matches!(self, Heard::Complete | Heard::CompleteReply(_))
+    }
+}
