@@ -1,5 +1,5 @@
 //! Sources made of readers.
-ghost use Rattle.std.specs.Prelude.{◌≡◌, ℕ};
+ghost use Rattle.std.specs.Prelude.{◌≡◌};
 
 use crate::{Failed, Source};
 use std::io::Read;

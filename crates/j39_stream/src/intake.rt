@@ -1,5 +1,5 @@
 //! Reading an input piece by piece, within the limits.
-ghost use Rattle.std.specs.Prelude.{◌≡◌, ◌≢◌, ◌<◌, ◌≤◌, ◌++◌, ℕ, List, Option, length, take, Ok, Err, IfOk, OnOk, IsErrOf};
+ghost use Rattle.std.specs.Prelude.{◌≡◌, ◌≢◌, ◌<◌, ◌≤◌, ◌++◌, ℕ, List, Option, length, take, Err, IfOk, OnOk, IsErrOf};
 ghost use Rattle.std.specs.Io.KnownBytes.{Consumes, IsAtEnd};
 ghost use Rattle.j39_stream.specs.Intakes.{HasRead, no_counts};
 ghost use Rattle.j39_stream.specs.Streams.{HasFailed, KeepsLimits, PassesLimits};

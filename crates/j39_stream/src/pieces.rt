@@ -1,5 +1,5 @@
 //! A source and a sink over bytes in memory.
-ghost use Rattle.std.specs.Prelude.{◌≡◌, ℕ, ◌+◌, ◌<◌, ◌≤◌, ◌++◌, length, IfOk};
+ghost use Rattle.std.specs.Prelude.{◌≡◌, ◌+◌, ◌<◌, ◌≤◌, ◌++◌, length, IfOk};
 
 mod pulling;
 mod putting;
@@ -23,7 +23,7 @@ pub struct Pieces {
 }
 
 impl Model for Pieces {
-    ghost use Rattle.std.specs.Prelude.{◌≡◌, ◌<◌, ◌≤◌, length, take, drop};
+    ghost use Rattle.std.specs.Prelude.{◌<◌, ◌≤◌, length, take, drop};
     ghost use Rattle.j39_stream.specs.Tape.{Tape};
 
     ghost Value = { Tape };

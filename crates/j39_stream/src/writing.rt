@@ -1,5 +1,5 @@
 //! Writing all of some bytes.
-ghost use Rattle.std.specs.Prelude.{◌≡◌, ℕ, ◌≤◌, take, length, OnOk, OnErr, IfErr};
+ghost use Rattle.std.specs.Prelude.{◌≡◌, OnOk, OnErr, IfErr};
 ghost use Rattle.std.specs.Io.KnownBytes.{Appends};
 ghost use Rattle.j39_stream.specs.Streams.{AppendsPart, HasFailed};
 

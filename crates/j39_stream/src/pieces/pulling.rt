@@ -1,5 +1,5 @@
 //! Bytes in memory as a source.
-ghost use Rattle.std.specs.Prelude.{◌≡◌, ℕ, ◌+◌, ◌≤◌, ◌++◌, ◌↔◌, true, false, length, take, drop, IfOk, OnErr, IsOk};
+ghost use Rattle.std.specs.Prelude.{◌≡◌, ◌≤◌, ◌++◌, true, false, length, take, drop, IfOk, OnErr};
 ghost use Rattle.std.specs.Io.KnownBytes.{ReadConsumes};
 ghost use Rattle.j39_stream.specs.Streams.{after_pull, one_more};
 ghost use Rattle.j39_stream.specs.Tape.{fails_next, pull_count, tape_after_pull};

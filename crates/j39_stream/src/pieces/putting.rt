@@ -1,5 +1,5 @@
 //! Bytes in memory as a sink.
-ghost use Rattle.std.specs.Prelude.{◌≡◌, ℕ, ◌+◌, ◌≤◌, true, false, length, IfOk, OnErr};
+ghost use Rattle.std.specs.Prelude.{◌≡◌, ◌≤◌, true, false, length, IfOk, OnErr};
 ghost use Rattle.std.specs.Io.KnownBytes.{WriteAppends};
 ghost use Rattle.j39_stream.specs.Streams.{after_put};
 ghost use Rattle.j39_stream.specs.Tape.{fails_next, put_count, tape_after_put};
