@@ -3,6 +3,10 @@ use Rattle.std.specs.Prelude.{◌≡◌, ◌≤◌, ℕ, List, Option, length}
 use Rattle.std.specs.Io.KnownBytes.{Consumes}
 use Rattle.j39_stream.specs.Streams.{after_calls, input_limit}
 
+-- the most bytes of a piece
+abbrev pub piece_bytes : ℕ
+piece_bytes = 4096
+
 -- how many bytes were read, and by how many calls
 pub record Counts : Type 0 where
   pub bytes : ℕ

@@ -2,11 +2,14 @@
 ghost use Rattle.std.specs.Prelude.{◌≡◌, ◌≢◌, ◌<◌, ◌≤◌, ◌++◌, ℕ, List, Option, length, take, Err, IfOk, OnOk, IsErrOf};
 ghost use Rattle.std.specs.Io.KnownBytes.{Consumes, IsAtEnd};
 ghost use Rattle.j39_stream.specs.Intakes.{HasRead, no_counts};
-ghost use Rattle.j39_stream.specs.Streams.{HasFailed, KeepsLimits, PassesLimits};
+ghost use Rattle.j39_stream.specs.Streams.{HasFailed, KeepsLimits, PassesLimits, read_calls};
 
 use crate::loading::{INPUT_LIMIT, READ_CALLS};
 use crate::{Fault, Source};
 use std::marker::Model;
+
+/// The most bytes of a piece of an input that is read piece by piece.
+pub const PIECE_BYTES: usize = 4096;
 
 /// Counts what is read of an input, and reads no more of it than the limits allow.
 #[derive(Drop)]
@@ -18,12 +21,13 @@ pub struct Intake {
 impl Model for Intake {
     ghost use Rattle.std.specs.Prelude.{◌≤◌};
     ghost use Rattle.j39_stream.specs.Intakes.{Counts};
+    ghost use Rattle.j39_stream.specs.Streams.{input_limit, read_calls};
 
     ghost Value = { Counts };
 
     ghost view = { λ intake. record { bytes = intake.bytes; calls = intake.calls } };
 
-    ghost invariant = { λ intake. (intake.bytes ≤ 16777216) × (intake.calls ≤ 1048576) };
+    ghost invariant = { λ intake. (intake.bytes ≤ input_limit) × (intake.calls ≤ read_calls) };
 }
 
 impl Intake {
@@ -40,7 +44,7 @@ impl Intake {
         ensures more { IfOk result (λ n. (first : Option (List ℕ)) (pulls : ℕ) (text : List ℕ)
             → HasRead first (S.left source.old) pulls (S.pulls source.old) self.old text
             → 0 < n → HasRead first (S.left source.new) pulls (S.pulls source.new) self.new (text ++ take n piece.new)) }
-        ensures fewer { OnOk result (self.old.calls < self.new.calls × self.new.calls ≤ 1048576) }
+        ensures fewer { OnOk result (self.old.calls < self.new.calls × self.new.calls ≤ read_calls) }
         ensures end { IfOk result (λ n. n ≡ 0 → IsAtEnd (S.left source.new)) }
         ensures last { IfOk result (λ n. (first : Option (List ℕ)) (pulls : ℕ) (text : List ℕ)
             → HasRead first (S.left source.old) pulls (S.pulls source.old) self.old text

@@ -16,7 +16,7 @@ mod writing;
 pub use failed::Failed;
 pub use fault::Fault;
 pub use from_read::FromRead;
-pub use intake::Intake;
+pub use intake::{Intake, PIECE_BYTES};
 pub use loading::load;
 pub use pieces::{Pieces, Stop};
 pub use sink::Sink;
