@@ -1,5 +1,5 @@
 //! A run that shows the conflict of two units.
-ghost use Rattle.std.specs.Prelude.{◌≡◌, ◌≢◌, List, IfOk, OnErr, option_map};
+ghost use Rattle.std.specs.Prelude.{◌≡◌, ◌≢◌, IfOk, OnErr, option_map};
 ghost use Rattle.j39_findings.specs.ConflictRuns.{are_in_conflict, conflict_steps, steps_between, run_of_places, conflict_run};
 
 use crate::checking::Finding;

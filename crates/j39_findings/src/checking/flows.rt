@@ -1,5 +1,5 @@
 //! What is wrong with the flows of a plan.
-ghost use Rattle.std.specs.Prelude.{◌≡◌, List};
+ghost use Rattle.std.specs.Prelude.{◌≡◌};
 ghost use Rattle.j39_findings.specs.Adding.{Adds};
 ghost use Rattle.j39_findings.specs.ListPlaces.{found_if};
 ghost use Rattle.j39_findings.specs.Found.{is_one_frame_to_all, cannot_go_to_one, goes_to_its_sender, are_one_flow, flow_findings};

@@ -1,5 +1,5 @@
 //! What is wrong with the groups of a plan.
-ghost use Rattle.std.specs.Prelude.{◌≡◌, List};
+ghost use Rattle.std.specs.Prelude.{◌≡◌};
 ghost use Rattle.j39_findings.specs.Adding.{Adds};
 ghost use Rattle.j39_findings.specs.ListPlaces.{found_if};
 ghost use Rattle.j39_findings.specs.Found.{cannot_be_planned, has_bad_pgn, have_same_pgn, group_findings};

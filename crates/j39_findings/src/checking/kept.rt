@@ -1,5 +1,5 @@
 //! Which units prefer an address that is kept free.
-ghost use Rattle.std.specs.Prelude.{◌≡◌, List};
+ghost use Rattle.std.specs.Prelude.{◌≡◌};
 ghost use Rattle.j39_findings.specs.Adding.{Adds};
 ghost use Rattle.j39_findings.specs.ListPlaces.{found_if};
 ghost use Rattle.j39_findings.specs.Found.{prefers_kept, kept_findings};

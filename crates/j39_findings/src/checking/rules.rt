@@ -1,5 +1,5 @@
 //! What is found of the values of a list, one after another, and of the pairs of them.
-ghost use Rattle.std.specs.Prelude.{◌≡◌, ◌+◌, ◌<◌, ℕ, Bool, List, [], ◌∷◌, length, drop, if◌then◌else◌};
+ghost use Rattle.std.specs.Prelude.{◌≡◌, ◌+◌, ◌<◌, ℕ, Bool, List, length, drop};
 ghost use Rattle.j39_findings.specs.ListPlaces.{found_if, each, pairs, in_each};
 ghost use Rattle.j39_findings.specs.Adding.{Adds};
 

@@ -1,8 +1,7 @@
 //! What is wrong with the signals of each group of a plan.
-ghost use Rattle.std.specs.Prelude.{◌≡◌, List};
 ghost use Rattle.j39_findings.specs.Adding.{Adds};
 ghost use Rattle.j39_signal.specs.Places.{shares_bit};
-ghost use Rattle.j39_findings.specs.ListPlaces.{found_if, each, pairs};
+ghost use Rattle.j39_findings.specs.ListPlaces.{found_if, each};
 ghost use Rattle.j39_findings.specs.Found.{has_other_width, ends_outside, width_findings, outside_findings, overlap_findings, signal_findings};
 
 use crate::checking::finding::Finding;
