@@ -7,15 +7,15 @@ ghost use Rattle.j39_findings.specs.Found.{is_one_frame_to_all, cannot_go_to_one
 use crate::checking::finding::Finding;
 use crate::checking::rules::{PairRule, Rule, find_each, find_pairs, push_if};
 use crate::plan::{FlowPlan, GroupPlan, To};
-use j39_id::PDU2_FIRST;
 use j39_id::limits::FRAME_BYTES;
+use j39_id::{PDU2_FIRST, pf_of};
 use std::alloc::AllocError;
 
 // Whether the group is sent in one frame, which has no destination.
 fn is_one_frame_to_all(group: &GroupPlan) -> bool
     ensures { result ≡ is_one_frame_to_all group.now }
 {
-    (group.pgn >> 8) & 0xff >= u32::from(PDU2_FIRST) && usize::from(group.length) <= FRAME_BYTES
+    pf_of(group.pgn) >= PDU2_FIRST && usize::from(group.length) <= FRAME_BYTES
 }
 
 fn cannot_go_to_one(groups: &[GroupPlan], flow: &FlowPlan) -> bool
