@@ -1,7 +1,6 @@
 //! A unit that claims an address.
-ghost use Rattle.std.specs.Prelude.{◌≡◌, true, false, Some, None, IfSome};
+ghost use Rattle.std.specs.Prelude.{◌≡◌, true, false, None};
 ghost use Rattle.std.specs.FinSet as set;
-ghost use Rattle.j39_claim.specs.AddressSets.{IsFreeIn};
 ghost use Rattle.j39_claim.specs.ClaimRule.{Hears, started, off, claim_of, say_of};
 ghost use Rattle.j39_claim.specs.ClaimerValue.{can_note};
 ghost use Rattle.j39_claim.specs.ExactAnswer.{said_after, state_after, moved_to, IsFreeMove};
