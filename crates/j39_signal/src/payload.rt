@@ -1,5 +1,5 @@
 //! Signals in a payload.
-ghost use Rattle.std.specs.Prelude.{◌≡◌, ℕ, length, IfOk, IfErr, OnOk, OnErr};
+ghost use Rattle.std.specs.Prelude.{◌≡◌, length, IfErr, OnOk, OnErr};
 ghost use Rattle.j39_signal.specs.Bits.{Put, raw_of, all_ones};
 ghost use Rattle.j39_signal.specs.Places.{WidthFits, IsInside};
 ghost use Rattle.j39_signal.specs.State.{state_of, RefusesValue, WritesValue};

@@ -1,5 +1,5 @@
 //! Signals.
-ghost use Rattle.std.specs.Prelude.{◌≡◌, ℕ, ◌↔◌, IsTrue, IsSome, IfSome, pos};
+ghost use Rattle.std.specs.Prelude.{◌≡◌, ◌↔◌, IsTrue, IsSome, IfSome, pos};
 
 use crate::Kind;
 use j39_id::Label;
