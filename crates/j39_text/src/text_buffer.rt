@@ -1,5 +1,5 @@
 //! A text that grows, and the one place where numbers, digits and words are written.
-ghost use Rattle.std.specs.Prelude.{◌≡◌, ℕ, ◌+◌, ◌≤◌, [], ◌∷◌, ◌++◌, length, OnOk};
+ghost use Rattle.std.specs.Prelude.{◌≡◌, ℕ, ◌≤◌, [], ◌∷◌, ◌++◌, length, OnOk};
 ghost use Rattle.hex.specs.Hex.{encode_upper};
 ghost use Rattle.j39_text.specs.Texts.{field_text, place_field};
 
