@@ -7,7 +7,6 @@ ghost use Rattle.j39_log.specs.inside.Listening.{AreAllInRange, HaveHeard, IsCat
 ghost use Rattle.j39_log.specs.inside.Recalling.{Recalls, counted};
 ghost use Rattle.j39_log.specs.LogFrames.{IsHeardAs, planned};
 ghost use Rattle.j39_log.specs.LogPairs.{Seen};
-ghost use Rattle.j39_log.specs.LogReports.{group_report};
 ghost use Rattle.j39_log.specs.ReadText.{IsFrameReport, IsGroupReport, Past, ReadsFrame, ReadsLine, ReadsLines, counts_line, nothing_yet, passed_over};
 ghost use Rattle.j39_tp.specs.declared.packet.Packet.{Packet as APacket};
 
