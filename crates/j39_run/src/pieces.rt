@@ -1,5 +1,5 @@
 //! From one piece of a schedule to the next.
-ghost use Rattle.std.specs.Prelude.{◌≡◌, ◌≢◌, ◌⊎◌, ◌<◌, ◌++◌, ℕ, List, Option, [], Err, false, IsErrOf, OnErr, OnOk};
+ghost use Rattle.std.specs.Prelude.{◌≡◌, ◌⊎◌, ◌<◌, ◌++◌, ℕ, List, Option, [], false, IsErrOf, OnErr, OnOk};
 ghost use Rattle.std.specs.Io.KnownBytes.{Appends, Consumes};
 ghost use Rattle.j39_id.specs.Lines.{Line};
 ghost use Rattle.j39_stream.specs.Streams.{AppendsPart, HasFailed, PassesLimits};
