@@ -1,7 +1,6 @@
 //! The lines of findings.
 ghost use Rattle.std.specs.Prelude.{◌≡◌, ◌++◌, OnOk};
 ghost use Rattle.j39_findings.specs.declared.checking.finding.Finding.TheVariants.{SameFixedAddress, BadPgn, SamePgn, SignalWidth, SignalOutside, SignalOverlap, FlowRepeated, KeptAddress};
-ghost use Rattle.j39_text.specs.Labels.{group_text, units_text};
 ghost use Rattle.j39_check.specs.FindingLines.{finding_line, finding_lines, finding_report, finding_text, run_lines, signal_text};
 
 use j39_findings::{Finding, Plan, bad_run};
