@@ -1,6 +1,6 @@
 //! The commands, with their help.
 ghost use Rattle.std.specs.Prelude.{◌≡◌, false, IfOk, IsOkAnd, codes};
-ghost use Rattle.clap.specs.Words.{app_of, rule_of, with_rule, with_subcommand};
+ghost use Rattle.clap.specs.Words.{app_of, rule_of, with_subcommand};
 ghost use Rattle.clap.specs.declared.builder.command.Command.TheViews.{out-Command as fields_of};
 ghost use Rattle.j39_words.specs.Commands.{commands, one_value, program, two_values, value_rule};
 
