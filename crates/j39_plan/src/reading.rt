@@ -1,5 +1,5 @@
 //! Reading a plan file.
-ghost use Rattle.std.specs.Prelude.{◌≡◌, IsErrOf};
+ghost use Rattle.std.specs.Prelude.{IsErrOf};
 ghost use Rattle.toml.specs.View.{table_view};
 ghost use Rattle.j39_plan.specs.Outcome.{GivesGrowing};
 ghost use Rattle.j39_plan.specs.Growing.{PlanGrows};

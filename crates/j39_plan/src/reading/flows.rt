@@ -1,6 +1,6 @@
 //! The flows of a plan.
-ghost use Rattle.std.specs.Prelude.{◌≡◌, List, ℕ, [], map, Some};
-ghost use Rattle.toml.specs.View.{view, table_view};
+ghost use Rattle.std.specs.Prelude.{◌≡◌, [], map, Some};
+ghost use Rattle.toml.specs.View.{table_view};
 ghost use Rattle.j39_plan.specs.Outcome.{Gives};
 ghost use Rattle.j39_plan.specs.FlowTables as spec;
 

@@ -1,6 +1,5 @@
 //! The groups of a plan.
-ghost use Rattle.std.specs.Prelude.{◌≡◌, map};
-ghost use Rattle.toml.specs.View.{view, table_view};
+ghost use Rattle.toml.specs.View.{table_view};
 ghost use Rattle.j39_plan.specs.Outcome.{GivesGrowing};
 ghost use Rattle.j39_plan.specs.Growing.{GroupGrows};
 ghost use Rattle.j39_plan.specs.GroupTables.{group_table_faults, TellsGroup};

@@ -1,10 +1,10 @@
 //! The head of a plan file: its version, and the addresses that it keeps free.
 ghost use Rattle.std.specs.Prelude.{◌≡◌, ◌∷◌, ◌++◌, ℕ, true, None, Some, map, IfOk, IfErr};
-ghost use Rattle.std.specs.FinSet.{FinSet, empty, from_list, contains};
+ghost use Rattle.std.specs.FinSet.{empty, from_list, contains};
 ghost use Rattle.toml.specs.View.{view, table_view, items_view};
 ghost use Rattle.j39_id.specs.Addresses.{in_pool};
 ghost use Rattle.j39_plan.specs.declared.reading.place.Table.TheVariants as at;
-ghost use Rattle.j39_plan.specs.Schema.{Rule, addresses_of, number_in, numbers_in};
+ghost use Rattle.j39_plan.specs.Schema.{addresses_of, number_in, numbers_in};
 ghost use Rattle.j39_plan.specs.TableFaults.{address_cause, addresses_cause, key_faults, unknown_faults};
 ghost use Rattle.j39_plan.specs.Faults.{is_second, version_rule, keep_free_rule, array_rules, head_faults};
 ghost use Rattle.j39_plan.specs.Described.{keep_free_of};

@@ -1,6 +1,6 @@
 //! The signals of a group.
-ghost use Rattle.std.specs.Prelude.{◌≡◌, ◌≤◌, map, codes, IsTrue, IfOk};
-ghost use Rattle.toml.specs.View.{view, table_view};
+ghost use Rattle.std.specs.Prelude.{◌≡◌, ◌≤◌, IsTrue, IfOk};
+ghost use Rattle.toml.specs.View.{table_view};
 ghost use Rattle.j39_signal.specs.Parts.{IsSignal};
 ghost use Rattle.j39_findings.specs.LabelForm.{is_label};
 ghost use Rattle.j39_plan.specs.Schema.{text_of};

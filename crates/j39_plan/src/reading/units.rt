@@ -1,7 +1,7 @@
 //! The units of a plan.
-ghost use Rattle.std.specs.Prelude.{◌≡◌, ◌<◌, map, codes, IfOk, Some};
+ghost use Rattle.std.specs.Prelude.{◌≡◌, ◌<◌, IfOk};
 ghost use Rattle.j39_id.specs.Addresses.{null_address};
-ghost use Rattle.toml.specs.View.{view, table_view};
+ghost use Rattle.toml.specs.View.{table_view};
 ghost use Rattle.j39_plan.specs.Schema.{text_of, number_of};
 ghost use Rattle.j39_plan.specs.TableFaults.{key_faults};
 ghost use Rattle.j39_plan.specs.Outcome.{Gives};

@@ -1,5 +1,5 @@
 //! The values of a table's keys.
-ghost use Rattle.std.specs.Prelude.{◌≡◌, ℕ, pos, true, Some, None, List, option_map, IfSome, IfNone, IfOk, ◌≤◌, ◌≤ℤ◌, length};
+ghost use Rattle.std.specs.Prelude.{◌≡◌, ℕ, true, Some, None, List, option_map, IfSome, IfOk, ◌≤◌, ◌≤ℤ◌, length};
 ghost use Rattle.std.specs.Option.{option_copied};
 ghost use Rattle.toml.specs.Data.{get_member};
 ghost use Rattle.toml.specs.View.{view, table_view};
