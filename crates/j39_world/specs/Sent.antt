@@ -1,10 +1,10 @@
 -- The frames that tell of addresses: those of SAE J1939-81, address claimed and cannot claim address, and the request
--- for them. All go to the global address with priority 6; the identifier's layout is that of SAE J1939-21.
+-- for them. All go to the global address with one priority; the identifier's layout is that of SAE J1939-21.
 use Rattle.std.specs.Prelude.{ℕ, List, Option, Some, None}
 use Rattle.std.specs.Int.{w64, to_le_bytes}
 use Rattle.j39_id.specs.Addresses.{null_address, global_address}
 use Rattle.j39_id.specs.Ident.{bits, identifier_of}
-use Rattle.j39_id.specs.Services.{request, address_claimed}
+use Rattle.j39_id.specs.Services.{request, address_claimed, claim_priority}
 use Rattle.j39_id.specs.declared.frame.Frame.{Frame}
 use Rattle.j39_tp.specs.Packets.{pgn_bytes}
 use Rattle.j39_claim.specs.declared.item.Say.{Say}
@@ -27,9 +27,9 @@ abbrev pub claimed_by : Say → Option ℕ
 claimed_by (Claim a) = Some a
 claimed_by Cannot = None
 
--- the identifier of a group that is sent to all
+-- the identifier of such a group
 abbrev pub to_all : ℕ → ℕ → ℕ
-to_all pgn source = identifier_of 6 pgn global_address source
+to_all pgn source = identifier_of claim_priority pgn global_address source
 
 -- the frame of an item that a unit of this NAME tells which holds this address. A claim carries the NAME, a request the
 -- PGN that is asked for, each with its least significant byte first

@@ -2,7 +2,7 @@
 use Rattle.std.specs.Prelude.{ℕ, List}
 use Rattle.j39_id.specs.Addresses.{global_address}
 use Rattle.j39_id.specs.Ident.{identifier_of}
-use Rattle.j39_id.specs.Services.{connection_management, data_transfer}
+use Rattle.j39_id.specs.Services.{connection_management, data_transfer, transport_priority}
 use Rattle.j39_tp.specs.Packets.{data_of}
 use Rattle.j39_tp.specs.declared.packet.Packet.{Packet}
 use Rattle.j39_tp.specs.declared.packet.Packet.TheVariants.{Dt}
@@ -26,9 +26,9 @@ abbrev pub group_of : Packet → ℕ
 group_of (Dt number chunk) = data_transfer
 group_of _ = connection_management
 
--- the frame of a transport packet from one address to another, with priority 7
+-- the frame of a transport packet from one address to another
 abbrev pub packet_frame : ℕ → ℕ → Packet → Sent
-packet_frame source destination p = record { identifier = identifier_of 7 (group_of p) destination source; payload = data_of p }
+packet_frame source destination p = record { identifier = identifier_of transport_priority (group_of p) destination source; payload = data_of p }
 
 -- the frame of a message of at most eight bytes, with its group's priority
 abbrev pub short_frame : ℕ → ℕ → Flow → List ℕ → Sent
