@@ -14,10 +14,6 @@ FailsGrowing MayGrow errors.Text faults = ⊥
 FailsGrowing MayGrow (errors.Fault f) faults = first faults ≡ Some f
 FailsGrowing MayGrow errors.Memory faults = MayGrow
 
--- the first fault
-abbrev pub Fails : PlanError → List Fault → Type 0
-Fails = FailsGrowing ⊥
-
 -- such a value, where there is no fault, or else the first fault, or want of memory where room may have been asked for
 abbrev pub GivesGrowing : {X : Type 0} → Type 0 → Result X PlanError → List Fault → (X → Type 0) → Type 0
 GivesGrowing MayGrow (Ok x) faults Is = (faults ≡ []) × Is x
