@@ -11,12 +11,9 @@ use crate::catalog::{Catalog, CatalogError};
 use crate::log_reading::Reading;
 use j39_findings::Plan;
 use j39_id::Cutter;
-use j39_stream::{Fault, Intake, Sink, Source, Verdict, put_all};
+use j39_stream::{Fault, Intake, PIECE_BYTES, Sink, Source, Verdict, put_all};
 use j39_text::{TextBuffer, group_label, put_text};
 use std::alloc::{AllocError, Global};
-
-// The most bytes of a piece of the log.
-const PIECE: usize = 4096;
 
 // Reads the lines that a piece of the log ends.
 fn read_piece(
@@ -81,7 +78,7 @@ fn read_log<S: Source, W: Sink>(
     let mut reading = Reading::new(alloc);
     let mut cutter = Cutter::new();
     let mut intake = Intake::new();
-    let mut piece = [0; PIECE];
+    let mut piece = [0; PIECE_BYTES];
     loop {
         let count = intake.pull(source, &mut piece)?;
         if count == 0 {
