@@ -1,25 +1,61 @@
 -- When a listener completes a message, and what it holds then.
-use Rattle.std.proofs.Common.{◌≡◌, ℕ, suc, true, false, List, [], ◌∷◌, ◌++◌, length, All, zero, Option, Some, None, refl, sym, ap, ◌∙◌, arith}
+use Rattle.std.proofs.Common.{◌≡◌, ℕ, suc, ◌+◌, ◌==◌, ◌&&◌, nat_le, Bool, if◌then◌else◌, true, false, List, [], ◌∷◌, ◌++◌, length, All, zero, Option, Some, None, refl, sym, ap, ◌∙◌, arith}
 use Rattle.std.specs.List.{slice_get}
 use Rattle.std.proofs.lemmas.List.Elements.{All-push}
 use Rattle.j39_tp.specs.Packets.{InRange}
 use Rattle.j39_tp.specs.Carried.{listened, receives_any, CompletesAt, Carried, AreInRange}
-use Rattle.j39_tp.specs.Receiver.{Receiving, receives, hears}
+use Rattle.j39_tp.specs.Chunks.{packets_of}
+use Rattle.j39_tp.specs.Receiver.{Receiving, receives, hears, is_complete, is_directed, takes_later}
 use Rattle.j39_tp.specs.declared.receiving.heard.Heard.{Heard}
 use Rattle.j39_tp.specs.declared.receiving.heard.Heard.TheVariants as heard
 use Rattle.j39_tp.specs.declared.receiving.manner.Manner.TheVariants.{Listening}
 use Rattle.j39_tp.specs.declared.packet.Packet.{Packet}
-use Rattle.j39_tp.specs.declared.receiving.progress.Progress.TheVariants.{Complete}
-use Rattle.j39_log.specs.inside.Listening.{is_complete, completes, after_all}
+use Rattle.j39_tp.specs.declared.packet.Packet.TheVariants.{Rts, Cts, EndAck, Bam, Abort, Dt}
+use Rattle.j39_tp.specs.declared.receiving.progress.Progress.{Progress}
+use Rattle.j39_tp.specs.declared.receiving.progress.Progress.TheVariants.{Open, Closed, Complete}
+use Rattle.j39_tp.specs.declared.receiving.reception.Kind.{Kind}
+use Rattle.j39_tp.specs.declared.receiving.reception.Kind.TheVariants.{Broadcast, Directed}
+use Rattle.j39_tp.specs.declared.receiving.reception.Reception.{Reception}
+use Rattle.j39_log.specs.inside.Listening.{completes, after_all}
 use Rattle.j39_log.specs.ReadText.{CarriesNone}
 use Rattle.j39_log.proofs.PairLists.{listened_front, after_more, slice_get_end, in_range}
 
-is_told : (h : Heard) → is_complete h ≡ true → h ≡ heard.Complete
-is_told heard.Complete e = refl
-is_told heard.Nothing e = cc
-is_told (heard.Reply p) e = cc
-is_told (heard.CompleteReply p) e = cc
-is_told heard.Closed e = cc
+-- ---- a listener replies nothing
+
+abbrev Replies : Heard → Type 0
+Replies (heard.Reply p) = Unit {0}
+Replies (heard.CompleteReply p) = Unit {0}
+Replies _ = ⊥
+
+neither : (b : Bool) (x y : Progress × Heard) → (Replies x.1 → ⊥) → (Replies y.1 → ⊥) → Replies (if b then x else y).1 → ⊥
+neither true x y first second = first
+neither false x y first second = second
+
+later_silent : (k : Kind) (r : Reception) (number : ℕ) → Replies (takes_later Listening k r number).1 → ⊥
+later_silent Broadcast r number replies = replies
+later_silent Directed r number replies = replies
+
+silent : (pr : Progress) (p : Packet) → Replies (hears Listening pr p).1 → ⊥
+silent pr (Bam size pgn) replies = replies
+silent pr (Rts size limit pgn) replies = replies
+silent (Open r) (Dt number chunk) replies =
+    neither (number == r.held + 1) _ _
+    (neither (r.held + 1 == packets_of r.size) _ _ (λ x. x) (neither (r.held + 1 == r.granted) _ _ (λ x. x) (λ x. x)))
+    (neither (nat_le number r.held) _ _ (λ x. x) (later_silent r.kind r number)) replies
+silent (Open r) (Abort reason pgn) replies = neither (is_directed r.kind && pgn == r.pgn) _ _ (λ x. x) (λ x. x) replies
+silent Closed (Dt number chunk) replies = replies
+silent Closed (Abort reason pgn) replies = replies
+silent (Complete group) (Dt number chunk) replies = replies
+silent (Complete group) (Abort reason pgn) replies = replies
+silent pr (Cts count first pgn) replies = replies
+silent pr (EndAck size pgn) replies = replies
+
+told_alone : (h : Heard) → (Replies h → ⊥) → is_complete h ≡ true → h ≡ heard.Complete
+told_alone heard.Complete none e = refl
+told_alone heard.Nothing none e = cc
+told_alone (heard.Reply p) none e = cc
+told_alone (heard.CompleteReply p) none e = absurd (none tt)
+told_alone heard.Closed none e = cc
 
 -- ---- places of a list
 
@@ -55,7 +91,7 @@ carried_there law h p s after group message heard_all heard_one all fits told pr
     law (h ++ p ∷ []) (length h) group message (in_range (h ++ p ∷ []) (All-push InRange h p all fits)) (record {
       packet = p;
       stands = slice_get_end h p;
-      told = is_told _ (sym (told_there h p) ∙ told_all);
+      told = told_alone _ (silent (listened (h ++ p ∷ []) (length h)).progress p) (sym (told_there h p) ∙ told_all);
       pgn_is = ap (λ (r : Receiving). r.progress) here ∙ progress;
       bytes_are = ap (λ (r : Receiving). r.bytes) here ∙ bytes;
     })

@@ -1,13 +1,14 @@
 //! A listener for each pair of addresses.
 ghost use Rattle.std.specs.Prelude.{◌≡◌, ◌≢◌, ◌<◌, ℕ, [], true, false, vec_len, None, OnOk, IfOk, IfSome, IfNone, if◌then◌else◌};
+ghost use Rattle.j39_tp.specs.Packets.{is_announcement};
 ghost use Rattle.j39_tp.specs.Receiver.{fresh, receives};
 ghost use Rattle.j39_tp.specs.declared.receiving.manner.Manner.TheVariants.{Listening};
-ghost use Rattle.j39_log.specs.inside.Listening.{HasListener, completes, is_announcement as announces, is_pair, listener_at, listener_in};
+ghost use Rattle.j39_log.specs.inside.Listening.{HasListener, completes, is_pair, listener_at, listener_in};
 ghost use Rattle.j39_log.specs.inside.Listening.{listener_of_pair, slots_at};
 ghost use Rattle.j39_log.specs.LogPairs.{is_abort as aborts, is_heard_by};
 
 use j39_id::Ident;
-use j39_tp::{Heard, Packet, Receiver};
+use j39_tp::{Packet, Receiver};
 use std::alloc::{AllocError, Global};
 
 // A place for the listener of one source to each destination, up to the greatest that was announced to.
@@ -18,16 +19,6 @@ type Row = Vec<Option<Box<Receiver>>>;
 pub(crate) struct Listeners {
     alloc: Global,
     rows: Vec<Row>,
-}
-
-// Whether a packet opens a session.
-fn is_announcement(packet: &Packet) -> bool
-    ensures { result ≡ announces packet.now }
-{
-    match packet {
-        Packet::Bam { .. } | Packet::Rts { .. } => true,
-        _ => false,
-    }
 }
 
 fn is_abort(packet: &Packet) -> bool
@@ -77,15 +68,12 @@ fn fill(alloc: Global, slot: &mut Option<Box<Receiver>>) -> Result<(), AllocErro
 
 // Whether the packet completes a message of the listener in the slot.
 fn hear_in(slot: &mut Option<Box<Receiver>>, packet: &Packet) -> bool
-    requires { announces packet.now ≡ true → slot.old ≢ None }
+    requires { is_announcement packet.now ≡ true → slot.old ≢ None }
     ensures heard { listener_in slot.new ≡ receives (listener_in slot.old) packet.now }
     ensures told { result ≡ completes (listener_in slot.old) packet.now }
 {
     match slot {
-        Some(listener) => match listener.hear(packet) {
-            Heard::Complete => true,
-            _other => false,
-        },
+        Some(listener) => listener.hear(packet).is_complete(),
         None => false,
     }
 }
@@ -101,7 +89,7 @@ fn open_in(alloc: Global, row: &mut Row, destination: usize) -> Result<(), Alloc
 
 // Whether the packet completes a message of the listener at a place of a row.
 fn hear_at(row: &mut Row, destination: usize, packet: &Packet) -> bool
-    requires { announces packet.now ≡ true → HasListener row.old.items destination }
+    requires { is_announcement packet.now ≡ true → HasListener row.old.items destination }
     ensures heard { listener_at row.new.items destination ≡ receives (listener_at row.old.items destination) packet.now }
     ensures others { (d : ℕ) → d ≢ destination → listener_at row.new.items d ≡ listener_at row.old.items d }
     ensures told { result ≡ completes (listener_at row.old.items destination) packet.now }
@@ -133,7 +121,7 @@ impl Listeners {
 
     // Whether the packet completes a message of the pair, which has a listener where the packet opens a session.
     fn hear_by(&mut self, source: usize, destination: usize, packet: &Packet) -> bool
-        requires { announces packet.now ≡ true → HasListener (slots_at self.old.rows.items source) destination }
+        requires { is_announcement packet.now ≡ true → HasListener (slots_at self.old.rows.items source) destination }
         ensures heard { listener_of_pair self.new.rows.items source destination
             ≡ receives (listener_of_pair self.old.rows.items source destination) packet.now }
         ensures others { (s d : ℕ) → is_pair source destination s d ≡ false
@@ -156,7 +144,7 @@ impl Listeners {
     {
         let source = usize::from(source);
         let destination = usize::from(destination);
-        if is_announcement(packet) {
+        if packet.is_announcement() {
             self.open(source, destination)?;
         }
         Ok(self.hear_by(source, destination, packet))

@@ -1,5 +1,5 @@
 -- What the reader of a log keeps, and what it stands for.
-use Rattle.std.specs.Prelude.{◌≡◌, ◌==◌, ◌&&◌, ◌<◌, Bool, true, false, ℕ, List, [], length, map, All, Box, Option, Some, None}
+use Rattle.std.specs.Prelude.{◌≡◌, ◌==◌, ◌&&◌, ◌<◌, Bool, ℕ, List, [], length, map, All, Box, Option, Some, None}
 use Rattle.std.specs.declared.alloc.Global.{Global}
 use Rattle.std.specs.declared.vec.Vec.{Vec}
 use Rattle.std.specs.HashMap.{HashMap, get}
@@ -8,12 +8,9 @@ use Rattle.j39_findings.specs.declared.plan.Plan.{Plan}
 use Rattle.j39_findings.specs.declared.plan.group_plan.GroupPlan.{GroupPlan}
 use Rattle.j39_tp.specs.Carried.{listened}
 use Rattle.j39_tp.specs.Packets.{InRange}
-use Rattle.j39_tp.specs.Receiver.{Receiving, fresh, hears}
-use Rattle.j39_tp.specs.declared.receiving.heard.Heard.{Heard}
-use Rattle.j39_tp.specs.declared.receiving.heard.Heard.TheVariants as heards
+use Rattle.j39_tp.specs.Receiver.{Receiving, fresh, hears, is_complete}
 use Rattle.j39_tp.specs.declared.receiving.manner.Manner.TheVariants.{Listening}
 use Rattle.j39_tp.specs.declared.packet.Packet.{Packet}
-use Rattle.j39_tp.specs.declared.packet.Packet.TheVariants.{Rts, Bam}
 use Rattle.j39_log.specs.LogFrames.{is_planned_as}
 use Rattle.j39_log.specs.LogPairs.{Seen, heard}
 use Rattle.j39_findings.specs.PlannedGroups.{IsFirstRefused, layout_of}
@@ -48,15 +45,6 @@ pub record IsCatalogOf (plan : Plan) (catalog : Catalog) : Type 0 where
 abbrev pub IsInRange : Option Packet → Type 0
 IsInRange (Some p) = InRange p
 IsInRange None = Unit {0}
-
-abbrev pub is_announcement : Packet → Bool
-is_announcement (Bam size pgn) = true
-is_announcement (Rts size limit pgn) = true
-is_announcement _ = false
-
-abbrev pub is_complete : Heard → Bool
-is_complete heards.Complete = true
-is_complete _ = false
 
 -- the packet completes a message of a receiver
 abbrev pub completes : Receiving → Packet → Bool
