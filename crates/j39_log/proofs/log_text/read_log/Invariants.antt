@@ -2,6 +2,7 @@ use Rattle.std.proofs.Common.{◌≡◌, ◌≤◌, ◌-◌, ℕ, List, length}
 use Rattle.std.specs.Io.KnownBytes.{Appends}
 use Rattle.j39_id.specs.Lines.{at_start, behind_all, told}
 use Rattle.j39_stream.specs.Intakes.{HasRead}
+use Rattle.j39_stream.specs.Streams.{read_calls}
 use Rattle.j39_log.specs.inside.Recalling.{HasReadLines, counted}
 use Rattle.j39_log.proofs.log_text.read_log.Given as goal
 
@@ -17,4 +18,4 @@ invariant-loop-reading g l =
     × (g.W.Sink.failures l.sink ≡ g.W.Sink.failures l.fn.sink)
 
 abbrev pub decreases-loop-reading : goal.decreases-loop-reading
-decreases-loop-reading g l = 1048576 - l.intake.calls
+decreases-loop-reading g l = read_calls - l.intake.calls
