@@ -16,7 +16,7 @@ use Rattle.j39_stream.specs.Streams.{KeepsLimits, PassesLimits, input_limit, rea
 use Rattle.j39_stream.proofs.Parts.{front_of, none_read}
 use Rattle.j39_run.specs.declared.next.Next.{Next}
 use Rattle.j39_run.specs.declared.next.Next.TheVariants.{Wait, More, Blank, Step as AStep, Refused, End}
-use Rattle.j39_run.specs.inside.Feeding.{Comes, Feeding, GoesOn, HasEnded, IsEnding, IsFed, IsFedSo, IsNext, IsReading, IsShorter, to_do, unfed}
+use Rattle.j39_run.specs.inside.Feeding.{Comes, Feeding, GoesOn, HasEnded, IsEnding, IsFed, IsFedSo, IsNext, IsReading, unfed}
 
 -- ---- a piece
 
@@ -125,15 +125,6 @@ next_part plan next first now p q old new seen part ls more going still same row
     } in
     goes_on plan next first now p q new seen ls more told_next
     (record { used = part; more = more; fed = subst (λ (e : Bool). IsFedSo e first now p q new (seen ++ part) (ls ++ more)) (sym still) after; is = told_next })
-
--- it is shorter then
-pub shorter_part : (plan : Plan) (next : Next) (old new : Feeding) (more : List Line) → IsNext plan next more → to_do new < to_do old → IsShorter next old new
-shorter_part plan Wait old new more is less = absurd is
-shorter_part plan More old new more is less = less
-shorter_part plan Blank old new more is less = less
-shorter_part plan (AStep step) old new more is less = less
-shorter_part plan (Refused fault) old new more is less = less
-shorter_part plan End old new more is less = absurd is
 
 -- ---- how many lines there are
 
