@@ -10,19 +10,16 @@ use crate::next::{Next, next_of};
 use j39_findings::Plan;
 use j39_id::Cutter;
 use j39_schedule::UnitIndex;
-use j39_stream::{Fault, Intake, Source};
+use j39_stream::{Fault, Intake, PIECE_BYTES, Source};
 use std::alloc::{AllocError, Global};
 use std::marker::Model;
-
-/// The most bytes that are read at once.
-const PIECE: usize = 4096;
 
 /// A schedule as it is read: a piece of it, and the line that it is in.
 #[derive(Drop)]
 pub(crate) struct Feed {
     intake: Intake,
     cutter: Cutter,
-    piece: [u8; PIECE],
+    piece: [u8; PIECE_BYTES],
     // What isn't told yet lies between these places of the piece.
     from: usize,
     to: usize,
@@ -31,6 +28,7 @@ pub(crate) struct Feed {
 
 impl Model for Feed {
     ghost use Rattle.std.specs.Prelude.{◌≤◌, ◌-◌, take, drop};
+    ghost use Rattle.j39_stream.specs.Intakes.{piece_bytes};
     ghost use Rattle.j39_run.specs.inside.Feeding.{Feeding};
 
     ghost Value = { Feeding };
@@ -42,7 +40,7 @@ impl Model for Feed {
       ended = f.ended;
     } };
 
-    ghost invariant = { λ f. (f.from ≤ f.to) × (f.to ≤ 4096) };
+    ghost invariant = { λ f. (f.from ≤ f.to) × (f.to ≤ piece_bytes) };
 }
 
 // What lies between these places of a piece.
@@ -60,7 +58,7 @@ impl Feed {
         Feed {
             intake: Intake::new(),
             cutter: Cutter::new(),
-            piece: [0; PIECE],
+            piece: [0; PIECE_BYTES],
             from: 0,
             to: 0,
             ended: false,
