@@ -1,5 +1,5 @@
 //! Cutting a byte stream into lines.
-ghost use Rattle.std.specs.Prelude.{◌≡◌, ◌≤◌, ◌<◌, [], false, length, take, All, slice_index, IsTrue, unwrap_or};
+ghost use Rattle.std.specs.Prelude.{◌≡◌, ◌≤◌, ◌<◌, ◌≢◌, [], false, length, take, All, slice_index, IsTrue, IfSome, unwrap_or};
 ghost use Rattle.std.specs.Option.{option_copied};
 ghost use Rattle.j39_id.specs.Lines.{is_line_feed, at_start, answer_to, behind, answer_to_end, given, tells, told, behind_all};
 ghost use Rattle.j39_id.specs.inside.Cutting.{pending_of, line_in, phase_after};
@@ -164,13 +164,16 @@ impl Cutter {
 
     /// Reads on in a piece of the stream as `feed` does, to the first answer that is not More: or it answers More behind a
     /// part of the piece, which is not empty unless the piece is. A line that lies whole in the piece is given as it lies
-    /// there, without a copy.
+    /// there, without a copy. An empty piece changes nothing.
     #[inline(always)]
     pub fn advance<'p>(&mut self, piece: &'p [u8]) -> Advance<'p>
         ensures within { result.used ≤ length piece.now }
         ensures some { 0 < length piece.now → 0 < result.used }
         ensures told { told self.old.pending (take result.used piece.now) ≡ tells result.cut (unwrap_or (option_copied result.whole) self.new.line) }
         ensures pending { self.new.pending ≡ behind_all self.old.pending (take result.used piece.now) }
+        ensures whole { IfSome result.whole (λ _. (result.cut ≡ Cut.Line) × (self.new.line ≡ [])) }
+        ensures line { 0 < length piece.now → result.cut ≢ Cut.Line → self.new.line ≡ [] }
+        ensures empty { length piece.now ≡ 0 → self.new ≡ self.old }
     {
         let length = bytes_to_feed(piece);
         if length < piece.len() && length <= LINE_LIMIT && self.is_at_start() {
@@ -207,7 +210,7 @@ impl Cutter {
         Cut::Line
     }
 
-    /// The line, where the last call answered Line and gave no line of the piece; else nothing.
+    /// The line, where the last call that read a byte or the end answered Line and gave no line of the piece; else nothing.
     pub fn line(&self) -> &[u8]
         ensures { result.now ≡ self.now.line }
     {
