@@ -3,11 +3,7 @@ ghost use Rattle.std.specs.Prelude.{◌≡◌, ◌<◌, [], ◌∷◌, length, p
 ghost use Rattle.j39_id.specs.FrameLine.{is_separator};
 ghost use Rattle.j39_schedule.specs.Schedule.{words_of};
 
-fn is_separator(byte: u8) -> bool
-    ensures { result ≡ is_separator byte }
-{
-    matches!(byte, b' ' | b'\t' | b'\r')
-}
+use j39_id::is_separator;
 
 fn word_start(line: &[u8]) -> Option<usize>
     ensures { result ≡ position (λ b. not (is_separator b)) line.now }
