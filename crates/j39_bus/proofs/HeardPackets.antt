@@ -3,13 +3,13 @@ use Rattle.std.proofs.Common.{◌≡◌, ℕ, ◌≤◌, true, false, eqb, List,
 use Rattle.std.proofs.lemmas.Bool.{cond_both, eqb-true, true≢false}
 use Rattle.std.specs.Prelude.{IfSome}
 use Rattle.j39_tp.specs.inside.Gathered.{Gathers, TellsComplete}
-use Rattle.j39_tp.specs.Receiver.{size_told}
+use Rattle.j39_tp.specs.Receiver.{is_complete, size_told}
 use Rattle.j39_tp.specs.declared.receiving.heard.Heard.{Heard}
 use Rattle.j39_tp.specs.declared.receiving.heard.Heard.TheVariants as heards
 use Rattle.j39_tp.specs.declared.packet.Packet.{Packet}
 use Rattle.j39_tp.specs.declared.receiving.progress.Progress.{Progress}
 use Rattle.j39_tp.specs.declared.receiving.progress.Progress.TheVariants.{Closed, Open, Complete}
-use Rattle.j39_bus.specs.inside.Receivers.{is_complete, left_at}
+use Rattle.j39_bus.specs.inside.Receivers.{left_at}
 use Rattle.j39_world.specs.Transfers.{Outgoing, Reported, closed_if_complete}
 use Rattle.j39_world.specs.TransferSteps.{Reports, ReportsOne, flow_in, session_after}
 use Rattle.j39_world.specs.World.{World, changed}

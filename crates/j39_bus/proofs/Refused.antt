@@ -1,5 +1,5 @@
 -- When a step is refused.
-use Rattle.std.proofs.Common.{◌≡◌, ◌≢◌, inl, inr, ℕ, ◌<◌, ◌==◌, Bool, true, false, not, nat_lt, List, [], ◌∷◌, ◌++◌, length, get_or, refl, sym, ap}
+use Rattle.std.proofs.Common.{◌≡◌, inl, inr, ℕ, ◌<◌, ◌==◌, Bool, true, false, not, nat_lt, List, [], ◌∷◌, ◌++◌, length, get_or, refl, sym, ap}
 use Rattle.std.proofs.Common.{◌∙◌, arith, Option, Some, None}
 use Rattle.std.specs.Prelude.{if◌then◌else◌}
 use Rattle.std.proofs.lemmas.Bool.{cases_lt, eq-eqb, eqb-true, le-ltb, lt-ltb, ltb-true, not-false, or_parts, true≢false}
@@ -13,7 +13,7 @@ use Rattle.j39_findings.specs.declared.steps.Step.{Step}
 use Rattle.j39_findings.specs.declared.steps.Step.TheVariants.{Up, Down, Give, Ask, Begin, Emit, Take, Lose, LateSender, LateReceiver, Rest}
 use Rattle.j39_bus.specs.declared.network.Network.{Network}
 use Rattle.j39_world.specs.declared.step_error.StepError.{StepError}
-use Rattle.j39_world.specs.declared.step_error.StepError.TheVariants.{UnknownUnit, Memory}
+use Rattle.j39_world.specs.declared.step_error.StepError.TheVariants.{UnknownUnit}
 use Rattle.j39_world.specs.declared.flow.Flow.{Flow}
 use Rattle.j39_bus.specs.Stations.{station_at, absent_unit}
 use Rattle.j39_bus.specs.BusState.{Histories}
@@ -87,10 +87,6 @@ own_by_step count flows w (Rest u) = (refl, (refl, (refl, tt)))
 
 pub own_cause : (count : ℕ) (flows : List Flow) (w : World) (step : Step) → IsOwnCause (refusal_among count flows w step)
 own_cause count flows w step = own_first (step_refusals count flows w step) (own_by_step count flows w step)
-
-pub cause_named : (e : StepError) → e ≢ Memory → cause_of e ≡ Some e
-cause_named Memory other = absurd (other refl)
-cause_named e other = refl
 
 -- ---- the refusal of a network's step is the definition's
 pub refusal_is : (plan : Plan) (net : Network) → IsOfPlan plan net → (w : World) (step : Step)

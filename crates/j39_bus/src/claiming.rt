@@ -1,5 +1,5 @@
 //! The steps of units that claim addresses (SAE J1939-81).
-ghost use Rattle.std.specs.Prelude.{◌≡◌, ◌<◌, ◌≤◌, ◌+◌, Some, length, vec_len, vec_capacity, OnOk, OnErr};
+ghost use Rattle.std.specs.Prelude.{◌≡◌, ◌<◌, ◌≤◌, ◌+◌, length, vec_len, vec_capacity, OnOk, OnErr};
 ghost use Rattle.j39_findings.specs.declared.plan.Plan.{Plan};
 ghost use Rattle.j39_findings.specs.declared.steps.Step.TheVariants.{Up, Give, Ask};
 ghost use Rattle.j39_world.specs.ClaimSteps.{switched_on, asked, GivenFrom};

@@ -3,11 +3,9 @@ ghost use Rattle.std.specs.Prelude.{◌≡◌, ℕ, ◌≤◌, length, is_some};
 ghost use Rattle.j39_id.specs.Limits.{message_bytes};
 
 use j39_findings::To;
+use j39_id::limits::FRAME_BYTES;
 use j39_tp::{Dest, Message, Outcome, Packet, Phase, Reaction, Sender};
 use j39_world::{Flow, Short, Wired};
-
-/// A message of at most so many bytes is sent in one frame.
-const FRAME_LENGTH: usize = 8;
 
 /// A message of one frame, which has ended, or one that a sender of the transport protocol has.
 #[derive(Drop)]
@@ -32,7 +30,7 @@ impl Content {
         ensures stage { stage_in result.0 ≡ begun_stage flow.now bytes.now }
         ensures item { result.1 ≡ first_item flow.now bytes.now }
     {
-        if bytes.len() <= FRAME_LENGTH {
+        if bytes.len() <= FRAME_BYTES {
             return (
                 Content::Short(Short::new(bytes)),
                 Wired::Short(Short::new(bytes)),

@@ -2,10 +2,10 @@
 ghost use Rattle.std.specs.Prelude.{◌≡◌, ℕ, ◌<◌, ◌≤◌, true, [], length, map, vec_capacity, OnOk, OnErr, IfOk};
 ghost use Rattle.j39_tp.specs.declared.receiving.manner.Manner.TheVariants.{Answering};
 ghost use Rattle.j39_world.specs.Flows.{window_at};
-ghost use Rattle.j39_tp.specs.Receiver.{hears, receives, timed_out, gives_up, is_open_at, message_of};
+ghost use Rattle.j39_tp.specs.Receiver.{hears, is_complete, receives, timed_out, gives_up, is_open_at, message_of};
 ghost use Rattle.j39_world.specs.World.{changed_pair};
 ghost use Rattle.j39_bus.specs.BusState.{closed, holding_at};
-ghost use Rattle.j39_bus.specs.inside.Receivers.{HasRoomFor, IsAnswering, IsReady, answering, holding_of, is_complete, left_at, left_of, message_in, opens};
+ghost use Rattle.j39_bus.specs.inside.Receivers.{HasRoomFor, IsAnswering, IsReady, answering, holding_of, left_at, left_of, message_in};
 ghost use Rattle.j39_bus.specs.inside.Receivers.{receiver_at};
 
 use crate::places::empty_places;
@@ -34,20 +34,6 @@ impl Model for Receivers {
     ghost invariant = { λ r. IsReceivers r.windows.items r.rows.items };
 }
 
-/// Whether a packet announces a message.
-fn is_announcement(packet: &Packet) -> bool
-    ensures { result ≡ opens packet.now }
-{
-    matches!(packet, Packet::Rts { .. } | Packet::Bam { .. })
-}
-
-/// Whether a message is complete.
-pub(crate) fn is_complete(heard: &Heard) -> bool
-    ensures { result ≡ is_complete heard.now }
-{
-    matches!(heard, Heard::Complete | Heard::CompleteReply(_))
-}
-
 // A closed receiver with this window for a packet that announces a message, if there is none.
 fn fill(
     alloc: Global,
@@ -61,7 +47,7 @@ fn fill(
     ensures ready { OnOk result (IsReady packet.now slot.new) }
     ensures answering { IsAnswering window slot.new }
 {
-    if is_announcement(packet) && slot.is_none() {
+    if packet.is_announcement() && slot.is_none() {
         let Some(receiver) = Receiver::new(window) else {
             unreachable!()
         };
@@ -155,7 +141,7 @@ fn hear_in(
     let mut bytes = room_for(alloc, slot, packet)?;
     fill(alloc, slot, window, packet)?;
     let heard = tell(slot, packet);
-    if is_complete(&heard) {
+    if heard.is_complete() {
         collect(slot, &mut bytes);
     }
     leave(slot);

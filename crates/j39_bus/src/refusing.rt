@@ -1,6 +1,6 @@
 //! Why steps are refused.
-ghost use Rattle.std.specs.Prelude.{◌≡◌, ◌<◌, true, None, Some, length, is_some};
-ghost use Rattle.j39_findings.specs.declared.steps.Step.TheVariants.{Up, Give, Ask, Begin, Emit, Take, LateSender, LateReceiver, Rest};
+ghost use Rattle.std.specs.Prelude.{◌≡◌, Some, length};
+ghost use Rattle.j39_findings.specs.declared.steps.Step.TheVariants.{Up, Give, Ask, Emit, Take, LateSender, LateReceiver, Rest};
 ghost use Rattle.j39_world.specs.Flows.{can_be_sent};
 ghost use Rattle.j39_bus.specs.Stations.{station_at};
 ghost use Rattle.j39_bus.specs.BusState.{Histories};
@@ -12,6 +12,7 @@ ghost use Rattle.j39_bus.specs.inside.Traffic.{IsFlow};
 use crate::network::Network;
 use crate::{StepError, sessions};
 use j39_findings::{Step, To};
+use j39_id::limits::FRAME_BYTES;
 use j39_world::Flow;
 
 /// Whether a flow to one unit goes to another one, and its group can be sent to one.
@@ -20,7 +21,8 @@ fn can_be_sent(flow: &Flow) -> bool
 {
     match flow.to {
         To::All => true,
-        To::One(unit) => unit != flow.sender && (flow.pgn.is_pdu1() || flow.length > 8),
+        To::One(unit) => unit != flow.sender
+            && (flow.pgn.is_pdu1() || usize::from(flow.length) > FRAME_BYTES),
     }
 }
 

@@ -1,5 +1,5 @@
 //! Messages that are sent.
-ghost use Rattle.std.specs.Prelude.{◌≡◌, ℕ, ◌≤◌, length, is_some};
+ghost use Rattle.std.specs.Prelude.{◌≡◌, ◌≤◌, length, is_some};
 ghost use Rattle.j39_id.specs.Limits.{message_bytes};
 ghost use Rattle.j39_tp.specs.Sender.{data_next, after_packet, timeout_packet, after_timeout, outcome_of, next_number};
 ghost use Rattle.j39_world.specs.Flows.{dest_of};

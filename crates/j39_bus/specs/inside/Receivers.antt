@@ -1,14 +1,12 @@
 -- The table of receivers, and what it keeps true.
-use Rattle.std.specs.Prelude.{◌≡◌, ℕ, ◌<◌, ◌≤◌, Bool, true, false, List, [], map, length, Option, Some, None, slice_index_or, vec_capacity, IfSome}
+use Rattle.std.specs.Prelude.{◌≡◌, ℕ, ◌<◌, ◌≤◌, true, List, [], map, length, Option, Some, None, slice_index_or, vec_capacity, IfSome}
 use Rattle.std.specs.declared.alloc.Global.{Global}
 use Rattle.std.specs.declared.boxed.Box.{Box}
 use Rattle.std.specs.declared.vec.Vec.{Vec}
 use Rattle.j39_queues.specs.Queued.{IsTable}
+use Rattle.j39_tp.specs.Packets.{is_announcement}
 use Rattle.j39_tp.specs.Receiver.{Receiving, completed_size, message_of}
 use Rattle.j39_tp.specs.declared.packet.Packet.{Packet}
-use Rattle.j39_tp.specs.declared.packet.Packet.TheVariants.{Rts, Bam}
-use Rattle.j39_tp.specs.declared.receiving.heard.Heard.{Heard}
-use Rattle.j39_tp.specs.declared.receiving.heard.Heard.TheVariants as heards
 use Rattle.j39_tp.specs.declared.receiving.manner.Manner.TheVariants.{Answering}
 use Rattle.j39_tp.specs.declared.receiving.progress.Progress.{Progress}
 use Rattle.j39_tp.specs.declared.receiving.progress.Progress.TheVariants.{Open}
@@ -63,19 +61,9 @@ message_in r = message_of r.progress r.bytes
 abbrev pub receiver_at : ReceiverTable → ℕ → ℕ → Receiving
 receiver_at t v u = answering (window_at t.windows v) (holding_at t.holdings v u)
 
-abbrev pub opens : Packet → Bool
-opens (Rts size limit group) = true
-opens (Bam size group) = true
-opens _ = false
-
 -- an announcement finds a receiver in the table
 abbrev pub IsReady : Packet → Slot → Type 0
-IsReady packet slot = opens packet ≡ true → slot ≡ None → ⊥
-
-abbrev pub is_complete : Heard → Bool
-is_complete heards.Complete = true
-is_complete (heards.CompleteReply p) = true
-is_complete _ = false
+IsReady packet slot = is_announcement packet ≡ true → slot ≡ None → ⊥
 
 -- there is room for the message that a packet completes
 abbrev pub HasRoomFor : Receiving → Packet → Vec ℕ Global → Type 0

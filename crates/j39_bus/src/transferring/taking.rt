@@ -3,15 +3,14 @@ ghost use Rattle.std.specs.Prelude.{◌≡◌, ℕ, ◌+◌, ◌<◌, ◌≤◌,
 ghost use Rattle.j39_findings.specs.declared.plan.Plan.{Plan};
 ghost use Rattle.j39_findings.specs.declared.steps.Step.TheVariants.{Take};
 ghost use Rattle.j39_queues.specs.Queued.{KeepsRoom, pair_in, room_at};
+ghost use Rattle.j39_tp.specs.Receiver.{is_complete};
 ghost use Rattle.j39_tp.specs.Carried.{Carried};
 ghost use Rattle.j39_bus.specs.BusState.{Histories};
 ghost use Rattle.j39_bus.specs.inside.Network.{HasHeld, HasStepped, IsAllowed, IsNetwork, IsOfPlan, IsSameNetwork, KeepsPlan, TakesOldest, has_taken, world_in};
-ghost use Rattle.j39_bus.specs.inside.Receivers.{is_complete};
 ghost use Rattle.j39_bus.specs.inside.Traffic.{packet_heard};
 ghost use Rattle.j39_world.specs.TransferSteps.{hearing, packets_in, reaction_of, receiver_replies, report, sender_replies};
 
 use crate::network::Network;
-use crate::receivers::is_complete;
 use crate::report::Report;
 use crate::sessions;
 use crate::wire::oldest;
@@ -122,7 +121,7 @@ impl Network {
         ensures same { OnErr result (IsSameNetwork self.old self.new) }
     {
         let (heard, bytes, reaction) = self.listen(from, to, packet)?;
-        if is_complete(&heard) {
+        if heard.is_complete() {
             self.report(from, to, bytes);
         }
         self.reply(to, from, reply_of(&heard));

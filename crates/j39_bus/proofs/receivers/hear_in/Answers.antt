@@ -1,7 +1,7 @@
 use Rattle.std.proofs.Common.{◌≡◌, ℕ, ◌≤◌, List, length, vec_capacity, sym, ap, ◌∙◌, subst}
-use Rattle.j39_tp.specs.Receiver.{Receiving, hears, receives}
+use Rattle.j39_tp.specs.Receiver.{Receiving, hears, is_complete, receives}
 use Rattle.j39_bus.specs.BusState.{Holding}
-use Rattle.j39_bus.specs.inside.Receivers.{HasRoomFor, answering, holding_of, is_complete}
+use Rattle.j39_bus.specs.inside.Receivers.{HasRoomFor, answering, holding_of}
 use Rattle.j39_bus.proofs.HeardPackets.{room_enough}
 use Rattle.j39_bus.proofs.receivers.hear_in.Goals as goal
 

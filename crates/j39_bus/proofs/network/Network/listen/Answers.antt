@@ -2,10 +2,10 @@ use Rattle.std.proofs.Common.{◌≡◌, ℕ, true, ◌&&◌, eqb, List, [], ◌
 use Rattle.std.proofs.lemmas.Bool.{cond-false}
 use Rattle.j39_tp.specs.Carried.{Carried}
 use Rattle.j39_tp.specs.inside.Gathered.{Gathers}
-use Rattle.j39_tp.specs.Receiver.{hears, receives}
+use Rattle.j39_tp.specs.Receiver.{hears, is_complete, receives}
 use Rattle.j39_tp.specs.declared.packet.Packet.{Packet}
 use Rattle.j39_bus.specs.inside.Network.{world_in}
-use Rattle.j39_bus.specs.inside.Receivers.{is_complete, receiver_at}
+use Rattle.j39_bus.specs.inside.Receivers.{receiver_at}
 use Rattle.j39_world.specs.World.{changed_pair}
 use Rattle.j39_bus.proofs.ChangedReceivers.{changed_here, held_changed, progress_changed}
 use Rattle.j39_bus.proofs.ChangedSessions.{after_is, sessions_staged}
