@@ -8,14 +8,14 @@ ghost use Rattle.j39_world.specs.Sent.{source_of, sent_of, frame_of, to_all, cla
 use arrayvec::ArrayVec;
 use j39_claim::{Item, Say};
 use j39_id::addresses::{GLOBAL_ADDRESS, NULL_ADDRESS};
-use j39_id::services::{ADDRESS_CLAIMED, REQUEST};
+use j39_id::services::{ADDRESS_CLAIMED, CLAIM_PRIORITY, REQUEST};
 use j39_id::{Address, Frame, Ident, Name, Pgn};
 
 // The identifier of a group that is sent to all.
 fn to_all(pgn: Pgn, source: u8) -> Ident
     ensures { bits result ≡ to_all pgn source }
 {
-    Ident::new(6, pgn, GLOBAL_ADDRESS, source)
+    Ident::new(CLAIM_PRIORITY, pgn, GLOBAL_ADDRESS, source)
 }
 
 // The three bytes of a PGN, the least significant first.

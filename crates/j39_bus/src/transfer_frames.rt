@@ -4,7 +4,7 @@ ghost use Rattle.j39_world.specs.Sent.{sent_of};
 ghost use Rattle.j39_world.specs.SentTransfers.{packet_frame, short_frame};
 
 use crate::claim_frames::payload_of;
-use j39_id::services::{CONNECTION_MANAGEMENT, DATA_TRANSFER};
+use j39_id::services::{CONNECTION_MANAGEMENT, DATA_TRANSFER, TRANSPORT_PRIORITY};
 use j39_id::{Frame, Ident};
 use j39_tp::{Packet, to_data};
 use j39_world::Flow;
@@ -18,7 +18,7 @@ pub(crate) fn packet_frame(source: u8, destination: u8, packet: &Packet) -> Fram
         _ => CONNECTION_MANAGEMENT,
     };
     Frame {
-        ident: Ident::new(7, pgn, destination, source),
+        ident: Ident::new(TRANSPORT_PRIORITY, pgn, destination, source),
         payload: payload_of(&to_data(packet)),
     }
 }
