@@ -7,7 +7,7 @@ use j39_id::proprietary::is_proprietary;
 use j39_id::{
     Address, Cut, Cutter, Frame, Ident, Label, Name, NameError, NameField, NameFields, Pgn,
     a_cutter_tells_the_lines, canonical_text_spells, names_and_bytes_are_inverse, one_reading,
-    print_frame, read_frame, services,
+    pf_of, print_frame, read_frame, services,
 };
 use std::test::Fail;
 
@@ -44,6 +44,7 @@ fn group_numbers_of_pdu1_end_in_0(rt: HostRuntime) -> Result<(), Fail> {
     let engine = Pgn::new(61444).ok_or("a PDU2 group")?;
     assert!(rt; !engine.is_pdu1());
     assert_eq!(rt; engine.number(), 61444);
+    assert_eq!(rt; pf_of(61444), 240);
     assert_eq!(rt; Pgn::new(60929), None, "PF 238 and low byte 1");
     assert_eq!(rt; Pgn::new(262_144), None);
     Ok(())

@@ -256,6 +256,8 @@ fn receives(
 #[test]
 fn a_window_of_two_takes_three_packets(rt: HostRuntime) -> Result<(), Fail> {
     assert!(rt; Receiver::new(0).is_none());
+    assert!(rt; packet_of(&RTS)?.is_announcement());
+    assert!(rt; !packet_of(&FIRST)?.is_announcement());
     let turns = [
         (Met::Heard(RTS), Answer::Packet(cts(2, 1))),
         (Met::Heard(FIRST), Answer::Nothing),
