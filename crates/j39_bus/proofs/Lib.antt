@@ -1,3 +1,4 @@
+pub mod Acting
 pub mod BeginRefused
 pub mod ChangedSessions
 pub mod Delivered

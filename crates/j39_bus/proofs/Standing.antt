@@ -1,15 +1,15 @@
 -- What a bus stands for, by its network.
-use Rattle.std.proofs.Common.{◌≡◌, ℕ, List, [], ◌∷◌, ◌++◌, length, refl, sym, ap, ◌∙◌, subst, arith, None, Option}
+use Rattle.std.proofs.Common.{◌≡◌, ℕ, List, [], ◌∷◌, ◌++◌, length, refl, sym, ap, ◌∙◌, subst, arith, None, Some, Option}
 use Rattle.j39_findings.specs.declared.plan.Plan.{Plan}
 use Rattle.j39_bus.specs.declared.network.Network.{Network}
 use Rattle.j39_findings.specs.declared.steps.Step.{Step}
 use Rattle.j39_world.specs.declared.step_error.StepError.{StepError}
 use Rattle.j39_world.specs.World.{World}
-use Rattle.j39_world.specs.Run.{refusal, refusal_among, StepsTo, RunsThrough}
+use Rattle.j39_world.specs.Run.{cause_of, refusal, refusal_among, StepsTo, RunsThrough}
 use Rattle.j39_bus.specs.BusState.{BusState, Histories, histories_of}
 use Rattle.j39_bus.specs.Stands.{Stands}
-use Rattle.j39_bus.specs.inside.Network.{state_of, world_in, HasHeld, IsNetwork, IsBus, IsOfPlan, IsAllowed, KeepsPlan, HasStepped, refusal_in}
-use Rattle.j39_bus.proofs.Refused.{length-planned_units, refusal_is}
+use Rattle.j39_bus.specs.inside.Network.{state_of, world_in, HasHeld, IsNetwork, IsBus, IsOfPlan, IsAllowed, IsRefusal, KeepsPlan, Steps, refusal_in}
+use Rattle.j39_bus.proofs.Refused.{IsOwnCause, length-planned_units, nowhere, own_cause, refusal_is}
 use Rattle.j39_bus.proofs.Steady.{plan_kept}
 
 -- a bus stands for each world of its network whose receivers hold what was taken
@@ -25,13 +25,12 @@ module _ (old : Network) (b : BusState) (is_state : state_of old ≡ b) (step : 
       ∙ (λ i. refusal_among (length old.claimers.items) old.flows.items (s.world i) step)
 
   -- what a step of the network does, the bus does
-  pub step_done : (new : Network) → KeepsPlan old new → IsAllowed old step → ((plan : Plan) → IsOfPlan plan old → HasStepped plan old step new)
-      → (plan : Plan) (w : World) → Stands b plan w
+  pub step_done : (new : Network) → KeepsPlan old new → IsAllowed old step → Steps old step new → (plan : Plan) (w : World) → Stands b plan w
       → (refusal plan w step ≡ None) × ((after : World) × StepsTo plan w step after × Stands (state_of new) plan after)
   step_done new keeps allowed done plan w s =
       let s' : Stands (state_of old) plan w = here plan w s in
-      let (after, steps, held) = done plan s'.planned (histories_of w) s'.held in (
-        refused_by plan w s' ∙ allowed (histories_of w),
+      let (after, steps, held) = done.of_plan plan s'.planned (histories_of w) s'.held in (
+        refused_by plan w s' ∙ allowed.is (histories_of w),
         (
           world_in after new,
           subst (λ (v : World). StepsTo plan v step (world_in after new)) (sym s'.world) steps,
@@ -40,9 +39,13 @@ module _ (old : Network) (b : BusState) (is_state : state_of old ≡ b) (step : 
       )
 
   -- and what it refuses, the bus refuses
-  pub step_refused : (cause : Option StepError) → ((h : Histories) → refusal_in old h step ≡ cause)
-      → (plan : Plan) (w : World) → Stands b plan w → refusal plan w step ≡ cause
-  step_refused cause refuses plan w s = refused_by plan w (here plan w s) ∙ refuses (histories_of w)
+  pub step_refused : (cause : Option StepError) → IsRefusal old step cause → (plan : Plan) (w : World) → Stands b plan w → refusal plan w step ≡ cause
+  step_refused cause refuses plan w s = refused_by plan w (here plan w s) ∙ refuses.is (histories_of w)
+
+-- the cause is the world's, and not want of memory
+pub own_refusal : (net : Network) (step : Step) (e : StepError) → IsRefusal net step (Some e) → Some e ≡ cause_of e
+own_refusal net step e refuses =
+    subst IsOwnCause (refuses.is nowhere) (own_cause (length net.claimers.items) net.flows.items (world_in nowhere net) step)
 
 -- a bus keeps its choosers
 pub still_bus : (old new : Network) (count : ℕ) → IsBus old count → IsNetwork new → KeepsPlan old new → IsBus new count

@@ -1,12 +1,11 @@
 //! The steps of units that claim addresses (SAE J1939-81).
 ghost use Rattle.std.specs.Prelude.{◌≡◌, ◌<◌, ◌≤◌, ◌+◌, length, vec_len, vec_capacity, OnOk, OnErr};
-ghost use Rattle.j39_findings.specs.declared.plan.Plan.{Plan};
 ghost use Rattle.j39_findings.specs.declared.steps.Step.TheVariants.{Up, Give, Ask};
 ghost use Rattle.j39_world.specs.ClaimSteps.{switched_on, asked, GivenFrom};
 ghost use Rattle.j39_bus.specs.inside.Claims.{HasRoomForOthers};
 ghost use Rattle.j39_queues.specs.Queued.{pair_in};
 ghost use Rattle.j39_bus.specs.BusState.{Histories};
-ghost use Rattle.j39_bus.specs.inside.Network.{IsAllowed, IsNetwork, IsOfPlan, IsSameNetwork, KeepsPlan, HasStepped, planned_units, world_in};
+ghost use Rattle.j39_bus.specs.inside.Network.{IsAllowed, IsNetwork, IsSameNetwork, KeepsPlan, planned_units, world_in, Steps};
 
 use crate::hearing::hear;
 use crate::network::Network;
@@ -20,7 +19,7 @@ impl Network {
         requires allowed { IsAllowed self.old (Up unit) }
         ensures network { IsNetwork self.new }
         ensures plan { KeepsPlan self.old self.new }
-        ensures steps { OnOk result ((plan : Plan) → IsOfPlan plan self.old → HasStepped plan self.old (Up unit) self.new) }
+        ensures steps { OnOk result (Steps self.old (Up unit) self.new) }
         ensures same { OnErr result (IsSameNetwork self.old self.new) }
     {
         self.reserve(unit, 1)?;
@@ -40,7 +39,7 @@ impl Network {
         requires choosers { length choosers.now ≡ length self.old.claimers.items }
         ensures network { IsNetwork self.new }
         ensures plan { KeepsPlan self.old self.new }
-        ensures steps { OnOk result ((plan : Plan) → IsOfPlan plan self.old → HasStepped plan self.old (Give from to) self.new) }
+        ensures steps { OnOk result (Steps self.old (Give from to) self.new) }
         ensures same { OnErr result (IsSameNetwork self.old self.new) }
     {
         self.reserve(to, 1)?;
@@ -54,7 +53,7 @@ impl Network {
         requires allowed { IsAllowed self.old (Ask unit) }
         ensures network { IsNetwork self.new }
         ensures plan { KeepsPlan self.old self.new }
-        ensures steps { OnOk result ((plan : Plan) → IsOfPlan plan self.old → HasStepped plan self.old (Ask unit) self.new) }
+        ensures steps { OnOk result (Steps self.old (Ask unit) self.new) }
         ensures same { OnErr result (IsSameNetwork self.old self.new) }
     {
         self.reserve(unit, 2)?;

@@ -4,7 +4,7 @@ ghost use Rattle.j39_findings.specs.declared.steps.Step.TheVariants.{Up, Give, A
 ghost use Rattle.j39_world.specs.Flows.{can_be_sent};
 ghost use Rattle.j39_bus.specs.Stations.{station_at};
 ghost use Rattle.j39_bus.specs.BusState.{Histories};
-ghost use Rattle.j39_bus.specs.inside.Network.{IsNetwork, refusal_in, world_in};
+ghost use Rattle.j39_bus.specs.inside.Network.{IsNetwork, IsRefusal, world_in};
 ghost use Rattle.j39_id.specs.FirstFault.{first_fault};
 ghost use Rattle.j39_world.specs.Run.{at_ends, begin_refusal, has_address, is_on, pair_refusals, unit_refusals};
 ghost use Rattle.j39_bus.specs.inside.Traffic.{IsFlow};
@@ -28,9 +28,10 @@ fn can_be_sent(flow: &Flow) -> bool
 
 impl Network {
     /// The first cause for which a step is refused, if there is one.
+    #[tactic(auto, using(crate::proofs::Acting::refusal_as))]
     pub(crate) fn refusal(&self, step: &Step) -> Option<StepError>
         requires { IsNetwork self.now }
-        ensures { (h : Histories) → result ≡ refusal_in self.now h step.now }
+        ensures { IsRefusal self.now step.now result }
     {
         match step {
             Step::Up(unit) => self.refusal_of_up(*unit),
@@ -79,7 +80,7 @@ impl Network {
 
     fn refusal_of_up(&self, unit: usize) -> Option<StepError>
         requires { IsNetwork self.now }
-        ensures { (h : Histories) → result ≡ refusal_in self.now h (Up unit) }
+        ensures { IsRefusal self.now (Up unit) result }
     {
         if unit >= self.claimers.len() {
             return Some(StepError::UnknownUnit);
@@ -96,7 +97,7 @@ impl Network {
     // The unit that hears has to be on; the other may be off again.
     fn refusal_of_give(&self, from: usize, to: usize) -> Option<StepError>
         requires { IsNetwork self.now }
-        ensures { (h : Histories) → result ≡ refusal_in self.now h (Give from to) }
+        ensures { IsRefusal self.now (Give from to) result }
     {
         if from >= self.claimers.len() {
             return Some(StepError::UnknownUnit);
@@ -113,7 +114,7 @@ impl Network {
     // Of a unit that asks all others, or is switched off.
     fn refusal_of_ask(&self, unit: usize) -> Option<StepError>
         requires { IsNetwork self.now }
-        ensures { (h : Histories) → result ≡ refusal_in self.now h (Ask unit) }
+        ensures { IsRefusal self.now (Ask unit) result }
     {
         if let Some(error) = self.refusal_of_unit(unit) {
             return Some(error);
@@ -153,7 +154,7 @@ impl Network {
 
     fn refusal_of_emit(&self, unit: usize) -> Option<StepError>
         requires { IsNetwork self.now }
-        ensures { (h : Histories) → result ≡ refusal_in self.now h (Emit unit) }
+        ensures { IsRefusal self.now (Emit unit) result }
     {
         if let Some(error) = self.refusal_of_unit(unit) {
             return Some(error);
@@ -167,7 +168,7 @@ impl Network {
     // Of a unit that takes what another sent, or for which this is lost.
     fn refusal_of_take(&self, from: usize, to: usize) -> Option<StepError>
         requires { IsNetwork self.now }
-        ensures { (h : Histories) → result ≡ refusal_in self.now h (Take from to) }
+        ensures { IsRefusal self.now (Take from to) result }
     {
         if let Some(error) = self.refusal_of_pair(from, to) {
             return Some(error);
@@ -180,7 +181,7 @@ impl Network {
 
     fn refusal_of_late_sender(&self, unit: usize) -> Option<StepError>
         requires { IsNetwork self.now }
-        ensures { (h : Histories) → result ≡ refusal_in self.now h (LateSender unit) }
+        ensures { IsRefusal self.now (LateSender unit) result }
     {
         if let Some(error) = self.refusal_of_unit(unit) {
             return Some(error);
@@ -193,7 +194,7 @@ impl Network {
 
     fn refusal_of_late_receiver(&self, from: usize, to: usize) -> Option<StepError>
         requires { IsNetwork self.now }
-        ensures { (h : Histories) → result ≡ refusal_in self.now h (LateReceiver from to) }
+        ensures { IsRefusal self.now (LateReceiver from to) result }
     {
         if let Some(error) = self.refusal_of_pair(from, to) {
             return Some(error);
@@ -206,7 +207,7 @@ impl Network {
 
     fn refusal_of_rest(&self, unit: usize) -> Option<StepError>
         requires { IsNetwork self.now }
-        ensures { (h : Histories) → result ≡ refusal_in self.now h (Rest unit) }
+        ensures { IsRefusal self.now (Rest unit) result }
     {
         if let Some(error) = self.refusal_of_unit(unit) {
             return Some(error);

@@ -12,9 +12,10 @@ use j39_findings::Step;
 use std::alloc::AllocError;
 
 impl Network {
-    ghost use Rattle.j39_bus.specs.inside.Network.{IsAllowed, IsNetwork, IsOfPlan, IsSameNetwork, KeepsPlan, HasStepped};
+    ghost use Rattle.j39_bus.specs.inside.Network.{IsAllowed, IsNetwork, IsSameNetwork, KeepsPlan, Steps};
 
     /// Does a step that is not refused. Where there is no memory for it, nothing changes.
+    #[tactic(auto, using(crate::proofs::Acting::allowed_as, crate::proofs::Acting::steps_as, crate::proofs::Acting::steps_if_done, crate::proofs::Acting::memory_as))]
     pub(crate) fn act(
         &mut self,
         choosers: &[Box<dyn Choose>],
@@ -25,7 +26,7 @@ impl Network {
         requires allowed { IsAllowed self.old step.now }
         ensures network { IsNetwork self.new }
         ensures plan { KeepsPlan self.old self.new }
-        ensures steps { OnOk result ((plan : Plan) → IsOfPlan plan self.old → HasStepped plan self.old step.now self.new) }
+        ensures steps { OnOk result (Steps self.old step.now self.new) }
         ensures memory { OnErr result (takes_memory step.now ≡ true) }
         ensures same { OnErr result (IsSameNetwork self.old self.new) }
     {

@@ -1,7 +1,6 @@
 //! A unit is switched off.
-ghost use Rattle.j39_findings.specs.declared.plan.Plan.{Plan};
 ghost use Rattle.j39_findings.specs.declared.steps.Step.TheVariants.{Down};
-ghost use Rattle.j39_bus.specs.inside.Network.{IsAllowed, IsNetwork, IsOfPlan, KeepsPlan, HasStepped};
+ghost use Rattle.j39_bus.specs.inside.Network.{IsAllowed, IsNetwork, KeepsPlan, Steps};
 
 use crate::network::Network;
 
@@ -12,7 +11,7 @@ impl Network {
         requires allowed { IsAllowed self.old (Down unit) }
         ensures network { IsNetwork self.new }
         ensures plan { KeepsPlan self.old self.new }
-        ensures steps { (plan : Plan) → IsOfPlan plan self.old → HasStepped plan self.old (Down unit) self.new }
+        ensures steps { Steps self.old (Down unit) self.new }
     {
         self.claims.clear_to(unit);
         self.wire.clear_to(unit);

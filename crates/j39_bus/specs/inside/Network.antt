@@ -88,6 +88,10 @@ abbrev pub HasStepped : Plan → Network → Step → Network → Type 0
 HasStepped plan old step new =
     (h : Histories) → HasHeld h old → (after : Histories) × StepsTo plan (world_in h old) step (world_in after new) × HasHeld after new
 
+-- the step leads from one network to another, for each plan that the first is of
+pub record Steps (old : Network) (step : Step) (new : Network) : Type 0 where
+  pub of_plan : (plan : Plan) → IsOfPlan plan old → HasStepped plan old step new
+
 -- v takes the oldest that u has for it, whatever histories the network has
 abbrev pub TakesOldest : Network → ℕ → ℕ → Network → Type 0
 TakesOldest old u v new =
@@ -98,9 +102,13 @@ TakesOldest old u v new =
 abbrev pub refusal_in : Network → Histories → Step → Option StepError
 refusal_in net h step = refusal_among (length net.claimers.items) net.flows.items (world_in h net) step
 
+-- this is the first cause, whatever histories the network has
+pub record IsRefusal (net : Network) (step : Step) (cause : Option StepError) : Type 0 where
+  pub is : (h : Histories) → refusal_in net h step ≡ cause
+
 -- the step is not refused
 abbrev pub IsAllowed : Network → Step → Type 0
-IsAllowed net step = (h : Histories) → refusal_in net h step ≡ None
+IsAllowed net step = IsRefusal net step None
 
 -- unit v of these has heard the item under the NAME, and is what it then is
 abbrev pub HasAnswered : List ClaimerValue → ℕ → ℕ → Item → Option Say → List ClaimerValue → Type 0

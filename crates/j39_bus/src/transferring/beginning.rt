@@ -2,11 +2,10 @@
 ghost use Rattle.std.specs.Prelude.{◌≡◌, ◌<◌, ◌≤◌, length, vec_len, vec_capacity, OnOk, OnErr, IfOk};
 ghost use Rattle.std.specs.List.{filter, range_with_len};
 ghost use Rattle.j39_id.specs.Limits.{message_bytes};
-ghost use Rattle.j39_findings.specs.declared.plan.Plan.{Plan};
 ghost use Rattle.j39_findings.specs.declared.steps.Step.TheVariants.{Begin};
 ghost use Rattle.j39_bus.specs.BusState.{Histories};
 ghost use Rattle.j39_bus.specs.Stations.{station_at};
-ghost use Rattle.j39_bus.specs.inside.Network.{HasStepped, IsAllowed, IsNetwork, IsOfPlan, IsSameNetwork, KeepsPlan, has_begun, world_in};
+ghost use Rattle.j39_bus.specs.inside.Network.{IsAllowed, IsNetwork, IsSameNetwork, KeepsPlan, has_begun, world_in, Steps};
 ghost use Rattle.j39_bus.specs.inside.Traffic.{HasRoomTo, IsFlow, item_frame};
 ghost use Rattle.j39_world.specs.Sent.{sent_of};
 ghost use Rattle.j39_world.specs.TransferSteps.{begins, targets_of};
@@ -64,7 +63,7 @@ impl Network {
         requires allowed { IsAllowed self.old (Begin place bytes.now) }
         ensures network { IsNetwork self.new }
         ensures plan { KeepsPlan self.old self.new }
-        ensures steps { OnOk result ((plan : Plan) → IsOfPlan plan self.old → HasStepped plan self.old (Begin place bytes.now) self.new) }
+        ensures steps { OnOk result (Steps self.old (Begin place bytes.now) self.new) }
         ensures same { OnErr result (IsSameNetwork self.old self.new) }
     {
         let flow = self.flows[place];

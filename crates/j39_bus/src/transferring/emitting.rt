@@ -1,8 +1,7 @@
 //! A sender goes on.
 ghost use Rattle.std.specs.Prelude.{◌≡◌, ◌<◌, true, length, vec_len, vec_capacity, OnOk, OnErr};
-ghost use Rattle.j39_findings.specs.declared.plan.Plan.{Plan};
 ghost use Rattle.j39_findings.specs.declared.steps.Step.TheVariants.{Emit};
-ghost use Rattle.j39_bus.specs.inside.Network.{IsAllowed, IsNetwork, IsOfPlan, IsSameNetwork, KeepsPlan, HasStepped, world_in};
+ghost use Rattle.j39_bus.specs.inside.Network.{IsAllowed, IsNetwork, IsSameNetwork, KeepsPlan, world_in, Steps};
 ghost use Rattle.j39_bus.specs.BusState.{Histories, session_at};
 ghost use Rattle.j39_world.specs.Run.{can_emit};
 ghost use Rattle.j39_bus.specs.inside.Traffic.{HasRoomAlong};
@@ -19,7 +18,7 @@ impl Network {
         requires allowed { IsAllowed self.old (Emit unit) }
         ensures network { IsNetwork self.new }
         ensures plan { KeepsPlan self.old self.new }
-        ensures steps { OnOk result ((plan : Plan) → IsOfPlan plan self.old → HasStepped plan self.old (Emit unit) self.new) }
+        ensures steps { OnOk result (Steps self.old (Emit unit) self.new) }
         ensures same { OnErr result (IsSameNetwork self.old self.new) }
     {
         self.reserve_along(unit)?;

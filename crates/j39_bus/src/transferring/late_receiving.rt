@@ -1,9 +1,8 @@
 //! A receiver hears nothing in time.
 ghost use Rattle.std.specs.Prelude.{◌≡◌, ◌<◌, length, vec_len, vec_capacity, OnOk, OnErr};
-ghost use Rattle.j39_findings.specs.declared.plan.Plan.{Plan};
 ghost use Rattle.j39_findings.specs.declared.steps.Step.TheVariants.{LateReceiver};
 ghost use Rattle.j39_bus.specs.BusState.{Histories};
-ghost use Rattle.j39_bus.specs.inside.Network.{HasHeld, IsAllowed, IsNetwork, IsOfPlan, IsSameNetwork, KeepsPlan, HasStepped, world_in};
+ghost use Rattle.j39_bus.specs.inside.Network.{HasHeld, IsAllowed, IsNetwork, IsSameNetwork, KeepsPlan, world_in, Steps};
 ghost use Rattle.j39_queues.specs.Queued.{room_at};
 ghost use Rattle.j39_world.specs.TransferSteps.{receiver_timed_out};
 
@@ -18,7 +17,7 @@ impl Network {
         requires allowed { IsAllowed self.old (LateReceiver from to) }
         ensures network { IsNetwork self.new }
         ensures plan { KeepsPlan self.old self.new }
-        ensures steps { OnOk result ((plan : Plan) → IsOfPlan plan self.old → HasStepped plan self.old (LateReceiver from to) self.new) }
+        ensures steps { OnOk result (Steps self.old (LateReceiver from to) self.new) }
         ensures same { OnErr result (IsSameNetwork self.old self.new) }
     {
         self.reserve_replies(to, from, 1)?;

@@ -1,7 +1,6 @@
 //! What is sent is lost.
-ghost use Rattle.j39_findings.specs.declared.plan.Plan.{Plan};
 ghost use Rattle.j39_findings.specs.declared.steps.Step.TheVariants.{Lose};
-ghost use Rattle.j39_bus.specs.inside.Network.{IsAllowed, IsNetwork, IsOfPlan, KeepsPlan, HasStepped};
+ghost use Rattle.j39_bus.specs.inside.Network.{IsAllowed, IsNetwork, KeepsPlan, Steps};
 
 use crate::network::Network;
 
@@ -12,7 +11,7 @@ impl Network {
         requires allowed { IsAllowed self.old (Lose from to) }
         ensures network { IsNetwork self.new }
         ensures plan { KeepsPlan self.old self.new }
-        ensures steps { (plan : Plan) → IsOfPlan plan self.old → HasStepped plan self.old (Lose from to) self.new }
+        ensures steps { Steps self.old (Lose from to) self.new }
     {
         drop(self.wire.pop(from, to));
     }

@@ -1,9 +1,8 @@
 //! A sender rests.
 ghost use Rattle.std.specs.Prelude.{◌≡◌, ◌<◌, length};
-ghost use Rattle.j39_findings.specs.declared.plan.Plan.{Plan};
 ghost use Rattle.j39_findings.specs.declared.steps.Step.TheVariants.{Rest};
 ghost use Rattle.j39_bus.specs.BusState.{Histories};
-ghost use Rattle.j39_bus.specs.inside.Network.{IsAllowed, IsNetwork, IsOfPlan, KeepsPlan, HasStepped, world_in};
+ghost use Rattle.j39_bus.specs.inside.Network.{IsAllowed, IsNetwork, KeepsPlan, world_in, Steps};
 ghost use Rattle.j39_world.specs.Resting.{can_rest, is_over_with};
 
 use crate::network::Network;
@@ -17,7 +16,7 @@ impl Network {
         requires allowed { IsAllowed self.old (Rest unit) }
         ensures network { IsNetwork self.new }
         ensures plan { KeepsPlan self.old self.new }
-        ensures steps { (plan : Plan) → IsOfPlan plan self.old → HasStepped plan self.old (Rest unit) self.new }
+        ensures steps { Steps self.old (Rest unit) self.new }
     {
         self.sessions[unit] = None;
     }

@@ -1,12 +1,11 @@
 //! A unit takes what is sent to it.
 ghost use Rattle.std.specs.Prelude.{◌≡◌, ℕ, ◌+◌, ◌<◌, ◌≤◌, true, [], ◌∷◌, ◌++◌, drop, length, vec_len, vec_capacity, OnOk, OnErr, IfOk};
-ghost use Rattle.j39_findings.specs.declared.plan.Plan.{Plan};
 ghost use Rattle.j39_findings.specs.declared.steps.Step.TheVariants.{Take};
 ghost use Rattle.j39_queues.specs.Queued.{KeepsRoom, pair_in, room_at};
 ghost use Rattle.j39_tp.specs.Receiver.{is_complete};
 ghost use Rattle.j39_tp.specs.Carried.{Carried};
 ghost use Rattle.j39_bus.specs.BusState.{Histories};
-ghost use Rattle.j39_bus.specs.inside.Network.{HasHeld, HasStepped, IsAllowed, IsNetwork, IsOfPlan, IsSameNetwork, KeepsPlan, TakesOldest, has_taken, world_in};
+ghost use Rattle.j39_bus.specs.inside.Network.{HasHeld, IsAllowed, IsNetwork, IsSameNetwork, KeepsPlan, TakesOldest, has_taken, world_in, Steps};
 ghost use Rattle.j39_bus.specs.inside.Traffic.{packet_heard};
 ghost use Rattle.j39_world.specs.TransferSteps.{hearing, packets_in, reaction_of, receiver_replies, report, sender_replies};
 
@@ -49,7 +48,7 @@ impl Network {
         requires allowed { IsAllowed self.old (Take from to) }
         ensures network { IsNetwork self.new }
         ensures plan { KeepsPlan self.old self.new }
-        ensures steps { OnOk result ((plan : Plan) → IsOfPlan plan self.old → HasStepped plan self.old (Take from to) self.new) }
+        ensures steps { OnOk result (Steps self.old (Take from to) self.new) }
         ensures same { OnErr result (IsSameNetwork self.old self.new) }
     {
         let Some(oldest) = oldest(&self.wire, from, to) else {

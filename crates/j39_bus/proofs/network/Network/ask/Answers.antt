@@ -8,18 +8,20 @@ use Rattle.j39_bus.proofs.Steady.{plan_kept, plan_same, steps_after, steps_same}
 use Rattle.j39_bus.proofs.network.Network.ask.Goals as goal
 
 pub reserve-requires-clause-from : goal.reserve-requires-clause-from
-reserve-requires-clause-from c = unit_inside _ _ _ (c.requires.allowed nowhere)
+reserve-requires-clause-from c = unit_inside _ _ _ (c.requires.allowed.is nowhere)
 
 pub request-requires-clause-place : goal.request-requires-clause-place
 request-requires-clause-place c =
-    let inside : c.args.unit < length c.args.self.now.claimers.items = unit_inside _ _ _ (c.requires.allowed nowhere) in
+    let inside : c.args.unit < length c.args.self.now.claimers.items = unit_inside _ _ _ (c.requires.allowed.is nowhere) in
     omega (arith, inside, ap length c.reserve.ensures.same.claimers)
 
 pub returns-clause-steps : goal.returns-clause-steps
-returns-clause-steps c = λ plan of.
-    let net = c.args.self.now in
-    let mid = c.reserve.new.self in
-    let of_mid = plan_kept net mid plan (plan_same net mid c.reserve.ensures.same) of in
-    steps_after net mid c.reserve.ensures.same plan (Ask c.args.unit) c.request.new.self
-    (steps_same plan mid (Ask c.args.unit) c.request.new.self (λ h. c.request.ensures.world h ∙ ap (λ us. asked us (world_in h mid) c.args.unit) of_mid.units)
-    (ap (λ (m : Network). m.receivers) c.request.ensures.rest))
+returns-clause-steps c = record {
+  of_plan = λ plan of.
+      let net = c.args.self.now in
+      let mid = c.reserve.new.self in
+      let of_mid = plan_kept net mid plan (plan_same net mid c.reserve.ensures.same) of in
+      steps_after net mid c.reserve.ensures.same plan (Ask c.args.unit) c.request.new.self
+      (steps_same plan mid (Ask c.args.unit) c.request.new.self (λ h. c.request.ensures.world h ∙ ap (λ us. asked us (world_in h mid) c.args.unit) of_mid.units)
+      (ap (λ (m : Network). m.receivers) c.request.ensures.rest));
+}

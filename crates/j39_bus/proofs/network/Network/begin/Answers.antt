@@ -16,38 +16,40 @@ pub index-requires : goal.index-requires
 index-requires c =
     let net = c.args.self.now in
     let inside = flow_inside (length net.claimers.items) (world_in nowhere net) net.flows.items c.args.place c.args.bytes.now.items
-    (c.requires.allowed nowhere) in
+    (c.requires.allowed.is nowhere) in
     omega (arith, inside, net.flows.ok.0)
 
 pub prepare-requires-clause-flow : goal.prepare-requires-clause-flow
-prepare-requires-clause-flow c = flow_fits c.args.self.now c.requires.network c.args.place c.args.bytes.now.items c.requires.allowed c.index.result.now
+prepare-requires-clause-flow c = flow_fits c.args.self.now c.requires.network c.args.place c.args.bytes.now.items c.requires.allowed.is c.index.result.now
     c.index.ensures
 
 pub start-requires-clause-flow : goal.start-requires-clause-flow
 start-requires-clause-flow c =
-    let fits = flow_fits c.args.self.now c.requires.network c.args.place c.args.bytes.now.items c.requires.allowed c.index.result.now c.index.ensures in
+    let fits = flow_fits c.args.self.now c.requires.network c.args.place c.args.bytes.now.items c.requires.allowed.is c.index.result.now c.index.ensures in
     subst (λ cs. IsFlow (length cs) c.index.result.now) (sym c.prepare.ensures.same.claimers) fits
 
 pub start-requires-clause-bytes : goal.start-requires-clause-bytes
 start-requires-clause-bytes c =
-    let fits = is_in_length c.args.self.now c.requires.network c.args.place c.args.bytes.now.items c.requires.allowed c.index.result.now c.index.ensures in
+    let fits = is_in_length c.args.self.now c.requires.network c.args.place c.args.bytes.now.items c.requires.allowed.is c.index.result.now c.index.ensures in
     omega (arith, fits, ap length c.as_slice.ensures.value)
 
 pub returns-clause-steps : goal.returns-clause-steps
-returns-clause-steps c = λ plan of.
-    let net = c.args.self.now in
-    let r = c.index.result.now in
-    let mid = c.prepare.new.self in
-    let bytes = c.args.bytes.now in
-    let planned = planned_flow net c.requires.network c.args.place bytes.items c.requires.allowed r c.index.ensures plan of in
-    steps_after net mid c.prepare.ensures.same plan (Begin c.args.place bytes) c.start.new.self
-    (λ h held.
-    let after : Histories = has_begun h c.args.place r c.in_ok-targets.targets.items c.as_slice.result.now in
-    let begun : world_in after c.start.new.self ≡ begins (count_of plan) (world_in h mid) c.args.place r bytes.items =
-    c.start.ensures.world h
-    ∙ (λ i. begins ((ap length c.prepare.ensures.same.claimers ∙ sym (units_count plan net of)) i) (world_in h mid) c.args.place r
-    (c.as_slice.ensures.value i)) in (
-      after,
-      subst (λ o. BeginsAt (count_of plan) (world_in h mid) c.args.place o bytes.items (world_in after c.start.new.self)) (sym planned) begun,
-      subst (HoldTaken h.taken) (sym c.start.ensures.receivers) held,
-    ))
+returns-clause-steps c = record {
+  of_plan = λ plan of.
+      let net = c.args.self.now in
+      let r = c.index.result.now in
+      let mid = c.prepare.new.self in
+      let bytes = c.args.bytes.now in
+      let planned = planned_flow net c.requires.network c.args.place bytes.items c.requires.allowed.is r c.index.ensures plan of in
+      steps_after net mid c.prepare.ensures.same plan (Begin c.args.place bytes) c.start.new.self
+      (λ h held.
+      let after : Histories = has_begun h c.args.place r c.in_ok-targets.targets.items c.as_slice.result.now in
+      let begun : world_in after c.start.new.self ≡ begins (count_of plan) (world_in h mid) c.args.place r bytes.items =
+      c.start.ensures.world h
+      ∙ (λ i. begins ((ap length c.prepare.ensures.same.claimers ∙ sym (units_count plan net of)) i) (world_in h mid) c.args.place r
+      (c.as_slice.ensures.value i)) in (
+        after,
+        subst (λ o. BeginsAt (count_of plan) (world_in h mid) c.args.place o bytes.items (world_in after c.start.new.self)) (sym planned) begun,
+        subst (HoldTaken h.taken) (sym c.start.ensures.receivers) held,
+      ));
+}

@@ -16,23 +16,23 @@ use Rattle.j39_bus.proofs.network.Network.down.Goals as goal
 
 pub clear_to-requires : goal.clear_to-requires
 clear_to-requires c =
-    let inside : c.args.unit < length c.args.self.now.claimers.items = unit_inside _ _ _ (c.requires.allowed nowhere) in
+    let inside : c.args.unit < length c.args.self.now.claimers.items = unit_inside _ _ _ (c.requires.allowed.is nowhere) in
     omega (arith, inside, c.requires.network.claims.table.rows)
 
 pub clear_to-requires-2 : goal.clear_to-requires-2
 clear_to-requires-2 c =
-    let inside : c.args.unit < length c.args.self.now.claimers.items = unit_inside _ _ _ (c.requires.allowed nowhere) in
+    let inside : c.args.unit < length c.args.self.now.claimers.items = unit_inside _ _ _ (c.requires.allowed.is nowhere) in
     omega (arith, inside, c.requires.network.traffic.table.rows)
 
 pub index_mut-requires : goal.index_mut-requires
 index_mut-requires c =
-    let inside : c.args.unit < length c.args.self.now.claimers.items = unit_inside _ _ _ (c.requires.allowed nowhere) in
+    let inside : c.args.unit < length c.args.self.now.claimers.items = unit_inside _ _ _ (c.requires.allowed.is nowhere) in
     omega (arith, inside, c.args.self.now.claimers.ok.0)
 
 pub returns-clause-network : goal.returns-clause-network
 returns-clause-network c =
     let cs : List ClaimerValue = c.args.self.now.claimers.items in
-    let inside : c.args.unit < length cs = unit_inside _ _ _ (c.requires.allowed nowhere) in
+    let inside : c.args.unit < length cs = unit_inside _ _ _ (c.requires.allowed.is nowhere) in
     let new : Network = record c.args.self.now {
       claimers = with_item c.args.self.now.claimers c.args.unit c.stop.new.self;
       claims = c.clear_to.new.self;
@@ -49,7 +49,7 @@ returns-clause-network c =
 
 pub returns-clause-plan : goal.returns-clause-plan
 returns-clause-plan c =
-    let inside : c.args.unit < length c.args.self.now.claimers.items = unit_inside _ _ _ (c.requires.allowed nowhere) in
+    let inside : c.args.unit < length c.args.self.now.claimers.items = unit_inside _ _ _ (c.requires.allowed.is nowhere) in
     record {
       planned_units = planned_units_off c.args.self.now.claimers.items c.args.unit inside c.index_mut.result.now c.stop.new.self c.index_mut.ensures.value
           c.stop.ensures;
@@ -58,15 +58,17 @@ returns-clause-plan c =
     }
 
 pub returns-clause-steps : goal.returns-clause-steps
-returns-clause-steps c = λ plan of.
-    let net = c.args.self.now in
-    let inside : c.args.unit < length net.claimers.items = unit_inside _ _ _ (c.requires.allowed nowhere) in
-    let new : Network = record c.args.self.now {
-      claimers = with_item c.args.self.now.claimers c.args.unit c.stop.new.self;
-      claims = c.clear_to.new.self;
-      wire = c.clear_to-2.new.self;
-    } in
-    steps_same plan net (Down c.args.unit) new
-    (λ h. switched_off_world net.claimers.items c.args.unit inside c.index_mut.result.now c.stop.new.self c.index_mut.ensures.value c.stop.ensures
-    (world_in h net) (pair_in net.claims.lists) (pair_in c.clear_to.new.self.lists) (map sent_of net.frames.items) c.clear_to.ensures.lists
-    (pair_in c.clear_to-2.new.self.lists) c.clear_to-2.ensures.lists) refl
+returns-clause-steps c = record {
+  of_plan = λ plan of.
+      let net = c.args.self.now in
+      let inside : c.args.unit < length net.claimers.items = unit_inside _ _ _ (c.requires.allowed.is nowhere) in
+      let new : Network = record c.args.self.now {
+        claimers = with_item c.args.self.now.claimers c.args.unit c.stop.new.self;
+        claims = c.clear_to.new.self;
+        wire = c.clear_to-2.new.self;
+      } in
+      steps_same plan net (Down c.args.unit) new
+      (λ h. switched_off_world net.claimers.items c.args.unit inside c.index_mut.result.now c.stop.new.self c.index_mut.ensures.value c.stop.ensures
+      (world_in h net) (pair_in net.claims.lists) (pair_in c.clear_to.new.self.lists) (map sent_of net.frames.items) c.clear_to.ensures.lists
+      (pair_in c.clear_to-2.new.self.lists) c.clear_to-2.ensures.lists) refl;
+}

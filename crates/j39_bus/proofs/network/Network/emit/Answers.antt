@@ -9,20 +9,22 @@ use Rattle.j39_bus.proofs.Steady.{steps_after}
 use Rattle.j39_bus.proofs.network.Network.emit.Goals as goal
 
 pub reserve_along-requires-clause-unit : goal.reserve_along-requires-clause-unit
-reserve_along-requires-clause-unit c = unit_inside _ _ _ (c.requires.allowed nowhere)
+reserve_along-requires-clause-unit c = unit_inside _ _ _ (c.requires.allowed.is nowhere)
 
 pub send_next-requires-clause-unit : goal.send_next-requires-clause-unit
 send_next-requires-clause-unit c =
-    let inside : c.args.unit < length c.args.self.now.claimers.items = unit_inside _ _ _ (c.requires.allowed nowhere) in
+    let inside : c.args.unit < length c.args.self.now.claimers.items = unit_inside _ _ _ (c.requires.allowed.is nowhere) in
     omega (arith, inside, ap length c.reserve_along.ensures.same.claimers)
 
 pub send_next-requires-clause-next : goal.send_next-requires-clause-next
 send_next-requires-clause-next c =
     ap (λ ts. can_emit (session_at ts c.args.unit)) c.reserve_along.ensures.same.sessions
-    ∙ not-false _ (none_refuses c.args.self.now nowhere (Emit c.args.unit) (c.requires.allowed nowhere)).1.1.0
+    ∙ not-false _ (none_refuses c.args.self.now nowhere (Emit c.args.unit) (c.requires.allowed.is nowhere)).1.1.0
 
 pub returns-clause-steps : goal.returns-clause-steps
-returns-clause-steps c = λ plan planned.
-    let mid = c.reserve_along.new.self in
-    steps_after c.args.self.now mid c.reserve_along.ensures.same plan (Emit c.args.unit) c.send_next.new.self
-    (λ h held. (h, c.send_next.ensures.world h, subst (HoldTaken h.taken) (sym c.send_next.ensures.receivers) held))
+returns-clause-steps c = record {
+  of_plan = λ plan planned.
+      let mid = c.reserve_along.new.self in
+      steps_after c.args.self.now mid c.reserve_along.ensures.same plan (Emit c.args.unit) c.send_next.new.self
+      (λ h held. (h, c.send_next.ensures.world h, subst (HoldTaken h.taken) (sym c.send_next.ensures.receivers) held));
+}

@@ -8,19 +8,21 @@ use Rattle.j39_bus.proofs.Steady.{plan_kept, plan_same, steps_after, steps_same}
 use Rattle.j39_bus.proofs.network.Network.up.Goals as goal
 
 pub reserve-requires-clause-from : goal.reserve-requires-clause-from
-reserve-requires-clause-from c = unit_inside _ _ _ (c.requires.allowed nowhere)
+reserve-requires-clause-from c = unit_inside _ _ _ (c.requires.allowed.is nowhere)
 
 pub switch_on-requires-clause-place : goal.switch_on-requires-clause-place
 switch_on-requires-clause-place c =
-    let inside : c.args.unit < length c.args.self.now.claimers.items = unit_inside _ _ _ (c.requires.allowed nowhere) in
+    let inside : c.args.unit < length c.args.self.now.claimers.items = unit_inside _ _ _ (c.requires.allowed.is nowhere) in
     omega (arith, inside, ap length c.reserve.ensures.same.claimers)
 
 pub returns-clause-steps : goal.returns-clause-steps
-returns-clause-steps c = λ plan of.
-    let net = c.args.self.now in
-    let mid = c.reserve.new.self in
-    let of_mid = plan_kept net mid plan (plan_same net mid c.reserve.ensures.same) of in
-    steps_after net mid c.reserve.ensures.same plan (Up c.args.unit) c.switch_on.new.self
-    (steps_same plan mid (Up c.args.unit) c.switch_on.new.self
-    (λ h. c.switch_on.ensures.world h ∙ ap (λ us. switched_on us (world_in h mid) c.args.unit) of_mid.units)
-    (ap (λ (m : Network). m.receivers) c.switch_on.ensures.rest))
+returns-clause-steps c = record {
+  of_plan = λ plan of.
+      let net = c.args.self.now in
+      let mid = c.reserve.new.self in
+      let of_mid = plan_kept net mid plan (plan_same net mid c.reserve.ensures.same) of in
+      steps_after net mid c.reserve.ensures.same plan (Up c.args.unit) c.switch_on.new.self
+      (steps_same plan mid (Up c.args.unit) c.switch_on.new.self
+      (λ h. c.switch_on.ensures.world h ∙ ap (λ us. switched_on us (world_in h mid) c.args.unit) of_mid.units)
+      (ap (λ (m : Network). m.receivers) c.switch_on.ensures.rest));
+}
