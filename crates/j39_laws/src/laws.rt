@@ -13,6 +13,10 @@ ghost use Rattle.j39_world.specs.Run.{Run, RunsThrough};
 ghost use Rattle.j39_world.specs.Settling.{Settles};
 ghost use Rattle.j39_world.specs.Sound.{AreAddressesSound, AreAddressesDifferent, AreKeptFree, IsQuiet, AreReportsSound, IsAcknowledgedReported};
 
+mod transfers;
+
+pub use transfers::steps_lead_somewhere;
+
 /// In every world of every run of a plan without findings, with all lawful choices, addresses are sound: each unit that is on holds
 /// one, a fixed unit its own, and where no claim is undelivered they are pairwise different.
 pub fn addresses_are_sound()

@@ -8,5 +8,5 @@ pub use certificate::certify;
 pub use laws::{
     acknowledged_messages_were_reported, addresses_are_sound, claims_die_down,
     conflict_runs_show_the_conflict, kept_addresses_stay_free, reports_are_sound,
-    runs_through_are_runs,
+    runs_through_are_runs, steps_lead_somewhere,
 };

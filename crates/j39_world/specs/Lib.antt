@@ -10,6 +10,7 @@ pub mod Resting
 pub mod Run
 pub mod Sound
 pub mod Settling
+pub mod Leading
 pub mod Conflict
 pub mod SoundPlan
 pub mod Opening
