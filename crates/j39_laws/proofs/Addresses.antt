@@ -6,3 +6,5 @@ pub mod Notes
 pub mod Turns
 pub mod AddressSteps
 pub mod SoundAddresses
+pub mod Staying
+pub mod PlannedApart

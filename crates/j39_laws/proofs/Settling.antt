@@ -5,3 +5,4 @@ pub mod Measure
 pub mod Lowered
 pub mod Deliveries
 pub mod SettlingRuns
+pub mod KnownAddresses

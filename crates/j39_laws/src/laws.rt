@@ -11,7 +11,7 @@ ghost use Rattle.j39_world.specs.Conflict.{LeavesWithoutAddress};
 ghost use Rattle.j39_world.specs.Opening.{AreNamesDistinct};
 ghost use Rattle.j39_world.specs.Run.{Run, RunsThrough};
 ghost use Rattle.j39_world.specs.Settling.{Settles};
-ghost use Rattle.j39_world.specs.Sound.{AreAddressesSound, AreAddressesDifferent, AreKeptFree, IsQuiet, AreReportsSound, IsAcknowledgedReported};
+ghost use Rattle.j39_world.specs.Sound.{AreAddressesSound, AreAddressesDifferent, AreKeptFree, AreNotesRight, IsQuiet, AreReportsSound, IsAcknowledgedReported};
 
 mod transfers;
 
@@ -57,4 +57,11 @@ pub fn conflict_runs_show_the_conflict()
 /// What a bus runs without a refusal is a run, so that what holds in every run holds of it.
 pub fn runs_through_are_runs()
     ensures { (plan : Plans) (w : World) (steps : List Steps) (after : World) → RunsThrough plan w steps after → Run plan w steps after }
+{}
+
+/// In every world of every run of a plan whose NAMEs differ, with all lawful choices, where no claim is undelivered, what a unit has
+/// noted of another one, both being on, is the address that this one holds.
+pub fn quiet_notes_are_right()
+    ensures { (plan : Plans) (steps : List Steps) (w : World) → AreNamesDistinct (units_of plan) → Run plan first steps w
+        → IsQuiet w.claims → AreNotesRight plan w }
 {}

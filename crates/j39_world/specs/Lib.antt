@@ -9,6 +9,7 @@ pub mod TransferSteps
 pub mod Resting
 pub mod Run
 pub mod Sound
+pub mod Staying
 pub mod Settling
 pub mod Leading
 pub mod Conflict

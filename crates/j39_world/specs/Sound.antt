@@ -1,5 +1,6 @@
 -- What holds in every world of every run of a plan without findings: addresses are sound, and so are reports.
 use Rattle.std.specs.Prelude.{◌≡◌, ◌≢◌, ℕ, ◌&&◌, nat_eq, true, false, ◌⊎◌, List, [], ◌∷◌, ◌++◌, map, Some, Contains}
+use Rattle.std.specs.FinMap.{get}
 use Rattle.std.specs.FinSet.{contains}
 use Rattle.std.specs.List.{filter}
 use Rattle.j39_tp.specs.declared.sending.outcome.Outcome.TheVariants.{Acked}
@@ -32,6 +33,12 @@ IsQuiet claims = (u v : ℕ) → ((a : ℕ) → ¬ Contains (claims u v) (Told (
 -- two units that are on hold different addresses
 abbrev pub AreAddressesDifferent : World → Type 0
 AreAddressesDifferent w = (u v : ℕ) → u ≢ v → (w.stations u).on ≡ true → (w.stations v).on ≡ true → (w.stations u).address ≢ (w.stations v).address
+
+-- what a unit has noted of another one, both being on, is the address that this one holds
+abbrev pub AreNotesRight : Plan → World → Type 0
+AreNotesRight plan w =
+    (u v a : ℕ) → u ≢ v → (w.stations u).on ≡ true → (w.stations v).on ≡ true
+    → get (w.stations v).notes (unit_at (units_of plan) u).name ≡ Some a → (w.stations u).address ≡ Some a
 
 -- no arbitrary unit that is on holds an address that the plan keeps free
 abbrev pub AreKeptFree : Plan → World → Type 0

@@ -14,7 +14,7 @@ use Rattle.j39_world.specs.World.{Stations, Undelivered, changed, changed_pair}
 use Rattle.j39_world.specs.Sound.{IsClaimUndelivered}
 use Rattle.j39_world.specs.ClaimSteps.{told_to_others, without_lists_to, answer_items}
 use Rattle.j39_laws.proofs.Addresses.AddressInvariant.{AddressInvariant, IsOwn, IsSaid, IsHeld, AllNoted}
-use Rattle.j39_laws.proofs.Addresses.Telling.{still, told, said_more, not_itself}
+use Rattle.j39_laws.proofs.Addresses.Telling.{AllSaid, still, told, said_more, said_without, said_rest, not_itself}
 use Rattle.j39_laws.proofs.Addresses.Turns.{Turn}
 use Rattle.j39_laws.proofs.Runs.Changed.{changed_here, changed_elsewhere, changed_each}
 
@@ -88,8 +88,8 @@ module _ (units : List PlannedUnit) (stations : Stations) (claims : Undelivered)
     abbrev without : Undelivered
     without = without_lists_to u claims
 
-    without_said : (s t : ℕ) → AllByRecursion (IsSaid (unit_at units s)) (without s t)
-    without_said s t = cond_both (eqb t u) [] (claims s t) (AllByRecursion (IsSaid (unit_at units s))) (λ _. tt) (λ _. inv.said s t)
+    without_said : AllSaid (λ k. IsSaid (unit_at units k)) without
+    without_said = said_without (λ k. IsSaid (unit_at units k)) claims u inv.said
 
     without_itself : (s : ℕ) → without s s ≡ []
     without_itself s = cond_both (eqb s u) [] (claims s s) (λ xs. xs ≡ []) (λ _. refl) (λ _. inv.itself s)
@@ -115,7 +115,7 @@ module _ (units : List PlannedUnit) (stations : Stations) (claims : Undelivered)
               (λ z t b z_other t_other c.
               told_still now without u items z t b (without_still claims u z t b z_other t_other (clash_told z t b c)))
               x y a (record { apart = other; one = record { on = on_x; address = address_x }; other = record { on = on_y; address = address_y } });
-          said = said_more now without u items units without_said (own, tt);
+          said = said_more now without u items (λ k. IsSaid (unit_at units k)) without_said (own, tt);
           itself = not_itself now without u items without_itself;
           notes = changed_each (λ x s. AllNoted units x s.notes) stations u (started p)
               (λ n a is. absurd (let e = sym (get-empty {X = ℕ} nat_cmp n) ∙ is in cc)) inv.notes;
@@ -144,7 +144,7 @@ module _ (units : List PlannedUnit) (stations : Stations) (claims : Undelivered)
           holds = inv.holds;
           apart = λ x y a other on_x on_y address_x address_y.
               told_still stations claims u items x y a (inv.apart x y a other on_x on_y address_x address_y);
-          said = said_more stations claims u items units inv.said (tt, (rw has own, tt));
+          said = said_more stations claims u items (λ k. IsSaid (unit_at units k)) inv.said (tt, (rw has own, tt));
           itself = not_itself stations claims u items inv.itself;
           notes = inv.notes;
         }
@@ -174,15 +174,9 @@ module _ (units : List PlannedUnit) (stations : Stations) (claims : Undelivered)
         in_rest item (Told (Claim a)) rest (subst (λ xs. Contains xs (Told (Claim a))) (ap (λ k. claims k v) same ∙ list) had) unlike)
         (λ _. had)
 
-    all_said : (x y : ℕ) → AllByRecursion (IsSaid (unit_at units x)) (mid x y)
+    all_said : AllSaid (λ k. IsSaid (unit_at units k)) mid
     unfolding mid
-    all_said x y =
-        cond_both (eqb x u && eqb y v) rest (claims x y) (AllByRecursion (IsSaid (unit_at units x)))
-        (λ both. let same = and_parts (eqb x u) (eqb y v) both in
-        let whole : AllByRecursion (IsSaid (unit_at units x)) (item ∷ rest) =
-        subst (AllByRecursion (IsSaid (unit_at units x))) ((λ i. claims (eqb-true x u same.0 i) (eqb-true y v same.1 i)) ∙ list) (inv.said x y) in
-        whole.1)
-        (λ _. inv.said x y)
+    all_said = said_rest (λ k. IsSaid (unit_at units k)) claims u v item rest list inv.said
 
     no_list_itself : (x : ℕ) → mid x x ≡ []
     unfolding mid
@@ -233,7 +227,7 @@ module _ (units : List PlannedUnit) (stations : Stations) (claims : Undelivered)
               (λ y z b y_other z_other c.
               told_still (changed stations v new) mid v items y z b (rw (other_list y z z_other, other_list z y y_other) (clash_told y z b c)))
               x y a (record { apart = other; one = record { on = on_x; address = address_x }; other = record { on = on_y; address = address_y } });
-          said = said_more (changed stations v new) mid v items units all_said said_by_v;
+          said = said_more (changed stations v new) mid v items (λ k. IsSaid (unit_at units k)) all_said said_by_v;
           itself = not_itself (changed stations v new) mid v items no_list_itself;
           notes = changed_each (λ x s. AllNoted units x s.notes) stations v new t.notes inv.notes;
         }

@@ -10,7 +10,7 @@ use Rattle.j39_claim.specs.AddressSets.{is_free, free_count}
 use Rattle.j39_claim.specs.ClaimRule.{PlannedUnit}
 use Rattle.j39_id.specs.Name.{is_arbitrary}
 use Rattle.j39_id.specs.Addresses.{in_pool}
-use Rattle.j39_findings.specs.Findings.{Clean, needed_addresses, needs_pool_address}
+use Rattle.j39_findings.specs.Findings.{Clean, Holds, needed_addresses, needs_pool_address}
 use Rattle.j39_findings.specs.declared.checking.finding.Finding.TheVariants.{SameName, SameFixedAddress, TooFewAddresses, KeptAddress}
 use Rattle.j39_findings.specs.declared.plan.Plan.{Plan}
 use Rattle.j39_findings.specs.declared.plan.unit_plan.UnitPlan.{UnitPlan}
@@ -21,14 +21,18 @@ use Rattle.j39_world.specs.Opening.{AreNamesDistinct}
 abbrev pub needs_pool : PlannedUnit → Bool
 needs_pool p = is_arbitrary p.name || (in_pool p.preferred && is_free p.kept p.preferred)
 
+-- no two fixed units have one address
+abbrev pub AreFixedApart : List PlannedUnit → Type 0
+AreFixedApart units =
+    (i j : ℕ) → i < j → j < length units → is_arbitrary (unit_at units i).name ≡ false → is_arbitrary (unit_at units j).name ≡ false
+    → (unit_at units i).preferred ≢ (unit_at units j).preferred
+
 pub record IsClean (units : List PlannedUnit) : Type 0 where
   -- NAMEs have 64 bits
   pub range : (i : ℕ) → i < length units → (unit_at units i).name < 2 ^ 64
   -- no two units have one NAME
   pub names : AreNamesDistinct units
-  -- no two fixed units have one address
-  pub fixed : (i j : ℕ) → i < j → j < length units → is_arbitrary (unit_at units i).name ≡ false → is_arbitrary (unit_at units j).name ≡ false
-      → (unit_at units i).preferred ≢ (unit_at units j).preferred
+  pub fixed : AreFixedApart units
   -- the same addresses are kept free of each unit
   pub kept_free : FinSet nat_cmp
   pub kept : (i : ℕ) → i < length units → (unit_at units i).kept ≡ kept_free
@@ -52,11 +56,33 @@ count kept (p ∷ ps) =
     let planned = sum_by-cons (λ x. cond (needs_pool_address kept x) 1 0) p ps in
     rw (one, planned) (omega (arith, count kept ps))
 
+-- NAMEs have 64 bits
+pub names_in_range : (plan : Plan) (i : ℕ) → i < length (units_of plan) → (unit_at (units_of plan) i).name < 2 ^ 64
+names_in_range plan i inside =
+    let (p, is, at) = placed plan.keep_free plan.units.items i inside in
+    rw at p.name_range
+
+-- where that is no finding
+pub fixed_in_order : (plan : Plan) → ((i j : ℕ) → ¬ Holds plan (SameFixedAddress i j)) → AreFixedApart (units_of plan)
+fixed_in_order plan none i j below inside fixed_i fixed_j same =
+    let (p, p_is, at_i) = placed plan.keep_free plan.units.items i (omega arith) in
+    let (q, q_is, at_j) = placed plan.keep_free plan.units.items j inside in
+    none i j (record {
+      first = p;
+      second = q;
+      below = below;
+      first_is = p_is;
+      second_is = q_is;
+      related = (
+        sym (ap (λ (c : PlannedUnit). is_arbitrary c.name) at_i) ∙ fixed_i,
+        sym (ap (λ (c : PlannedUnit). is_arbitrary c.name) at_j) ∙ fixed_j,
+        sym (ap (λ (c : PlannedUnit). c.preferred) at_i) ∙ same ∙ ap (λ (c : PlannedUnit). c.preferred) at_j,
+      );
+    })
+
 pub clean_units : (plan : Plan) → Clean plan → IsClean (units_of plan)
 clean_units plan clean = record {
-  range = λ i inside.
-      let (p, is, at) = placed plan.keep_free plan.units.items i inside in
-      rw at p.name_range;
+  range = names_in_range plan;
   names = λ i j one.
       let below : i < j = one.below in
       let inside : j < length (units_of plan) = one.inside in
@@ -70,21 +96,7 @@ clean_units plan clean = record {
         second_is = q_is;
         related = sym (ap (λ (c : PlannedUnit). c.name) at_i) ∙ one.same ∙ ap (λ (c : PlannedUnit). c.name) at_j;
       });
-  fixed = λ i j below inside fixed_i fixed_j same.
-      let (p, p_is, at_i) = placed plan.keep_free plan.units.items i (omega arith) in
-      let (q, q_is, at_j) = placed plan.keep_free plan.units.items j inside in
-      clean (SameFixedAddress i j) (record {
-        first = p;
-        second = q;
-        below = below;
-        first_is = p_is;
-        second_is = q_is;
-        related = (
-          sym (ap (λ (c : PlannedUnit). is_arbitrary c.name) at_i) ∙ fixed_i,
-          sym (ap (λ (c : PlannedUnit). is_arbitrary c.name) at_j) ∙ fixed_j,
-          sym (ap (λ (c : PlannedUnit). c.preferred) at_i) ∙ same ∙ ap (λ (c : PlannedUnit). c.preferred) at_j,
-        );
-      });
+  fixed = fixed_in_order plan (λ i j. clean (SameFixedAddress i j));
   kept_free = plan.keep_free;
   kept = λ i inside.
       let (p, is, at) = placed plan.keep_free plan.units.items i inside in

@@ -14,7 +14,7 @@ use Rattle.j39_claim.specs.declared.item.Item.TheVariants.{Told, Request}
 use Rattle.j39_claim.specs.AddressSets.{is_free}
 use Rattle.j39_claim.specs.ClaimRule.{PlannedUnit, ClaimState, Answers, IsFree, claim_of}
 use Rattle.j39_world.specs.PlannedUnits.{unit_at}
-use Rattle.j39_laws.proofs.Addresses.CleanUnits.{IsClean, needs_pool}
+use Rattle.j39_laws.proofs.Addresses.CleanUnits.{IsClean, AreFixedApart, needs_pool}
 use Rattle.j39_laws.proofs.Addresses.AddressInvariant.{IsOwn, IsSaid, IsHeld, AllNoted}
 use Rattle.j39_laws.proofs.Addresses.FreeAddress.{one_left}
 use Rattle.j39_laws.proofs.Addresses.Notes.{inserted_here, inserted_elsewhere, noted, IsLost, claim_cases}
@@ -45,14 +45,14 @@ noted_more units u v a notes inside other own old n b is =
     ]
 
 -- fixed units at two places differ in address
-addresses_differ : (units : List PlannedUnit) → IsClean units → (u v : ℕ) → u < length units → v < length units → u ≢ v
+pub addresses_differ : (units : List PlannedUnit) → AreFixedApart units → (u v : ℕ) → u < length units → v < length units → u ≢ v
     → is_arbitrary (unit_at units u).name ≡ false → is_arbitrary (unit_at units v).name ≡ false
     → (unit_at units u).preferred ≢ (unit_at units v).preferred
-addresses_differ units clean u v in_u in_v other fixed_u fixed_v same =
+addresses_differ units apart u v in_u in_v other fixed_u fixed_v same =
     elim (cases_order u v) [
       | inl is ↦ other is
-      | inr (inl below) ↦ clean.fixed u v below in_v fixed_u fixed_v same
-      | inr (inr above) ↦ clean.fixed v u above in_u fixed_v fixed_u (sym same)
+      | inr (inl below) ↦ apart u v below in_v fixed_u fixed_v same
+      | inr (inr above) ↦ apart v u above in_u fixed_v fixed_u (sym same)
     ]
 
 -- a unit has no note of itself
@@ -94,7 +94,7 @@ free_left units clean v in_v arbitrary s all =
         ]
 
 -- what is below a fixed NAME is fixed
-fixed_below : (m n : ℕ) → m < n → n < 2 ^ 64 → is_arbitrary n ≡ false → is_arbitrary m ≡ false
+pub fixed_below : (m n : ℕ) → m < n → n < 2 ^ 64 → is_arbitrary n ≡ false → is_arbitrary m ≡ false
 fixed_below m n below range fixed = ne_eqb (m / 2 ^ 63 % 2) 1 (λ one. eqb-false (n / 2 ^ 63 % 2) 1 fixed (omega arith))
 
 module _ (units : List PlannedUnit) (clean : IsClean units) (u v : ℕ) (in_u : u < length units) (in_v : v < length units) (other : u ≢ v) (s : ClaimState)
@@ -131,7 +131,7 @@ module _ (units : List PlannedUnit) (clean : IsClean units) (u v : ℕ) (in_u : 
             none arbitrary b free
         | inr fixed ↦
             let fixed_u = fixed_below n (unit_at units v).name below (clean.range v in_v) fixed in
-            addresses_differ units clean u v in_u in_v other fixed_u fixed (sym (own.fixed fixed_u) ∙ (own_held a has).fixed fixed)
+            addresses_differ units clean.fixed u v in_u in_v other fixed_u fixed (sym (own.fixed fixed_u) ∙ (own_held a has).fixed fixed)
       ])
 
   claimed : (a : ℕ) → IsOwn (unit_at units u) a → (says : Option Say) (new : ClaimState)

@@ -119,7 +119,7 @@ module _ (plan : Plan) (distinct : AreNamesDistinct (units_of plan)) (stations :
     give_keeps : AreDeliverable plan (stations_given stations v new) (claims_given stations claims u v rest says new)
     give_keeps = told_more v new unit_v (responds.on ∙ on_v) responds.unclashed (changed_pair claims u v rest) less_by_one (answer_items says)
 
-claim_steps : (plan : Plan) → AreNamesDistinct (units_of plan) → IsKeptByClaimSteps plan (AreDeliverable plan)
+pub claim_steps : (plan : Plan) → AreNamesDistinct (units_of plan) → IsKeptByClaimSteps plan (AreDeliverable plan)
 claim_steps plan distinct = record {
   switched_on = up_keeps plan distinct;
   switched_off = down_keeps plan distinct;

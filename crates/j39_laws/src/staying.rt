@@ -1,0 +1,37 @@
+//! Laws on where units stand.
+ghost use Rattle.std.specs.Prelude.{◌≡◌, ◌<◌, ◌≤◌, ℕ, List, length, false};
+ghost use Rattle.j39_id.specs.Name.{is_arbitrary};
+ghost use Rattle.j39_claim.specs.ClaimRule.{PlannedUnit as PlannedUnits};
+ghost use Rattle.j39_findings.specs.Findings.{Holds};
+ghost use Rattle.j39_findings.specs.declared.plan.Plan.{Plan as Plans};
+ghost use Rattle.j39_findings.specs.declared.checking.finding.Finding.TheVariants.{SameFixedAddress};
+ghost use Rattle.j39_findings.specs.declared.steps.Step.{Step as Steps};
+ghost use Rattle.j39_world.specs.PlannedUnits.{units_of, unit_at};
+ghost use Rattle.j39_world.specs.Run.{Run};
+ghost use Rattle.j39_world.specs.Staying.{ArePlannedApart, ArePlannedApartTo, HoldsPlanned, Stays, StaysByOthers};
+ghost use Rattle.j39_world.specs.World.{World, first};
+
+/// In every world of every run of each plan, with all lawful choices, a unit that stays holds its planned address while it is on. Whether
+/// it stays is told, in rising order of NAME, by those of smaller NAME; a fixed unit stays where no two fixed units have one address.
+pub fn who_stays()
+    ensures held { (plan : Plans) (steps : List Steps) (w : World) → Run plan first steps w
+        → (u : ℕ) → Stays (units_of plan) u → HoldsPlanned (units_of plan) w u }
+    ensures by_others { (units : List PlannedUnits) (u : ℕ) → Stays units u → StaysByOthers units u }
+    ensures from_others { (units : List PlannedUnits) (u : ℕ) → StaysByOthers units u → Stays units u }
+    ensures fixed { (plan : Plans) → ((i j : ℕ) → ¬ Holds plan (SameFixedAddress i j))
+        → (u : ℕ) → u < length (units_of plan) → is_arbitrary (unit_at (units_of plan) u).name ≡ false → Stays (units_of plan) u }
+{}
+
+/// Where no two units are planned with one address no unit ever moves: in every world of every run, with all lawful choices, each unit
+/// that is on holds its planned address.
+pub fn planned_addresses_stay()
+    ensures { (plan : Plans) (steps : List Steps) (w : World) → ArePlannedApart (units_of plan) → Run plan first steps w
+        → (u : ℕ) → HoldsPlanned (units_of plan) w u }
+{}
+
+/// Where no two of the units whose NAMEs are at most some number are planned with one address, none of these ever moves, whatever units
+/// of larger NAMEs do: in every world of every run, with all lawful choices, each of them that is on holds its planned address.
+pub fn smaller_names_are_undisturbed()
+    ensures { (plan : Plans) (limit : ℕ) (steps : List Steps) (w : World) → ArePlannedApartTo limit (units_of plan)
+        → Run plan first steps w → (u : ℕ) → (unit_at (units_of plan) u).name ≤ limit → HoldsPlanned (units_of plan) w u }
+{}

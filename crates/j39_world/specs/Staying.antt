@@ -1,0 +1,47 @@
+-- Where units stand: which of them hold their planned addresses, whatever the others do (SAE J1939-81, address claim procedures). Units
+-- are named by place.
+use Rattle.std.specs.Prelude.{◌≡◌, ◌≢◌, ℕ, ◌<◌, ◌≤◌, true, false, ◌⊎◌, List, length, Some}
+use Rattle.j39_id.specs.Addresses.{in_pool}
+use Rattle.j39_id.specs.Name.{is_arbitrary}
+use Rattle.j39_claim.specs.ClaimRule.{PlannedUnit}
+use Rattle.j39_world.specs.PlannedUnits.{unit_at}
+use Rattle.j39_world.specs.World.{World}
+
+-- the unit, while it is on, holds its planned address
+abbrev pub HoldsPlanned : List PlannedUnit → World → ℕ → Type 0
+HoldsPlanned units w u = (w.stations u).on ≡ true → (w.stations u).address ≡ Some (unit_at units u).preferred
+
+-- no two units are planned with one address
+abbrev pub ArePlannedApart : List PlannedUnit → Type 0
+ArePlannedApart units =
+    (u v : ℕ) → u < length units → v < length units → u ≢ v → (unit_at units u).preferred ≢ (unit_at units v).preferred
+
+-- no two units whose NAMEs are at most this are planned with one address
+abbrev pub ArePlannedApartTo : ℕ → List PlannedUnit → Type 0
+ArePlannedApartTo limit units =
+    (u v : ℕ) → u < length units → v < length units → u ≢ v → (unit_at units u).name ≤ limit → (unit_at units v).name ≤ limit
+    → (unit_at units u).preferred ≢ (unit_at units v).preferred
+
+-- ---- who stays
+
+-- this holds of each unit of smaller NAME
+abbrev pub EachSmaller : List PlannedUnit → ℕ → (ℕ → Type 0) → Type 0
+EachSmaller units u Holds = (v : ℕ) → v < length units → (unit_at units v).name < (unit_at units u).name → Holds v
+
+-- its planned address is that of no unit of smaller NAME, which would take it
+abbrev pub IsFirstThere : List PlannedUnit → ℕ → Type 0
+IsFirstThere units u = EachSmaller units u (λ v. (unit_at units v).preferred ≢ (unit_at units u).preferred)
+
+-- its planned address is one to which no other unit moves
+abbrev pub IsOutsidePool : List PlannedUnit → ℕ → Type 0
+IsOutsidePool units u = in_pool (unit_at units u).preferred ≡ false
+
+-- a unit stays that is the first at its planned address, if that is none to which others move, or none of smaller NAME has to move
+pub record Stays (units : List PlannedUnit) (u : ℕ) : Type 0 where
+  pub first : IsFirstThere units u
+  pub unmoved : IsOutsidePool units u ⊎ EachSmaller units u (λ v. is_arbitrary (unit_at units v).name ≡ true → IsFirstThere units v)
+
+-- the same, told in rising order of NAME: whether a unit stays is told by those of smaller NAME
+abbrev pub StaysByOthers : List PlannedUnit → ℕ → Type 0
+StaysByOthers units u =
+    IsFirstThere units u × (IsOutsidePool units u ⊎ EachSmaller units u (λ v. is_arbitrary (unit_at units v).name ≡ true → Stays units v))
