@@ -13,8 +13,9 @@ use Rattle.j39_world.specs.Run.{Run}
 use Rattle.j39_world.specs.PlannedUnits.{units_of}
 use Rattle.j39_world.specs.Opening.{AreNamesDistinct}
 use Rattle.j39_world.specs.Settling.{Settles}
-use Rattle.j39_world.specs.Sound.{AreAddressesSound, AreAddressesDifferent, AreKeptFree, IsQuiet, AreReportsSound, IsAcknowledgedReported}
+use Rattle.j39_world.specs.Sound.{AreAddressesSound, AreAddressesDifferent, AreNotesRight, AreKeptFree, IsQuiet, AreReportsSound, IsAcknowledgedReported}
 use Rattle.j39_world.specs.SoundPlan.{IsSound}
+use Rattle.j39_world.specs.Staying.{ArePlannedApart, HoldsPlanned}
 use Rattle.j39_laws.proofs.Addresses.CleanUnits.{clean_units}
 
 none_in : (x : Item) → ¬ Contains [] x
@@ -30,16 +31,20 @@ quiet_where_empty claims empty u v = (
 pub sound_by_laws : (plan : Plan) → Clean plan
     → ((p : Plan) (steps : List Step) (w : World) → Clean p → Run p first steps w → AreAddressesSound p w)
     → ((p : Plan) (steps : List Step) (w : World) → Clean p → Run p first steps w → IsQuiet w.claims → AreAddressesDifferent w)
+    → ((p : Plan) (steps : List Step) (w : World) → ArePlannedApart (units_of p) → Run p first steps w → (u : ℕ) → HoldsPlanned (units_of p) w u)
+    → ((p : Plan) (steps : List Step) (w : World) → AreNamesDistinct (units_of p) → Run p first steps w → IsQuiet w.claims → AreNotesRight p w)
     → ((p : Plan) (steps : List Step) (w : World) → Clean p → Run p first steps w → AreKeptFree p w)
     → ((p : Plan) (steps : List Step) (w : World) → AreNamesDistinct (units_of p) → Run p first steps w → Settles p w)
     → ((p : Plan) → Clean p → SoundSignals p)
     → ((p : Plan) (steps : List Step) (w : World) → Run p first steps w → AreReportsSound w)
     → ((p : Plan) (steps : List Step) (w : World) → Run p first steps w → IsAcknowledgedReported w)
     → IsSound plan
-sound_by_laws plan clean addresses different kept settles signals reports acknowledged = record {
+sound_by_laws plan clean addresses different planned notes kept settles signals reports acknowledged = record {
   addresses = λ steps w run. addresses plan steps w clean run;
   quiet = λ steps w run. different plan steps w clean run;
   sending = λ steps w run (u, o, is). different plan steps w clean run (quiet_where_empty w.claims ((reports plan steps w run).delivered u o is));
+  planned = λ apart steps w run. planned plan steps w apart run;
+  notes = λ steps w run. notes plan steps w (clean_units plan clean).names run;
   kept = λ steps w run. kept plan steps w clean run;
   settles = λ steps w run. settles plan steps w (clean_units plan clean).names run;
   signals = signals plan clean;

@@ -3,18 +3,22 @@ ghost use Rattle.j39_world.specs.SoundPlan.{IsSound};
 
 use crate::laws::{
     acknowledged_messages_were_reported, addresses_are_sound, claims_die_down,
-    kept_addresses_stay_free, reports_are_sound,
+    kept_addresses_stay_free, quiet_notes_are_right, reports_are_sound,
 };
+use crate::staying::planned_addresses_stay;
 use j39_findings::{CheckedPlan, signals_are_sound};
 
 /// A checked plan is sound: in every world of every run of it, with all lawful choices and whatever is lost, addresses and reports
-/// are sound, what it keeps free stays free, claims die down, and its signals read back what they were last given. It does nothing
-/// when it runs; it rests on the laws that it calls.
+/// are sound, planned addresses stay where they differ, units that have heard all know one another's addresses, what it keeps free
+/// stays free, claims die down, and its signals read back what they were last given. It does nothing when it runs; it rests on the laws
+/// that it calls.
 pub fn certify(checked: &CheckedPlan)
     ensures sound { IsSound checked.now }
 {
     let _plan = checked.plan();
     addresses_are_sound();
+    planned_addresses_stay();
+    quiet_notes_are_right();
     kept_addresses_stay_free();
     claims_die_down();
     signals_are_sound();

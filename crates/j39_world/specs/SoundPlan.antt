@@ -1,5 +1,5 @@
--- What a plan without findings has: its addresses, its signals and its reports are sound, what it keeps free stays free, and its
--- claims die down.
+-- What a plan without findings has: its addresses, its signals and its reports are sound, planned addresses that differ stay, units
+-- that have heard all know one another, what it keeps free stays free, and its claims die down.
 use Rattle.std.specs.Prelude.{◌≡◌, ℕ, List, Some}
 use Rattle.j39_findings.specs.SoundSignals.{SoundSignals}
 use Rattle.j39_findings.specs.declared.plan.Plan.{Plan}
@@ -7,8 +7,10 @@ use Rattle.j39_findings.specs.declared.steps.Step.{Step}
 use Rattle.j39_world.specs.Transfers.{Outgoing}
 use Rattle.j39_world.specs.World.{World, first}
 use Rattle.j39_world.specs.Run.{Run}
+use Rattle.j39_world.specs.PlannedUnits.{units_of}
 use Rattle.j39_world.specs.Settling.{Settles}
-use Rattle.j39_world.specs.Sound.{AreAddressesSound, AreAddressesDifferent, AreKeptFree, IsQuiet, AreReportsSound, IsAcknowledgedReported}
+use Rattle.j39_world.specs.Sound.{AreAddressesSound, AreAddressesDifferent, AreNotesRight, AreKeptFree, IsQuiet, AreReportsSound, IsAcknowledgedReported}
+use Rattle.j39_world.specs.Staying.{ArePlannedApart, HoldsPlanned}
 
 -- it holds in every world of every run of the plan, with all lawful choices and whatever is lost
 abbrev pub Always : Plan → (World → Type 0) → Type 0
@@ -24,6 +26,10 @@ pub record IsSound (plan : Plan) : Type 0 where
   -- where no claim is undelivered, and while any message is sent, no two units hold one address
   pub quiet : Always plan (λ w. IsQuiet w.claims → AreAddressesDifferent w)
   pub sending : Always plan (λ w. IsSending w → AreAddressesDifferent w)
+  -- where no two units are planned with one address, each that is on holds its planned address
+  pub planned : ArePlannedApart (units_of plan) → Always plan (λ w. (u : ℕ) → HoldsPlanned (units_of plan) w u)
+  -- where no claim is undelivered, what a unit has noted of another that is on is the address that this one holds
+  pub notes : Always plan (λ w. IsQuiet w.claims → AreNotesRight plan w)
   -- no arbitrary unit holds an address that is kept free
   pub kept : Always plan (AreKeptFree plan)
   -- whoever goes on delivering claims comes to an end, where nothing is undelivered
