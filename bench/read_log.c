@@ -1,36 +1,18 @@
-/* Does for one plan what `j39plan read PLAN LOG` does for any: read_log LOG, with examples/tractor_and_implement.toml.
-   The measure of j39plan's speed: one pass over the lines, tables for digits, and a buffer for what is written. */
+/* Does for one plan what `j39plan read PLAN LOG` does for any: read_log LOG, built with -DGROUPS='"tractor_groups.h"', the groups
+   of the plan. The measure of j39plan's speed: one pass over the log, which is read in pieces, tables for digits, and a buffer for
+   what is written. */
 #include <stdint.h>
 #include <stdio.h>
 #include <stdlib.h>
 #include <string.h>
 
-enum { LINE_LIMIT = 8192, INPUT_LIMIT = 16777216, PIECE = 65536, ALL = 255 };
+enum { LINE_LIMIT = 8192, PIECE = 65536, ALL = 255 };
 
 typedef enum { MEASURED, DISCRETE, RAW } Kind;
 typedef struct { const char *label; unsigned start, bits; Kind kind; int64_t offset; const char *unit; } Signal;
 typedef struct { const char *label; uint32_t pgn; size_t length; const Signal *signals; unsigned count; } Group;
 
-static const Signal eec1[] = {
-  {"SPN899", 0, 4, RAW, 0, ""}, {"SPN512", 8, 8, MEASURED, -125, "%"},
-  {"SPN513", 16, 8, MEASURED, -125, "%"}, {"SPN190", 24, 16, MEASURED, 0, "1/8 rpm"}};
-static const Signal et1[] = {{"SPN110", 0, 8, MEASURED, -40, "degC"}, {"SPN175", 16, 16, MEASURED, -8736, "1/32 degC"}};
-static const Signal ccvs[] = {{"SPN70", 2, 2, DISCRETE, 0, ""}, {"SPN84", 8, 16, MEASURED, 0, "1/256 km/h"}};
-static const Signal ec1[] = {
-  {"SPN188", 0, 16, MEASURED, 0, "1/8 rpm"}, {"SPN539", 16, 8, MEASURED, -125, "%"}, {"SPN544", 152, 16, MEASURED, 0, "Nm"}};
-static const Signal etc1[] = {
-  {"SPN560", 0, 2, DISCRETE, 0, ""}, {"SPN191", 8, 16, MEASURED, 0, "1/8 rpm"}, {"SPN161", 40, 16, MEASURED, 0, "1/8 rpm"}};
-static const Signal ebc1[] = {{"SPN563", 4, 2, DISCRETE, 0, ""}, {"SPN521", 8, 8, MEASURED, 0, "0.4 %"}};
-static const Signal tsc1[] = {
-  {"SPN695", 0, 2, RAW, 0, ""}, {"SPN898", 8, 16, MEASURED, 0, "1/8 rpm"}, {"SPN518", 24, 8, MEASURED, -125, "%"}};
-static const Signal vd[] = {{"SPN244", 0, 32, MEASURED, 0, "1/8 km"}, {"SPN245", 32, 32, MEASURED, 0, "1/8 km"}};
-static const Signal process[] = {
-  {"COMMAND", 0, 4, RAW, 0, ""}, {"ELEMENT", 4, 12, RAW, 0, ""}, {"DDI", 16, 16, RAW, 0, ""}, {"VALUE", 32, 32, RAW, 0, ""}};
-
-static const Group groups[] = {
-  {"EEC1", 61444, 8, eec1, 4}, {"ET1", 65262, 8, et1, 2}, {"CCVS", 65265, 8, ccvs, 2}, {"EC1", 65251, 39, ec1, 3},
-  {"VI", 65260, 18, NULL, 0}, {"ETC1", 61442, 8, etc1, 3}, {"EBC1", 61441, 8, ebc1, 2}, {"TSC1", 0, 8, tsc1, 3},
-  {"VD", 65248, 8, vd, 2}, {"PROCESS_DATA", 51968, 8, process, 4}, {"VT_TO_ECU", 58880, 8, NULL, 0}, {"ECU_TO_VT", 59136, 8, NULL, 0}};
+#include GROUPS
 
 typedef struct { int is_open, is_directed; uint32_t pgn; unsigned size, held; uint8_t bytes[1785]; } Listener;
 static Listener *listeners[65536];
@@ -182,19 +164,37 @@ static void read_line(const char *line, size_t length) {
   read_frame(ident, payload, digits / 2);
 }
 
+static char piece[LINE_LIMIT + 1 + PIECE]; /* the line that a piece broke off, and the next piece */
+
+/* Reads the lines that end, and answers where the line begins that doesn't. */
+static const char *read_lines(const char *line, const char *end) {
+  for (const char *feed; (feed = memchr(line, '\n', end - line)); line = feed + 1) read_line(line, feed - line);
+  return line;
+}
+
 int main(int count, char **words) {
   FILE *file = count == 2 ? fopen(words[1], "rb") : NULL;
-  char *log = malloc(INPUT_LIMIT + 1);
-  if (!file || !log) give_up("it takes a log");
-  size_t size = fread(log, 1, INPUT_LIMIT + 1, file);
-  if (ferror(file) || size > INPUT_LIMIT) give_up("device fault, or a log that is too long");
+  size_t kept = 0, size;
+  int is_long = 0; /* the line that was broken off is counted already */
+  if (!file) give_up("it takes a log");
+  setvbuf(file, NULL, _IONBF, 0);
   memset(values, 255, sizeof values);
   for (int i = 0; i < 16; i++) values[(uint8_t)"0123456789ABCDEF"[i]] = values[(uint8_t)"0123456789abcdef"[i]] = i;
-  for (const char *line = log, *end = log + size; line < end;) {
-    const char *feed = memchr(line, '\n', end - line);
-    read_line(line, (feed ? feed : end) - line);
-    line = feed ? feed + 1 : end;
+  while ((size = fread(piece + kept, 1, PIECE, file)) > 0) {
+    const char *line = piece, *end = piece + kept + size;
+    if (is_long) {
+      const char *feed = memchr(line, '\n', end - line);
+      if (!feed) continue;
+      line = feed + 1;
+      is_long = 0;
+    }
+    line = read_lines(line, end);
+    kept = end - line;
+    if (kept > LINE_LIMIT) { bad++; is_long = 1; kept = 0; }
+    memmove(piece, line, kept);
   }
+  if (ferror(file)) give_up("device fault");
+  if (kept) read_line(piece, kept);
   filled += sprintf(out + filled, "frames %lu skipped %lu bad %lu\n", frames, skipped, bad);
   put_out();
   return fclose(stdout) ? 4 : 0;

@@ -2,7 +2,7 @@
 ghost use Rattle.std.specs.Prelude.{◌≡◌, ◌⊎◌, ℕ, List, IfOk, IsErrOf, OnOk, OnSome};
 ghost use Rattle.std.specs.Io.KnownBytes.{Appends, Consumes, IsAtEnd};
 ghost use Rattle.j39_check.specs.PlanText.{IsPlanText, IsRefusedText};
-ghost use Rattle.j39_stream.specs.Streams.{AppendsPart, HasFailed, KeepsLimits, PassesLimits};
+ghost use Rattle.j39_stream.specs.Streams.{AppendsPart, HasFailed, KeepsLimits, PassesLimits, plan_limits};
 
 mod refusals;
 
@@ -23,9 +23,9 @@ pub fn plan_text<S: Source, W: Sink>(
         × IsPlanText input text plan × Appends (W.taken sink.old) (W.taken sink.new) text) }
     ensures silent { IfOk result (λ plan. OnSome plan (sink.new ≡ sink.old)) }
     ensures memory { IsErrOf result Fault.Memory → sink.new ≡ sink.old }
-    ensures limits { OnOk result (KeepsLimits (S.left source.old) (S.left source.new) (S.pulls source.old) (S.pulls source.new)) }
+    ensures limits { OnOk result (KeepsLimits plan_limits (S.left source.old) (S.left source.new) (S.pulls source.old) (S.pulls source.new)) }
     ensures long { IsErrOf result Fault.TooLong → (sink.new ≡ sink.old)
-        × PassesLimits (S.left source.old) (S.left source.new) (S.pulls source.old) (S.pulls source.new) }
+        × PassesLimits plan_limits (S.left source.old) (S.left source.new) (S.pulls source.old) (S.pulls source.new) }
 
     // A call of the source or of the sink failed. What was written is then a prefix of what the file asks for.
     ensures device { IsErrOf result Fault.Device → HasFailed (S.failures source.old) (S.failures source.new)

@@ -2,7 +2,7 @@
 ghost use Rattle.std.specs.Prelude.{◌≡◌, ◌⊎◌, ◌+◌, ◌<◌, ◌≤◌, ◌^◌, ℕ, List, ◌++◌, length, Ok, IfOk, IsErrOf, OnOk, OnErr};
 ghost use Rattle.std.specs.Io.KnownBytes.{Appends, Consumes, IsAtEnd};
 ghost use Rattle.j39_id.specs.Lines.{Line, behind_all, told, told_at_end};
-ghost use Rattle.j39_stream.specs.Streams.{AppendsPart, HasFailed, KeepsLimits, PassesLimits};
+ghost use Rattle.j39_stream.specs.Streams.{AppendsPart, HasFailed, KeepsLimits, PassesLimits, log_limits};
 ghost use Rattle.j39_log.specs.ReadText.{IsLogText, IsReadText, refused_plan_line};
 ghost use Rattle.j39_log.specs.inside.Listening.{IsCatalogOf};
 ghost use Rattle.j39_log.specs.inside.Recalling.{HasReadLines, HasWritten, counted};
@@ -11,7 +11,7 @@ use crate::catalog::{Catalog, CatalogError};
 use crate::log_reading::Reading;
 use j39_findings::Plan;
 use j39_id::Cutter;
-use j39_stream::{Fault, Intake, PIECE_BYTES, Sink, Source, Verdict, put_all};
+use j39_stream::{Fault, Intake, LOG_LIMITS, PIECE_BYTES, Sink, Source, Verdict, put_all};
 use j39_text::{TextBuffer, group_label, put_text};
 use std::alloc::{AllocError, Global};
 
@@ -70,14 +70,14 @@ fn read_log<S: Source, W: Sink>(
         × IsLogText plan.now log text × Appends (W.taken sink.old) (W.taken sink.new) text) }
     ensures cut { OnErr result ((log : List ℕ) × (rest : List ℕ) × (text : List ℕ) × Consumes (S.left source.old) (S.left source.new) (log ++ rest)
         × IsLogText plan.now log text × AppendsPart (W.taken sink.old) (W.taken sink.new) text) }
-    ensures limits { OnOk result (KeepsLimits (S.left source.old) (S.left source.new) (S.pulls source.old) (S.pulls source.new)) }
-    ensures long { IsErrOf result Fault.TooLong → PassesLimits (S.left source.old) (S.left source.new) (S.pulls source.old) (S.pulls source.new) }
+    ensures limits { OnOk result (KeepsLimits log_limits (S.left source.old) (S.left source.new) (S.pulls source.old) (S.pulls source.new)) }
+    ensures long { IsErrOf result Fault.TooLong → PassesLimits log_limits (S.left source.old) (S.left source.new) (S.pulls source.old) (S.pulls source.new) }
     ensures device { IsErrOf result Fault.Device → HasFailed (S.failures source.old) (S.failures source.new)
         ⊎ HasFailed (W.failures sink.old) (W.failures sink.new) }
 {
     let mut reading = Reading::new(alloc);
     let mut cutter = Cutter::new();
-    let mut intake = Intake::new();
+    let mut intake = Intake::new(LOG_LIMITS);
     let mut piece = [0; PIECE_BYTES];
     loop {
         let count = intake.pull(source, &mut piece)?;
@@ -118,8 +118,8 @@ pub fn read_text<S: Source, W: Sink>(
         × Consumes (S.left source.old) (S.left source.new) log
         × IsReadText plan.now log text verdict × Appends (W.taken sink.old) (W.taken sink.new) text) }
     ensures end { result ≡ Ok Verdict.Done → IsAtEnd (S.left source.new) }
-    ensures limits { OnOk result (KeepsLimits (S.left source.old) (S.left source.new) (S.pulls source.old) (S.pulls source.new)) }
-    ensures long { IsErrOf result Fault.TooLong → PassesLimits (S.left source.old) (S.left source.new) (S.pulls source.old) (S.pulls source.new) }
+    ensures limits { OnOk result (KeepsLimits log_limits (S.left source.old) (S.left source.new) (S.pulls source.old) (S.pulls source.new)) }
+    ensures long { IsErrOf result Fault.TooLong → PassesLimits log_limits (S.left source.old) (S.left source.new) (S.pulls source.old) (S.pulls source.new) }
 
     // A call of the source or of the sink failed.
     ensures device { IsErrOf result Fault.Device → HasFailed (S.failures source.old) (S.failures source.new)

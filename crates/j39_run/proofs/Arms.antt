@@ -11,7 +11,7 @@ use Rattle.j39_world.specs.World.{World, first as first_world}
 use Rattle.j39_bus.specs.BusState.{BusState}
 use Rattle.j39_bus.specs.Stands.{Stands}
 use Rattle.j39_schedule.specs.declared.line_fault.LineFault.{LineFault}
-use Rattle.j39_stream.specs.Streams.{AppendsPart, KeepsLimits, input_limit}
+use Rattle.j39_stream.specs.Streams.{AppendsPart, KeepsLimits, plan_limits}
 use Rattle.j39_stream.specs.declared.fault.Fault.{Fault}
 use Rattle.j39_stream.specs.declared.verdict.Verdict.TheVariants.{Done}
 use Rattle.j39_stream.proofs.Parts.{none_taken}
@@ -41,7 +41,7 @@ started plan b text f first p x stands new empty = record {
 
 module _ {plan : Plan} {b : BusState} {place : ℕ} {text : List ℕ} {f : Feeding} {first now : Option (List ℕ)} {p q : ℕ} {x y : Option (List ℕ)}
     (r : IsRunning plan b place text f first now p q x y) where
-  pub few_places : place ≤ input_limit + 1
+  pub few_places : place ≤ plan_limits.bytes + 1
   few_places = few_done plan b r.ls place r.written text r.done first now p q f r.seen r.fed
 
   -- where the text is put and more is read
@@ -89,7 +89,7 @@ module _ {plan : Plan} {b : BusState} {place : ℕ} {text : List ℕ} {f : Feedi
       -- ---- where the run ends
 
       halts : (halt : Halt) (input : List ℕ) → Consumes first now input → Closes plan b halt r.written text now input → (verdict_of halt ≡ Done → IsAtEnd now)
-          → KeepsLimits first now p q → HasHalted plan b text first now p q x y halt
+          → KeepsLimits plan_limits first now p q → HasHalted plan b text first now p q x y halt
       halts halt input consumed closes end limits = record {
         input = input;
         written = r.written;

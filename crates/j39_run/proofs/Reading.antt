@@ -12,7 +12,8 @@ use Rattle.j39_id.specs.declared.cut.Cut.TheVariants as cuts
 use Rattle.j39_id.proofs.CutLines.{tells_lines, told-append, behind_all-append}
 use Rattle.j39_findings.specs.declared.plan.Plan.{Plan}
 use Rattle.j39_stream.specs.Intakes.{HasRead}
-use Rattle.j39_stream.specs.Streams.{KeepsLimits, PassesLimits, input_limit, read_calls}
+use Rattle.j39_stream.specs.Streams.{KeepsLimits, PassesLimits, plan_limits}
+use Rattle.j39_stream.specs.declared.limits.Limits.{Limits}
 use Rattle.j39_stream.proofs.Parts.{front_of, none_read}
 use Rattle.j39_run.specs.declared.next.Next.{Next}
 use Rattle.j39_run.specs.declared.next.Next.TheVariants.{Wait, More, Blank, Step as AStep, Refused, End}
@@ -23,7 +24,7 @@ use Rattle.j39_run.specs.inside.Feeding.{Comes, Feeding, GoesOn, HasEnded, IsEnd
 -- before anything is read
 pub unread : (first : Option (List ℕ)) (pulls : ℕ) → IsFed first first pulls pulls unfed [] []
 unread first pulls = record {
-  read = record { consumed = none_read first; bytes_are = refl; within = omega arith; calls_gave = omega arith; pulls_are = omega arith };
+  read = record { limits_are = refl; consumed = none_read first; bytes_are = refl; within = omega arith; calls_gave = omega arith; pulls_are = omega arith };
   calls = omega arith;
   pending_is = refl;
   told_is = refl;
@@ -31,13 +32,13 @@ unread first pulls = record {
 
 -- the next piece is read, or the end is told
 pub read_on : (first a b : Option (List ℕ)) (p q r : ℕ) (old new : Feeding) (seen : List ℕ) (ls : List Line) (n : ℕ) → old.unread ≡ [] → old.ended ≡ false
-    → new.pending ≡ old.pending → new.ended ≡ (n == 0) → new.counts.calls ≤ read_calls
-    → ((text : List ℕ) → HasRead first a p q old.counts text → 0 < n → HasRead first b p r new.counts (text ++ new.unread))
-    → ((text : List ℕ) → HasRead first a p q old.counts text → n ≡ 0 → Consumes first b text × KeepsLimits first b p r) → (n ≡ 0 → IsAtEnd b)
+    → new.pending ≡ old.pending → new.ended ≡ (n == 0) → new.counts.calls ≤ new.counts.limits.calls
+    → ((text : List ℕ) → HasRead plan_limits first a p q old.counts text → 0 < n → HasRead plan_limits first b p r new.counts (text ++ new.unread))
+    → ((text : List ℕ) → HasRead plan_limits first a p q old.counts text → n ≡ 0 → Consumes first b text × KeepsLimits plan_limits first b p r) → (n ≡ 0 → IsAtEnd b)
     → IsFed first a p q old seen ls → IsFed first b p r new seen ls
 read_on first a b p q r old new seen ls n used going same ends calls more last end fed =
     let before : IsReading first a p q old seen ls = subst (λ (e : Bool). IsFedSo e first a p q old seen ls) going fed in
-    let all : HasRead first a p q old.counts seen = subst (λ (t : List ℕ). HasRead first a p q old.counts t)
+    let all : HasRead plan_limits first a p q old.counts seen = subst (λ (t : List ℕ). HasRead plan_limits first a p q old.counts t)
     (ap (λ (u : List ℕ). seen ++ u) used ∙ append-nil seen) before.read in
     subst (λ (e : Bool). IsFedSo e first b p r new seen ls) (sym ends)
     (elim (cases_Bool (n == 0)) [
@@ -52,7 +53,7 @@ read_on first a b p q r old new seen ls n used going same ends calls more last e
 
 -- what passes the limits
 pub passes : (first a b : Option (List ℕ)) (p q r : ℕ) (old : Feeding) (seen : List ℕ) (ls : List Line) → old.ended ≡ false
-    → ((text : List ℕ) → HasRead first a p q old.counts text → PassesLimits first b p r) → IsFed first a p q old seen ls → PassesLimits first b p r
+    → ((text : List ℕ) → HasRead plan_limits first a p q old.counts text → PassesLimits plan_limits first b p r) → IsFed first a p q old seen ls → PassesLimits plan_limits first b p r
 passes first a b p q r old seen ls going long fed =
     let before : IsReading first a p q old seen ls = subst (λ (e : Bool). IsFedSo e first a p q old seen ls) going fed in
     long (seen ++ old.unread) before.read
@@ -116,9 +117,9 @@ next_part plan next first now p q old new seen part ls more going still same row
     let before : IsReading first now p q old seen ls = subst (λ (e : Bool). IsFedSo e first now p q old seen ls) going fed in
     let all : seen ++ old.unread ≡ (seen ++ part) ++ new.unread = ap (λ (u : List ℕ). seen ++ u) row ∙ sym (append_assoc seen part new.unread) in
     let after : IsReading first now p q new (seen ++ part) (ls ++ more) = record {
-      read = subst (λ c. HasRead first now p q c ((seen ++ part) ++ new.unread)) (sym same)
-          (subst (λ (t : List ℕ). HasRead first now p q old.counts t) all before.read);
-      calls = subst (λ c. c.calls ≤ read_calls) (sym same) before.calls;
+      read = subst (λ c. HasRead plan_limits first now p q c ((seen ++ part) ++ new.unread)) (sym same)
+          (subst (λ (t : List ℕ). HasRead plan_limits first now p q old.counts t) all before.read);
+      calls = subst (λ c. c.calls ≤ c.limits.calls) (sym same) before.calls;
       pending_is = at ∙ ap (λ (r : Pending). behind_all r part) before.pending_is ∙ sym (behind_all-append at_start seen part);
       told_is = ap (λ (l : List Line). l ++ more) before.told_is ∙ ap (λ (m : List Line). told at_start seen ++ m) (sym told_is)
           ∙ ap (λ (r : Pending). told at_start seen ++ told r part) before.pending_is ∙ sym (told-append at_start seen part);
@@ -142,7 +143,7 @@ few_told p (b ∷ bs) =
     omega (arith, one, rest, all)
 
 few_so : (e : Bool) (first now : Option (List ℕ)) (p q : ℕ) (f : Feeding) (seen : List ℕ) (ls : List Line) → IsFedSo e first now p q f seen ls
-    → length ls ≤ input_limit + 1
+    → length ls ≤ plan_limits.bytes + 1
 few_so false first now p q f seen ls fed =
     let count = few_told at_start seen in
     let is = ap length fed.told_is in
@@ -161,7 +162,7 @@ few_so true first now p q f seen ls fed =
     ]
 
 pub few_lines : (first now : Option (List ℕ)) (p q : ℕ) (f : Feeding) (seen : List ℕ) (ls : List Line) → IsFed first now p q f seen ls
-    → length ls ≤ input_limit + 1
+    → length ls ≤ plan_limits.bytes + 1
 few_lines first now p q f seen ls fed = few_so f.ended first now p q f seen ls fed
 
 -- ---- what of the schedule these lines are
@@ -211,7 +212,7 @@ lines_from seen tail =
 
 abbrev pub BeginWith : Option (List ℕ) → Option (List ℕ) → ℕ → ℕ → List Line → Type 0
 BeginWith first now p q ls =
-    (input : List ℕ) × Consumes first now input × KeepsLimits first now p q
+    (input : List ℕ) × Consumes first now input × KeepsLimits plan_limits first now p q
     × ((more : List ℕ) → (IsAtEnd now → more ≡ []) → (rest : List Line) × (lines (input ++ more) ≡ ls ++ rest))
 
 begins_so : (e : Bool) (first now : Option (List ℕ)) (p q : ℕ) (f : Feeding) (seen : List ℕ) (ls : List Line) → IsFedSo e first now p q f seen ls
@@ -219,7 +220,7 @@ begins_so : (e : Bool) (first now : Option (List ℕ)) (p q : ℕ) (f : Feeding)
 begins_so false first now p q f seen ls fed = (
   seen ++ f.unread,
   fed.read.consumed,
-  (seen ++ f.unread, fed.read.consumed, fed.read.within, (f.counts.calls, fed.calls, fed.read.pulls_are)),
+  (seen ++ f.unread, fed.read.consumed, fed.read.within, (f.counts.calls, subst (λ (l : Limits). f.counts.calls ≤ l.calls) fed.read.limits_are fed.calls, fed.read.pulls_are)),
   λ more at_end.
       let (rest, is) = lines_from seen (f.unread ++ more) in
       (rest, ap lines (append_assoc seen f.unread more) ∙ is ∙ ap (λ (l : List Line). l ++ rest) (sym fed.told_is)),

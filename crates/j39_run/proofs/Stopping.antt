@@ -14,7 +14,7 @@ use Rattle.j39_bus.specs.Stands.{Stands}
 use Rattle.j39_world.specs.World.{World}
 use Rattle.j39_schedule.specs.Schedule.{line_order, read_as}
 use Rattle.j39_schedule.specs.declared.line_fault.LineFault.{LineFault}
-use Rattle.j39_stream.specs.Streams.{AppendsPart, KeepsLimits, input_limit}
+use Rattle.j39_stream.specs.Streams.{AppendsPart, KeepsLimits, plan_limits}
 use Rattle.j39_stream.specs.declared.fault.Fault.{Fault}
 use Rattle.j39_stream.specs.declared.fault.Fault.TheVariants.{Memory, Device, TooLong}
 use Rattle.j39_stream.specs.declared.verdict.Verdict.{Verdict}
@@ -49,7 +49,7 @@ on_error (Err e) A a = a
 -- ---- counts
 
 pub few_done : (plan : Plan) (b : BusState) (ls : List Line) (place : ℕ) (written text : List ℕ) → HasDone plan b ls place written text
-    → (first now : Option (List ℕ)) (p q : ℕ) (f : Feeding) (seen : List ℕ) → IsFed first now p q f seen ls → place ≤ input_limit + 1
+    → (first now : Option (List ℕ)) (p q : ℕ) (f : Feeding) (seen : List ℕ) → IsFed first now p q f seen ls → place ≤ plan_limits.bytes + 1
 few_done plan b ls place written text h first now p q f seen fed =
     let few = few_lines first now p q f seen ls fed in
     let count = sym (length-map ls (line_order plan)) ∙ ap length h.read ∙ length-map h.orders read_as ∙ h.count in
@@ -74,7 +74,7 @@ cut_off plan b ls place written text first now then p q f seen x y z fed kept h 
 -- ---- ended
 
 ended_so : (plan : Plan) (first now : Option (List ℕ)) (p q : ℕ) (x z : Option (List ℕ)) (r : Result Verdict Fault) → IfOk r (HasRunTo plan first now x z)
-    → KeepsLimits first now p q → OnErr r (CutOff plan first now x z) → HasEndedSo plan first now p q x z r
+    → KeepsLimits plan_limits first now p q → OnErr r (CutOff plan first now x z) → HasEndedSo plan first now p q x z r
 ended_so plan first now p q x z (Ok verdict) ran limits cut = (ran, limits)
 ended_so plan first now p q x z (Err fault) ran limits cut = cut
 

@@ -6,7 +6,7 @@ use Rattle.std.specs.Io.KnownBytes.{Appends, Consumes, IsAtEnd}
 use Rattle.j39_findings.specs.declared.plan.Plan.{Plan}
 use Rattle.j39_world.specs.declared.bus_error.BusError.{BusError}
 use Rattle.j39_world.specs.Opening.{CanOpen, IsNotOpened}
-use Rattle.j39_stream.specs.Streams.{AppendsPart, KeepsLimits}
+use Rattle.j39_stream.specs.Streams.{AppendsPart, KeepsLimits, plan_limits}
 use Rattle.j39_stream.specs.declared.fault.Fault.{Fault}
 use Rattle.j39_stream.specs.declared.fault.Fault.TheVariants.{Memory, Device, TooLong}
 use Rattle.j39_stream.specs.declared.verdict.Verdict.{Verdict}
@@ -23,7 +23,7 @@ module _ (plan : Plan) (old new : Option (List ℕ)) (p q : ℕ) (x y : Option (
   done_of (Ok verdict) ends = ends.0
   done_of (Err fault) ends = tt
 
-  pub limits_of : (r : Result Verdict Fault) → HasEndedSo plan old new p q x y r → OnOk r (KeepsLimits old new p q)
+  pub limits_of : (r : Result Verdict Fault) → HasEndedSo plan old new p q x y r → OnOk r (KeepsLimits plan_limits old new p q)
   limits_of (Ok verdict) ends = ends.1
   limits_of (Err fault) ends = tt
 

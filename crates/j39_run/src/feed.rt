@@ -3,14 +3,14 @@ ghost use Rattle.std.specs.Prelude.{◌≡◌, ◌≢◌, ◌<◌, ◌≤◌, �
 ghost use Rattle.std.specs.Io.KnownBytes.{Consumes};
 ghost use Rattle.j39_id.specs.Lines.{Line};
 ghost use Rattle.j39_schedule.specs.UnitIndexes.{IsIndexOf};
-ghost use Rattle.j39_stream.specs.Streams.{HasFailed, PassesLimits};
+ghost use Rattle.j39_stream.specs.Streams.{HasFailed, PassesLimits, plan_limits};
 ghost use Rattle.j39_run.specs.inside.Feeding.{Comes, IsFed, IsShorter, to_do, unfed};
 
 use crate::next::{Next, next_of};
 use j39_findings::Plan;
 use j39_id::Cutter;
 use j39_schedule::UnitIndex;
-use j39_stream::{Fault, Intake, PIECE_BYTES, Source};
+use j39_stream::{Fault, Intake, PIECE_BYTES, PLAN_LIMITS, Source};
 use std::alloc::{AllocError, Global};
 use std::marker::Model;
 
@@ -56,7 +56,7 @@ impl Feed {
         ensures { result ≡ unfed }
     {
         Feed {
-            intake: Intake::new(),
+            intake: Intake::new(PLAN_LIMITS),
             cutter: Cutter::new(),
             piece: [0; PIECE_BYTES],
             from: 0,
@@ -75,7 +75,7 @@ impl Feed {
         ensures shorter { OnOk result (to_do self.new < to_do self.old) }
         ensures long { IsErrOf result Fault.TooLong → (first : Option (List ℕ)) (pulls : ℕ) (seen : List ℕ) (ls : List Line)
             → IsFed first (S.left source.old) pulls (S.pulls source.old) self.old seen ls
-            → PassesLimits first (S.left source.new) pulls (S.pulls source.new) }
+            → PassesLimits plan_limits first (S.left source.new) pulls (S.pulls source.new) }
         ensures kept { (first : Option (List ℕ)) (text : List ℕ) → Consumes first (S.left source.old) text
             → (more : List ℕ) × Consumes first (S.left source.new) (text ++ more) }
         ensures device { IsErrOf result Fault.Device → HasFailed (S.failures source.old) (S.failures source.new) }

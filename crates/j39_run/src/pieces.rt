@@ -2,7 +2,7 @@
 ghost use Rattle.std.specs.Prelude.{◌≡◌, ◌⊎◌, ◌<◌, ◌++◌, ℕ, List, Option, [], false, IsErrOf, OnErr, OnOk};
 ghost use Rattle.std.specs.Io.KnownBytes.{Appends, Consumes};
 ghost use Rattle.j39_id.specs.Lines.{Line};
-ghost use Rattle.j39_stream.specs.Streams.{AppendsPart, HasFailed, PassesLimits};
+ghost use Rattle.j39_stream.specs.Streams.{AppendsPart, HasFailed, PassesLimits, plan_limits};
 ghost use Rattle.j39_run.specs.inside.Feeding.{IsFed, to_do};
 
 use crate::feed::Feed;
@@ -27,7 +27,7 @@ pub fn next_piece<S: Source, W: Sink>(
     ensures calm { OnOk result ((S.failures source.new ≡ S.failures source.old) × (W.failures sink.new ≡ W.failures sink.old)) }
     ensures long { IsErrOf result Fault.TooLong → (first : Option (List ℕ)) (pulls : ℕ) (seen : List ℕ) (ls : List Line)
         → IsFed first (S.left source.old) pulls (S.pulls source.old) feed.old seen ls
-        → PassesLimits first (S.left source.new) pulls (S.pulls source.new) }
+        → PassesLimits plan_limits first (S.left source.new) pulls (S.pulls source.new) }
     ensures device { IsErrOf result Fault.Device → HasFailed (S.failures source.old) (S.failures source.new)
         ⊎ HasFailed (W.failures sink.old) (W.failures sink.new) }
     ensures kept { OnErr result ((first : Option (List ℕ)) (text : List ℕ) → Consumes first (S.left source.old) text

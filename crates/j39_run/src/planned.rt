@@ -2,7 +2,7 @@
 ghost use Rattle.std.specs.Prelude.{◌≡◌, ◌⊎◌, ◌++◌, ℕ, List, length, IfOk, IsErrOf, OnErr, OnOk, Some};
 ghost use Rattle.std.specs.Io.KnownBytes.{Appends, Consumes, IsAtEnd};
 ghost use Rattle.j39_run.specs.RunText.{IsRunText};
-ghost use Rattle.j39_stream.specs.Streams.{AppendsPart, HasFailed, KeepsLimits, PassesLimits};
+ghost use Rattle.j39_stream.specs.Streams.{AppendsPart, HasFailed, KeepsLimits, PassesLimits, plan_limits};
 
 use crate::run_text;
 use j39_claim::{Choose, Lowest, Upward};
@@ -24,8 +24,8 @@ pub fn run_planned<S: Source, W: Sink>(
     // The text is that of all that the source had left at the call, however much of it was read.
     ensures whole { IfOk result (λ verdict. (all : List ℕ) → S.left source.old ≡ Some all → (text : List ℕ)
         × IsRunText plan.now (length plan.now.units.items) all text verdict × Appends (W.taken sink.old) (W.taken sink.new) text) }
-    ensures limits { OnOk result (KeepsLimits (S.left source.old) (S.left source.new) (S.pulls source.old) (S.pulls source.new)) }
-    ensures long { IsErrOf result Fault.TooLong → PassesLimits (S.left source.old) (S.left source.new) (S.pulls source.old) (S.pulls source.new) }
+    ensures limits { OnOk result (KeepsLimits plan_limits (S.left source.old) (S.left source.new) (S.pulls source.old) (S.pulls source.new)) }
+    ensures long { IsErrOf result Fault.TooLong → PassesLimits plan_limits (S.left source.old) (S.left source.new) (S.pulls source.old) (S.pulls source.new) }
 
     // A call of the source or of the sink failed.
     ensures device { IsErrOf result Fault.Device → HasFailed (S.failures source.old) (S.failures source.new)

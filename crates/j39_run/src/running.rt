@@ -5,7 +5,7 @@ ghost use Rattle.j39_world.specs.Run.{cause_of};
 ghost use Rattle.j39_world.specs.World.{first};
 ghost use Rattle.j39_schedule.specs.UnitIndexes.{IsIndexOf};
 ghost use Rattle.j39_run.specs.inside.Ending.{HasEndedSo};
-ghost use Rattle.j39_stream.specs.Streams.{HasFailed, PassesLimits};
+ghost use Rattle.j39_stream.specs.Streams.{HasFailed, PassesLimits, plan_limits};
 
 use crate::closing::close;
 use crate::due::{Due, next_due};
@@ -45,7 +45,7 @@ pub fn run_bus<S: Source, W: Sink>(
     requires stands { Stands bus plan.now first }
     ensures ends { HasEndedSo plan.now (S.left source.old) (S.left source.new) (S.pulls source.old) (S.pulls source.new)
         (W.taken sink.old) (W.taken sink.new) result }
-    ensures long { IsErrOf result Fault.TooLong → PassesLimits (S.left source.old) (S.left source.new) (S.pulls source.old) (S.pulls source.new) }
+    ensures long { IsErrOf result Fault.TooLong → PassesLimits plan_limits (S.left source.old) (S.left source.new) (S.pulls source.old) (S.pulls source.new) }
     ensures device { IsErrOf result Fault.Device → HasFailed (S.failures source.old) (S.failures source.new)
         ⊎ HasFailed (W.failures sink.old) (W.failures sink.new) }
 {

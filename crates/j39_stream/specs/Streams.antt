@@ -4,6 +4,7 @@ use Rattle.std.specs.Prelude.{Bool, if◌then◌else◌, List, length, take, Opt
 use Rattle.std.specs.Result.{result_unwrap_or}
 use Rattle.std.specs.Io.KnownBytes.{Appends, Consumes}
 use Rattle.j39_stream.specs.declared.failed.Failed.{Failed}
+use Rattle.j39_stream.specs.declared.limits.Limits.{Limits}
 
 -- a count after n more calls: it grows up to the largest number of 64 bits
 abbrev pub after_calls : ℕ → ℕ → ℕ
@@ -32,28 +33,28 @@ HasFailed old new = (old < new) ⊎ (2 ^ 64 - 1 ≤ old)
 abbrev pub AppendsPart : Option (List ℕ) → Option (List ℕ) → List ℕ → Type 0
 AppendsPart old new text = (n : ℕ) × Appends old new (take n text)
 
--- more bytes came than the limit, or all the calls were made and each of them gave a byte
-abbrev pub IsTooLong : ℕ → ℕ → List ℕ → ℕ → ℕ → Type 0
-IsTooLong limit calls bytes old_pulls new_pulls =
-    (limit < length bytes) ⊎ ((calls ≤ length bytes) × (new_pulls ≡ after_calls old_pulls calls))
-
 -- ---- limits
 
--- the most bytes that an input may have
-abbrev pub input_limit : ℕ
-input_limit = 16777216
+-- those of a plan, of a schedule, and of the frame that stands on standard input
+abbrev pub plan_limits : Limits
+plan_limits = record { bytes = 16777216; calls = 1048576 }
 
--- the most calls that may read an input, the one that tells its end among them
-abbrev pub read_calls : ℕ
-read_calls = 1048576
+-- those of a log: no count of its bytes, calls or lines wraps at 64 bits
+abbrev pub log_limits : Limits
+log_limits = record { bytes = 2 ^ 62; calls = 2 ^ 62 }
 
 -- what a source gave between these, in the calls that were counted, keeps the limits
-abbrev pub KeepsLimits : Option (List ℕ) → Option (List ℕ) → ℕ → ℕ → Type 0
-KeepsLimits old new old_pulls new_pulls =
-    (bytes : List ℕ) × Consumes old new bytes × (length bytes ≤ input_limit)
-    × ((n : ℕ) × (n ≤ read_calls) × (new_pulls ≡ after_calls old_pulls n))
+abbrev pub KeepsLimits : Limits → Option (List ℕ) → Option (List ℕ) → ℕ → ℕ → Type 0
+KeepsLimits limits old new old_pulls new_pulls =
+    (bytes : List ℕ) × Consumes old new bytes × (length bytes ≤ limits.bytes)
+    × ((n : ℕ) × (n ≤ limits.calls) × (new_pulls ≡ after_calls old_pulls n))
+
+-- more bytes came than the limit, or all the calls were made and each of them gave a byte
+abbrev pub IsTooLong : Limits → List ℕ → ℕ → ℕ → Type 0
+IsTooLong limits bytes old_pulls new_pulls =
+    (limits.bytes < length bytes) ⊎ ((limits.calls ≤ length bytes) × (new_pulls ≡ after_calls old_pulls limits.calls))
 
 -- it passes them
-abbrev pub PassesLimits : Option (List ℕ) → Option (List ℕ) → ℕ → ℕ → Type 0
-PassesLimits old new old_pulls new_pulls =
-    (bytes : List ℕ) × Consumes old new bytes × IsTooLong input_limit read_calls bytes old_pulls new_pulls
+abbrev pub PassesLimits : Limits → Option (List ℕ) → Option (List ℕ) → ℕ → ℕ → Type 0
+PassesLimits limits old new old_pulls new_pulls =
+    (bytes : List ℕ) × Consumes old new bytes × IsTooLong limits bytes old_pulls new_pulls

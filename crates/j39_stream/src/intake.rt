@@ -2,55 +2,60 @@
 ghost use Rattle.std.specs.Prelude.{◌≡◌, ◌≢◌, ◌<◌, ◌≤◌, ◌++◌, ℕ, List, Option, length, take, Err, IfOk, OnOk, IsErrOf};
 ghost use Rattle.std.specs.Io.KnownBytes.{Consumes, IsAtEnd};
 ghost use Rattle.j39_stream.specs.Intakes.{HasRead, no_counts};
-ghost use Rattle.j39_stream.specs.Streams.{HasFailed, KeepsLimits, PassesLimits, read_calls};
+ghost use Rattle.j39_stream.specs.declared.limits.Limits.{Limits as SomeLimits};
+ghost use Rattle.j39_stream.specs.Streams.{HasFailed, KeepsLimits, PassesLimits};
 
-use crate::loading::{INPUT_LIMIT, READ_CALLS};
-use crate::{Fault, Source};
+use crate::{Fault, Limits, Source};
 use std::marker::Model;
 
 /// The most bytes of a piece of an input that is read piece by piece.
 pub const PIECE_BYTES: usize = 4096;
 
-/// Counts what is read of an input, and reads no more of it than the limits allow.
+/// Counts what is read of an input, and reads no more of it than its limits allow.
 #[derive(Drop)]
 pub struct Intake {
-    bytes: usize,
-    calls: u32,
+    limits: Limits,
+    bytes: u64,
+    calls: u64,
 }
 
 impl Model for Intake {
     ghost use Rattle.std.specs.Prelude.{◌≤◌};
     ghost use Rattle.j39_stream.specs.Intakes.{Counts};
-    ghost use Rattle.j39_stream.specs.Streams.{input_limit, read_calls};
 
     ghost Value = { Counts };
 
-    ghost view = { λ intake. record { bytes = intake.bytes; calls = intake.calls } };
+    ghost view = { λ intake. record { limits = intake.limits; bytes = intake.bytes; calls = intake.calls } };
 
-    ghost invariant = { λ intake. (intake.bytes ≤ input_limit) × (intake.calls ≤ read_calls) };
+    ghost invariant = { λ intake. (intake.bytes ≤ intake.limits.bytes) × (intake.calls ≤ intake.limits.calls) };
 }
 
 impl Intake {
-    pub fn new() -> Self
-        ensures { result ≡ no_counts }
+    pub fn new(limits: Limits) -> Self
+        ensures { result ≡ no_counts limits }
     {
-        Intake { bytes: 0, calls: 0 }
+        Intake {
+            limits,
+            bytes: 0,
+            calls: 0,
+        }
     }
 
     /// Reads the next piece, and answers how many bytes it has; 0 is the end.
     pub fn pull<S: Source>(&mut self, source: &mut S, piece: &mut [u8]) -> Result<usize, Fault>
         requires { 0 < length piece.old }
         ensures count { IfOk result (λ n. n ≤ length piece.old) }
-        ensures more { IfOk result (λ n. (first : Option (List ℕ)) (pulls : ℕ) (text : List ℕ)
-            → HasRead first (S.left source.old) pulls (S.pulls source.old) self.old text
-            → 0 < n → HasRead first (S.left source.new) pulls (S.pulls source.new) self.new (text ++ take n piece.new)) }
-        ensures fewer { OnOk result (self.old.calls < self.new.calls × self.new.calls ≤ read_calls) }
+        ensures more { IfOk result (λ n. (limits : SomeLimits) (first : Option (List ℕ)) (pulls : ℕ) (text : List ℕ)
+            → HasRead limits first (S.left source.old) pulls (S.pulls source.old) self.old text
+            → 0 < n → HasRead limits first (S.left source.new) pulls (S.pulls source.new) self.new (text ++ take n piece.new)) }
+        ensures fewer { OnOk result (self.old.calls < self.new.calls × self.new.calls ≤ self.new.limits.calls) }
+        ensures same { self.new.limits ≡ self.old.limits }
         ensures end { IfOk result (λ n. n ≡ 0 → IsAtEnd (S.left source.new)) }
-        ensures last { IfOk result (λ n. (first : Option (List ℕ)) (pulls : ℕ) (text : List ℕ)
-            → HasRead first (S.left source.old) pulls (S.pulls source.old) self.old text
-            → n ≡ 0 → Consumes first (S.left source.new) text × KeepsLimits first (S.left source.new) pulls (S.pulls source.new)) }
-        ensures long { IsErrOf result Fault.TooLong → (first : Option (List ℕ)) (pulls : ℕ) (text : List ℕ)
-            → HasRead first (S.left source.old) pulls (S.pulls source.old) self.old text → PassesLimits first (S.left source.new) pulls (S.pulls source.new) }
+        ensures last { IfOk result (λ n. (limits : SomeLimits) (first : Option (List ℕ)) (pulls : ℕ) (text : List ℕ)
+            → HasRead limits first (S.left source.old) pulls (S.pulls source.old) self.old text
+            → n ≡ 0 → Consumes first (S.left source.new) text × KeepsLimits limits first (S.left source.new) pulls (S.pulls source.new)) }
+        ensures long { IsErrOf result Fault.TooLong → (limits : SomeLimits) (first : Option (List ℕ)) (pulls : ℕ) (text : List ℕ)
+            → HasRead limits first (S.left source.old) pulls (S.pulls source.old) self.old text → PassesLimits limits first (S.left source.new) pulls (S.pulls source.new) }
 
         // What was read before is read still, whatever the answer.
         ensures kept { (first : Option (List ℕ)) (text : List ℕ) → Consumes first (S.left source.old) text
@@ -59,17 +64,17 @@ impl Intake {
         ensures calm { result ≢ Err Fault.Device → S.failures source.new ≡ S.failures source.old }
         ensures no_memory { result ≢ Err Fault.Memory }
     {
-        if self.calls == READ_CALLS {
+        if self.calls == self.limits.calls {
             return Err(Fault::TooLong);
         }
         self.calls += 1;
         let Ok(count) = source.pull(piece) else {
             return Err(Fault::Device);
         };
-        if INPUT_LIMIT - self.bytes < count {
+        if self.limits.bytes - self.bytes < count as u64 {
             return Err(Fault::TooLong);
         }
-        self.bytes += count;
+        self.bytes += count as u64;
         Ok(count)
     }
 }

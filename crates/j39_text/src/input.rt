@@ -4,7 +4,7 @@ ghost use Rattle.std.specs.List.{before_first, position};
 ghost use Rattle.std.specs.Io.KnownBytes.{Appends, Consumes, IsAtEnd};
 ghost use Rattle.j39_text.specs.FrameText.{IsFrameText};
 ghost use Rattle.j39_id.specs.Lines.{is_line_feed};
-ghost use Rattle.j39_stream.specs.Streams.{AppendsPart, HasFailed, KeepsLimits, PassesLimits};
+ghost use Rattle.j39_stream.specs.Streams.{AppendsPart, HasFailed, KeepsLimits, PassesLimits, plan_limits};
 
 use crate::frame_text;
 use j39_stream::{Fault, Sink, Source, Verdict, load};
@@ -39,9 +39,9 @@ pub fn input_text<S: Source, W: Sink>(
         × IsFrameText (before_first is_line_feed input) text verdict
         × Appends (W.taken sink.old) (W.taken sink.new) text) }
     ensures memory { IsErrOf result Fault.Memory → sink.new ≡ sink.old }
-    ensures limits { OnOk result (KeepsLimits (S.left source.old) (S.left source.new) (S.pulls source.old) (S.pulls source.new)) }
+    ensures limits { OnOk result (KeepsLimits plan_limits (S.left source.old) (S.left source.new) (S.pulls source.old) (S.pulls source.new)) }
     ensures long { IsErrOf result Fault.TooLong → (sink.new ≡ sink.old)
-        × PassesLimits (S.left source.old) (S.left source.new) (S.pulls source.old) (S.pulls source.new) }
+        × PassesLimits plan_limits (S.left source.old) (S.left source.new) (S.pulls source.old) (S.pulls source.new) }
 
     // A call of the source or of the sink failed. What was written is then a prefix of what the first line asks for.
     ensures device { IsErrOf result Fault.Device → HasFailed (S.failures source.old) (S.failures source.new)

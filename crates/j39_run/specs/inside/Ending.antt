@@ -6,7 +6,7 @@ use Rattle.j39_bus.specs.Stands.{Stands}
 use Rattle.j39_findings.specs.declared.plan.Plan.{Plan}
 use Rattle.j39_findings.specs.declared.steps.Step.{Step}
 use Rattle.j39_id.specs.Lines.{Line}
-use Rattle.j39_stream.specs.Streams.{AppendsPart, KeepsLimits, input_limit}
+use Rattle.j39_stream.specs.Streams.{AppendsPart, KeepsLimits, plan_limits}
 use Rattle.j39_stream.specs.declared.fault.Fault.{Fault}
 use Rattle.j39_stream.specs.declared.verdict.Verdict.{Verdict}
 use Rattle.j39_stream.specs.declared.verdict.Verdict.TheVariants.{Done}
@@ -43,7 +43,7 @@ pub record HasHalted (plan : Plan) (b : BusState) (text : List ℕ) (old new : O
   pub taken : Appends taken_old taken_new written
   pub closes : Closes plan b halt written text new input
   pub end : verdict_of halt ≡ Done → IsAtEnd new
-  pub limits : KeepsLimits old new old_pulls new_pulls
+  pub limits : KeepsLimits plan_limits old new old_pulls new_pulls
   pub units : length b.units ≡ length plan.units.items
   pub cut : CutOff plan old new taken_old taken_new
 
@@ -71,7 +71,7 @@ pub record IsDue (plan : Plan) (b : BusState) (place : ℕ) (text : List ℕ) (f
       → IsRunning plan after (place + 1) more f old new old_pulls new_pulls taken_old taken_new
   pub refused : (cause : StepError) → ((w : World) → Stands b plan w → refusal plan w step ≡ Some cause)
       → HasHalted plan b text old new old_pulls new_pulls taken_old taken_new (AtStep place cause)
-  pub few : place ≤ input_limit + 1
+  pub few : place ≤ plan_limits.bytes + 1
   pub cut : CutOff plan old new taken_old taken_new
 
 -- what comes next of a run
@@ -101,5 +101,5 @@ EndsSo plan b text old new old_pulls new_pulls taken_old taken_new (Err fault) =
 -- how the whole run ended
 abbrev pub HasEndedSo : Plan → Option (List ℕ) → Option (List ℕ) → ℕ → ℕ → Option (List ℕ) → Option (List ℕ) → Result Verdict Fault → Type 0
 HasEndedSo plan old new old_pulls new_pulls taken_old taken_new (Ok verdict) =
-    HasRunTo plan old new taken_old taken_new verdict × KeepsLimits old new old_pulls new_pulls
+    HasRunTo plan old new taken_old taken_new verdict × KeepsLimits plan_limits old new old_pulls new_pulls
 HasEndedSo plan old new old_pulls new_pulls taken_old taken_new (Err fault) = CutOff plan old new taken_old taken_new

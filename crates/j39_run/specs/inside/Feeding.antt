@@ -5,7 +5,7 @@ use Rattle.j39_id.specs.Lines.{Line, Pending, at_start, behind_all, lines, told,
 use Rattle.j39_findings.specs.declared.plan.Plan.{Plan}
 use Rattle.j39_schedule.specs.Schedule.{line_order, read_as}
 use Rattle.j39_stream.specs.Intakes.{Counts, HasRead, no_counts}
-use Rattle.j39_stream.specs.Streams.{KeepsLimits, input_limit, read_calls}
+use Rattle.j39_stream.specs.Streams.{KeepsLimits, plan_limits}
 use Rattle.j39_run.specs.declared.next.Next.{Next}
 use Rattle.j39_run.specs.declared.next.Next.TheVariants.{Wait, More, Blank, Step as AStep, Refused, End}
 
@@ -17,14 +17,14 @@ pub record Feeding : Type 0 where
   pub ended : Bool
 
 abbrev pub unfed : Feeding
-unfed = record { counts = no_counts; unread = []; pending = at_start; ended = false }
+unfed = record { counts = no_counts plan_limits; unread = []; pending = at_start; ended = false }
 
 -- ---- between a source as it was first and as it is now
 
 -- this much of the schedule is told, by these lines; what is unread came behind it
 pub record IsReading (first now : Option (List ℕ)) (first_pulls pulls : ℕ) (f : Feeding) (seen : List ℕ) (ls : List Line) : Type 0 where
-  pub read : HasRead first now first_pulls pulls f.counts (seen ++ f.unread)
-  pub calls : f.counts.calls ≤ read_calls
+  pub read : HasRead plan_limits first now first_pulls pulls f.counts (seen ++ f.unread)
+  pub calls : f.counts.calls ≤ f.counts.limits.calls
   pub pending_is : f.pending ≡ behind_all at_start seen
   pub told_is : ls ≡ told at_start seen
 
@@ -36,8 +36,8 @@ IsEnding p seen ls = ((ls ≡ told at_start seen) × (p ≡ behind_all at_start 
 pub record HasEnded (first now : Option (List ℕ)) (first_pulls pulls : ℕ) (f : Feeding) (seen : List ℕ) (ls : List Line) : Type 0 where
   pub consumed : Consumes first now seen
   pub end : IsAtEnd now
-  pub limits : KeepsLimits first now first_pulls pulls
-  pub within : length seen ≤ input_limit
+  pub limits : KeepsLimits plan_limits first now first_pulls pulls
+  pub within : length seen ≤ plan_limits.bytes
   pub told_is : IsEnding f.pending seen ls
 
 abbrev pub IsFedSo : Bool → Option (List ℕ) → Option (List ℕ) → ℕ → ℕ → Feeding → List ℕ → List Line → Type 0
@@ -79,7 +79,7 @@ left_in false f = 1 + length f.unread
 left_in true f = length (told_at_end f.pending)
 
 abbrev pub to_do : Feeding → ℕ
-to_do f = (read_calls - f.counts.calls) * 4098 + left_in f.ended f
+to_do f = (f.counts.limits.calls - f.counts.calls) * 4098 + left_in f.ended f
 
 abbrev pub IsShorter : Next → Feeding → Feeding → Type 0
 IsShorter Wait old new = (new ≡ old) × (old.unread ≡ []) × (old.ended ≡ false)

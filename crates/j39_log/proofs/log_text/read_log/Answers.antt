@@ -7,6 +7,8 @@ use Rattle.std.proofs.lemmas.Result.{IfOk-weaker, IfErr-weaker}
 use Rattle.j39_id.specs.Lines.{at_start, behind_all, told, told_at_end}
 use Rattle.j39_id.proofs.CutLines.{behind_all-append}
 use Rattle.j39_stream.specs.Intakes.{Counts}
+use Rattle.j39_stream.specs.Streams.{log_limits}
+use Rattle.j39_stream.specs.declared.limits.Limits.{Limits}
 use Rattle.j39_stream.specs.declared.fault.Fault.TheVariants.{Device, TooLong}
 use Rattle.j39_log.specs.ReadText.{count_line}
 use Rattle.j39_log.specs.inside.Recalling.{HasWritten}
@@ -19,10 +21,12 @@ pub loop-reading-init : goal.loop-reading-init
 loop-reading-init g c =
     let bytes = ap (λ (counts : Counts). counts.bytes) c.new-intake.ensures in
     let calls = ap (λ (counts : Counts). counts.calls) c.new-intake.ensures in
+    let limits = ap (λ (counts : Counts). counts.limits) c.new-intake.ensures in
     let count = c.new-reading.ensures.count in (
       [],
       [],
       record {
+        limits_are = limits;
         consumed = none_read (g.S.Source.left c.args.source.now);
         bytes_are = bytes;
         within = omega arith;
@@ -51,7 +55,7 @@ pub returns-in_err-count-clause-long : goal.returns-in_err-count-clause-long
 returns-in_err-count-clause-long g c err =
     let before = c.loop-reading.invariant in
     let long : IsErrOf c.pull.result TooLong = search rules in
-    c.pull.ensures.long long (g.S.Source.left c.args.source.now) (g.S.Source.pulls c.args.source.now) before.0 before.2
+    c.pull.ensures.long long log_limits (g.S.Source.left c.args.source.now) (g.S.Source.pulls c.args.source.now) before.0 before.2
 
 pub returns-in_err-count-clause-device : goal.returns-in_err-count-clause-device
 returns-in_err-count-clause-device g c err =
@@ -63,7 +67,7 @@ read_piece-requires-clause-room g c =
     let before = c.loop-reading.invariant in
     let part : List ℕ = take c.in_ok-count.count c.pull.new.piece in
     let some : 0 < c.in_ok-count.count = search rules in
-    let next = c.in_ok-count.ensures.more (g.S.Source.left c.args.source.now) (g.S.Source.pulls c.args.source.now) before.0 before.2 some in
+    let next = c.in_ok-count.ensures.more log_limits (g.S.Source.left c.args.source.now) (g.S.Source.pulls c.args.source.now) before.0 before.2 some in
     let within = next.within in
     let len = length-append before.0 part in
     let count = before.5 in
@@ -74,7 +78,7 @@ returns-in_err-read_piece-clause-cut g c =
     let before = c.loop-reading.invariant in
     let part : List ℕ = take c.in_ok-count.count c.pull.new.piece in
     let some : 0 < c.in_ok-count.count = search rules in
-    let next = c.in_ok-count.ensures.more (g.S.Source.left c.args.source.now) (g.S.Source.pulls c.args.source.now) before.0 before.2 some in
+    let next = c.in_ok-count.ensures.more log_limits (g.S.Source.left c.args.source.now) (g.S.Source.pulls c.args.source.now) before.0 before.2 some in
     on_error c.from_residual-in_err-read_piece.result _
     (partly c.args.plan.now before.0 part c.loop-reading.reading before.1 [] (c.loop-reading.reading.text ++ count_line before.4.past)
     (g.S.Source.left c.args.source.now) (g.S.Source.left c.pull.new.source) (g.W.Sink.taken c.args.sink.now) (g.W.Sink.taken c.loop-reading.sink)
@@ -86,14 +90,16 @@ loop-reading-smaller g c =
     let fewer = c.in_ok-count.ensures.fewer in
     let more = fewer.0 in
     let most = fewer.1 in
-    omega (arith, more, most)
+    let before = ap (λ (l : Limits). l.calls) c.loop-reading.invariant.2.limits_are in
+    let same = ap (λ (l : Limits). l.calls) c.pull.ensures.same in
+    omega (arith, more, most, before, same)
 
 pub loop-reading-preserved : goal.loop-reading-preserved
 loop-reading-preserved g c =
     let before = c.loop-reading.invariant in
     let part : List ℕ = take c.in_ok-count.count c.pull.new.piece in
     let some : 0 < c.in_ok-count.count = search rules in
-    let next = c.in_ok-count.ensures.more (g.S.Source.left c.args.source.now) (g.S.Source.pulls c.args.source.now) before.0 before.2 some in
+    let next = c.in_ok-count.ensures.more log_limits (g.S.Source.left c.args.source.now) (g.S.Source.pulls c.args.source.now) before.0 before.2 some in
     let read = more_seen c.args.plan.now before.0 part c.loop-reading.cutter.pending c.read_piece.new.reading before.1 before.3
     (c.in_ok-read_piece.ensures.lines (told at_start before.0) before.1 before.4) in
     let len = length-append before.0 part in
@@ -115,7 +121,7 @@ returns-in_err-put_text-clause-cut g c =
     let before = c.loop-reading.invariant in
     let part : List ℕ = take c.in_ok-count.count c.pull.new.piece in
     let some : 0 < c.in_ok-count.count = search rules in
-    let next = c.in_ok-count.ensures.more (g.S.Source.left c.args.source.now) (g.S.Source.pulls c.args.source.now) before.0 before.2 some in
+    let next = c.in_ok-count.ensures.more log_limits (g.S.Source.left c.args.source.now) (g.S.Source.pulls c.args.source.now) before.0 before.2 some in
     let read = more_seen c.args.plan.now before.0 part c.loop-reading.cutter.pending c.read_piece.new.reading before.1 before.3
     (c.in_ok-read_piece.ensures.lines (told at_start before.0) before.1 before.4) in
     let x = g.S.Source.left c.args.source.now in
@@ -139,7 +145,7 @@ returns-in_err-close-clause-cut g c =
     let before = c.loop-reading.invariant in
     let x = g.S.Source.left c.args.source.now in
     let y = g.S.Source.left c.pull.new.source in
-    let last = c.in_ok-count.ensures.last x (g.S.Source.pulls c.args.source.now) before.0 before.2 c.if-count-eq0.true in
+    let last = c.in_ok-count.ensures.last log_limits x (g.S.Source.pulls c.args.source.now) before.0 before.2 c.if-count-eq0.true in
     on_error c.from_residual-in_err-close.result _
     (partly c.args.plan.now before.0 [] c.loop-reading.reading before.1 [] (c.loop-reading.reading.text ++ count_line before.4.past)
     x y (g.W.Sink.taken c.args.sink.now) (g.W.Sink.taken c.loop-reading.sink) (g.W.Sink.taken c.loop-reading.sink)
@@ -149,7 +155,7 @@ returns-in_err-close-clause-cut g c =
 pub returns-clause-ok : goal.returns-clause-ok
 returns-clause-ok g c =
     let before = c.loop-reading.invariant in
-    let last = c.in_ok-count.ensures.last (g.S.Source.left c.args.source.now) (g.S.Source.pulls c.args.source.now) before.0 before.2 c.if-count-eq0.true in
+    let last = c.in_ok-count.ensures.last log_limits (g.S.Source.left c.args.source.now) (g.S.Source.pulls c.args.source.now) before.0 before.2 c.if-count-eq0.true in
     let all : List ℕ = c.close.new.reading.text in
     let whole = subst (λ p. HasWritten c.args.plan.now (told at_start before.0 ++ told_at_end p) (before.1 ++ all)) before.3
     (c.in_ok-close.ensures (told at_start before.0) before.1 before.4) in
@@ -169,7 +175,7 @@ returns-clause-cut g c =
     let before = c.loop-reading.invariant in
     let x = g.S.Source.left c.args.source.now in
     let y = g.S.Source.left c.pull.new.source in
-    let last = c.in_ok-count.ensures.last x (g.S.Source.pulls c.args.source.now) before.0 before.2 c.if-count-eq0.true in
+    let last = c.in_ok-count.ensures.last log_limits x (g.S.Source.pulls c.args.source.now) before.0 before.2 c.if-count-eq0.true in
     let all : List ℕ = c.close.new.reading.text in
     let whole = subst (λ p. HasWritten c.args.plan.now (told at_start before.0 ++ told_at_end p) (before.1 ++ all)) before.3
     (c.in_ok-close.ensures (told at_start before.0) before.1 before.4) in
@@ -187,7 +193,7 @@ returns-clause-cut g c =
 pub returns-clause-limits : goal.returns-clause-limits
 returns-clause-limits g c =
     let before = c.loop-reading.invariant in
-    let last = c.in_ok-count.ensures.last (g.S.Source.left c.args.source.now) (g.S.Source.pulls c.args.source.now) before.0 before.2 c.if-count-eq0.true in
+    let last = c.in_ok-count.ensures.last log_limits (g.S.Source.left c.args.source.now) (g.S.Source.pulls c.args.source.now) before.0 before.2 c.if-count-eq0.true in
     IfOk-weaker c.put_text-2.result _ _ (λ _ _. last.1) c.put_text-2.ensures.ok
 
 pub returns-clause-device : goal.returns-clause-device

@@ -2,14 +2,14 @@ use Rattle.std.proofs.Common.{◌≡◌, ◌≤◌, ◌-◌, ℕ, List, length}
 use Rattle.std.specs.Io.KnownBytes.{Appends}
 use Rattle.j39_id.specs.Lines.{at_start, behind_all, told}
 use Rattle.j39_stream.specs.Intakes.{HasRead}
-use Rattle.j39_stream.specs.Streams.{read_calls}
+use Rattle.j39_stream.specs.Streams.{log_limits}
 use Rattle.j39_log.specs.inside.Recalling.{HasReadLines, counted}
 use Rattle.j39_log.proofs.log_text.read_log.Given as goal
 
 abbrev pub invariant-loop-reading : goal.invariant-loop-reading
 invariant-loop-reading g l =
     (seen : List ℕ) × (written : List ℕ)
-    × HasRead (g.S.Source.left l.fn.source) (g.S.Source.left l.source) (g.S.Source.pulls l.fn.source) (g.S.Source.pulls l.source) l.intake seen
+    × HasRead log_limits (g.S.Source.left l.fn.source) (g.S.Source.left l.source) (g.S.Source.pulls l.fn.source) (g.S.Source.pulls l.source) l.intake seen
     × (l.cutter.pending ≡ behind_all at_start seen)
     × HasReadLines l.plan (told at_start seen) l.reading written
     × (counted l.reading ≤ length seen)
@@ -18,4 +18,4 @@ invariant-loop-reading g l =
     × (g.W.Sink.failures l.sink ≡ g.W.Sink.failures l.fn.sink)
 
 abbrev pub decreases-loop-reading : goal.decreases-loop-reading
-decreases-loop-reading g l = read_calls - l.intake.calls
+decreases-loop-reading g l = log_limits.calls - l.intake.calls

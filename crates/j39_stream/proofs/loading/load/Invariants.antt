@@ -1,12 +1,12 @@
 use Rattle.std.proofs.Common.{◌≡◌, ◌-◌}
 use Rattle.j39_stream.specs.Intakes.{HasRead}
-use Rattle.j39_stream.specs.Streams.{read_calls}
+use Rattle.j39_stream.specs.Streams.{plan_limits}
 use Rattle.j39_stream.proofs.loading.load.Given as goal
 
 abbrev pub invariant-loop-input : goal.invariant-loop-input
 invariant-loop-input g l =
-    HasRead (g.S.Source.left l.fn.source) (g.S.Source.left l.source) (g.S.Source.pulls l.fn.source) (g.S.Source.pulls l.source) l.intake l.input.items
+    HasRead plan_limits (g.S.Source.left l.fn.source) (g.S.Source.left l.source) (g.S.Source.pulls l.fn.source) (g.S.Source.pulls l.source) l.intake l.input.items
     × (g.S.Source.failures l.source ≡ g.S.Source.failures l.fn.source)
 
 abbrev pub decreases-loop-input : goal.decreases-loop-input
-decreases-loop-input g l = read_calls - l.intake.calls
+decreases-loop-input g l = plan_limits.calls - l.intake.calls
