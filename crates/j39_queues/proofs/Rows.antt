@@ -1,5 +1,5 @@
 -- Rows of queues of which one queue is another.
-use Rattle.std.proofs.Common.{◌≡◌, ℕ, zero, suc, ◌++◌, ◌+◌, ◌-◌, ◌<◌, ◌≤◌, cond, ◌&&◌, Bool, replicate, true, false, eqb, subst, Result, Ok, Err, OnOk, List, [], ◌∷◌, length, map, get_or, set, refl, sym, ap, ◌∙◌, arith, inl, inr, vec_len}
+use Rattle.std.proofs.Common.{◌≡◌, ℕ, zero, suc, ◌++◌, ◌+◌, ◌-◌, ◌<◌, ◌≤◌, cond, ◌&&◌, Bool, replicate, true, false, eqb, subst, Result, Ok, Err, OnOk, OnErr, List, [], ◌∷◌, length, map, get_or, set, refl, sym, ap, ◌∙◌, arith, inl, inr, vec_len}
 use Rattle.std.proofs.lemmas.List.{get_or-map, get_or-replicate, length-map, length-replicate, map-set}
 use Rattle.std.proofs.lemmas.List.Sums.{get_or-le-sum_by, sum_by-cons, sum_by-set}
 use Rattle.std.specs.List.{list_all}
@@ -246,4 +246,11 @@ pub enough : {X E Y : Type 0} (r : Result X E) (q : Queue Y) (room k : ℕ) → 
 enough {X = X} {E = E} r q room k h is = elim r as (λ (r : Result X E). OnOk r (q.len + k ≤ q.cap) → OnOk r (k ≤ room)) [
   | Ok x ↦ λ fits. omega (arith, fits, is)
   | Err e ↦ λ _. tt
+] h
+
+-- where there was no room for so many, there is less
+pub wanting : {X E Y : Type 0} (r : Result X E) (q : Queue Y) (room k : ℕ) → OnErr r (q.cap < q.len + k) → q.len ≤ q.cap → room ≡ room_of q → OnErr r (room < k)
+wanting {X = X} {E = E} r q room k h fits is = elim r as (λ (r : Result X E). OnErr r (q.cap < q.len + k) → OnErr r (room < k)) [
+  | Ok x ↦ λ _. tt
+  | Err e ↦ λ short. omega (arith, short, fits, is)
 ] h

@@ -1,5 +1,5 @@
 //! A queue from each unit to each.
-ghost use Rattle.std.specs.Prelude.{◌≡◌, ℕ, ◌+◌, ◌<◌, ◌≤◌, ◌↔◌, [], ◌∷◌, ◌++◌, drop, length, nat_eq, IsTrue, IfOk, IfSome, IfNone, OnOk};
+ghost use Rattle.std.specs.Prelude.{◌≡◌, ℕ, ◌+◌, ◌<◌, ◌≤◌, ◌↔◌, [], ◌∷◌, ◌++◌, drop, length, nat_eq, IsTrue, IfOk, IfSome, IfNone, OnOk, OnErr};
 ghost use Rattle.std.specs.List.{list_all};
 ghost use Rattle.j39_queues.specs.inside.Rows.{one_if_some};
 ghost use Rattle.j39_queues.specs.Queued.{IsTable, KeepsRoom, one_at, pair_in, room_at, changed_in, without_column};
@@ -106,6 +106,7 @@ impl<T: Drop> Queues<T> {
         ensures lists { self.new.lists ≡ self.old.lists }
         ensures room { KeepsRoom self.old self.new }
         ensures made { OnOk result (items ≤ room_at self.new from to) }
+        ensures wanted { OnErr result (room_at self.old from to < items) }
     {
         let row = &mut self.rows[from];
         let queue = &mut row[to];

@@ -21,8 +21,8 @@ use Rattle.j39_run.specs.declared.halt.Halt.TheVariants.{End as AtEnd, Step as A
 use Rattle.j39_run.specs.declared.next.Next.{Next}
 use Rattle.j39_run.specs.declared.next.Next.TheVariants.{Wait, Blank, Step as AStep, Refused, End}
 use Rattle.j39_run.specs.inside.Doing.{HasDone}
-use Rattle.j39_run.specs.inside.Ending.{Closes, CutOff, EndsSo, HasHalted, IsDue, IsRunning}
-use Rattle.j39_run.specs.inside.Feeding.{Comes, Feeding, IsFed, unfed}
+use Rattle.j39_run.specs.inside.Ending.{Closes, CutOff, EndsSo, HasHalted, IsAtBegin, IsDue, IsRunning}
+use Rattle.j39_run.specs.inside.Feeding.{Comes, Feeding, IsFed, MeetsBegin, unfed}
 use Rattle.j39_run.proofs.Done.{blank_done, nothing_done, put_done, step_done, unit_count}
 use Rattle.j39_run.proofs.Reading.{begin_with, none_more, unread}
 use Rattle.j39_run.proofs.Stopping.{closes_end, closes_line, closes_step, cut_off, few_done}
@@ -52,6 +52,18 @@ module _ {plan : Plan} {b : BusState} {place : ℕ} {text : List ℕ} {f : Feedi
   -- before anything more is put
   pub cut_before : CutOff plan first now x y
   cut_before = cut_at now y (none_more first now) (0, none_taken y)
+
+  -- where the next line orders a Begin
+  pub at_begin : ((seen : List ℕ) (ls : List Line) → IsFed first now p q f seen ls → MeetsBegin plan first now p q seen ls)
+      → IsAtBegin plan place first now p q
+  at_begin meets = record {
+    seen = r.seen;
+    ls = r.ls;
+    orders = r.done.orders;
+    read = r.done.read;
+    count = r.done.count;
+    meets = meets r.seen r.ls r.fed;
+  }
 
   -- ---- what comes next
 

@@ -17,7 +17,7 @@ use Rattle.j39_stream.specs.declared.limits.Limits.{Limits}
 use Rattle.j39_stream.proofs.Parts.{front_of, none_read}
 use Rattle.j39_run.specs.declared.next.Next.{Next}
 use Rattle.j39_run.specs.declared.next.Next.TheVariants.{Wait, More, Blank, Step as AStep, Refused, End}
-use Rattle.j39_run.specs.inside.Feeding.{Comes, Feeding, GoesOn, HasEnded, IsEnding, IsFed, IsFedSo, IsNext, IsReading, unfed}
+use Rattle.j39_run.specs.inside.Feeding.{Comes, Feeding, GoesOn, HasEnded, IsBegin, IsEnding, IsFed, IsFedSo, IsNext, IsReading, MeetsBegin, unfed}
 
 -- ---- a piece
 
@@ -89,15 +89,31 @@ last_ended first now p q old new seen ls more start is ended =
     subst (λ (t : List ℕ). HasEnded first now p q new t (ls ++ more)) (sym (append-nil seen))
     (record { consumed = ended.consumed; end = ended.end; limits = ended.limits; within = ended.within; told_is = inr (all, start) })
 
+-- with these lines
+last_told : (first now : Option (List ℕ)) (p q : ℕ) (old new : Feeding) (seen : List ℕ) (ls more : List Line) → old.ended ≡ true → new.ended ≡ true
+    → new.pending ≡ at_start → more ≡ told_at_end old.pending → IsFed first now p q old seen ls → IsFed first now p q new (seen ++ []) (ls ++ more)
+last_told first now p q old new seen ls more over still start is fed =
+    let before : HasEnded first now p q old seen ls = subst (λ (e : Bool). IsFedSo e first now p q old seen ls) over fed in
+    subst (λ (e : Bool). IsFedSo e first now p q new (seen ++ []) (ls ++ more)) (sym still) (last_ended first now p q old new seen ls more start is before)
+
 pub last_line : (plan : Plan) (next : Next) (first now : Option (List ℕ)) (p q : ℕ) (old new : Feeding) (seen : List ℕ) (ls more : List Line)
     → old.ended ≡ true → new.ended ≡ true
     → new.pending ≡ at_start → more ≡ told_at_end old.pending → IsNext plan next more → IsFed first now p q old seen ls
     → Comes plan next first now p q new seen ls
 last_line plan next first now p q old new seen ls more over still start is told_next fed =
-    let before : HasEnded first now p q old seen ls = subst (λ (e : Bool). IsFedSo e first now p q old seen ls) over fed in
-    let after : IsFed first now p q new (seen ++ []) (ls ++ more) =
-    subst (λ (e : Bool). IsFedSo e first now p q new (seen ++ []) (ls ++ more)) (sym still) (last_ended first now p q old new seen ls more start is before) in
-    goes_on plan next first now p q new seen ls more told_next (record { used = []; more = more; fed = after; is = told_next })
+    goes_on plan next first now p q new seen ls more told_next
+    (record { used = []; more = more; fed = last_told first now p q old new seen ls more over still start is fed; is = told_next })
+
+-- it orders a Begin
+pub last_begins : (plan : Plan) (first now : Option (List ℕ)) (p q : ℕ) (old : Feeding) (seen : List ℕ) (ls more : List Line) → old.ended ≡ true
+    → more ≡ told_at_end old.pending → IsBegin plan more → IsFed first now p q old seen ls → MeetsBegin plan first now p q seen ls
+last_begins plan first now p q old seen ls more over is begins fed = record {
+  used = [];
+  more = more;
+  f = record old { pending = at_start };
+  fed = last_told first now p q old (record old { pending = at_start }) seen ls more over over refl is fed;
+  begins = begins;
+}
 
 -- there was none
 pub no_last_line : (plan : Plan) (first now : Option (List ℕ)) (p q : ℕ) (old new : Feeding) (seen : List ℕ) (ls more : List Line) → old.ended ≡ true
@@ -108,12 +124,11 @@ no_last_line plan first now p q old new seen ls more over start is none fed =
     (record { consumed = before.consumed; end = before.end; limits = before.limits; within = before.within; told_is = inr (all, start) }, all)
 
 -- a part of a piece
-pub next_part : (plan : Plan) (next : Next) (first now : Option (List ℕ)) (p q : ℕ) (old new : Feeding) (seen part : List ℕ) (ls more : List Line)
+part_told : (first now : Option (List ℕ)) (p q : ℕ) (old new : Feeding) (seen part : List ℕ) (ls more : List Line)
     → old.ended ≡ false → new.ended ≡ false
     → new.counts ≡ old.counts → old.unread ≡ part ++ new.unread → new.pending ≡ behind_all old.pending part → told old.pending part ≡ more
-    → IsNext plan next more
-    → IsFed first now p q old seen ls → Comes plan next first now p q new seen ls
-next_part plan next first now p q old new seen part ls more going still same row at told_is told_next fed =
+    → IsFed first now p q old seen ls → IsFed first now p q new (seen ++ part) (ls ++ more)
+part_told first now p q old new seen part ls more going still same row at told_is fed =
     let before : IsReading first now p q old seen ls = subst (λ (e : Bool). IsFedSo e first now p q old seen ls) going fed in
     let all : seen ++ old.unread ≡ (seen ++ part) ++ new.unread = ap (λ (u : List ℕ). seen ++ u) row ∙ sym (append_assoc seen part new.unread) in
     let after : IsReading first now p q new (seen ++ part) (ls ++ more) = record {
@@ -124,8 +139,30 @@ next_part plan next first now p q old new seen part ls more going still same row
       told_is = ap (λ (l : List Line). l ++ more) before.told_is ∙ ap (λ (m : List Line). told at_start seen ++ m) (sym told_is)
           ∙ ap (λ (r : Pending). told at_start seen ++ told r part) before.pending_is ∙ sym (told-append at_start seen part);
     } in
+    subst (λ (e : Bool). IsFedSo e first now p q new (seen ++ part) (ls ++ more)) (sym still) after
+
+pub next_part : (plan : Plan) (next : Next) (first now : Option (List ℕ)) (p q : ℕ) (old new : Feeding) (seen part : List ℕ) (ls more : List Line)
+    → old.ended ≡ false → new.ended ≡ false
+    → new.counts ≡ old.counts → old.unread ≡ part ++ new.unread → new.pending ≡ behind_all old.pending part → told old.pending part ≡ more
+    → IsNext plan next more
+    → IsFed first now p q old seen ls → Comes plan next first now p q new seen ls
+next_part plan next first now p q old new seen part ls more going still same row at told_is told_next fed =
     goes_on plan next first now p q new seen ls more told_next
-    (record { used = part; more = more; fed = subst (λ (e : Bool). IsFedSo e first now p q new (seen ++ part) (ls ++ more)) (sym still) after; is = told_next })
+    (record { used = part; more = more; fed = part_told first now p q old new seen part ls more going still same row at told_is fed; is = told_next })
+
+-- it tells a line that orders a Begin
+pub part_begins : (plan : Plan) (first now : Option (List ℕ)) (p q : ℕ) (old : Feeding) (seen part rest : List ℕ) (ls more : List Line)
+    → old.ended ≡ false → old.unread ≡ part ++ rest → told old.pending part ≡ more → IsBegin plan more
+    → IsFed first now p q old seen ls → MeetsBegin plan first now p q seen ls
+part_begins plan first now p q old seen part rest ls more going row told_is begins fed =
+    let new : Feeding = record old { unread = rest; pending = behind_all old.pending part } in
+    record {
+      used = part;
+      more = more;
+      f = new;
+      fed = part_told first now p q old new seen part ls more going going refl row refl told_is fed;
+      begins = begins;
+    }
 
 -- ---- how many lines there are
 

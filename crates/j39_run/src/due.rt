@@ -4,7 +4,7 @@ ghost use Rattle.j39_findings.specs.declared.steps.Step.{Step as Steps};
 ghost use Rattle.j39_bus.specs.BusState.{BusState};
 ghost use Rattle.j39_schedule.specs.UnitIndexes.{IsIndexOf};
 ghost use Rattle.j39_stream.specs.Streams.{HasFailed, PassesLimits, plan_limits};
-ghost use Rattle.j39_run.specs.inside.Ending.{CutOff, GoesOnTo, IsRunning, Of};
+ghost use Rattle.j39_run.specs.inside.Ending.{CutOff, GoesOnTo, IsAtBegin, IsRunning, Of};
 ghost use Rattle.j39_run.specs.inside.Feeding.{to_do};
 
 use crate::feed::Feed;
@@ -48,6 +48,8 @@ pub fn next_due<S: Source, W: Sink>(
     ensures calm { OnOk result ((S.failures source.new ≡ S.failures source.old) × (W.failures sink.new ≡ W.failures sink.old)) }
     ensures long { IsErrOf result Fault.TooLong → Of plan.now place.old text.old feed.old (S.left source.old) (S.pulls source.old) (W.taken sink.old)
         (λ b first pulls taken. PassesLimits plan_limits first (S.left source.new) pulls (S.pulls source.new)) }
+    ensures memory { IsErrOf result Fault.Memory → Of plan.now place.old text.old feed.old (S.left source.old) (S.pulls source.old) (W.taken sink.old)
+        (λ b first pulls taken. IsAtBegin plan.now place.new first (S.left source.new) pulls (S.pulls source.new)) }
     ensures device { IsErrOf result Fault.Device → HasFailed (S.failures source.old) (S.failures source.new)
         ⊎ HasFailed (W.failures sink.old) (W.failures sink.new) }
     ensures cut { OnErr result (Of plan.now place.old text.old feed.old (S.left source.old) (S.pulls source.old) (W.taken sink.old)

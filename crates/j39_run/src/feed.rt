@@ -1,10 +1,10 @@
 //! A schedule as it is read.
-ghost use Rattle.std.specs.Prelude.{◌≡◌, ◌≢◌, ◌<◌, ◌≤◌, ◌-◌, ◌++◌, ℕ, List, [], true, false, length, take, drop, Option, Err, IfOk, OnOk, IsErrOf};
+ghost use Rattle.std.specs.Prelude.{◌≡◌, ◌≢◌, ◌<◌, ◌≤◌, ◌-◌, ◌++◌, ℕ, List, [], true, false, length, take, drop, Option, Err, IfOk, OnErr, OnOk, IsErrOf};
 ghost use Rattle.std.specs.Io.KnownBytes.{Consumes};
 ghost use Rattle.j39_id.specs.Lines.{Line};
 ghost use Rattle.j39_schedule.specs.UnitIndexes.{IsIndexOf};
 ghost use Rattle.j39_stream.specs.Streams.{HasFailed, PassesLimits, plan_limits};
-ghost use Rattle.j39_run.specs.inside.Feeding.{Comes, IsFed, IsShorter, to_do, unfed};
+ghost use Rattle.j39_run.specs.inside.Feeding.{Comes, IsFed, IsShorter, MeetsBegin, to_do, unfed};
 
 use crate::next::{Next, next_of};
 use j39_findings::Plan;
@@ -97,6 +97,8 @@ impl Feed {
             → IsFed first now first_pulls pulls self.old seen ls
             → Comes plan.now next first now first_pulls pulls self.new seen ls) }
         ensures shorter { IfOk result (λ next. IsShorter next self.old self.new) }
+        ensures memory { OnErr result ((first now : Option (List ℕ)) (first_pulls pulls : ℕ) (seen : List ℕ) (ls : List Line)
+            → IsFed first now first_pulls pulls self.old seen ls → MeetsBegin plan.now first now first_pulls pulls seen ls) }
     {
         let cut = self.cutter.end();
         match next_of(alloc, index, plan, cut, self.cutter.line())? {
@@ -117,6 +119,8 @@ impl Feed {
             → IsFed first now first_pulls pulls self.old seen ls
             → Comes plan.now next first now first_pulls pulls self.new seen ls) }
         ensures shorter { IfOk result (λ next. IsShorter next self.old self.new) }
+        ensures memory { OnErr result ((first now : Option (List ℕ)) (first_pulls pulls : ℕ) (seen : List ℕ) (ls : List Line)
+            → IsFed first now first_pulls pulls self.old seen ls → MeetsBegin plan.now first now first_pulls pulls seen ls) }
     {
         if self.ended {
             return self.last(alloc, index, plan);

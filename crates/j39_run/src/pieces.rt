@@ -1,5 +1,5 @@
 //! From one piece of a schedule to the next.
-ghost use Rattle.std.specs.Prelude.{◌≡◌, ◌⊎◌, ◌<◌, ◌++◌, ℕ, List, Option, [], false, IsErrOf, OnErr, OnOk};
+ghost use Rattle.std.specs.Prelude.{◌≡◌, ◌≢◌, ◌⊎◌, ◌<◌, ◌++◌, ℕ, List, Option, [], false, Err, IsErrOf, OnErr, OnOk};
 ghost use Rattle.std.specs.Io.KnownBytes.{Appends, Consumes};
 ghost use Rattle.j39_id.specs.Lines.{Line};
 ghost use Rattle.j39_stream.specs.Streams.{AppendsPart, HasFailed, PassesLimits, plan_limits};
@@ -30,6 +30,7 @@ pub fn next_piece<S: Source, W: Sink>(
         → PassesLimits plan_limits first (S.left source.new) pulls (S.pulls source.new) }
     ensures device { IsErrOf result Fault.Device → HasFailed (S.failures source.old) (S.failures source.new)
         ⊎ HasFailed (W.failures sink.old) (W.failures sink.new) }
+    ensures no_memory { result ≢ Err Fault.Memory }
     ensures kept { OnErr result ((first : Option (List ℕ)) (text : List ℕ) → Consumes first (S.left source.old) text
         → (more : List ℕ) × Consumes first (S.left source.new) (text ++ more)) }
     ensures cut { OnErr result (AppendsPart (W.taken sink.old) (W.taken sink.new) text.old) }

@@ -1,5 +1,5 @@
 //! A schedule that runs on a bus as it is read.
-ghost use Rattle.std.specs.Prelude.{◌≡◌, ◌⊎◌, IfErr, IfOk, OnOk, IsErrOf, Some};
+ghost use Rattle.std.specs.Prelude.{◌≡◌, ◌⊎◌, IfErr, IfOk, OnOk, IsErrOf, Some, None};
 ghost use Rattle.j39_bus.specs.Stands.{Stands};
 ghost use Rattle.j39_world.specs.Run.{cause_of};
 ghost use Rattle.j39_world.specs.World.{first};
@@ -23,7 +23,7 @@ use std::alloc::Global;
 fn refused_at(place: usize, error: StepError) -> Result<Halt, Fault>
     ensures halt { IfOk result (λ halt. halt ≡ Halt.Step place error) }
     ensures cause { OnOk result (cause_of error ≡ Some error) }
-    ensures memory { IfErr result (λ fault. fault ≡ Fault.Memory) }
+    ensures memory { IfErr result (λ fault. (fault ≡ Fault.Memory) × (cause_of error ≡ None)) }
 {
     match error {
         StepError::Memory => Err(Fault::Memory),

@@ -1,5 +1,6 @@
 pub mod BegunFlows
 pub mod FirstFault
+pub mod HexDigits
 pub mod Numbers
 pub mod Splits
 pub mod StepLists

@@ -1,7 +1,8 @@
 //! The flow and the bytes of a message that a line begins.
-ghost use Rattle.std.specs.Prelude.{◌≡◌};
+ghost use Rattle.std.specs.Prelude.{◌≡◌, is_ok};
 ghost use Rattle.std.specs.Char.{is_ascii_digit};
 ghost use Rattle.std.specs.List.{list_all};
+ghost use Rattle.hex.specs.Hex.{decode_of, is_hex_digit};
 ghost use Rattle.j39_schedule.specs.Schedule.{flow_place, is_number, number_of, with_flow};
 ghost use Rattle.j39_schedule.specs.Scheduling.{IsReadAs};
 
@@ -59,6 +60,25 @@ fn flow_place(plan: &Plan, number: usize) -> usize
     }
 }
 
+fn is_hex_digit(byte: u8) -> bool
+    ensures { result ≡ is_hex_digit byte }
+{
+    matches!(byte, b'0'..=b'9' | b'A'..=b'F' | b'a'..=b'f')
+}
+
+fn are_hex_digits(text: &[u8]) -> bool
+    ensures { result ≡ list_all is_hex_digit text.now }
+{
+    text.iter().all(|byte| is_hex_digit(*byte))
+}
+
+// Whether pairs of hex digits spell bytes.
+fn spell_bytes(digits: &[u8]) -> bool
+    ensures { result ≡ is_ok (decode_of digits.now) }
+{
+    digits.len() % 2 == 0 && are_hex_digits(digits)
+}
+
 /// The order to begin the flow of a number with the bytes that hex digits spell.
 pub fn begin(
     alloc: Global,
@@ -73,7 +93,8 @@ pub fn begin(
     };
     match hex::decode(alloc, digits) {
         Ok(bytes) => Ok(Some(Step::Begin(flow_place(plan, number), bytes))),
-        Err(FromHexError::OutOfMemory) => Err(Unread::Memory),
+        // What can't be read is told also where memory is refused.
+        Err(FromHexError::OutOfMemory) if spell_bytes(digits) => Err(Unread::Memory),
         Err(_) => Err(Unread::Fault(LineFault::BadHex)),
     }
 }

@@ -1,11 +1,12 @@
 -- How a run of a schedule goes on, and how it ended.
-use Rattle.std.specs.Prelude.{◌≡◌, ℕ, ◌+◌, ◌≤◌, List, [], ◌++◌, length, Option, Some, Result, Ok, Err}
+use Rattle.std.specs.Prelude.{◌≡◌, ℕ, ◌+◌, ◌≤◌, List, [], ◌++◌, length, map, Option, Some, Result, Ok, Err}
 use Rattle.std.specs.Io.KnownBytes.{Appends, Consumes, IsAtEnd}
 use Rattle.j39_bus.specs.BusState.{BusState}
 use Rattle.j39_bus.specs.Stands.{Stands}
 use Rattle.j39_findings.specs.declared.plan.Plan.{Plan}
 use Rattle.j39_findings.specs.declared.steps.Step.{Step}
 use Rattle.j39_id.specs.Lines.{Line}
+use Rattle.j39_schedule.specs.Schedule.{line_order, read_as}
 use Rattle.j39_stream.specs.Streams.{AppendsPart, KeepsLimits, plan_limits}
 use Rattle.j39_stream.specs.declared.fault.Fault.{Fault}
 use Rattle.j39_stream.specs.declared.verdict.Verdict.{Verdict}
@@ -20,7 +21,7 @@ use Rattle.j39_run.specs.declared.due.Due.TheVariants.{Step as ToStep, Halt as T
 use Rattle.j39_run.specs.declared.halt.Halt.{Halt}
 use Rattle.j39_run.specs.declared.halt.Halt.TheVariants.{Step as AtStep}
 use Rattle.j39_run.specs.inside.Doing.{HasDone, HasStepped}
-use Rattle.j39_run.specs.inside.Feeding.{Feeding, IsFed}
+use Rattle.j39_run.specs.inside.Feeding.{Feeding, IsFed, MeetsBegin}
 
 -- what was written is some first bytes of the text of a schedule that begins like this one
 abbrev pub CutOff : Plan → Option (List ℕ) → Option (List ℕ) → Option (List ℕ) → Option (List ℕ) → Type 0
@@ -97,6 +98,15 @@ abbrev pub EndsSo : Plan → BusState → List ℕ → Option (List ℕ) → Opt
     → Result Halt Fault → Type 0
 EndsSo plan b text old new old_pulls new_pulls taken_old taken_new (Ok halt) = HasHalted plan b text old new old_pulls new_pulls taken_old taken_new halt
 EndsSo plan b text old new old_pulls new_pulls taken_old taken_new (Err fault) = CutOff plan old new taken_old taken_new
+
+-- the line at this place orders a Begin, and each line before it a step or nothing
+pub record IsAtBegin (plan : Plan) (place : ℕ) (old new : Option (List ℕ)) (old_pulls new_pulls : ℕ) : Type 0 where
+  pub seen : List ℕ
+  pub ls : List Line
+  pub orders : List (Option Step)
+  pub read : map (line_order plan) ls ≡ map read_as orders
+  pub count : length orders ≡ place
+  pub meets : MeetsBegin plan old new old_pulls new_pulls seen ls
 
 -- how the whole run ended
 abbrev pub HasEndedSo : Plan → Option (List ℕ) → Option (List ℕ) → ℕ → ℕ → Option (List ℕ) → Option (List ℕ) → Result Verdict Fault → Type 0

@@ -4,6 +4,7 @@ use Rattle.std.specs.Io.KnownBytes.{Consumes, IsAtEnd}
 use Rattle.j39_id.specs.Lines.{Line, Pending, at_start, behind_all, lines, told, told_at_end}
 use Rattle.j39_findings.specs.declared.plan.Plan.{Plan}
 use Rattle.j39_schedule.specs.Schedule.{line_order, read_as}
+use Rattle.j39_schedule.specs.Scheduling.{OrdersBegin}
 use Rattle.j39_stream.specs.Intakes.{Counts, HasRead, no_counts}
 use Rattle.j39_stream.specs.Streams.{KeepsLimits, plan_limits}
 use Rattle.j39_run.specs.declared.next.Next.{Next}
@@ -58,6 +59,10 @@ IsNext plan (AStep step) ls = (l : Line) × (ls ≡ l ∷ []) × (line_order pla
 IsNext plan (Refused fault) ls = (l : Line) × (ls ≡ l ∷ []) × (line_order plan l ≡ Err fault)
 IsNext plan End ls = ⊥
 
+-- what is told next is a line that orders a Begin, the one order whose reading takes memory
+abbrev pub IsBegin : Plan → List Line → Type 0
+IsBegin plan ls = (l : Line) × (ls ≡ l ∷ []) × OrdersBegin (line_order plan l)
+
 -- with what comes next the schedule is told so much further
 pub record GoesOn (plan : Plan) (next : Next) (first now : Option (List ℕ)) (first_pulls pulls : ℕ) (f : Feeding) (seen : List ℕ)
     (ls : List Line) : Type 0 where
@@ -65,6 +70,14 @@ pub record GoesOn (plan : Plan) (next : Next) (first now : Option (List ℕ)) (f
   pub more : List Line
   pub fed : IsFed first now first_pulls pulls f (seen ++ used) (ls ++ more)
   pub is : IsNext plan next more
+
+-- the line behind these ones orders a Begin; with some more of what came it would be told
+pub record MeetsBegin (plan : Plan) (first now : Option (List ℕ)) (first_pulls pulls : ℕ) (seen : List ℕ) (ls : List Line) : Type 0 where
+  pub used : List ℕ
+  pub more : List Line
+  pub f : Feeding
+  pub fed : IsFed first now first_pulls pulls f (seen ++ used) (ls ++ more)
+  pub begins : IsBegin plan more
 
 -- what comes next of a schedule of which these lines were told
 abbrev pub Comes : Plan → Next → Option (List ℕ) → Option (List ℕ) → ℕ → ℕ → Feeding → List ℕ → List Line → Type 0

@@ -1,12 +1,16 @@
 use Rattle.std.proofs.Common.{◌≡◌, ◌<◌, ◌∙◌, ap, arith, rules}
 use Rattle.j39_run.specs.inside.Feeding.{to_do}
-use Rattle.j39_run.proofs.Arms.{blank, cut_at, cut_before, due, few_places, halts_end, halts_line, told_all, waited}
+use Rattle.j39_run.proofs.Arms.{at_begin, blank, cut_at, cut_before, due, few_places, halts_end, halts_line, told_all, waited}
 use Rattle.j39_run.proofs.Stopping.{on_error}
 use Rattle.j39_run.proofs.due.next_due.Goals as goal
 
 pub returns-in_err-next-clause-cut : goal.returns-in_err-next-clause-cut
 returns-in_err-next-clause-cut g c =
     on_error c.from_residual.result _ (λ b first pulls taken run. cut_before (c.loop-feed.invariant.running b first pulls taken run))
+
+pub returns-in_err-next-clause-memory : goal.returns-in_err-next-clause-memory
+returns-in_err-next-clause-memory g c is b first pulls taken run =
+    at_begin (c.loop-feed.invariant.running b first pulls taken run) (λ seen ls fed. c.in_err-next.ensures.memory _ _ _ _ seen ls fed)
 
 pub loop-feed-preserved-in-Continue-branch-3 : goal.loop-feed-preserved-in-Continue-branch-3
 loop-feed-preserved-in-Continue-branch-3 g c =
@@ -26,6 +30,9 @@ pub returns-in_err-next_piece-in-Wait-clause-long : goal.returns-in_err-next_pie
 returns-in_err-next_piece-in-Wait-clause-long g c is b first pulls taken run =
     c.in_err-next_piece-in-Wait.ensures.long (search rules) first pulls _ _
     (told_all (c.loop-feed.invariant.running b first pulls taken run) _ _ (c.in_ok-next.ensures.comes _ _ _ _) c.in-Wait.is)
+
+pub returns-in_err-next_piece-in-Wait-clause-memory : goal.returns-in_err-next_piece-in-Wait-clause-memory
+returns-in_err-next_piece-in-Wait-clause-memory g c is = absurd (c.in_err-next_piece-in-Wait.ensures.no_memory (search rules))
 
 pub returns-in_err-next_piece-in-Wait-clause-cut : goal.returns-in_err-next_piece-in-Wait-clause-cut
 returns-in_err-next_piece-in-Wait-clause-cut g c =

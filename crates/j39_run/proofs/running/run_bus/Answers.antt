@@ -70,6 +70,6 @@ returns-clause-long g c is =
       | in-Ok+in-Halt w ↦ cc (w.end-is, long)
       | in-Ok+in-Step+in-Err-step w ↦
           let wants = rw (sym w.end-is ∙ long) at w.refused_at-end.ensures.memory in
-          cc wants
+          cc wants.0
       | in-Ok+in-Step+in_default+then-is_err w ↦ cc (w.end-is, long)
     ]

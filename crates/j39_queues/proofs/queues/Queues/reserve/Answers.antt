@@ -1,5 +1,5 @@
 use Rattle.std.proofs.Common.{arith}
-use Rattle.j39_queues.proofs.Rows.{enough, in_row, lists_same, kept_same, room_after, room_kept}
+use Rattle.j39_queues.proofs.Rows.{enough, in_row, lists_same, kept_same, room_after, room_is, room_kept, wanting}
 use Rattle.j39_queues.proofs.queues.Queues.reserve.Goals as goal
 
 pub index_mut-queue-requires : goal.index_mut-queue-requires
@@ -30,3 +30,9 @@ returns-clause-made g c =
     let room = room_after c.self.inside.rows.items c.args.self.now c.self.view_is c.self.invariant.table c.args.from c.args.to c.requires.from c.requires.to
     c.index_mut-row.result.now c.index_mut-row.ensures.value c.index_mut-queue.result.now c.index_mut-queue.ensures.value c.reserve.new.self in
     enough c.reserve.result c.reserve.new.self _ c.args.items c.reserve.ensures.ok room
+
+pub returns-clause-wanted : goal.returns-clause-wanted
+returns-clause-wanted g c =
+    let room = room_is c.self.inside.rows.items c.args.self.now c.self.view_is c.self.invariant.table c.args.from c.args.to c.requires.from c.requires.to
+    c.index_mut-row.result.now c.index_mut-row.ensures.value c.index_mut-queue.result.now c.index_mut-queue.ensures.value in
+    wanting c.reserve.result c.index_mut-queue.result.now _ c.args.items c.reserve.ensures.full c.index_mut-queue.result.now.small.1 room
