@@ -42,15 +42,15 @@ def main():
     counts = {sort: blocks * sum(it[0] for it in SORTS if it[1] == sort) for sort in ("frames", "skipped", "bad")}
     last = " ".join(f"{sort} {count}" for sort, count in counts.items()).encode() + b"\n"
     start = time.monotonic()
-    words = ["/usr/bin/time", "-f", "%M %U", PROGRAM, "read", PLAN, "/dev/stdin"]
+    words = ["/usr/bin/time", "-f", "%M %U %S", PROGRAM, "read", PLAN, "/dev/stdin"]
     ran = subprocess.Popen(words, stdin=subprocess.PIPE, stdout=subprocess.PIPE, stderr=subprocess.PIPE)
     threading.Thread(target=give, args=(ran.stdin, data, times)).start()
     rest, whole = b"", 0
     while piece := ran.stdout.read(len(REPORT)):
         whole, rest = (whole + 1, b"") if piece == REPORT else (whole, rest + piece)
-    kibibytes, seconds = ran.stderr.read().split()[-2:]
+    kibibytes, user, system = ran.stderr.read().split()[-3:]
     memory = 1024 * int(kibibytes)
-    print(f"{times * len(data):,} bytes in {time.monotonic() - start:.0f} s, of the program {float(seconds):.0f} s,"
+    print(f"{times * len(data):,} bytes in {time.monotonic() - start:.0f} s, of the program {float(user) + float(system):.0f} s,"
           f" {memory:,} bytes of memory, {whole:,} reports, {rest.decode():.200}", end="")
     return 0 if (ran.wait(), rest, whole) == (0, last, blocks) and memory < MOST_MEMORY else 1
 
