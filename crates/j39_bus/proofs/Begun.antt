@@ -11,13 +11,13 @@ use Rattle.j39_world.specs.declared.wired.Wired.TheVariants as wired
 
 -- it has its frame
 pub first_framed : (stations : Stations) (flow : Flow) (bytes : List ℕ)
-    → item_frame (address_of stations flow.sender) (destination_of stations flow.to) flow (first_item flow bytes) ≡ first_frame stations flow bytes
+    → item_frame (destination_of stations flow.to) (address_of stations flow.sender) flow (first_item flow bytes) ≡ first_frame stations flow bytes
 first_framed stations flow bytes = by (is_short (length bytes))
   where
     by : (b : Bool)
-        → item_frame (address_of stations flow.sender) (destination_of stations flow.to) flow
+        → item_frame (destination_of stations flow.to) (address_of stations flow.sender) flow
         (if b then wired.Short bytes else wired.Packet (announcement (dest_of flow.to) flow.pgn (length bytes)))
-        ≡ (if b then short_frame (address_of stations flow.sender) (destination_of stations flow.to) flow bytes
-        else packet_frame (address_of stations flow.sender) (destination_of stations flow.to) (announcement (dest_of flow.to) flow.pgn (length bytes)))
+        ≡ (if b then short_frame (destination_of stations flow.to) (address_of stations flow.sender) flow bytes
+        else packet_frame (destination_of stations flow.to) (address_of stations flow.sender) (announcement (dest_of flow.to) flow.pgn (length bytes)))
     by true = refl
     by false = refl

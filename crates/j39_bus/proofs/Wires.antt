@@ -96,7 +96,7 @@ replied_twice w v u ps qs = λ i. record w {
 }
   where
     frame : Packet → Sent
-    frame = packet_frame (address_of w.stations v) (address_of w.stations u)
+    frame = packet_frame (address_of w.stations u) (address_of w.stations v)
 
     first : List Wired
     first = w.wire v u ++ map wired.Packet ps

@@ -5,7 +5,6 @@ mod bus;
 mod claim_frames;
 mod claiming;
 mod claims;
-mod content;
 mod flows;
 mod hearing;
 mod network;

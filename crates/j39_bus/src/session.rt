@@ -1,27 +1,59 @@
 //! Messages that are sent.
-ghost use Rattle.std.specs.Prelude.{◌≡◌, ◌≤◌, length, is_some};
+ghost use Rattle.std.specs.Prelude.{◌≡◌, ◌≤◌, length};
 ghost use Rattle.j39_id.specs.Limits.{message_bytes};
-ghost use Rattle.j39_tp.specs.Sender.{data_next, after_packet, timeout_packet, after_timeout, outcome_of, next_number};
+ghost use Rattle.j39_tp.specs.Sender.{data_next, after_packet, timeout_packet, after_timeout, outcome_of, phase_of};
 ghost use Rattle.j39_world.specs.Flows.{dest_of};
-ghost use Rattle.j39_world.specs.Run.{is_waiting_at};
+ghost use Rattle.j39_bus.specs.inside.Content.{GoesTo, bytes_in, group_in, stage_in};
 ghost use Rattle.j39_world.specs.TransferSteps.{begun_stage, first_item, session_hears};
 ghost use Rattle.j39_world.specs.Transfers.{is_among};
 
-use crate::content::Content;
 use j39_findings::To;
 use j39_id::Pgn;
-use j39_tp::{Outcome, Packet, Reaction};
-use j39_world::{Flow, Wired};
+use j39_id::limits::FRAME_BYTES;
+use j39_tp::{Dest, Message, Outcome, Packet, Phase, Reaction, Transfer};
+use j39_world::{Flow, Short, Wired};
 use std::marker::Model;
 
 /// A message from its beginning until its sender rests, with the units that it goes to. Contracts see it as a world has it.
 #[derive(Drop)]
 pub(crate) struct Session {
     flow: usize,
-    pgn: Pgn,
     to: To,
     targets: Vec<usize>,
     content: Content,
+}
+
+// What is sent: a message of one frame, with the PGN of its group, which has ended, or one that the transport protocol carries.
+#[derive(Drop)]
+enum Content {
+    Short(Pgn, Short),
+    Long(Transfer),
+}
+
+// What is sent of a message that is begun, and what is sent first: the whole message, or its announcement.
+fn content_of(flow: &Flow, bytes: &[u8]) -> (Content, Wired)
+    requires { length bytes.now ≤ message_bytes }
+    ensures goes { GoesTo flow.now.to result.0 }
+    ensures group { group_in result.0 ≡ flow.now.pgn }
+    ensures bytes { bytes_in result.0 ≡ bytes.now }
+    ensures stage { stage_in result.0 ≡ begun_stage flow.now bytes.now }
+    ensures item { result.1 ≡ first_item flow.now bytes.now }
+{
+    if bytes.len() <= FRAME_BYTES {
+        return (
+            Content::Short(flow.pgn, Short::new(bytes)),
+            Wired::Short(Short::new(bytes)),
+        );
+    }
+    let Some(message) = Message::new(flow.pgn, bytes) else {
+        unreachable!()
+    };
+    let dest = match flow.to {
+        To::All => Dest::All,
+        To::One(_) => Dest::One,
+    };
+    let (transfer, announcement) = Transfer::begin(message, dest);
+    (Content::Long(transfer), Wired::Packet(announcement))
 }
 
 // Whether a unit is one of these.
@@ -36,11 +68,18 @@ impl Model for Session {
 
     ghost Value = { Outgoing };
 
-    ghost use Rattle.j39_bus.specs.inside.Content.{HasContent, bytes_in, stage_in};
+    ghost use Rattle.j39_bus.specs.inside.Content.{GoesTo, bytes_in, group_in, stage_in};
 
-    ghost view = { λ s. record { flow = s.flow; pgn = s.pgn; to = s.to; targets = s.targets.items; bytes = bytes_in s.content; stage = stage_in s.content } };
+    ghost view = { λ s. record {
+      flow = s.flow;
+      pgn = group_in s.content;
+      to = s.to;
+      targets = s.targets.items;
+      bytes = bytes_in s.content;
+      stage = stage_in s.content;
+    } };
 
-    ghost invariant = { λ s. HasContent s.pgn s.to s.content };
+    ghost invariant = { λ s. GoesTo s.to s.content };
 }
 
 impl Session {
@@ -62,10 +101,9 @@ impl Session {
         } }
         ensures item { result.1 ≡ first_item flow.now bytes.now }
     {
-        let (content, item) = Content::begin(flow, bytes);
+        let (content, item) = content_of(flow, bytes);
         let session = Session {
             flow: place,
-            pgn: flow.pgn,
             to: flow.to,
             targets,
             content,
@@ -99,7 +137,10 @@ impl Session {
         ensures packet { result ≡ data_next self.old.bytes self.old.stage }
         ensures after { self.new ≡ record self.old { stage = after_packet (dest_of self.old.to) self.old.stage } }
     {
-        self.content.next_packet()
+        match &mut self.content {
+            Content::Short(_, _) => None,
+            Content::Long(transfer) => transfer.next_packet(),
+        }
     }
 
     /// What is sent where nothing was heard in time.
@@ -107,7 +148,10 @@ impl Session {
         ensures packet { result ≡ timeout_packet self.old.pgn self.old.stage }
         ensures after { self.new ≡ record self.old { stage = after_timeout self.old.stage } }
     {
-        self.content.late()
+        match &mut self.content {
+            Content::Short(_, _) => None,
+            Content::Long(transfer) => transfer.late(),
+        }
     }
 
     /// What the sender does with a packet of a unit: it hears the one alone that its message goes to, and of a message to all nobody.
@@ -115,8 +159,12 @@ impl Session {
         ensures reaction { result ≡ (session_hears self.old from packet.now).1 }
         ensures after { self.new ≡ record self.old { stage = (session_hears self.old from packet.now).0 } }
     {
-        match self.to {
-            To::One(_) if is_among(self.targets.as_slice(), from) => self.content.hear(packet),
+        let hears = match self.to {
+            To::One(_) => is_among(self.targets.as_slice(), from),
+            To::All => false,
+        };
+        match &mut self.content {
+            Content::Long(transfer) if hears => transfer.hear(packet),
             _ => Reaction::Nothing,
         }
     }
@@ -125,20 +173,19 @@ impl Session {
     pub(crate) fn outcome(&self) -> Option<Outcome>
         ensures { result ≡ outcome_of self.now.stage }
     {
-        self.content.outcome()
+        match &self.content {
+            Content::Short(_, _) => Some(Outcome::Sent),
+            Content::Long(transfer) => transfer.outcome(),
+        }
     }
 
-    /// Whether there are data packets to send now.
-    pub(crate) fn is_sending(&self) -> bool
-        ensures { result ≡ is_some (next_number self.now.stage) }
+    /// What its sender is doing: it sends data packets, waits for its receiver, or rests.
+    pub(crate) fn phase(&self) -> Phase
+        ensures { result ≡ phase_of self.now.stage }
     {
-        self.content.is_sending()
-    }
-
-    /// Whether a receiver is waited for.
-    pub(crate) fn is_waiting(&self) -> bool
-        ensures { result ≡ is_waiting_at self.now.stage }
-    {
-        self.content.is_waiting()
+        match &self.content {
+            Content::Short(_, _) => Phase::Resting,
+            Content::Long(transfer) => transfer.phase(),
+        }
     }
 }

@@ -12,7 +12,7 @@ ghost use Rattle.j39_world.specs.Transfers.{Outgoing, outcome_in};
 ghost use Rattle.j39_world.specs.World.{changed};
 
 use crate::session::Session;
-use j39_tp::{Outcome, Packet, Reaction};
+use j39_tp::{Outcome, Packet, Phase, Reaction};
 
 /// Whether some unit sends a message.
 pub(crate) fn is_any_open(sessions: &[Option<Session>]) -> bool
@@ -26,10 +26,7 @@ pub(crate) fn outcome(sessions: &[Option<Session>], unit: usize) -> Option<Outco
     requires { unit < length sessions.now }
     ensures { result ≡ outcome_in (session_at sessions.now unit) }
 {
-    match &sessions[unit] {
-        Some(session) => session.outcome(),
-        None => None,
-    }
+    sessions[unit].as_ref()?.outcome()
 }
 
 /// Whether a unit has data packets to send now.
@@ -38,7 +35,7 @@ pub(crate) fn is_sending(sessions: &[Option<Session>], unit: usize) -> bool
     ensures { result ≡ can_emit (session_at sessions.now unit) }
 {
     match &sessions[unit] {
-        Some(session) => session.is_sending(),
+        Some(session) => session.phase() == Phase::Sending,
         None => false,
     }
 }
@@ -49,7 +46,7 @@ pub(crate) fn is_waiting(sessions: &[Option<Session>], unit: usize) -> bool
     ensures { result ≡ is_waiting (session_at sessions.now unit) }
 {
     match &sessions[unit] {
-        Some(session) => session.is_waiting(),
+        Some(session) => session.phase() == Phase::Waiting,
         None => false,
     }
 }
@@ -73,10 +70,7 @@ pub(crate) fn next_packet(sessions: &mut Vec<Option<Session>>, unit: usize) -> O
         (at_stage (λ s. after_packet (dest_of s.to) s.stage) (session_at sessions.old.items unit)) }
     ensures count { length sessions.new.items ≡ length sessions.old.items }
 {
-    match &mut sessions[unit] {
-        Some(session) => session.next_packet(),
-        None => None,
-    }
+    sessions[unit].as_mut()?.next_packet()
 }
 
 /// What a unit sends that has heard nothing in time.
@@ -87,10 +81,7 @@ pub(crate) fn late(sessions: &mut Vec<Option<Session>>, unit: usize) -> Option<P
         (at_stage (λ s. after_timeout s.stage) (session_at sessions.old.items unit)) }
     ensures count { length sessions.new.items ≡ length sessions.old.items }
 {
-    match &mut sessions[unit] {
-        Some(session) => session.late(),
-        None => None,
-    }
+    sessions[unit].as_mut()?.late()
 }
 
 /// What the sender of a unit does with a packet of another.

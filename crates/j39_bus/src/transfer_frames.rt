@@ -9,9 +9,9 @@ use j39_id::{Frame, Ident};
 use j39_tp::{Packet, to_data};
 use j39_world::Flow;
 
-/// The frame of a transport packet from one address to another.
-pub(crate) fn packet_frame(source: u8, destination: u8, packet: &Packet) -> Frame
-    ensures { sent_of result ≡ packet_frame source destination packet.now }
+/// The frame of a transport packet to one address from another.
+pub(crate) fn packet_frame(destination: u8, source: u8, packet: &Packet) -> Frame
+    ensures { sent_of result ≡ packet_frame destination source packet.now }
 {
     let pgn = match packet {
         Packet::Dt { .. } => DATA_TRANSFER,
@@ -24,10 +24,10 @@ pub(crate) fn packet_frame(source: u8, destination: u8, packet: &Packet) -> Fram
 }
 
 /// The frame of a message of at most eight bytes.
-pub(crate) fn short_frame(source: u8, destination: u8, flow: &Flow, bytes: &[u8]) -> Frame
+pub(crate) fn short_frame(destination: u8, source: u8, flow: &Flow, bytes: &[u8]) -> Frame
     requires priority { flow.now.priority ≤ 7 }
     requires length { length bytes.now ≤ 8 }
-    ensures { sent_of result ≡ short_frame source destination flow.now bytes.now }
+    ensures { sent_of result ≡ short_frame destination source flow.now bytes.now }
 {
     Frame {
         ident: Ident::new(flow.priority, flow.pgn, destination, source),

@@ -77,7 +77,7 @@ impl Network {
         if let Some(session) = &self.sessions[unit] {
             let claimers = self.claimers.as_slice();
             let to = destination(claimers, session.to());
-            let frame = packet_frame(source(claimers, unit), to, packet);
+            let frame = packet_frame(to, source(claimers, unit), packet);
             let item = Wired::Packet(*packet);
             post_each(&mut self.wire, unit, session.targets(), &item);
             self.frames.push_reserved(frame);
@@ -116,7 +116,7 @@ impl Network {
     {
         if let Some(packet) = packet {
             let claimers = self.claimers.as_slice();
-            let frame = packet_frame(source(claimers, from), source(claimers, to), &packet);
+            let frame = packet_frame(source(claimers, to), source(claimers, from), &packet);
             self.wire.post(from, to, Wired::Packet(packet));
             self.frames.push_reserved(frame);
         }

@@ -186,7 +186,8 @@ ReactsAside x = RepliesAside x.1
 cleared_aside : (own packets count first : ℕ) (stage : Stage) → ReactsAside (sender.cleared own packets count first stage)
 cleared_aside own packets count first (Sending next last) = tt
 cleared_aside own packets count first Waiting =
-    cond_both (nat_lt 0 count && (nat_le 1 first && nat_le first packets)) _ _ ReactsAside (λ _. tt) (λ _. tt)
+    cond_both (sender.is_hold count) _ _ ReactsAside (λ _. tt)
+    (λ _. cond_both (sender.is_outside packets first) _ _ ReactsAside (λ _. tt) (λ _. tt))
 cleared_aside own packets count first (Resting outcome) = tt
 
 ended_aside : (outcome : Outcome) (stage : Stage) → ReactsAside (sender.ended outcome stage)
@@ -213,8 +214,8 @@ cleared_acked : (own packets count first pgn : ℕ) (stage : Stage)
     → IsAckedBy One stage (Cts count first pgn) (sender.cleared own packets count first stage)
 cleared_acked own packets count first pgn (Sending next last) = λ e. absurd (cc e)
 cleared_acked own packets count first pgn Waiting =
-    cond_both (nat_lt 0 count && (nat_le 1 first && nat_le first packets)) _ _ (IsAckedBy One Waiting (Cts count first pgn))
-    (λ _ e. absurd (cc e)) (λ _ e. absurd (cc e))
+    cond_both (sender.is_hold count) _ _ (IsAckedBy One Waiting (Cts count first pgn)) (λ _ e. absurd (cc e))
+    (λ _. cond_both (sender.is_outside packets first) _ _ (IsAckedBy One Waiting (Cts count first pgn)) (λ _ e. absurd (cc e)) (λ _ e. absurd (cc e)))
 cleared_acked own packets count first pgn (Resting outcome) = λ e. inl e
 
 aborted_acked : (reason pgn : ℕ) (stage : Stage) → IsAckedBy One stage (Abort reason pgn) (sender.ended (Aborted reason) stage)

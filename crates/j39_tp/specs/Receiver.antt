@@ -21,10 +21,11 @@ use Rattle.j39_tp.specs.declared.receiving.reception.Reception.{Reception}
 abbrev pub opened : Kind → ℕ → ℕ → ℕ → Reception
 opened kind pgn size limit = record { kind = kind; pgn = pgn; size = size; limit = limit; held = 0; granted = 0; asked = 0 }
 
--- how many packets a CTS grants; a limit of 0 counts as none
+-- the maximum number of packets that may be sent for one CTS, as the RTS announces it; 0 counts as no limit
 abbrev pub limit_of : ℕ → ℕ
 limit_of limit = if limit == 0 then no_limit else limit
 
+-- how many packets a CTS grants: as many as the receiver's window, the RTS's maximum and the rest of the message let
 abbrev pub grant : ℕ → Reception → ℕ
 grant window r = min window (min (limit_of r.limit) (packets_of r.size - r.held))
 

@@ -1,6 +1,6 @@
 -- The rules of a transport sender, on a session's PGN, size and stage (SAE J1939-21, transport protocol functions).
-use Rattle.std.specs.Prelude.{ℕ, ◌+◌, ◌-◌, ◌==◌, ◌&&◌, nat_lt, nat_le, Bool, if◌then◌else◌, min, List, length, Option, Some, None, is_some}
-use Rattle.j39_tp.specs.Chunks.{packets_of, chunk}
+use Rattle.std.specs.Prelude.{ℕ, ◌+◌, ◌-◌, ◌==◌, ◌&&◌, not, nat_lt, nat_le, Bool, if◌then◌else◌, min, List, length, Option, Some, None, is_some}
+use Rattle.j39_tp.specs.Chunks.{MessageParts, packets_of, chunk}
 use Rattle.j39_tp.specs.Packets.{no_limit}
 use Rattle.j39_tp.specs.Reasons.{timeout, cts_while_sending}
 use Rattle.j39_tp.specs.declared.sending.dest.Dest.{Dest}
@@ -13,7 +13,6 @@ use Rattle.j39_tp.specs.declared.sending.phase.Phase as phase
 use Rattle.j39_tp.specs.declared.sending.phase.Phase.TheVariants as phases
 use Rattle.j39_tp.specs.declared.sending.reaction.Reaction.{Reaction}
 use Rattle.j39_tp.specs.declared.sending.reaction.Reaction.TheVariants.{Nothing, Go, Ended, Reply}
-use Rattle.j39_tp.specs.declared.sending.session.Session.{Session}
 use Rattle.j39_tp.specs.declared.sending.stage.Stage.{Stage}
 use Rattle.j39_tp.specs.declared.sending.stage.Stage.TheVariants.{Sending, Waiting, Resting}
 
@@ -42,13 +41,24 @@ abbrev pub after_packet : Dest → Stage → Stage
 after_packet dest (Sending next last) = if nat_lt next last then Sending (next + 1) last else spent dest
 after_packet dest stage = stage
 
--- a CTS of the session's PGN: it is followed in waiting, and ends the session while data is being sent
+-- a CTS of no packets holds the connection open, and one that doesn't begin at a packet of the message means nothing
+abbrev pub is_hold : ℕ → Bool
+is_hold count = count == 0
+
+abbrev pub is_outside : ℕ → ℕ → Bool
+is_outside packets first = not (nat_le 1 first && nat_le first packets)
+
+-- a CTS in waiting: one that holds, one outside the message, and one that grants packets, at most to the last of the message
+abbrev pub granted : ℕ → ℕ → ℕ → Stage × Reaction
+granted packets count first =
+    if is_hold count then (Waiting, Nothing)
+    else if is_outside packets first then (Waiting, Nothing)
+    else (Sending first (min packets (first + count - 1)), Go)
+
+-- a CTS of the session's PGN: while data is being sent it ends the session
 abbrev pub cleared : ℕ → ℕ → ℕ → ℕ → Stage → Stage × Reaction
 cleared pgn packets count first (Sending next last) = (Resting (Aborted cts_while_sending), Reply (Abort cts_while_sending pgn))
-cleared pgn packets count first Waiting =
-    if nat_lt 0 count && (nat_le 1 first && nat_le first packets)
-    then (Sending first (min packets (first + count - 1)), Go)
-    else (Waiting, Nothing)
+cleared pgn packets count first Waiting = granted packets count first
 cleared pgn packets count first (Resting outcome) = (Resting outcome, Nothing)
 
 -- an end of the session, unless it has one
@@ -86,54 +96,67 @@ abbrev pub outcome_of : Stage → Option Outcome
 outcome_of (Resting outcome) = Some outcome
 outcome_of _ = None
 
--- ---- a sender: no session, or one with its message
+-- ---- a transfer: a message that is being sent, whether to all or to one, and how far it is
+
+pub record TransferParts : Type 0 where
+  pub message : MessageParts
+  pub dest : Dest
+  pub stage : Stage
+
+-- a message that was announced
+abbrev pub announced : MessageParts → Dest → TransferParts
+announced message dest = record { message = message; dest = dest; stage = begun dest (length message.bytes) }
 
 -- the data packet that is sent next
 abbrev pub data_next : List ℕ → Stage → Option Packet
 data_next bytes (Sending next last) = Some (Dt next (chunk bytes next))
 data_next bytes _ = None
 
-abbrev pub packet_next : Option Session → Option Packet
+-- where it stands once it heard a packet, and what it does
+abbrev pub transfer_hears : TransferParts → Packet → Stage × Reaction
+transfer_hears t packet = hears t.dest t.message.pgn (length t.message.bytes) t.stage packet
+
+-- ---- a sender: no message, or one that is being sent
+
+-- what it sends next, and what it is then
+abbrev pub packet_next : Option TransferParts → Option Packet
 packet_next None = None
-packet_next (Some s) = data_next s.message.bytes s.stage
+packet_next (Some t) = data_next t.message.bytes t.stage
 
-abbrev pub sent_next : Option Session → Option Session
-sent_next None = None
-sent_next (Some s) = Some (record s { stage = after_packet s.dest s.stage })
+abbrev pub sender_after_sending : Option TransferParts → Option TransferParts
+sender_after_sending None = None
+sender_after_sending (Some t) = Some (record t { stage = after_packet t.dest t.stage })
 
--- what a sender does with a packet, and what it is then
-abbrev pub session_hears : Session → Packet → Stage × Reaction
-session_hears s packet = hears s.dest s.message.pgn (length s.message.bytes) s.stage packet
-
-abbrev pub answer : Option Session → Packet → Reaction
+-- what it does with a packet, and what it is then
+abbrev pub answer : Option TransferParts → Packet → Reaction
 answer None packet = Nothing
-answer (Some s) packet = (session_hears s packet).1
+answer (Some t) packet = (transfer_hears t packet).1
 
-abbrev pub heard : Option Session → Packet → Option Session
-heard None packet = None
-heard (Some s) packet = Some (record s { stage = (session_hears s packet).0 })
+abbrev pub sender_after_hearing : Option TransferParts → Packet → Option TransferParts
+sender_after_hearing None packet = None
+sender_after_hearing (Some t) packet = Some (record t { stage = (transfer_hears t packet).0 })
 
--- what a sender sends where nothing was heard in time, and what it is then
-abbrev pub late_packet : Option Session → Option Packet
+-- what it sends where nothing was heard in time, and what it is then
+abbrev pub late_packet : Option TransferParts → Option Packet
 late_packet None = None
-late_packet (Some s) = timeout_packet s.message.pgn s.stage
+late_packet (Some t) = timeout_packet t.message.pgn t.stage
 
-abbrev pub timed_out : Option Session → Option Session
-timed_out None = None
-timed_out (Some s) = Some (record s { stage = after_timeout s.stage })
+abbrev pub sender_after_timeout : Option TransferParts → Option TransferParts
+sender_after_timeout None = None
+sender_after_timeout (Some t) = Some (record t { stage = after_timeout t.stage })
 
--- what is seen of a sender
-abbrev pub outcome_seen : Option Session → Option Outcome
+-- what is seen of it
+abbrev pub outcome_seen : Option TransferParts → Option Outcome
 outcome_seen None = None
-outcome_seen (Some s) = outcome_of s.stage
+outcome_seen (Some t) = outcome_of t.stage
 
-abbrev pub phase_seen : Option Session → phase.Phase
+abbrev pub phase_seen : Option TransferParts → phase.Phase
 phase_seen None = phases.Idle
-phase_seen (Some s) = phase_of s.stage
+phase_seen (Some t) = phase_of t.stage
 
 -- a resting sender can become idle
-abbrev pub is_resting : Option Session → Bool
-is_resting s = is_some (outcome_seen s)
+abbrev pub is_resting : Option TransferParts → Bool
+is_resting sender = is_some (outcome_seen sender)
 
-abbrev pub rested : Option Session → Option Session
-rested s = if is_resting s then None else s
+abbrev pub sender_after_rest : Option TransferParts → Option TransferParts
+sender_after_rest sender = if is_resting sender then None else sender

@@ -14,4 +14,4 @@ pub use laws::{
 pub use message::Message;
 pub use packet::{Chunk, Packet, PacketError, Size, from_cm, from_dt, known_ranges, to_data};
 pub use receiving::{Heard, Receiver};
-pub use sending::{Busy, Dest, Outcome, Phase, Reaction, Sender};
+pub use sending::{Busy, Dest, Outcome, Phase, Reaction, Sender, Transfer};

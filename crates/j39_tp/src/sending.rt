@@ -6,8 +6,8 @@ mod outcome;
 mod phase;
 mod reaction;
 mod sender;
-mod session;
 mod stage;
+mod transfer;
 
 pub use busy::Busy;
 pub use dest::Dest;
@@ -15,3 +15,4 @@ pub use outcome::Outcome;
 pub use phase::Phase;
 pub use reaction::Reaction;
 pub use sender::Sender;
+pub use transfer::Transfer;

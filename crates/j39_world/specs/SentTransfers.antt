@@ -26,11 +26,11 @@ abbrev pub group_of : Packet → ℕ
 group_of (Dt number chunk) = data_transfer
 group_of _ = connection_management
 
--- the frame of a transport packet from one address to another
+-- the frame of a transport packet to one address from another
 abbrev pub packet_frame : ℕ → ℕ → Packet → Sent
-packet_frame source destination p = record { identifier = identifier_of transport_priority (group_of p) destination source; payload = data_of p }
+packet_frame destination source p = record { identifier = identifier_of transport_priority (group_of p) destination source; payload = data_of p }
 
 -- the frame of a message of at most eight bytes, with its group's priority
 abbrev pub short_frame : ℕ → ℕ → Flow → List ℕ → Sent
-short_frame source destination flow bytes =
+short_frame destination source flow bytes =
     record { identifier = identifier_of flow.priority flow.pgn destination source; payload = bytes }

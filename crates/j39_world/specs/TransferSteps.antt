@@ -35,14 +35,14 @@ sent_to w u targets item frame = record w { wire = added w.wire u targets item; 
 -- u sends a packet to those that its message goes to
 abbrev pub sent_to_receivers : World → ℕ → Outgoing → Packet → World
 sent_to_receivers w u s p =
-    sent_to w u s.targets (wired.Packet p) (packet_frame (address_of w.stations u) (destination_of w.stations s.to) p)
+    sent_to w u s.targets (wired.Packet p) (packet_frame (destination_of w.stations s.to) (address_of w.stations u) p)
 
 -- v sends u packets, each by one frame
 abbrev pub replied : World → ℕ → ℕ → List Packet → World
 replied w v u packets =
     record w {
       wire = changed_pair w.wire v u (w.wire v u ++ map wired.Packet packets);
-      frames = w.frames ++ map (packet_frame (address_of w.stations v) (address_of w.stations u)) packets;
+      frames = w.frames ++ map (packet_frame (address_of w.stations u) (address_of w.stations v)) packets;
     }
 
 -- ---- a message is begun
@@ -76,8 +76,8 @@ abbrev pub first_frame : Stations → Flow → List ℕ → frames.Sent
 first_frame stations flow bytes =
     let source : ℕ = address_of stations flow.sender in
     let destination : ℕ = destination_of stations flow.to in
-    if is_short (length bytes) then short_frame source destination flow bytes
-    else packet_frame source destination (sender.announcement (dest_of flow.to) flow.pgn (length bytes))
+    if is_short (length bytes) then short_frame destination source flow bytes
+    else packet_frame destination source (sender.announcement (dest_of flow.to) flow.pgn (length bytes))
 
 -- the sender of flow f begins to send these bytes
 abbrev pub begins : ℕ → World → ℕ → Flow → List ℕ → World

@@ -23,13 +23,13 @@ use j39_world::{Flow, Wired};
 use std::alloc::{AllocError, Global};
 
 /// The frame of what is sent first.
-fn frame_of(source: u8, destination: u8, flow: &Flow, item: &Wired) -> Frame
+fn frame_of(destination: u8, source: u8, flow: &Flow, item: &Wired) -> Frame
     requires { flow.now.priority ≤ 7 }
-    ensures { sent_of result ≡ item_frame source destination flow.now item.now }
+    ensures { sent_of result ≡ item_frame destination source flow.now item.now }
 {
     match item {
-        Wired::Short(short) => short_frame(source, destination, flow, short.bytes()),
-        Wired::Packet(packet) => packet_frame(source, destination, packet),
+        Wired::Short(short) => short_frame(destination, source, flow, short.bytes()),
+        Wired::Packet(packet) => packet_frame(destination, source, packet),
     }
 }
 
@@ -106,7 +106,7 @@ impl Network {
         let source = source(claimers, flow.sender);
         let destination = destination(claimers, flow.to);
         let (session, item) = Session::begin(place, flow, bytes, targets);
-        let frame = frame_of(source, destination, flow, &item);
+        let frame = frame_of(destination, source, flow, &item);
         post_each(&mut self.wire, flow.sender, session.targets(), &item);
         self.frames.push_reserved(frame);
         self.sessions[flow.sender] = Some(session);

@@ -1,116 +1,87 @@
 //! Senders of messages.
 ghost use Rattle.std.specs.Prelude.{◌≡◌, ◌↔◌, length, IsSome, IsErr, IfOk, IfErr, OnOk, OnErr};
 
-use super::session::Session;
-use super::stage::Stage;
-use crate::packet::NO_LIMIT;
-use crate::{Busy, Dest, Message, Outcome, Packet, Phase, Reaction};
+use crate::{Busy, Dest, Message, Outcome, Packet, Phase, Reaction, Transfer};
 use std::marker::Model;
 
 /// A sender of one message at a time (SAE J1939-21, transport protocol).
 #[derive(Drop)]
 pub struct Sender {
-    session: Option<Session>,
+    transfer: Option<Transfer>,
 }
 
 impl Model for Sender {
     ghost use Rattle.std.specs.Prelude.{Option};
-    ghost use Rattle.j39_tp.specs.declared.sending.session.Session.{Session};
+    ghost use Rattle.j39_tp.specs.Sender.{TransferParts};
 
-    ghost Value = { Option Session };
+    ghost Value = { Option TransferParts };
 
-    ghost view = { λ s. s.session };
+    ghost view = { λ s. s.transfer };
 }
 
 impl Sender {
-    ghost use Rattle.j39_tp.specs.Sender.{announcement, begun, packet_next, sent_next, answer, heard, timed_out, late_packet, is_resting, rested, phase_seen};
-    ghost use Rattle.j39_tp.specs.Sender.{outcome_seen};
+    ghost use Rattle.j39_tp.specs.Sender.{announced, announcement, packet_next, answer, late_packet, is_resting, outcome_seen, phase_seen};
+    ghost use Rattle.j39_tp.specs.Sender.{sender_after_sending, sender_after_hearing, sender_after_timeout, sender_after_rest};
 
     /// An idle sender.
     pub fn new() -> Self
         ensures { result ≡ None }
     {
-        Sender { session: None }
+        Sender { transfer: None }
     }
 
     /// Takes a message and gives its announcement; a sender that isn't idle hands it back.
     pub fn begin(&mut self, message: Message, dest: Dest) -> Result<Packet, Busy>
         ensures announced { IfOk result (λ p. p ≡ announcement dest message.pgn (length message.bytes)) }
-        ensures begun { OnOk result (self.new ≡ Some (record { message = message; dest = dest; stage = begun dest (length message.bytes) })) }
+        ensures begun { OnOk result (self.new ≡ Some (announced message dest)) }
         ensures busy { IsErr result ↔ IsSome self.old }
         ensures returned { IfErr result (λ b. b.message ≡ message) }
         ensures unchanged { OnErr result (self.new ≡ self.old) }
     {
-        if self.session.is_some() {
+        if self.transfer.is_some() {
             return Err(Busy { message });
         }
-        let size = message.size();
-        let pgn = message.pgn();
-        self.session = Some(Session {
-            message,
-            dest,
-            stage: Stage::begin(dest, size),
-        });
-        Ok(match dest {
-            Dest::All => Packet::Bam { size, pgn },
-            Dest::One => Packet::Rts {
-                size,
-                limit: NO_LIMIT,
-                pgn,
-            },
-        })
+        let (transfer, announcement) = Transfer::begin(message, dest);
+        self.transfer = Some(transfer);
+        Ok(announcement)
     }
 
     /// The next data packet, if one may be sent now.
     pub fn next_packet(&mut self) -> Option<Packet>
         ensures packet { result ≡ packet_next self.old }
-        ensures after { self.new ≡ sent_next self.old }
+        ensures after { self.new ≡ sender_after_sending self.old }
     {
-        let session = self.session.as_mut()?;
-        let Stage::Sending { next, .. } = session.stage else {
-            return None;
-        };
-        session.stage = session.stage.advance(session.dest);
-        Some(Packet::Dt {
-            number: next,
-            chunk: session.message.chunk(next),
-        })
+        self.transfer.as_mut()?.next_packet()
     }
 
     /// What it does with a packet of its receiver.
     pub fn hear(&mut self, packet: &Packet) -> Reaction
         ensures answer { result ≡ answer self.old packet.now }
-        ensures after { self.new ≡ heard self.old packet.now }
+        ensures after { self.new ≡ sender_after_hearing self.old packet.now }
     {
-        let Some(session) = self.session.as_mut() else {
-            return Reaction::Nothing;
-        };
-        let (pgn, size) = (session.message.pgn(), session.message.size());
-        let (stage, reaction) = session.stage.hear(session.dest, pgn, size, packet);
-        session.stage = stage;
-        reaction
+        match &mut self.transfer {
+            Some(transfer) => transfer.hear(packet),
+            None => Reaction::Nothing,
+        }
     }
 
     /// What it sends where nothing was heard in time.
     pub fn late(&mut self) -> Option<Packet>
         ensures packet { result ≡ late_packet self.old }
-        ensures after { self.new ≡ timed_out self.old }
+        ensures after { self.new ≡ sender_after_timeout self.old }
     {
-        let session = self.session.as_mut()?;
-        let (stage, packet) = session.stage.time_out(session.message.pgn());
-        session.stage = stage;
-        packet
+        self.transfer.as_mut()?.late()
     }
 
     /// Makes a resting sender idle, and tells whether it rested.
     pub fn rest(&mut self) -> bool
         ensures rested { result ≡ is_resting self.old }
-        ensures after { self.new ≡ rested self.old }
+        ensures after { self.new ≡ sender_after_rest self.old }
     {
         if self.phase() != Phase::Resting {
             return false;
         }
-        self.session = None;
+        self.transfer = None;
         true
     }
 
@@ -118,15 +89,15 @@ impl Sender {
     pub fn outcome(&self) -> Option<Outcome>
         ensures { result ≡ outcome_seen self.now }
     {
-        self.session.as_ref()?.stage.outcome()
+        self.transfer.as_ref()?.outcome()
     }
 
     /// What the sender is doing.
     pub fn phase(&self) -> Phase
         ensures { result ≡ phase_seen self.now }
     {
-        match &self.session {
-            Some(session) => session.stage.phase(),
+        match &self.transfer {
+            Some(transfer) => transfer.phase(),
             None => Phase::Idle,
         }
     }

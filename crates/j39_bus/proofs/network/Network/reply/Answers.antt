@@ -21,7 +21,7 @@ returns-in-Some-clause-world c = λ h.
     let frames_are = ap (map sent_of) c.push_reserved.ensures.items ∙ map-append sent_of net.frames.items (c.packet_frame-frame.result ∷ [])
     ∙ ap (λ (f : Sent). sent ++ f ∷ [])
     (c.packet_frame-frame.ensures ∙ (λ i. packet_frame (c.source.ensures i) (c.source-in-Some.ensures i) c.in-Some.packet)
-    ∙ ap (λ cs. packet_frame (address_of (station_at cs) c.args.from) (address_of (station_at cs) c.args.to) c.in-Some.packet)
+    ∙ ap (λ cs. packet_frame (address_of (station_at cs) c.args.to) (address_of (station_at cs) c.args.from) c.in-Some.packet)
     c.as_slice-claimers.ensures.value) in
     (λ i. record (world_in h net) { wire = c.post.ensures.lists i; frames = frames_are i })
     ∙ ap (λ o. replied (world_in h net) c.args.from c.args.to (packets_in o)) (sym c.in-Some.is)

@@ -69,8 +69,8 @@ returns-clause-world c = λ h.
     let begun_is = ap (λ (l : List ℕ). added h.begun u l message) c.requires.targets in
     let frames_are = ap (map sent_of) c.push_reserved.ensures.items ∙ map-append sent_of net.frames.items (c.frame_of-frame.result ∷ [])
     ∙ ap (λ (f : Sent). sent ++ f ∷ [])
-    (c.frame_of-frame.ensures ∙ (λ i. item_frame (c.source-source.ensures i) (c.destination-destination.ensures i) flow (c.begin-session.ensures.item i))
-    ∙ ap (λ cs. item_frame (address_of (station_at cs) u) (destination_of (station_at cs) flow.to) flow (first_item flow c.args.bytes.now))
+    (c.frame_of-frame.ensures ∙ (λ i. item_frame (c.destination-destination.ensures i) (c.source-source.ensures i) flow (c.begin-session.ensures.item i))
+    ∙ ap (λ cs. item_frame (destination_of (station_at cs) flow.to) (address_of (station_at cs) u) flow (first_item flow c.args.bytes.now))
     c.as_slice-claimers.ensures.value
     ∙ first_framed stations flow c.args.bytes.now) in
     λ i. record (world_in h net) { sessions = sessions_are i; wire = wire_is i; begun = begun_is i; frames = frames_are i }
