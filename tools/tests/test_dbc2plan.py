@@ -1,97 +1,36 @@
-"""Plans from DBC, ARXML, KCD and SYM files."""
+"""Plans from DBC, ARXML, KCD and SYM files: what comes of units, groups, signals and flows."""
 
 import contextlib
 import io
-import logging
 import os
 import random
+import time
 import tomllib
 import unittest
 
 import dbc2plan
 import program
+from left_out import Notes
+from matrix_file import import_canmatrix
+from plan_text import text_of
+from tests.dbc_files import DBC, WithDbc, message
 from tests.support import InFolder, needs, run
-
-DBC = '''VERSION ""
-NS_ :
-BS_:
-BU_: ENGINE RETARDER TOOL
-
-BO_ 2364540158 EEC1: 8 ENGINE
- SG_ SPN190 : 24|16@1+ (0.125,0) [0|8031.875] "rpm" RETARDER
- SG_ SPN512 : 8|8@1+ (1,-125) [-125|125] "%" RETARDER
- SG_ SPN899 : 0|4@1+ (1,0) [0|15] "" RETARDER
- SG_ SPN4154 : 4|3@1+ (0.125,0) [0|0.875] "%" RETARDER
-
-BO_ 2566844158 ET1: 8 ENGINE
- SG_ SPN110 : 0|8@1+ (1,-40) [-40|210] "°C" RETARDER
- SG_ SPN175 : 16|16@1+ (0.03125,-273) [-273|1735] "°C" Vector__XXX
-
-BO_ 2348810494 TSC1: 8 RETARDER
- SG_ SPN695 : 0|2@1+ (1,0) [0|3] "" ENGINE
- SG_ SPN897 : 4|2@1+ (1,0) [0|3] "" ENGINE
- SG_ SPN518 : 24|8@1+ (1,-125) [-125|125] "%" ENGINE
-
-BO_ 2566833406 ODD: 8 ENGINE
- SG_ MOTOROLA : 7|16@0+ (1,0) [0|0] "" RETARDER
- SG_ BYTE : 23|8@0+ (1,0) [0|0] "" RETARDER
- SG_ SIGNED : 24|8@1- (1,0) [0|0] "" RETARDER
- SG_ WIDE : 16|40@1+ (1,0) [0|0] "" RETARDER
- SG_ FALLING : 56|8@1+ (-1,0) [0|0] "" RETARDER
- SG_ SPEAKS : 56|8@1+ (1,0) [0|0] "日" RETARDER
-
-BO_ 2566852862 MAKER: 8 ENGINE
- SG_ X : 0|8@1+ (1,0) [0|0] "" RETARDER
-
-BO_ 2565799934 CLAIM: 8 ENGINE
-BO_ 2364539919 EEC1_AGAIN: 8 RETARDER
- SG_ SPN190 : 24|16@1+ (0.125,0) [0|8031.875] "rpm" ENGINE
- SG_ SPN512 : 8|8@1+ (1,-125) [-125|125] "%" ENGINE
- SG_ SPN899 : 0|4@1+ (1,0) [0|15] "" ENGINE
- SG_ SPN4154 : 4|3@1+ (0.125,0) [0|0.875] "%" ENGINE
-BO_ 2566843919 ET1_OTHER: 7 RETARDER
-BO_ 291 SHORT: 8 ENGINE
-
-BA_DEF_ BU_ "NmStationAddress" INT 0 254;
-BA_DEF_ BU_ "NmJ1939AAC" INT 0 1;
-BA_DEF_ BU_ "NmJ1939IdentityNumber" INT 0 2097151;
-BA_DEF_ BU_ "NmJ1939ManufacturerCode" INT 0 4000;
-BA_DEF_ BU_ "NmJ1939Function" INT 0 255;
-BA_DEF_ BU_ "NmJ1939IndustryGroup" INT 0 7;
-BA_DEF_DEF_ "NmStationAddress" 254;
-BA_DEF_DEF_ "NmJ1939AAC" 0;
-BA_DEF_DEF_ "NmJ1939IdentityNumber" 0;
-BA_DEF_DEF_ "NmJ1939ManufacturerCode" 0;
-BA_DEF_DEF_ "NmJ1939Function" 0;
-BA_DEF_DEF_ "NmJ1939IndustryGroup" 0;
-BA_ "NmStationAddress" BU_ ENGINE 0;
-BA_ "NmJ1939IdentityNumber" BU_ ENGINE 4711;
-BA_ "NmJ1939ManufacturerCode" BU_ ENGINE 310;
-BA_ "NmStationAddress" BU_ RETARDER 15;
-BA_ "NmJ1939AAC" BU_ RETARDER 1;
-BA_ "NmJ1939IdentityNumber" BU_ RETARDER 4712;
-BA_ "NmJ1939ManufacturerCode" BU_ RETARDER 3000;
-BA_ "NmJ1939Function" BU_ RETARDER 10;
-BA_ "NmJ1939IndustryGroup" BU_ RETARDER 1;
-VAL_ 2348810494 SPN897 0 "Highest" 1 "High" 2 "Medium" 3 "Low" ;
-VAL_ 2348810494 SPN695 0 "Off" 1 "On" 2 "Error" 3 "Not available" ;
-VAL_ 2348810494 SPN518 255 "Not available" ;
-'''
 
 CANMATRIX_J1939 = "/usr/lib/python3/dist-packages/canmatrix/j1939.dbc"
 
-
-# canmatrix tells at its import which of its formats miss a library.
-logging.disable(logging.CRITICAL)
+# Two nodes of which one has an address, and identifiers of EEC1 (PGN 61444) from the addresses 0 and 15.
+NODES = 'BU_: ENGINE RETARDER\nBA_DEF_ BU_ "NmStationAddress" INT 0 254;\nBA_ "NmStationAddress" BU_ RETARDER 15;\n\n'
+FROM_0, FROM_15 = 0x0CF00400, 0x0CF0040F
 
 NAMES = ["all", "A", "a b", "ä", "", "X" * 40, "motor-1", "N1", "\"", "\\", "é" * 40]
 UNITS = ["", "rpm", "°C", "µm³", "日", "k" * 33, "\"\\", "km/h\n", "%"]
+ATTRIBUTES = [*dbc2plan.NAME_ATTRIBUTES.values(), dbc2plan.IDENTITY_ATTRIBUTE, ("NmStationAddress", 253), ("NmJ1939AAC", 1)]
 
 
 def random_ecu(canmatrix, chance, number):
     """A node with some of the usual attributes, within their ranges and without."""
     ecu = canmatrix.Ecu(chance.choice(NAMES) + str(number))
-    for attribute, most in [*dbc2plan.NAME_ATTRIBUTES.values(), ("NmStationAddress", 253), ("NmJ1939AAC", 1)]:
+    for attribute, most in ATTRIBUTES:
         if chance.random() < 0.7:
             ecu.add_attribute(attribute, str(chance.choice([0, 1, most, most + 1, -1, "x", chance.randrange(most + 1)])))
     return ecu
@@ -122,21 +61,7 @@ def random_frame(canmatrix, chance, nodes, number):
 
 
 @needs("canmatrix", "python3-canmatrix")
-class FromDbc(InFolder):
-    def plan(self, *words, text=DBC):
-        """The plan of a DBC, and what is said of it; `check` reads it."""
-        with open(self.path("file.dbc"), "w", encoding="iso-8859-1", errors="replace") as file:
-            file.write(text)
-        status, plan, said = run("dbc2plan.py", self.path("file.dbc"), *words)
-        self.assertEqual(status, 0, said)
-        return tomllib.loads(self.checked(plan)), said.splitlines()
-
-    def checked(self, plan):
-        """A plan that `check` can read."""
-        status, answer = program.call(["check", self.write("plan.toml", plan)])
-        self.assertIn(status, (0, 1), answer)
-        return plan
-
+class Units(WithDbc):
     def test_units(self):
         plan, said = self.plan()
         self.assertEqual(plan["unit"], [
@@ -147,25 +72,48 @@ class FromDbc(InFolder):
         self.assertIn("unit TOOL: no address is given", said)
         self.assertIn("unit RETARDER, NmJ1939ManufacturerCode: 3000 is outside 0..2047", said)
 
+    def test_an_address_by_the_frames(self):
+        plan, said = self.plan(data='BU_: A B\nBO_ 2364539909 EEC1: 8 A\n SG_ S : 0|8@1+ (1,0) [0|0] "" B\n')
+        self.assertEqual([(unit["label"], unit["address"]) for unit in plan["unit"]], [("A", 5)])
+        self.assertIn("unit A: no identity number is given: 1 stands in its place", said)
+
+    def test_frames_from_several_addresses(self):
+        _, said = self.plan(data=NODES + message(FROM_0, "EEC1", "ENGINE") + message(0x18FEEE17, "ET1", "ENGINE"))
+        self.assertIn("unit ENGINE: its frames come from several addresses", said)
+
+    def test_a_default_is_no_identity_and_no_address(self):
+        """Nodes that have only defaults of the file would all be one unit."""
+        plan, said = self.plan(data=NODES + message(FROM_0, "EEC1", "ENGINE") + (
+            'BA_DEF_ BU_ "NmJ1939IdentityNumber" INT 0 2097151;\n'
+            'BA_DEF_DEF_ "NmJ1939IdentityNumber" 0;\nBA_DEF_DEF_ "NmStationAddress" 7;\n'))
+        self.assertEqual([(unit["address"], unit["name"]) for unit in plan["unit"]], [(0, {"identity": 1}), (15, {"identity": 2})])
+        for name, identity in (("ENGINE", 1), ("RETARDER", 2)):
+            self.assertIn(f"unit {name}: no identity number is given: {identity} stands in its place", said)
+
+    def test_a_free_identity_is_one_that_no_node_has(self):
+        plan, _ = self.plan(data=NODES + message(FROM_0, "EEC1", "ENGINE") + (
+            'BA_DEF_ BU_ "NmJ1939IdentityNumber" INT 0 2097151;\nBA_ "NmJ1939IdentityNumber" BU_ RETARDER 1;\n'))
+        self.assertEqual([unit["name"]["identity"] for unit in plan["unit"]], [2, 1])
+
+    def test_a_default_that_units_share_is_said(self):
+        plan, said = self.plan(data=NODES + (
+            'BA_DEF_ BU_ "NmJ1939ManufacturerCode" INT 0 2047;\nBA_DEF_DEF_ "NmJ1939ManufacturerCode" 310;\n'))
+        self.assertEqual(plan["unit"][0]["name"], {"identity": 1, "manufacturer": 310})
+        self.assertIn("unit RETARDER, NmJ1939ManufacturerCode: 310 is the default of the file", said)
+
+    def test_attributes_that_are_no_numbers(self):
+        for value in ("NaN", "sNaN", "Infinity", "1E999999999", "-1", "7.5", '"seven"', "300"):
+            plan, said = self.plan(data=NODES + message(FROM_0, "EEC1", "ENGINE") + f'BA_ "NmStationAddress" BU_ ENGINE {value};\n')
+            self.assertEqual(plan["unit"][0]["address"], 0)
+            self.assertIn(f"unit ENGINE, NmStationAddress: {value} is outside 0..254", said)
+
+
+@needs("canmatrix", "python3-canmatrix")
+class Groups(WithDbc):
     def test_groups(self):
         plan, _ = self.plan()
         shown = [(group["label"], group["pgn"], group["priority"], group["length"]) for group in plan["group"]]
         self.assertEqual(shown, [("EEC1", 61444, 3, 8), ("ET1", 65262, 6, 8), ("TSC1", 0, 3, 8), ("ODD", 65220, 6, 8)])
-
-    def test_exact_factors(self):
-        plan, _ = self.plan()
-        signals = {signal["label"]: signal for group in plan["group"] for signal in group.get("signal", [])}
-        self.assertEqual(signals["SPN190"], {"label": "SPN190", "byte": 4, "bits": 16, "kind": "measured", "unit": "1/8 rpm"})
-        self.assertEqual(signals["SPN512"]["offset"], -125)
-        self.assertEqual(signals["SPN110"], {"label": "SPN110", "byte": 1, "bits": 8, "kind": "measured", "offset": -40,
-                                             "unit": "degC"})
-        self.assertEqual((signals["SPN175"]["offset"], signals["SPN175"]["unit"]), (-8736, "1/32 degC"))
-        self.assertEqual((signals["SPN4154"]["kind"], signals["SPN4154"]["bit"]), ("raw", 5))
-
-    def test_kinds_by_tables_of_values(self):
-        plan, _ = self.plan("--group", "TSC1")
-        kinds = [(signal["label"], signal["kind"]) for signal in plan["group"][0]["signal"]]
-        self.assertEqual(kinds, [("SPN695", "discrete"), ("SPN897", "raw"), ("SPN518", "measured")])
 
     def test_flows(self):
         plan, _ = self.plan()
@@ -187,31 +135,163 @@ class FromDbc(InFolder):
         ]:
             self.assertIn(line, said)
 
+    def test_no_destination_from_the_null_address(self):
+        """Identifiers that stand for a group alone have the source 254, and at the destination's place what means nothing."""
+        tsc1 = 'SPN695 : 0|2@1+ (1,0) [0|3] "" RETARDER'
+        for identifier, receiver in ((0x0C0000FE, "RETARDER"), (0x0C000F00, "RETARDER"), (0x0C00FFFE, "all")):
+            plan, _ = self.plan(data=NODES + message(FROM_0, "EEC1", "ENGINE") + message(identifier, "TSC1", "ENGINE", tsc1))
+            self.assertIn({"group": "TSC1", "from": "ENGINE", "to": receiver}, plan["flow"])
+
+    def test_a_flow_to_itself(self):
+        plan, said = self.plan(data=NODES + message(0x0C000F0F, "TSC1", "RETARDER"))
+        self.assertNotIn("flow", plan)
+        self.assertIn("flow of TSC1 from RETARDER: it goes to the unit itself", said)
+
+    def test_frames_of_one_group_mean_the_same(self):
+        """Of two frames of one PGN the second one is of the first one's group only where a reader of that group is right."""
+        first, table = 'SPN1 : 8|8@1+ (1,-40) [0|0] "" RETARDER', 'VAL_ {} SPN1 254 "hot" ;\n'.format(FROM_15 | 1 << 31)
+        for second, more, other in (
+            ('SPN1 : 8|8@1+ (2,-40) [0|0] "" ENGINE', "", "scale"), ('SPN1 : 8|8@1+ (1,0) [0|0] "" ENGINE', "", "scale"),
+            ('SPN1 : 8|8@1- (1,-40) [0|0] "" ENGINE', "", "scale"), ('SPN1 : 8|8@1+ (1,-40) [0|0] "°C" ENGINE', "", "scale"),
+            (first, table.replace("254", "1"), "scale"), ('SPN1 : 16|8@1+ (1,-40) [0|0] "" ENGINE', "", "layout"),
+            ('SPN1 : 15|8@0+ (1,-40) [0|0] "" ENGINE', "", "layout"), ('SPN1 m0 : 8|8@1+ (1,-40) [0|0] "" ENGINE', "", "scale"),
+            (first, "", ""), ('OTHER : 8|8@1+ (1.0,-40.00) [0|0] "" ENGINE', table, ""),
+        ):
+            plan, said = self.plan(
+                data=NODES + message(FROM_0, "EEC1", "ENGINE", first) + message(FROM_15, "AGAIN", "RETARDER", second) + more)
+            senders = [flow["from"] for flow in plan["flow"]]
+            self.assertEqual(senders, ["ENGINE"] if other else ["ENGINE", "RETARDER"], second)
+            refused = [line for line in said if line.startswith("group AGAIN: EEC1 has the same PGN 61444 and another ")]
+            self.assertEqual(len(refused), bool(other))
+            self.assertIn(other, "".join(refused))
+
+    def test_a_group_has_one_priority(self):
+        plan, said = self.plan(data=NODES + message(FROM_0, "EEC1", "ENGINE") + message(0x18F0040F, "AGAIN", "RETARDER"))
+        self.assertEqual((len(plan["group"]), plan["group"][0]["priority"], len(plan["flow"])), (1, 3, 2))
+        self.assertIn("group AGAIN: its priority is 6, that of EEC1 is 3", said)
+
     def test_a_choice(self):
         self.assertEqual([group["label"] for group in self.plan("--sender", "RETARDER")[0]["group"]],
                          ["TSC1", "EEC1_AGAIN", "ET1_OTHER"])
         self.assertEqual([group["label"] for group in self.plan("--group", "61444")[0]["group"]], ["EEC1"])
 
-    def test_an_address_by_the_frames(self):
-        plan, said = self.plan(text='BU_: A B\nBO_ 2364539909 EEC1: 8 A\n SG_ S : 0|8@1+ (1,0) [0|0] "" B\n')
-        self.assertEqual([(unit["label"], unit["address"]) for unit in plan["unit"]], [("A", 5)])
-        self.assertIn("unit A: no identity number is given: 1 stands in its place", said)
+    def test_a_choice_of_nothing(self):
+        for words, why in (
+            (["--sender", "Nobody"], "--sender Nobody: no frame in it is from this unit"),
+            (["--sender", "TOOL"], "--sender TOOL: no frame in it is from this unit"),
+            (["--group", "NOPE"], "--group NOPE: no frame in it has this name or PGN"),
+            (["--group", "EEC1", "--group", "61440"], "--group 61440: no frame in it has this name or PGN"),
+            (["--sender", "ENGINE", "--group", "TSC1"], "none of these groups is from one of these units"),
+            (["--bus", "X"], "--bus X: its only bus has no name"),
+        ):
+            self.assertEqual(self.made(*words), (2, "", [f"dbc2plan: {self.path('file.dbc')}: {why}"]))
 
     def test_what_is_said_is_counted(self):
         _, said = self.plan()
         self.assertEqual(said[-1], f"2 units 4 groups 5 flows, notes {len(said) - 1}")
 
-    def test_a_file_that_cannot_be_read(self):
-        status, plan, said = run("dbc2plan.py", self.write("plan.txt", ""))
-        self.assertEqual((status, plan), (2, ""))
-        self.assertTrue(said.startswith("dbc2plan: "), said)
 
-    def test_a_file_that_is_not_there(self):
-        missing = self.path("none.dbc")
-        self.assertEqual(run("dbc2plan.py", missing), (4, "", f"dbc2plan: {missing}: No such file or directory\n"))
+@needs("canmatrix", "python3-canmatrix")
+class Signals(WithDbc):
+    def test_exact_factors(self):
+        signals = self.signals()
+        self.assertEqual(signals["SPN190"], {"label": "SPN190", "byte": 4, "bits": 16, "kind": "measured", "unit": "1/8 rpm"})
+        self.assertEqual(signals["SPN512"]["offset"], -125)
+        self.assertEqual(signals["SPN110"], {"label": "SPN110", "byte": 1, "bits": 8, "kind": "measured", "offset": -40,
+                                             "unit": "degC"})
+        self.assertEqual((signals["SPN175"]["offset"], signals["SPN175"]["unit"]), (-8736, "1/32 degC"))
+        self.assertEqual((signals["SPN4154"]["kind"], signals["SPN4154"]["bit"]), ("raw", 5))
 
+    def test_kinds_by_tables_of_values(self):
+        kinds = [(label, signal["kind"]) for label, signal in self.signals("--group", "TSC1").items()]
+        self.assertEqual(kinds, [("SPN695", "discrete"), ("SPN897", "raw"), ("SPN518", "measured")])
+
+    def test_a_selector_is_a_signal(self):
+        plan, said = self.plan(data=NODES + message(
+            FROM_0, "EEC1", "ENGINE", 'PAGE M : 0|8@1+ (1,0) [0|0] "" RETARDER', 'FIRST m0 : 8|8@1+ (1,0) [0|0] "" RETARDER',
+            'SECOND m1M : 8|8@1+ (1,0) [0|0] "" RETARDER'))
+        self.assertEqual(plan["group"][0]["signal"], [{"label": "PAGE", "byte": 1, "bits": 8, "kind": "raw"}])
+        for name in ("FIRST", "SECOND"):
+            self.assertIn(f"signal {name} of EEC1: it is multiplexed", said)
+
+    def test_places_that_a_group_does_not_have(self):
+        data = NODES + message(
+            FROM_0, "EEC1", "ENGINE", 'FIRST : 0|16@1+ (1,0) [0|0] "" RETARDER', 'OVER : 14|2@1+ (1,0) [0|0] "" RETARDER',
+            'NEXT : 16|8@1+ (1,0) [0|0] "" RETARDER', 'BEHIND : 56|16@1+ (1,0) [0|0] "" RETARDER',
+            'LAST : 63|1@1+ (1,0) [0|0] "" RETARDER')
+        places = ("signal OVER of EEC1: it overlaps FIRST", "signal BEHIND of EEC1: it lies outside of the 8 bytes")
+        plan, said = self.plan(data=data)
+        self.assertEqual([signal["label"] for signal in plan["group"][0]["signal"]], ["FIRST", "NEXT", "LAST"])
+        self.assertEqual([line for line in said if line.startswith("signal ")], list(places))
+        plan, said = self.plan("--strict", data=data)
+        self.assertEqual([signal["label"] for signal in plan["group"][0]["signal"]], ["FIRST", "OVER", "NEXT", "BEHIND", "LAST"])
+        kept = [*places, "signal LAST of EEC1: it overlaps BEHIND"]
+        self.assertEqual([line for line in said if line.startswith("signal ")], [f"{line}, and is kept" for line in kept])
+
+    def test_numbers_of_any_size(self):
+        for factor, offset, why in (
+            ("1E999999", "0", "factor 1E+999999 is no step of 1 to 1000000"),
+            ("0", "0", "factor 0 is no step of 1 to 1000000"),
+            ("1E-999999", "0", "factor 1E-999999 is no step of 1 to 1000000"),
+            ("1", "1E13", "offset 1E+13 is above 10^12"),
+            ("1E-40", "0", f"its step, 1/1{40 * '0'} of its unit, has more than 32 characters"),
+        ):
+            signal = f'SPN1 : 0|1@1+ ({factor},{offset}) [0|0] "" RETARDER'
+            _, said = self.plan(data=NODES + message(FROM_0, "EEC1", "ENGINE", signal))
+            self.assertIn(f"signal SPN1 of EEC1: {why}", said)
+        _, said = self.plan(data=NODES + message(FROM_0, "EEC1", "ENGINE", 'SPN1 : 0|0@1+ (1,0) [0|0] "" RETARDER'))
+        self.assertIn("signal SPN1 of EEC1: it has no bits", said)
+
+    def test_units_of_measurement(self):
+        for spelled, written in (("°C", "degC"), ("日本", "??"), ("m\\\u00b3", "m\\3"), ("k" * 40, "k" * 32), ("µg\tl", "ug l")):
+            signal = f'SPN1 : 0|8@1+ (1,0) [0|0] "{spelled}" RETARDER'
+            plan, said = self.plan(data=(NODES + message(FROM_0, "EEC1", "ENGINE", signal)).encode())
+            self.assertEqual(plan["group"][0]["signal"][0]["unit"], written)
+            told = [f"signal SPN1 of EEC1: its unit {spelled!r} is written {written!r}"] if spelled[0] in "日k" else []
+            self.assertEqual([line for line in said if line.startswith("signal ")], told)
+
+
+@needs("canmatrix", "python3-canmatrix")
+class Remarks(WithDbc):
+    """What a plan has no key for stands behind the labels."""
+
+    def test_what_a_file_says_beside(self):
+        number = FROM_0 | 1 << 31
+        text, _ = self.text(data=NODES + message(FROM_0, "EEC1", "ENGINE", 'SPN190 : 24|16@1+ (0.125,0) [0|0] "rpm" RETARDER',
+                                                'STATE : 0|2@1+ (1,0) [0|0] "" RETARDER') + (
+            f'CM_ BU_ ENGINE "Diesel engine";\nCM_ BO_ {number} "Electronic engine\n  controller 1 # \u00fc";\n'
+            f'CM_ SG_ {number} SPN190 "Actual engine speed";\nBA_DEF_ BO_ "GenMsgCycleTime" INT 0 65535;\n'
+            f'BA_DEF_ SG_ "SPN" INT 0 524287;\nBA_DEF_ SG_ "GenSigCycleTime" INT 0 65535;\nBA_ "GenMsgCycleTime" BO_ {number} 20;\n'
+            f'BA_ "SPN" SG_ {number} SPN190 190;\nBA_ "GenSigCycleTime" SG_ {number} SPN190 10;\n'
+            f'VAL_ {number} STATE 1 "on" 0 "off" ;\n'))
+        for line in (
+            'label = "ENGINE"  # "Diesel engine"',
+            'label = "EEC1"  # 20 ms, "Electronic engine controller 1 # \u00fc"',
+            'label = "SPN190"  # SPN 190, 10 ms, "Actual engine speed"',
+            'label = "STATE"  # 0 = "off", 1 = "on"',
+            'label = "RETARDER"',
+        ):
+            self.assertIn(line, text.splitlines())
+
+    def test_names_that_are_no_labels(self):
+        long = "Engine_Requested_Torque_Torque_Limit"
+        text, _ = self.text(data=NODES + message(
+            FROM_0, long + "_1", "ENGINE", f'{long} : 24|16@1+ (1,0) [0|0] "" RETARDER', f'{long}_2 : 40|8@1+ (1,0) [0|0] "" RETARDER'))
+        for line in (f'label = "{long[:32]}"  # {long}_1', f'label = "{long[:32]}"  # {long}', f'label = "{long[:30]}_2"  # {long}_2'):
+            self.assertIn(line, text.splitlines())
+
+    def test_frames_that_are_of_one_group(self):
+        text, _ = self.text(data=NODES + message(FROM_0, "EEC1", "ENGINE") + message(FROM_15, "AGAIN", "RETARDER") + (
+            f'BA_DEF_ BO_ "GenMsgCycleTime" INT 0 65535;\nBA_ "GenMsgCycleTime" BO_ {FROM_0 | 1 << 31} 20;\n'
+            f'BA_ "GenMsgCycleTime" BO_ {FROM_15 | 1 << 31} 50;\n'))
+        self.assertIn('label = "EEC1"  # 20 ms; AGAIN, 50 ms', text.splitlines())
+
+
+@needs("canmatrix", "python3-canmatrix")
+class Whole(WithDbc):
     def test_what_it_writes_can_be_read(self):
-        """Files of random nodes, frames and signals, of which much can't be carried over."""
+        """Files of random nodes, frames and signals, of which much can't be carried over; no signal of them is at a wrong place."""
+        import_canmatrix()
         import canmatrix
         chance, flows = random.Random(1939), 0
         for _ in range(60):
@@ -222,19 +302,35 @@ class FromDbc(InFolder):
             for number in range(chance.randrange(8)):
                 db.add_frame(random_frame(canmatrix, chance, nodes, number))
             with contextlib.redirect_stderr(io.StringIO()):
-                plan = dbc2plan.Plan(db, dbc2plan.Notes())
+                plan = dbc2plan.Plan(db, Notes())
                 plan.add_units(db.frames)
                 plan.add_frames(db.frames)
-            self.checked(dbc2plan.text_of(plan, "random"))
+            self.checked(text_of(plan.tables(), "random"))
+            _, answer = program.call(["check", self.path("plan.toml")])
+            self.assertNotRegex(answer, r"(?m)^(?:F[5-9]|F1[01]) ")
             flows += len(plan.flows)
         self.assertGreater(flows, 10)
 
     @unittest.skipUnless(os.path.exists(CANMATRIX_J1939), "canmatrix's j1939.dbc isn't there")
     def test_the_groups_of_canmatrix(self):
+        begin = time.monotonic()
         status, plan, said = run("dbc2plan.py", CANMATRIX_J1939)
+        self.assertLess(time.monotonic() - begin, 5)
         self.assertEqual(status, 0)
-        self.assertEqual(len(tomllib.loads(self.checked(plan))["group"]), 256)
+        self.assertEqual(len(tomllib.loads(plan)["group"]), 256)
         self.assertIn("group WFI: a plan has at most 256 groups: choose some by --sender or --group", said)
+        self.assertIn("signal AETC_Speed_Value of AETC: it overlaps AETC_Data_Collection_Standard", said)
+        name = self.write("plan.toml", plan)
+        self.assertEqual(program.call(["check", name]), (0, "ok 0 units 256 groups 0 flows\n"))
+        log = self.write("drive.log", "0CF00400#F07D87E02EF00F87\n")
+        self.assertIn("Engine_Speed value 12000", program.call(["read", name, log])[1])
+
+    @unittest.skipUnless(os.path.exists(CANMATRIX_J1939), "canmatrix's j1939.dbc isn't there")
+    def test_the_groups_of_canmatrix_as_they_are(self):
+        status, plan, _ = run("dbc2plan.py", "--strict", CANMATRIX_J1939)
+        self.assertEqual(status, 0)
+        answer = program.call(["check", self.write("plan.toml", plan)])[1].splitlines()
+        self.assertEqual((answer[-1], {line[:3] for line in answer[:-1]}), ("findings 14", {"F8 "}))
         status, plan, _ = run("dbc2plan.py", CANMATRIX_J1939, "--group", "61444", "--group", "ET1")
         self.assertEqual([group["pgn"] for group in tomllib.loads(self.checked(plan))["group"]], [61444, 65262])
 
@@ -245,6 +341,7 @@ class FromOthers(InFolder):
     """The same groups and signals come out of the other formats, as canmatrix writes them."""
 
     def test_formats(self):
+        import_canmatrix()
         import canmatrix.formats
         with open(self.path("file.dbc"), "w", encoding="iso-8859-1", errors="replace") as file:
             file.write(DBC)

@@ -59,6 +59,7 @@ class Built(InFolder):
                          ["ok 2 units 1 groups 1 flows"])
         self.assertEqual(lines_of("j39plan-startup", f"{examples}/first_plan.toml", env=environment)[1:],
                          ["up ENGINE", "up CLUSTER", "give CLUSTER ENGINE"])
+        self.assertIn("--strict", " ".join(lines_of("j39plan-dbc2plan", "--help", env=environment)))
         for page in ("j39plan", "j39plan-where", "j39plan-startup", "j39plan-dbc2plan", "j39plan-against"):
             self.assertTrue(os.path.exists(f"{prefix}/share/man/man1/{page}.1.gz"), page)
 

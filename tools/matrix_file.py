@@ -1,0 +1,148 @@
+"""A file's bus, as canmatrix reads it, and what it says while it reads."""
+
+from __future__ import annotations
+
+import codecs
+import contextlib
+import io
+import logging
+from collections.abc import Iterator
+from typing import TYPE_CHECKING
+
+import program
+from left_out import LeftOut, Notes, plain
+
+if TYPE_CHECKING:
+    import canmatrix
+
+# The kinds of files by their endings, and whether their lines are a text without a declared encoding.
+KINDS = {"dbc": True, "sym": True, "arxml": False, "kcd": False}
+
+
+class Lines:
+    """The lines of a file, which canmatrix takes one after another, and which of them it is at."""
+
+    def __init__(self, data: bytes, notes: Notes) -> None:
+        self.lines, self.notes = data.split(b"\n"), notes
+        self.number, self.line = 0, b""
+        self.refused_message = 0
+
+    def __iter__(self) -> Iterator[bytes]:
+        """Hands out the lines, but for the signals of a message that was refused: canmatrix would give them to the one before."""
+        for self.number, self.line in enumerate(self.lines, 1):
+            if self.refused_message and self.begins(b"SG_ "):
+                self.notes.say(f"line {self.number}", f"the message of this signal, at line {self.refused_message}, can't be read")
+                continue
+            if self.begins(b"BO_ "):
+                self.refused_message = 0
+            yield self.line
+
+    def begins(self, word: bytes) -> bool:
+        """Whether the line begins with a word."""
+        return self.line.lstrip().startswith(word)
+
+    def refuse(self) -> None:
+        """Notes that canmatrix can't read the line that it is at."""
+        self.notes.say(f"line {self.number}", f"canmatrix can't read it: {self.line.decode()}")
+        if self.begins(b"BO_ "):
+            self.refused_message = self.number
+
+
+class Heard(io.TextIOBase):
+    """Stands for standard output and the log while canmatrix reads, and makes notes of what comes there."""
+
+    def __init__(self, lines: Lines) -> None:
+        super().__init__()
+        self.lines = lines
+
+    def write(self, text: str) -> int:
+        """Takes a piece of text. Of a line that it can't read canmatrix prints a number, which is wrong behind tables of values, and
+        then the line."""
+        if text == repr(self.lines.line):
+            self.lines.refuse()
+        elif text.strip() and not text.startswith("error with line no: "):
+            self.lines.notes.say("canmatrix", text)
+        return len(text)
+
+
+@contextlib.contextmanager
+def heard(lines: Lines) -> Iterator[None]:
+    """Makes notes of what canmatrix prints and of the errors that it logs."""
+    log, ear = logging.getLogger("canmatrix"), Heard(lines)
+    handler = logging.StreamHandler(ear)
+    log.addHandler(handler)
+    try:
+        with contextlib.redirect_stdout(ear):
+            yield
+    finally:
+        log.removeHandler(handler)
+
+
+def in_utf8(line: bytes) -> bytes:
+    """A line of UTF-8, or of Windows' cp1252 where it isn't that, as UTF-8."""
+    try:
+        line.decode()
+    except UnicodeDecodeError:
+        return line.decode("cp1252", "replace").encode()
+    return line
+
+
+def import_canmatrix() -> None:
+    """Imports canmatrix, which warns of each library that its other formats miss."""
+    log = logging.getLogger("canmatrix")
+    log.setLevel(logging.ERROR)
+    log.propagate = False
+    try:
+        import canmatrix.formats  # pylint: disable=unused-import
+    except ImportError:
+        why = "canmatrix isn't there: apt-get install python3-canmatrix python3-lxml"
+        raise program.Refused(program.MISSING, why) from None
+
+
+def kind_of(name: str) -> str:
+    """What kind of file it is, by its ending."""
+    import canmatrix.formats
+    kind = name.rpartition(".")[2].lower()
+    if kind not in KINDS:
+        raise LeftOut("it is none of .dbc, .arxml, .kcd and .sym by its ending")
+    if kind not in canmatrix.formats.loadedFormats:
+        raise LeftOut(f"canmatrix doesn't read .{kind}: apt-get install python3-lxml")
+    return kind
+
+
+def buses_of(kind: str, data: bytes, notes: Notes) -> dict[str, canmatrix.CanMatrix]:
+    """The buses of a file by their names, as canmatrix reads it."""
+    import canmatrix.formats
+    if KINDS[kind]:
+        data = b"\n".join(map(in_utf8, data.removeprefix(codecs.BOM_UTF8).splitlines()))
+    lines = Lines(data, notes)
+    file = lines if kind == "dbc" else io.BytesIO(data)
+    try:
+        with heard(lines):
+            return canmatrix.formats.load(file, kind, dbcImportEncoding="utf-8", symImportEncoding="utf-8")
+    except MemoryError:
+        raise
+    except Exception as fault:  # canmatrix raises what its parsers do
+        raise LeftOut(f"canmatrix can't read it: {type(fault).__name__}: {plain(fault)}") from fault
+
+
+def chosen_bus(buses: dict[str, canmatrix.CanMatrix], bus: str | None) -> canmatrix.CanMatrix:
+    """The bus of this name, or the only one."""
+    if not buses:
+        raise LeftOut("there is no bus in it")
+    if bus in buses:
+        return buses[bus]
+    if bus is None and len(buses) == 1:
+        return next(iter(buses.values()))
+    there = ", ".join(map(plain, filter(None, buses)))
+    if bus is None:
+        raise LeftOut(f"choose a bus by --bus: {there}")
+    raise LeftOut(f"--bus {plain(bus)}: " + (f"its buses are {there}" if there else "its only bus has no name"))
+
+
+def load(name: str, bus: str | None, notes: Notes) -> canmatrix.CanMatrix:
+    """The file's bus: the one of this name, or its only one."""
+    import_canmatrix()
+    with open(name, "rb") as file:
+        data = file.read()
+    return chosen_bus(buses_of(kind_of(name), data, notes), bus)
