@@ -19,7 +19,7 @@ from typing import TYPE_CHECKING, Any, NamedTuple
 import matrix_file
 import program
 from left_out import LeftOut, Notes, plain
-from matrix_signals import BYTES, layout_of, meaning_of, signals_of
+from matrix_signals import BYTES, layout_of, long_name, meaning_of, signals_of
 from plan_text import Labels, Table, remark, text_of
 
 if TYPE_CHECKING:
@@ -43,7 +43,7 @@ NOBODY = "Vector__XXX"
 NULL_ADDRESS, GLOBAL_ADDRESS = 254, 255
 
 # The most of each that a plan has (docs/PLAN.md).
-UNITS, GROUPS, FLOWS = 128, 256, 512
+UNITS, GROUPS, FLOWS, FILE = 128, 256, 512, 16_777_216
 
 # Groups that can't be planned (docs/PLAN.md, F4).
 SERVICES = (59392, 59904, 60160, 60416, 60928, 65240)
@@ -78,23 +78,23 @@ def own(ecu: canmatrix.Ecu, attribute: str, most: int, notes: Notes) -> int | No
     return number_in(ecu, attribute, most, ecu.attributes.get(attribute), notes)
 
 
-def shared(ecu: canmatrix.Ecu, attribute: str, most: int, db: canmatrix.CanMatrix, notes: Notes) -> int | None:
+def shared(ecu: canmatrix.Ecu, attribute: str, most: int, matrix: canmatrix.CanMatrix, notes: Notes) -> int | None:
     """The number of an attribute that nodes can share: the node's own, else the file's default, which is said."""
-    number = number_in(ecu, attribute, most, ecu.attribute(attribute, db), notes)
+    number = number_in(ecu, attribute, most, ecu.attribute(attribute, matrix), notes)
     if number and attribute not in ecu.attributes:
         notes.say(f"unit {ecu.name}, {attribute}", f"{number} is the default of the file")
     return number
 
 
-def name_of(ecu: canmatrix.Ecu, db: canmatrix.CanMatrix, free_identities: Iterator[int], notes: Notes) -> dict[str, Any]:
+def name_of(ecu: canmatrix.Ecu, matrix: canmatrix.CanMatrix, free_identities: Iterator[int], notes: Notes) -> dict[str, Any]:
     """The NAME of a unit, as the keys of a plan."""
     identity = own(ecu, *IDENTITY_ATTRIBUTE, notes)
     if identity is None:
         identity = next(free_identities)
         notes.say(f"unit {ecu.name}", f"no identity number is given: {identity} stands in its place")
-    fields = {key: shared(ecu, attribute, most, db, notes) for key, (attribute, most) in NAME_ATTRIBUTES.items()}
+    fields = {key: shared(ecu, attribute, most, matrix, notes) for key, (attribute, most) in NAME_ATTRIBUTES.items()}
     name: dict[str, Any] = {"identity": identity, **{key: number for key, number in fields.items() if number}}
-    if shared(ecu, ARBITRARY_ATTRIBUTE, 1, db, notes):
+    if shared(ecu, ARBITRARY_ATTRIBUTE, 1, matrix, notes):
         name["arbitrary"] = True
     return name
 
@@ -112,7 +112,7 @@ def sources_of(frames: Iterable[canmatrix.Frame]) -> dict[str, set[int]]:
 def address_of(ecu: canmatrix.Ecu, sources: set[int], notes: Notes) -> int:
     """The address of a unit: its own, else the one from which all its frames come."""
     address = own(ecu, ADDRESS_ATTRIBUTE, NULL_ADDRESS, notes)
-    if address not in (None, NULL_ADDRESS):
+    if address is not None and address != NULL_ADDRESS:
         return address
     if len(sources) == 1:
         return next(iter(sources))
@@ -151,14 +151,14 @@ class Group(NamedTuple):
     @property
     def label(self) -> str:
         """The group's label."""
-        return self.table.keys["label"]
+        return str(self.table.keys["label"])
 
 
 class Plan:
     """A plan in the making."""
 
-    def __init__(self, db: canmatrix.CanMatrix, notes: Notes, strict: bool = False) -> None:
-        self.db, self.notes, self.strict = db, notes, strict
+    def __init__(self, matrix: canmatrix.CanMatrix, notes: Notes, strict: bool = False) -> None:
+        self.matrix, self.notes, self.strict = matrix, notes, strict
         self.units: dict[str, Table] = {}
         self.groups: dict[int, Group] = {}
         self.flows: dict[tuple[str, str, str], Table] = {}
@@ -172,9 +172,9 @@ class Plan:
 
     def add_units(self, frames: Iterable[canmatrix.Frame]) -> None:
         """The units of the file that have an address."""
-        given = {number_of(ecu.attributes.get(IDENTITY_ATTRIBUTE[0])) for ecu in self.db.ecus}
+        given = {number_of(ecu.attributes.get(IDENTITY_ATTRIBUTE[0])) for ecu in self.matrix.ecus}
         free_identities, sources = (number for number in count(1) if number not in given), sources_of(frames)
-        for ecu in self.db.ecus:
+        for ecu in self.matrix.ecus:
             try:
                 if ecu.name != NOBODY:
                     self.add_unit(ecu, sources[ecu.name], free_identities)
@@ -188,10 +188,10 @@ class Plan:
         address = address_of(ecu, sources, self.notes)
         if len(self.units) == UNITS:
             raise LeftOut(f"a plan has at most {UNITS} units")
-        name, label = name_of(ecu, self.db, free_identities, self.notes), self.unit_labels.label(ecu.name or "")
+        name, label = name_of(ecu, self.matrix, free_identities, self.notes), self.unit_labels.label(ecu.name or "")
         comment = plain(ecu.comment or "")
         self.units[ecu.name] = Table("unit", {"label": label, "address": address, "name": name},
-                                     remark(ecu.name or "", label, [f'"{comment}"' if comment else None]))
+                                     remark(long_name(ecu), label, [f'"{comment}"' if comment else None]))
 
     def group_of(self, frame: canmatrix.Frame) -> Group:
         """The frame's group, which another frame of the same number and layout may have made."""
@@ -283,10 +283,10 @@ def chosen(frames: list[canmatrix.Frame], senders: list[str], groups: list[str])
 
 def plan_of(given: argparse.Namespace, notes: Notes) -> Plan:
     """The plan that can be made of a file."""
-    db = matrix_file.load(given.file, given.bus, notes)
-    frames = chosen(db.frames, given.sender, given.group)
-    plan = Plan(db, notes, given.strict)
-    plan.add_units(db.frames)
+    matrix = matrix_file.load(given.file, given.bus, notes)
+    frames = chosen(matrix.frames, given.sender, given.group)
+    plan = Plan(matrix, notes, given.strict)
+    plan.add_units(matrix.frames)
     plan.add_frames(frames)
     if not plan.units and not plan.groups:
         raise LeftOut("there is nothing in it that a plan can have")
@@ -296,7 +296,7 @@ def plan_of(given: argparse.Namespace, notes: Notes) -> Plan:
 def options(words: list[str] | None) -> argparse.Namespace:
     """What the command line asks for."""
     parser = argparse.ArgumentParser(description=__doc__.split("\n", maxsplit=1)[0])
-    parser.add_argument("file", metavar="FILE", help="a file that is one of these by its ending")
+    parser.add_argument("file", metavar="FILE", help="a file with one of the endings .dbc, .arxml, .kcd, .sym")
     parser.add_argument("--sender", action="append", default=[], metavar="UNIT", help="only groups that this unit sends")
     parser.add_argument("--group", action="append", default=[], metavar="GROUP", help="only this group, by name or PGN")
     parser.add_argument("--bus", help="which bus of the file, where it has several")
@@ -310,10 +310,13 @@ def main(words: list[str] | None = None) -> int:
     given, notes = options(words), Notes()
     try:
         plan = plan_of(given, notes)
+        text = text_of(plan.tables(), os.path.basename(given.file))
+        if len(text.encode()) > FILE:
+            raise LeftOut(f"its plan has more than {FILE} bytes: choose groups by --sender or --group")
     except LeftOut as why:
         raise program.Refused(program.UNREADABLE, f"{plain(given.file)}: {why}") from why
     sys.stdout.reconfigure(encoding="utf-8")
-    sys.stdout.write(text_of(plan.tables(), os.path.basename(given.file)))
+    sys.stdout.write(text)
     print(f"{len(plan.units)} units {len(plan.groups)} groups {len(plan.flows)} flows, notes {notes.count}", file=sys.stderr)
     return 0
 

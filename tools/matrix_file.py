@@ -28,8 +28,10 @@ class Lines:
         self.refused_message = 0
 
     def __iter__(self) -> Iterator[bytes]:
-        """Hands out the lines, but for the signals of a message that was refused: canmatrix would give them to the one before."""
-        for self.number, self.line in enumerate(self.lines, 1):
+        """Hands out the lines, but for the signals of a message that was refused: canmatrix would give them to the one before.
+        A node's long name goes by another attribute: canmatrix would call the node by it, and not the sender of its messages."""
+        for self.number, line in enumerate(self.lines, 1):
+            self.line = line.replace(b'"SystemNodeLongSymbol"', b'"LongName"')
             if self.refused_message and self.begins(b"SG_ "):
                 self.notes.say(f"line {self.number}", f"the message of this signal, at line {self.refused_message}, can't be read")
                 continue
@@ -48,7 +50,7 @@ class Lines:
             self.refused_message = self.number
 
 
-class Heard(io.TextIOBase):
+class Heard(io.StringIO):
     """Stands for standard output and the log while canmatrix reads, and makes notes of what comes there."""
 
     def __init__(self, lines: Lines) -> None:
@@ -56,8 +58,8 @@ class Heard(io.TextIOBase):
         self.lines = lines
 
     def write(self, text: str) -> int:
-        """Takes a piece of text. Of a line that it can't read canmatrix prints a number, which is wrong behind tables of values, and
-        then the line."""
+        """Takes a piece of text. Of a line that it can't read canmatrix prints a number, which is wrong behind tables of values,
+        and then the line."""
         if text == repr(self.lines.line):
             self.lines.refuse()
         elif text.strip() and not text.startswith("error with line no: "):
@@ -119,7 +121,9 @@ def buses_of(kind: str, data: bytes, notes: Notes) -> dict[str, canmatrix.CanMat
     file = lines if kind == "dbc" else io.BytesIO(data)
     try:
         with heard(lines):
-            return canmatrix.formats.load(file, kind, dbcImportEncoding="utf-8", symImportEncoding="utf-8")
+            buses: dict[str, canmatrix.CanMatrix] = canmatrix.formats.load(
+                file, kind, dbcImportEncoding="utf-8", symImportEncoding="utf-8")
+            return buses
     except MemoryError:
         raise
     except Exception as fault:  # canmatrix raises what its parsers do

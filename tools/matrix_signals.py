@@ -59,7 +59,7 @@ def exactly(value: object) -> Fraction | None:
     """A factor or an offset, unless it has more digits than a plan could say."""
     number = Decimal(str(value))
     _, digits, exponent = number.as_tuple()
-    if not number.is_finite() or len(digits) > 40 or abs(exponent) > 40:
+    if isinstance(exponent, str) or len(digits) > 40 or abs(exponent) > 40:  # a word where it is no number
         return None
     return Fraction(number)
 
@@ -116,7 +116,7 @@ def place_of(signal: canmatrix.Signal) -> int:
         raise LeftOut("it is signed")
     if not 1 <= signal.size <= BITS:
         raise LeftOut(f"it has {signal.size} bits, more than {BITS}" if signal.size > BITS else "it has no bits")
-    start = signal.get_startbit(bit_numbering=1, start_little=True)
+    start: int = signal.get_startbit(bit_numbering=1, start_little=True)
     if not signal.is_little_endian and start % 8 + signal.size > 8:
         raise LeftOut("its most significant byte comes first")
     if not 0 <= start < 8 * BYTES:
@@ -124,11 +124,16 @@ def place_of(signal: canmatrix.Signal) -> int:
     return start
 
 
+def long_name(part: canmatrix.Ecu | canmatrix.Signal) -> str:
+    """The name of a node or a signal, the long one where it has two."""
+    return plain(part.attributes.get("LongName") or part.name or "")
+
+
 def remarks_of(signal: canmatrix.Signal, label: str) -> list[str]:
     """What a file says of a signal for which a plan has no key."""
     number, comment = signal.attributes.get("SPN"), plain(signal.comment or "")
     values = (f'{raw} = "{plain(name)}"' for raw, name in sorted((signal.values or {}).items()))
-    return remark(signal.name or "", label, [
+    return remark(long_name(signal), label, [
         f"SPN {plain(number)}" if number is not None else None,
         f"{signal.cycle_time} ms" if signal.cycle_time else None,
         f'"{comment}"' if comment else None,

@@ -224,7 +224,8 @@ class Signals(WithDbc):
         self.assertEqual([signal["label"] for signal in plan["group"][0]["signal"]], ["FIRST", "NEXT", "LAST"])
         self.assertEqual([line for line in said if line.startswith("signal ")], list(places))
         plan, said = self.plan("--strict", data=data)
-        self.assertEqual([signal["label"] for signal in plan["group"][0]["signal"]], ["FIRST", "OVER", "NEXT", "BEHIND", "LAST"])
+        labels = [signal["label"] for signal in plan["group"][0]["signal"]]
+        self.assertEqual(labels, ["FIRST", "OVER", "NEXT", "BEHIND", "LAST"])
         kept = [*places, "signal LAST of EEC1: it overlaps BEHIND"]
         self.assertEqual([line for line in said if line.startswith("signal ")], [f"{line}, and is kept" for line in kept])
 
@@ -243,7 +244,7 @@ class Signals(WithDbc):
         self.assertIn("signal SPN1 of EEC1: it has no bits", said)
 
     def test_units_of_measurement(self):
-        for spelled, written in (("°C", "degC"), ("日本", "??"), ("m\\\u00b3", "m\\3"), ("k" * 40, "k" * 32), ("µg\tl", "ug l")):
+        for spelled, written in (("°C", "degC"), ("日本", "??"), ("\\m³", "\\m3"), ("k" * 40, "k" * 32), ("µg\tl", "ug l")):
             signal = f'SPN1 : 0|8@1+ (1,0) [0|0] "{spelled}" RETARDER'
             plan, said = self.plan(data=(NODES + message(FROM_0, "EEC1", "ENGINE", signal)).encode())
             self.assertEqual(plan["group"][0]["signal"][0]["unit"], written)
@@ -275,10 +276,30 @@ class Remarks(WithDbc):
 
     def test_names_that_are_no_labels(self):
         long = "Engine_Requested_Torque_Torque_Limit"
-        text, _ = self.text(data=NODES + message(
-            FROM_0, long + "_1", "ENGINE", f'{long} : 24|16@1+ (1,0) [0|0] "" RETARDER', f'{long}_2 : 40|8@1+ (1,0) [0|0] "" RETARDER'))
-        for line in (f'label = "{long[:32]}"  # {long}_1', f'label = "{long[:32]}"  # {long}', f'label = "{long[:30]}_2"  # {long}_2'):
+        text, _ = self.text(data=NODES + message(FROM_0, long + "_1", "ENGINE", f'{long} : 24|16@1+ (1,0) [0|0] "" RETARDER',
+                                                 f'{long}_2 : 40|8@1+ (1,0) [0|0] "" RETARDER'))
+        labels = {f"{long}_1": long[:32], long: long[:32], f"{long}_2": long[:30] + "_2"}
+        for line in (f'label = "{label}"  # {name}' for name, label in labels.items()):
             self.assertIn(line, text.splitlines())
+
+    def test_long_names(self):
+        """A DBC has a name of more than 32 characters as an attribute, beside a shorter one by which all else calls the thing."""
+        number = FROM_0 | 1 << 31
+        text, said = self.text(data=NODES + message(FROM_0, "EEC1", "ENGINE", 'SPEED : 24|16@1+ (1,0) [0|0] "" RETARDER') + (
+            'BA_DEF_ BU_ "SystemNodeLongSymbol" STRING ;\nBA_DEF_ BO_ "SystemMessageLongSymbol" STRING ;\n'
+            'BA_DEF_ SG_ "SystemSignalLongSymbol" STRING ;\nBA_ "SystemNodeLongSymbol" BU_ ENGINE "The engine";\n'
+            f'BA_ "SystemMessageLongSymbol" BO_ {number} "Controller 1";\n'
+            f'BA_ "SystemSignalLongSymbol" SG_ {number} SPEED "Actual speed";\n'))
+        for line in ('"ENGINE"  # The engine', '"Controller_1"  # Controller 1', '"Actual_speed"  # Actual speed'):
+            self.assertIn(f"label = {line}", text.splitlines())
+        self.assertEqual(said[-1], "2 units 1 groups 1 flows, notes 2")
+
+    def test_a_plan_that_is_too_long(self):
+        """The program takes a file of at most 16 MiB."""
+        data = NODES + message(FROM_0, "EEC1", "ENGINE") + f'CM_ BO_ {FROM_0 | 1 << 31} "{"long " * 3_400_000}";\n'
+        status, plan, said = self.made(data=data)
+        self.assertEqual((status, plan), (2, ""))
+        self.assertTrue(said[-1].endswith(": its plan has more than 16777216 bytes: choose groups by --sender or --group"), said)
 
     def test_frames_that_are_of_one_group(self):
         text, _ = self.text(data=NODES + message(FROM_0, "EEC1", "ENGINE") + message(FROM_15, "AGAIN", "RETARDER") + (

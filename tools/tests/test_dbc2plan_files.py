@@ -50,7 +50,8 @@ class WhatCanmatrixSays(WithDbc):
 
     def test_errors_that_it_logs(self):
         _, said = self.plan(data=NODES + message(EEC1, "EEC1", "ENGINE", SPEED) + 'VAL_ 5 NOWHERE 0 "off" ;\n')
-        self.assertEqual([line for line in said if line.startswith("canmatrix: ")], ["canmatrix: Error with Line: ['0 ', 'off', ' ']"])
+        logged = [line for line in said if line.startswith("canmatrix: ")]
+        self.assertEqual(logged, ["canmatrix: Error with Line: ['0 ', 'off', ' ']"])
 
 
 @needs("canmatrix", "python3-canmatrix")
@@ -130,7 +131,8 @@ class NoPlan(WithDbc):
         status, plan, said = self.made(data=data)
         self.assertEqual((status, plan), (2, ""))
         self.assertEqual(said, [
-            "unit ENGINE: no address is given", "group SHORT: its identifier has 11 bits", "group MAKER: PGN 65296 is proprietary",
+            "unit ENGINE: no address is given", "group SHORT: its identifier has 11 bits",
+            "group MAKER: PGN 65296 is proprietary",
             f"dbc2plan: {self.path('file.dbc')}: there is nothing in it that a plan can have",
         ])
 
@@ -155,7 +157,8 @@ class NoPlan(WithDbc):
         data = f"{head}{bus.format('engine')}{bus.format('cabin')}</NetworkDefinition>".encode()
         self.assertEqual(self.refused("file.kcd", data), "choose a bus by --bus: engine, cabin")
         status, plan, said = run("dbc2plan.py", "--bus", "X", self.path("file.kcd"))
-        self.assertEqual((status, plan, said), (2, "", f"dbc2plan: {self.path('file.kcd')}: --bus X: its buses are engine, cabin\n"))
+        self.assertEqual((status, plan), (2, ""))
+        self.assertTrue(said.endswith("file.kcd: --bus X: its buses are engine, cabin\n"), said)
         status, plan, said = run("dbc2plan.py", "--bus", "cabin", self.path("file.kcd"))
         self.assertEqual((status, tomllib.loads(plan)["group"][0]["pgn"]), (0, 61444), said)
 
@@ -167,7 +170,7 @@ def damaged(chance: random.Random, data: bytes) -> bytes:
             rb"\d+", rb"\d+", rb'(?s) [\w-]+="[^"]*"', rb"(?s)<([\w-]+)[^>]*>.*?</\1>", rb"\n[^\n]*", rb"."]), data))
         if found:
             place = chance.choice(found)
-            new = chance.choice([b"", b"0", b"-1", b"99999999999", b"1E99", b"NaN", b"x", b"\xff\x00", data[:chance.randrange(300)]])
+            new = chance.choice([b"", b"0", b"-1", b"99999999999", b"1E99", b"NaN", b"x", b"\xff\0", data[:chance.randrange(300)]])
             data = data[:place.start()] + new + data[place.end():]
     return data
 
