@@ -109,7 +109,7 @@ fn with_check<'a>(alloc: Global, program: Command<'a>) -> Result<Command<'a>, Al
             "check",
             "Shows what is wrong with the plan of the file PLAN",
             "PLAN",
-            "The name of a plan file",
+            "The name of a plan file. tools/where.py, installed as j39plan-where, shows the line of the file before each answer",
         ),
     )
 }
