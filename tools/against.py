@@ -1,200 +1,250 @@
 #!/usr/bin/python3
-"""Says where a log isn't as a plan has it: senders, NAMEs and addresses, groups, lengths, flows.
+"""Says where a log isn't as a plan has it: senders, NAMEs and addresses, groups, lengths, priorities, flows.
 
 The log is one of candump -L. What a frame is and which NAMEs and addresses the plan's units have is asked of the program. Each
-deviation is told once, at its first line, with how often it was met; proprietary groups and services of the network are none.
+deviation is told once, at its first line, with how often it was met; services of the network, and proprietary groups that aren't
+planned, are none.
 """
 
-import argparse
 import re
 import shlex
-import tempfile
+from collections.abc import Iterable, Iterator
 from functools import cache
+from typing import NamedTuple
 
 import program
-from toml_places import places_of
+from candump import Line, Log
+from holders import Holders, Unit
+from j1939 import (
+    ADDRESS_CLAIMED, CONNECTION_MANAGEMENT, DATA_TRANSFER, GLOBAL_ADDRESS, NULL_ADDRESS, OTHER_SERVICES, PROPRIETARY, REQUEST,
+    SERVICES,
+)
+from toml_places import Places, places_of
+from transfers import Transfer, Transfers, Way
 
-FRAME = re.compile(r"([01][0-9A-Fa-f]{7})#((?:[0-9A-Fa-f]{2}){0,8})")
-SHORT_FRAME = re.compile(r"[0-9A-Fa-f]{3}#.*")
-ROUTE = re.compile(r"priority \d pgn (\d+) from (\d+) to (\d+|all)( other)?")
+ROUTE = re.compile(r"priority (\d) pgn (\d+) from (\d+) to (\d+|all)( other)?")
 
-# Groups that no plan has (docs/PLAN.md, F4).
-REQUEST, CLAIM, MANAGEMENT = 59904, 60928, 60416
-UNPLANNED = {59392, REQUEST, 60160, MANAGEMENT, CLAIM, 65240, 61184, 126720, *range(65280, 65536), *range(130816, 131072)}
-
-# The first bytes of announcements (SAE J1939-21): RTS and BAM.
-ANNOUNCEMENTS = (16, 32)
-NULL = 254
+# Groups that nobody plans.
+UNPLANNED = SERVICES | OTHER_SERVICES | PROPRIETARY
 
 
-def is_from_nobody(pgn, sender, data):
-    """Whether a frame asks for address claims from the null address, as a unit without an address may (SAE J1939-81)."""
-    return sender == NULL and pgn == REQUEST and bytes.fromhex(data)[:3] == CLAIM.to_bytes(3, "little")
+class Meaning(NamedTuple):
+    """What a frame says: where to is an address, 255 for all; the NAME is that of a claim, else None."""
+
+    priority: int
+    pgn: int
+    source: int
+    destination: int
+    name: str | None
+
+
+class Message(NamedTuple):
+    """A message that was sent: its group's number, its length in bytes, from where and from whom to whom; the priority of one that
+    came in one frame, else None."""
+
+    pgn: int
+    length: int
+    source: int
+    way: Way
+    priority: int | None
+
+
+class Group(NamedTuple):
+    """A planned group."""
+
+    label: str
+    pgn: int
+    length: int
+    priority: int
+
+
+# Group, sender and destination.
+Flow = tuple[str, str, str]
 
 
 @cache
-def meant(word):
-    """PGN, sender and destination of a frame, and the NAME that it claims an address for; or None."""
-    status, answer = program.call(["frame", word])
+def meant(identifier: str, digits: str = "") -> Meaning | None:
+    """What a frame says of which this is the identifier and, as far as it is wanted, the data; None of one that isn't of J1939."""
+    status, answer = program.call(["frame", f"{identifier}#{digits}"])
     found = ROUTE.match(answer.split("\n")[1]) if status == 0 else None
-    if found is None or found.group(4):
+    if found is None or found.group(5):
         return None
     name = re.search(r" name ([0-9A-F]{16})$", answer, re.MULTILINE)
-    return int(found.group(1)), int(found.group(2)), found.group(3), name and name.group(1)
+    priority, pgn, source = map(int, found.groups()[:3])
+    destination = GLOBAL_ADDRESS if found.group(4) == "all" else int(found.group(4))
+    return Meaning(priority, pgn, source, destination, name.group(1) if name else None)
 
 
-def run_of(plan, schedule):
-    """The lines that the program answers to a schedule of a plan."""
-    status, answer = program.call(["run", "--", plan, schedule])
-    lines = answer.splitlines()
-    if status != 0:
-        raise program.Refused(status, lines[-1] if lines else "")
-    return lines
+def may_be_nobody(said: Meaning, digits: str) -> bool:
+    """Whether a frame may come from a unit without an address: a claim, or a request for claims from 254 (SAE J1939-81)."""
+    if said.pgn == REQUEST and said.source == NULL_ADDRESS:
+        return bytes.fromhex(digits)[:3] == ADDRESS_CLAIMED.to_bytes(3, "little")
+    return said.pgn == ADDRESS_CLAIMED
 
 
-def planned_units(plan, labels):
-    """The units of a plan by NAME: label, preferred address, and whether it may choose."""
-    with tempfile.NamedTemporaryFile("w", suffix=".schedule") as schedule:
-        schedule.writelines(f"up {label}\n" for label in labels)
-        schedule.flush()
-        frames = run_of(plan, schedule.name)
-    units = {}
-    for label, frame in zip(labels, frames):
-        _, address, _, name = meant(frame)
-        units[name] = label, address, int(name, 16) >> 63 == 1
-    return units
+def planned_units(plan: str) -> Iterator[Unit]:
+    """The units of a plan, by what each claims when it is switched on."""
+    labels = program.labels_of(plan)
+    for label, frame in zip(labels, program.run(plan, [f"up {label}" for label in labels])):
+        said = meant(*frame.split("#"))
+        assert said is not None and said.name is not None
+        yield Unit(label, said.name, said.source, int(said.name, 16) >> 63 == 1)
 
 
-def planned_groups(places):
-    """The groups of a plan by PGN: label and length."""
-    return {
-        places.number(group + ("pgn",)): (places.texts[group + ("label",)], places.number(group + ("length",)))
-        for group in places.elements(("group",))
-    }
+def planned_groups(places: Places) -> dict[int, list[Group]]:
+    """The groups of a plan by PGN."""
+    groups: dict[int, list[Group]] = {}
+    for place in places.elements(("group",)):
+        pgn, length, priority = (places.integer(place + (key,)) for key in ("pgn", "length", "priority"))
+        groups.setdefault(pgn, []).append(Group(places.texts[place + ("label",)], pgn, length, priority))
+    return groups
 
 
-def planned_flows(places):
+def planned_flows(places: Places) -> list[Flow]:
     """The flows of a plan: group, sender and destination."""
-    return [tuple(places.texts[flow + (key,)] for key in ("group", "from", "to")) for flow in places.elements(("flow",))]
+    flows = places.elements(("flow",))
+    return [(places.texts[flow + ("group",)], places.texts[flow + ("from",)], places.texts[flow + ("to",)]) for flow in flows]
 
 
 class Comparison:
     """What was met in a log that isn't as the plan has it."""
 
-    def __init__(self, places, units):
-        self.units = units
+    def __init__(self, places: Places, units: list[Unit]) -> None:
+        self.units = {unit.name: unit for unit in units}
         self.groups = planned_groups(places)
         self.planned = planned_flows(places)
-        self.flows = dict.fromkeys(self.planned, 0)
-        self.holders = {address: name for name, (_, address, _) in units.items()}
-        self.met = {}
-        self.unread = self.marked = 0
+        self.sent = dict.fromkeys(self.planned, 0)
+        self.holders = Holders(units)
+        self.transfers = Transfers()
+        self.judgements: dict[Message, tuple[Flow | None, list[str]]] = {}
+        self.met: dict[str, tuple[int, int]] = {}
 
-    def tell(self, line, text):
+    def tell(self, line: int, text: str) -> None:
         """Notes a deviation, or that it was met again."""
         first, count = self.met.get(text, (line, 0))
-        self.met[text] = first, count + 1
+        self.met[text] = min(first, line), count + 1
 
-    def claim(self, line, name, sender):
-        """A claim of an address, or that none was found. Where two claim one address the smaller NAME keeps it."""
-        self.holders = {address: holder for address, holder in self.holders.items() if holder != name}
-        if sender != NULL:
-            self.holders[sender] = min(name, self.holders.get(sender, name))
-        if name not in self.units:
-            self.tell(line, f"NAME {name} claims address {sender}: no unit has it")
-            return
-        label, preferred, may_choose = self.units[name]
-        if sender == NULL:
-            self.tell(line, f"{label} could not claim an address")
-        elif sender != preferred and not may_choose:
-            self.tell(line, f"{label} claims address {sender}, planned is {preferred}")
-
-    def unit_at(self, address):
+    def unit_at(self, address: int) -> str | None:
         """The label of the planned unit that holds an address, or None."""
-        name = self.holders.get(address)
-        return self.units[name][0] if name in self.units else None
+        name = self.holders.name_at(address)
+        return self.units[name].label if name in self.units else None
 
-    def group(self, line, pgn, length, sender, destination):
-        """A group that was sent, in one frame or announced."""
-        who = self.unit_at(sender)
-        if who is None:
-            self.tell(line, f"address {sender} sends: no unit has it")
-        if pgn in UNPLANNED:
-            return
-        if pgn not in self.groups:
-            self.tell(line, f"PGN {pgn} from {who or sender}: no group has it")
-            return
-        label, planned = self.groups[pgn]
-        if length != planned:
-            self.tell(line, f"{label} from {who or sender} has {length} bytes, planned are {planned}")
-        if who is not None:
-            self.flow(line, label, who, destination)
+    def receiver(self, destination: int) -> str:
+        """Who an address stands for where something is sent to it."""
+        return "all" if destination == GLOBAL_ADDRESS else self.unit_at(destination) or str(destination)
 
-    def flow(self, line, group, who, destination):
-        """A group that was sent by a unit to an address or to all."""
-        to = "all" if destination == "all" else self.unit_at(int(destination)) or destination
-        if (group, who, to) in self.flows:
-            self.flows[group, who, to] += 1
-        else:
-            self.tell(line, f"{group} from {who} to {to}: no flow")
+    def claim(self, line: int, name: str, address: int) -> None:
+        """A claim of an address, or that none was found. What goes on at an address that changes hands comes to nothing."""
+        for other in self.holders.claim(name, address):
+            self.end(self.transfers.left(other))
+        unit = self.units.get(name)
+        if unit is None:
+            self.tell(line, f"NAME {name} claims address {address}: no unit has it")
+        elif address == NULL_ADDRESS:
+            self.tell(line, f"{unit.label} could not claim an address")
+        elif address != unit.address and not unit.may_choose:
+            self.tell(line, f"{unit.label} claims address {address}, planned is {unit.address}")
 
-    def frame(self, line, word, data):
+    def group_of(self, pgn: int, length: int, way: Way) -> Group | None:
+        """The group of a message: one of its length rather than others of its PGN, and of these one that a flow sends this way."""
+        groups = self.groups.get(pgn, [])
+        groups = [group for group in groups if group.length == length] or groups[:1]
+        return next((group for group in groups if (group.label, *way) in self.sent), groups[0] if groups else None)
+
+    def judged(self, message: Message) -> tuple[Flow | None, list[str]]:
+        """The flow that sends a message, and what isn't as planned of it."""
+        pgn, length, source, (who, to), priority = message
+        group = self.group_of(pgn, length, (who, to))
+        if group is None:
+            return None, [] if pgn in UNPLANNED else [f"PGN {pgn} from {who or source}: no group has it"]
+        texts = []
+        if length != group.length:
+            texts.append(f"{group.label} from {who or source} has {length} bytes, planned are {group.length}")
+        if priority not in (None, group.priority):
+            texts.append(f"{group.label} from {who or source} has priority {priority}, planned is {group.priority}")
+        flow = (group.label, who, to) if who else None
+        if flow and flow not in self.sent:
+            return None, [*texts, f"{group.label} from {who} to {to}: no flow"]
+        return flow, texts
+
+    def message(self, line: int, message: Message) -> None:
+        """A message that was sent, in one frame or carried whole."""
+        if message not in self.judgements:
+            self.judgements[message] = self.judged(message)
+        flow, texts = self.judgements[message]
+        if flow:
+            self.sent[flow] += 1
+        for text in texts:
+            self.tell(line, text)
+
+    def end(self, transfers: list[Transfer]) -> None:
+        """Transfers that have ended."""
+        for transfer in transfers:
+            source, (who, to) = transfer.pair[0], transfer.way
+            if transfer.is_whole:
+                self.message(transfer.line, Message(transfer.pgn, transfer.size, source, transfer.way, None))
+            else:
+                group = self.group_of(transfer.pgn, transfer.size, transfer.way)
+                what = group.label if group else f"PGN {transfer.pgn}"
+                self.tell(transfer.line, f"{what} from {who or source} to {to}: announced, and not carried whole")
+
+    def frame(self, line: int, said: Meaning, digits: str) -> None:
         """A frame of the log."""
-        found = meant(f"{word}#")
-        if found is None:
+        if said.name:
+            self.claim(line, said.name, said.source)
             return
-        if found[0] == CLAIM:
-            found = meant(f"{word}#{data}")
-        pgn, sender, destination, name = found
-        if pgn == CLAIM and name:
-            self.claim(line, name, sender)
-        elif pgn == MANAGEMENT and len(data) == 16:
-            packet = bytes.fromhex(data)
-            if packet[0] in ANNOUNCEMENTS:
-                size, carried = int.from_bytes(packet[1:3], "little"), int.from_bytes(packet[5:8], "little")
-                self.group(line, carried, size, sender, destination)
-        elif pgn != CLAIM and not is_from_nobody(pgn, sender, data):
-            self.group(line, pgn, len(data) // 2, sender, destination)
+        way = self.unit_at(said.source), self.receiver(said.destination)
+        if way[0] is None and not may_be_nobody(said, digits):
+            self.tell(line, f"address {said.source} sends: no unit has it")
+        if len(digits) == 16 and said.pgn in (CONNECTION_MANAGEMENT, DATA_TRANSFER):
+            pair, packet = (said.source, said.destination), bytes.fromhex(digits)
+            managed = said.pgn == CONNECTION_MANAGEMENT
+            self.end(self.transfers.managed(line, pair, way, packet) if managed else self.transfers.data(pair, packet[0]))
+        self.message(line, Message(said.pgn, len(digits) // 2, said.source, way, said.priority))
 
-    def line(self, number, line):
-        """A line of the log. One with an identifier of 11 bits is passed over."""
-        words = line.split()
-        found = FRAME.fullmatch(words[-1]) if words else None
-        if found:
-            self.frame(number, found.group(1), found.group(2))
-        elif words and not SHORT_FRAME.fullmatch(words[-1]):
-            self.unread += 1
-            self.marked += words[-1] in ("R", "T")
-
-    def deviations(self):
-        """Line, text and count of each deviation; a flow that was never met has no line."""
-        for text, (line, count) in self.met.items():
+    def deviations(self) -> Iterator[tuple[int | None, str, int]]:
+        """Line, text and count of each deviation, in the order of the lines; a flow that was never met has no line."""
+        for text, (line, count) in sorted(self.met.items(), key=lambda met: met[1][0]):
             yield line, text, count
         for number, (group, sender, to) in enumerate(self.planned, 1):
-            if self.flows[group, sender, to] == 0:
+            if self.sent[group, sender, to] == 0:
                 yield None, f"flow {number}, {group} from {sender} to {to}: never sent", 0
 
 
-def compare(plan, log):
-    """The comparison of a log with a plan."""
-    labels = [line.split()[1] for line in run_of(plan, "/dev/null") if line.startswith("unit ")]
-    comparison = Comparison(places_of(plan), planned_units(plan, labels))
-    with open(log, encoding="utf-8", errors="replace") as lines:
-        for number, line in enumerate(lines, 1):
-            comparison.line(number, line)
+def compare(plan: str, frames: Iterable[Line]) -> Comparison:
+    """The comparison of the frames of a log with a plan."""
+    comparison = Comparison(places_of(plan), list(planned_units(plan)))
+    for line, identifier, digits in frames:
+        said = meant(identifier)
+        if said and said.pgn == ADDRESS_CLAIMED:
+            said = meant(identifier, digits)
+        if said:
+            comparison.frame(line, said, digits)
+    comparison.end(comparison.transfers.end())
     return comparison
 
 
-def main(words=None):
+def say_what_was_passed_over(log: Log, name: str) -> None:
+    """Says on standard error which lines of a log aren't compared, and what to do."""
+    name = shlex.quote(name)
+    if log.bad:
+        mend = f"; words behind the data go by: sed -E 's/ [RT]\\r?$//' {name} > mended.log" if log.marked else ""
+        program.say(f"{log.bad} lines spell no frame{mend}")
+    if log.interface and log.elsewhere:
+        kept = log.interface.decode(errors="replace")
+        program.say(f"only frames of {kept} are compared; {log.elsewhere} of other interfaces are passed over")
+
+
+def main(words: list[str] | None = None) -> int:
     """Writes the deviations; 0 where there is none, 1 where there is one."""
-    parser = argparse.ArgumentParser(description=__doc__.split("\n", maxsplit=1)[0])
+    parser = program.parser(__doc__)
     parser.add_argument("plan", metavar="PLAN", help="the name of a plan file")
     parser.add_argument("log", metavar="LOG", help="the name of a file as candump -L writes it")
     given = parser.parse_args(words)
-    comparison = compare(given.plan, given.log)
-    if comparison.unread:
-        mend = f"; words behind the data go by: sed -E 's/ [RT]\\r?$//' {shlex.quote(given.log)} > mended.log"
-        program.say(f"{comparison.unread} lines spell no frame{mend if comparison.marked else ''}")
+    log = Log()
+    with program.copied(given.plan) as plan, open(given.log, "rb") as file:
+        comparison = compare(plan, log.frames(file))
+    say_what_was_passed_over(log, given.log)
     found = list(comparison.deviations())
     for line, text, count in found:
         place = given.plan if line is None else f"{given.log}:{line}"

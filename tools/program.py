@@ -1,13 +1,23 @@
 """The program j39plan, as the tools call it, and how a tool ends."""
 
+import argparse
+import contextlib
+import io
 import os
 import shutil
+import signal
 import subprocess
 import sys
+import tempfile
 import traceback
+from collections.abc import Callable, Iterable, Iterator, Sequence
+from typing import NoReturn
 
-# Exit statuses (docs/TOOLS.md has all of them); those below 69 are the program's own.
-UNREADABLE, MEMORY, DEVICE, MISSING, FAULT = 2, 3, 4, 69, 70
+# Exit statuses (docs/TOOLS.md has all of them); those below 5 are the program's own.
+UNREADABLE, MEMORY, DEVICE, TOO_LONG, MISSING, FAULT = 2, 3, 4, 5, 69, 70
+
+# The most bytes that the program takes as a plan or a schedule.
+INPUT_MOST = 16_777_216
 
 BUILT = os.path.join(os.path.dirname(os.path.realpath(__file__)), "..", "crates", "j39plan", "out", "j39plan")
 
@@ -19,12 +29,12 @@ if sys.version_info < (3, 11):
 class Refused(Exception):
     """A tool can't do what it was asked: the exit status, and why, where that isn't said yet."""
 
-    def __init__(self, status, why=""):
+    def __init__(self, status: int, why: str = "") -> None:
         super().__init__(why)
         self.status = status
 
 
-def path():
+def path() -> str:
     """The program: the one that J39PLAN names, else the one that this repository has built, else the one on the PATH."""
     named = os.environ.get("J39PLAN")
     if named:
@@ -36,7 +46,7 @@ def path():
     return found
 
 
-def call(words):
+def call(words: Sequence[str]) -> tuple[int, str]:
     """What the program answers: its exit status and standard output. Its standard error goes where ours does."""
     name = path()
     try:
@@ -47,16 +57,66 @@ def call(words):
     return ended.returncode, ended.stdout.decode()
 
 
-def say(why):
+def run(plan: str, steps: Iterable[str]) -> list[str]:
+    """The lines that the program answers to a schedule of these steps, which the bus of a plan doesn't refuse."""
+    with tempfile.NamedTemporaryFile("w", suffix=".schedule") as schedule:
+        schedule.writelines(f"{step}\n" for step in steps)
+        schedule.flush()
+        status, answer = call(["run", "--", plan, schedule.name])
+    lines = answer.splitlines()
+    if status != 0:
+        refusal = next((line for line in lines if line.startswith("refused ")), "")
+        raise Refused(FAULT if refusal.startswith("refused line ") else status, refusal)
+    return lines
+
+
+def labels_of(plan: str) -> list[str]:
+    """The labels of a plan's units, in the order of the file."""
+    return [line.split()[1] for line in run(plan, []) if line.startswith("unit ")]
+
+
+@contextlib.contextmanager
+def copied(name: str) -> Iterator[str]:
+    """The name of a copy of a file: what a pipe or a device gives comes only once, and a tool hands its plan to the program several
+    times. Of a file that is too long a byte more is copied than the program takes."""
+    with open(name, "rb") as file, tempfile.NamedTemporaryFile() as copy:
+        copy.write(file.read(INPUT_MOST + 1))
+        copy.flush()
+        yield copy.name
+
+
+class _Version(argparse.Action):
+    """Prints the tool's name, and the version of the program and thus of all this."""
+
+    def __call__(self, words: argparse.ArgumentParser, *_: object) -> NoReturn:
+        status, answer = call(["--version"])
+        if status != 0:
+            raise Refused(status)
+        print(f"{tool()} ({answer.split()[0]}) {answer.split()[1]}")
+        words.exit()
+
+
+def parser(description: str) -> argparse.ArgumentParser:
+    """The words of a tool's command line, its help and its version among them."""
+    words = argparse.ArgumentParser(description=description.split("\n", maxsplit=1)[0])
+    words.add_argument("--version", action=_Version, nargs=0, help="print the version and exit")
+    return words
+
+
+def tool() -> str:
+    """The name of the tool."""
+    return os.path.splitext(os.path.basename(os.path.realpath(sys.argv[0])))[0]
+
+
+def say(why: object) -> None:
     """Says on standard error why the tool ends."""
-    tool = os.path.splitext(os.path.basename(os.path.realpath(sys.argv[0])))[0]
     try:
-        print(f"{tool}: {why}", file=sys.stderr)
+        print(f"{tool()}: {why}", file=sys.stderr)
     except OSError:
         pass
 
 
-def device_fault(fault):
+def device_fault(fault: OSError) -> int:
     """Says what could not be read or written, but for a pipe that was closed; what is left to be written is dropped."""
     if not isinstance(fault, BrokenPipeError):
         say(f"{fault.filename}: {fault.strerror}" if fault.filename else fault.strerror or fault)
@@ -67,7 +127,14 @@ def device_fault(fault):
     return DEVICE
 
 
-def written(main):
+def interrupted() -> NoReturn:
+    """Ends by the signal of an interrupt, so that a shell knows of it."""
+    signal.signal(signal.SIGINT, signal.SIG_DFL)
+    os.kill(os.getpid(), signal.SIGINT)
+    sys.exit(128 + signal.SIGINT)
+
+
+def written(main: Callable[[], int]) -> int:
     """Runs a tool, and writes out what it has put."""
     try:
         return main()
@@ -75,17 +142,22 @@ def written(main):
         sys.stdout.flush()
 
 
-def status_of(main):
+def status_of(main: Callable[[], int]) -> int:
     """Runs a tool and answers its exit status."""
     if sys.stdout is None:
         say("standard output is closed")
         return DEVICE
+    # Names of files may have any bytes and texts any characters, whatever the terminal has.
+    if isinstance(sys.stdout, io.TextIOWrapper):
+        sys.stdout.reconfigure(errors="backslashreplace")
     try:
         return written(main)
     except Refused as refused:
         if str(refused):
             say(refused)
         return refused.status
+    except KeyboardInterrupt:
+        interrupted()
     except MemoryError:
         say("out of memory")
         return MEMORY
@@ -96,6 +168,6 @@ def status_of(main):
         return FAULT
 
 
-def end(main):
+def end(main: Callable[[], int]) -> NoReturn:
     """Runs a tool and ends with its exit status."""
     sys.exit(status_of(main))

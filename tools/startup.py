@@ -5,49 +5,47 @@ What the units answer is played here by the standard's rule of address claims. T
 only where nothing in it is refused and it ends settled, and that run shows which addresses the units hold then.
 """
 
-import argparse
 import sys
-import tempfile
+from collections.abc import Iterable
 
 import program
+from j1939 import NULL_ADDRESS, POOL
 from toml_places import places_of
 
-NULL_ADDRESS = 254
-POOL = range(128, 248)
+Frame = tuple[str, str]
 
 
-def answer_of(plan, steps):
-    """The lines that the program answers to a schedule of these steps."""
-    with tempfile.NamedTemporaryFile("w", suffix=".schedule") as schedule:
-        schedule.writelines(f"{step}\n" for step in steps)
-        schedule.flush()
-        status, answer = program.call(["run", "--", plan, schedule.name])
-    lines = answer.splitlines()
-    if status != 0:
-        refusal = next((line for line in lines if line.startswith("refused")), "")
-        # Of the schedule itself nothing is refused, unless the rule is played otherwise here.
-        raise program.Refused(program.FAULT if refusal.startswith("refused line") else status, refusal)
-    return lines
+class Schedule:
+    """The lines of a schedule, as long as a file of one may be."""
+
+    def __init__(self, title: str) -> None:
+        self.lines: list[str] = []
+        self.size = 0
+        self.add("# " + "".join(char if char.isprintable() else "?" for char in title))
+
+    def add(self, line: str) -> None:
+        """A line more."""
+        self.lines.append(line)
+        self.size += len(line.encode()) + 1
+        if self.size > program.INPUT_MOST:
+            steps = f"more than {len(self.lines) - 2:,} steps, more than a schedule of {program.INPUT_MOST:,} bytes can have"
+            raise program.Refused(program.TOO_LONG, f"a start-up of this plan takes {steps}")
 
 
-def frames_of(lines):
+def frames_of(lines: list[str]) -> list[Frame]:
     """The frames that a run sent, each as identifier and payload."""
-    return [line.split("#") for line in lines if "#" in line]
-
-
-def units_of(plan):
-    """The labels of a plan's units, in the order of the file."""
-    return [line.split()[1] for line in answer_of(plan, []) if line.startswith("unit ")]
+    return [(line[:8], line[9:]) for line in lines if "#" in line]
 
 
 class Unit:
     """A unit that is on: what it has claimed, and what it has heard of others."""
 
-    def __init__(self, frame, is_upward, kept):
+    def __init__(self, frame: Frame, is_upward: bool, kept: frozenset[int]) -> None:
         self.name, self.address = claim_of(frame)
-        self.is_upward, self.kept, self.notes = is_upward, kept, {}
+        self.is_upward, self.kept = is_upward, kept
+        self.notes: dict[int, int] = {}
 
-    def hear(self, name, address):
+    def hear(self, name: int, address: int) -> int | None:
         """Hears a claim; the address that it claims then itself, or None."""
         self.notes.pop(name, None)
         if address != NULL_ADDRESS:
@@ -58,7 +56,7 @@ class Unit:
             self.address = self.another()
         return self.address
 
-    def another(self):
+    def another(self) -> int:
         """The address that it moves to, the null address where there is none."""
         taken = self.kept.union(self.notes.values())
         free = [address for address in POOL if address not in taken]
@@ -67,69 +65,71 @@ class Unit:
         return next((address for address in free if self.is_upward and address > self.address), free[0])
 
 
-def claim_of(frame):
+def claim_of(frame: Frame) -> tuple[int, int]:
     """The NAME and the address that a frame claims."""
     identifier, payload = frame
     return int.from_bytes(bytes.fromhex(payload), "little"), int(identifier[-2:], 16)
 
 
-def units_on(plan, labels, order):
+def units_on(plan: str, labels: list[str], order: list[str]) -> dict[str, Unit]:
     """The units of these labels, once they are switched on in an order."""
     places = places_of(plan)
     ways = {label: places.texts.get(("unit", number, "chooser")) == "upward" for number, label in enumerate(labels, 1)}
-    frames = frames_of(answer_of(plan, [f"up {label}" for label in order]))
-    kept = frozenset(places.number(place) for place in places.elements(("keep_free",)))
+    frames = frames_of(program.run(plan, [f"up {label}" for label in order]))
+    kept = frozenset(places.integer(place) for place in places.elements(("keep_free",)))
     return {label: Unit(frame, ways[label], kept) for label, frame in zip(order, frames)}
 
 
-def start_up(plan, labels, order):
-    """The steps of a start-up of the units of these labels in an order, and what the program answers to them."""
-    units = units_on(plan, labels, order)
-    steps = [f"up {label}" for label in order]
+def start_up(units: dict[str, Unit], schedule: Schedule) -> None:
+    """Adds the steps by which the units, each switched on in this order, hear every claim and answer it."""
+    order = list(units)
+    for label in order:
+        schedule.add(f"up {label}")
     # Who is to hear what from whom: first the earlier units each later one's claim.
-    claims = [
-        (later, units[later].name, units[later].address, order[:at]) for at, later in enumerate(order)
-    ]
+    claims = [(later, units[later].name, units[later].address, order[:at]) for at, later in enumerate(order)]
     while claims:
         answers = []
         for sender, name, address, hearers in claims:
             for hearer in hearers:
-                steps.append(f"give {sender} {hearer}")
+                schedule.add(f"give {sender} {hearer}")
                 answer = units[hearer].hear(name, address)
                 if answer is not None:
                     others = [label for label in order if label != hearer]
                     answers.append((hearer, units[hearer].name, answer, others))
         claims = answers
-    lines = answer_of(plan, steps)
+
+
+def settled(plan: str, schedule: Schedule) -> list[str]:
+    """How the units stand at the end of a schedule by the program, which is to find all claims delivered."""
+    lines = program.run(plan, schedule.lines)
     if lines[-1] != "settled":
         raise program.Refused(program.FAULT, "claims are left undelivered")
-    return steps, lines
+    return [line for line in lines if line.startswith(("unit ", "settled"))]
 
 
-def ordered(units, first):
+def ordered(labels: list[str], first: Iterable[str]) -> list[str]:
     """All units, those that are named first in front."""
-    unknown = [unit for unit in first if unit not in units]
+    unknown = [label for label in first if label not in labels]
     if unknown:
         raise program.Refused(program.UNREADABLE, f"no unit is called {unknown[0]}")
-    return list(dict.fromkeys(first)) + [unit for unit in units if unit not in first]
+    return list(dict.fromkeys([*first, *labels]))
 
 
-def main(words=None):
+def main(words: list[str] | None = None) -> int:
     """Writes the schedule."""
-    parser = argparse.ArgumentParser(description=__doc__.split("\n", maxsplit=1)[0])
+    parser = program.parser(__doc__)
     parser.add_argument("plan", metavar="PLAN", help="the name of a plan file")
     parser.add_argument("first", metavar="UNIT", nargs="*", default=[],
                         help="units that are switched on first, in this order; "
                         "then come the others, in the order of the plan")
     given = parser.parse_args(words)
-    labels = units_of(given.plan)
-    steps, lines = start_up(given.plan, labels, ordered(labels, given.first))
-    print(f"# Start-up of {given.plan}: all units are switched on, and every claim is delivered.")
-    for step in steps:
-        print(step)
-    for line in lines:
-        if line.startswith(("unit ", "settled", "not settled")):
-            print(line, file=sys.stderr)
+    schedule = Schedule(f"Start-up of {given.plan}: all units are switched on, and every claim is delivered.")
+    with program.copied(given.plan) as plan:
+        labels = program.labels_of(plan)
+        start_up(units_on(plan, labels, ordered(labels, given.first)), schedule)
+        ends = settled(plan, schedule)
+    print("\n".join(schedule.lines))
+    print("\n".join(ends), file=sys.stderr)
     return 0
 
 

@@ -25,18 +25,21 @@ NEWER = re.compile(r'"(?:[^\\]|\\[^ex])*\\[ex]|[-\dTt ]*\d\d:\d\d(?!:)')
 
 MARK = "\ufeff"
 
+# Keys and, for the elements of arrays, numbers from 1.
+Place = tuple[str | int, ...]
+
 
 class _Unexpected(Exception):
     """The text isn't what TOML allows."""
 
 
-def _older(escape):
+def _older(escape: re.Match[str]) -> str:
     """An escape of TOML 1.1 as TOML 1.0 spells it, others as they are."""
     digits = "1B" if escape.group(1) else escape.group(2)
     return f"\\u00{digits}" if digits else escape.group()
 
 
-def text_of(spelled):
+def text_of(spelled: str) -> str:
     """The text that a TOML string spells."""
     if spelled.startswith('"'):
         spelled = ESCAPE.sub(_older, spelled)
@@ -46,7 +49,7 @@ def text_of(spelled):
         return spelled.strip("\"'")
 
 
-def fault_of(text):
+def fault_of(text: str) -> tuple[int, str] | None:
     """Line and description of the fault that Python's reader of TOML 1.0 finds in a text, if it finds one."""
     try:
         tomllib.loads(text)
@@ -58,7 +61,7 @@ def fault_of(text):
     return None
 
 
-def places_of(name):
+def places_of(name: str) -> "Places":
     """The places of the text in a file."""
     with open(name, "rb") as file:
         return Places(file.read().decode(errors="replace"))
@@ -69,50 +72,54 @@ class Places:
 
     `statements` is where its headers and top pairs begin, `newer` where there is what TOML 1.0 doesn't have."""
 
-    def __init__(self, text):
-        self.lines = {(): 1}
-        self.texts = {}
-        self.spelled = {}
-        self.statements = []
-        self.newer = []
+    def __init__(self, text: str) -> None:
+        self.lines: dict[Place, int] = {(): 1}
+        self.texts: dict[Place, str] = {}
+        self.spelled: dict[Place, str] = {}
+        self.statements: list[int] = []
+        self.newer: list[int] = []
         self._text = text
         self._at = len(MARK) if text.startswith(MARK) else 0
         self._feeds = [found.start() for found in re.finditer("\n", text)]
-        self._counts = {}
+        self._counts: dict[Place, int] = {}
         self._depth = 0
         try:
             self._read()
         except (_Unexpected, RecursionError):
             pass
 
-    def line(self, place):
+    def line(self, place: Place) -> int:
         """The line of the place, or of the nearest table around it."""
         while place not in self.lines:
             place = place[:-1]
         return self.lines[place]
 
-    def keys(self, place):
+    def keys(self, place: Place) -> list[str]:
         """The keys of the table at the place, in the order of the text."""
         size = len(place) + 1
-        return [other[-1] for other in self.lines if len(other) == size and other[:-1] == place]
+        return [str(other[-1]) for other in self.lines if len(other) == size and other[:-1] == place]
 
-    def number(self, place):
+    def number(self, place: Place) -> int | None:
         """The integer at the place, or None."""
         try:
             return int(self.spelled.get(place, ""), 0)
         except ValueError:
             return None
 
-    def elements(self, array):
+    def integer(self, place: Place) -> int:
+        """The integer at the place, where there is one."""
+        return int(self.spelled[place], 0)
+
+    def elements(self, array: Place) -> list[Place]:
         """The places of the elements of the array at a place."""
         return [array + (number,) for number in range(1, self._counts.get(array, 0) + 1)]
 
-    def line_at(self, at):
+    def line_at(self, at: int) -> int:
         """The line of a position in the text."""
         return bisect.bisect_left(self._feeds, at) + 1
 
-    def _read(self):
-        table = ()
+    def _read(self) -> None:
+        table: Place = ()
         while self._skip() < len(self._text):
             self.statements.append(self._at)
             if self._text.startswith("[[", self._at):
@@ -122,13 +129,14 @@ class Places:
             else:
                 self._pair(table)
 
-    def _skip(self):
-        start, self._at = self._at, BLANK.match(self._text, self._at).end()
+    def _skip(self) -> int:
+        start, blank = self._at, BLANK.match(self._text, self._at)
+        self._at = blank.end() if blank else start
         if self._depth and "\n" in self._text[start:self._at]:
             self.newer.append(start)
         return self._at
 
-    def _take(self, pattern):
+    def _take(self, pattern: re.Pattern[str]) -> str:
         found = pattern.match(self._text, self._at)
         if not found:
             raise _Unexpected
@@ -137,20 +145,20 @@ class Places:
         self._at = found.end()
         return found.group()
 
-    def _expect(self, mark):
+    def _expect(self, mark: str) -> None:
         self._skip()
         if not self._text.startswith(mark, self._at):
             raise _Unexpected
         self._at += len(mark)
 
-    def _comes(self, mark):
+    def _comes(self, mark: str) -> bool:
         self._skip()
         return self._text.startswith(mark, self._at)
 
-    def _note(self, place, at):
+    def _note(self, place: Place, at: int) -> None:
         self.lines.setdefault(place, self.line_at(at))
 
-    def _dotted(self):
+    def _dotted(self) -> list[str]:
         keys = []
         while True:
             self._skip()
@@ -160,17 +168,17 @@ class Places:
                 return keys
             self._expect(".")
 
-    def _header(self, opening, closing):
+    def _header(self, opening: str, closing: str) -> tuple[int, list[str]]:
         start = self._at
         self._expect(opening)
         keys = self._dotted()
         self._expect(closing)
         return start, keys
 
-    def _inside(self, header):
+    def _inside(self, header: tuple[int, list[str]]) -> Place:
         """The table of a header, each array on the way at its last element."""
         start, keys = header
-        place = ()
+        place: Place = ()
         for key in keys:
             place += (key,)
             self._note(place, start)
@@ -178,20 +186,20 @@ class Places:
                 place += (self._counts[place],)
         return place
 
-    def _element(self, header):
+    def _element(self, header: tuple[int, list[str]]) -> Place:
         """The new element of an array of tables."""
         start, keys = header
         array = self._inside((start, keys[:-1])) + (keys[-1],)
         self._note(array, start)
         return self._next(array, start)
 
-    def _next(self, array, at):
+    def _next(self, array: Place, at: int) -> Place:
         self._counts[array] = self._counts.get(array, 0) + 1
         place = array + (self._counts[array],)
         self._note(place, at)
         return place
 
-    def _pair(self, table):
+    def _pair(self, table: Place) -> None:
         start = self._at
         place = table
         for key in self._dotted():
@@ -201,7 +209,7 @@ class Places:
         self._skip()
         self._value(place)
 
-    def _value(self, place):
+    def _value(self, place: Place) -> None:
         start = self._at
         if self._comes("{"):
             self._table(place)
@@ -213,7 +221,7 @@ class Places:
             self._take(OTHER)
         self.spelled[place] = self._text[start:self._at].strip()
 
-    def _table(self, place):
+    def _table(self, place: Place) -> None:
         self._expect("{")
         self._depth += 1
         while not self._comes("}"):
@@ -225,7 +233,7 @@ class Places:
         self._depth -= 1
         self._expect("}")
 
-    def _array(self, place):
+    def _array(self, place: Place) -> None:
         self._expect("[")
         while not self._comes("]"):
             self._value(self._next(place, self._at))

@@ -1,7 +1,6 @@
 #!/usr/bin/python3
 """Checks a plan with j39plan and says where in the file each answer belongs, as FILE:LINE: ANSWER  (hint)."""
 
-import argparse
 import bisect
 import difflib
 import json
@@ -9,12 +8,17 @@ import os
 import re
 import sys
 import tempfile
+from collections.abc import Callable, Iterable, Iterator
+from decimal import Decimal
+from fractions import Fraction
+from math import lcm
 
 import program
-from toml_places import MARK, Places, fault_of
+from toml_places import MARK, Place, Places, fault_of
 
-# How TOML spells integers.
+# How TOML spells integers, and numbers with a point or a power of ten that aren't too long to be meant.
 INTEGER = re.compile(r"[+-]?(?:[0-9_]+|0x[0-9A-Fa-f_]+|0o[0-7_]+|0b[01_]+)")
+DECIMAL = re.compile(r"[+-]?[0-9_]{1,20}(?:\.[0-9_]{1,20})?(?:[eE][+-]?[0-9]{1,2})?")
 
 SCHEMA = os.path.join(os.path.dirname(os.path.realpath(__file__)), "plan.schema.json")
 
@@ -32,10 +36,17 @@ KEYS = {
 }
 
 
+# A line of the file, 1 where nothing better is known, and a hint.
+Told = tuple[int, str | None]
+
+# How an answer with a place is written: of file, line, text and the lines that belong to it.
+Form = Callable[[str, int, str, list[str]], list[str]]
+
+
 class Plan:
     """A plan's text, and where in it stands what the program names."""
 
-    def __init__(self, text):
+    def __init__(self, text: str) -> None:
         self.places = Places(text)
         with open(SCHEMA, encoding="utf-8") as file:
             self.schema = json.load(file)
@@ -45,31 +56,36 @@ class Plan:
             if place[-1] == "label" and len(place) > 2
         }
 
-    def line(self, place):
+    def line(self, place: Place) -> int:
         """The line of a place."""
         return self.places.line(place)
 
-    def labelled(self, array, label):
+    def labelled(self, array: Place, label: str) -> Place:
         """The place of the array's first element of this label."""
         return self.labels.get((array, label), array)
 
-    def listed(self, place):
+    def listed(self, place: Place) -> dict[str, dict]:
         """The keys that the table at a place may have, with what the schema says of each."""
         names = [part for part in place if isinstance(part, str)]
-        listed = (self.schema["definitions"][names[-1]] if names else self.schema)["properties"]
+        listed: dict[str, dict] = (self.schema["definitions"][names[-1]] if names else self.schema)["properties"]
         if names or self.places.number(("version",)) == 2:
             return listed
         return {key: rule for key, rule in listed.items() if key != "keep_free"}
 
-    def tables_with(self, key):
+    def tables_with(self, key: str) -> list[str]:
         """The tables that may have a key."""
         return [name for name, rule in self.schema["definitions"].items() if key in rule.get("properties", {})]
 
-    def wanted(self, place, key):
-        """What the schema wants of a key, in words."""
+    def rule(self, place: Place, key: str) -> dict:
+        """What the schema says of a key."""
         rule = self.listed(place)[key]
         while "$ref" in rule:
             rule = self.schema["definitions"][rule["$ref"].split("/")[-1]]
+        return rule
+
+    def wanted(self, place: Place, key: str) -> str:
+        """What the schema wants of a key, in words."""
+        rule = self.rule(place, key)
         if "enum" in rule:
             return " or ".join(f'"{word}"' for word in rule["enum"])
         if "const" in rule:
@@ -79,24 +95,26 @@ class Plan:
         if rule.get("items", {}).get("type") == "integer":
             return f"an array of integers {rule['items']['minimum']}..{rule['items']['maximum']}, each once"
         kinds = {"array": "an array of tables", "object": "a table", "boolean": "true or false"}
-        return kinds.get(rule.get("type")) or f"a text, {rule['description']}"
+        return kinds.get(rule.get("type", "")) or f"a text, {rule['description']}"
 
 
-def place_named(words):
+def place_named(words: str) -> Place:
     """The place that a refusal names, as `group 2 signal 3`."""
     if words == "top":
         return ()
     return tuple(int(word) if word.isdigit() else word for word in words.split())
 
 
-def likely(word, words):
-    """A hint at the word that may have been meant."""
-    close = difflib.get_close_matches(word.lower(), [other.lower() for other in words], 1, 0.7)
-    meant = [other for other in words if close and other.lower() == close[0]]
-    return f"; did you mean {meant[0]}?" if meant else ""
+def likely(word: str, words: Iterable[str]) -> str:
+    """A hint at the word that may have been meant: one that is spelled alike, or that begins so."""
+    others = {other.lower(): other for other in words}
+    close = difflib.get_close_matches(word.lower(), others, 1, 0.7)
+    if not close and len(word) >= 3:
+        close = [other for other in others if other.startswith(word.lower())]
+    return f"; did you mean {others[close[0]]}?" if close else ""
 
 
-def is_no_toml(text):
+def is_no_toml(text: str) -> bool:
     """Whether the program refuses a text as no TOML."""
     with tempfile.NamedTemporaryFile(suffix=".toml") as file:
         file.write(text.encode())
@@ -104,14 +122,14 @@ def is_no_toml(text):
         return program.call(["check", "--", file.name])[1].startswith("refused Text")
 
 
-def faulty_statement(text, places):
+def faulty_statement(text: str, places: Places) -> tuple[int, int]:
     """Where the first statement begins and ends that the program doesn't take behind those above it."""
     starts = [0, *places.statements]
     at = bisect.bisect_left(starts, True, lo=1, key=lambda start: is_no_toml(text[:start]))
     return starts[at - 1], starts[at] if at < len(starts) else len(text)
 
 
-def is_beyond_64_bits(spelled):
+def is_beyond_64_bits(spelled: str) -> bool:
     """Whether a value is an integer that no 64 bits hold."""
     if not INTEGER.fullmatch(spelled):
         return False
@@ -121,7 +139,7 @@ def is_beyond_64_bits(spelled):
         return len(spelled) > 1000
 
 
-def statement_fault(text, places, start, end):
+def statement_fault(text: str, places: Places, start: int, end: int) -> Told:
     """Line and hint of what is wrong in a statement, as far as that can be told; else its first line."""
     first, last = places.line_at(start), places.line_at(end)
     if not any(start <= at < end for at in places.newer):
@@ -135,7 +153,7 @@ def statement_fault(text, places, start, end):
     return first, None
 
 
-def text_fault(plan, data):
+def text_fault(plan: Plan, data: bytes) -> Told:
     """Line and hint of a file that is no TOML."""
     try:
         text = data.decode()
@@ -144,7 +162,7 @@ def text_fault(plan, data):
     return statement_fault(text, plan.places, *faulty_statement(text, plan.places))
 
 
-def unknown_key(plan, place):
+def unknown_key(plan: Plan, place: Place) -> Told:
     """Line and hint of the table's first key that isn't listed."""
     listed = list(plan.listed(place))
     for key in plan.places.keys(place):
@@ -158,7 +176,7 @@ def unknown_key(plan, place):
     return plan.line(place), None
 
 
-def kept_fault(plan, key):
+def kept_fault(plan: Plan, key: str) -> Place:
     """The place in an array of addresses of the first that is out of range or there twice, if one is."""
     seen = set()
     for place in plan.places.elements((key,)):
@@ -169,7 +187,34 @@ def kept_fault(plan, key):
     return ()
 
 
-def value_fault(plan, place, key, cause):
+def number_at(plan: Plan, place: Place, default: int) -> Fraction | None:
+    """The number at a place, with a point or without one, or None."""
+    spelled = plan.places.spelled.get(place, str(default))
+    return Fraction(Decimal(spelled.replace("_", ""))) if DECIMAL.fullmatch(spelled) else None
+
+
+def whole_scale(plan: Plan, signal: Place) -> str:
+    """A hint at step and offset of a signal as whole numbers, the fraction of both being put into its unit."""
+    step, offset = number_at(plan, signal + ("step",), 1), number_at(plan, signal + ("offset",), 0)
+    if step is None or offset is None:
+        return ""
+    parts = lcm(step.denominator, offset.denominator)
+    keys = [f"step = {step * parts}"] + [f"offset = {offset * parts}"] * (offset != 0)
+    if parts == 1:
+        return f"; without a point: {', '.join(keys)}"
+    unit = f"1/{parts} {plan.places.texts.get(signal + ('unit',), '')}".strip()
+    return f"; the fraction goes into the unit: {', '.join(keys)}, unit = \"{unit}\""
+
+
+def value_hint(plan: Plan, place: Place, key: str, cause: str) -> str:
+    """A hint at the value that may have been meant."""
+    words = plan.rule(place, key).get("enum", [])
+    if words:
+        return likely(plan.places.texts.get(place + (key,), ""), words)
+    return whole_scale(plan, place) if cause == "WrongType" and key in ("step", "offset") else ""
+
+
+def value_fault(plan: Plan, place: Place, key: str, cause: str) -> Told:
     """Line and hint of a key whose value is refused."""
     if cause == "TooMany":
         most = plan.listed(place)[key]["maxItems"]
@@ -178,10 +223,10 @@ def value_fault(plan, place, key, cause):
         return plan.line(place + (key,) + kept_fault(plan, key)), f"key {key}: {plan.wanted(place, key)}"
     spelled = plan.places.spelled.get(place + (key,), "")
     shown = f"{key} = {spelled}" if 0 < len(spelled) < 50 and "\n" not in spelled else f"key {key}"
-    return plan.line(place + (key,)), f"{shown}: {plan.wanted(place, key)}"
+    return plan.line(place + (key,)), f"{shown}: {plan.wanted(place, key)}{value_hint(plan, place, key, cause)}"
 
 
-def label_fault(plan, place, key, cause):
+def label_fault(plan: Plan, place: Place, key: str, cause: str) -> Told:
     """Line and hint of a label that was used before, or that nothing has."""
     label = plan.places.texts.get(place + (key,), "")
     if cause == "Repeated":
@@ -189,14 +234,15 @@ def label_fault(plan, place, key, cause):
         hint = f"key label: {label} is at line {plan.line(first)} too"
     else:
         kind = "group" if key == "group" else "unit"
-        others = [other for array, other in plan.labels if array == (kind,)]
+        others = [other for array, other in plan.labels if array == (kind,)] + ["all"] * (key == "to")
         hint = f"key {key}: no {kind} is called {label}{likely(label, others)}"
     return plan.line(place + (key,)), hint
 
 
-def refusal(plan, data, line):
+def refusal(plan: Plan, data: bytes, line: str) -> Told:
     """Line and hint of a refused file."""
     found = re.fullmatch(r"refused (\w+)(?: (.*?))?(?: key (\w+))?", line)
+    assert found is not None
     cause, place, key = found.group(1), place_named(found.group(2) or "top"), found.group(3)
     if cause == "Text":
         return text_fault(plan, data)
@@ -211,9 +257,10 @@ def refusal(plan, data, line):
     return value_fault(plan, place, key, cause)
 
 
-def of_one(plan, number, words):
+def of_one(plan: Plan, number: str, words: list[str]) -> Told:
     """Line and hint of a finding about one group, signal or flow."""
     kind, key, hint = KEYS[number]
+    place: Place
     if kind == "flow":
         place = ("flow", int(words[0]))
     elif kind == "unit":
@@ -225,7 +272,7 @@ def of_one(plan, number, words):
     return plan.line(place + (key,)), f"key {key}: {hint}"
 
 
-def of_two(plan, number, words):
+def of_two(plan: Plan, number: str, words: list[str]) -> Told:
     """Line and hint of a finding about two units, groups, signals or flows: where the second stands."""
     if number == "F8":
         signals = plan.labelled(("group",), words[0]) + ("signal",)
@@ -238,7 +285,7 @@ def of_two(plan, number, words):
     return plan.line(second), f"key {key}: the same as of {words[0]} at line {plan.line(first)}"
 
 
-def finding(plan, line):
+def finding(plan: Plan, line: str) -> Told:
     """Line and hint of a finding."""
     number, _, *words = line.split()
     if number == "F3":
@@ -248,9 +295,9 @@ def finding(plan, line):
     return of_two(plan, number, words)
 
 
-def parted(answer):
+def parted(answer: str) -> list[list[str]]:
     """The answer's lines, each with those below that belong to it: they begin with two spaces."""
-    parts = []
+    parts: list[list[str]] = []
     for line in answer.splitlines():
         if line.startswith("  ") and parts:
             parts[-1].append(line)
@@ -259,18 +306,23 @@ def parted(answer):
     return parts
 
 
-def compiler_message(file, line, text, below):
+def compiler_message(file: str, line: int, text: str, below: list[str]) -> list[str]:
     """As a compiler says it, with the lines that belong to it below."""
     return [f"{file}:{line}: {text}", *below]
 
 
-def github_annotation(file, line, text, below):
+def escaped(text: str, chars: str) -> str:
+    """A text with these characters by their codes."""
+    return "".join(f"%{ord(char):02X}" if char in chars else char for char in text)
+
+
+def github_annotation(file: str, line: int, text: str, below: list[str]) -> list[str]:
     """As an annotation of GitHub's CI, which holds the lines that belong to it."""
-    whole = "\n".join([text, *below]).replace("%", "%25").replace("\n", "%0A")
-    return [f"::error file={file},line={line}::{whole}"]
+    name, whole = escaped(file, "%\r\n:,"), escaped("\n".join([text, *below]), "%\r\n")
+    return [f"::error file={name},line={line}::{whole}"]
 
 
-def annotate(name, data, answer, form):
+def annotate(name: str, data: bytes, answer: str, form: Form) -> Iterator[str]:
     """The answer's lines; those that say what is wrong with their place in the file."""
     plan = Plan(data.decode(errors="replace"))
     for line, *below in parted(answer):
@@ -286,18 +338,19 @@ def annotate(name, data, answer, form):
         yield from form(name, at, shown, below)
 
 
-def main(words=None):
+def main(words: list[str] | None = None) -> int:
     """Runs `j39plan check` and answers its exit status."""
-    parser = argparse.ArgumentParser(description=__doc__)
+    parser = program.parser(__doc__)
     parser.add_argument("plan", metavar="PLAN", help="the name of a plan file")
     parser.add_argument("--github", action="store_true", help="as annotations of GitHub's CI")
     given = parser.parse_args(words)
-    status, answer = program.call(["check", "--", given.plan])
-    if status in (1, 2) and answer:
-        with open(given.plan, "rb") as file:
-            data = file.read()
-        form = github_annotation if given.github else compiler_message
-        answer = "".join(f"{line}\n" for line in annotate(given.plan, data, answer, form))
+    with program.copied(given.plan) as plan:
+        status, answer = program.call(["check", "--", plan])
+        if status in (1, 2) and answer:
+            with open(plan, "rb") as file:
+                data = file.read()
+            form = github_annotation if given.github else compiler_message
+            answer = "".join(f"{line}\n" for line in annotate(given.plan, data, answer, form))
     sys.stdout.write(answer)
     return status
 

@@ -1,8 +1,10 @@
 """A log against a plan."""
 
+import random
 import re
 import subprocess
 import unittest
+from collections import Counter
 
 import program
 from tests.support import MARKED, NEWER, InFolder, example, run
@@ -45,21 +47,66 @@ from = "ENGINE"
 to = "all"
 """
 
+# A broadcast of VI, 17 bytes, by its announcement and three packets.
+VI = ["1CECFF00#20110003FFECFE00", *(f"1CEBFF00#0{number}AAAAAAAAAAAAAA" for number in (1, 2, 3))]
+
 # What the plan has, each once: its claims and its flows.
 CLAIMS = ["18EEFF00#0100000000000000", "18EEFF80#0200000000000080"]
-FLOWS = ["18FEEE00#7DFFFFFFFFFFFFFF", "0C000080#FFFFFFFFFFFFFFFF", "1CECFF00#20110003FFECFE00"]
+FLOWS = ["18FEEE00#7DFFFFFFFFFFFFFF", "0C000080#FFFFFFFFFFFFFFFF", *VI]
+
+# Two units that prefer one address and may both choose another, of which the one with the larger NAME stands first.
+RIVALS = """version = 1
+[[unit]]
+label = "VALVE"
+address = 128
+name = { identity = 2, arbitrary = true }
+[[unit]]
+label = "PUMP"
+address = 128
+name = { identity = 1, arbitrary = true }
+[[group]]
+label = "ET1"
+pgn = 65262
+priority = 6
+length = 8
+[[flow]]
+group = "ET1"
+from = "%s"
+to = "all"
+"""
+PUMP_CLAIMS, VALVE_CLAIMS, ET1 = "18EEFF80#0100000000000080", "18EEFF80#0200000000000080", "18FEEE80#7DFFFFFFFFFFFFFF"
+
+GROUP = 'version = 1\n[[group]]\nlabel = "VI"\npgn = 65260\npriority = 6\nlength = %d\n'
+
+# Messages of two and three packets.
+LENGTHS = (9, 14, 17)
+
+
+def random_packet(chance):
+    """A frame of the transport protocol between the addresses 1 and 2, or to all: data mostly, also what breaks the rules."""
+    source, destination = chance.choice([("01", "02"), ("02", "01"), ("01", "FF"), ("02", "FF")])
+    if chance.random() < 0.7:
+        return f"1CEB{destination}{source}#0{chance.randint(0, 3)}AAAAAAAAAAAAAA"[:chance.choice([25] * 40 + [24])]
+    length = chance.choice(LENGTHS)
+    packets = -(-length // 7) + chance.choice([0] * 20 + [1])
+    control = chance.choice(["20"] * 10 + ["10"] if destination == "FF" else ["10"] * 10 + ["20", "11", "13", "FF"])
+    group = chance.choice(["ECFE00"] * 20 + ["EBFE00", "01EC00", "000004"])
+    return f"1CEC{destination}{source}#{control}{length:02X}00{packets:02X}FF{group}"
 
 
 class Against(InFolder):
-    def deviations(self, *frames):
-        """The deviations of a log of these frames and of the flows, which stand behind them."""
-        plan = self.write("plan.toml", PLAN)
-        lines = [f"({number}.0) can0 {frame}\n" for number, frame in enumerate([*frames, *FLOWS])]
-        log = self.write("drive.log", "".join(lines))
+    def compared(self, text, frames):
+        """The deviations of a log of these frames from this plan."""
+        plan = self.write("plan.toml", text)
+        log = self.write("drive.log", "".join(f"({number}.0) can0 {frame}\n" for number, frame in enumerate(frames)))
         status, answer, said = run("against.py", plan, log)
         *found, count = answer.replace(log, "L").replace(plan, "P").splitlines()
         self.assertEqual((status, count, said), (1 if found else 0, f"deviations {len(found)}", ""))
         return found
+
+    def deviations(self, *frames):
+        """The deviations of a log of these frames and of the flows, which stand behind them."""
+        return self.compared(PLAN, [*frames, *FLOWS])
 
     def test_a_log_as_planned(self):
         self.assertEqual(self.deviations(*CLAIMS), [])
@@ -75,12 +122,37 @@ class Against(InFolder):
         self.assertEqual(self.deviations("18EEFF05#0300000000000000"),
                          ["L:1: NAME 0000000000000003 claims address 5: no unit has it"])
 
-    def test_the_smaller_name_keeps_an_address(self):
-        larger = self.deviations("18EEFF00#0300000000000000", "18FEEE00#7DFFFFFFFFFFFFFF")
-        self.assertEqual(larger, ["L:1: NAME 0000000000000003 claims address 0: no unit has it"])
-        smaller = self.deviations("18EEFF00#0000000000000000", "18FEEE00#7DFFFFFFFFFFFFFF")
-        self.assertEqual(smaller[:2], ["L:1: NAME 0000000000000000 claims address 0: no unit has it",
-                                       "L:2: address 0 sends: no unit has it  (3 times)"])
+    def test_the_name_that_claimed_last_holds_an_address(self):
+        """Also where the smaller NAME claimed before: it would have defended its address, had it been on."""
+        self.assertEqual(self.compared(RIVALS % "VALVE", [PUMP_CLAIMS, VALVE_CLAIMS, ET1]), [])
+        self.assertEqual(self.compared(RIVALS % "PUMP", [PUMP_CLAIMS, VALVE_CLAIMS, PUMP_CLAIMS, ET1]), [])
+
+    def test_the_log_of_a_run(self):
+        """A unit is switched off and one of a larger NAME takes its address: the frames of the run say who holds it then."""
+        plan = self.write("plan.toml", RIVALS % "VALVE")
+        frames = program.run(plan, ["up PUMP", "down PUMP", "up VALVE", "begin 1 7DFFFFFFFFFFFFFF"])
+        self.assertIn("unit VALVE address 128", frames)
+        self.assertEqual(self.compared(RIVALS % "VALVE", [frame for frame in frames if "#" in frame]), [])
+
+    def test_without_claims_the_smallest_name_has_an_address(self):
+        self.assertEqual(self.compared(RIVALS % "PUMP", [ET1]), [])
+        self.assertEqual(self.compared(RIVALS % "VALVE", [ET1])[0], "L:1: ET1 from PUMP to all: no flow")
+
+    def test_a_claim_elsewhere_leaves_an_address_to_the_next(self):
+        """PUMP claims 129, so that VALVE is the one of those that prefer 128 of which no claim came."""
+        self.assertEqual(self.compared(RIVALS % "VALVE", ["18EEFF81#0100000000000080", ET1]), [])
+        both = ["18EEFF81#0100000000000080", "18EEFF82#0200000000000080", ET1]
+        self.assertEqual(self.compared(RIVALS % "VALVE", both)[0], "L:3: address 128 sends: no unit has it")
+
+    def test_a_name_that_is_not_planned_takes_an_address(self):
+        for name in ("0000000000000000", "0300000000000000"):
+            found = self.deviations(f"18EEFF00#{name}", "18FEEE00#7DFFFFFFFFFFFFFF")
+            told = "".join(reversed(re.findall("..", name)))
+            self.assertEqual(found[:2], [f"L:1: NAME {told} claims address 0: no unit has it",
+                                         "L:2: address 0 sends: no unit has it  (6 times)"])
+
+    def test_a_claim_of_the_global_address_tells_nothing(self):
+        self.assertEqual(self.deviations("18EEFFFF#0100000000000000", *CLAIMS), [])
 
     def test_a_fixed_unit_elsewhere(self):
         found = self.deviations("18EEFF07#0100000000000000", "18EEFF00#0100000000000000")
@@ -96,7 +168,83 @@ class Against(InFolder):
 
     def test_another_length(self):
         self.assertEqual(self.deviations("18FEEE00#7DFF"), ["L:1: ET1 from ENGINE has 2 bytes, planned are 8"])
-        self.assertEqual(self.deviations("1CECFF00#20120003FFECFE00"), ["L:1: VI from ENGINE has 18 bytes, planned are 17"])
+        longer = ["1CECFF00#20120003FFECFE00", *VI[1:]]
+        self.assertEqual(self.deviations(*longer), ["L:1: VI from ENGINE has 18 bytes, planned are 17"])
+
+    def test_a_message_counts_where_it_was_carried_whole(self):
+        """To one unit, with a packet that was lost and sent again; the acknowledgement is no packet of it."""
+        plan = PLAN.replace('from = "ENGINE"\nto = "all"\n', 'from = "ENGINE"\nto = "DISPLAY"\n')
+        sent = ["1CEC8000#10110003FFECFE00", "1CEC0080#110301FFFFECFE00", "1CEB8000#01AAAAAAAAAAAAAA", "1CEB8000#03AAAAAAAAAAAAAA",
+                "1CEC0080#110202FFFFECFE00", "1CEB8000#02AAAAAAAAAAAAAA", "1CEB8000#03AAAAAAAAAAAAAA", "1CEC0080#13110003FFECFE00"]
+        said = "L:1: VI from ENGINE to DISPLAY: announced, and not carried whole"
+        never = "P: flow 3, VI from ENGINE to DISPLAY: never sent"
+        self.assertEqual(self.compared(plan, sent)[:-2], [])
+        self.assertEqual(self.compared(plan, sent[:-2])[0::3], [said, never])
+
+    def test_a_message_that_was_announced_and_not_carried(self):
+        for kind, frames in {
+            "nothing behind it": VI[:1],
+            "a packet is missing": [VI[0], VI[1], VI[3]],
+            "a newer announcement": [*VI[:3], "1CECFF00#20120003FFECFE00"],
+            "refused by an Abort": ["1CEC8000#10110003FFECFE00", "1CEC0080#FF02FFFFFFECFE00", *VI[1:]],
+            "a wrong count of packets": ["1CECFF00#20110004FFECFE00", *VI[1:]],
+        }.items():
+            found = self.compared(PLAN, [*FLOWS[:2], *frames])
+            to = "DISPLAY" if "Abort" in kind else "all"
+            self.assertTrue(found[0].startswith(f"L:3: VI from ENGINE to {to}: announced, and not carried whole"), (kind, found))
+            self.assertEqual(found[-1], "P: flow 3, VI from ENGINE to all: never sent", kind)
+
+    def test_a_message_of_no_group(self):
+        frames = [frame.replace("ECFE00", "EBFE00") for frame in VI]
+        self.assertEqual(self.deviations(*frames), ["L:1: PGN 65259 from ENGINE: no group has it"])
+        said = "L:1: PGN 65259 from ENGINE to all: announced, and not carried whole"
+        self.assertEqual(self.deviations(*frames[:2]), [said])
+
+    def test_a_message_while_its_sender_changes(self):
+        """DISPLAY loses 128 to a NAME that isn't planned, in the middle of its message."""
+        frames = [frame.replace("FF00#", "FF80#") for frame in VI]
+        self.assertEqual(self.deviations(*frames), ["L:1: VI from DISPLAY to all: no flow"])
+        found = self.deviations(*frames[:2], "18EEFF80#0000000000000000", *frames[2:])
+        self.assertEqual(found[0], "L:1: VI from DISPLAY to all: announced, and not carried whole")
+        self.assertNotIn("no flow", "".join(found))
+
+    def test_messages_are_carried_whole_where_read_reports_them(self):
+        """In a log of random packets: as many of each length from each address, and of none is the length planned here."""
+        chance = random.Random(1)
+        log = self.write("random.log", "".join(f"{random_packet(chance)}\n" for _ in range(20000)))
+        found = run("against.py", self.write("plan.toml", GROUP % 1785), log)[1]
+        carried = re.findall(r": VI from (\d+) has (\d+) bytes, planned are 1785(?:  \((\d+) times\))?\n", found)
+        counts = Counter({(source, length): int(times or 1) for source, length, times in carried})
+        for length in LENGTHS:
+            answer = program.call(["read", self.write("plan.toml", GROUP % length), log])[1]
+            reported = Counter(re.findall(r"^group VI from (\d+) ", answer, re.MULTILINE))
+            self.assertGreater(min(reported.values()), 20)
+            self.assertEqual({source: counts[source, str(length)] for source in reported}, reported)
+        self.assertEqual(len(counts), 2 * len(LENGTHS))
+
+    def test_another_priority(self):
+        self.assertEqual(self.deviations("0CFEEE00#7DFFFFFFFFFFFFFF"), ["L:1: ET1 from ENGINE has priority 3, planned is 6"])
+
+    def test_proprietary_groups_that_are_planned(self):
+        """They are compared as any group; others are passed over."""
+        group = '[[group]]\nlabel = "PROP_B"\npgn = 65300\npriority = 6\nlength = 4\n'
+        plan = PLAN + group + '[[flow]]\ngroup = "PROP_B"\nfrom = "ENGINE"\nto = "all"\n'
+        self.assertEqual(self.compared(plan, [*FLOWS, "18FF1400#00112233"]), [])
+        self.assertEqual(self.compared(plan, FLOWS), ["P: flow 4, PROP_B from ENGINE to all: never sent"])
+        found = self.compared(plan, [*FLOWS, "1CFF1400#0011", "18FF1480#00112233", "18FF1500#00"])
+        self.assertEqual(found, ["L:7: PROP_B from ENGINE has 2 bytes, planned are 4",
+                                 "L:7: PROP_B from ENGINE has priority 7, planned is 6",
+                                 "L:8: PROP_B from DISPLAY to all: no flow"])
+
+    def test_two_groups_of_one_number(self):
+        """That of the message's length, and of two that of the flow."""
+        unit = '[[unit]]\nlabel = "%s"\naddress = %d\nname = { identity = %d }\n'
+        group = '[[group]]\nlabel = "%s"\npgn = 65300\npriority = 6\nlength = %d\n'
+        flow = '[[flow]]\ngroup = "%s"\nfrom = "%s"\nto = "all"\n'
+        plan = "".join(["version = 1\n", unit % ("A", 0, 1), unit % ("B", 11, 2),
+                        group % ("A_S", 8), group % ("B_S", 8), group % ("SHORT", 2),
+                        flow % ("A_S", "A"), flow % ("B_S", "B"), flow % ("SHORT", "A")])
+        self.assertEqual(self.compared(plan, ["18FF1400#0011223344556677", "18FF140B#0011223344556677", "18FF1400#0011"]), [])
 
     def test_flows_that_are_not_planned(self):
         self.assertEqual(self.deviations("18FEEE80#7DFFFFFFFFFFFFFF"), ["L:1: ET1 from DISPLAY to all: no flow"])
@@ -117,7 +265,9 @@ class Against(InFolder):
         self.assertEqual(run("against.py", plan, log), (1, "\n".join([*found, "deviations 2\n"]), ""))
 
     def test_what_is_no_deviation(self):
-        services = ["18EAFF00#00EE00", "1CEBFF00#01FFFFFFFFFFFFFF", "18FF1000#00", "18EF8000#00", "1FFFFFFF#", "123#00"]
+        services = ["18EAFF00#00EE00", "1CEBFF00#01FFFFFFFFFFFFFF", "18FF1000#00", "18EF8000#00", "1FFFFFFF#", "123#00",
+                    "1CC88000#14FA060000ECFE00", "1CC78000#01FFFFFFFFFFFFFF", "18C9FF00#ECFE00", "18CAFF00#ECFE00", "18930000#00",
+                    "1C4DFF00#00", "1C4EFF00#00"]
         self.assertEqual(self.deviations(*services), [])
 
     def test_a_unit_without_an_address_may_ask_for_claims(self):
@@ -135,12 +285,31 @@ class Against(InFolder):
         self.assertEqual(run("against.py", plan, log)[2], "against: 6 lines spell no frame\n")
         self.assertIn(" bad 6\n", program.call(["read", plan, log])[1])
 
+    def test_lines_as_read_has_them(self):
+        """Words are parted by spaces, tabs and carriage returns, lines by line feeds alone; a line has at most 8,192 bytes."""
+        plan, frame = self.write("plan.toml", PLAN), "18FEEE00#7DFFFFFFFFFFFFFF"
+        lines = [f"(1.0)\tcan0 {frame}\r", f"can0\r{frame}", f"\x0b{frame}", f"{frame}\x0c", f"x\u2003{frame}", " " * 8192,
+                 " " * 8193, "x" * 20000, f"{' ' * 8167}{frame}", f"{' ' * 8168}{frame}", "\r"]
+        log = self.write("drive.log", "\n".join(lines))
+        counts = program.call(["read", plan, log])[1].splitlines()[-1]
+        self.assertEqual(counts, "frames 3 skipped 0 bad 6")
+        self.assertEqual(run("against.py", plan, log)[2], "against: 6 lines spell no frame\n")
+
+    def test_two_interfaces(self):
+        """The first one is compared. A time in the place of an interface is none."""
+        plan = self.write("plan.toml", PLAN)
+        other = [f"(2.0) can1 {frame}\n" for frame in ("18FEF105#FFFFFFFFFFFFFFFF", *VI)]
+        mine = [f"(1.0) can0 {frame}\n" for frame in FLOWS[:-1]] + [f"(1.5) {FLOWS[-1]}\n"]
+        log = self.write("drive.log", "".join(a + b for a, b in zip(mine, other)) + mine[-1])
+        said = "against: only frames of can0 are compared; 5 of other interfaces are passed over\n"
+        self.assertEqual(run("against.py", plan, log), (0, "deviations 0\n", said))
+
     def test_words_behind_the_data(self):
         plan = self.write("plan.toml", PLAN)
-        log = self.write("the drive.log", "".join(f"(1.0) can0 {frame} {word}\n" for frame in FLOWS for word in "RT"))
+        log = self.write("the drive.log", "".join(f"(1.0) can0 {frame} {word}\n" for word in "RT" for frame in FLOWS))
         status, answer, said = run("against.py", plan, log)
         self.assertEqual((status, answer.splitlines()[-1]), (1, "deviations 3"))
-        mend = re.fullmatch(r"against: 6 lines spell no frame; words behind the data go by: (sed .*)\n", said).group(1)
+        mend = re.fullmatch(r"against: 12 lines spell no frame; words behind the data go by: (sed .*)\n", said).group(1)
         subprocess.run(["sh", "-c", mend], cwd=self.folder, check=True)
         self.assertEqual(run("against.py", plan, self.path("mended.log")), (0, "deviations 0\n", ""))
 

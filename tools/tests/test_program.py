@@ -78,14 +78,24 @@ class End(InFolder):
         missing, refused = self.path("none.toml"), self.write("plan.toml", "version = 3\n")
         f01 = example("findings/f01_same_name.toml")
         for tool, more in (("where.py", []), ("startup.py", []), ("against.py", [LOG])):
-            self.assertEqual(run(tool, missing, *more), (4, "", "j39plan: device fault\n"), tool)
+            said = f"{tool[:-3]}: {missing}: No such file or directory\n"
+            self.assertEqual(run(tool, missing, *more), (4, "", said), tool)
             self.assertEqual(run(tool, refused, *more)[0], 2, tool)
             self.assertEqual(run(tool, f01, *more)[0], 1, tool)
 
     def test_the_page_has_each_status(self):
         page = text_of(os.path.join(TOOLS, "..", "docs", "TOOLS.md")).split("## Exit statuses\n")[1].split("\n## ")[0]
         shown = [line.split("|")[1].strip() for line in page.splitlines() if line.startswith("| ") and line[2].isdigit()]
-        self.assertEqual(shown, ["0", "1", "2", "3", "4", "69", "70"])
+        self.assertEqual(shown, ["0", "1", "2", "3", "4", "5", "69", "70"])
+
+    def test_the_version_is_that_of_the_program(self):
+        version = program.call(["--version"])[1].split()[1]
+        for tool in ("where.py", "startup.py", "against.py"):
+            self.assertEqual(run(tool, "--version"), (0, f"{tool[:-3]} (j39plan) {version}\n", ""))
+            self.assertIn("--version", run(tool, "--help")[1])
+
+    def test_the_help_of_the_program_names_where(self):
+        self.assertIn("j39plan-where", program.call(["check", "--help"])[1])
 
 
 if __name__ == "__main__":

@@ -3,6 +3,7 @@
 import unittest
 
 import program
+import startup
 from tests.support import MARKED, NEWER, InFolder, example, examples, run
 
 UNIT = '[[unit]]\nlabel = "U{0}"\naddress = 200\nchooser = "{1}"\nname = {{ identity = {0}, arbitrary = true }}\n'
@@ -41,6 +42,36 @@ class Startup(InFolder):
             plan = "version = 1\n" + "".join(UNIT.format(number, chooser) for number in range(1, 7))
             _, shown = self.ends(self.write("plan.toml", plan))
             self.assertEqual([int(line.split()[-1]) for line in shown[:-1]], addresses)
+
+    def test_the_order_of_deliveries_decides_where_units_settle(self):
+        """Three units A, B, C, of rising NAMEs, all prefer 128 and choose the lowest address. Where C hears of A and moves to 129, and
+        B hears of that before it hears of A, 129 isn't free for B."""
+        unit = '[[unit]]\nlabel = "{}"\naddress = 128\nname = {{ identity = {}, arbitrary = true }}\n'
+        plan = self.write("plan.toml", "version = 1\n" + "".join(unit.format(*pair) for pair in zip("ABC", (1, 2, 3))))
+        self.assertEqual(self.ends(plan)[1], ["unit A address 128", "unit B address 129", "unit C address 130", "settled"])
+        steps = ["up A", "up B", "up C", "give C A", "give A C", "give C B", "give C B", "give A B", "give C A",
+                 *["give B A"] * 3, *["give A B"] * 2, *["give B C"] * 2, *["give A C"] * 2]
+        lines = [line for line in program.run(plan, steps) if "#" not in line]
+        self.assertEqual(lines, ["unit A address 128", "unit B address 130", "unit C address 129", "settled"])
+
+    def test_more_steps_than_a_schedule_can_have(self):
+        """It is said at once, with a status that isn't the plan's."""
+        plan = example("findings/f03_too_few_addresses.toml")
+        status, answer, said = run("startup.py", plan)
+        self.assertEqual((status, answer), (5, ""))
+        self.assertRegex(said, r"^startup: a start-up of this plan takes more than [\d,]+ steps, "
+                               r"more than a schedule of 16,777,216 bytes can have\n$")
+
+    def test_a_schedule_is_as_long_as_it_may_be(self):
+        """A file of the most bytes that the program takes is written, and of one more isn't."""
+        schedule = startup.Schedule("Start")
+        size = program.INPUT_MOST - len("# Start\n")
+        for _ in range(size // 64):
+            schedule.add("x" * 63)
+        schedule.add("x" * (size % 64 - 1))
+        self.assertEqual(schedule.size, program.INPUT_MOST)
+        with self.assertRaises(program.Refused):
+            schedule.add("")
 
     def test_plans_of_toml_1_1(self):
         """Two units that prefer 200: the one with the larger NAME passes over what is kept free."""

@@ -88,6 +88,48 @@ class Where(InFolder):
         plan = 'version = 1\n[[unit]]\nlabel = "A"\nadress = 1\nname = { identity = 1 }\n'
         self.assertEqual(self.answer(plan)[1], ["4: refused UnknownKey unit 1  (key adress; did you mean address?)"])
 
+    def test_a_key_that_was_begun(self):
+        group = 'version = 1\n[[group]]\nlabel = "G"\npgn = 65262\nprio = 6\nlength = 8\n'
+        self.assertEqual(self.answer(group)[1], ["5: refused UnknownKey group 1  (key prio; did you mean priority?)"])
+        self.assertEqual(self.answer(group.replace("prio", "pr"))[1], ["5: refused UnknownKey group 1  (key pr isn't listed)"])
+
+    def test_a_word_that_was_meant(self):
+        signal = ('version = 1\n[[group]]\nlabel = "G"\npgn = 65262\npriority = 6\nlength = 8\n'
+                  '[[group.signal]]\nlabel = "S"\nbyte = 1\nbits = 8\nkind = "{}"\n')
+        wanted = '"measured" or "discrete" or "raw"'
+        for word, meant in (("Measured", "measured"), ("mesured", "measured"), ("disc", "discrete")):
+            said = f'11: refused Range group 1 signal 1 key kind  (kind = "{word}": {wanted}; did you mean {meant}?)'
+            self.assertEqual(self.answer(signal.format(word)), (2, [said]))
+        said = f'11: refused Range group 1 signal 1 key kind  (kind = "other": {wanted})'
+        self.assertEqual(self.answer(signal.format("other")), (2, [said]))
+
+    def test_all_that_was_meant(self):
+        flow = '[[group]]\nlabel = "G"\npgn = 65262\npriority = 6\nlength = 8\n[[flow]]\ngroup = "G"\nfrom = "%s"\nto = "%s"\n'
+        plan = "version = 1\n" + UNIT.format("A", 0, 1) + flow
+        said = "14: refused UnknownLabel flow 1 key to  (key to: no unit is called ALL; did you mean all?)"
+        self.assertEqual(self.answer(plan % ("A", "ALL")), (2, [said]))
+        said = "13: refused UnknownLabel flow 1 key from  (key from: no unit is called ALL)"
+        self.assertEqual(self.answer(plan % ("ALL", "all")), (2, [said]))
+
+    def test_fractions_go_into_the_unit(self):
+        signal = ('version = 1\n[[group]]\nlabel = "G"\npgn = 65262\npriority = 6\nlength = 8\n'
+                  '[[group.signal]]\nlabel = "S"\nbyte = 1\nbits = 16\nkind = "measured"\n')
+        into = "the fraction goes into the unit"
+        for keys, line, hint in [
+            ('step = 0.125\nunit = "rpm"\n', 12, f'{into}: step = 1, unit = "1/8 rpm"'),
+            ("step = 0.125\n", 12, f'{into}: step = 1, unit = "1/8"'),
+            ('step = 0.03125\noffset = -273\nunit = "degC"\n', 12, f'{into}: step = 1, offset = -8736, unit = "1/32 degC"'),
+            ('step = 2\noffset = -0.5\n', 13, f'{into}: step = 4, offset = -1, unit = "1/2"'),
+            ("step = 5e-2\n", 12, f'{into}: step = 1, unit = "1/20"'),
+            ("step = 1.0\n", 12, "without a point: step = 1"),
+        ]:
+            status, answer = self.answer(signal + keys)
+            self.assertEqual((status, answer[0].split(": ", 1)[0]), (2, str(line)), answer)
+            self.assertTrue(answer[0].endswith(f"; {hint})"), (keys, answer))
+        for keys in ("step = nan\n", "step = '1'\n", "step = true\n", "step = 1e999\n", f"step = 0.{'1' * 400}\n"):
+            status, answer = self.answer(signal + keys)
+            self.assertEqual((status, "; " in answer[0]), (2, False), answer)
+
     def test_a_key_of_another_table(self):
         plan = 'version = 1\n[[unit]]\nlabel = "A"\naddress = 1\npgn = 3\nname = { identity = 1 }\n'
         self.assertEqual(self.answer(plan)[1], ["5: refused UnknownKey unit 1  (key pgn belongs to group)"])
@@ -189,6 +231,15 @@ class Where(InFolder):
         self.assertEqual(status, 2)
         self.assertTrue(answer.startswith(f"::error file={name},line=1::refused Range top key version"), answer)
 
+    def test_annotations_are_escaped(self):
+        """As GitHub's workflow commands have it: in a property also the marks that part properties."""
+        plan = self.write("50%,a:b.toml", "version = 1\n" + UNIT.format("A", 254, 1))
+        _, answer, _ = run("where.py", "--github", plan)
+        name = plan.replace("50%,a:b", "50%25%2Ca%3Ab")
+        self.assertTrue(answer.startswith(f"::error file={name},line=4::refused Range unit 1 key address  (address = 254: "), answer)
+        shown = where.github_annotation("a\rb\n", 1, "50%: x, y\r", ["  z"])
+        self.assertEqual(shown, ["::error file=a%0Db%0A,line=1::50%25: x, y%0D%0A  z"])
+
     def test_every_fault_has_a_line(self):
         """Each line of a plan is left out, doubled and cut in turn: the answers stay, and their lines are in the file."""
         lines = text_of(example("findings/several.toml")).splitlines(keepends=True)
@@ -226,7 +277,7 @@ class Where(InFolder):
 
     def test_a_missing_file(self):
         status, answer, said = run("where.py", self.path("none.toml"))
-        self.assertEqual((status, answer, said), (4, "", "j39plan: device fault\n"))
+        self.assertEqual((status, answer, said), (4, "", f"where: {self.path('none.toml')}: No such file or directory\n"))
 
 
 if __name__ == "__main__":

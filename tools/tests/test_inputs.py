@@ -1,0 +1,155 @@
+"""What the tools make of files that aren't what they want, and of those that aren't regular ones."""
+
+import os
+import random
+import re
+import signal
+import subprocess
+import sys
+import tempfile
+import time
+import unittest
+
+import program
+from tests.support import TOOLS, InFolder, example, run, text_of
+
+PLAN, LOG = example("tractor_and_implement.toml"), example("tractor_and_implement.start.log")
+
+# How else than by its name a file can be given to a command.
+FORMS = (
+    "cat {file} | {before} /dev/stdin {behind}",
+    "{before} /dev/stdin {behind} < {file}",
+    "{before} /dev/fd/7 {behind} 7< {file}",
+    "{before} <(cat {file}) {behind}",
+    "mkfifo fifo; cat {file} > fifo & {before} fifo {behind}",
+    "ln -s /dev/stdin link; {before} link {behind} < {file}",
+)
+# Such names.
+OTHER_NAME = re.compile(r"/dev/(?:stdin|fd/\d+)|\b(?:fifo|link)\b")
+
+RANDOM = random.Random(33).randbytes(20000)
+
+
+def tool(name):
+    """A tool as a shell calls it."""
+    return f"{sys.executable} {os.path.join(TOOLS, name)}"
+
+
+class NoRegularFiles(InFolder):
+    def answer(self, command):
+        """The status of a shell's command in a folder of its own, and its standard output."""
+        with tempfile.TemporaryDirectory() as folder:
+            ended = subprocess.run(["bash", "-c", command], cwd=folder, capture_output=True, text=True, check=False, timeout=60,
+                                   env={**os.environ, "J39PLAN": os.path.abspath(program.path())})
+        return ended.returncode, ended.stdout
+
+    def is_judged_alike(self, before, file, behind=""):
+        """A file is judged alike however it is given."""
+        status, answer = self.answer(f"{before} {file} {behind}")
+        self.assertNotIn(status, (program.DEVICE, program.FAULT))
+        for form in FORMS:
+            other_status, other = self.answer(form.format(before=before, file=file, behind=behind))
+            self.assertEqual((other_status, OTHER_NAME.sub("F", other)), (status, answer.replace(file, "F")), form)
+
+    def test_plans(self):
+        refused = self.write("refused.toml", "version = 1\n[[unit]]\nlabel = A\n")
+        self.is_judged_alike(tool("where.py"), refused)
+        self.is_judged_alike(tool("where.py"), example("findings/f02_same_fixed_address.toml"))
+        self.is_judged_alike(tool("startup.py"), PLAN)
+        self.is_judged_alike(tool("against.py"), PLAN, LOG)
+
+    def test_plans_of_a_job(self):
+        self.is_judged_alike(f"CHECK='{tool('where.py')}' {os.path.join(TOOLS, 'check-plans')}", PLAN)
+
+    def test_logs(self):
+        self.is_judged_alike(f"{tool('against.py')} {PLAN}", LOG)
+
+    def test_plan_and_log(self):
+        both = f"{tool('against.py')} <(cat {PLAN}) <(cat {LOG})"
+        status, answer = self.answer(f"{tool('against.py')} {PLAN} {LOG}")
+        self.assertEqual((status, status), (self.answer(both)[0], 1))
+        self.assertEqual(OTHER_NAME.sub("F", self.answer(both)[1]), answer.replace(PLAN, "F").replace(LOG, "F"))
+
+    def test_a_plan_without_end(self):
+        for name in ("where.py", "startup.py", "against.py"):
+            self.assertEqual(run(name, "/dev/zero", *[LOG] * (name == "against.py")), (2, "", "j39plan: input too long\n"))
+
+    def test_a_folder_and_a_file_that_may_not_be_read(self):
+        for name in ("where.py", "startup.py", "against.py"):
+            more = [LOG] * (name == "against.py")
+            said = f"{name[:-3]}: {self.folder}: Is a directory\n"
+            self.assertEqual(run(name, self.folder, *more), (4, "", said))
+        self.assertEqual(run("against.py", PLAN, self.folder), (4, "", f"against: {self.folder}: Is a directory\n"))
+
+
+class OtherFiles(InFolder):
+    def setUp(self):
+        super().setUp()
+        with open(program.path(), "rb") as file:
+            built = file.read()
+        self.files = []
+        for name, data in {
+            "empty": b"", "random": RANDOM, "program": built, "utf16": text_of(PLAN).encode("utf-16"), "line": b"a" * 100000,
+            "brackets": b"x = " + b"[" * 20000, "feeds": b"\n" * 50000, "returns": text_of(PLAN).replace("\n", "\r").encode(),
+            "log": text_of(LOG).encode(), "nul": bytes(3000),
+        }.items():
+            self.files.append(self.path(name))
+            with open(self.path(name), "wb") as file:
+                file.write(data)
+
+    def test_as_a_plan(self):
+        """The program's refusal, and status 2; `where` puts its line before it."""
+        for name in self.files:
+            refused = program.call(["check", name])[1].strip()
+            self.assertTrue(refused.startswith("refused "), name)
+            for words in (["startup.py", name], ["against.py", name, LOG]):
+                self.assertEqual(run(*words), (2, "", f"{words[0][:-3]}: {refused}\n"))
+            for form in ([], ["--github"]):
+                status, answer, said = run("where.py", *form, name)
+                self.assertEqual((status, said, answer.count("\n")), (2, "", 1), name)
+                self.assertIn(refused, answer)
+
+    def test_as_a_log(self):
+        """Each line is counted as `read` counts it, and what is put is whole."""
+        for name in self.files[:-1]:
+            status, answer, said = run("against.py", PLAN, name)
+            bad = program.call(["read", PLAN, name])[1].split()[-1]
+            if name.endswith("log"):
+                self.assertIn(f"against: {bad} lines spell no frame; words", said)
+                continue
+            self.assertEqual(said, f"against: {bad} lines spell no frame\n" if bad != "0" else "", name)
+            *found, count = answer.splitlines()
+            self.assertEqual((status, count), (1, f"deviations {len(found)}"), name)
+
+    def test_names_of_any_bytes(self):
+        """A name that is no text, or has a line feed, is no fault of a plan."""
+        text = text_of(PLAN)
+        for name in (b"\xff.toml", b"a\nb.toml"):
+            with open(os.path.join(os.fsencode(self.folder), name), "w", encoding="utf-8") as file:
+                file.write(text)
+            for words in (["where.py"], ["where.py", "--github"], ["startup.py"]):
+                status, answer, said = run(*words, os.path.join(os.fsencode(self.folder), name))
+                self.assertEqual(status, 0, said)
+            self.assertEqual(program.call(["run", PLAN, self.write("start.schedule", answer)])[0], 0)
+
+
+class Interrupted(InFolder):
+    def test_an_interrupt_has_no_traceback(self):
+        """A tool that waits for its input ends by the signal, as a shell's other commands do."""
+        os.mkfifo(self.path("fifo"))
+        for words in (["where.py", "fifo"], ["startup.py", "fifo"], ["against.py", "fifo", LOG], ["against.py", PLAN, "fifo"]):
+            started = subprocess.Popen(
+                [sys.executable, os.path.join(TOOLS, words[0]), *words[1:]], cwd=self.folder, text=True,
+                stdout=subprocess.PIPE, stderr=subprocess.PIPE, env={**os.environ, "J39PLAN": os.path.abspath(program.path())},
+                preexec_fn=lambda: signal.signal(signal.SIGINT, signal.SIG_DFL),
+            )
+            writer = os.open(self.path("fifo"), os.O_WRONLY)  # once it reads
+            time.sleep(0.1)
+            started.send_signal(signal.SIGINT)
+            answer, said = started.communicate(timeout=60)
+            os.close(writer)
+            self.assertEqual((started.returncode, answer, said), (-signal.SIGINT, "", ""), words)
+
+
+if __name__ == "__main__":
+    unittest.main()
