@@ -1,3 +1,9 @@
 pub mod Fitting
 pub mod FitSteps
 pub mod Leading
+pub mod Weights
+pub mod Pairs
+pub mod Lowering
+pub mod Accounted
+pub mod AccountedSteps
+pub mod Ending

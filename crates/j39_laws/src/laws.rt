@@ -15,7 +15,7 @@ ghost use Rattle.j39_world.specs.Sound.{AreAddressesSound, AreAddressesDifferent
 
 mod transfers;
 
-pub use transfers::steps_lead_somewhere;
+pub use transfers::{every_transfer_ends, steps_lead_somewhere};
 
 /// In every world of every run of a plan without findings, with all lawful choices, addresses are sound: each unit that is on holds
 /// one, a fixed unit its own, and where no claim is undelivered they are pairwise different.

@@ -12,6 +12,7 @@ pub mod Sound
 pub mod Staying
 pub mod Settling
 pub mod Leading
+pub mod Ending
 pub mod Conflict
 pub mod SoundPlan
 pub mod Opening

@@ -110,7 +110,7 @@ stage_unacked flow bytes =
 
 -- ---- its receivers
 
-among_filtered : (test : ℕ → Bool) (xs : List ℕ) (v : ℕ) → is_among (filter test xs) v ≡ true → test v ≡ true
+pub among_filtered : (test : ℕ → Bool) (xs : List ℕ) (v : ℕ) → is_among (filter test xs) v ≡ true → test v ≡ true
 among_filtered test [] v is = absurd (cc is)
 among_filtered test (x ∷ xs) v is =
     elim (test x) as (λ b. test x ≡ b → is_among (cond b (x ∷ filter test xs) (filter test xs)) v ≡ true → test v ≡ true) [
@@ -154,7 +154,7 @@ planned_to plan w units flow count (One x) on can =
       one = λ v e. ap (λ k. k ∷ []) (same_one x v e);
     }
 
-no_session : (o : Option Outgoing) → is_some o ≡ false → o ≡ None
+pub no_session : (o : Option Outgoing) → is_some o ≡ false → o ≡ None
 no_session None is = refl
 no_session (Some s) is = absurd (cc is)
 

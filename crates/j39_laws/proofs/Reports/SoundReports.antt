@@ -28,7 +28,7 @@ use Rattle.j39_laws.proofs.Runs.Always.{IsPreserved, always}
 use Rattle.j39_laws.proofs.Runs.Conditions.{is_unit, none_refuses, units_known}
 use Rattle.j39_laws.proofs.Runs.Units.{AreUnitsOn, AreBetweenUnits, units_all, units_on, without_lists_empty, told_between}
 
-at_first : (plan : Plan) → TransferInvariant plan first
+pub at_first : (plan : Plan) → TransferInvariant plan first
 at_first plan = record {
   order = record {
     units = λ u on. absurd (true≢false (sym on));
@@ -117,7 +117,7 @@ module _ (plan : Plan) (w : World) (inv : TransferInvariant plan w) where
 
 -- ---- each step
 
-steps_keep : (plan : Plan) → IsPreserved plan (TransferInvariant plan)
+pub steps_keep : (plan : Plan) → IsPreserved plan (TransferInvariant plan)
 steps_keep plan w inv (Up u) allowed new e =
     let (known, (off, (idle, none))) = none_refuses plan w (Up u) allowed in
     subst (TransferInvariant plan) (sym e) (up_keeps plan w inv u (not-false _ known) (not-false _ idle))

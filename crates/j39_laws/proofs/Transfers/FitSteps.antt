@@ -13,7 +13,7 @@ use Rattle.j39_tp.specs.declared.receiving.heard.Heard.{Heard}
 use Rattle.j39_tp.specs.declared.receiving.manner.Manner.TheVariants.{Answering}
 use Rattle.j39_tp.specs.declared.receiving.progress.Progress.{Progress}
 use Rattle.j39_tp.specs.declared.sending.stage.Stage.{Stage}
-use Rattle.j39_tp.proofs.Answering.{IsAside, IsAnswer, aside_answer, hears_told, timed_out_aside}
+use Rattle.j39_tp.proofs.Answering.{IsAnswer, hears_told, timed_out_aside}
 use Rattle.j39_findings.specs.declared.plan.Plan.{Plan}
 use Rattle.j39_findings.specs.declared.plan.flow_plan.FlowPlan.{FlowPlan}
 use Rattle.j39_findings.specs.declared.plan.group_plan.GroupPlan.{GroupPlan}
@@ -34,7 +34,8 @@ use Rattle.j39_world.specs.TransferSteps.{packet_taken, TakenFrom, LostFrom, pac
 use Rattle.j39_world.specs.World.{World, first, changed, changed_pair}
 use Rattle.j39_laws.proofs.Runs.Always.{IsPreserved, always}
 use Rattle.j39_laws.proofs.Runs.Changed.{changed_each, pair_here, pair_elsewhere, pair_here_or_elsewhere, pair_each}
-use Rattle.j39_laws.proofs.Runs.Elements.{all-append, all_map, all_weaker}
+use Rattle.j39_laws.proofs.Runs.Elements.{all-append, all_map}
+use Rattle.j39_laws.proofs.Reports.ExchangeSteps.{asides_answer}
 use Rattle.j39_laws.proofs.Reports.Hearings.{replies_aside, replies_answer, packets_aside, reaction_aside}
 use Rattle.j39_laws.proofs.Transfers.Fitting.{IsFit, answer_fit, announcement_fit, data_fit, timeout_fit, IsWithin, hears_within, timed_out_within, closed_within}
 use Rattle.j39_laws.proofs.Transfers.Fitting.{HasGathered, hears_gathered, timed_out_gathered, closed_gathered}
@@ -77,10 +78,7 @@ flow_fits groups (x ∷ flows) (suc f) flow is = flow_fits groups flows f flow i
 packets_fit : (ps : List Packet) → AllByRecursion IsAnswer ps → AllByRecursion IsItemFit (map wired.Packet ps)
 packets_fit = all_map wired.Packet IsAnswer IsItemFit answer_fit
 
-asides_answer : (ps : List Packet) → AllByRecursion IsAside ps → AllByRecursion IsAnswer ps
-asides_answer = all_weaker IsAside IsAnswer aside_answer
-
-receiver_answers : (window : ℕ) (pr : Progress) (p : Packet) → AllByRecursion IsAnswer (receiver_replies (receiver.hears (Answering window) pr p).1)
+pub receiver_answers : (window : ℕ) (pr : Progress) (p : Packet) → AllByRecursion IsAnswer (receiver_replies (receiver.hears (Answering window) pr p).1)
 receiver_answers window pr p =
     let h : Heard = (receiver.hears (Answering window) pr p).1 in
     elim (hears_told window pr p) [
@@ -219,7 +217,7 @@ module _ (plan : Plan) (w : World) (inv : IsWorldFit w) where
   give_fits u v [] new never = absurd never
   give_fits u v (item ∷ rest) new (says, s, answers, e) = subst IsWorldFit (sym e) (told_fits (given (units_of plan) w u v rest says s) refl refl refl refl)
 
-steps_fit : (plan : Plan) → IsPreserved plan IsWorldFit
+pub steps_fit : (plan : Plan) → IsPreserved plan IsWorldFit
 steps_fit plan w inv (Up u) allowed new e = subst IsWorldFit (sym e) (switched_fits plan w inv u (switched_on (units_of plan) w u) refl refl refl refl)
 steps_fit plan w inv (Down u) allowed new e = subst IsWorldFit (sym e) (switched_fits plan w inv u (switched_off w u) refl refl refl refl)
 steps_fit plan w inv (Give u v) allowed new leads = give_fits plan w inv u v (w.claims u v) new leads

@@ -1,0 +1,264 @@
+-- In every world of every run what is undelivered of messages is of one that is still sent, and who sends and receives it is on.
+use Rattle.std.proofs.Common.{◌≡◌, ℕ, inl, inr, true, not, ◌&&◌, eqb, ltb, List, [], ◌∷◌, ◌++◌, length, refl, sym, ap, ◌∙◌, subst, Option, Some, None}
+use Rattle.std.specs.Prelude.{map, slice_get}
+use Rattle.std.specs.List.{AllByRecursion, list_all, range_with_len}
+use Rattle.std.specs.Option.{is_some}
+use Rattle.std.proofs.lemmas.Bool.{and_parts, cond_both, eqb-true, not-false}
+use Rattle.j39_tp.specs.Receiver as receiver
+use Rattle.j39_tp.specs.Receiver.{is_open_at}
+use Rattle.j39_tp.specs.Sender as sender
+use Rattle.j39_tp.specs.declared.packet.Packet.{Packet}
+use Rattle.j39_tp.specs.declared.receiving.manner.Manner.TheVariants.{Answering}
+use Rattle.j39_tp.specs.declared.sending.stage.Stage.{Stage}
+use Rattle.j39_tp.proofs.Answering.{IsAnswer, timed_out_aside}
+use Rattle.j39_claim.specs.declared.item.Item.{Item}
+use Rattle.j39_claim.specs.ClaimRule.{off, started}
+use Rattle.j39_findings.specs.declared.plan.Plan.{Plan}
+use Rattle.j39_findings.specs.declared.plan.to.To.{To}
+use Rattle.j39_findings.specs.declared.plan.to.To.TheVariants.{All, One}
+use Rattle.j39_findings.specs.declared.steps.Step.{Step}
+use Rattle.j39_findings.specs.declared.steps.Step.TheVariants.{Up, Down, Give, Ask, Begin, Emit, Take, Lose, LateSender, LateReceiver, Rest}
+use Rattle.j39_world.proofs.Refusals.{none_hold}
+use Rattle.j39_world.specs.declared.flow.Flow.{Flow}
+use Rattle.j39_world.specs.declared.wired.Wired.{Wired}
+use Rattle.j39_world.specs.declared.wired.Wired.TheVariants as wired
+use Rattle.j39_world.specs.ClaimSteps.{GivenFrom, without_lists_to}
+use Rattle.j39_world.specs.Flows.{flows_of, windows_of, window_at, dest_of, is_short}
+use Rattle.j39_world.specs.PlannedUnits.{units_of, unit_at}
+use Rattle.j39_world.specs.Resting.{is_of_sender, is_of_receiver, is_over_with, can_rest}
+use Rattle.j39_world.specs.Run.{count_of, is_on, at_ends, begin_refusal, begin_refusals, is_no_transfer_open, refusal, StepsTo}
+use Rattle.j39_world.specs.SoundPlan.{Always}
+use Rattle.j39_world.specs.Transfers.{Outgoing, Reported, Sessions, Wire, is_among, added, outcome_in}
+use Rattle.j39_world.specs.TransferSteps.{targets_of, outgoing, first_item, BeginsAt, sent_to_receivers, session_after, reaction_of, receiver_replies}
+use Rattle.j39_world.specs.TransferSteps.{sender_replies, hearing, packet_taken, TakenFrom, LostFrom, packets_in, receiver_timed_out, rested}
+use Rattle.j39_world.specs.World.{World, Stations, changed, changed_pair, is_other_on}
+use Rattle.j39_laws.proofs.Reports.Exchanges.{pair_of}
+use Rattle.j39_laws.proofs.Reports.ExchangeSteps.{asides_answer}
+use Rattle.j39_laws.proofs.Reports.Hearings.{packets_aside}
+use Rattle.j39_laws.proofs.Reports.Orderly.{PlannedAt, none_sends, none_sends_while}
+use Rattle.j39_laws.proofs.Reports.SenderSteps.{among_filtered, among_one, no_session}
+use Rattle.j39_laws.proofs.Reports.SoundReports.{at_first, steps_keep}
+use Rattle.j39_laws.proofs.Reports.TransferInvariant.{TransferInvariant}
+use Rattle.j39_laws.proofs.Runs.Always.{IsPreserved, always}
+use Rattle.j39_laws.proofs.Runs.Changed.{changed_here, changed_each, pair_each}
+use Rattle.j39_laws.proofs.Runs.Conditions.{is_unit, none_refuses}
+use Rattle.j39_laws.proofs.Runs.Elements.{all-append, all_tested}
+use Rattle.j39_laws.proofs.Runs.Units.{units_all}
+use Rattle.j39_laws.proofs.Transfers.Accounted.{SendsTo, IsAccounted, AreAccounted, AreEndsOn, AllAccounted, SendMore, send_more, still_accounted, after_sends}
+use Rattle.j39_laws.proofs.Transfers.Accounted.{open_is_sent, replying, announced_to, answers_accounted, reacted_accounted, data_of_sender}
+use Rattle.j39_laws.proofs.Transfers.Accounted.{timeout_of_sender, announcement_of_sender, rested_accounted}
+use Rattle.j39_laws.proofs.Transfers.FitSteps.{receiver_answers}
+
+-- what holds of messages, and that all is accounted for
+pub record IsKept (plan : Plan) (w : World) : Type 0 where
+  pub transfers : TransferInvariant plan w
+  pub accounted : AllAccounted w
+
+first_item_of_sender : (flow : Flow) (bytes : List ℕ) → is_of_sender (first_item flow bytes) ≡ true
+first_item_of_sender flow bytes =
+    cond_both (is_short (length bytes)) (wired.Short bytes) (wired.Packet (sender.announcement (dest_of flow.to) flow.pgn (length bytes)))
+    (λ (item : Wired). is_of_sender item ≡ true) (λ _. refl) (λ _. announcement_of_sender (dest_of flow.to) flow.pgn (length bytes))
+
+begin_ends : (stations : Stations) (count u : ℕ) (to : To) → at_ends (is_on stations) u to ≡ true
+    → ((stations u).on ≡ true) × ((v : ℕ) → is_among (targets_of count stations u to) v ≡ true → (stations v).on ≡ true)
+begin_ends stations count u All on = (
+  on,
+  λ v among. (and_parts (stations v).on (not (eqb v u)) (among_filtered (is_other_on stations u) (range_with_len 0 count) v among)).0,
+)
+begin_ends stations count u (One x) on =
+    let ends = and_parts (is_on stations u) (is_on stations x) on in
+    (ends.0, λ v among. subst (λ k. (stations k).on ≡ true) (sym (among_one x v among)) ends.1)
+
+ends_after : (stations : Stations) (v u : ℕ) (p : Packet) (o : Option Outgoing) → AreEndsOn stations v o → AreEndsOn stations v (session_after o u p)
+ends_after stations v u p None on = on
+ends_after stations v u p (Some s) on = on
+
+module _ (plan : Plan) (w : World) (inv : TransferInvariant plan w) (old : AllAccounted w) where
+  -- ---- lists that change
+
+  dropped : (u : ℕ) → AreAccounted w.sessions (without_lists_to u w.wire)
+  dropped u s t = cond_both (eqb t u) [] (w.wire s t) (AllByRecursion (IsAccounted w.sessions s t)) (λ _. tt) (λ _. old.wire s t)
+
+  less : (u v : ℕ) (item : Wired) (rest : List Wired) → w.wire u v ≡ item ∷ rest → AreAccounted w.sessions (changed_pair w.wire u v rest)
+  less u v item rest is = pair_each (λ s t (xs : List Wired). AllByRecursion (IsAccounted w.sessions s t) xs) w.wire u v rest
+      (subst (AllByRecursion (IsAccounted w.sessions u v)) is (old.wire u v)).1 old.wire
+
+  more : (sessions : Sessions) (wire : Wire) → AreAccounted sessions wire → (v u : ℕ) (items : List Wired) → AllByRecursion (IsAccounted sessions v u) items
+      → AreAccounted sessions (changed_pair wire v u (wire v u ++ items))
+  more sessions wire here v u items all = pair_each (λ s t (xs : List Wired). AllByRecursion (IsAccounted sessions s t) xs) wire v u (wire v u ++ items)
+      (all-append (IsAccounted sessions v u) (wire v u) items (here v u) all) here
+
+  -- u sends an item to those that its message goes to
+  sent : (u : ℕ) (o : Outgoing) (item : Wired) → ((y : ℕ) → SendsTo (w.sessions u) y → SendsTo (Some o) y) → is_of_sender item ≡ true
+      → AreAccounted (changed w.sessions u (Some o)) (added w.wire u o.targets item)
+  sent u o item sends of s t =
+      let now : Sessions = changed w.sessions u (Some o) in
+      let before : AllByRecursion (IsAccounted now s t) (w.wire s t) =
+      still_accounted w.sessions now (send_more w.sessions u (Some o) sends) s t (w.wire s t) (old.wire s t) in
+      cond_both (eqb s u && is_among o.targets t) (w.wire s t ++ item ∷ []) (w.wire s t) (AllByRecursion (IsAccounted now s t))
+      (λ both. let parts = and_parts (eqb s u) (is_among o.targets t) both in
+      let session : now s ≡ Some o = ap now (eqb-true s u parts.0) ∙ changed_here w.sessions u (Some o) in
+      let among : SendsTo (now s) t = subst (λ (x : Option Outgoing). SendsTo x t) (sym session) parts.1 in
+      all-append (IsAccounted now s t) (w.wire s t) (item ∷ []) before (inl (of, among), tt))
+      (λ _. before)
+
+  -- ---- units that are switched, or hear a claim, while no message is sent
+
+  none_ends : ((u : ℕ) → w.sessions u ≡ None) → (stations : Stations) (u : ℕ) → AreEndsOn stations u (w.sessions u)
+  none_ends none stations u = subst (AreEndsOn stations u) (sym (none u)) tt
+
+  none_open : is_no_transfer_open (count_of plan) w ≡ true → (u : ℕ) → w.sessions u ≡ None
+  none_open closed = none_sends plan w.stations w.claims w.sessions inv.order (units_all plan (λ v. not (is_some (w.sessions v))) closed)
+
+  give_accounted : (u v : ℕ) → ltb 0 (length (w.claims u v)) ≡ true → (list : List Item) (new : World) → GivenFrom (units_of plan) w u v list new
+      → AllAccounted new
+  give_accounted u v some [] new never = absurd never
+  give_accounted u v some (item ∷ rest) new (says, s, answers, e) = subst AllAccounted (sym e) (record {
+    wire = old.wire;
+    ends = none_ends (none_sends_while plan w.stations w.claims w.sessions inv.order u v some) (changed w.stations v s);
+  })
+
+  -- ---- a sender begins, goes on, or hears nothing in time
+
+  begin_accounted : (f : ℕ) (o : Option Flow) (bytes : List ℕ) → begin_refusal (count_of plan) w o bytes ≡ None → (new : World)
+      → BeginsAt (count_of plan) w f o bytes new → AllAccounted new
+  begin_accounted f None bytes allowed new never = absurd never
+  begin_accounted f (Some flow) bytes allowed new e =
+      let (sendable, (on, (told, (addressed, (free, rest))))) = none_hold (begin_refusals (count_of plan) w (Some flow) bytes) allowed in
+      let o : Outgoing = outgoing (count_of plan) w.stations f flow bytes in
+      let idle : w.sessions flow.sender ≡ None = no_session (w.sessions flow.sender) free in
+      subst AllAccounted (sym e) (record {
+        wire = sent flow.sender o (first_item flow bytes) (λ y sends. absurd (subst (λ (x : Option Outgoing). SendsTo x y) idle sends))
+            (first_item_of_sender flow bytes);
+        ends = changed_each (AreEndsOn w.stations) w.sessions flow.sender (Some o)
+            (begin_ends w.stations (count_of plan) flow.sender flow.to (not-false _ on)) old.ends;
+      })
+
+  sends_accounted : (u : ℕ) (s : Outgoing) (stage : Stage) (p : Packet) → w.sessions u ≡ Some s → is_of_sender (wired.Packet p) ≡ true
+      → AllAccounted (record (sent_to_receivers w u s p) { sessions = changed w.sessions u (Some (record s { stage = stage })) })
+  sends_accounted u s stage p is of = record {
+    wire = sent u (record s { stage = stage }) (wired.Packet p) (λ y sends. subst (λ (x : Option Outgoing). SendsTo x y) is sends) of;
+    ends = changed_each (AreEndsOn w.stations) w.sessions u (Some (record s { stage = stage })) (subst (AreEndsOn w.stations u) is (old.ends u)) old.ends;
+  }
+
+  -- ---- something is taken or lost, or a receiver hears nothing in time
+
+  pub sent_where_open : (u v : ℕ) → is_open_at (w.receivers v u) ≡ true → SendsTo (w.sessions u) v
+  sent_where_open u v is = open_is_sent (w.sessions u) v (pair_of w u v) (inv.exchanges u v) is
+
+  packet_accounted : (windows : List ℕ) (u v : ℕ) (p : Packet) (rest : List Wired) (reports : List Reported) → w.wire u v ≡ wired.Packet p ∷ rest
+      → AllAccounted (packet_taken windows w u v rest p reports)
+  packet_accounted windows u v p rest reports is =
+      let then : Option Outgoing = session_after (w.sessions v) u p in
+      let now : Sessions = changed w.sessions v then in
+      let keeps : SendMore w.sessions now = send_more w.sessions v then (after_sends (w.sessions v) u p) in
+      let replies : List Packet = receiver_replies (hearing windows w u v p).1 in
+      let reacted : List Packet = sender_replies (reaction_of (w.sessions v) u p) in
+      let head : IsAccounted w.sessions u v (wired.Packet p) = (subst (AllByRecursion (IsAccounted w.sessions u v)) is (old.wire u v)).0 in
+      let answers : AllByRecursion IsAnswer replies = receiver_answers (window_at windows v) (w.receivers v u) p in
+      let answered : AllByRecursion (IsAccounted now v u) (map wired.Packet replies) =
+      elim (replying (window_at windows v) (w.receivers v u) p) [
+        | inl none ↦ subst (λ (ps : List Packet). AllByRecursion (IsAccounted now v u) (map wired.Packet ps)) (sym none) tt
+        | inr (inl open_is) ↦ answers_accounted now v u (keeps u v (sent_where_open u v open_is)) replies answers
+        | inr (inr announces) ↦ answers_accounted now v u (keeps u v (announced_to w.sessions u v p announces head)) replies answers
+      ] in
+      let also = reacted_accounted now v u (w.sessions v) p (keeps v) in
+      let all : AllByRecursion (IsAccounted now v u) (map wired.Packet (replies ++ reacted)) =
+      subst (AllByRecursion (IsAccounted now v u)) (sym (map-append replies reacted)) (all-append (IsAccounted now v u) (map wired.Packet replies) _ answered also) in
+      record {
+        wire = more now (changed_pair w.wire u v rest)
+            (λ s t. still_accounted w.sessions now keeps s t (changed_pair w.wire u v rest s t) (less u v (wired.Packet p) rest is s t)) v u
+            (map wired.Packet (replies ++ reacted)) all;
+        ends = changed_each (AreEndsOn w.stations) w.sessions v then (ends_after w.stations v u p (w.sessions v) (old.ends v)) old.ends;
+      }
+    where
+      map-append : (xs ys : List Packet) → map wired.Packet (xs ++ ys) ≡ map wired.Packet xs ++ map wired.Packet ys
+      map-append [] ys = refl
+      map-append (x ∷ xs) ys = ap (λ (zs : List Wired). wired.Packet x ∷ zs) (map-append xs ys)
+
+  take_accounted : (windows : List ℕ) (u v : ℕ) (list : List Wired) → w.wire u v ≡ list → (new : World) → TakenFrom windows w u v list new → AllAccounted new
+  take_accounted windows u v [] is new never = absurd never
+  take_accounted windows u v (wired.Short bytes ∷ rest) is new e =
+      subst AllAccounted (sym e) (record { wire = less u v (wired.Short bytes) rest is; ends = old.ends })
+  take_accounted windows u v (wired.Packet p ∷ rest) is new (reports, reported, e) = subst AllAccounted (sym e) (packet_accounted windows u v p rest reports is)
+
+  lose_accounted : (u v : ℕ) (list : List Wired) → w.wire u v ≡ list → (new : World) → LostFrom w u v list new → AllAccounted new
+  lose_accounted u v [] is new never = absurd never
+  lose_accounted u v (item ∷ rest) is new e = subst AllAccounted (sym e) (record { wire = less u v item rest is; ends = old.ends })
+
+  late_receiver_accounted : (windows : List ℕ) (u v : ℕ) → is_open_at (w.receivers v u) ≡ true → AllAccounted (receiver_timed_out windows w u v)
+  late_receiver_accounted windows u v is =
+      let sends : List Packet = packets_in (receiver.timed_out (Answering (window_at windows v)) (w.receivers v u)).1 in
+      let answers : AllByRecursion IsAnswer sends =
+      asides_answer sends (packets_aside (receiver.timed_out (Answering (window_at windows v)) (w.receivers v u)).1
+      (timed_out_aside (window_at windows v) (w.receivers v u))) in
+      record {
+        wire = more w.sessions w.wire old.wire v u (map wired.Packet sends) (answers_accounted w.sessions v u (sent_where_open u v is) sends answers);
+        ends = old.ends;
+      }
+
+  -- ---- a sender rests
+
+  planned_unit : (u t : ℕ) (o : Option Outgoing) → PlannedAt plan u o → SendsTo o t → is_unit plan t ≡ true
+  planned_unit u t None planned sends = absurd sends
+  planned_unit u t (Some s) planned sends = (planned.others t sends).0
+
+  pub sent_unit : (u t : ℕ) → SendsTo (w.sessions u) t → is_unit plan t ≡ true
+  sent_unit u t sends = planned_unit u t (w.sessions u) (inv.order.planned u) sends
+
+  over_with : (u : ℕ) → can_rest (count_of plan) w u ≡ true → (t : ℕ) → SendsTo (w.sessions u) t
+      → AllByRecursion (λ item. not (is_of_sender item) ≡ true) (w.wire u t) × AllByRecursion (λ item. not (is_of_receiver item) ≡ true) (w.wire t u)
+  over_with u can t sends =
+      let parts = and_parts (is_some (outcome_in (w.sessions u))) (list_all (is_over_with w u) (range_with_len 0 (count_of plan))) can in
+      let over = units_all plan (is_over_with w u) parts.1 t (sent_unit u t sends) in
+      let wires = and_parts (not (is_open_at (w.receivers t u)))
+      (list_all (λ item. not (is_of_sender item)) (w.wire u t) && list_all (λ item. not (is_of_receiver item)) (w.wire t u)) over in
+      let both = and_parts (list_all (λ item. not (is_of_sender item)) (w.wire u t)) (list_all (λ item. not (is_of_receiver item)) (w.wire t u)) wires.1 in (
+        all_tested (λ item. not (is_of_sender item)) (λ item. not (is_of_sender item) ≡ true) (λ item is. is) (w.wire u t) both.0,
+        all_tested (λ item. not (is_of_receiver item)) (λ item. not (is_of_receiver item) ≡ true) (λ item is. is) (w.wire t u) both.1,
+      )
+
+  rest_accounted : (u : ℕ) → can_rest (count_of plan) w u ≡ true → AllAccounted (rested w u)
+  rest_accounted u can = record {
+    wire = λ s t. rested_accounted w.sessions u s t (w.wire s t) (old.wire s t)
+        (λ same sends. subst (λ k. AllByRecursion (λ item. not (is_of_sender item) ≡ true) (w.wire k t)) (sym same) (over_with u can t sends).0)
+        (λ same sends. subst (λ k. AllByRecursion (λ item. not (is_of_receiver item) ≡ true) (w.wire s k)) (sym same) (over_with u can s sends).1);
+    ends = changed_each (AreEndsOn w.stations) w.sessions u None tt old.ends;
+  }
+
+  -- ---- each step
+
+  accounted_keeps : (step : Step) → refusal plan w step ≡ None → (new : World) → StepsTo plan w step new → AllAccounted new
+  accounted_keeps (Up u) allowed new e =
+      let (known, (off_is, (idle, none))) = none_refuses plan w (Up u) allowed in
+      subst AllAccounted (sym e) (record {
+        wire = dropped u;
+        ends = none_ends (none_open (not-false _ idle)) (changed w.stations u (started (unit_at (units_of plan) u)));
+      })
+  accounted_keeps (Down u) allowed new e =
+      let (known, (on, (idle, none))) = none_refuses plan w (Down u) allowed in
+      subst AllAccounted (sym e) (record { wire = dropped u; ends = none_ends (none_open (not-false _ idle)) (changed w.stations u off) })
+  accounted_keeps (Give u v) allowed new leads =
+      let (known, (on, (some, none))) = none_refuses plan w (Give u v) allowed in give_accounted u v (not-false _ some) (w.claims u v) new leads
+  accounted_keeps (Ask u) allowed new e = subst AllAccounted (sym e) (record { wire = old.wire; ends = old.ends })
+  accounted_keeps (Begin f bytes) allowed new leads = begin_accounted f (slice_get (flows_of plan) f) bytes.items allowed new leads
+  accounted_keeps (Emit u) allowed new (s, p, session, next, e) =
+      subst AllAccounted (sym e) (sends_accounted u s (sender.after_packet (dest_of s.to) s.stage) p session (data_of_sender s.bytes s.stage p next))
+  accounted_keeps (Take u v) allowed new leads = take_accounted (windows_of plan) u v (w.wire u v) refl new leads
+  accounted_keeps (Lose u v) allowed new leads = lose_accounted u v (w.wire u v) refl new leads
+  accounted_keeps (LateSender u) allowed new (s, p, session, packet, e) =
+      subst AllAccounted (sym e) (sends_accounted u s (sender.after_timeout s.stage) p session (timeout_of_sender s.pgn s.stage p packet))
+  accounted_keeps (LateReceiver u v) allowed new e =
+      let (known, (on, (hears, none))) = none_refuses plan w (LateReceiver u v) allowed in
+      subst AllAccounted (sym e) (late_receiver_accounted (windows_of plan) u v (not-false _ hears))
+  accounted_keeps (Rest u) allowed new e =
+      let (known, (on, (over, none))) = none_refuses plan w (Rest u) allowed in subst AllAccounted (sym e) (rest_accounted u (not-false _ over))
+
+keeps : (plan : Plan) → IsPreserved plan (IsKept plan)
+keeps plan w old step allowed new leads = record {
+  transfers = steps_keep plan w old.transfers step allowed new leads;
+  accounted = accounted_keeps plan w old.transfers old.accounted step allowed new leads;
+}
+
+pub all_kept : (plan : Plan) → Always plan (IsKept plan)
+all_kept plan = always plan (IsKept plan) (record { transfers = at_first plan; accounted = record { wire = λ s t. tt; ends = λ u. tt } }) (keeps plan)
