@@ -29,6 +29,18 @@ class CheckPlans(InFolder):
         ]:
             self.assertEqual(self.status(*plans)[0], status, plans)
 
+    def test_its_help_and_its_version(self):
+        version = program.call(["--version"])[1].split()[1]
+        self.assertEqual(self.status("--version"), (0, f"check-plans (j39plan) {version}\n"))
+        self.assertEqual(self.status("--help"), (0, "usage: check-plans PLAN.. | --help | --version\n"))
+
+    def test_it_finds_the_program_through_a_link(self):
+        os.symlink(os.path.join(TOOLS, "check-plans"), self.path("linked"))
+        if os.path.exists(program.BUILT):
+            ended = subprocess.run([self.path("linked"), CLEAN], capture_output=True, text=True, check=False,
+                                   env={"PATH": "/usr/bin:/bin"})
+            self.assertEqual((ended.returncode, ended.stderr), (0, ""))
+
     def test_what_is_written(self):
         written = f"{CLEAN}\nok 2 units 1 groups 1 flows\n{FOUND}\nF10 FlowToSelf 1\nfindings 1\n"
         self.assertEqual(self.status(CLEAN, FOUND), (1, written))

@@ -1,17 +1,24 @@
 """The packages: their bytes, what is in them, and that what is in them works."""
 
 import glob
+import gzip
 import os
 import re
 import shutil
 import subprocess
+import tarfile
 import unittest
 
 import program
-from tests.support import TOOLS, InFolder, text_of
+from tests.support import TOOLS, TOP, InFolder, text_of
 
 PACKAGE = os.path.join(TOOLS, "package")
 COMMANDS = ["check", "run", "read", "frame", "help"]
+INSTALLED = ["where", "startup", "dbc2plan", "against", "check-plans"]
+PAGE = text_of(os.path.join(TOP, "docs", "TOOLS.md"))
+
+# Whose package it is in these tests.
+MAINTAINER = "A & B / C <maintainer@lists.test.org>"
 
 
 def lines_of(*words, **more):
@@ -25,7 +32,8 @@ class Built(InFolder):
         """Builds the packages into a folder, and answers their names."""
         before = os.umask(umask)
         try:
-            environment = {**os.environ, "J39PLAN": os.path.realpath(program.path()), "SOURCE_DATE_EPOCH": "1700000000"}
+            environment = {**os.environ, "J39PLAN": os.path.realpath(program.path()), "SOURCE_DATE_EPOCH": "1700000000",
+                           "MAINTAINER": MAINTAINER}
             return lines_of(os.path.join(PACKAGE, "build"), self.path(name), env=environment)
         finally:
             os.umask(before)
@@ -60,8 +68,28 @@ class Built(InFolder):
         self.assertEqual(lines_of("j39plan-startup", f"{examples}/first_plan.toml", env=environment)[1:],
                          ["up ENGINE", "up CLUSTER", "give CLUSTER ENGINE"])
         self.assertIn("--strict", " ".join(lines_of("j39plan-dbc2plan", "--help", env=environment)))
-        for page in ("j39plan", "j39plan-where", "j39plan-startup", "j39plan-dbc2plan", "j39plan-against"):
-            self.assertTrue(os.path.exists(f"{prefix}/share/man/man1/{page}.1.gz"), page)
+        plan, log = f"{examples}/tractor_and_implement.toml", f"{examples}/tractor_and_implement.start.log"
+        compared = subprocess.run(["j39plan-against", plan, log], env=environment, capture_output=True, text=True, check=False)
+        self.assertEqual((compared.returncode, compared.stdout.splitlines()[-1][:11]), (1, "deviations "), compared.stderr)
+        for tool in ("", *(f"-{tool}" for tool in INSTALLED)):
+            self.assertTrue(os.path.exists(f"{prefix}/share/man/man1/j39plan{tool}.1.gz"), tool)
+            self.assertTrue(os.path.exists(f"{prefix}/share/bash-completion/completions/j39plan{tool}"), tool)
+            self.assertTrue(os.path.exists(f"{prefix}/share/fish/vendor_completions.d/j39plan{tool}.fish"), tool)
+        self.does_the_jobs_of_the_page(environment)
+        self.assertIn("/usr/share/j39plan/tools/plan.schema.json", PAGE)
+        self.assertTrue(os.path.exists(f"{prefix}/share/j39plan/tools/plan.schema.json"))
+
+    def does_the_jobs_of_the_page(self, environment):
+        """What docs/TOOLS.md has jobs of CI do, on a plan that has to be mended."""
+        os.makedirs(self.path("plans"), exist_ok=True)
+        plan = self.write("plans/first.toml", "version = 3\n")
+        jobs = re.findall(r"CHECK=.* j39plan-check-plans plans/\*\.toml", PAGE)
+        refused = "refused Range top key version"
+        for job, shown in zip(jobs, (f"plans/first.toml:1: {refused}", f"::error file=plans/first.toml,line=1::{refused}"), strict=True):
+            done = subprocess.run(["sh", "-c", job], cwd=self.folder, env=environment, capture_output=True, text=True, check=False)
+            self.assertEqual(done.returncode, 1, done.stderr)
+            self.assertTrue(done.stdout.splitlines()[1].startswith(shown), done.stdout)
+        os.remove(plan)
 
     @unittest.skipUnless(shutil.which("dpkg-deb"), "dpkg-deb isn't there")
     def test_the_package_names_what_it_needs(self):
@@ -69,6 +97,33 @@ class Built(InFolder):
         fields = dict(line.split(": ", 1) for line in lines_of("dpkg-deb", "-f", deb) if re.match(r"\S+: ", line))
         self.assertEqual(fields["Version"], lines_of(program.path(), "--version")[0].split()[1])
         self.assertTrue(fields["Depends"].startswith("libc6"), fields)
+        self.assertEqual(fields["Maintainer"], MAINTAINER)
+
+    @unittest.skipUnless(shutil.which("dpkg-deb"), "dpkg-deb isn't there")
+    def test_the_package_has_a_changelog(self):
+        """That of the repository, as Debian has it; its first version is that of the program."""
+        deb, root = next(name for name in self.build("dist") if name.endswith(".deb")), self.path("root")
+        subprocess.run(["dpkg-deb", "-x", deb, root], check=True)
+        with gzip.open(f"{root}/usr/share/doc/j39plan/changelog.gz", "rt", encoding="utf-8") as file:
+            head, _, *items = file.read().splitlines()
+        version = lines_of(program.path(), "--version")[0].split()[1]
+        self.assertEqual(head, f"j39plan ({version}) unstable; urgency=medium")
+        self.assertIn(f" -- {MAINTAINER}  Tue, 14 Nov 2023 22:13:20 +0000", items)
+        shown = re.findall(r"^(?:- |  )(.*)", text_of(os.path.join(TOP, "CHANGELOG.md")), re.MULTILINE)
+        self.assertEqual([item[4:] for item in items if item.startswith("  ")], shown)
+
+    @unittest.skipUnless(shutil.which("strip"), "strip isn't there: apt-get install binutils")
+    def test_the_program_has_no_symbols(self):
+        tarball = next(name for name in self.build("dist") if name.endswith(".tar.gz"))
+        with tarfile.open(tarball) as files:
+            member = next(name for name in files.getnames() if name.endswith("/bin/j39plan"))
+            self.assertNotIn(b".symtab", files.extractfile(member).read())
+
+    @unittest.skipUnless(shutil.which("lintian"), "lintian isn't there: apt-get install lintian")
+    def test_lintian_misses_the_licence_alone(self):
+        deb = next(name for name in self.build("dist") if name.endswith(".deb"))
+        said = subprocess.run(["lintian", "--allow-root", deb], capture_output=True, text=True, check=False).stdout
+        self.assertEqual([line for line in said.splitlines() if line[:2] in ("E:", "W:")], ["E: j39plan: no-copyright-file"])
 
 
 class Pages(unittest.TestCase):
@@ -82,24 +137,51 @@ class Pages(unittest.TestCase):
         page = text_of(os.path.join(PACKAGE, "man", "j39plan.1"))
         for command in COMMANDS[:-1]:
             self.assertIn(f".BI {command} ", page)
+        for tool in INSTALLED:
+            self.assertIn(f".BR j39plan-{tool} (1)", page)
         self.assertEqual(re.findall(r"\n\.TP\n\.B (\d)\n", page), ["0", "1", "2", "3", "4"])
 
 
-class Completions(unittest.TestCase):
+class Completions(InFolder):
     def test_they_have_the_commands_of_the_help(self):
         shown = [line.split()[0] for line in lines_of(program.path(), "--help") if re.match(r"  [a-z]+  ", line)]
         self.assertEqual(sorted(shown), sorted(COMMANDS))
 
-    def complete_bash(self, *words):
+    def complete_bash(self, *words, cwd=TOOLS):
         """What bash offers behind these words."""
-        script = f'source {PACKAGE}/completions/j39plan.bash; COMP_WORDS=("$@"); COMP_CWORD=$(($# - 1)); _j39plan; '
-        return lines_of("bash", "-c", script + 'printf "%s\\n" "${COMPREPLY[@]}"', "bash", *words, cwd=TOOLS)
+        script = (f'source {PACKAGE}/completions/j39plan.bash; COMP_WORDS=("$@"); COMP_CWORD=$(($# - 1)); '
+                  '$(complete -p "$1" | grep -o "_j39plan[a-z_]*"); ')
+        for tool in INSTALLED:
+            name = self.path(f"j39plan-{tool}")
+            if not os.path.exists(name):
+                os.symlink(os.path.join(TOOLS, tool if tool == "check-plans" else f"{tool}.py"), name)
+        path = {**os.environ, "PATH": f"{self.folder}:{os.environ['PATH']}"}
+        return lines_of("bash", "-c", script + 'printf "%s\\n" "${COMPREPLY[@]}"', "bash", *words, cwd=cwd, env=path)
 
     def test_bash(self):
         self.assertEqual(self.complete_bash("j39plan", ""), COMMANDS + ["--help", "--version"])
         self.assertEqual(self.complete_bash("j39plan", "r"), ["run", "read"])
         self.assertEqual(self.complete_bash("j39plan", "check", "plan.s"), ["plan.schema.json"])
         self.assertEqual(self.complete_bash("j39plan", "help", "f"), ["frame"])
+
+    def test_bash_of_files(self):
+        """Those of the ending that is wanted and folders, else all."""
+        for name in ("a.toml", "a.log", "a.schedule", "a.dbc"):
+            self.write(name, "")
+        for words, name in ((("j39plan", "check"), "a.toml"), (("j39plan", "run", "a.toml"), "a.schedule"),
+                            (("j39plan", "read", "a.toml"), "a.log"), (("j39plan-where",), "a.toml"), (("j39plan-startup",), "a.toml"),
+                            (("j39plan-against", "a.toml"), "a.log"), (("j39plan-dbc2plan",), "a.dbc"),
+                            (("j39plan-check-plans", "a.toml"), "a.toml")):
+            self.assertEqual(self.complete_bash(*words, "a", cwd=self.folder), [name], words)
+
+    def test_bash_of_tools(self):
+        """The options of each are those of its help."""
+        for tool in INSTALLED:
+            name = os.path.join(TOOLS, tool if tool == "check-plans" else f"{tool}.py")
+            shown = sorted(set(re.findall(r"--[a-z]+", "\n".join(lines_of(name, "--help")))))
+            self.assertIn("--help", shown)
+            self.assertEqual(self.complete_bash(f"j39plan-{tool}", "-"), shown)
+        self.assertEqual(self.complete_bash("j39plan-where", "--g"), ["--github"])
 
     @unittest.skipUnless(shutil.which("fish"), "fish isn't there: apt-get install fish")
     def test_fish(self):
@@ -108,6 +190,14 @@ class Completions(unittest.TestCase):
         self.assertEqual(sorted(line.split("\t")[0] for line in offered), sorted(COMMANDS))
         offered = lines_of("fish", "--no-config", "-c", script.format("j39plan check plan.s"), cwd=TOOLS)
         self.assertEqual([line.split("\t")[0] for line in offered], ["plan.schema.json"])
+
+    @unittest.skipUnless(shutil.which("fish"), "fish isn't there: apt-get install fish")
+    def test_fish_of_tools(self):
+        script = f"source {PACKAGE}/completions/j39plan.fish; complete -C '{{}}'"
+        for tool in INSTALLED:
+            shown = re.findall(r"--[a-z]+", "\n".join(lines_of(os.path.join(TOOLS, tool if tool == "check-plans" else f"{tool}.py"), "--help")))
+            offered = [line.split("\t")[0] for line in lines_of("fish", "--no-config", "-c", script.format(f"j39plan-{tool} --"), cwd=TOOLS)]
+            self.assertLessEqual(set(shown), set(offered), tool)
 
     @unittest.skipUnless(shutil.which("zsh"), "zsh isn't there: apt-get install zsh")
     def test_zsh(self):
@@ -122,6 +212,12 @@ class Completions(unittest.TestCase):
         self.assertIn("run a schedule on a simulated bus of a plan", offered)
         self.assertIn("decode a log by the groups of a plan", offered)
         self.assertNotIn("show what is wrong", offered)
+
+    @unittest.skipUnless(shutil.which("zsh"), "zsh isn't there: apt-get install zsh")
+    def test_zsh_of_tools(self):
+        """The file is that of each tool's completions too, and its options are those of its help."""
+        with open(os.path.join(PACKAGE, "completions", "_j39plan"), encoding="utf-8") as file:
+            self.assertEqual(file.readline().split(), ["#compdef", "j39plan", *(f"j39plan-{tool}" for tool in INSTALLED)])
 
 
 if __name__ == "__main__":

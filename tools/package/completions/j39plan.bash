@@ -1,4 +1,11 @@
-# Completions of j39plan for bash.
+# Completions of j39plan and its tools for bash.
+
+# Files with an ending, and folders; where there are none, all files.
+_j39plan_files() {
+  compopt -o filenames 2> /dev/null
+  mapfile -t COMPREPLY < <(compgen -f -X "!*.$1" -- "$2"; compgen -d -- "$2")
+  [ "${#COMPREPLY[@]}" -gt 0 ] || mapfile -t COMPREPLY < <(compgen -f -- "$2")
+}
 
 _j39plan() {
   local word=${COMP_WORDS[COMP_CWORD]}
@@ -6,10 +13,29 @@ _j39plan() {
   if [ "$COMP_CWORD" -eq 1 ]; then
     mapfile -t COMPREPLY < <(compgen -W 'check run read frame help --help --version' -- "$word")
   elif [[ ${COMP_WORDS[1]} =~ ^(check|run|read)$ ]]; then
-    compopt -o filenames 2> /dev/null
-    mapfile -t COMPREPLY < <(compgen -f -- "$word")
+    case "$COMP_CWORD ${COMP_WORDS[1]}" in
+      '3 run') _j39plan_files schedule "$word" ;;
+      '3 read') _j39plan_files log "$word" ;;
+      *) _j39plan_files toml "$word" ;;
+    esac
   elif [ "${COMP_WORDS[1]}" = help ]; then
     mapfile -t COMPREPLY < <(compgen -W 'check run read frame' -- "$word")
   fi
 }
 complete -F _j39plan j39plan
+
+# The options of a tool are those of its help.
+_j39plan_tool() {
+  local word=${COMP_WORDS[COMP_CWORD]} tool=${COMP_WORDS[0]##*/}
+  COMPREPLY=()
+  if [[ $word == -* ]]; then
+    mapfile -t COMPREPLY < <(compgen -W "$("${COMP_WORDS[0]}" --help 2> /dev/null | grep -oE -- '--[a-z]+' | sort -u)" -- "$word")
+  elif [ "$tool" = j39plan-dbc2plan ]; then
+    _j39plan_files dbc "$word"
+  elif [ "$tool" = j39plan-against ] && [ "$COMP_CWORD" -gt 1 ]; then
+    _j39plan_files log "$word"
+  else
+    _j39plan_files toml "$word"
+  fi
+}
+complete -F _j39plan_tool j39plan-where j39plan-startup j39plan-dbc2plan j39plan-against j39plan-check-plans
