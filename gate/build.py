@@ -7,6 +7,8 @@ usage: build.py [JOBS]    JOBS: how many processors to use, else all that there 
 Exit status: 0 built, 69 the toolchain is missing, 70 the build failed. A second run waits for the first.
 """
 
+from __future__ import annotations
+
 import fcntl
 import glob
 import os
@@ -19,6 +21,7 @@ import tempfile
 import threading
 import time
 from concurrent.futures import FIRST_COMPLETED, ThreadPoolExecutor, wait
+from typing import Callable
 
 sys.dont_write_bytecode = True
 import crates
@@ -35,29 +38,29 @@ JOB_BYTES = 2_000_000_000
 NEEDS = "11 to 18 minutes on four idle processors and 33 to 54 on one, 2 GB of memory for each processor, 4 GB of disk"
 
 
-def say(text):
+def say(text: str) -> None:
     print(f"{PROGRAM}: {text}", file=sys.stderr, flush=True)
 
 
-def clock(start):
+def clock(start: float) -> str:
     passed = int(time.monotonic() - start)
     return f"{passed // 60}:{passed % 60:02}"
 
 
-def free_memory():
+def free_memory() -> int | None:
     """Returns how many bytes of memory are free, if the system tells it."""
     with open("/proc/meminfo", encoding="ascii") as lines:
         free = re.search(r"MemAvailable:\s+(\d+)", lines.read())
     return 1024 * int(free[1]) if free else None
 
 
-def processors():
+def processors() -> int:
     """Returns how many processors there is memory for, at least one."""
     found, free = len(os.sched_getaffinity(0)), free_memory()
     return found if free is None else max(min(found, free // JOB_BYTES), 1)
 
 
-def kit_folders():
+def kit_folders() -> list[str]:
     """Returns the folders of the toolchain's libraries that the program stands on, in the order in which they are needed."""
     said = subprocess.run(["rt", "doc"], stdin=subprocess.DEVNULL, stdout=subprocess.PIPE, stderr=subprocess.DEVNULL, text=True, check=False)
     top = f"{os.path.dirname(said.stdout.strip())}/rlibs"
@@ -65,7 +68,7 @@ def kit_folders():
     return [it for it in (f"{top}/{name}.rlib" for name in dict.fromkeys(names)) if os.path.isdir(it)]
 
 
-def read_kit(stopped):
+def read_kit(stopped: threading.Event) -> None:
     """Reads the toolchain's libraries once from end to end while there is memory to keep them: a check reads them here and there,
     which takes minutes where they lie on a disk that wasn't read yet."""
     for folder in kit_folders():
@@ -79,7 +82,7 @@ def read_kit(stopped):
                         pass
 
 
-def is_built():
+def is_built() -> bool:
     """Returns whether the program is there and no source is newer."""
     program = f"{crates.folder(PROGRAM)}/out/{PROGRAM}"
     if not os.access(program, os.X_OK):
@@ -91,7 +94,7 @@ def is_built():
     return all(os.path.getmtime(it) <= made for it in files)
 
 
-def copy(name, top):
+def copy(name: str, top: str) -> None:
     """Copies a crate and what it stands on into a folder: the sources, and what was built of the crates below."""
     named = crates.needed(name)
     with open(f"{crates.TOP}/crates.txt", encoding="utf-8") as lines:
@@ -121,7 +124,7 @@ class Room:
     """A copy of a crate and of what it stands on. rt holds all of these folders while it builds the crate, so crates
     are built side by side only in copies."""
 
-    def __init__(self, name):
+    def __init__(self, name: str) -> None:
         self.name = name
         git = f"{crates.TOP}/.git"
         self.top = tempfile.mkdtemp(prefix=ROOM, dir=git if os.path.isdir(git) else None)
@@ -130,7 +133,7 @@ class Room:
         if os.path.isdir(f"{crates.folder(name)}/out"):
             shutil.move(f"{crates.folder(name)}/out", f"{self.folder}/out")
 
-    def close(self):
+    def close(self) -> None:
         """Gives the crate what was built, and removes the copies."""
         out = f"{crates.folder(self.name)}/out"
         if os.path.isdir(f"{self.folder}/out") and not os.path.isdir(out):
@@ -138,7 +141,7 @@ class Room:
         shutil.rmtree(self.top, ignore_errors=True)
 
 
-def remove_stale_rooms():
+def remove_stale_rooms() -> None:
     """Removes what builds that were killed have left."""
     for it in glob.glob(f"{crates.TOP}/.git/{ROOM}*"):
         shutil.rmtree(it, ignore_errors=True)
@@ -147,7 +150,7 @@ def remove_stale_rooms():
 class Build:
     """A build of the program."""
 
-    def __init__(self, lanes):
+    def __init__(self, lanes: int) -> None:
         self.lanes = lanes
         # a check begins and ends on one processor, so some more are started where memory allows
         self.places = lanes if lanes == 1 else max(lanes, min(3 * lanes, (free_memory() or 0) // JOB_BYTES))
@@ -157,7 +160,7 @@ class Build:
         self.stopped = threading.Event()
         self.logs = tempfile.mkdtemp(prefix="j39plan-logs-")
 
-    def build(self, name, jobs, nice):
+    def build(self, name: str, jobs: int, nice: int) -> bool:
         """Builds one crate and returns whether that went well."""
         room = Room(name)
         words = ["nice", "-n", str(nice), "rt"]
@@ -178,7 +181,7 @@ class Build:
         finally:
             room.close()
 
-    def stop(self):
+    def stop(self) -> None:
         """Ends what runs."""
         with self.lock:
             self.stopped.set()
@@ -188,7 +191,7 @@ class Build:
                 except ProcessLookupError:
                     pass
 
-    def show(self, count, total):
+    def show(self, count: Callable[[], int], total: int) -> None:
         """Says what is being built and for how long, until the build ends: on a terminal in place, else every half minute."""
         shown = self.start
         while not self.stopped.wait(1):
@@ -203,7 +206,7 @@ class Build:
         if sys.stderr.isatty():
             print("\r\033[K", end="", file=sys.stderr, flush=True)
 
-    def complain(self, name):
+    def complain(self, name: str) -> None:
         log = f"{self.logs}/{name}"
         with open(log, encoding="utf-8", errors="replace") as lines:
             said = lines.read().splitlines()
@@ -211,7 +214,7 @@ class Build:
         print("\n".join(told[:40]), file=sys.stderr)
         say(f"building {name} failed; its output is in {log}")
 
-    def run(self):
+    def run(self) -> bool:
         """Builds all crates and returns whether that went well."""
         named = crates.below()
         left = crates.needed(PROGRAM, named)
@@ -231,7 +234,9 @@ class Build:
             shutil.rmtree(self.logs, ignore_errors=True)
         return not failed
 
-    def build_all(self, pool, named, left, done, failed):
+    def build_all(
+        self, pool: ThreadPoolExecutor, named: dict[str, list[str]], left: list[str], done: set[str], failed: list[str]
+    ) -> None:
         """Builds the crates that are left, each once those below it are done, until one has failed. Those with the longest chain of
         others above them come first; the shorter that chain is than the longest of what isn't built, the lower their priority."""
         behind, running = crates.behind({it: named[it] for it in left}), {}
@@ -253,7 +258,7 @@ class Build:
                     failed.append(name)
 
 
-def main(words):
+def main(words: list[str]) -> int:
     if not shutil.which("rt"):
         say("the Rattle toolchain is missing: install the kit that the README names and put its command rt on the PATH")
         return MISSING

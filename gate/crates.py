@@ -1,5 +1,7 @@
 """The repository's crates, as crates.txt lists them."""
 
+from __future__ import annotations
+
 import os
 
 TOP = os.path.dirname(os.path.dirname(os.path.realpath(__file__)))
@@ -7,7 +9,7 @@ TOP = os.path.dirname(os.path.dirname(os.path.realpath(__file__)))
 CRATE_BYTES = 100_000
 
 
-def listed():
+def listed() -> dict[str, list[str]]:
     """Returns the libraries that each crate names, by its name."""
     named = {}
     with open(f"{TOP}/crates.txt", encoding="utf-8") as lines:
@@ -18,19 +20,19 @@ def listed():
     return named
 
 
-def below():
+def below() -> dict[str, list[str]]:
     """Returns the repository's own crates that each crate names, by its name."""
     named = listed()
     return {name: [it for it in libraries if it in named] for name, libraries in named.items()}
 
 
-def kit_libraries(name):
+def kit_libraries(name: str) -> list[str]:
     """Returns the libraries of the toolchain's kit that a crate names."""
     named = listed()
     return [it for it in named[name] if it not in named]
 
 
-def sources(name):
+def sources(name: str) -> list[str]:
     """Returns the files of code, definitions and proofs of a crate."""
     found = []
     for part in ("src", "specs", "proofs"):
@@ -39,7 +41,7 @@ def sources(name):
     return found
 
 
-def behind(named):
+def behind(named: dict[str, list[str]]) -> dict[str, int]:
     """Returns what a crate and the longest chain of crates above it cost, in bytes of sources, by the crate's name."""
     found = {}
     for name in reversed(sorted(named, key=lambda it: len(needed(it, named)))):
@@ -48,7 +50,7 @@ def behind(named):
     return found
 
 
-def needed(name, named=None):
+def needed(name: str, named: dict[str, list[str]] | None = None) -> list[str]:
     """Returns the crates that a crate stands on, lowest first, and the crate."""
     named = named or below()
     found = []
@@ -57,11 +59,11 @@ def needed(name, named=None):
     return [*found, name]
 
 
-def folder(name):
+def folder(name: str) -> str:
     """Returns the folder of a crate."""
     return f"{TOP}/crates/{name}"
 
 
-def is_program(name):
+def is_program(name: str) -> bool:
     """Returns whether a crate is a program."""
     return os.path.isfile(f"{folder(name)}/src/main.rt")

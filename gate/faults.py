@@ -7,50 +7,17 @@ The last line is 'N passed, M failed'.
 
 import os
 import resource
-import subprocess
 import sys
+from collections.abc import Callable
 
 sys.dont_write_bytecode = True
-import crates
+from tally import BAD_WORDS, COMMANDS, DEVICE, MEMORY, PROGRAM, TOO_LONG, Tally, is_built, run
 
-PROGRAM = os.path.realpath(os.environ.get("J39PLAN") or f"{crates.folder('j39plan')}/out/j39plan")
-DEVICE, MEMORY = b"j39plan: device fault\n", b"j39plan: out of memory\n"
-TOO_LONG, BAD_WORDS = b"j39plan: input too long\n", b"j39plan: bad command line\n"
-SECONDS = 60
-# Each command once: its words, from the folder examples/.
-COMMANDS = (
-    ["frame", "18EEFF00#0100800C00000010"],
-    ["check", "tractor_and_implement.toml"],
-    ["check", "findings/several.toml"],
-    ["run", "transfers.toml", "transfers.directed_lost.schedule"],
-    ["read", "tractor_and_implement.toml", "tractor_and_implement.start.log"],
-    ["--help"],
-)
 # The address space, in KiB: no program starts within the first figure, each of the commands has enough within the last.
 LEAST, MOST, STEP = 1_024, 8_192, 16
 
 
-def run(words, **how):
-    how = {"stdin": subprocess.DEVNULL, "stdout": subprocess.PIPE, "stderr": subprocess.PIPE, **how}
-    return subprocess.run([PROGRAM, *words], cwd=f"{crates.TOP}/examples", timeout=SECONDS, check=False, **how)
-
-
-class Tally:
-    def __init__(self):
-        self.passed, self.failed = 0, 0
-
-    def expect(self, what, ran, status, complaint, output=b""):
-        """Counts a run. An output that isn't caught is None on both sides."""
-        is_well = (ran.returncode, ran.stderr, ran.stdout) == (status, complaint, output)
-        self.count(what, is_well, f"status {ran.returncode}, standard error {ran.stderr!r}, standard output {ran.stdout!r:.200}")
-
-    def count(self, what, is_well, found):
-        self.passed, self.failed = self.passed + is_well, self.failed + (not is_well)
-        if not is_well:
-            print(f"{what}: {found}")
-
-
-def outputs(tally):
+def outputs(tally: Tally) -> None:
     """Standard output that is full, closed, or a pipe that nobody reads."""
     for words in COMMANDS:
         name = " ".join(words)
@@ -64,7 +31,7 @@ def outputs(tally):
         tally.expect(f"{name} >&-", closed, 4, DEVICE, None)
 
 
-def inputs(tally):
+def inputs(tally: Tally) -> None:
     """Standard input and files that are closed, missing, folders, endless or empty."""
     tally.expect("standard input closed", run([], stdin=None, preexec_fn=lambda: os.close(0)), 4, DEVICE)
     with open("/dev/zero", "rb") as endless:
@@ -83,7 +50,7 @@ def inputs(tally):
     tally.expect("check of /dev/null", run(["check", "/dev/null"]), 2, b"", b"refused Missing top key version\n")
 
 
-def complaints(tally):
+def complaints(tally: Tally) -> None:
     """Standard error that is full or closed: the status tells all the same."""
     with open("/dev/full", "wb") as full:
         tally.expect("jump 2> /dev/full", run(["jump"], stderr=full), 2, None)
@@ -93,15 +60,15 @@ def complaints(tally):
     tally.expect("a word that is no text", run([b"frame", b"\xff"]), 2, BAD_WORDS)
 
 
-def limit(kibibytes):
-    def set_limits():
+def limit(kibibytes: int) -> Callable[[], None]:
+    def set_limits() -> None:
         resource.setrlimit(resource.RLIMIT_AS, (1024 * kibibytes, 1024 * kibibytes))
         resource.setrlimit(resource.RLIMIT_CORE, (0, 0))
 
     return set_limits
 
 
-def memory(tally):
+def memory(tally: Tally) -> None:
     """Little memory, in steps: first the system doesn't start the program (status 127), then it wants memory and has
     written nothing or a part of its text, then all is as with enough of it."""
     for words in COMMANDS:
@@ -127,16 +94,15 @@ def memory(tally):
         tally.count(f"{' '.join(words)} with little memory", is_well, found or f"steps in each stage: {reached}")
 
 
-def main():
-    if not os.access(PROGRAM, os.X_OK):
+def main() -> int:
+    if not is_built(PROGRAM):
         print(f"faults: there is no program {PROGRAM}\n0 passed, 1 failed")
         return 1
     tally = Tally()
     for part in (outputs, inputs, complaints, memory):
         part(tally)
     print(f"faults: {tally.passed} passed, {tally.failed} failed" if tally.failed else "faults: all as documented")
-    print(f"{tally.passed} passed, {tally.failed} failed")
-    return 1 if tally.failed else 0
+    return tally.end()
 
 
 if __name__ == "__main__":

@@ -10,24 +10,24 @@ import shutil
 import subprocess
 import sys
 import tempfile
+from collections.abc import Callable
 
 sys.dont_write_bytecode = True
 import crates
-import faults
+from tally import COMMANDS, MEMORY, PROGRAM, SECONDS, Tally, is_built
 
-MEMORY = faults.MEMORY
 # More allocations than any of the runs asks for.
 MOST = 20_000
 
 
-def compiler():
+def compiler() -> str | None:
     """Returns the system's C compiler, or the toolchain's clang."""
     rt = shutil.which("rt")
     clang = os.path.join(os.path.dirname(os.path.dirname(os.path.realpath(rt))), "toolchain/bin/clang") if rt else ""
     return shutil.which("cc") or (clang if os.access(clang, os.X_OK) else None)
 
 
-def made_shim(folder):
+def made_shim(folder: str) -> str:
     """Compiles what refuses an allocation, and returns its file."""
     file = f"{folder}/fail_alloc.so"
     words = [compiler(), "-shared", "-fPIC", "-O1", "-fno-builtin", "-nostdlib", "-o", file, f"{crates.TOP}/gate/fail_alloc.c"]
@@ -35,19 +35,19 @@ def made_shim(folder):
     return file
 
 
-def run(words, shim, number):
+def run(words: list[str], shim: str, number: int) -> tuple[subprocess.CompletedProcess, bool]:
     """Runs a program with the allocation of this number refused. Returns the run, and whether there was such a one."""
     reader, writer = os.pipe()
     env = {"PATH": "/usr/bin:/bin", "LD_PRELOAD": shim, "FAIL_ALLOC": str(number), "FAIL_ALLOC_TOLD": str(writer)}
     how = {"cwd": f"{crates.TOP}/examples", "stdin": subprocess.DEVNULL, "capture_output": True, "check": False}
-    ran = subprocess.run(words, env=env, pass_fds=[writer], timeout=faults.SECONDS, **how)
+    ran = subprocess.run(words, env=env, pass_fds=[writer], timeout=SECONDS, **how)
     os.close(writer)
     was_asked = os.read(reader, 1) == b"x"
     os.close(reader)
     return ran, was_asked
 
 
-def answers(words, shim, is_allowed):
+def answers(words: list[str], shim: str, is_allowed: Callable[[subprocess.CompletedProcess, bool], bool]) -> tuple[int, str | None]:
     """Returns how many allocations were refused, and what is wrong with the first run that isn't allowed."""
     for number in range(1, MOST):
         ran, was_asked = run(words, shim, number)
@@ -58,10 +58,10 @@ def answers(words, shim, is_allowed):
     return MOST, "it asks for more and more"
 
 
-def main():
+def main() -> int:
     check = f"{crates.folder('memory_check')}/out/memory_check"
-    for program in (check, faults.PROGRAM):
-        if not os.access(program, os.X_OK):
+    for program in (check, PROGRAM):
+        if not is_built(program):
             print(f"memory: there is no program {program}\n0 passed, 1 failed")
             return 1
     if not compiler():
@@ -69,25 +69,24 @@ def main():
         return 0
     with open(f"{crates.folder('memory_check')}/stdout", "rb") as file:
         shown = file.read()
-    tally = faults.Tally()
+    tally = Tally()
     with tempfile.TemporaryDirectory() as folder:
         shim = made_shim(folder)
         count, found = answers([check], shim, lambda ran, _: (ran.returncode, ran.stdout, ran.stderr) == (0, shown, b""))
         tally.count(f"memory_check, {count} refusals", not found, found)
         print(f"memory: memory_check, {count} allocations refused in turn")
-        for words in faults.COMMANDS:
-            enough = run([faults.PROGRAM, *words], shim, 0)[0]
+        for words in COMMANDS:
+            enough = run([PROGRAM, *words], shim, 0)[0]
 
-            def is_allowed(ran, was_asked, enough=enough):
+            def is_allowed(ran: subprocess.CompletedProcess, was_asked: bool, enough: subprocess.CompletedProcess = enough) -> bool:
                 if (ran.returncode, ran.stdout, ran.stderr) == (enough.returncode, enough.stdout, enough.stderr):
                     return True
                 return was_asked and (ran.returncode, ran.stderr) == (3, MEMORY) and enough.stdout.startswith(ran.stdout)
 
-            count, found = answers([faults.PROGRAM, *words], shim, is_allowed)
+            count, found = answers([PROGRAM, *words], shim, is_allowed)
             tally.count(f"{' '.join(words)}, {count} refusals", not found, found)
             print(f"memory: {' '.join(words)}, {count} allocations refused in turn")
-    print(f"{tally.passed} passed, {tally.failed} failed")
-    return 1 if tally.failed else 0
+    return tally.end()
 
 
 if __name__ == "__main__":

@@ -15,7 +15,7 @@ import crates
 PROGRAM = f"crates/{build.PROGRAM}/out/{build.PROGRAM}"
 
 
-def main():
+def main() -> int:
     with tempfile.TemporaryDirectory(prefix="j39plan-again-") as top:
         build.copy(build.PROGRAM, top)
         words = ["rt", "run", "--", "--version"]

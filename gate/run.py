@@ -2,7 +2,7 @@
 """Runs the whole gate: rt ci, and then what needs the built program: the launcher, the tests of the tools and of the
 pages, devices that fail, and refused allocations. The last line is 'N passed, M failed'; the status is 0 where nothing failed.
 
-usage: run.py [--timed]    --timed: gate/times.py does what rt ci does, and notes the time of each check
+usage: run.py [--timed]    --timed: gate/times.py runs rt ci, and writes what its parts took into gate/times.md
 """
 
 import os
@@ -25,7 +25,7 @@ PARTS = (
 COUNTS = re.compile(r"(\d+) passed, (\d+) failed")
 
 
-def counted(name, words, minutes=None):
+def counted(name: str, words: list[str], minutes: int | None = None) -> tuple[int, int]:
     """Runs a part, passes on what it says, and returns how much of it passed and failed."""
     print(f"== {name}", flush=True)
     last = ""
@@ -53,7 +53,7 @@ def counted(name, words, minutes=None):
     return passed, failed
 
 
-def main(words):
+def main(words: list[str]) -> int:
     ci = [sys.executable, "gate/times.py", "ci"] if words == ["--timed"] else ["rt", "ci"]
     found = [counted("rt ci", ci)]
     for name, words, minutes in PARTS:

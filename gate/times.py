@@ -2,170 +2,193 @@
 """Times the gate part by part while it runs: each crate's proof, its tests, and its edits that must fail. What counts is the
 processor time of a part, which other work on the machine lengthens less than its time by the clock.
 
-usage: times.py ci      does what rt ci does, and notes the time of each check in gate/times.tsv
-       times.py table   prints the tables of docs/GATE.md
+usage: times.py ci [WORD..]    runs `rt ci` (or other words in its place), looks at its checks four times a second, and
+                               writes what they took into gate/times.md
 
-A row of gate/times.tsv is a check: crate, part (proof, tests or edits), when it began and ended in seconds since the gate did, its
-seconds of processor time, and the MiB of its largest process. The row 'all ci' is of the whole.
+A check is a process of the prover below the command: the crate that it names is its crate, and an edit is one that works in a
+copy outside the repository. What a process does after the last look at it, a quarter of a second at most, isn't counted.
 """
 
-import importlib.machinery
-import importlib.util
 import os
-import resource
-import shutil
-import signal
 import subprocess
 import sys
+import threading
 import time
+from dataclasses import dataclass
 
 sys.dont_write_bytecode = True
 import crates
 
-FILE = f"{crates.TOP}/gate/times.tsv"
+FILE = f"{crates.TOP}/gate/times.md"
 PARTS = ("proof", "tests", "edits")
-WHOLE = ("all", "ci")
+LOOK_SECONDS = 0.25
+TICKS = os.sysconf("SC_CLK_TCK")
+
+Key = tuple[str, str]
 
 
-def load_rt():
-    """Returns the toolchain's own gate as a module."""
-    path = os.path.realpath(shutil.which("rt") or sys.exit("rt is not on the PATH"))
-    loader = importlib.machinery.SourceFileLoader("rt", path)
-    rt = importlib.util.module_from_spec(importlib.util.spec_from_loader("rt", loader))
-    loader.exec_module(rt)
-    return rt
+@dataclass
+class Seen:
+    """What was seen of a process: its part, when it was last seen, its processor time and its largest size."""
+
+    key: Key
+    at: float
+    seconds: float = 0.0
+    mebibytes: int = 0
 
 
-def ci():
-    """Does what rt ci does, each of its checks under a parent that notes its times (times.py check)."""
-    os.chdir(crates.TOP)
-    if os.path.exists(FILE):
-        os.remove(FILE)
-    rt, begin = load_rt(), time.time()
-    guarded = rt.rtlib.guarded
-    rt.rtlib.guarded = lambda: [*guarded(), sys.executable, os.path.abspath(__file__), "check", str(begin)]
-    status = rt.ci()
-    note(WHOLE, 0, begin)
-    return status
+@dataclass
+class Part:
+    seconds: float = 0.0
+    mebibytes: int = 0
+    ended: float = 0.0
 
 
-def part_of(words):
-    """Returns the crate and the part that a command of the toolchain is of. An edit is tried in a copy of the crate."""
-    crate = words[words.index("--crate-name") + 1] if "--crate-name" in words else os.path.basename(words[0])
-    is_copy = os.path.commonpath([os.getcwd(), crates.TOP]) != crates.TOP
-    return crate, "edits" if is_copy else "tests" if "--test" in words else "proof"
+def text_of(path: str) -> str:
+    with open(path, encoding="utf-8", errors="replace") as file:
+        return file.read()
 
 
-def check(begin, words):
-    """Runs a check and notes its times. It ends as the check did."""
-    start = time.time()
-    status = subprocess.run(words, check=False).returncode
-    note(part_of(words), start - begin, begin)
-    if status < 0:
-        signal.signal(-status, signal.SIG_DFL)
-        os.kill(os.getpid(), -status)
-    return status
+def part_of(words: list[str], folder: str) -> Key | None:
+    """Returns the crate and the part that a process is of, if it is a check."""
+    if "--crate-name" not in words[:-1]:
+        return None
+    is_copy = os.path.commonpath([folder, crates.TOP]) != crates.TOP
+    return words[words.index("--crate-name") + 1], "edits" if is_copy else "tests" if "--test" in words else "proof"
 
 
-def note(key, start, begin):
-    used = resource.getrusage(resource.RUSAGE_CHILDREN)
-    row = [*key, f"{start:.0f}", f"{time.time() - begin:.0f}", f"{used.ru_utime + used.ru_stime:.1f}", str(used.ru_maxrss // 1024)]
-    with open(FILE, "a", encoding="ascii") as file:
-        file.write("\t".join(row) + "\n")
+class Watch:
+    """Looks at the processes below a command."""
+
+    def __init__(self, parent: int) -> None:
+        self.parent = parent
+        self.begin = time.monotonic()
+        self.seen: dict[tuple[int, str], Seen] = {}
+        self.keys: dict[tuple[int, str], Key | None] = {}
+
+    def look(self) -> None:
+        """Notes the processor time and the size of each check that runs."""
+        rows = {}
+        for name in filter(str.isdigit, os.listdir("/proc")):
+            try:
+                fields = text_of(f"/proc/{name}/stat").rpartition(")")[2].split()
+            except OSError:
+                continue
+            rows[int(name)] = fields
+        below = {self.parent}
+        found = True
+        while found:
+            found = {it for it, fields in rows.items() if it not in below and int(fields[1]) in below}
+            below |= found
+        for number in below & rows.keys():
+            self.note(number, rows[number])
+
+    def note(self, number: int, fields: list[str]) -> None:
+        process = (number, fields[19])
+        if process not in self.keys:
+            try:
+                words = text_of(f"/proc/{number}/cmdline").split("\0")
+                self.keys[process] = part_of(words, os.readlink(f"/proc/{number}/cwd"))
+            except OSError:
+                return
+        key = self.keys[process]
+        if key is None:
+            return
+        seen = self.seen.setdefault(process, Seen(key, 0))
+        seen.at = time.monotonic() - self.begin
+        seen.seconds = (int(fields[11]) + int(fields[12])) / TICKS
+        seen.mebibytes = max(seen.mebibytes, int(fields[21]) * os.sysconf("SC_PAGE_SIZE") >> 20)
+
+    def parts(self) -> dict[Key, Part]:
+        found: dict[Key, Part] = {}
+        for seen in self.seen.values():
+            part = found.setdefault(seen.key, Part())
+            part.seconds += seen.seconds
+            part.mebibytes = max(part.mebibytes, seen.mebibytes)
+            part.ended = max(part.ended, seen.at)
+        return found
 
 
-def read_times():
-    """Returns the rows of each part, by crate and part: when it began and ended, its processor time, its largest process."""
-    found = {}
-    with open(FILE, encoding="ascii") as lines:
-        for line in lines:
-            crate, part, *row = line.split("\t")
-            found.setdefault((crate, part), []).append([float(it) for it in row])
-    return found
+def watched(words: list[str]) -> tuple[int, float, dict[Key, Part]]:
+    """Runs a command, and returns its status, its seconds by the clock, and what its checks took."""
+    started = subprocess.Popen(words, cwd=crates.TOP)
+    watch, ended = Watch(started.pid), threading.Event()
+
+    def look() -> None:
+        while not ended.wait(LOOK_SECONDS):
+            watch.look()
+
+    looker = threading.Thread(target=look)
+    looker.start()
+    status = started.wait()
+    ended.set()
+    looker.join()
+    return status, time.monotonic() - watch.begin, watch.parts()
 
 
-def tasks_of(times, named):
-    """Returns what rt ci does: for each part its processor seconds and the parts that it waits for."""
+def tasks_of(parts: dict[Key, Part], named: dict[str, list[str]]) -> dict[Key, tuple[float, list[Key]]]:
+    """Returns for each part its processor seconds and the parts that it waits for."""
     tasks = {}
     for name in named:
         below = [(it, "proof") for it in crates.needed(name, named) if it != name]
         waits = {"proof": below, "tests": below, "edits": [(name, "proof"), (name, "tests")]}
         for part in PARTS:
-            if (name, part) in times:
-                tasks[name, part] = sum(row[2] for row in times[name, part]), waits[part]
+            if (name, part) in parts:
+                tasks[name, part] = parts[name, part].seconds, waits[part]
     return tasks
 
 
-def longest(tasks):
+def longest(tasks: dict[Key, tuple[float, list[Key]]]) -> tuple[float, list[Key]]:
     """Returns the seconds and the parts of the longest chain."""
-    ends = {}
+    ends: dict[Key, tuple[float, list[Key]]] = {}
 
-    def end(key):
+    def end(key: Key) -> tuple[float, list[Key]]:
         if key not in ends:
             seconds, waits = tasks[key]
-            before = max((end(it) for it in waits if it in tasks), default=(0, []))
+            before = max((end(it) for it in waits if it in tasks), default=(0.0, []))
             ends[key] = before[0] + seconds, [*before[1], key]
         return ends[key]
 
     return max(end(it) for it in tasks)
 
 
-def scheduled(tasks, lanes):
-    """Returns the seconds that so many idle processors take for the parts, one processor a part, longest chain first."""
-    behind = {}
-
-    def after(key):
-        if key not in behind:
-            users = [it for it in tasks if key in tasks[it][1]]
-            behind[key] = tasks[key][0] + max((after(it) for it in users), default=0)
-        return behind[key]
-
-    left, ends, now, running = sorted(tasks, key=lambda it: -after(it)), {}, 0, []
-    while left or running:
-        for key in [*left]:
-            waits = [it for it in tasks[key][1] if it in tasks]
-            if len(running) < lanes and all(ends.get(it, now + 1) <= now for it in waits):
-                left.remove(key)
-                ends[key] = now + tasks[key][0]
-                running.append(key)
-        now = min(ends[it] for it in running)
-        running = [it for it in running if ends[it] > now]
-    return now
-
-
-def minutes(seconds):
+def minutes(seconds: float) -> str:
     return f"{seconds / 60:.1f}"
 
 
-def table():
-    times, named = read_times(), crates.below()
-    print("| Crate | Proof | Tests | Edits | Largest process | Proved after |")
-    print("|---|---|---|---|---|---|")
+def tables(seconds: float, parts: dict[Key, Part]) -> str:
+    """Returns the text of gate/times.md."""
+    named = crates.below()
+    lines = [
+        "# Minutes of the gate by part",
+        "",
+        f"Written by `gate/times.py` on {time.strftime('%-d %B %Y')}, on {os.cpu_count()} processors: minutes of processor time of each part",
+        "of `rt ci`, the largest process, and when each crate's proof had ended by the clock.",
+        "",
+        "| Crate | Proof | Tests | Edits | Largest process | Proved after |",
+        "|---|---|---|---|---|---|",
+    ]
     for name in named:
-        cells = [minutes(sum(row[2] for row in times[name, part])) if (name, part) in times else "" for part in PARTS]
-        most = max((row[3] for part in PARTS for row in times.get((name, part), [])), default=0)
-        proved = max((row[1] for row in times.get((name, "proof"), [])), default=0)
-        print(f"| `{name}` | {' | '.join(cells)} | {most:.0f} MiB | {minutes(proved)} |")
-    tasks = tasks_of(times, named)
-    seconds, chain = longest(tasks)
-    _, ended, used, _ = times[WHOLE][-1]
-    print(f"\nMinutes of processor time, by `gate/times.py ci`; 'proved after' are minutes by the clock on {os.cpu_count()} processors.\n")
-    print(f"- Sum: {minutes(used)} minutes of processor time, in {minutes(ended)} by the clock.")
-    print(f"- Longest chain: {minutes(seconds)} minutes: {', '.join(f'{part} of `{name}`' for name, part in chain)}.")
-    for lanes in (4, 2):
-        print(f"- On {lanes} idle processors, each part on one of them: about {minutes(scheduled(tasks, lanes))} minutes.")
+        own = {part: parts[name, part] for part in PARTS if (name, part) in parts}
+        cells = " | ".join(minutes(own[part].seconds) if part in own else "" for part in PARTS)
+        most = max((it.mebibytes for it in own.values()), default=0)
+        lines.append(f"| `{name}` | {cells} | {most} MiB | {minutes(own['proof'].ended) if 'proof' in own else ''} |")
+    used = sum(it.seconds for it in parts.values())
+    lines += ["", f"- Sum: {minutes(used)} minutes of processor time, in {minutes(seconds)} by the clock."]
+    if parts:
+        chained, chain = longest(tasks_of(parts, named))
+        lines.append(f"- Longest chain: {minutes(chained)} minutes: {', '.join(f'{part} of `{name}`' for name, part in chain)}.")
+    return "\n".join(lines) + "\n"
 
 
-def main(words):
-    if words == ["ci"]:
-        return ci()
-    if words[:1] == ["check"] and len(words) > 2:
-        return check(float(words[1]), words[2:])
-    if words == ["table"]:
-        table()
-        return 0
-    print(__doc__, file=sys.stderr)
-    return 2
+def main(words: list[str]) -> int:
+    if words[:1] != ["ci"]:
+        print(__doc__, file=sys.stderr)
+        return 2
+    status, seconds, parts = watched(words[1:] or ["rt", "ci"])
+    with open(FILE, "w", encoding="ascii") as file:
+        file.write(tables(seconds, parts))
+    return status
 
 
 if __name__ == "__main__":

@@ -6,7 +6,7 @@ use Rattle.j39_world.specs.Run.{refusal, StepsTo, RunsThrough}
 use Rattle.j39_bus.specs.Stands.{Stands}
 use Rattle.j39_world.specs.World.{World, first}
 use Rattle.j39_bus.proofs.Running.{run_more}
-use Rattle.stepped_bus.proofs.steps_done.Goals as goal
+use Rattle.j39_vectors.proofs.stepped.steps_done.Goals as goal
 
 pub returns-in-Err : goal.returns-in-Err
 returns-in-Err g c = let (w, ran, s) = c.loop-place.invariant c.args.plan.now first c.in_ok-bus.ensures.stands in (w, ran)

@@ -1,6 +1,4 @@
 //! A bus that is stepped from outside its crate.
-#![tactic(auto)]
-
 ghost use Rattle.std.specs.Prelude.{take, IfOk};
 ghost use Rattle.j39_world.specs.Run.{RunsThrough};
 ghost use Rattle.j39_world.specs.World.{World, first};
