@@ -20,7 +20,7 @@ import matrix_file
 import program
 from left_out import LeftOut, Notes, plain
 from matrix_signals import BYTES, layout_of, long_name, meaning_of, signals_of
-from plan_text import Labels, Table, remark, text_of
+from plan_text import Labels, Table, milliseconds, quoted, remark, text_of
 
 if TYPE_CHECKING:
     import canmatrix
@@ -136,9 +136,7 @@ def check_frame(frame: canmatrix.Frame) -> None:
 
 def frame_remarks(frame: canmatrix.Frame, label: str) -> list[str]:
     """What a file says of a frame for which a plan has no key."""
-    comment = plain(frame.comment or "")
-    return remark(frame.name or "", label, [
-        f"{frame.cycle_time} ms" if frame.cycle_time else None, f'"{comment}"' if comment else None])
+    return remark(frame.name or "", label, milliseconds(frame.cycle_time), quoted(frame.comment))
 
 
 class Group(NamedTuple):
@@ -189,9 +187,8 @@ class Plan:
         if len(self.units) == UNITS:
             raise LeftOut(f"a plan has at most {UNITS} units")
         name, label = name_of(ecu, self.matrix, free_identities, self.notes), self.unit_labels.label(ecu.name or "")
-        comment = plain(ecu.comment or "")
         self.units[ecu.name] = Table("unit", {"label": label, "address": address, "name": name},
-                                     remark(long_name(ecu), label, [f'"{comment}"' if comment else None]))
+                                     remark(long_name(ecu), label, quoted(ecu.comment)))
 
     def group_of(self, frame: canmatrix.Frame) -> Group:
         """The frame's group, which another frame of the same number and layout may have made."""
@@ -232,9 +229,10 @@ class Plan:
 
     def add_flows(self, frame: canmatrix.Frame, group: Group) -> None:
         """Who sends a group to whom, as far as the file names units."""
+        receivers = self.receivers_of(frame)
         for sender in frame.transmitters:
             if sender in self.units:
-                for receiver in self.receivers_of(frame):
+                for receiver in receivers:
                     self.add_flow(group.label, self.units[sender].keys["label"], receiver)
             elif sender != NOBODY:
                 self.notes.say(f"flow of {group.label} from {sender}", "the unit isn't in the plan")

@@ -11,7 +11,7 @@ from math import lcm
 from typing import TYPE_CHECKING, NamedTuple
 
 from left_out import LeftOut, Notes, plain
-from plan_text import Labels, Table, remark
+from plan_text import Labels, Table, milliseconds, quoted, remark
 
 if TYPE_CHECKING:
     import canmatrix
@@ -131,14 +131,10 @@ def long_name(part: canmatrix.Ecu | canmatrix.Signal) -> str:
 
 def remarks_of(signal: canmatrix.Signal, label: str) -> list[str]:
     """What a file says of a signal for which a plan has no key."""
-    number, comment = signal.attributes.get("SPN"), plain(signal.comment or "")
+    number = signal.attributes.get("SPN")
     values = (f'{raw} = "{plain(name)}"' for raw, name in sorted((signal.values or {}).items()))
-    return remark(long_name(signal), label, [
-        f"SPN {plain(number)}" if number is not None else None,
-        f"{signal.cycle_time} ms" if signal.cycle_time else None,
-        f'"{comment}"' if comment else None,
-        *values,
-    ])
+    return remark(long_name(signal), label, "" if number is None else f"SPN {plain(number)}",
+                  milliseconds(signal.cycle_time), quoted(signal.comment), *values)
 
 
 class Signals:

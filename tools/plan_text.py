@@ -40,11 +40,21 @@ class Labels:
         return label
 
 
-def remark(name: str, label: str, facts: Iterable[str | None]) -> list[str]:
+def remark(name: str, label: str, *facts: str) -> list[str]:
     """What is kept of a thing beside its keys, if there is anything: its name where its label is another, and facts of it."""
-    kept = [plain(name)] if name != label else []
-    kept += [fact for fact in facts if fact]
+    kept = [fact for fact in (plain(name) if name != label else "", *facts) if fact]
     return [", ".join(kept)] if kept else []
+
+
+def quoted(text: str | None) -> str:
+    """A text of the file as a remark, if there is one."""
+    line = plain(text or "")
+    return f'"{line}"' if line else ""
+
+
+def milliseconds(cycle_time: int | None) -> str:
+    """A cycle time as a remark, if there is one."""
+    return f"{cycle_time} ms" if cycle_time else ""
 
 
 def spelled(value: Any) -> str:
