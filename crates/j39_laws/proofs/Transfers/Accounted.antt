@@ -131,7 +131,7 @@ IsOfSender x = RepliesOfSender x.1
 cleared_of_sender : (own packets count first : ℕ) (stage : Stage) → IsOfSender (sender.cleared own packets count first stage)
 cleared_of_sender own packets count first (Sending next last) = refl
 cleared_of_sender own packets count first Waiting =
-    cond_both (nat_lt 0 count && (nat_le 1 first && nat_le first packets)) _ _ IsOfSender (λ _. tt) (λ _. tt)
+    cond_both (sender.is_hold count) _ _ IsOfSender (λ _. tt) (λ _. cond_both (sender.is_outside packets first) _ _ IsOfSender (λ _. tt) (λ _. tt))
 cleared_of_sender own packets count first (Resting outcome) = tt
 
 ended_of_sender : (outcome : Outcome) (stage : Stage) → IsOfSender (sender.ended outcome stage)

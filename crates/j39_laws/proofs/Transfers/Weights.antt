@@ -203,13 +203,14 @@ module _ (n : ℕ) where
       → ReactsUpTo (stage_weight n stage + burst n) (sender.cleared own packets count first stage)
   cleared_weight own packets count first (Sending next last) most = omega arith
   cleared_weight own packets count first Waiting most =
-      cond_both (nat_lt 0 count && (nat_le 1 first && nat_le first packets)) _ _ (ReactsUpTo (2 + n + burst n))
+      cond_both (sender.is_hold count) _ _ (ReactsUpTo (2 + n + burst n)) (λ _. omega arith)
+      (λ _.
+      cond_both (sender.is_outside packets first) _ _ (ReactsUpTo (2 + n + burst n)) (λ _. omega arith)
       (λ _.
       let last : ℕ = min packets (first + count - 1) in
       let few : suc (last - first) ≤ 256 = omega arith in
       let times : suc (last - first) * (1 + n) ≤ 256 * (1 + n) = mul-le-mul_right (1 + n) few in
-      omega (arith, times, burst_is))
-      (λ _. omega arith)
+      omega (arith, times, burst_is)))
   cleared_weight own packets count first (Resting outcome) most = omega arith
 
   ended_weight : (outcome : Outcome) (stage : Stage) → ReactsUpTo (stage_weight n stage) (sender.ended outcome stage)
