@@ -18,6 +18,7 @@ from typing import TYPE_CHECKING, Any, NamedTuple
 
 import matrix_file
 import program
+from j1939 import GLOBAL_ADDRESS, NULL_ADDRESS, PROPRIETARY, SERVICES
 from left_out import LeftOut, Notes, plain
 from matrix_signals import BYTES, layout_of, long_name, meaning_of, signals_of
 from plan_text import Labels, Table, milliseconds, quoted, remark, text_of
@@ -40,14 +41,9 @@ ADDRESS_ATTRIBUTE = "NmStationAddress"
 ARBITRARY_ATTRIBUTE = "NmJ1939AAC"
 
 NOBODY = "Vector__XXX"
-NULL_ADDRESS, GLOBAL_ADDRESS = 254, 255
 
 # The most of each that a plan has (docs/PLAN.md).
-UNITS, GROUPS, FLOWS, FILE = 128, 256, 512, 16_777_216
-
-# Groups that can't be planned (docs/PLAN.md, F4).
-SERVICES = (59392, 59904, 60160, 60416, 60928, 65240)
-PROPRIETARY = (61184, 126720, *range(65280, 65536), *range(130816, 131072))
+UNITS, GROUPS, FLOWS = 128, 256, 512
 
 
 def number_of(value: object) -> int | None:
@@ -293,7 +289,7 @@ def plan_of(given: argparse.Namespace, notes: Notes) -> Plan:
 
 def options(words: list[str] | None) -> argparse.Namespace:
     """What the command line asks for."""
-    parser = argparse.ArgumentParser(description=__doc__.split("\n", maxsplit=1)[0])
+    parser = program.parser(__doc__)
     parser.add_argument("file", metavar="FILE", help="a file with one of the endings .dbc, .arxml, .kcd, .sym")
     parser.add_argument("--sender", action="append", default=[], metavar="UNIT", help="only groups that this unit sends")
     parser.add_argument("--group", action="append", default=[], metavar="GROUP", help="only this group, by name or PGN")
@@ -309,8 +305,8 @@ def main(words: list[str] | None = None) -> int:
     try:
         plan = plan_of(given, notes)
         text = text_of(plan.tables(), os.path.basename(given.file))
-        if len(text.encode()) > FILE:
-            raise LeftOut(f"its plan has more than {FILE} bytes: choose groups by --sender or --group")
+        if len(text.encode()) > program.INPUT_MOST:
+            raise LeftOut(f"its plan has more than {program.INPUT_MOST} bytes: choose groups by --sender or --group")
     except LeftOut as why:
         raise program.Refused(program.UNREADABLE, f"{plain(given.file)}: {why}") from why
     sys.stdout.reconfigure(encoding="utf-8")
