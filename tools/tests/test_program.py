@@ -90,7 +90,7 @@ class End(InFolder):
 
     def test_the_version_is_that_of_the_program(self):
         version = program.call(["--version"])[1].split()[1]
-        for tool in ("where.py", "startup.py", "against.py"):
+        for tool in ("where.py", "startup.py", "against.py", "dbc2plan.py"):
             self.assertEqual(run(tool, "--version"), (0, f"{tool[:-3]} (j39plan) {version}\n", ""))
             self.assertIn("--version", run(tool, "--help")[1])
 
