@@ -1,0 +1,38 @@
+"""The numbers that the tools know of the standard are those of the program and of the pages."""
+
+import os
+import re
+
+import j1939
+import program
+from tests.support import TOP, InFolder, text_of
+
+GROUP = '[[group]]\nlabel = "G{0}"\npgn = {0}\npriority = 6\nlength = 8\n'
+PAGE = text_of(os.path.join(TOP, "docs", "PLAN.md"))
+
+
+class Numbers(InFolder):
+    def bad(self, numbers):
+        """Those of these groups' numbers that `check` finds as F4, and no other finding."""
+        found = set()
+        for start in range(0, len(numbers), 256):
+            plan = self.write("plan.toml", "version = 1\n" + "".join(map(GROUP.format, sorted(numbers)[start:start + 256])))
+            findings = [line for line in program.call(["check", plan])[1].splitlines() if line.startswith("F")]
+            found |= {int(line.split()[-1]) for line in findings if line.startswith("F4 ")}
+            self.assertTrue(all(line.startswith("F4 ") for line in findings))
+        return found
+
+    def test_services_and_proprietary_groups_are_found(self):
+        numbers = j1939.SERVICES | j1939.PROPRIETARY
+        neighbours = {number + step for number in numbers if number % 256 == 0 for step in (-256, 256)} - numbers
+        self.assertEqual(self.bad(numbers | {number for number in neighbours if number < 131072}), numbers)
+
+    def test_other_services_are_taken(self):
+        """They are those that the page names behind the table of F4."""
+        self.assertEqual(self.bad(j1939.OTHER_SERVICES), set())
+        named = re.search(r"Only these are found\. Other groups .*?\n\n", PAGE, re.DOTALL).group()
+        self.assertEqual(sorted(map(int, re.findall(r"\b\d{5}\b", named))), sorted(j1939.OTHER_SERVICES))
+
+    def test_the_pool_is_that_of_the_page(self):
+        self.assertIn(f"lowest free address of {j1939.POOL[0]}..{j1939.POOL[-1]}", PAGE)
+        self.assertIn(f"{j1939.NULL_ADDRESS} is the null address and {j1939.GLOBAL_ADDRESS} the global one", PAGE)
