@@ -58,12 +58,6 @@ pub replicate_more : {X : Type 0} (n : ℕ) (x : X) → replicate n x ++ x ∷ [
 replicate_more zero x = refl
 replicate_more (suc n) x = ap (λ xs. x ∷ xs) (replicate_more n x)
 
-pub same_more : {X : Type 0} (n : ℕ) (x : X) (old new : List X) → new ≡ old ++ x ∷ [] → old ≡ replicate n x → new ≡ replicate (n + 1) x
-same_more n x old new added was = added ∙ ap (λ l. l ++ x ∷ []) was ∙ replicate_more n x ∙ ap (λ k. replicate k x) next
-  where
-    next : suc n ≡ n + 1
-    next = omega arith
-
 -- no unit sends anything
 pub none_sent : (n u : ℕ) → session_at (replicate n None) u ≡ None
 none_sent zero u = refl

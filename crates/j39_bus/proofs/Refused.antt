@@ -1,10 +1,8 @@
 -- When a step is refused.
-use Rattle.std.proofs.Common.{◌≡◌, inl, inr, ℕ, ◌<◌, ◌==◌, Bool, true, false, not, nat_lt, List, [], ◌∷◌, ◌++◌, length, get_or, refl, sym, ap}
+use Rattle.std.proofs.Common.{◌≡◌, ℕ, ◌<◌, Bool, true, false, not, nat_lt, List, [], ◌∷◌, ◌++◌, length, get_or, refl, sym, ap}
 use Rattle.std.proofs.Common.{◌∙◌, arith, Option, Some, None}
 use Rattle.std.specs.Prelude.{if◌then◌else◌}
-use Rattle.std.proofs.lemmas.Bool.{cases_lt, eq-eqb, eqb-true, le-ltb, lt-ltb, ltb-true, not-false, or_parts, true≢false}
-use Rattle.std.specs.declared.alloc.Global.{Global}
-use Rattle.std.specs.declared.collections.VecDeque.{VecDeque}
+use Rattle.std.proofs.lemmas.Bool.{ltb-true, not-false, or_parts}
 use Rattle.std.specs.List.{slice_get}
 use Rattle.j39_id.specs.FirstFault.{first_fault}
 use Rattle.j39_claim.specs.ClaimerValue.{ClaimerValue}
@@ -111,13 +109,3 @@ pub pair_inside : (count u v : ℕ) (more : Option StepError) → (if either (is
 pair_inside count u v more allowed =
     let known = or_parts (is_unknown count u) (is_unknown count v) (met (either (is_unknown count) u v) UnknownUnit more allowed) in
     (ltb-true u count (not-false (nat_lt u count) known.0), ltb-true v count (not-false (nat_lt v count) known.1))
-
--- whether there is something in a queue
-pub none_there : {X : Type 0} (q : VecDeque X Global) (xs : List X) → q.items ≡ xs → (q.len == 0) ≡ true → nat_lt 0 (length xs) ≡ false
-none_there q xs is empty = let none : q.len ≡ 0 = eqb-true q.len 0 empty in le-ltb 0 (length xs) (omega (arith, none, q.ok.0, ap length is))
-
-pub some_there : {X : Type 0} (q : VecDeque X Global) (xs : List X) → q.items ≡ xs → (q.len == 0) ≡ false → nat_lt 0 (length xs) ≡ true
-some_there q xs is filled = lt-ltb 0 (length xs) (elim (cases_lt 0 (length xs)) [
-  | inl some ↦ some
-  | inr none ↦ absurd (true≢false (sym (eq-eqb q.len 0 (omega (arith, none, q.ok.0, ap length is))) ∙ filled))
-])

@@ -1,5 +1,5 @@
 -- What a bus stands for, by its network.
-use Rattle.std.proofs.Common.{◌≡◌, ℕ, List, [], ◌∷◌, ◌++◌, length, refl, sym, ap, ◌∙◌, subst, arith, None, Some, Option}
+use Rattle.std.proofs.Common.{◌≡◌, List, [], ◌∷◌, ◌++◌, length, refl, sym, ap, ◌∙◌, subst, None, Some, Option}
 use Rattle.j39_findings.specs.declared.plan.Plan.{Plan}
 use Rattle.j39_bus.specs.declared.network.Network.{Network}
 use Rattle.j39_findings.specs.declared.steps.Step.{Step}
@@ -8,8 +8,8 @@ use Rattle.j39_world.specs.World.{World}
 use Rattle.j39_world.specs.Run.{cause_of, refusal, refusal_among, StepsTo, RunsThrough}
 use Rattle.j39_bus.specs.BusState.{BusState, Histories, histories_of}
 use Rattle.j39_bus.specs.Stands.{Stands}
-use Rattle.j39_bus.specs.inside.Network.{state_of, world_in, HasHeld, IsNetwork, IsBus, IsOfPlan, IsAllowed, IsRefusal, KeepsPlan, Steps, refusal_in}
-use Rattle.j39_bus.proofs.Refused.{IsOwnCause, length-planned_units, nowhere, own_cause, refusal_is}
+use Rattle.j39_bus.specs.inside.Network.{state_of, world_in, HasHeld, IsOfPlan, IsAllowed, IsRefusal, KeepsPlan, Steps, refusal_in}
+use Rattle.j39_bus.proofs.Refused.{IsOwnCause, nowhere, own_cause, refusal_is}
 use Rattle.j39_bus.proofs.Steady.{plan_kept}
 
 -- a bus stands for each world of its network whose receivers hold what was taken
@@ -46,13 +46,6 @@ module _ (old : Network) (b : BusState) (is_state : state_of old ≡ b) (step : 
 pub own_refusal : (net : Network) (step : Step) (e : StepError) → IsRefusal net step (Some e) → Some e ≡ cause_of e
 own_refusal net step e refuses =
     subst IsOwnCause (refuses.is nowhere) (own_cause (length net.claimers.items) net.flows.items (world_in nowhere net) step)
-
--- a bus keeps its choosers
-pub still_bus : (old new : Network) (count : ℕ) → IsBus old count → IsNetwork new → KeepsPlan old new → IsBus new count
-still_bus old new count bus well keeps = record {
-  network = well;
-  choosers = omega (arith, bus.choosers, ap length keeps.planned_units, length-planned_units old.claimers.items, length-planned_units new.claimers.items);
-}
 
 -- one more step of a run
 pub runs_more : (plan : Plan) (w : World) (done : List Step) (mid : World) (step : Step) (after : World) → RunsThrough plan w done mid

@@ -2,7 +2,7 @@
 use Rattle.std.proofs.Common.{◌≡◌, ℕ, ◌<◌, ◌≤◌, Bool, true, false, not, ◌&&◌, eqb, List, length, get_or, set, refl, sym, ap, ◌∙◌, subst, arith, inl, inr}
 use Rattle.std.proofs.Common.{Option}
 use Rattle.std.proofs.Math.ListN.{length-set}
-use Rattle.std.proofs.lemmas.Bool.{cases_eq, eq-eqb, ne_eqb, and_right, cond-true, cond-false, true≢false}
+use Rattle.std.proofs.lemmas.Bool.{cases_eq, eq-eqb, ne_eqb, cond-true, cond-false, true≢false}
 use Rattle.std.specs.Option.{is_some}
 use Rattle.std.specs.Ordering.{nat_cmp}
 use Rattle.std.specs.FinMap.{empty, get, get-empty}
@@ -13,8 +13,7 @@ use Rattle.j39_claim.specs.ClaimerValue.{ClaimerValue}
 use Rattle.j39_bus.specs.Stations.{absent_unit, station_at}
 use Rattle.j39_world.specs.World.{changed, is_other_on}
 use Rattle.j39_bus.specs.inside.Network.{is_named, IsWellFormed, HasAnswered}
-use Rattle.j39_queues.specs.Queued.{IsTable, KeepsRoom, Queued}
-use Rattle.j39_bus.specs.inside.Claims.{HasRoomForOthers}
+use Rattle.j39_queues.specs.Queued.{IsTable}
 use Rattle.j39_bus.proofs.Room.{named-set, noted_then}
 use Rattle.std.proofs.lemmas.List.{get_or_past}
 use Rattle.j39_bus.proofs.Worlds.{any_default, station_set}
@@ -63,23 +62,6 @@ well_heard cs lists well v inside name is_one item says new (s, is, answers) lef
       | inl same ↦ rw same is_one
       | inr old ↦ well.notes v n old
     ]) left (subst (λ (n : ℕ). IsTable n left) well.table.rows table))
-
--- who hears a unit doesn't rest on that unit
-same_others : (cs : List ClaimerValue) (u : ℕ) (c : ClaimerValue) → u < length cs → (v : ℕ)
-    → is_other_on (station_at (set cs u c)) u v ≡ is_other_on (station_at cs) u v
-same_others cs u c inside v = elim (cases_eq v u) [
-  | inl same ↦ rw (same, eq-eqb u u refl) (and_right (station_at (set cs u c) u).on false refl ∙ sym (and_right (station_at cs u).on false refl))
-  | inr other ↦ ap (λ (s : ClaimState). s.on && not (eqb v u)) (station_set cs u c v inside ∙ cond-false (eqb v u) c.state (station_at cs v) (ne_eqb v u other))
-]
-
--- there is still room for the others once a unit is another
-pub room_for_others : {X : Type 0} (old new : Queued X) (cs : List ClaimerValue) (u : ℕ) (c : ClaimerValue) (after : List ClaimerValue) → u < length cs
-    → after ≡ set cs u c → KeepsRoom old new
-    → (items : ℕ) → HasRoomForOthers old cs u items → HasRoomForOthers new after u items
-room_for_others old new cs u c after inside is keeps items room v hearing =
-    let heard : is_other_on (station_at cs) u v ≡ true = sym (same_others cs u c inside v)
-    ∙ ap (λ (l : List ClaimerValue). is_other_on (station_at l) u v) (sym is) ∙ hearing in
-    omega (arith, room v heard, keeps u v)
 
 -- whether a unit that was looked at hears another
 pub hears_as : (cs : List ClaimerValue) (u k : ℕ) (c : ClaimerValue) → k < length cs → c ≡ get_or cs k c → (a b : Bool) → c.state.on ≡ a → eqb k u ≡ b

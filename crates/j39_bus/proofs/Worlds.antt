@@ -1,6 +1,6 @@
 -- The world of a network after each change of it.
-use Rattle.std.proofs.Common.{◌≡◌, ℕ, zero, suc, ◌<◌, Bool, true, false, cond, not, ◌&&◌, eqb, List, [], ◌∷◌, ◌++◌, length, get_or, set, refl, sym, ap, ◌∙◌}
-use Rattle.std.proofs.Common.{arith, inl, inr, Option, get_or-set_other, get_or-set_same}
+use Rattle.std.proofs.Common.{◌≡◌, ℕ, zero, suc, ◌<◌, Bool, true, false, cond, not, ◌&&◌, eqb, List, [], ◌∷◌, ◌++◌, length, get_or, set, refl, ap, ◌∙◌}
+use Rattle.std.proofs.Common.{arith, inl, inr, get_or-set_other, get_or-set_same}
 use Rattle.std.proofs.lemmas.Bool.{cases_eq, eq-eqb, ne_eqb}
 use Rattle.j39_claim.specs.declared.item.Item.{Item}
 use Rattle.j39_claim.specs.ClaimRule.{PlannedUnit}
@@ -8,7 +8,7 @@ use Rattle.j39_claim.specs.ClaimerValue.{ClaimerValue}
 use Rattle.j39_world.specs.PlannedUnits.{unit_at}
 use Rattle.j39_world.specs.Sent.{Sent, frame_of}
 use Rattle.j39_world.specs.World.{World, Undelivered, changed}
-use Rattle.j39_world.specs.ClaimSteps.{tell, told_to_others}
+use Rattle.j39_world.specs.ClaimSteps.{tell}
 use Rattle.j39_bus.specs.Stations.{absent_unit, station_at}
 use Rattle.j39_bus.specs.inside.Network.{planned_units}
 
@@ -29,19 +29,6 @@ unit_at-planned_units (c ∷ cs) (suc u) = unit_at-planned_units cs u
 -- a world with these units, undelivered items and frames
 abbrev pub world : World → List ClaimerValue → Undelivered → List Sent → World
 world b cs claims fs = record b { stations = station_at cs; claims = claims; frames = fs }
-
--- after a unit has told the others
-pub world_told : (b : World) (cs : List ClaimerValue) (claims told : Undelivered) (fs : List Sent) (u : ℕ) (item : Item) (name : ℕ) (held : Option ℕ)
-    → told ≡ told_to_others (station_at cs) claims u (item ∷ []) → name ≡ (get_or cs u absent_unit).planned.name → held ≡ (station_at cs u).address
-    → world b cs told (fs ++ frame_of name held item ∷ []) ≡ tell (planned_units cs) (world b cs claims fs) u (item ∷ [])
-world_told b cs claims told fs u item name held told_is name_is held_is = λ i. record b {
-  stations = station_at cs;
-  claims = told_is i;
-  frames = fs ++ frame_of (same_name i) (held_is i) item ∷ [];
-}
-  where
-    same_name : name ≡ (unit_at (planned_units cs) u).name
-    same_name = name_is ∙ sym (ap (λ (c : PlannedUnit). c.name) (unit_at-planned_units cs u))
 
 -- one unit's state is another
 pub at_set : (cs : List ClaimerValue) (v : ℕ) (c : ClaimerValue) (x : ℕ) → v < length cs

@@ -1,5 +1,4 @@
-use Rattle.std.proofs.Common.{◌≡◌, ℕ, ◌<◌, ◌≤◌, All, length, map, get_or, refl, ap, sym, ◌∙◌, subst, arith}
-use Rattle.std.proofs.lemmas.List.{take_all}
+use Rattle.std.proofs.Common.{◌≡◌, ℕ, ◌<◌, All, length, get_or, refl, ap, sym, ◌∙◌, subst, arith}
 use Rattle.std.proofs.lemmas.List.Elements.{All-push}
 use Rattle.j39_findings.specs.declared.plan.flow_plan.FlowPlan.{FlowPlan}
 use Rattle.j39_findings.specs.declared.plan.to.To.{To}
@@ -8,7 +7,6 @@ use Rattle.j39_world.specs.Flows.{flow_of}
 use Rattle.j39_world.specs.declared.flow.Flow.{Flow}
 use Rattle.j39_bus.specs.inside.Traffic.{IsInside, IsFlow}
 use Rattle.j39_bus.proofs.Opened.{mapped_more}
-use Rattle.j39_findings.specs.PlannedGroups.{IsSendable}
 use Rattle.j39_bus.proofs.flows.flows_of.Goals as goal
 
 inside_by : (n : ℕ) (to : To) → ((v : ℕ) → to ≡ One v → v < n) → IsInside n to
@@ -43,16 +41,3 @@ loop-flow-preserved c =
       fit = subst (All (IsFlow n)) (sym c.push_reserved.ensures.items)
           (All-push (IsFlow n) c.loop-flow.flows.items c.flow_of.result c.loop-flow.invariant.fit fits);
     }
-
-pub flow_of-requires-clause-groups : goal.flow_of-requires-clause-groups
-flow_of-requires-clause-groups c = subst (All IsSendable) (sym c.as_slice.ensures.value) c.requires
-
-pub returns-clause-flows : goal.returns-clause-flows
-returns-clause-flows c =
-    let plan = c.args.plan.now in
-    let xs = c.deref-flow-items.result.now in
-    let past : length xs ≤ c.loop-flow.flow-index = omega arith in
-    c.loop-flow.invariant.flows ∙ ap (map (flow_of plan.groups.items)) (take_all c.loop-flow.flow-index xs past ∙ c.deref-flow-items.ensures.value)
-
-pub returns-clause-fit : goal.returns-clause-fit
-returns-clause-fit c = c.loop-flow.invariant.fit

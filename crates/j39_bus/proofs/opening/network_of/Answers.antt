@@ -3,8 +3,7 @@ use Rattle.std.proofs.lemmas.List.{length-map}
 use Rattle.j39_claim.specs.ClaimerValue.{ClaimerValue}
 use Rattle.j39_findings.specs.declared.plan.unit_plan.UnitPlan.{UnitPlan}
 use Rattle.j39_queues.specs.Queued.{IsTable}
-use Rattle.j39_tp.specs.inside.Gathered.{Gathers}
-use Rattle.j39_bus.specs.BusState.{Holding, session_at}
+use Rattle.j39_bus.specs.BusState.{session_at}
 use Rattle.j39_bus.specs.Reports.{reported_of}
 use Rattle.j39_bus.specs.Stations.{station_at, unstarted}
 use Rattle.j39_bus.specs.inside.Network.{planned_units}
@@ -58,6 +57,3 @@ returns-clause-world c =
       reports = map reported_of (c.new-4.ensures.items i);
       frames = map sent_of (c.new-5.ensures.items i);
     }
-
-pub returns-clause-held : goal.returns-clause-held
-returns-clause-held c = λ v u. subst (λ (k : Holding). Gathers [] k.progress k.bytes) (sym (c.in_ok-receivers.ensures.closed v u)) tt

@@ -1,11 +1,8 @@
 use Rattle.std.proofs.Common.{◌≡◌, ◌∙◌, subst, ap, Some, None}
 use Rattle.j39_world.specs.Run.{cause_of}
 use Rattle.j39_bus.specs.inside.Network.{IsRefusal}
-use Rattle.j39_bus.proofs.Standing.{own_refusal, step_done, step_refused, still_bus}
+use Rattle.j39_bus.proofs.Standing.{own_refusal, step_done, step_refused}
 use Rattle.j39_bus.proofs.bus.Bus.step.Goals as goal
-
-pub invariant_of-self : goal.invariant_of-self
-invariant_of-self g c = still_bus c.self.inside.network c.act.new.self _ c.self.invariant c.act.ensures.network c.act.ensures.plan
 
 pub returns-in-Some-clause-refused : goal.returns-in-Some-clause-refused
 returns-in-Some-clause-refused g c =
@@ -23,9 +20,6 @@ pub returns-in_default-act-clause-refused : goal.returns-in_default-act-clause-r
 returns-in_default-act-clause-refused g c =
     let net = c.self.inside.network in
     step_refused net c.args.self.now c.self.view_is c.args.step.now None (subst (IsRefusal net c.args.step.now) c.in_default.is c.refusal.ensures)
-
-pub act-requires-clause-allowed : goal.act-requires-clause-allowed
-act-requires-clause-allowed g c = subst (IsRefusal c.self.inside.network c.args.step.now) c.in_default.is c.refusal.ensures
 
 pub returns-clause-ok : goal.returns-clause-ok
 returns-clause-ok g c =

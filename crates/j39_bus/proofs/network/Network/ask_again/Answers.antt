@@ -1,4 +1,4 @@
-use Rattle.std.proofs.Common.{◌≡◌, ℕ, Bool, true, false, ◌&&◌, eqb, refl, sym, ap, ◌∙◌, subst, inl, inr}
+use Rattle.std.proofs.Common.{refl, sym, ap, ◌∙◌, subst}
 use Rattle.j39_tp.specs.Receiver.{gives_up}
 use Rattle.j39_bus.specs.Stands.{HoldTaken}
 use Rattle.j39_bus.specs.inside.Network.{world_in}
@@ -6,19 +6,6 @@ use Rattle.j39_bus.specs.inside.Receivers.{receiver_at}
 use Rattle.j39_world.specs.TransferSteps.{packets_in, replied}
 use Rattle.j39_bus.proofs.ChangedReceivers.{held_changed, progress_changed}
 use Rattle.j39_bus.proofs.network.Network.ask_again.Goals as goal
-
-pub reply-requires-clause-network : goal.reply-requires-clause-network
-reply-requires-clause-network c =
-    let well = c.requires.network.traffic in
-    record {
-      claims = c.requires.network.claims;
-      traffic = record {
-        flows = well.flows;
-        sessions = well.sessions;
-        table = well.table;
-        windows = ap Rattle.std.proofs.Common.length c.late-packet.ensures.windows ∙ well.windows;
-      };
-    }
 
 pub returns-clause-world : goal.returns-clause-world
 returns-clause-world c = λ h.

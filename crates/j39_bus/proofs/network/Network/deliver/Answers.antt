@@ -1,7 +1,7 @@
 use Rattle.std.proofs.Common.{◌≡◌, ℕ, ◌<◌, true, List, length, map, get_or, ap, sym, ◌∙◌, Some, None, refl, subst}
 use Rattle.std.proofs.Math.ListN.{length-set}
 use Rattle.j39_claim.specs.ClaimerValue.{ClaimerValue, can_note}
-use Rattle.j39_queues.specs.Queued.{IsTable, pair_in}
+use Rattle.j39_queues.specs.Queued.{pair_in}
 use Rattle.j39_world.specs.Sent.{sent_of}
 use Rattle.j39_bus.specs.Stations.{absent_unit, station_at}
 use Rattle.j39_bus.specs.inside.Network.{world_in, planned_units, is_named, IsWellFormed}
@@ -10,7 +10,7 @@ use Rattle.j39_bus.proofs.Room.{can_note_all, named}
 use Rattle.j39_bus.specs.declared.network.Network.{Network}
 use Rattle.j39_bus.specs.inside.Traffic.{IsTraffic}
 use Rattle.j39_bus.proofs.Steady.{told_traffic}
-use Rattle.j39_bus.proofs.WellFormed.{room_for_others, well_told, well_heard}
+use Rattle.j39_bus.proofs.WellFormed.{well_told, well_heard}
 use Rattle.j39_bus.proofs.Worlds.{any_default, world, told_nothing}
 use Rattle.j39_bus.proofs.network.Network.deliver.Goals as goal
 
@@ -25,19 +25,6 @@ hear-answer-requires-clause-room g c =
     let cs : List ClaimerValue = c.args.self.now.claimers.items in
     ap (can_note (station_at cs c.args.to).notes) named_is
     ∙ can_note_all cs c.args.self.now.claims.lists c.args.from c.args.to c.requires.network.claims c.requires.from
-
-pub tell-requires-clause-room : goal.tell-requires-clause-room
-tell-requires-clause-room g c =
-    room_for_others c.args.self.now.claims c.pop.new.self c.args.self.now.claimers.items c.args.to _ c.hear-answer.new.claimers.items c.requires.to
-    c.in-Some-answer.ensures.rule.1
-    c.pop.ensures.room 1 c.requires.room
-
-pub tell-requires-clause-table : goal.tell-requires-clause-table
-tell-requires-clause-table g c =
-    let cs : List ClaimerValue = c.args.self.now.claimers.items in
-    let same = ap length c.in-Some-answer.ensures.rule.1 ∙ length-set cs c.args.to
-    (record (get_or cs c.args.to absent_unit) { state = c.in-Some-answer.ensures.rule.0 }) in
-    subst (λ n. IsTable n c.pop.new.self.lists) (c.requires.network.claims.table.rows ∙ sym same) c.pop.ensures.table
 
 pub returns-in-Some-answer-clause-network : goal.returns-in-Some-answer-clause-network
 returns-in-Some-answer-clause-network g c =

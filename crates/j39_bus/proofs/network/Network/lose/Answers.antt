@@ -3,7 +3,7 @@ use Rattle.j39_findings.specs.declared.steps.Step.TheVariants.{Lose}
 use Rattle.j39_bus.proofs.Lost.{lost_from}
 use Rattle.std.proofs.lemmas.Bool.{not-false}
 use Rattle.j39_bus.proofs.Refused.{none_refuses, nowhere, pair_inside}
-use Rattle.j39_bus.proofs.Steady.{steps_same, wired_traffic}
+use Rattle.j39_bus.proofs.Steady.{steps_same}
 use Rattle.j39_bus.proofs.network.Network.lose.Goals as goal
 
 pub pop-requires-clause-from : goal.pop-requires-clause-from
@@ -28,12 +28,3 @@ returns-clause-steps c = record {
       (not-false _ (none_refuses c.args.self.now h (Lose c.args.from c.args.to) (c.requires.allowed.is h)).1.1.0) c.pop.new.self c.pop.ensures.lists)
       refl;
 }
-
-pub returns-clause-network : goal.returns-clause-network
-returns-clause-network c =
-    let inside : (c.args.from < length c.args.self.now.claimers.items)
-    × (c.args.to < length c.args.self.now.claimers.items) = pair_inside _ _ _ _ (c.requires.allowed.is nowhere) in
-    record {
-      claims = c.requires.network.claims;
-      traffic = wired_traffic _ _ _ _ _ _ c.requires.network.traffic c.pop.ensures.table;
-    }

@@ -1,23 +1,11 @@
-use Rattle.std.proofs.Common.{◌<◌, ◌≤◌, length, get_or, sym, ap, ◌∙◌, subst, arith}
+use Rattle.std.proofs.Common.{◌<◌, ◌≤◌, length, get_or, sym, ap, ◌∙◌, arith}
 use Rattle.std.proofs.lemmas.Bool.{ltb-false}
 use Rattle.std.proofs.lemmas.Option.{slice_get_past}
 use Rattle.j39_bus.specs.inside.Network.{world_in}
-use Rattle.j39_bus.specs.inside.Traffic.{IsFlow}
 use Rattle.j39_world.specs.Run.{begin_refusal}
 use Rattle.j39_bus.proofs.Acting.{refusal_as}
 use Rattle.j39_bus.proofs.Opened.{got}
 use Rattle.j39_bus.proofs.network.Network.refusal.Goals as goal
-
-pub returns-in-Down : goal.returns-in-Down
-returns-in-Down c = refusal_as _ _ _ _ c.in-Down.is (record { is = c.refusal_of_ask.ensures.is })
-
-pub refusal_of_flow-requires-clause-flow : goal.refusal_of_flow-requires-clause-flow
-refusal_of_flow-requires-clause-flow c =
-    let net = c.args.self.now in
-    let flows_are = c.deref.ensures.value in
-    let inside : c.in-Begin.place < length net.flows.items = omega (arith, c.in-Some.ensures.lookup.3.0, ap length flows_are) in
-    let at = c.in-Some.ensures.lookup.1 ∙ ap (λ fs. get_or fs c.in-Begin.place c.in-Some.flow.now) flows_are in
-    subst (IsFlow (length net.claimers.items)) (sym at) (c.requires.traffic.flows c.in-Begin.place c.in-Some.flow.now inside)
 
 pub returns-in-Some : goal.returns-in-Some
 returns-in-Some c =

@@ -1,39 +1,12 @@
-use Rattle.std.proofs.Common.{◌≡◌, ◌<◌, List, [], ◌∷◌, length, get_or, ap, ◌∙◌, subst, sym, arith}
+use Rattle.std.proofs.Common.{◌≡◌, ◌<◌, List, [], ◌∷◌, length, get_or, ap, ◌∙◌, arith}
 use Rattle.j39_claim.specs.declared.item.Item.TheVariants.{Told, Request}
 use Rattle.j39_claim.specs.ClaimRule.{claim_of}
 use Rattle.j39_claim.specs.ClaimerValue.{ClaimerValue}
-use Rattle.j39_queues.specs.Queued.{IsTable}
 use Rattle.j39_world.specs.ClaimSteps.{tell}
-use Rattle.j39_bus.specs.inside.Claims.{HasRoomForOthers}
 use Rattle.j39_bus.specs.Stations.{absent_unit, station_at}
 use Rattle.j39_bus.specs.inside.Network.{planned_units, world_in}
-use Rattle.j39_bus.proofs.WellFormed.{well_told}
 use Rattle.j39_bus.proofs.Worlds.{any_default, told_twice}
-use Rattle.j39_bus.proofs.Steady.{told_traffic}
 use Rattle.j39_bus.proofs.network.Network.request.Goals as goal
-
-pub tell-requires-2-clause-table : goal.tell-requires-2-clause-table
-tell-requires-2-clause-table c = subst (λ cs. IsTable (length cs) c.tell.new.self.claims.lists)
-    (sym (ap (λ v. v.items) c.tell.ensures.claimers)) c.tell.ensures.table
-
-pub tell-requires-2-clause-room : goal.tell-requires-2-clause-room
-tell-requires-2-clause-room c = subst (λ cs. HasRoomForOthers c.tell.new.self.claims cs c.args.unit 1) (sym (ap (λ v. v.items) c.tell.ensures.claimers))
-    (c.tell.ensures.room 1 c.requires.room)
-
-pub returns-clause-network : goal.returns-clause-network
-returns-clause-network c = record {
-  claims =
-      let same = ap (λ v. v.items) (c.tell-2.ensures.claimers ∙ c.tell.ensures.claimers) in
-      well_told c.args.self.now.claimers.items c.args.self.now.claims.lists c.requires.network.claims c.tell-2.new.self.claimers.items
-      c.tell-2.new.self.claims.lists same
-      (subst (λ cs. IsTable (length cs) c.tell-2.new.self.claims.lists) (ap (λ v. v.items) c.tell.ensures.claimers) c.tell-2.ensures.table);
-  traffic =
-      let net = c.args.self.now in
-      told_traffic c.tell-2.new.self c.tell.new.self c.tell-2.ensures.rest (length c.tell.new.self.claimers.items)
-      (ap length (ap (λ v. v.items) c.tell-2.ensures.claimers))
-      (told_traffic c.tell.new.self net c.tell.ensures.rest (length net.claimers.items)
-      (ap length (ap (λ v. v.items) c.tell.ensures.claimers)) c.requires.network.traffic);
-}
 
 pub returns-clause-world : goal.returns-clause-world
 returns-clause-world c = λ h.

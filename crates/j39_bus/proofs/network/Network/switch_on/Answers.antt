@@ -1,26 +1,15 @@
-use Rattle.std.proofs.Common.{List, length, map, set, ap, sym, ◌∙◌, subst, refl}
+use Rattle.std.proofs.Common.{List, length, map, set, ap, ◌∙◌}
 use Rattle.std.proofs.Math.ListN.{length-set}
 use Rattle.std.specs.Vec.{with_item}
 use Rattle.j39_claim.specs.ClaimerValue.{ClaimerValue}
 use Rattle.j39_world.specs.Sent.{sent_of}
 use Rattle.j39_bus.specs.declared.network.Network.{Network}
 use Rattle.j39_bus.proofs.Steady.{told_traffic, wired_traffic}
-use Rattle.j39_bus.proofs.WellFormed.{room_for_others, well_on, well_told}
+use Rattle.j39_bus.proofs.WellFormed.{well_on, well_told}
 use Rattle.j39_bus.proofs.SwitchedOn.{planned_units_on, on_planned_unit, switched}
-use Rattle.j39_queues.specs.Queued.{IsTable, pair_in}
+use Rattle.j39_queues.specs.Queued.{pair_in}
 use Rattle.j39_bus.specs.inside.Network.{world_in}
 use Rattle.j39_bus.proofs.network.Network.switch_on.Goals as goal
-
-pub tell-requires-clause-table : goal.tell-requires-clause-table
-tell-requires-clause-table c =
-    let cs : List ClaimerValue = c.args.self.now.claimers.items in
-    subst (λ n. IsTable n c.clear_to.new.self.lists) (c.requires.network.claims.table.rows ∙ sym (length-set cs c.args.unit c.start-say.new.self))
-    c.clear_to.ensures.table
-
-pub tell-requires-clause-room : goal.tell-requires-clause-room
-tell-requires-clause-room c =
-    room_for_others c.args.self.now.claims c.clear_to.new.self c.args.self.now.claimers.items c.args.unit c.start-say.new.self _ c.requires.place refl
-    c.clear_to.ensures.room 1 c.requires.room
 
 pub returns-clause-network : goal.returns-clause-network
 returns-clause-network c =

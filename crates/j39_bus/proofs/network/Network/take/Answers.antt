@@ -20,12 +20,6 @@ oldest-requires-clause-to c =
     × (c.args.to < length c.args.self.now.claimers.items) = pair_inside _ _ _ _ (c.requires.allowed.is nowhere) in
     omega (arith, inside.1, c.requires.network.traffic.table.rows)
 
-pub take_item-requires-clause-from : goal.take_item-requires-clause-from
-take_item-requires-clause-from c = (pair_inside _ _ _ _ (c.requires.allowed.is nowhere)).0
-
-pub take_item-requires-clause-to : goal.take_item-requires-clause-to
-take_item-requires-clause-to c = (pair_inside _ _ _ _ (c.requires.allowed.is nowhere)).1
-
 pub unreachable-requires : goal.unreachable-requires
 unreachable-requires c =
     let some : nat_lt 0 (length (pair_in c.args.self.now.wire.lists c.args.from c.args.to)) ≡ true =

@@ -1,10 +1,10 @@
-use Rattle.std.proofs.Common.{◌≡◌, ◌<◌, ap, sym, ◌∙◌, subst, arith, Result, Ok, Err, OnOk, OnErr, IfOk}
+use Rattle.std.proofs.Common.{◌≡◌, ap, sym, ◌∙◌, subst, arith, Result, Ok, Err, OnOk, OnErr, IfOk}
 use Rattle.j39_tp.specs.Receiver.{hears, receives}
 use Rattle.j39_tp.specs.declared.receiving.manner.Manner.TheVariants.{Answering}
 use Rattle.j39_world.specs.Flows.{window_at}
 use Rattle.j39_bus.specs.BusState.{ReceiverTable}
-use Rattle.j39_bus.specs.inside.Receivers.{IsAnswering, answering, left_of, message_in}
-use Rattle.j39_bus.proofs.ReceiverRows.{answers_here, holding_is, holdings_after, in_u, in_v, in_windows, receivers_after, table_same}
+use Rattle.j39_bus.specs.inside.Receivers.{IsAnswering, answering, left_of}
+use Rattle.j39_bus.proofs.ReceiverRows.{answers_here, holding_is, holdings_after, in_u, in_windows, receivers_after, table_same}
 use Rattle.j39_bus.proofs.Worlds.{any_default}
 use Rattle.j39_bus.proofs.receivers.Receivers.hear.Goals as goal
 
@@ -20,31 +20,11 @@ if_ok : {X E : Type 0} (r : Result X E) (P Q : X → Type 0) → ((x : X) → P 
 if_ok (Ok x) P Q f h = f x h
 if_ok (Err e) P Q f h = tt
 
-pub index-window-requires : goal.index-window-requires
-index-window-requires c =
-    let inside = in_windows c.self.inside.windows.items c.self.inside.rows.items c.args.self.now c.self.view_is c.self.invariant c.args.to c.args.from
-    c.requires.to c.requires.from in
-    omega (arith, inside, c.self.inside.windows.ok.0)
-
-pub index_mut-row-requires : goal.index_mut-row-requires
-index_mut-row-requires c =
-    let inside = in_v c.self.inside.windows.items c.self.inside.rows.items c.args.self.now c.self.view_is c.self.invariant c.args.to c.args.from
-    c.requires.to c.requires.from in
-    omega (arith, inside, c.self.inside.rows.ok.0)
-
 pub index_mut-slot-requires : goal.index_mut-slot-requires
 index_mut-slot-requires c =
     let inside = in_u c.self.inside.windows.items c.self.inside.rows.items c.args.self.now c.self.view_is c.self.invariant c.args.to c.args.from
     c.requires.to c.requires.from c.index_mut-row.result.now c.index_mut-row.ensures.value in
     omega (arith, inside, c.index_mut-row.result.now.ok.0)
-
-pub hear_in-requires-clause-window : goal.hear_in-requires-clause-window
-hear_in-requires-clause-window c =
-    let inside = in_windows c.self.inside.windows.items c.self.inside.rows.items c.args.self.now c.self.view_is c.self.invariant c.args.to c.args.from
-    c.requires.to c.requires.from in
-    let window : c.index-window.result.now ≡ window_at c.self.inside.windows.items c.args.to =
-    c.index-window.ensures ∙ any_default c.self.inside.windows.items c.args.to c.index-window.result.now 1 inside in
-    subst (λ k. 0 < k) (sym window) (c.self.invariant.lets_some c.args.to)
 
 pub hear_in-requires-clause-answering : goal.hear_in-requires-clause-answering
 hear_in-requires-clause-answering c =
@@ -66,9 +46,6 @@ invariant_of-self c =
     c.requires.to c.requires.from c.index_mut-row.result.now c.index_mut-row.ensures.value c.index_mut-slot.result.now c.index_mut-slot.ensures.value
     c.hear_in.new.slot (subst (λ k. IsAnswering k c.hear_in.new.slot) window c.hear_in.ensures.answering)
 
-pub returns-clause-windows : goal.returns-clause-windows
-returns-clause-windows c = ap (λ (t : ReceiverTable). t.windows) c.self.view_is
-
 pub returns-clause-heard : goal.returns-clause-heard
 returns-clause-heard c =
     let inside = in_windows c.self.inside.windows.items c.self.inside.rows.items c.args.self.now c.self.view_is c.self.invariant c.args.to c.args.from
@@ -79,17 +56,6 @@ returns-clause-heard c =
     c.requires.to c.requires.from c.index_mut-row.result.now c.index_mut-row.ensures.value c.index_mut-slot.result.now c.index_mut-slot.ensures.value in
     let known = window ∙ ap (λ (t : ReceiverTable). window_at t.windows c.args.to) c.self.view_is in
     if_ok c.hear_in.result _ _ (λ x is. is ∙ (λ i. (hears (Answering (known i)) (here i).progress c.args.packet.now).1)) c.hear_in.ensures.heard
-
-pub returns-clause-message : goal.returns-clause-message
-returns-clause-message c =
-    let inside = in_windows c.self.inside.windows.items c.self.inside.rows.items c.args.self.now c.self.view_is c.self.invariant c.args.to c.args.from
-    c.requires.to c.requires.from in
-    let window : c.index-window.result.now ≡ window_at c.self.inside.windows.items c.args.to =
-    c.index-window.ensures ∙ any_default c.self.inside.windows.items c.args.to c.index-window.result.now 1 inside in
-    let here = holding_is c.self.inside.windows.items c.self.inside.rows.items c.args.self.now c.self.view_is c.self.invariant c.args.to c.args.from
-    c.requires.to c.requires.from c.index_mut-row.result.now c.index_mut-row.ensures.value c.index_mut-slot.result.now c.index_mut-slot.ensures.value in
-    let known = window ∙ ap (λ (t : ReceiverTable). window_at t.windows c.args.to) c.self.view_is in
-    if_ok c.hear_in.result _ _ (λ x is done. is done ∙ (λ i. message_in (receives (answering (known i) (here i)) c.args.packet.now))) c.hear_in.ensures.message
 
 pub returns-clause-after : goal.returns-clause-after
 returns-clause-after c =

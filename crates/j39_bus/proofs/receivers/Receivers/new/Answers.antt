@@ -1,6 +1,5 @@
-use Rattle.std.proofs.Common.{◌≡◌, ◌∷◌, [], ◌++◌, length, map, replicate, ap, sym, ◌∙◌, arith}
-use Rattle.std.proofs.lemmas.List.{length-map, map-append}
-use Rattle.j39_bus.proofs.Opened.{same_more}
+use Rattle.std.proofs.Common.{◌≡◌, length, map, replicate, ap, sym, ◌∙◌, arith}
+use Rattle.std.proofs.lemmas.List.{length-map}
 use Rattle.j39_bus.proofs.ReceiverRows.{closed_first, none_in, receivers_first, slots}
 use Rattle.j39_findings.specs.declared.plan.unit_plan.UnitPlan.{UnitPlan}
 use Rattle.j39_bus.proofs.receivers.Receivers.new.Goals as goal
@@ -19,14 +18,3 @@ pub returns-clause-closed : goal.returns-clause-closed
 returns-clause-closed c =
     let all : c.loop.counter ≡ length c.args.units.now = omega arith in
     closed_first (length c.args.units.now) c.loop.rows.items (c.loop.invariant.rows ∙ (λ i. replicate (all i) (none_in (length c.args.units.now))))
-
-pub loop-preserved : goal.loop-preserved
-loop-preserved c =
-    record {
-      rows = same_more c.loop.counter (none_in (length c.args.units.now)) (map slots c.loop.rows.items) (map slots c.push_reserved.new.self.items)
-          (ap (map slots) c.push_reserved.ensures.items ∙ map-append slots c.loop.rows.items (c.in_ok-empty_places.field-0 ∷ [])
-          ∙ ap (λ row. map slots c.loop.rows.items ++ row ∷ []) c.in_ok-empty_places.ensures)
-          c.loop.invariant.rows;
-      len = omega arith;
-      room = omega arith;
-    }
