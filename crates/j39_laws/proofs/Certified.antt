@@ -13,6 +13,7 @@ use Rattle.j39_world.specs.Run.{Run}
 use Rattle.j39_world.specs.PlannedUnits.{units_of}
 use Rattle.j39_world.specs.Opening.{AreNamesDistinct}
 use Rattle.j39_world.specs.Settling.{Settles}
+use Rattle.j39_world.specs.Ending.{TransfersEnd}
 use Rattle.j39_world.specs.Sound.{AreAddressesSound, AreAddressesDifferent, AreNotesRight, AreKeptFree, IsQuiet, AreReportsSound, IsAcknowledgedReported}
 use Rattle.j39_world.specs.SoundPlan.{IsSound}
 use Rattle.j39_world.specs.Staying.{ArePlannedApart, HoldsPlanned}
@@ -38,8 +39,9 @@ pub sound_by_laws : (plan : Plan) → Clean plan
     → ((p : Plan) → Clean p → SoundSignals p)
     → ((p : Plan) (steps : List Step) (w : World) → Run p first steps w → AreReportsSound w)
     → ((p : Plan) (steps : List Step) (w : World) → Run p first steps w → IsAcknowledgedReported w)
+    → ((p : Plan) (steps : List Step) (w : World) → Run p first steps w → TransfersEnd p w)
     → IsSound plan
-sound_by_laws plan clean addresses different planned notes kept settles signals reports acknowledged = record {
+sound_by_laws plan clean addresses different planned notes kept settles signals reports acknowledged ends = record {
   addresses = λ steps w run. addresses plan steps w clean run;
   quiet = λ steps w run. different plan steps w clean run;
   sending = λ steps w run (u, o, is). different plan steps w clean run (quiet_where_empty w.claims ((reports plan steps w run).delivered u o is));
@@ -50,4 +52,5 @@ sound_by_laws plan clean addresses different planned notes kept settles signals 
   signals = signals plan clean;
   reports = λ steps w run. reports plan steps w run;
   acknowledged = λ steps w run. acknowledged plan steps w run;
+  ends = λ steps w run. ends plan steps w run;
 }

@@ -1,5 +1,5 @@
 -- What a plan without findings has: its addresses, its signals and its reports are sound, planned addresses that differ stay, units
--- that have heard all know one another, what it keeps free stays free, and its claims die down.
+-- that have heard all know one another, what it keeps free stays free, its claims die down, and its messages come to their end.
 use Rattle.std.specs.Prelude.{◌≡◌, ℕ, List, Some}
 use Rattle.j39_findings.specs.SoundSignals.{SoundSignals}
 use Rattle.j39_findings.specs.declared.plan.Plan.{Plan}
@@ -9,6 +9,7 @@ use Rattle.j39_world.specs.World.{World, first}
 use Rattle.j39_world.specs.Run.{Run}
 use Rattle.j39_world.specs.PlannedUnits.{units_of}
 use Rattle.j39_world.specs.Settling.{Settles}
+use Rattle.j39_world.specs.Ending.{TransfersEnd}
 use Rattle.j39_world.specs.Sound.{AreAddressesSound, AreAddressesDifferent, AreNotesRight, AreKeptFree, IsQuiet, AreReportsSound, IsAcknowledgedReported}
 use Rattle.j39_world.specs.Staying.{ArePlannedApart, HoldsPlanned}
 
@@ -40,3 +41,5 @@ pub record IsSound (plan : Plan) : Type 0 where
   pub reports : Always plan AreReportsSound
   -- where a sender rests acknowledged, its receiver has reported the message
   pub acknowledged : Always plan IsAcknowledgedReported
+  -- whoever goes on with messages comes to an end, where no unit is between its Begin and its Rest
+  pub ends : Always plan (TransfersEnd plan)
