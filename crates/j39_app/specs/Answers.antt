@@ -1,8 +1,11 @@
 -- What is written for what a command line orders.
-use Rattle.std.specs.Prelude.{◌≡◌, ◌⊎◌, ℕ, List, string_bytes, length}
+use Rattle.std.specs.Prelude.{◌≡◌, ◌⊎◌, ℕ, List, Option, string_bytes, length}
+use Rattle.std.specs.List.{before_first}
+use Rattle.j39_app.specs.Known.{AreOf}
 use Rattle.j39_check.specs.CheckText.{IsCheckText}
 use Rattle.j39_text.specs.FrameText.{IsFrameText}
 use Rattle.j39_check.specs.PlanText.{Describes, IsRefusedText}
+use Rattle.j39_id.specs.Lines.{is_line_feed}
 use Rattle.j39_log.specs.ReadText.{IsReadText}
 use Rattle.j39_run.specs.RunText.{IsRunText}
 use Rattle.j39_findings.specs.declared.plan.Plan.{Plan}
@@ -11,22 +14,34 @@ use Rattle.j39_stream.specs.declared.verdict.Verdict.TheVariants.{Done, Unreadab
 use Rattle.j39_words.specs.declared.orders.Order.{Order}
 use Rattle.j39_words.specs.declared.orders.Order.TheVariants.{Input, Frame, Check, Run, Read, Help}
 
--- what is written for a plan's file and the bytes of another one: why the first describes no plan, or what is written for the plan
--- that it describes and for those bytes
-abbrev pub IsAnswerOfTwo : (Plan → List ℕ → List ℕ → Verdict → Type 0) → List ℕ → Verdict → Type 0
-IsAnswerOfTwo IsTextFor text verdict =
-    ((bytes : List ℕ) × IsRefusedText bytes text × (verdict ≡ Unreadable))
-    ⊎ ((bytes : List ℕ) × (plan : Plan) × (other : List ℕ) × Describes bytes plan × IsTextFor plan other text verdict)
+-- what is known of the bytes of each name
+abbrev pub Names : Type 0
+Names = List ℕ → Option (List ℕ)
 
--- a bus has a chooser for each unit of its plan
-abbrev pub IsPlannedRun : Plan → List ℕ → List ℕ → Verdict → Type 0
-IsPlannedRun plan schedule text verdict = IsRunText plan (length plan.units.items) schedule text verdict
+-- what is written for the files of two names, the first a plan's: why it describes no plan, or what is written for the plan that it
+-- describes and for the other file
+abbrev pub IsAnswerOfTwo : (Plan → Option (List ℕ) → List ℕ → Verdict → Type 0) → Option (List ℕ) → Option (List ℕ) → List ℕ → Verdict → Type 0
+IsAnswerOfTwo IsTextFor first second text verdict =
+    ((bytes : List ℕ) × AreOf first bytes × IsRefusedText bytes text × (verdict ≡ Unreadable))
+    ⊎ ((bytes : List ℕ) × (plan : Plan) × AreOf first bytes × Describes bytes plan × IsTextFor plan second text verdict)
 
--- what is written for an order, with the verdict: for the input, the text of some line; for files, that of some bytes
-abbrev pub IsAnswer : Order → List ℕ → Verdict → Type 0
-IsAnswer Input text verdict = (line : List ℕ) × IsFrameText line text verdict
-IsAnswer (Frame line) text verdict = IsFrameText (string_bytes line) text verdict
-IsAnswer (Check plan) text verdict = (bytes : List ℕ) × IsCheckText bytes text verdict
-IsAnswer (Run plan schedule) text verdict = IsAnswerOfTwo IsPlannedRun text verdict
-IsAnswer (Read plan log) text verdict = IsAnswerOfTwo IsReadText text verdict
-IsAnswer (Help shown) text verdict = (text ≡ string_bytes shown) × (verdict ≡ Done)
+-- for a schedule; a bus has a chooser for each unit of its plan
+abbrev pub IsRunOf : Plan → Option (List ℕ) → List ℕ → Verdict → Type 0
+IsRunOf plan known text verdict =
+    (schedule : List ℕ) × AreOf known schedule × IsRunText plan (length plan.units.items) schedule text verdict
+
+-- for a log, of which nothing is read where the plan is refused
+abbrev pub IsReadOf : Plan → Option (List ℕ) → List ℕ → Verdict → Type 0
+IsReadOf plan known text verdict = (log : List ℕ) × (verdict ≡ Done → AreOf known log) × IsReadText plan log text verdict
+
+-- what is written for an order, with the verdict, where files have these names and the input is this
+abbrev pub IsAnswer : Names → Option (List ℕ) → Order → List ℕ → Verdict → Type 0
+IsAnswer files input Input text verdict =
+    (bytes : List ℕ) × AreOf input bytes × IsFrameText (before_first is_line_feed bytes) text verdict
+IsAnswer files input (Frame line) text verdict = IsFrameText (string_bytes line) text verdict
+IsAnswer files input (Check plan) text verdict = (bytes : List ℕ) × AreOf (files (string_bytes plan)) bytes × IsCheckText bytes text verdict
+IsAnswer files input (Run plan schedule) text verdict =
+    IsAnswerOfTwo IsRunOf (files (string_bytes plan)) (files (string_bytes schedule)) text verdict
+IsAnswer files input (Read plan log) text verdict =
+    IsAnswerOfTwo IsReadOf (files (string_bytes plan)) (files (string_bytes log)) text verdict
+IsAnswer files input (Help shown) text verdict = (text ≡ string_bytes shown) × (verdict ≡ Done)

@@ -1,10 +1,14 @@
 //! The commands of the plan checker, over any source and sink of bytes, and the program.
 #![tactic(auto)]
 
+mod answering;
 mod exit_status;
+mod folder;
 mod program;
 
+pub use answering::answer;
 pub use exit_status::status;
+pub use folder::{Folder, SystemFiles};
 pub use j39_check::{check_text, plan_text};
 pub use j39_log::read_text;
 pub use j39_run::{refused_lines_end_the_text, run_planned, run_text};
