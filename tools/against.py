@@ -181,10 +181,10 @@ class Comparison:
         """Transfers that have ended."""
         for transfer in transfers:
             source, (who, to) = transfer.pair[0], transfer.way
+            group = self.group_of(transfer.pgn, transfer.size, transfer.way)
             if transfer.is_whole:
                 self.message(transfer.line, Message(transfer.pgn, transfer.size, source, transfer.way, None))
-            else:
-                group = self.group_of(transfer.pgn, transfer.size, transfer.way)
+            elif group or transfer.pgn not in UNPLANNED:
                 what = group.label if group else f"PGN {transfer.pgn}"
                 self.tell(transfer.line, f"{what} from {who or source} to {to}: announced, and not carried whole")
 

@@ -7,7 +7,7 @@ from typing import BinaryIO, NamedTuple
 WORD = re.compile(rb"[^ \t\r\n]+")
 FRAME = re.compile(rb"([01][0-9A-Fa-f]{7})#((?:[0-9A-Fa-f]{2}){0,8})")
 SHORT_FRAME = re.compile(rb"[0-9A-Fa-f]{3}#.*")
-TIME = re.compile(rb"\([0-9.]{1,30}\)")
+TIME = re.compile(rb"\([0-9.]+\)|[0-9]+[.:][0-9.:]+")
 DIRECTIONS = (b"R", b"T")
 
 # The most bytes that a line may have, its line feed apart.

@@ -200,6 +200,11 @@ class Against(InFolder):
         said = "L:1: PGN 65259 from ENGINE to all: announced, and not carried whole"
         self.assertEqual(self.deviations(*frames[:2]), [said])
 
+    def test_a_message_of_a_proprietary_group_that_is_not_planned(self):
+        frames = [frame.replace("ECFE00", "00EF00") for frame in VI]
+        self.assertEqual(self.deviations(*frames), [])
+        self.assertEqual(self.deviations(*frames[:2]), [])
+
     def test_a_message_while_its_sender_changes(self):
         """DISPLAY loses 128 to a NAME that isn't planned, in the middle of its message."""
         frames = [frame.replace("FF00#", "FF80#") for frame in VI]
@@ -303,6 +308,12 @@ class Against(InFolder):
         log = self.write("drive.log", "".join(a + b for a, b in zip(mine, other)) + mine[-1])
         said = "against: only frames of can0 are compared; 5 of other interfaces are passed over\n"
         self.assertEqual(run("against.py", plan, log), (0, "deviations 0\n", said))
+
+    def test_times_are_no_interfaces(self):
+        plan = self.write("plan.toml", PLAN)
+        for form in ("({}.25) {}", "{}.25 {}", "12:00:{}.5 {}", "can0 {1}", "{1}"):
+            log = self.write("drive.log", "".join(form.format(second, frame) + "\n" for second, frame in enumerate(FLOWS)))
+            self.assertEqual(run("against.py", plan, log), (0, "deviations 0\n", ""), form)
 
     def test_words_behind_the_data(self):
         plan = self.write("plan.toml", PLAN)

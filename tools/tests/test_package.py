@@ -7,6 +7,7 @@ import re
 import shutil
 import subprocess
 import tarfile
+import tempfile
 import unittest
 
 import program
@@ -26,27 +27,36 @@ def lines_of(*words, **more):
     return subprocess.run(words, check=True, capture_output=True, text=True, **more).stdout.splitlines()
 
 
-class Built(InFolder):
+def built(folder, umask=0o022):
+    """Builds the packages into a folder, and answers their names."""
+    before = os.umask(umask)
+    try:
+        environment = {**os.environ, "J39PLAN": os.path.realpath(program.path()), "SOURCE_DATE_EPOCH": "1700000000",
+                       "MAINTAINER": MAINTAINER}
+        return lines_of(os.path.join(PACKAGE, "build"), folder, env=environment)
+    finally:
+        os.umask(before)
 
-    def build(self, name, umask=0o022):
-        """Builds the packages into a folder, and answers their names."""
-        before = os.umask(umask)
-        try:
-            environment = {**os.environ, "J39PLAN": os.path.realpath(program.path()), "SOURCE_DATE_EPOCH": "1700000000",
-                           "MAINTAINER": MAINTAINER}
-            return lines_of(os.path.join(PACKAGE, "build"), self.path(name), env=environment)
-        finally:
-            os.umask(before)
+
+class Built(InFolder):
+    @classmethod
+    def setUpClass(cls):
+        cls.dist = cls.enterClassContext(tempfile.TemporaryDirectory())
+        cls.packages = built(cls.dist)
+
+    def package(self, ending):
+        """The package of this ending."""
+        return next(name for name in self.packages if name.endswith(ending))
 
     def test_two_builds_give_the_same_bytes(self):
-        first, second = self.build("one"), self.build("two", umask=0o077)
+        first, second = self.packages, built(self.path("two"), umask=0o077)
         self.assertEqual(list(map(os.path.basename, first)), list(map(os.path.basename, second)))
         for one, two in zip(first, second):
             with open(one, "rb") as left, open(two, "rb") as right:
                 self.assertEqual(left.read(), right.read(), one)
 
     def test_what_is_installed_works(self):
-        for package in self.build("dist"):
+        for package in self.packages:
             root = self.path("root" + package[-3:])
             os.mkdir(root)
             if package.endswith(".deb"):
@@ -93,8 +103,7 @@ class Built(InFolder):
 
     @unittest.skipUnless(shutil.which("dpkg-deb"), "dpkg-deb isn't there")
     def test_the_package_names_what_it_needs(self):
-        deb = next(name for name in self.build("dist") if name.endswith(".deb"))
-        fields = dict(line.split(": ", 1) for line in lines_of("dpkg-deb", "-f", deb) if re.match(r"\S+: ", line))
+        fields = dict(line.split(": ", 1) for line in lines_of("dpkg-deb", "-f", self.package(".deb")) if re.match(r"\S+: ", line))
         self.assertEqual(fields["Version"], lines_of(program.path(), "--version")[0].split()[1])
         self.assertTrue(fields["Depends"].startswith("libc6"), fields)
         self.assertEqual(fields["Maintainer"], MAINTAINER)
@@ -102,8 +111,8 @@ class Built(InFolder):
     @unittest.skipUnless(shutil.which("dpkg-deb"), "dpkg-deb isn't there")
     def test_the_package_has_a_changelog(self):
         """That of the repository, as Debian has it; its first version is that of the program."""
-        deb, root = next(name for name in self.build("dist") if name.endswith(".deb")), self.path("root")
-        subprocess.run(["dpkg-deb", "-x", deb, root], check=True)
+        root = self.path("root")
+        subprocess.run(["dpkg-deb", "-x", self.package(".deb"), root], check=True)
         with gzip.open(f"{root}/usr/share/doc/j39plan/changelog.gz", "rt", encoding="utf-8") as file:
             head, _, *items = file.read().splitlines()
         version = lines_of(program.path(), "--version")[0].split()[1]
@@ -114,15 +123,13 @@ class Built(InFolder):
 
     @unittest.skipUnless(shutil.which("strip"), "strip isn't there: apt-get install binutils")
     def test_the_program_has_no_symbols(self):
-        tarball = next(name for name in self.build("dist") if name.endswith(".tar.gz"))
-        with tarfile.open(tarball) as files:
+        with tarfile.open(self.package(".tar.gz")) as files:
             member = next(name for name in files.getnames() if name.endswith("/bin/j39plan"))
             self.assertNotIn(b".symtab", files.extractfile(member).read())
 
     @unittest.skipUnless(shutil.which("lintian"), "lintian isn't there: apt-get install lintian")
     def test_lintian_misses_the_licence_alone(self):
-        deb = next(name for name in self.build("dist") if name.endswith(".deb"))
-        said = subprocess.run(["lintian", "--allow-root", deb], capture_output=True, text=True, check=False).stdout
+        said = subprocess.run(["lintian", "--allow-root", self.package(".deb")], capture_output=True, text=True, check=False).stdout
         self.assertEqual([line for line in said.splitlines() if line[:2] in ("E:", "W:")], ["E: j39plan: no-copyright-file"])
 
 
@@ -151,12 +158,7 @@ class Completions(InFolder):
         """What bash offers behind these words."""
         script = (f'source {PACKAGE}/completions/j39plan.bash; COMP_WORDS=("$@"); COMP_CWORD=$(($# - 1)); '
                   '$(complete -p "$1" | grep -o "_j39plan[a-z_]*"); ')
-        for tool in INSTALLED:
-            name = self.path(f"j39plan-{tool}")
-            if not os.path.exists(name):
-                os.symlink(os.path.join(TOOLS, tool if tool == "check-plans" else f"{tool}.py"), name)
-        path = {**os.environ, "PATH": f"{self.folder}:{os.environ['PATH']}"}
-        return lines_of("bash", "-c", script + 'printf "%s\\n" "${COMPREPLY[@]}"', "bash", *words, cwd=cwd, env=path)
+        return lines_of("bash", "-c", script + 'printf "%s\\n" "${COMPREPLY[@]}"', "bash", *words, cwd=cwd, env=self.environment())
 
     def test_bash(self):
         self.assertEqual(self.complete_bash("j39plan", ""), COMMANDS + ["--help", "--version"])
@@ -201,23 +203,37 @@ class Completions(InFolder):
 
     @unittest.skipUnless(shutil.which("zsh"), "zsh isn't there: apt-get install zsh")
     def test_zsh(self):
-        """Zsh offers completions only on a terminal, so it has one here."""
-        script = (
-            "zmodload zsh/zpty; zpty shell zsh -f -i; "
-            f"zpty -w shell 'fpath=({PACKAGE}/completions $fpath); autoload -Uz compinit; compinit -u -D; PS1=; cd {TOOLS}'; "
-            "zpty -w -n shell $'j39plan r\\t\\t'; sleep 2; zpty -w -n shell $'\\C-u'; zpty -w shell exit; sleep 0.5; "
-            "while zpty -r shell line; do print -r -- $line; done"
-        )
-        offered = "\n".join(lines_of("zsh", "-f", "-c", script, env={**os.environ, "TERM": "dumb"}))
+        offered = self.complete_zsh("j39plan r")
         self.assertIn("run a schedule on a simulated bus of a plan", offered)
         self.assertIn("decode a log by the groups of a plan", offered)
         self.assertNotIn("show what is wrong", offered)
 
     @unittest.skipUnless(shutil.which("zsh"), "zsh isn't there: apt-get install zsh")
     def test_zsh_of_tools(self):
-        """The file is that of each tool's completions too, and its options are those of its help."""
+        """The file is that of each tool, whose options are those of its help."""
         with open(os.path.join(PACKAGE, "completions", "_j39plan"), encoding="utf-8") as file:
             self.assertEqual(file.readline().split(), ["#compdef", "j39plan", *(f"j39plan-{tool}" for tool in INSTALLED)])
+        offered = self.complete_zsh("j39plan-where --")
+        for option in ("--github", "--help", "--version"):
+            self.assertRegex(offered, rf"{option} +-- ")
+
+    def complete_zsh(self, typed):
+        """What zsh offers behind what was typed: only on a terminal, so it has one here."""
+        script = (
+            "zmodload zsh/zpty; zpty shell zsh -f -i; "
+            f"zpty -w shell 'fpath=({PACKAGE}/completions $fpath); autoload -Uz compinit; compinit -u -D; PS1=; cd {TOOLS}'; "
+            f"zpty -w -n shell $'{typed}\\t\\t'; sleep 4; zpty -w -n shell $'\\C-u'; zpty -w shell exit; sleep 0.5; "
+            "while zpty -r shell line; do print -r -- $line; done"
+        )
+        return "\n".join(lines_of("zsh", "-f", "-c", script, env={**self.environment(), "TERM": "dumb"}))
+
+    def environment(self):
+        """An environment in which the tools are commands."""
+        for tool in INSTALLED:
+            name = self.path(f"j39plan-{tool}")
+            if not os.path.exists(name):
+                os.symlink(os.path.join(TOOLS, tool if tool == "check-plans" else f"{tool}.py"), name)
+        return {**os.environ, "PATH": f"{self.folder}:{os.environ['PATH']}"}
 
 
 if __name__ == "__main__":
