@@ -77,6 +77,37 @@ class Logs(ShownLines):
             self.assertEqual(self.read(self.path("drive.log")), self.reports(), ending)
 
 
+class NotShown(InFolder):
+    """What docs/GUIDE.md says that `read` doesn't show."""
+
+    GROUP = 'version = 1\n[[group]]\nlabel = "G"\npgn = {}\npriority = 6\nlength = {}\n'
+    SIGNAL = '[[group.signal]]\nlabel = "S"\nbyte = 1\nbits = 8\nkind = "raw"\n'
+
+    def read(self, plan, *frames):
+        """What `read` says of a log of these frames."""
+        log = self.write("drive.log", "".join(f"{frame}\n" for frame in frames))
+        return program.call(["read", self.write("plan.toml", plan), log])[1]
+
+    def test_an_abort_of_either_direction_ends_a_message(self):
+        """From 1 to 2 goes a message of 9 bytes. An Abort of its group that 2 sends, or 1, hides it; of another group it doesn't."""
+        self.assertIn("- **A message to one unit during which an Abort of its group went either way between the two.**", GUIDE)
+        plan, packets = self.GROUP.format(65260, 9), ["1CEC0201#10090002FFECFE00", "1CEB0201#0100112233445566", "1CEB0201#027788FFFFFFFFFF"]
+        report = "group G from 1 to 2 bytes 001122334455667788\n"
+        for abort, shown in (("1CEC0102#FF01FFFFFFECFE00", ""), ("1CEC0201#FF01FFFFFFECFE00", ""), ("1CEC0102#FF01FFFFFFEBFE00", report)):
+            answer = self.read(plan, *packets[:2], abort, packets[2])
+            self.assertEqual(answer, shown + "frames 4 skipped 0 bad 0\n")
+
+    def test_proprietary_frames_have_the_planned_layout_whoever_sent_them(self):
+        self.assertIn("Its frames are decoded by the one layout that is planned, whoever sent them", GUIDE)
+        answer = self.read(self.GROUP.format(65300, 1) + self.SIGNAL, "18FF1400#0A", "18FF140B#0B")
+        shown = "group G from 0 to all bytes 0A\n  S value 10\ngroup G from 11 to all bytes 0B\n  S value 11\n"
+        self.assertEqual(answer, shown + "frames 2 skipped 0 bad 0\n")
+
+    def test_a_group_has_the_length_that_is_planned(self):
+        answer = self.read(self.GROUP.format(65226, 8), "18FECA00#0000000000000000", "18FECA00#00000000")
+        self.assertEqual(answer, "group G from 0 to all bytes 0000000000000000\nframes 2 skipped 0 bad 0\n")
+
+
 class Shown(ShownLines):
     """Lines of the guide that call the program where it lies, on logs of the folder."""
 
