@@ -9,7 +9,7 @@ use Rattle.j39_claim.specs.declared.item.Item.{Item}
 use Rattle.j39_queues.specs.Queued.{IsTable, pair_in}
 use Rattle.j39_bus.specs.declared.network.Network.{Network}
 use Rattle.j39_world.specs.declared.step_error.StepError.TheVariants.{NoSuchFlow, NotStarted, NotSettled, NoAddress, Busy, WrongLength}
-use Rattle.j39_bus.specs.BusState.{Histories}
+use Rattle.j39_bus.specs.BusState.{Histories, nowhere}
 use Rattle.j39_world.specs.Flows.{flows_of, can_be_sent}
 use Rattle.j39_world.specs.declared.flow.Flow.{Flow}
 use Rattle.j39_findings.specs.declared.plan.Plan.{Plan}
@@ -20,21 +20,7 @@ use Rattle.j39_bus.specs.inside.Traffic.{IsFlow}
 use Rattle.j39_world.specs.World.{World}
 use Rattle.j39_bus.proofs.Opened.{got}
 use Rattle.j39_bus.proofs.Outside.{each_list}
-use Rattle.j39_bus.proofs.Refused.{nowhere}
 use Rattle.j39_bus.proofs.Rested.{all_below}
-
-not_not : (b : Bool) → b ≡ not (not b)
-not_not true = refl
-not_not false = refl
-
-pub refusal_by : (n : ℕ) (w : World) (flow : Flow) (bytes : List ℕ) (x y a b c d : Bool) → can_be_sent flow ≡ x
-    → at_ends (is_on w.stations) flow.sender flow.to ≡ y → is_nothing_undelivered n w.claims ≡ a
-    → at_ends (has_address w.stations) flow.sender flow.to ≡ b → not (is_some (w.sessions flow.sender)) ≡ c → (length bytes == flow.length) ≡ d
-    → begin_refusal n w (Some flow) bytes
-    ≡ first_fault ((NoSuchFlow, not x) ∷ (NotStarted, not y) ∷ (NotSettled, not a) ∷ (NoAddress, not b) ∷ (Busy, not c) ∷ (WrongLength, not d) ∷ [])
-refusal_by n w flow bytes x y a b c d sendable started a_is b_is c_is d_is = λ i. first_fault (
-    (NoSuchFlow, not (sendable i)) ∷ (NotStarted, not (started i)) ∷ (NotSettled, not (a_is i)) ∷ (NoAddress, not (b_is i))
-    ∷ (Busy, (not_not (is_some (w.sessions flow.sender)) ∙ ap not c_is) i) ∷ (WrongLength, not (d_is i)) ∷ [])
 
 -- a message is begun by a flow alone
 pub flow_inside : (n : ℕ) (w : World) (flows : List Flow) (f : ℕ) (bytes : List ℕ) → begin_refusal n w (slice_get flows f) bytes ≡ None → f < length flows

@@ -1,6 +1,5 @@
 -- The oldest item between two units is taken away.
-use Rattle.std.proofs.Common.{nat_lt, ◌≡◌, ℕ, true, List, [], ◌∷◌, refl, length, drop, sym, subst}
-use Rattle.std.proofs.lemmas.Bool.{true≢false}
+use Rattle.std.proofs.Common.{◌≡◌, ◌<◌, ℕ, arith, List, [], ◌∷◌, refl, length, drop, sym, subst}
 use Rattle.j39_bus.specs.declared.network.Network.{Network}
 use Rattle.j39_world.specs.declared.wired.Wired.{Wired}
 use Rattle.j39_queues.specs.Queued.{Queued, pair_in}
@@ -9,11 +8,11 @@ use Rattle.j39_bus.specs.inside.Network.{world_in}
 use Rattle.j39_world.specs.TransferSteps.{LostFrom}
 use Rattle.j39_world.specs.World.{changed_pair}
 
-first_of : (list : List Wired) → nat_lt 0 (length list) ≡ true → (x : Wired) × (list ≡ x ∷ drop 1 list)
-first_of [] none = absurd (true≢false (sym none))
+first_of : (list : List Wired) → 0 < length list → (x : Wired) × (list ≡ x ∷ drop 1 list)
+first_of [] none = absurd (omega (arith, none))
 first_of (x ∷ list) some = (x, refl)
 
-pub lost_from : (old : Network) (u v : ℕ) (h : Histories) → nat_lt 0 (length (pair_in old.wire.lists u v)) ≡ true
+pub lost_from : (old : Network) (u v : ℕ) (h : Histories) → 0 < length (pair_in old.wire.lists u v)
     → (wire : Queued Wired) → pair_in wire.lists ≡ changed_pair (pair_in old.wire.lists) u v (drop 1 (pair_in old.wire.lists u v))
     → LostFrom (world_in h old) u v (pair_in old.wire.lists u v) (record (world_in h old) { wire = pair_in wire.lists })
 lost_from old u v h some wire wire_is =

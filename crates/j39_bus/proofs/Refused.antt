@@ -26,10 +26,6 @@ pub length-planned_units : (cs : List ClaimerValue) → length (planned_units cs
 length-planned_units [] = refl
 length-planned_units (c ∷ cs) = omega (arith, length-planned_units cs)
 
--- the unit at a place
-pub station_is : (cs : List ClaimerValue) (u : ℕ) (c : ClaimerValue) → u < length cs → c ≡ get_or cs u c → (station_at cs u).on ≡ c.state.on
-station_is cs u c inside at = ap (λ (x : ClaimerValue). x.state.on) (sym (at ∙ any_default cs u c absent_unit inside))
-
 -- ---- the refusals of a step in turn
 
 -- the first of some is the first of all that begin with them
@@ -92,9 +88,6 @@ pub refusal_is : (plan : Plan) (net : Network) → IsOfPlan plan net → (w : Wo
 refusal_is plan net of w step = λ i. refusal_among (units_count plan net of i) (sym of.flows i) w step
 
 -- ---- what holds of a step that is not refused
-
-abbrev pub nowhere : Histories
-nowhere = record { taken = λ v u. []; begun = λ u v. [] }
 
 -- the first refusal of a table does not hold
 met : (t : Bool) (e : StepError) (more : Option StepError) → (if t then Some e else more) ≡ None → t ≡ false

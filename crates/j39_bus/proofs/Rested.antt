@@ -6,26 +6,14 @@ use Rattle.std.proofs.lemmas.List.{length-map}
 use Rattle.j39_claim.specs.ClaimerValue.{ClaimerValue}
 use Rattle.j39_findings.specs.declared.plan.Plan.{Plan}
 use Rattle.j39_world.specs.PlannedUnits.{planned_unit}
-use Rattle.j39_world.specs.Run.{count_of, is_no_transfer_open}
+use Rattle.j39_world.specs.Run.{count_of, is_a_transfer_open}
 use Rattle.std.specs.List.{list_all, list_any, range_with_len}
 use Rattle.j39_tp.specs.Receiver.{is_open_at}
 use Rattle.j39_bus.specs.declared.network.Network.{Network}
-use Rattle.j39_bus.specs.BusState.{Histories, holding_at, session_at}
+use Rattle.j39_bus.specs.BusState.{nowhere, session_at}
 use Rattle.j39_queues.specs.Queued.{pair_in}
 use Rattle.j39_bus.specs.inside.Network.{IsOfPlan, world_in}
 use Rattle.j39_world.specs.Resting.{is_of_sender, is_of_receiver, is_over_with}
-
-none_of : {X : Type 0} (test : X → Bool) (xs : List X) → list_all (λ x. not (test x)) xs ≡ not (list_any test xs)
-none_of test [] = refl
-none_of test (x ∷ xs) = elim (test x) as (λ b. (not b && list_all (λ x. not (test x)) xs) ≡ not (b || list_any test xs))
-    [ true ↦ refl | false ↦ none_of test xs ]
-
-pub over_from : (h : Histories) (net : Network) (u v : ℕ) (a b d : Bool) → is_open_at (holding_at net.receivers.holdings v u).progress ≡ a
-    → list_any is_of_sender (pair_in net.wire.lists u v) ≡ b → list_any is_of_receiver (pair_in net.wire.lists v u) ≡ d
-    → is_over_with (world_in h net) u v ≡ (not a && (not b && not d))
-over_from h net u v a b d open_is sends answers = λ i.
-    not (open_is i)
-    && ((none_of is_of_sender (pair_in net.wire.lists u v) ∙ ap not sends) i && (none_of is_of_receiver (pair_in net.wire.lists v u) ∙ ap not answers) i)
 
 all_from : (test : ℕ → Bool) (a n : ℕ) → ((k : ℕ) → a ≤ k → k < a + n → test k ≡ true) → list_all test (range_with_len a n) ≡ true
 all_from test a zero is = refl
@@ -59,9 +47,14 @@ pub units_count : (plan : Plan) (net : Network) → IsOfPlan plan net → count_
 units_count plan net of = sym (length-map plan.units.items (planned_unit plan.keep_free)) ∙ sym (ap length of.units)
     ∙ length-map net.claimers.items (λ (c : ClaimerValue). c.planned)
 
-pub idle_by : (net : Network) (h : Histories) → length net.sessions.items ≡ length net.claimers.items
-    → is_no_transfer_open (length net.claimers.items) (world_in h net) ≡ not (list_any (λ s. is_some s) net.sessions.items)
-idle_by net h count =
-    ap (λ n. is_no_transfer_open n (world_in h net)) (sym count)
-    ∙ all_idle 0 net.sessions.items (λ u. not (is_some (session_at net.sessions.items u)))
-    (λ j inside. ap (λ k. not (is_some (session_at net.sessions.items k))) (omega arith))
+not_not : (b : Bool) → not (not b) ≡ b
+not_not true = refl
+not_not false = refl
+
+pub open_by : (net : Network) → length net.sessions.items ≡ length net.claimers.items
+    → is_a_transfer_open (length net.claimers.items) (world_in nowhere net) ≡ list_any (λ s. is_some s) net.sessions.items
+open_by net count =
+    ap (λ n. is_a_transfer_open n (world_in nowhere net)) (sym count)
+    ∙ ap not (all_idle 0 net.sessions.items (λ u. not (is_some (session_at net.sessions.items u)))
+    (λ j inside. ap (λ k. not (is_some (session_at net.sessions.items k))) (omega arith)))
+    ∙ not_not (list_any (λ s. is_some s) net.sessions.items)

@@ -6,10 +6,10 @@ use Rattle.j39_findings.specs.declared.steps.Step.{Step}
 use Rattle.j39_world.specs.declared.step_error.StepError.{StepError}
 use Rattle.j39_world.specs.World.{World}
 use Rattle.j39_world.specs.Run.{cause_of, refusal, refusal_among, StepsTo, RunsThrough}
-use Rattle.j39_bus.specs.BusState.{BusState, Histories, histories_of}
+use Rattle.j39_bus.specs.BusState.{BusState, Histories, histories_of, nowhere}
 use Rattle.j39_bus.specs.Stands.{Stands}
 use Rattle.j39_bus.specs.inside.Network.{state_of, world_in, HasHeld, IsOfPlan, IsAllowed, IsRefusal, KeepsPlan, Steps, refusal_in}
-use Rattle.j39_bus.proofs.Refused.{IsOwnCause, nowhere, own_cause, refusal_is}
+use Rattle.j39_bus.proofs.Refused.{IsOwnCause, own_cause, refusal_is}
 use Rattle.j39_bus.proofs.Steady.{plan_kept}
 
 -- a bus stands for each world of its network whose receivers hold what was taken
@@ -30,7 +30,7 @@ module _ (old : Network) (b : BusState) (is_state : state_of old ≡ b) (step : 
   step_done new keeps allowed done plan w s =
       let s' : Stands (state_of old) plan w = here plan w s in
       let (after, steps, held) = done.of_plan plan s'.planned (histories_of w) s'.held in (
-        refused_by plan w s' ∙ allowed.is (histories_of w),
+        refused_by plan w s' ∙ allowed.refusal.is (histories_of w),
         (
           world_in after new,
           subst (λ (v : World). StepsTo plan v step (world_in after new)) (sym s'.world) steps,

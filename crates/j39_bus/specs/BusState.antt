@@ -60,6 +60,10 @@ pub record Histories : Type 0 where
   pub taken : ℕ → ℕ → List Packet
   pub begun : ℕ → ℕ → List Begun
 
+-- none of either
+abbrev pub nowhere : Histories
+nowhere = record { taken = λ v u. []; begun = λ u v. [] }
+
 abbrev pub histories_of : World → Histories
 histories_of w = record { taken = w.taken; begun = w.begun }
 

@@ -1,13 +1,14 @@
 //! Why steps are refused.
-ghost use Rattle.std.specs.Prelude.{◌≡◌, Some, length};
+ghost use Rattle.std.specs.Prelude.{◌≡◌, ◌==◌, Some, length};
 ghost use Rattle.j39_findings.specs.declared.steps.Step.TheVariants.{Up, Give, Ask, Emit, Take, LateSender, LateReceiver, Rest};
 ghost use Rattle.j39_world.specs.Flows.{can_be_sent};
 ghost use Rattle.j39_bus.specs.Stations.{station_at};
-ghost use Rattle.j39_bus.specs.BusState.{Histories};
+ghost use Rattle.j39_bus.specs.BusState.{Histories, nowhere};
 ghost use Rattle.j39_bus.specs.inside.Network.{IsNetwork, IsRefusal, world_in};
 ghost use Rattle.j39_id.specs.FirstFault.{first_fault};
-ghost use Rattle.j39_world.specs.Run.{at_ends, begin_refusal, has_address, is_on, pair_refusals, unit_refusals};
+ghost use Rattle.j39_world.specs.Run.{at_ends, begin_refusal, has_address, is_a_transfer_open, is_nothing_undelivered, is_on, pair_refusals, unit_refusals};
 ghost use Rattle.j39_bus.specs.inside.Traffic.{IsFlow};
+ghost use Rattle.j39_queues.specs.Queued.{pair_in};
 
 use crate::network::Network;
 use crate::{StepError, sessions};
@@ -24,6 +25,13 @@ fn can_be_sent(flow: &Flow) -> bool
         To::One(unit) => unit != flow.sender
             && (flow.pgn.is_pdu1() || usize::from(flow.length) > FRAME_BYTES),
     }
+}
+
+// Whether so many bytes are sent by a flow.
+fn fits(flow: &Flow, bytes: &[u8]) -> bool
+    ensures { result ≡ (length bytes.now == flow.now.length) }
+{
+    bytes.len() == usize::from(flow.length)
 }
 
 impl Network {
@@ -88,7 +96,7 @@ impl Network {
         if self.claimers[unit].is_started() {
             return Some(StepError::AlreadyStarted);
         }
-        if sessions::is_any_open(self.sessions.as_slice()) {
+        if self.is_transfer_open() {
             return Some(StepError::TransferOpen);
         }
         None
@@ -119,7 +127,7 @@ impl Network {
         if let Some(error) = self.refusal_of_unit(unit) {
             return Some(error);
         }
-        if sessions::is_any_open(self.sessions.as_slice()) {
+        if self.is_transfer_open() {
             return Some(StepError::TransferOpen);
         }
         None
@@ -137,16 +145,16 @@ impl Network {
         if !self.are_started(flow) {
             return Some(StepError::NotStarted);
         }
-        if !self.claims.is_empty() {
+        if !self.is_nothing_undelivered() {
             return Some(StepError::NotSettled);
         }
         if !self.have_addresses(flow) {
             return Some(StepError::NoAddress);
         }
-        if self.sessions[flow.sender].is_some() {
+        if sessions::is_open(self.sessions.as_slice(), flow.sender) {
             return Some(StepError::Busy);
         }
-        if bytes.len() != usize::from(flow.length) {
+        if !fits(flow, bytes) {
             return Some(StepError::WrongLength);
         }
         None
@@ -216,6 +224,22 @@ impl Network {
             return Some(StepError::CannotRest);
         }
         None
+    }
+
+    // Whether some unit is between its Begin and its Rest.
+    fn is_transfer_open(&self) -> bool
+        requires { IsNetwork self.now }
+        ensures { result ≡ is_a_transfer_open (length self.now.claimers.items) (world_in nowhere self.now) }
+    {
+        sessions::is_any_open(self.sessions.as_slice())
+    }
+
+    // Whether no claim and no request is undelivered.
+    fn is_nothing_undelivered(&self) -> bool
+        requires { IsNetwork self.now }
+        ensures { result ≡ is_nothing_undelivered (length self.now.claimers.items) (pair_in self.now.claims.lists) }
+    {
+        self.claims.is_empty()
     }
 
     /// Whether the sender of a flow is on, and its one receiver.

@@ -21,6 +21,14 @@ pub(crate) fn is_any_open(sessions: &[Option<Session>]) -> bool
     sessions.iter().any(|session| session.is_some())
 }
 
+/// Whether a unit sends a message.
+pub(crate) fn is_open(sessions: &[Option<Session>], unit: usize) -> bool
+    requires { unit < length sessions.now }
+    ensures { result ≡ is_some (session_at sessions.now unit) }
+{
+    sessions[unit].is_some()
+}
+
 /// How the message of a unit ended, if it has one that did.
 pub(crate) fn outcome(sessions: &[Option<Session>], unit: usize) -> Option<Outcome>
     requires { unit < length sessions.now }

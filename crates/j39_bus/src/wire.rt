@@ -1,6 +1,6 @@
 //! What is on the wire between units: what one sent of a message and another has not taken yet.
-ghost use Rattle.std.specs.Prelude.{◌≡◌, ◌<◌, [], ◌∷◌, drop, length, IfNone, IfSome, OnOk};
-ghost use Rattle.std.specs.List.{list_any};
+ghost use Rattle.std.specs.Prelude.{◌≡◌, ◌<◌, [], ◌∷◌, drop, not, length, IfNone, IfSome, OnOk};
+ghost use Rattle.std.specs.List.{list_all};
 ghost use Rattle.j39_queues.specs.Queued.{IsTable, pair_in};
 ghost use Rattle.j39_world.specs.Resting.{is_of_sender, is_of_receiver};
 ghost use Rattle.j39_bus.specs.inside.Traffic.{AreUnits, HasRoomTo};
@@ -76,16 +76,16 @@ fn is_of_receiver(item: &Wired) -> bool
     )
 }
 
-/// Whether there is something that a sender sends its receivers.
-pub(crate) fn any_of_sender(queue: &VecDeque<Wired>) -> bool
-    ensures { result ≡ list_any is_of_sender queue.now.items }
+/// Whether there is nothing that a sender sends its receivers.
+pub(crate) fn none_of_sender(queue: &VecDeque<Wired>) -> bool
+    ensures { result ≡ list_all (λ item. not (is_of_sender item)) queue.now.items }
 {
-    queue.iter().any(is_of_sender)
+    queue.iter().all(|item| !is_of_sender(item))
 }
 
-/// Whether there is something that a receiver answers.
-pub(crate) fn any_of_receiver(queue: &VecDeque<Wired>) -> bool
-    ensures { result ≡ list_any is_of_receiver queue.now.items }
+/// Whether there is nothing that a receiver answers.
+pub(crate) fn none_of_receiver(queue: &VecDeque<Wired>) -> bool
+    ensures { result ≡ list_all (λ item. not (is_of_receiver item)) queue.now.items }
 {
-    queue.iter().any(is_of_receiver)
+    queue.iter().all(|item| !is_of_receiver(item))
 }

@@ -1,5 +1,5 @@
 -- What a network keeps true, and where its steps lead.
-use Rattle.std.specs.Prelude.{◌≡◌, ℕ, ◌≤◌, Bool, true, nat_eq, List, [], ◌∷◌, ◌++◌, map, length, Option, None, is_some, slice_index_or, slice_set}
+use Rattle.std.specs.Prelude.{◌≡◌, ℕ, ◌<◌, ◌≤◌, Bool, true, nat_eq, List, [], ◌∷◌, ◌++◌, map, length, Option, None, is_some, slice_index_or, slice_set}
 use Rattle.std.specs.List.{list_any}
 use Rattle.std.specs.FinMap.{get}
 use Rattle.j39_id.specs.Limits.{unit_limit}
@@ -10,6 +10,7 @@ use Rattle.j39_claim.specs.ClaimerValue.{ClaimerValue}
 use Rattle.j39_tp.specs.declared.packet.Packet.{Packet}
 use Rattle.j39_findings.specs.declared.plan.Plan.{Plan}
 use Rattle.j39_findings.specs.declared.steps.Step.{Step}
+use Rattle.j39_findings.specs.declared.steps.Step.TheVariants.{Up, Down, Give, Ask, Begin, Emit, Take, Lose, LateSender, LateReceiver, Rest}
 use Rattle.j39_bus.specs.declared.network.Network.{Network}
 use Rattle.j39_world.specs.declared.step_error.StepError.{StepError}
 use Rattle.j39_world.specs.Sent.{sent_of}
@@ -17,9 +18,9 @@ use Rattle.j39_world.specs.World.{World, changed_pair}
 use Rattle.j39_world.specs.declared.flow.Flow.{Flow}
 use Rattle.j39_world.specs.Transfers.{added}
 use Rattle.j39_world.specs.TransferSteps.{TakenFrom}
-use Rattle.j39_world.specs.Run.{StepsTo, refusal_among}
+use Rattle.j39_world.specs.Run.{StepsTo, can_emit, is_waiting, refusal_among}
 use Rattle.j39_bus.specs.Stations.{absent_unit, station_at}
-use Rattle.j39_bus.specs.BusState.{BusState, Histories, world_of}
+use Rattle.j39_bus.specs.BusState.{BusState, Histories, session_at, world_of}
 use Rattle.j39_bus.specs.Reports.{reported_of}
 use Rattle.j39_bus.specs.Stands.{HoldTaken, IsPlannedBy}
 use Rattle.j39_bus.specs.inside.Traffic.{IsTraffic}
@@ -106,9 +107,28 @@ refusal_in net h step = refusal_among (length net.claimers.items) net.flows.item
 pub record IsRefusal (net : Network) (step : Step) (cause : Option StepError) : Type 0 where
   pub is : (h : Histories) → refusal_in net h step ≡ cause
 
+-- two units of a network
+abbrev pub AreInside : Network → ℕ → ℕ → Type 0
+AreInside net u v = (u < length net.claimers.items) × (v < length net.claimers.items)
+
+-- what a step finds that is not refused: its units or its flow, and what it acts on
+abbrev pub Finds : Network → Step → Type 0
+Finds net (Up u) = u < length net.claimers.items
+Finds net (Down u) = u < length net.claimers.items
+Finds net (Give u v) = AreInside net u v × (0 < length (pair_in net.claims.lists u v))
+Finds net (Ask u) = u < length net.claimers.items
+Finds net (Begin f bytes) = f < length net.flows.items
+Finds net (Emit u) = (u < length net.claimers.items) × (can_emit (session_at net.sessions.items u) ≡ true)
+Finds net (Take u v) = AreInside net u v × (0 < length (pair_in net.wire.lists u v))
+Finds net (Lose u v) = AreInside net u v × (0 < length (pair_in net.wire.lists u v))
+Finds net (LateSender u) = (u < length net.claimers.items) × (is_waiting (session_at net.sessions.items u) ≡ true)
+Finds net (LateReceiver u v) = AreInside net u v
+Finds net (Rest u) = u < length net.claimers.items
+
 -- the step is not refused
-abbrev pub IsAllowed : Network → Step → Type 0
-IsAllowed net step = IsRefusal net step None
+pub record IsAllowed (net : Network) (step : Step) : Type 0 where
+  pub refusal : IsRefusal net step None
+  pub finds : Finds net step
 
 -- unit v of these has heard the item under the NAME, and is what it then is
 abbrev pub HasAnswered : List ClaimerValue → ℕ → ℕ → Item → Option Say → List ClaimerValue → Type 0

@@ -1,13 +1,13 @@
 //! A sender rests.
 ghost use Rattle.std.specs.Prelude.{◌≡◌, ◌<◌, length};
 ghost use Rattle.j39_findings.specs.declared.steps.Step.TheVariants.{Rest};
-ghost use Rattle.j39_bus.specs.BusState.{Histories};
+ghost use Rattle.j39_bus.specs.BusState.{nowhere};
 ghost use Rattle.j39_bus.specs.inside.Network.{IsAllowed, IsNetwork, KeepsPlan, world_in, Steps};
 ghost use Rattle.j39_world.specs.Resting.{can_rest, is_over_with};
 
 use crate::network::Network;
 use crate::sessions;
-use crate::wire::{any_of_receiver, any_of_sender};
+use crate::wire::{none_of_receiver, none_of_sender};
 
 impl Network {
     /// The message of the unit has ended, and it may begin another one.
@@ -25,7 +25,7 @@ impl Network {
     pub(crate) fn can_rest(&self, unit: usize) -> bool
         requires network { IsNetwork self.now }
         requires unit { unit < length self.now.claimers.items }
-        ensures { (h : Histories) → result ≡ can_rest (length self.now.claimers.items) (world_in h self.now) unit }
+        ensures { result ≡ can_rest (length self.now.claimers.items) (world_in nowhere self.now) unit }
     {
         if sessions::outcome(self.sessions.as_slice(), unit).is_none() {
             return false;
@@ -43,14 +43,10 @@ impl Network {
         requires network { IsNetwork self.now }
         requires unit { unit < length self.now.claimers.items }
         requires other { other < length self.now.claimers.items }
-        ensures { (h : Histories) → result ≡ is_over_with (world_in h self.now) unit other }
+        ensures { result ≡ is_over_with (world_in nowhere self.now) unit other }
     {
-        if self.receivers.is_open(unit, other) {
-            return false;
-        }
-        if any_of_sender(self.wire.between(unit, other)) {
-            return false;
-        }
-        !any_of_receiver(self.wire.between(other, unit))
+        !self.receivers.is_open(unit, other)
+            && none_of_sender(self.wire.between(unit, other))
+            && none_of_receiver(self.wire.between(other, unit))
     }
 }

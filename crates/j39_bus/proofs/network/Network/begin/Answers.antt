@@ -1,36 +1,28 @@
 use Rattle.std.proofs.Common.{◌≡◌, length, sym, ap, ◌∙◌, subst, arith}
 use Rattle.j39_findings.specs.declared.steps.Step.TheVariants.{Begin}
-use Rattle.j39_bus.specs.BusState.{Histories}
+use Rattle.j39_bus.specs.BusState.{Histories, nowhere}
 use Rattle.j39_bus.specs.Stands.{HoldTaken}
 use Rattle.j39_bus.specs.inside.Network.{has_begun, world_in}
 use Rattle.j39_world.specs.Run.{count_of}
 use Rattle.j39_bus.specs.inside.Traffic.{IsFlow}
 use Rattle.j39_world.specs.TransferSteps.{BeginsAt, begins}
 use Rattle.j39_bus.proofs.BeginRefused.{flow_inside, is_in_length, planned_flow, flow_fits}
-use Rattle.j39_bus.proofs.Refused.{nowhere}
 use Rattle.j39_bus.proofs.Rested.{units_count}
 use Rattle.j39_bus.proofs.Steady.{steps_after}
 use Rattle.j39_bus.proofs.network.Network.begin.Goals as goal
 
-pub index-requires : goal.index-requires
-index-requires c =
-    let net = c.args.self.now in
-    let inside = flow_inside (length net.claimers.items) (world_in nowhere net) net.flows.items c.args.place c.args.bytes.now.items
-    (c.requires.allowed.is nowhere) in
-    omega (arith, inside, net.flows.ok.0)
-
 pub prepare-requires-clause-flow : goal.prepare-requires-clause-flow
-prepare-requires-clause-flow c = flow_fits c.args.self.now c.requires.network c.args.place c.args.bytes.now.items c.requires.allowed.is c.index.result.now
+prepare-requires-clause-flow c = flow_fits c.args.self.now c.requires.network c.args.place c.args.bytes.now.items c.requires.allowed.refusal.is c.index.result.now
     c.index.ensures
 
 pub start-requires-clause-flow : goal.start-requires-clause-flow
 start-requires-clause-flow c =
-    let fits = flow_fits c.args.self.now c.requires.network c.args.place c.args.bytes.now.items c.requires.allowed.is c.index.result.now c.index.ensures in
+    let fits = flow_fits c.args.self.now c.requires.network c.args.place c.args.bytes.now.items c.requires.allowed.refusal.is c.index.result.now c.index.ensures in
     subst (λ cs. IsFlow (length cs) c.index.result.now) (sym c.prepare.ensures.same.claimers) fits
 
 pub start-requires-clause-bytes : goal.start-requires-clause-bytes
 start-requires-clause-bytes c =
-    let fits = is_in_length c.args.self.now c.requires.network c.args.place c.args.bytes.now.items c.requires.allowed.is c.index.result.now c.index.ensures in
+    let fits = is_in_length c.args.self.now c.requires.network c.args.place c.args.bytes.now.items c.requires.allowed.refusal.is c.index.result.now c.index.ensures in
     omega (arith, fits, ap length c.as_slice.ensures.value)
 
 pub returns-clause-steps : goal.returns-clause-steps
@@ -40,7 +32,7 @@ returns-clause-steps c = record {
       let r = c.index.result.now in
       let mid = c.prepare.new.self in
       let bytes = c.args.bytes.now in
-      let planned = planned_flow net c.requires.network c.args.place bytes.items c.requires.allowed.is r c.index.ensures plan of in
+      let planned = planned_flow net c.requires.network c.args.place bytes.items c.requires.allowed.refusal.is r c.index.ensures plan of in
       steps_after net mid c.prepare.ensures.same plan (Begin c.args.place bytes) c.start.new.self
       (λ h held.
       let after : Histories = has_begun h c.args.place r c.in_ok-targets.targets.items c.as_slice.result.now in

@@ -3,36 +3,22 @@ use Rattle.std.proofs.Math.ListN.{length-set}
 use Rattle.std.specs.Vec.{with_item}
 use Rattle.j39_claim.specs.ClaimerValue.{ClaimerValue}
 use Rattle.j39_findings.specs.declared.steps.Step.TheVariants.{Down}
+use Rattle.j39_bus.specs.BusState.{nowhere}
 use Rattle.j39_bus.specs.declared.network.Network.{Network}
 use Rattle.j39_queues.specs.Queued.{pair_in}
 use Rattle.j39_bus.specs.inside.Network.{world_in}
 use Rattle.j39_bus.specs.inside.Traffic.{IsTraffic}
 use Rattle.j39_world.specs.Sent.{sent_of}
-use Rattle.j39_bus.proofs.Refused.{nowhere, unit_inside}
+use Rattle.j39_bus.proofs.Refused.{unit_inside}
 use Rattle.j39_bus.proofs.Steady.{steps_same, wired_traffic}
 use Rattle.j39_bus.proofs.SwitchedOn.{planned_units_off, off_planned_unit, switched_off_world}
 use Rattle.j39_bus.proofs.WellFormed.{well_on}
 use Rattle.j39_bus.proofs.network.Network.down.Goals as goal
 
-pub clear_to-requires : goal.clear_to-requires
-clear_to-requires c =
-    let inside : c.args.unit < length c.args.self.now.claimers.items = unit_inside _ _ _ (c.requires.allowed.is nowhere) in
-    omega (arith, inside, c.requires.network.claims.table.rows)
-
-pub clear_to-requires-2 : goal.clear_to-requires-2
-clear_to-requires-2 c =
-    let inside : c.args.unit < length c.args.self.now.claimers.items = unit_inside _ _ _ (c.requires.allowed.is nowhere) in
-    omega (arith, inside, c.requires.network.traffic.table.rows)
-
-pub index_mut-requires : goal.index_mut-requires
-index_mut-requires c =
-    let inside : c.args.unit < length c.args.self.now.claimers.items = unit_inside _ _ _ (c.requires.allowed.is nowhere) in
-    omega (arith, inside, c.args.self.now.claimers.ok.0)
-
 pub returns-clause-network : goal.returns-clause-network
 returns-clause-network c =
     let cs : List ClaimerValue = c.args.self.now.claimers.items in
-    let inside : c.args.unit < length cs = unit_inside _ _ _ (c.requires.allowed.is nowhere) in
+    let inside : c.args.unit < length cs = c.requires.allowed.finds in
     let new : Network = record c.args.self.now {
       claimers = with_item c.args.self.now.claimers c.args.unit c.stop.new.self;
       claims = c.clear_to.new.self;
@@ -49,7 +35,7 @@ returns-clause-network c =
 
 pub returns-clause-plan : goal.returns-clause-plan
 returns-clause-plan c =
-    let inside : c.args.unit < length c.args.self.now.claimers.items = unit_inside _ _ _ (c.requires.allowed.is nowhere) in
+    let inside : c.args.unit < length c.args.self.now.claimers.items = c.requires.allowed.finds in
     record {
       planned_units = planned_units_off c.args.self.now.claimers.items c.args.unit inside c.index_mut.result.now c.stop.new.self c.index_mut.ensures.value
           c.stop.ensures;
@@ -61,7 +47,7 @@ pub returns-clause-steps : goal.returns-clause-steps
 returns-clause-steps c = record {
   of_plan = λ plan of.
       let net = c.args.self.now in
-      let inside : c.args.unit < length net.claimers.items = unit_inside _ _ _ (c.requires.allowed.is nowhere) in
+      let inside : c.args.unit < length net.claimers.items = c.requires.allowed.finds in
       let new : Network = record c.args.self.now {
         claimers = with_item c.args.self.now.claimers c.args.unit c.stop.new.self;
         claims = c.clear_to.new.self;

@@ -1,21 +1,17 @@
 use Rattle.std.proofs.Common.{◌<◌, None, length, set, arith}
 use Rattle.std.proofs.Math.ListN.{length-set}
+use Rattle.j39_bus.specs.BusState.{nowhere}
 use Rattle.j39_bus.proofs.ChangedSessions.{none_some, session_set, sessions_changed}
 use Rattle.j39_bus.specs.inside.Network.{world_in}
-use Rattle.j39_bus.proofs.Refused.{nowhere, unit_inside}
+use Rattle.j39_bus.proofs.Refused.{unit_inside}
 use Rattle.j39_bus.proofs.network.Network.rest.Goals as goal
-
-pub index_mut-requires : goal.index_mut-requires
-index_mut-requires c =
-    let inside : c.args.unit < length c.args.self.now.claimers.items = unit_inside _ _ _ (c.requires.allowed.is nowhere) in
-    omega (arith, inside, c.requires.network.traffic.sessions.count)
 
 pub returns-clause-network : goal.returns-clause-network
 returns-clause-network c =
     let net = c.args.self.now in
     let well = c.requires.network.traffic in
     let list = net.sessions.items in
-    let inside : c.args.unit < length net.claimers.items = unit_inside _ _ _ (c.requires.allowed.is nowhere) in
+    let inside : c.args.unit < length net.claimers.items = c.requires.allowed.finds in
     let unit : c.args.unit < length list = omega (arith, inside, well.sessions.count) in
     record {
       claims = c.requires.network.claims;
@@ -32,7 +28,7 @@ pub returns-clause-steps : goal.returns-clause-steps
 returns-clause-steps c = record {
   of_plan = λ plan planned h held.
       let net = c.args.self.now in
-      let inside : c.args.unit < length net.claimers.items = unit_inside _ _ _ (c.requires.allowed.is nowhere) in
+      let inside : c.args.unit < length net.claimers.items = c.requires.allowed.finds in
       let unit : c.args.unit < length net.sessions.items = omega (arith, inside, c.requires.network.traffic.sessions.count) in
       (h, (λ i. record (world_in h net) { sessions = session_set net.sessions.items c.args.unit None unit i }), held);
 }

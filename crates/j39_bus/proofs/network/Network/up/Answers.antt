@@ -1,19 +1,12 @@
 use Rattle.std.proofs.Common.{◌<◌, length, ap, ◌∙◌, arith}
 use Rattle.j39_findings.specs.declared.steps.Step.TheVariants.{Up}
 use Rattle.j39_world.specs.ClaimSteps.{switched_on}
+use Rattle.j39_bus.specs.BusState.{nowhere}
 use Rattle.j39_bus.specs.inside.Network.{world_in}
-use Rattle.j39_bus.proofs.Refused.{nowhere, unit_inside}
+use Rattle.j39_bus.proofs.Refused.{unit_inside}
 use Rattle.j39_bus.specs.declared.network.Network.{Network}
 use Rattle.j39_bus.proofs.Steady.{plan_kept, plan_same, steps_after, steps_same}
 use Rattle.j39_bus.proofs.network.Network.up.Goals as goal
-
-pub reserve-requires-clause-from : goal.reserve-requires-clause-from
-reserve-requires-clause-from c = unit_inside _ _ _ (c.requires.allowed.is nowhere)
-
-pub switch_on-requires-clause-place : goal.switch_on-requires-clause-place
-switch_on-requires-clause-place c =
-    let inside : c.args.unit < length c.args.self.now.claimers.items = unit_inside _ _ _ (c.requires.allowed.is nowhere) in
-    omega (arith, inside, ap length c.reserve.ensures.same.claimers)
 
 pub returns-clause-steps : goal.returns-clause-steps
 returns-clause-steps c = record {
