@@ -2,6 +2,7 @@
 use Rattle.std.specs.Prelude.{◌≡◌, ◌⊎◌, ℕ, List, Option, string_bytes, length}
 use Rattle.std.specs.List.{before_first}
 use Rattle.j39_app.specs.Known.{AreOf}
+use Rattle.j39_check.specs.AddressesText.{IsAddressesText}
 use Rattle.j39_check.specs.CheckText.{IsCheckText}
 use Rattle.j39_text.specs.FrameText.{IsFrameText}
 use Rattle.j39_check.specs.PlanText.{Describes, IsRefusedText}
@@ -12,7 +13,7 @@ use Rattle.j39_findings.specs.declared.plan.Plan.{Plan}
 use Rattle.j39_stream.specs.declared.verdict.Verdict.{Verdict}
 use Rattle.j39_stream.specs.declared.verdict.Verdict.TheVariants.{Done, Unreadable}
 use Rattle.j39_words.specs.declared.orders.Order.{Order}
-use Rattle.j39_words.specs.declared.orders.Order.TheVariants.{Input, Frame, Check, Run, Read, Help}
+use Rattle.j39_words.specs.declared.orders.Order.TheVariants.{Input, Frame, Check, Addresses, Run, Read, Help}
 
 -- what is known of the bytes of each name
 abbrev pub Names : Type 0
@@ -40,6 +41,8 @@ IsAnswer files input Input text verdict =
     (bytes : List ℕ) × AreOf input bytes × IsFrameText (before_first is_line_feed bytes) text verdict
 IsAnswer files input (Frame line) text verdict = IsFrameText (string_bytes line) text verdict
 IsAnswer files input (Check plan) text verdict = (bytes : List ℕ) × AreOf (files (string_bytes plan)) bytes × IsCheckText bytes text verdict
+IsAnswer files input (Addresses plan) text verdict =
+    (bytes : List ℕ) × AreOf (files (string_bytes plan)) bytes × IsAddressesText bytes text verdict
 IsAnswer files input (Run plan schedule) text verdict =
     IsAnswerOfTwo IsRunOf (files (string_bytes plan)) (files (string_bytes schedule)) text verdict
 IsAnswer files input (Read plan log) text verdict =

@@ -3,12 +3,13 @@ ghost use Rattle.std.specs.Prelude.{◌≡◌, ℕ, IfOk, List, OnSome};
 ghost use Rattle.std.specs.Io.KnownBytes.{Appends};
 ghost use Rattle.j39_app.specs.Answers.{IsAnswer, IsAnswerOfTwo, IsReadOf, IsRunOf};
 ghost use Rattle.j39_app.specs.Known.{AreOf};
+ghost use Rattle.j39_check.specs.AddressesText.{IsAddressesText};
 ghost use Rattle.j39_check.specs.CheckText.{IsCheckText};
 ghost use Rattle.j39_check.specs.PlanText.{IsPlanText};
 
 use crate::{
-    Fault, Folder, Order, Sink, Source, Verdict, check_text, frame_text, input_text, plan_text,
-    put_all, read_text, run_planned,
+    Fault, Folder, Order, Sink, Source, Verdict, addresses_text, check_text, frame_text,
+    input_text, plan_text, put_all, read_text, run_planned,
 };
 use j39_findings::Plan;
 use std::alloc::Global;
@@ -37,6 +38,18 @@ fn check_file<F: Folder, W: Sink>(
         × IsCheckText bytes text verdict × Appends (W.taken sink.old) (W.taken sink.new) text) }
 {
     check_text(alloc, &mut files.open(plan)?, sink)
+}
+
+fn addresses_file<F: Folder, W: Sink>(
+    alloc: Global,
+    files: &F,
+    plan: &str,
+    sink: &mut W,
+) -> Result<Verdict, Fault>
+    ensures { IfOk result (λ verdict. (bytes : List ℕ) × (text : List ℕ) × AreOf (F.bytes_of files.now plan.now) bytes
+        × IsAddressesText bytes text verdict × Appends (W.taken sink.old) (W.taken sink.new) text) }
+{
+    addresses_text(alloc, &mut files.open(plan)?, sink)
 }
 
 fn run_by<F: Folder, W: Sink>(
@@ -117,6 +130,7 @@ pub fn answer<F: Folder, S: Source, W: Sink>(
         Order::Input => input_text(alloc, input, sink),
         Order::Frame(line) => frame_text(alloc, line.as_bytes(), sink),
         Order::Check(plan) => check_file(alloc, files, plan, sink),
+        Order::Addresses(plan) => addresses_file(alloc, files, plan, sink),
         Order::Run(plan, schedule) => run_files(alloc, files, plan, schedule, sink),
         Order::Read(plan, log) => read_files(alloc, files, plan, log, sink),
         Order::Help(text) => {

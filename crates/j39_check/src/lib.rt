@@ -1,12 +1,17 @@
 //! What is written of a plan file: why it is refused, and everything that is wrong with the plan.
 #![tactic(auto)]
 
+mod addresses;
 mod check;
 mod finding_lines;
 mod laws;
 mod plan_file;
 mod plan_report;
+mod standing;
+mod stays_lines;
+mod stays_report;
 
+pub use addresses::addresses_text;
 pub use check::check_text;
 pub use laws::{check_has_one_text, written_runs_read_back, written_runs_show_the_conflict};
 pub use plan_file::plan_text;

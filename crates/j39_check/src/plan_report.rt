@@ -20,7 +20,7 @@ fn write_ok(text: &mut TextBuffer, plan: &Plan) -> Result<(), AllocError>
 }
 
 #[tactic(auto, unfolding(crate::specs::CheckText::findings_text))]
-fn write_findings(
+pub(super) fn write_findings(
     alloc: Global,
     text: &mut TextBuffer,
     plan: &Plan,

@@ -31,6 +31,7 @@ fn command(alloc: Global, name: &str, values: &ArgMatches) -> Result<Order, Word
     match name {
         "frame" => Ok(Order::Frame(value(alloc, values, "LINE")?)),
         "check" => Ok(Order::Check(value(alloc, values, "PLAN")?)),
+        "addresses" => Ok(Order::Addresses(value(alloc, values, "PLAN")?)),
         "run" => Ok(Order::Run(
             value(alloc, values, "PLAN")?,
             value(alloc, values, "SCHEDULE")?,

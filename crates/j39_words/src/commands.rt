@@ -114,6 +114,21 @@ fn with_check<'a>(alloc: Global, program: Command<'a>) -> Result<Command<'a>, Al
     )
 }
 
+fn with_addresses<'a>(alloc: Global, program: Command<'a>) -> Result<Command<'a>, AllocError>
+    ensures { IfOk result (λ c. app_of c ≡ with_subcommand (app_of program.entry) (one_value (codes "addresses") (codes "PLAN")).top) }
+{
+    with(
+        program,
+        one_value(
+            alloc,
+            "addresses",
+            "Shows which units of the plan keep their planned addresses, whatever happens",
+            "PLAN",
+            "The name of a plan file",
+        ),
+    )
+}
+
 fn with_run<'a>(alloc: Global, program: Command<'a>) -> Result<Command<'a>, AllocError>
     ensures { IfOk result (λ c. app_of c ≡ with_subcommand (app_of program.entry) (two_values (codes "run") (codes "PLAN") (codes "SCHEDULE")).top) }
 {
@@ -155,5 +170,6 @@ pub(super) fn commands<'a>(alloc: Global) -> Result<Command<'a>, AllocError>
     ensures { IfOk result (λ c. app_of c ≡ commands) }
 {
     let shown = with_check(alloc, with_frame(alloc, program(alloc)?)?)?;
-    with_read(alloc, with_run(alloc, shown)?)
+    let told = with_addresses(alloc, shown)?;
+    with_read(alloc, with_run(alloc, told)?)
 }

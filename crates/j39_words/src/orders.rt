@@ -14,6 +14,8 @@ pub enum Order {
     Frame(String),
     /// `check PLAN`: what is wrong with the plan of the file of this name.
     Check(String),
+    /// `addresses PLAN`: which units of the plan of the file of this name hold their planned addresses whatever happens.
+    Addresses(String),
     /// `run PLAN SCHEDULE`: what happens on the bus of the plan by the schedule, the files of these names.
     Run(String, String),
     /// `read PLAN LOG`: what the log says of the plan's groups, the files of these names.

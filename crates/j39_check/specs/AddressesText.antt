@@ -1,0 +1,64 @@
+-- The text that the addresses command writes for a plan file.
+use Rattle.std.specs.Prelude.{◌≡◌, ◌⊎◌, ℕ, Bool, true, false, List, [], ◌∷◌, ◌++◌, codes, count_by, length, MatchBool, Some}
+use Rattle.std.specs.List.{slice_get}
+use Rattle.j39_findings.specs.declared.plan.Plan.{Plan}
+use Rattle.j39_findings.specs.declared.plan.unit_plan.UnitPlan.{UnitPlan}
+use Rattle.j39_findings.specs.declared.checking.finding.Finding.{Finding}
+use Rattle.j39_findings.specs.declared.checking.finding.Finding.TheVariants.{SameName, SameFixedAddress, TooFewAddresses, KeptAddress}
+use Rattle.j39_findings.specs.Findings.{Holds}
+use Rattle.j39_world.specs.PlannedUnits.{units_of}
+use Rattle.j39_world.specs.SoundPlan.{Always}
+use Rattle.j39_world.specs.Staying.{HoldsPlanned, Stays}
+use Rattle.j39_check.specs.CheckText.{IsReport}
+use Rattle.j39_check.specs.PlanText.{Describes, IsRefusedText}
+use Rattle.j39_text.specs.Texts.{field}
+use Rattle.j39_stream.specs.declared.verdict.Verdict.{Verdict}
+use Rattle.j39_stream.specs.declared.verdict.Verdict.TheVariants.{Done, Findings, Refused, Unreadable}
+
+-- a finding on the NAMEs or the addresses of units
+abbrev pub is_of_addresses : Finding → Bool
+is_of_addresses (SameName i j) = true
+is_of_addresses (SameFixedAddress i j) = true
+is_of_addresses (TooFewAddresses n) = true
+is_of_addresses (KeptAddress i) = true
+is_of_addresses _ = false
+
+-- ---- who stays
+
+-- of the unit at each place this tells whether it stays, and one that does holds its planned address whenever it is on
+abbrev pub TellsWhoStays : Plan → (UnitPlan → Bool) → Type 0
+TellsWhoStays plan stays = (u : ℕ) (unit : UnitPlan) → slice_get plan.units.items u ≡ Some unit
+    → MatchBool (stays unit) (Stays (units_of plan) u × Always plan (λ w. HoldsPlanned (units_of plan) w u)) (¬ Stays (units_of plan) u)
+
+abbrev pub stays_word : Bool → List ℕ
+stays_word true = codes " stays "
+stays_word false = codes " may move from "
+
+unfoldable pub unit_line : (UnitPlan → Bool) → UnitPlan → List ℕ
+unit_line stays unit =
+    codes "unit " ++ (unit.label.bytes ++ (field (stays_word (stays unit)) unit.address ++ 10 ∷ []))
+
+unfoldable pub unit_lines : (UnitPlan → Bool) → List UnitPlan → List ℕ
+unit_lines stays [] = []
+unit_lines stays (unit ∷ units) = unit_line stays unit ++ unit_lines stays units
+
+-- a line for each unit, and how many of them stay
+unfoldable pub stays_text : (UnitPlan → Bool) → List UnitPlan → List ℕ
+stays_text stays units =
+    unit_lines stays units ++ (field (codes "stay ") (count_by stays units) ++ (field (codes " of ") (length units) ++ 10 ∷ []))
+
+-- ---- what is written
+
+-- what is written for a plan, with the verdict: where nothing is wrong with NAMEs and addresses who stays, else what check writes
+abbrev pub IsAddressesReport : Plan → List ℕ → Verdict → Type 0
+IsAddressesReport plan text Done = ((finding : Finding) → is_of_addresses finding ≡ true → ¬ Holds plan finding)
+    × (stays : UnitPlan → Bool) × TellsWhoStays plan stays × (text ≡ stays_text stays plan.units.items)
+IsAddressesReport plan text Findings =
+    ((finding : Finding) × (is_of_addresses finding ≡ true) × Holds plan finding) × IsReport plan text Findings
+IsAddressesReport plan text Refused = ⊥
+IsAddressesReport plan text Unreadable = ⊥
+
+-- what is written for a file: the report of the plan that it describes, or why it describes none
+abbrev pub IsAddressesText : List ℕ → List ℕ → Verdict → Type 0
+IsAddressesText bytes text verdict =
+    ((plan : Plan) × Describes bytes plan × IsAddressesReport plan text verdict) ⊎ (IsRefusedText bytes text × (verdict ≡ Unreadable))

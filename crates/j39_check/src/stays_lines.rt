@@ -1,0 +1,54 @@
+//! The lines that say which units of a plan stay.
+ghost use Rattle.std.specs.Prelude.{◌≡◌, ◌++◌, OnOk};
+ghost use Rattle.j39_check.specs.AddressesText.{stays_text, stays_word, unit_line, unit_lines};
+ghost use Rattle.j39_check.specs.inside.Standing.{stays_by};
+
+use crate::standing::Standing;
+use j39_findings::UnitPlan;
+use j39_text::TextBuffer;
+use std::alloc::AllocError;
+
+fn word_of(stays: bool) -> &'static str
+    ensures { result.now ≡ stays_word stays }
+{
+    if stays { " stays " } else { " may move from " }
+}
+
+#[tactic(auto, unfolding(crate::specs::AddressesText::unit_line))]
+fn write_unit(text: &mut TextBuffer, standing: &Standing, unit: &UnitPlan) -> Result<(), AllocError>
+    ensures { OnOk result (text.new ≡ text.old ++ unit_line (stays_by standing.now.firsts standing.now.mover) unit.now) }
+{
+    text.word("unit ")?;
+    text.word(unit.label.as_str())?;
+    text.field(word_of(standing.stays(unit)), unit.address.number())?;
+    text.end_line()
+}
+
+fn write_units(
+    text: &mut TextBuffer,
+    standing: &Standing,
+    units: &[UnitPlan],
+) -> Result<(), AllocError>
+    ensures { OnOk result (text.new ≡ text.old ++ unit_lines (stays_by standing.now.firsts standing.now.mover) units.now) }
+{
+    for unit in units {
+        write_unit(text, standing, unit)?;
+    }
+    Ok(())
+}
+
+/// Writes of each unit whether it stays, and how many do.
+#[tactic(auto, unfolding(crate::specs::AddressesText::stays_text))]
+pub(super) fn write_stays(
+    text: &mut TextBuffer,
+    standing: &Standing,
+    units: &[UnitPlan],
+) -> Result<(), AllocError>
+    ensures { OnOk result (text.new ≡ text.old ++ stays_text (stays_by standing.now.firsts standing.now.mover) units.now) }
+{
+    write_units(text, standing, units)?;
+    let staying = units.iter().filter(|unit| standing.stays(unit)).count();
+    text.field("stay ", staying)?;
+    text.field(" of ", units.len())?;
+    text.end_line()
+}
