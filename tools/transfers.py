@@ -4,6 +4,7 @@ A message is carried whole where `read` reports one: its announcement, then its 
 same two addresses between them, and for a message to one unit no Abort of its group, in whichever direction.
 """
 
+from collections import defaultdict
 from collections.abc import Iterable
 from dataclasses import dataclass
 
@@ -74,6 +75,7 @@ class Transfers:
 
     def __init__(self) -> None:
         self._open: dict[Pair, Transfer] = {}
+        self._at: defaultdict[int, set[Pair]] = defaultdict(set)  # those of each address
 
     def managed(self, line: int, pair: Pair, way: Way, packet: bytes) -> list[Transfer]:
         """Hears a packet of connection management; the transfers that it ends, none of them whole."""
@@ -83,6 +85,8 @@ class Transfers:
                 return [announced]
             ended = self._ended([pair])
             self._open[pair] = announced
+            for address in pair:
+                self._at[address].add(pair)
             return ended
         if packet[0] == ABORT:
             both = {pair, pair[::-1]}
@@ -102,7 +106,7 @@ class Transfers:
 
     def left(self, address: int) -> list[Transfer]:
         """The transfers from and to an address, which end here."""
-        return self._ended(pair for other in range(256) for pair in {(address, other), (other, address)})
+        return self._ended(list(self._at[address]))
 
     def end(self) -> list[Transfer]:
         """The transfers that are open at the end."""
@@ -114,4 +118,8 @@ class Transfers:
 
     def _ended(self, pairs: Iterable[Pair]) -> list[Transfer]:
         """The open ones of these transfers, which are closed."""
-        return [self._open.pop(pair) for pair in pairs if pair in self._open]
+        ended = [self._open.pop(pair) for pair in pairs if pair in self._open]
+        for transfer in ended:
+            for address in transfer.pair:
+                self._at[address].discard(transfer.pair)
+        return ended
