@@ -1,20 +1,18 @@
 -- Why a message is not begun.
-use Rattle.std.proofs.Common.{◌≡◌, ℕ, zero, suc, ◌<◌, ◌≤◌, inl, inr, Bool, true, false, not, ◌==◌, List, [], ◌∷◌, length, get_or, refl, sym, ap, ◌∙◌}
-use Rattle.std.proofs.Common.{subst, arith, Option, Some, None, is_some}
+use Rattle.std.proofs.Common.{◌≡◌, ℕ, zero, suc, ◌<◌, ◌≤◌, inl, inr, Bool, true, ◌==◌, List, [], ◌∷◌, length, get_or, refl, sym, ap, ◌∙◌}
+use Rattle.std.proofs.Common.{subst, arith, Option, Some, None}
 use Rattle.std.proofs.lemmas.Bool.{cases_Bool, eqb-true, not-false, true≢false}
 use Rattle.std.specs.List.{list_all, range_with_len, slice_get}
-use Rattle.j39_id.specs.FirstFault.{first_fault}
 use Rattle.j39_id.specs.Limits.{message_bytes}
 use Rattle.j39_claim.specs.declared.item.Item.{Item}
 use Rattle.j39_queues.specs.Queued.{IsTable, pair_in}
 use Rattle.j39_bus.specs.declared.network.Network.{Network}
-use Rattle.j39_world.specs.declared.step_error.StepError.TheVariants.{NoSuchFlow, NotStarted, NotSettled, NoAddress, Busy, WrongLength}
 use Rattle.j39_bus.specs.BusState.{Histories, nowhere}
-use Rattle.j39_world.specs.Flows.{flows_of, can_be_sent}
+use Rattle.j39_world.specs.Flows.{flows_of}
 use Rattle.j39_world.specs.declared.flow.Flow.{Flow}
 use Rattle.j39_findings.specs.declared.plan.Plan.{Plan}
 use Rattle.j39_bus.specs.inside.Network.{IsNetwork, IsOfPlan, world_in}
-use Rattle.j39_world.specs.Run.{at_ends, begin_refusal, begin_refusals, has_address, is_nothing_undelivered, is_on}
+use Rattle.j39_world.specs.Run.{begin_refusal, begin_refusals, is_nothing_undelivered}
 use Rattle.j39_world.proofs.Refusals.{none_hold}
 use Rattle.j39_bus.specs.inside.Traffic.{IsFlow}
 use Rattle.j39_world.specs.World.{World}

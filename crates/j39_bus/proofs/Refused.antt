@@ -1,6 +1,6 @@
 -- When a step is refused.
-use Rattle.std.proofs.Common.{◌≡◌, ℕ, ◌<◌, Bool, true, false, not, nat_lt, List, [], ◌∷◌, ◌++◌, length, get_or, refl, sym, ap}
-use Rattle.std.proofs.Common.{◌∙◌, arith, Option, Some, None}
+use Rattle.std.proofs.Common.{◌≡◌, ℕ, ◌<◌, Bool, true, false, not, nat_lt, List, [], ◌∷◌, ◌++◌, length, refl, sym}
+use Rattle.std.proofs.Common.{arith, Option, Some, None}
 use Rattle.std.specs.Prelude.{if◌then◌else◌}
 use Rattle.std.proofs.lemmas.Bool.{ltb-true, not-false, or_parts}
 use Rattle.std.specs.List.{slice_get}
@@ -13,14 +13,12 @@ use Rattle.j39_bus.specs.declared.network.Network.{Network}
 use Rattle.j39_world.specs.declared.step_error.StepError.{StepError}
 use Rattle.j39_world.specs.declared.step_error.StepError.TheVariants.{UnknownUnit}
 use Rattle.j39_world.specs.declared.flow.Flow.{Flow}
-use Rattle.j39_bus.specs.Stations.{station_at, absent_unit}
 use Rattle.j39_bus.specs.BusState.{Histories}
 use Rattle.j39_bus.specs.inside.Network.{IsOfPlan, planned_units, refusal_in, world_in}
 use Rattle.j39_world.specs.World.{World}
 use Rattle.j39_world.specs.Run.{begin_refusals, cause_of, either, is_unknown, refusal, refusal_among, step_refusals}
 use Rattle.j39_world.proofs.Refusals.{NoneHold, none_hold}
 use Rattle.j39_bus.proofs.Rested.{units_count}
-use Rattle.j39_bus.proofs.Worlds.{any_default}
 
 pub length-planned_units : (cs : List ClaimerValue) → length (planned_units cs) ≡ length cs
 length-planned_units [] = refl

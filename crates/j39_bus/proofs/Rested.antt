@@ -1,5 +1,5 @@
 -- When a sender may rest.
-use Rattle.std.proofs.Common.{◌≡◌, ℕ, zero, suc, ◌+◌, ◌<◌, ◌≤◌, Bool, true, false, not, ◌&&◌, ◌||◌, List, [], ◌∷◌, refl, sym, ap, ◌∙◌, arith, inl, inr}
+use Rattle.std.proofs.Common.{◌≡◌, ℕ, zero, suc, ◌+◌, ◌<◌, ◌≤◌, Bool, true, false, not, List, [], ◌∷◌, refl, sym, ap, ◌∙◌, arith, inl, inr}
 use Rattle.std.proofs.Common.{length, get_or, Option, Some, None, is_some}
 use Rattle.std.proofs.lemmas.Bool.{and_right, cases_eq}
 use Rattle.std.proofs.lemmas.List.{length-map}
@@ -8,12 +8,9 @@ use Rattle.j39_findings.specs.declared.plan.Plan.{Plan}
 use Rattle.j39_world.specs.PlannedUnits.{planned_unit}
 use Rattle.j39_world.specs.Run.{count_of, is_a_transfer_open}
 use Rattle.std.specs.List.{list_all, list_any, range_with_len}
-use Rattle.j39_tp.specs.Receiver.{is_open_at}
 use Rattle.j39_bus.specs.declared.network.Network.{Network}
 use Rattle.j39_bus.specs.BusState.{nowhere, session_at}
-use Rattle.j39_queues.specs.Queued.{pair_in}
 use Rattle.j39_bus.specs.inside.Network.{IsOfPlan, world_in}
-use Rattle.j39_world.specs.Resting.{is_of_sender, is_of_receiver, is_over_with}
 
 all_from : (test : ℕ → Bool) (a n : ℕ) → ((k : ℕ) → a ≤ k → k < a + n → test k ≡ true) → list_all test (range_with_len a n) ≡ true
 all_from test a zero is = refl

@@ -1,9 +1,7 @@
-use Rattle.std.proofs.Common.{◌<◌, length, ap, ◌∙◌, arith}
+use Rattle.std.proofs.Common.{ap, ◌∙◌}
 use Rattle.j39_findings.specs.declared.steps.Step.TheVariants.{Ask}
 use Rattle.j39_world.specs.ClaimSteps.{asked}
-use Rattle.j39_bus.specs.BusState.{nowhere}
 use Rattle.j39_bus.specs.inside.Network.{world_in}
-use Rattle.j39_bus.proofs.Refused.{unit_inside}
 use Rattle.j39_bus.specs.declared.network.Network.{Network}
 use Rattle.j39_bus.proofs.Steady.{plan_kept, plan_same, steps_after, steps_same}
 use Rattle.j39_bus.proofs.network.Network.ask.Goals as goal

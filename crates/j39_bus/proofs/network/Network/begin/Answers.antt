@@ -1,12 +1,12 @@
 use Rattle.std.proofs.Common.{◌≡◌, length, sym, ap, ◌∙◌, subst, arith}
 use Rattle.j39_findings.specs.declared.steps.Step.TheVariants.{Begin}
-use Rattle.j39_bus.specs.BusState.{Histories, nowhere}
+use Rattle.j39_bus.specs.BusState.{Histories}
 use Rattle.j39_bus.specs.Stands.{HoldTaken}
 use Rattle.j39_bus.specs.inside.Network.{has_begun, world_in}
 use Rattle.j39_world.specs.Run.{count_of}
 use Rattle.j39_bus.specs.inside.Traffic.{IsFlow}
 use Rattle.j39_world.specs.TransferSteps.{BeginsAt, begins}
-use Rattle.j39_bus.proofs.BeginRefused.{flow_inside, is_in_length, planned_flow, flow_fits}
+use Rattle.j39_bus.proofs.BeginRefused.{is_in_length, planned_flow, flow_fits}
 use Rattle.j39_bus.proofs.Rested.{units_count}
 use Rattle.j39_bus.proofs.Steady.{steps_after}
 use Rattle.j39_bus.proofs.network.Network.begin.Goals as goal

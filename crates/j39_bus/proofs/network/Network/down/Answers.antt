@@ -1,15 +1,13 @@
-use Rattle.std.proofs.Common.{◌<◌, List, length, map, refl, ap, sym, subst, arith}
+use Rattle.std.proofs.Common.{◌<◌, List, length, map, refl, ap, sym, subst}
 use Rattle.std.proofs.Math.ListN.{length-set}
 use Rattle.std.specs.Vec.{with_item}
 use Rattle.j39_claim.specs.ClaimerValue.{ClaimerValue}
 use Rattle.j39_findings.specs.declared.steps.Step.TheVariants.{Down}
-use Rattle.j39_bus.specs.BusState.{nowhere}
 use Rattle.j39_bus.specs.declared.network.Network.{Network}
 use Rattle.j39_queues.specs.Queued.{pair_in}
 use Rattle.j39_bus.specs.inside.Network.{world_in}
 use Rattle.j39_bus.specs.inside.Traffic.{IsTraffic}
 use Rattle.j39_world.specs.Sent.{sent_of}
-use Rattle.j39_bus.proofs.Refused.{unit_inside}
 use Rattle.j39_bus.proofs.Steady.{steps_same, wired_traffic}
 use Rattle.j39_bus.proofs.SwitchedOn.{planned_units_off, off_planned_unit, switched_off_world}
 use Rattle.j39_bus.proofs.WellFormed.{well_on}

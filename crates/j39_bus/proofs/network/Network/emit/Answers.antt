@@ -1,10 +1,6 @@
-use Rattle.std.proofs.Common.{◌<◌, length, ap, sym, ◌∙◌, subst, arith}
+use Rattle.std.proofs.Common.{sym, subst}
 use Rattle.j39_findings.specs.declared.steps.Step.TheVariants.{Emit}
 use Rattle.j39_bus.specs.Stands.{HoldTaken}
-use Rattle.j39_bus.specs.BusState.{nowhere, session_at}
-use Rattle.j39_world.specs.Run.{can_emit}
-use Rattle.std.proofs.lemmas.Bool.{not-false}
-use Rattle.j39_bus.proofs.Refused.{none_refuses, unit_inside}
 use Rattle.j39_bus.proofs.Steady.{steps_after}
 use Rattle.j39_bus.proofs.network.Network.emit.Goals as goal
 

@@ -1,12 +1,8 @@
-use Rattle.std.proofs.Common.{◌<◌, List, length, subst, sym, ap, arith}
+use Rattle.std.proofs.Common.{subst, ap}
 use Rattle.j39_findings.specs.declared.steps.Step.TheVariants.{Give}
 use Rattle.j39_world.specs.ClaimSteps.{GivenFrom}
-use Rattle.std.proofs.lemmas.Bool.{ltb-true, not-false}
-use Rattle.j39_claim.specs.declared.item.Item.{Item}
 use Rattle.j39_queues.specs.Queued.{pair_in}
-use Rattle.j39_bus.specs.BusState.{nowhere}
 use Rattle.j39_bus.specs.inside.Network.{world_in}
-use Rattle.j39_bus.proofs.Refused.{none_refuses, pair_inside}
 use Rattle.j39_bus.specs.declared.network.Network.{Network}
 use Rattle.j39_bus.proofs.Steady.{plan_kept, plan_same, steps_after, steps_same}
 use Rattle.j39_bus.proofs.network.Network.give.Goals as goal

@@ -1,9 +1,7 @@
-use Rattle.std.proofs.Common.{◌<◌, length, ap, ◌∙◌, arith}
+use Rattle.std.proofs.Common.{ap, ◌∙◌}
 use Rattle.j39_findings.specs.declared.steps.Step.TheVariants.{LateReceiver}
-use Rattle.j39_bus.specs.BusState.{nowhere}
 use Rattle.j39_bus.specs.inside.Network.{world_in}
 use Rattle.j39_world.specs.TransferSteps.{receiver_timed_out}
-use Rattle.j39_bus.proofs.Refused.{pair_inside}
 use Rattle.j39_bus.proofs.Steady.{plan_kept, plan_same, steps_after}
 use Rattle.j39_bus.proofs.network.Network.late_receiver.Goals as goal
 

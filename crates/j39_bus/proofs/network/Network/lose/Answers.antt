@@ -1,9 +1,6 @@
-use Rattle.std.proofs.Common.{length, ◌<◌, refl, arith}
+use Rattle.std.proofs.Common.{refl}
 use Rattle.j39_findings.specs.declared.steps.Step.TheVariants.{Lose}
-use Rattle.j39_bus.specs.BusState.{nowhere}
 use Rattle.j39_bus.proofs.Lost.{lost_from}
-use Rattle.std.proofs.lemmas.Bool.{not-false}
-use Rattle.j39_bus.proofs.Refused.{none_refuses, pair_inside}
 use Rattle.j39_bus.proofs.Steady.{steps_same}
 use Rattle.j39_bus.proofs.network.Network.lose.Goals as goal
 

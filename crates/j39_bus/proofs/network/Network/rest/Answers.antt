@@ -1,9 +1,7 @@
 use Rattle.std.proofs.Common.{◌<◌, None, length, set, arith}
 use Rattle.std.proofs.Math.ListN.{length-set}
-use Rattle.j39_bus.specs.BusState.{nowhere}
 use Rattle.j39_bus.proofs.ChangedSessions.{none_some, session_set, sessions_changed}
 use Rattle.j39_bus.specs.inside.Network.{world_in}
-use Rattle.j39_bus.proofs.Refused.{unit_inside}
 use Rattle.j39_bus.proofs.network.Network.rest.Goals as goal
 
 pub returns-clause-network : goal.returns-clause-network

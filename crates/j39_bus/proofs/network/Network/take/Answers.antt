@@ -1,12 +1,7 @@
-use Rattle.std.proofs.Common.{◌<◌, true, ◌≡◌, ap, sym, ◌∙◌, subst, List, ℕ, Result, Ok, Err, OnOk, nat_lt, length, arith}
-use Rattle.std.proofs.lemmas.Bool.{not-false, true≢false}
-use Rattle.j39_world.specs.declared.wired.Wired.{Wired}
+use Rattle.std.proofs.Common.{subst, List, ℕ, Result, Ok, Err, OnOk}
 use Rattle.j39_queues.specs.Queued.{pair_in}
-use Rattle.j39_bus.specs.BusState.{nowhere}
 use Rattle.j39_bus.specs.inside.Network.{TakesOldest, world_in}
 use Rattle.j39_world.specs.TransferSteps.{TakenFrom}
-use Rattle.j39_findings.specs.declared.steps.Step.TheVariants.{Take}
-use Rattle.j39_bus.proofs.Refused.{none_refuses, pair_inside}
 use Rattle.j39_bus.proofs.network.Network.take.Goals as goal
 
 on_map : {X E : Type 0} (r : Result X E) (P Q : Type 0) → (P → Q) → OnOk r P → OnOk r Q
