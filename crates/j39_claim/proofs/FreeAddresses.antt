@@ -1,13 +1,13 @@
 -- What a search of the pool finds.
-use Rattle.std.proofs.Common.{◌≡◌, ℕ, zero, suc, ◌+◌, ◌<◌, ◌≤◌, Bool, true, false, cond, not}
+use Rattle.std.proofs.Common.{◌≡◌, ℕ, zero, suc, ◌+◌, ◌<◌, ◌≤◌, ◌⊎◌, Bool, true, false, cond, not}
 use Rattle.std.proofs.Common.{◌&&◌, leb, ltb, refl, sym, ap, ◌∙◌, arith, inl, inr, Option, Some, None}
-use Rattle.std.proofs.lemmas.Bool.{true≢false, cases_eq, and_from, and_parts, le-leb, leb-true, not-true}
+use Rattle.std.proofs.lemmas.Bool.{true≢false, cases_eq, and_from, and_parts, le-leb, leb-true, not-true, lt-ltb, ltb-true}
 use Rattle.std.proofs.lemmas.List.Sums.{sum_by-cons}
 use Rattle.std.specs.Option.{unwrap_or, MatchOption}
 use Rattle.std.specs.List.{find, count_by, range_with_len}
 use Rattle.std.specs.Ordering.{nat_cmp}
 use Rattle.std.specs.FinSet.{FinSet, contains}
-use Rattle.j39_claim.specs.AddressSets.{IsFreeIn, IsLeastFree, LowestFreeIsLeast, is_free, free_count, lowest_free, free_above, next_free, first_of_two}
+use Rattle.j39_claim.specs.AddressSets.{IsFirstFreeAbove, IsFreeIn, IsLeastFree, IsTakenAbove, LowestFreeIsLeast, NextFreeIsNext, is_free, free_count, lowest_free, free_above, next_free, first_of_two}
 use Rattle.j39_id.specs.Addresses.{in_pool}
 
 -- b is one of the n numbers from k on, and passes
@@ -127,3 +127,37 @@ lowest_is_least taken = by (lowest_free taken) refl
           free = record { pool = pooled b low high; free = not-true (contains taken b) free };
           lower = λ a pooled_a below. taken_if (contains taken a) (fails_before (is_free taken) 128 120 b is a (low_of a pooled_a) below);
         }
+
+-- the test of what is free above an address
+above_free : ℕ → FinSet nat_cmp → ℕ → Bool
+above_free before taken a = ltb before a && is_free taken a
+
+-- what lies above and fails this test is taken
+taken_above : (before : ℕ) (taken : FinSet nat_cmp) (a : ℕ) → before < a → above_free before taken a ≡ false → contains taken a ≡ true
+unfolding above_free
+taken_above before taken a above fails =
+    taken_if (contains taken a) (sym (ap (λ t. t && is_free taken a) (lt-ltb before a above)) ∙ fails)
+
+pub next_is_next : NextFreeIsNext
+unfolding free_above above_free
+next_is_next before taken = by (free_above before taken) (lowest_free taken) refl (lowest_is_least taken)
+  where
+    by : (o next : Option ℕ) → free_above before taken ≡ o → MatchOption next ((a : ℕ) → in_pool a ≡ true → contains taken a ≡ true) (IsLeastFree taken)
+        → MatchOption (first_of_two o next) ((a : ℕ) → in_pool a ≡ true → contains taken a ≡ true)
+        (λ b. IsFirstFreeAbove before taken b ⊎ (IsTakenAbove before taken × IsLeastFree taken b))
+    by (Some b) next is least =
+        let (low, high, passes) = found (above_free before taken) 128 120 b is in
+        let parts = and_parts (ltb before b) (is_free taken b) passes in
+        inl (record {
+          free = record { pool = pooled b low high; free = not-true (contains taken b) parts.1 };
+          above = ltb-true before b parts.0;
+          between = λ a pooled_a above below.
+              taken_above before taken a above (fails_before (above_free before taken) 128 120 b is a (low_of a pooled_a) below);
+        })
+    by None None is least = least
+    by None (Some b) is least = inr (
+      λ a pooled_a above.
+          let high = leb-true a 247 (and_parts (leb 128 a) (leb a 247) pooled_a).1 in
+          taken_above before taken a above (fails_all (above_free before taken) 128 120 is a (low_of a pooled_a) (omega (arith, high))),
+      least,
+    )

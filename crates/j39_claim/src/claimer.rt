@@ -134,7 +134,8 @@ impl Claimer {
         if self.address != Some(claimed) {
             return None;
         }
-        if name < self.name {
+        let yields = name < self.name;
+        if yields {
             let taken = self.notes.addresses().union(&self.kept);
             self.address = moved_to(self.name, claimed, &taken, chooser);
         }

@@ -16,6 +16,6 @@ pub use address_set::AddressSet;
 pub use choose::Choose;
 pub use claimer::Claimer;
 pub use item::{Item, Say};
-pub use laws::{lawful_picks_follow_the_rule, lowest_free_is_least};
+pub use laws::{lawful_picks_follow_the_rule, lowest_free_is_least, next_free_is_next};
 pub use lowest::Lowest;
 pub use upward::Upward;

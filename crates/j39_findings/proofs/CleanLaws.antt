@@ -75,7 +75,7 @@ parts_of plan clean = record {
   names = no_pair_at _ plan.units.items (λ i j. clean (SameName i j));
   fixed_addresses = λ i j d below less first second same.
       no_pair_at _ plan.units.items (λ k l. clean (SameFixedAddress k l)) i j d below less (first, second, same);
-  addresses = elim (cases_lt (free_count plan.keep_free) _) [ inl more ↦ absurd (clean (TooFewAddresses _) (refl, more)) | inr few ↦ few ];
+  addresses = λ n are. elim (cases_lt (free_count plan.keep_free) n) [ inl more ↦ absurd (clean (TooFewAddresses n) (are, more)) | inr few ↦ few ];
   not_kept = λ i d less arbitrary. elim (cases_Bool (contains plan.keep_free (get_or plan.units.items i d).address)) [
     | inl kept ↦ absurd (none_at _ plan.units.items (λ k. clean (KeptAddress k)) i d less (arbitrary, kept))
     | inr free ↦ free

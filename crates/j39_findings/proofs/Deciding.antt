@@ -1,8 +1,10 @@
 -- Each test decides its statement.
-use Rattle.std.proofs.Common.{◌≡◌, ℕ, zero, suc, ◌<◌, ◌≤◌, ◌==◌, ◌⊎◌, List, [], ◌∷◌, Bool, true, false, not}
+use Rattle.std.proofs.Common.{◌≡◌, ℕ, zero, suc, ◌+◌, ◌<◌, ◌≤◌, ◌==◌, ◌⊎◌, List, [], ◌∷◌, Bool, true, false, cond, not}
 use Rattle.std.proofs.Common.{nat_le, Option, Some, None, Contains, Decides, refl, sym, ◌∙◌, inl, inr, subst, ◌%◌, arith}
-use Rattle.std.specs.List.{slice_get, list_any}
-use Rattle.std.proofs.lemmas.Bool.{false≢true, leb-true, le-leb, cases_lt}
+use Rattle.std.specs.List.{count_by, slice_get, list_any}
+use Rattle.std.specs.FinSet.{contains}
+use Rattle.std.proofs.lemmas.List.Sums.{sum_by-cons}
+use Rattle.std.proofs.lemmas.Bool.{false≢true, leb-true, le-leb, cases_Bool, cases_lt}
 use Rattle.std.proofs.lemmas.Bool.Decides.{Decides-eqb, Decides-and, Decides-or, Decides-not, Decides-like, Decides-ltb}
 use Rattle.std.proofs.lemmas.Option.{none-some, same_Some}
 use Rattle.std.specs.FinSet.{FinSet}
@@ -16,15 +18,15 @@ use Rattle.j39_id.specs.Services.{service_groups}
 use Rattle.j39_signal.specs.Parts.{SignalParts}
 use Rattle.j39_signal.specs.Places.{WidthFits, IsInside, SharesBit, shares_bit}
 use Rattle.j39_signal.proofs.Sharing.{shared_by_test}
-use Rattle.j39_findings.specs.ListPlaces.{ValueAt}
+use Rattle.j39_findings.specs.ListPlaces.{SoManyMeet, ValueAt}
 use Rattle.j39_findings.specs.declared.plan.unit_plan.UnitPlan.{UnitPlan}
 use Rattle.j39_findings.specs.declared.plan.group_plan.GroupPlan.{GroupPlan}
 use Rattle.j39_findings.specs.declared.plan.flow_plan.FlowPlan.{FlowPlan}
 use Rattle.j39_findings.specs.declared.plan.to.To.{To}
 use Rattle.j39_findings.specs.declared.plan.to.To.TheVariants.{All, One}
-use Rattle.j39_findings.specs.Findings.{HaveSameName, HaveSameFixedAddress, PrefersKept, IsProprietary, CannotBePlanned}
+use Rattle.j39_findings.specs.Findings.{HaveSameName, HaveSameFixedAddress, NeedsPoolAddress, PrefersKept, IsProprietary, CannotBePlanned}
 use Rattle.j39_findings.specs.Findings.{HasBadPgn, HaveSamePgn, IsOneFrameToAll, CannotGoToOne, GoesToItsSender, AreOneFlow}
-use Rattle.j39_findings.specs.Found.{have_same_name, have_same_fixed_address, prefers_kept, cannot_be_planned}
+use Rattle.j39_findings.specs.Found.{have_same_name, have_same_fixed_address, needs_pool_address, prefers_kept, cannot_be_planned}
 use Rattle.j39_findings.specs.Found.{has_bad_pgn, have_same_pgn, has_other_width, ends_outside, is_one_frame_to_all, is_group_of}
 use Rattle.j39_findings.specs.Found.{is_to_one, is_to, have_same_receiver, cannot_go_to_one, goes_to_its_sender, are_one_flow}
 
@@ -44,6 +46,39 @@ pub Decides-have_same_fixed_address : (u v : UnitPlan) → Decides (have_same_fi
 Decides-have_same_fixed_address u v =
     Decides-like _ (λ h. (h.0, h.1.0, h.1.1)) (λ h. (h.0, (h.1, h.2)))
     (Decides-and _ _ (not_is (is_arbitrary u.name)) (Decides-and _ _ (not_is (is_arbitrary v.name)) (Decides-eqb u.address v.address)))
+
+pub Decides-needs_pool_address : (kept : FinSet nat_cmp) (u : UnitPlan) → Decides (needs_pool_address kept u) (NeedsPoolAddress kept u)
+Decides-needs_pool_address kept u =
+    Decides-or _ _ (λ e. e, λ e. e)
+    (Decides-like _ (λ h. record { pool = h.0; free = h.1 }) (λ f. (f.pool, f.free)) (Decides-and _ _ (λ e. e, λ e. e) (not_is (contains kept u.address))))
+
+-- the number of those that pass is that of those that meet the statement, and no other number is
+pub passing_meet : {A : Type 0} {test : A → Bool} {P : A → Type 0} → ((x : A) → Decides (test x) (P x)) → (xs : List A)
+    → SoManyMeet P xs (count_by test xs)
+passing_meet by [] = refl
+passing_meet {test = test} by (x ∷ xs) =
+    let rest = passing_meet by xs in
+    let more = sum_by-cons (λ y. cond (test y) 1 0) x xs in
+    elim (cases_Bool (test x)) [
+      | inl passes ↦ inl ((by x).0 passes, (count_by test xs, rw (more, passes) (omega arith), rest))
+      | inr fails ↦
+          let same : count_by test (x ∷ xs) ≡ count_by test xs = rw (more, fails) (omega arith) in
+          inr (λ h. absurd (false≢true (sym fails ∙ (by x).1 h)), rw same rest)
+    ]
+
+pub meeting_pass : {A : Type 0} {test : A → Bool} {P : A → Type 0} → ((x : A) → Decides (test x) (P x)) → (xs : List A) (n : ℕ)
+    → SoManyMeet P xs n → n ≡ count_by test xs
+meeting_pass by [] n are = are
+meeting_pass {test = test} by (x ∷ xs) n (inl (meets, (m, is, are))) =
+    let rest = meeting_pass by xs m are in
+    let passes = (by x).1 meets in
+    rw (sum_by-cons (λ y. cond (test y) 1 0) x xs, passes) (omega (arith, is, rest))
+meeting_pass {test = test} by (x ∷ xs) n (inr (fails, are)) =
+    let rest = meeting_pass by xs n are in
+    elim (cases_Bool (test x)) [
+      | inl passes ↦ absurd (fails ((by x).0 passes))
+      | inr not ↦ rw (sum_by-cons (λ y. cond (test y) 1 0) x xs, not) (omega (arith, rest))
+    ]
 
 pub Decides-prefers_kept : (kept : FinSet nat_cmp) (u : UnitPlan) → Decides (prefers_kept kept u) (PrefersKept kept u)
 Decides-prefers_kept kept u = Decides-and _ _ (λ e. e, λ e. e) (λ e. e, λ e. e)

@@ -13,13 +13,13 @@ use Rattle.j39_findings.specs.declared.checking.finding.Finding.TheVariants.{Sam
 use Rattle.j39_findings.specs.declared.checking.finding.Finding.TheVariants.{SignalOutside, SignalOverlap, FlowToOne, FlowToSelf, FlowRepeated, KeptAddress}
 use Rattle.j39_findings.specs.ListPlaces.{in_each, each, pairs, ValueAt, PairAt}
 use Rattle.j39_claim.specs.AddressSets.{free_count}
-use Rattle.j39_findings.specs.Findings.{HaveSameName, HaveSameFixedAddress, needed_addresses, HasBadPgn, HaveSamePgn, CannotGoToOne}
+use Rattle.j39_findings.specs.Findings.{HaveSameName, HaveSameFixedAddress, HasBadPgn, HaveSamePgn, CannotGoToOne}
 use Rattle.j39_findings.specs.Findings.{GoesToItsSender, AreOneFlow, Holds, PrefersKept, IsBefore, IsBelow, finding_number, places_of}
-use Rattle.j39_findings.specs.Found.{too_few_addresses, unit_findings, group_findings, has_other_width}
+use Rattle.j39_findings.specs.Found.{needed_addresses, too_few_addresses, unit_findings, group_findings, has_other_width}
 use Rattle.j39_findings.specs.Found.{ends_outside, overlap_findings, signal_findings, flow_findings, kept_findings}
 use Rattle.j39_findings.proofs.Members.{of_in_each, of_found_if, of_each, of_pairs}
 use Rattle.j39_findings.proofs.Rising.{Rises, Rises-append, Rises-found_if, Rises-in_each, Rises-each, Rises-pairs}
-use Rattle.j39_findings.proofs.Deciding.{Decides-have_same_name, Decides-have_same_fixed_address, Decides-has_bad_pgn}
+use Rattle.j39_findings.proofs.Deciding.{Decides-have_same_name, Decides-have_same_fixed_address, Decides-needs_pool_address, Decides-has_bad_pgn, passing_meet}
 use Rattle.j39_findings.proofs.Deciding.{Decides-have_same_pgn, Decides-has_other_width, Decides-ends_outside, Decides-shares_bit}
 use Rattle.j39_findings.proofs.Deciding.{Decides-cannot_go_to_one, Decides-goes_to_its_sender, Decides-are_one_flow, Decides-prefers_kept}
 
@@ -125,7 +125,7 @@ units_covered plan =
     (family plan 3 (too_few_addresses kept units)
     (λ f h.
     let r = of_found_if (nat_lt (free_count kept) (needed_addresses kept units)) (TooFewAddresses (needed_addresses kept units)) f h in
-    made plan 3 f (TooFewAddresses (needed_addresses kept units)) r.1 (refl, (Decides-ltb (free_count kept) (needed_addresses kept units)).0 r.0) refl)
+    made plan 3 f (TooFewAddresses (needed_addresses kept units)) r.1 (passing_meet (Decides-needs_pool_address kept) units, (Decides-ltb (free_count kept) (needed_addresses kept units)).0 r.0) refl)
     (Rises-found_if IsBefore _ _)))
 
 -- ---- groups

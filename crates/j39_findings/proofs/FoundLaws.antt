@@ -11,14 +11,14 @@ use Rattle.j39_findings.specs.declared.checking.finding.Finding.TheVariants.{Sam
 use Rattle.j39_findings.specs.declared.checking.finding.Finding.TheVariants.{SignalOutside, SignalOverlap, FlowToOne, FlowToSelf, FlowRepeated, KeptAddress}
 use Rattle.j39_findings.specs.ListPlaces.{in_each, each, pairs}
 use Rattle.j39_claim.specs.AddressSets.{free_count}
-use Rattle.j39_findings.specs.Findings.{HaveSameName, HaveSameFixedAddress, needed_addresses, HasBadPgn, HaveSamePgn, CannotGoToOne}
+use Rattle.j39_findings.specs.Findings.{HaveSameName, HaveSameFixedAddress, HasBadPgn, HaveSamePgn, CannotGoToOne}
 use Rattle.j39_findings.specs.Findings.{GoesToItsSender, AreOneFlow, PrefersKept, Holds, IsBefore, AreFindings, Clean}
-use Rattle.j39_findings.specs.Found.{have_same_name, have_same_fixed_address, too_few_addresses, unit_findings, has_bad_pgn, have_same_pgn}
+use Rattle.j39_findings.specs.Found.{have_same_name, have_same_fixed_address, needed_addresses, too_few_addresses, unit_findings, has_bad_pgn, have_same_pgn}
 use Rattle.j39_findings.specs.Found.{group_findings, width_findings, outside_findings, overlap_findings, signal_findings, cannot_go_to_one}
 use Rattle.j39_findings.specs.Found.{goes_to_its_sender, are_one_flow, flow_findings, prefers_kept, kept_findings, found}
 use Rattle.j39_findings.proofs.Members.{in_each_of, found_if_of, each_of, pairs_of}
 use Rattle.j39_findings.proofs.Rising.{AllPairs-from_Rises}
-use Rattle.j39_findings.proofs.Deciding.{Decides-have_same_name, Decides-have_same_fixed_address, Decides-has_bad_pgn}
+use Rattle.j39_findings.proofs.Deciding.{Decides-have_same_name, Decides-have_same_fixed_address, Decides-needs_pool_address, Decides-has_bad_pgn, meeting_pass}
 use Rattle.j39_findings.proofs.Deciding.{Decides-have_same_pgn, Decides-has_other_width, Decides-ends_outside, Decides-shares_bit}
 use Rattle.j39_findings.proofs.Deciding.{Decides-cannot_go_to_one, Decides-goes_to_its_sender, Decides-are_one_flow, Decides-prefers_kept}
 use Rattle.j39_findings.proofs.Families.{Covers, Covers-append, units_covered, groups_covered, signals_covered, flows_covered, kept_covered}
@@ -115,7 +115,8 @@ found_of : (plan : Plan) (f : Finding) → Holds plan f → Contains (found plan
 found_of plan (SameName i j) h = unit_found plan _ (inl (pairs_of HaveSameName Decides-have_same_name SameName plan.units.items i j h))
 found_of plan (SameFixedAddress i j) h =
     unit_found plan _ (inr (inl (pairs_of HaveSameFixedAddress Decides-have_same_fixed_address SameFixedAddress plan.units.items i j h)))
-found_of plan (TooFewAddresses n) (is, more) =
+found_of plan (TooFewAddresses n) (are, more) =
+    let is = meeting_pass (Decides-needs_pool_address plan.keep_free) plan.units.items n are in
     let needed = needed_addresses plan.keep_free plan.units.items in
     let P : ℕ → Type 0 = λ k. Contains (too_few_addresses plan.keep_free plan.units.items) (TooFewAddresses k) in
     let Q : ℕ → Type 0 = λ k. free_count plan.keep_free < k in

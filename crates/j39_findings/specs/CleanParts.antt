@@ -6,8 +6,8 @@ use Rattle.j39_id.specs.Name.{is_arbitrary}
 use Rattle.j39_id.specs.Pgn.{IsPgn, extended_page}
 use Rattle.j39_id.specs.Services.{service_groups}
 use Rattle.j39_signal.specs.Places.{LaysOut}
-use Rattle.j39_findings.specs.ListPlaces.{ValueAt}
-use Rattle.j39_findings.specs.Findings.{IsFixed, needed_addresses, IsProprietary, IsToOne, IsOneFrameToAll, AreOneFlow}
+use Rattle.j39_findings.specs.ListPlaces.{ValueAt, SoManyMeet}
+use Rattle.j39_findings.specs.Findings.{IsFixed, NeedsPoolAddress, IsProprietary, IsToOne, IsOneFrameToAll, AreOneFlow}
 use Rattle.j39_findings.specs.declared.plan.Plan.{Plan}
 use Rattle.j39_findings.specs.declared.plan.unit_plan.UnitPlan.{UnitPlan}
 use Rattle.j39_findings.specs.declared.plan.to.To.TheVariants.{One}
@@ -26,7 +26,7 @@ pub record CanBePlanned (pgn : ℕ) : Type 0 where
 pub record CleanParts (plan : Plan) : Type 0 where
   pub names : AllPairs (λ u v. u.name ≢ v.name) plan.units.items
   pub fixed_addresses : AllPairs HoldApart plan.units.items
-  pub addresses : needed_addresses plan.keep_free plan.units.items ≤ free_count plan.keep_free
+  pub addresses : (n : ℕ) → SoManyMeet (NeedsPoolAddress plan.keep_free) plan.units.items n → n ≤ free_count plan.keep_free
   pub not_kept : All (λ u. is_arbitrary u.name ≡ true → contains plan.keep_free u.address ≡ false) plan.units.items
   pub groups : All (λ g. CanBePlanned g.pgn) plan.groups.items
   pub pgns : AllPairs (λ g h. g.pgn ≢ h.pgn) plan.groups.items

@@ -1,18 +1,17 @@
 -- What can be wrong with a plan: each finding as a plain statement on its units, groups, signals and flows, by their
 -- places from 0 (addresses and NAMEs: SAE J1939-81; groups and their destinations: SAE J1939-21; signals: SAE J1939-71).
-use Rattle.std.specs.Prelude.{◌≡◌, ℕ, ◌<◌, ◌≤◌, ◌⊎◌, List, [], ◌∷◌, Bool}
-use Rattle.std.specs.Prelude.{true, false, ◌&&◌, ◌||◌, count_by, Contains, AllPairs}
+use Rattle.std.specs.Prelude.{◌≡◌, ℕ, ◌<◌, ◌≤◌, ◌⊎◌, List, [], ◌∷◌}
+use Rattle.std.specs.Prelude.{true, false, Contains, AllPairs}
 use Rattle.std.specs.FinSet.{FinSet, contains}
 use Rattle.std.specs.Ordering.{nat_cmp}
-use Rattle.j39_claim.specs.AddressSets.{is_free, free_count}
-use Rattle.j39_id.specs.Addresses.{in_pool}
+use Rattle.j39_claim.specs.AddressSets.{IsFreeIn, free_count}
 use Rattle.j39_id.specs.Limits.{frame_bytes}
 use Rattle.j39_id.specs.Name.{is_arbitrary}
 use Rattle.j39_id.specs.Pgn.{IsPgn, extended_page, pdu2_first, pf_of}
 use Rattle.j39_id.specs.Proprietary.{proprietary_a, proprietary_a2, proprietary_b_first, proprietary_b_last, proprietary_b2_first, proprietary_b2_last}
 use Rattle.j39_id.specs.Services.{service_groups}
 use Rattle.j39_signal.specs.Places.{WidthFits, IsInside, SharesBit}
-use Rattle.j39_findings.specs.ListPlaces.{ValueAt, PairAt}
+use Rattle.j39_findings.specs.ListPlaces.{ValueAt, PairAt, SoManyMeet}
 use Rattle.j39_findings.specs.declared.plan.Plan.{Plan}
 use Rattle.j39_findings.specs.declared.plan.unit_plan.UnitPlan.{UnitPlan}
 use Rattle.j39_findings.specs.declared.plan.group_plan.GroupPlan.{GroupPlan}
@@ -34,13 +33,10 @@ HaveSameName u v = u.name ≡ v.name
 abbrev pub HaveSameFixedAddress : UnitPlan → UnitPlan → Type 0
 HaveSameFixedAddress u v = IsFixed u × IsFixed v × (u.address ≡ v.address)
 
--- a unit that may hold an address of the pool that isn't kept free: an arbitrary one, or a fixed one that has its own there
-abbrev pub needs_pool_address : FinSet nat_cmp → UnitPlan → Bool
-needs_pool_address kept unit = is_arbitrary unit.name || (in_pool unit.address && is_free kept unit.address)
-
--- how many of these addresses the units need
-abbrev pub needed_addresses : FinSet nat_cmp → List UnitPlan → ℕ
-needed_addresses kept units = count_by (needs_pool_address kept) units
+-- a unit that needs an address of the pool that isn't kept free: an arbitrary one may have to move to any of them, a fixed one may
+-- have its own there
+abbrev pub NeedsPoolAddress : FinSet nat_cmp → UnitPlan → Type 0
+NeedsPoolAddress kept unit = (is_arbitrary unit.name ≡ true) ⊎ IsFreeIn kept unit.address
 
 -- an arbitrary unit that prefers an address that is kept free
 abbrev pub PrefersKept : FinSet nat_cmp → UnitPlan → Type 0
@@ -88,7 +84,7 @@ AreOneFlow f h = (f.group ≡ h.group) × (f.sender ≡ h.sender) × (f.to ≡ h
 abbrev pub Holds : Plan → Finding → Type 0
 Holds plan (SameName i j) = PairAt HaveSameName plan.units.items i j
 Holds plan (SameFixedAddress i j) = PairAt HaveSameFixedAddress plan.units.items i j
-Holds plan (TooFewAddresses n) = (n ≡ needed_addresses plan.keep_free plan.units.items) × (free_count plan.keep_free < n)
+Holds plan (TooFewAddresses n) = SoManyMeet (NeedsPoolAddress plan.keep_free) plan.units.items n × (free_count plan.keep_free < n)
 Holds plan (BadPgn g) = ValueAt HasBadPgn plan.groups.items g
 Holds plan (SamePgn g h) = PairAt HaveSamePgn plan.groups.items g h
 Holds plan (SignalWidth g s) = ValueAt (λ group. ValueAt (λ signal. ¬ WidthFits signal) group.signals.items s) plan.groups.items g

@@ -1,9 +1,10 @@
 -- The findings of a plan as a list: a test for each statement, and the list of all that pass.
-use Rattle.std.specs.Prelude.{ℕ, List, ◌++◌, Bool, true, false, not, ◌&&◌, ◌||◌, ◌==◌, nat_le, nat_lt, Option, Some, None}
+use Rattle.std.specs.Prelude.{ℕ, List, ◌++◌, Bool, true, false, not, ◌&&◌, ◌||◌, ◌==◌, nat_le, nat_lt, count_by, Option, Some, None}
 use Rattle.std.specs.List.{slice_get}
 use Rattle.std.specs.FinSet.{FinSet, contains}
 use Rattle.std.specs.Ordering.{nat_cmp}
-use Rattle.j39_claim.specs.AddressSets.{free_count}
+use Rattle.j39_claim.specs.AddressSets.{free_count, is_free}
+use Rattle.j39_id.specs.Addresses.{in_pool}
 use Rattle.j39_id.specs.Limits.{frame_bytes}
 use Rattle.j39_id.specs.Name.{is_arbitrary}
 use Rattle.j39_id.specs.Pgn.{is_pgn, is_pdu2, extended_page}
@@ -12,7 +13,6 @@ use Rattle.j39_id.specs.Services.{is_service}
 use Rattle.j39_signal.specs.Parts.{SignalParts}
 use Rattle.j39_signal.specs.Places.{width_fits, is_inside, shares_bit}
 use Rattle.j39_findings.specs.ListPlaces.{found_if, each, pairs, in_each}
-use Rattle.j39_findings.specs.Findings.{needed_addresses}
 use Rattle.j39_findings.specs.declared.plan.Plan.{Plan}
 use Rattle.j39_findings.specs.declared.plan.unit_plan.UnitPlan.{UnitPlan}
 use Rattle.j39_findings.specs.declared.plan.group_plan.GroupPlan.{GroupPlan}
@@ -33,6 +33,13 @@ is_fixed unit = not (is_arbitrary unit.name)
 
 abbrev pub have_same_fixed_address : UnitPlan → UnitPlan → Bool
 have_same_fixed_address u v = is_fixed u && (is_fixed v && u.address == v.address)
+
+-- whether a unit needs an address of the pool that isn't kept free, and how many do
+abbrev pub needs_pool_address : FinSet nat_cmp → UnitPlan → Bool
+needs_pool_address kept unit = is_arbitrary unit.name || (in_pool unit.address && is_free kept unit.address)
+
+abbrev pub needed_addresses : FinSet nat_cmp → List UnitPlan → ℕ
+needed_addresses kept units = count_by (needs_pool_address kept) units
 
 abbrev pub too_few_addresses : FinSet nat_cmp → List UnitPlan → List Finding
 too_few_addresses kept units = found_if (nat_lt (free_count kept) (needed_addresses kept units)) (TooFewAddresses (needed_addresses kept units))

@@ -1,5 +1,5 @@
 -- Values of a list by their places, and what is found of them.
-use Rattle.std.specs.Prelude.{◌≡◌, ℕ, ◌+◌, ◌<◌, List, [], ◌∷◌, ◌++◌, Bool, Some, if◌then◌else◌, drop}
+use Rattle.std.specs.Prelude.{◌≡◌, ◌⊎◌, ℕ, ◌+◌, ◌<◌, List, [], ◌∷◌, ◌++◌, Bool, Some, if◌then◌else◌, drop}
 use Rattle.std.specs.List.{slice_get}
 
 -- the value at a place of the list meets P
@@ -16,6 +16,11 @@ pub record PairAt {A : Type 0} (R : A → A → Type 0) (xs : List A) (i j : ℕ
   pub first_is : slice_get xs i ≡ Some first
   pub second_is : slice_get xs j ≡ Some second
   pub related : R first second
+
+-- so many values of the list meet P
+abbrev pub SoManyMeet : {A : Type 0} → (A → Type 0) → List A → ℕ → Type 0
+SoManyMeet P [] n = n ≡ 0
+SoManyMeet P (x ∷ xs) n = (P x × ((m : ℕ) × (n ≡ m + 1) × SoManyMeet P xs m)) ⊎ ((¬ P x) × SoManyMeet P xs n)
 
 abbrev pub found_if : {B : Type 0} → Bool → B → List B
 found_if holds finding = if holds then finding ∷ [] else []

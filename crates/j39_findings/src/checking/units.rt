@@ -1,8 +1,7 @@
 //! What is wrong with the units of a plan.
 ghost use Rattle.std.specs.Prelude.{◌≡◌};
 ghost use Rattle.j39_findings.specs.Adding.{Adds};
-ghost use Rattle.j39_findings.specs.Findings.{needed_addresses, needs_pool_address};
-ghost use Rattle.j39_findings.specs.Found.{have_same_name, have_same_fixed_address, is_fixed, unit_findings};
+ghost use Rattle.j39_findings.specs.Found.{have_same_name, have_same_fixed_address, is_fixed, needed_addresses, needs_pool_address, unit_findings};
 
 use crate::checking::finding::Finding;
 use crate::checking::rules::{PairRule, find_pairs, push_if};

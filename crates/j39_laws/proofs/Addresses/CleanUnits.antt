@@ -10,7 +10,9 @@ use Rattle.j39_claim.specs.AddressSets.{is_free, free_count}
 use Rattle.j39_claim.specs.ClaimRule.{PlannedUnit}
 use Rattle.j39_id.specs.Name.{is_arbitrary}
 use Rattle.j39_id.specs.Addresses.{in_pool}
-use Rattle.j39_findings.specs.Findings.{Clean, Holds, needed_addresses, needs_pool_address}
+use Rattle.j39_findings.specs.Findings.{Clean, Holds}
+use Rattle.j39_findings.specs.Found.{needed_addresses, needs_pool_address}
+use Rattle.j39_findings.proofs.Deciding.{Decides-needs_pool_address, passing_meet}
 use Rattle.j39_findings.specs.declared.checking.finding.Finding.TheVariants.{SameName, SameFixedAddress, TooFewAddresses, KeptAddress}
 use Rattle.j39_findings.specs.declared.plan.Plan.{Plan}
 use Rattle.j39_findings.specs.declared.plan.unit_plan.UnitPlan.{UnitPlan}
@@ -104,7 +106,7 @@ clean_units plan clean = record {
   room =
       let needed = needed_addresses plan.keep_free plan.units.items in
       elim (cases_lt (free_count plan.keep_free) needed) [
-        | inl too_many ↦ absurd (clean (TooFewAddresses needed) (refl, too_many))
+        | inl too_many ↦ absurd (clean (TooFewAddresses needed) (passing_meet (Decides-needs_pool_address plan.keep_free) plan.units.items, too_many))
         | inr few ↦ omega (arith, count plan.keep_free plan.units.items)
       ];
   unkept = λ i inside arbitrary.
