@@ -1,7 +1,7 @@
 -- The receivers once one of them has heard something, or nothing in time.
 use Rattle.std.proofs.Common.{◌≡◌, ℕ, false, ◌&&◌, eqb, List, refl, sym, ◌∙◌, subst, inl, inr}
 use Rattle.std.proofs.lemmas.Bool.{and_parts, cases_Bool, eq-eqb, eqb-true}
-use Rattle.j39_tp.specs.inside.Gathered.{Gathers}
+use Rattle.j39_tp.specs.Gathered.{Gathers}
 use Rattle.j39_tp.specs.Receiver.{Receiving}
 use Rattle.j39_tp.specs.declared.packet.Packet.{Packet}
 use Rattle.j39_bus.specs.BusState.{Holding, ReceiverTable, holding_at}

@@ -2,7 +2,7 @@
 use Rattle.std.proofs.Common.{◌≡◌, ℕ, ◌≤◌, true, false, eqb, List, [], refl, sym, ap, ◌∙◌, Option, Some, None, length}
 use Rattle.std.proofs.lemmas.Bool.{cond_both, eqb-true, true≢false}
 use Rattle.std.specs.Prelude.{IfSome}
-use Rattle.j39_tp.specs.inside.Gathered.{Gathers, TellsComplete}
+use Rattle.j39_tp.specs.Gathered.{Gathers}
 use Rattle.j39_tp.specs.Receiver.{is_complete, size_told}
 use Rattle.j39_tp.specs.declared.receiving.heard.Heard.{Heard}
 use Rattle.j39_tp.specs.declared.receiving.heard.Heard.TheVariants as heards
@@ -27,13 +27,6 @@ left_gathers h (Open r) bytes is = is
 left_gathers h (Complete pgn) bytes is = tt
 
 -- ---- a message is complete
-
-pub tells : (x : Heard) → is_complete x ≡ true → TellsComplete x
-tells heards.Nothing is = absurd (true≢false (sym is))
-tells (heards.Reply q) is = absurd (true≢false (sym is))
-tells heards.Complete is = tt
-tells (heards.CompleteReply q) is = tt
-tells heards.Closed is = absurd (true≢false (sym is))
 
 -- the room that was made is enough
 pub room_enough : (x : Heard) (bytes : List ℕ) (capacity : ℕ) → is_complete x ≡ true → IfSome (size_told x bytes) (λ n. n ≤ capacity)

@@ -1,6 +1,6 @@
 -- What a bus stands for.
 use Rattle.std.specs.Prelude.{◌≡◌, ℕ, true, List, ◌∷◌, ◌++◌, length, map}
-use Rattle.j39_tp.specs.inside.Gathered.{Gathers}
+use Rattle.j39_tp.specs.Gathered.{Gathers}
 use Rattle.j39_tp.specs.declared.packet.Packet.{Packet}
 use Rattle.j39_findings.specs.declared.plan.Plan.{Plan}
 use Rattle.j39_findings.specs.declared.steps.Step.{Step}

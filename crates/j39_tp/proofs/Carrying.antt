@@ -7,7 +7,7 @@ use Rattle.std.proofs.lemmas.Bool.{ne_eqb, le-leb}
 use Rattle.j39_tp.specs.Chunks.{IsSize, packets_of}
 use Rattle.j39_tp.specs.Receiver.{hears, grown}
 use Rattle.j39_tp.specs.Carried.{Announces, MayPass, Awaits, Leaves, IsUndisturbed, Carried, listened, CompletesAt}
-use Rattle.j39_tp.specs.inside.Gathered.{Reaches}
+use Rattle.j39_tp.specs.Gathered.{Reaches}
 use Rattle.j39_tp.specs.declared.receiving.heard.Heard.{Heard}
 use Rattle.j39_tp.specs.declared.receiving.manner.Manner.TheVariants.{Listening}
 use Rattle.j39_tp.specs.declared.packet.Packet.{Packet}

@@ -8,9 +8,9 @@ use Rattle.std.proofs.lemmas.Option.{slice_get_within}
 use Rattle.j39_tp.specs.Chunks.{IsSize, packets_of}
 use Rattle.j39_tp.specs.Packets.{InRange}
 use Rattle.j39_tp.specs.Receiver.{Receiving, hears, receives, gives_up, timed_out, times_out, grown, bytes_at, message_of, opened, one_more, asks, completed}
-use Rattle.j39_tp.specs.Receiver.{going_on, takes, takes_next, takes_later, is_directed}
+use Rattle.j39_tp.specs.Receiver.{going_on, takes, takes_next, takes_later, is_complete, is_directed}
 use Rattle.j39_tp.specs.Carried.{Announces, MayPass, Awaits, Leaves, IsUndisturbed, Carried}
-use Rattle.j39_tp.specs.inside.Gathered.{Reaches, Gathered, Gathers, TellsComplete, HoldsCarried}
+use Rattle.j39_tp.specs.Gathered.{Reaches, Gathered, Gathers, HoldsCarried}
 use Rattle.j39_tp.specs.declared.receiving.heard.Heard.{Heard}
 use Rattle.j39_tp.specs.declared.receiving.manner.Manner.{Manner}
 use Rattle.j39_tp.specs.declared.receiving.manner.Manner.TheVariants.{Answering, Listening}
@@ -309,8 +309,11 @@ times_out_gathers h s g = gathers_kept h (timed_out s.manner s.progress).0 s.byt
 
 -- ---- a message that is told as complete
 
-if_told : (Q : Type 0) (b : Bool) (x y : Progress × Heard) → TellsComplete (if b then x else y).1
-    → (b ≡ true → TellsComplete x.1 → Q) → (b ≡ false → TellsComplete y.1 → Q) → Q
+abbrev Tells : Heard → Type 0
+Tells heard = is_complete heard ≡ true
+
+if_told : (Q : Type 0) (b : Bool) (x y : Progress × Heard) → Tells (if b then x else y).1
+    → (b ≡ true → Tells x.1 → Q) → (b ≡ false → Tells y.1 → Q) → Q
 if_told Q true x y told h k = h refl told
 if_told Q false x y told h k = k refl told
 
@@ -322,17 +325,17 @@ pub record IsLast (pr : Progress) (p : Packet) : Type 0 where
   pub packet_is : p ≡ Dt (suc reception.held) chunk
   pub last : suc reception.held ≡ packets_of reception.size
 
-going_untold : (m : Manner) (k : Kind) (r : Reception) → TellsComplete (going_on m k r).1 → ⊥
-going_untold (Answering window) Directed r told = told
-going_untold (Answering window) Broadcast r told = told
-going_untold Listening k r told = told
+going_untold : (m : Manner) (k : Kind) (r : Reception) → Tells (going_on m k r).1 → ⊥
+going_untold (Answering window) Directed r told = cc told
+going_untold (Answering window) Broadcast r told = cc told
+going_untold Listening k r told = cc told
 
-later_untold : (m : Manner) (k : Kind) (r : Reception) (number : ℕ) → TellsComplete (takes_later m k r number).1 → ⊥
-later_untold m Broadcast r number told = told
-later_untold Listening Directed r number told = told
-later_untold (Answering window) Directed r number told = if_told ⊥ (number == r.granted) _ _ told (λ _ f. f) (λ _ f. f)
+later_untold : (m : Manner) (k : Kind) (r : Reception) (number : ℕ) → Tells (takes_later m k r number).1 → ⊥
+later_untold m Broadcast r number told = cc told
+later_untold Listening Directed r number told = cc told
+later_untold (Answering window) Directed r number told = if_told ⊥ (number == r.granted) _ _ told (λ _ f. cc f) (λ _ f. cc f)
 
-next_told : (m : Manner) (r : Reception) (number : ℕ) (chunk : List ℕ) → number ≡ r.held + 1 → TellsComplete (takes_next m r).1
+next_told : (m : Manner) (r : Reception) (number : ℕ) (chunk : List ℕ) → number ≡ r.held + 1 → Tells (takes_next m r).1
     → IsLast (Open r) (Dt number chunk)
 next_told m r number chunk e told =
     if_told (IsLast (Open r) (Dt number chunk)) (r.held + 1 == packets_of r.size) _ _ told
@@ -344,29 +347,29 @@ next_told m r number chunk e told =
       last = sym (add-one r.held) ∙ eqb-true (r.held + 1) (packets_of r.size) last;
     })
     (λ _ other. if_told (IsLast (Open r) (Dt number chunk)) (r.held + 1 == r.granted) _ _ other
-    (λ _ f. absurd (going_untold m r.kind (one_more r) f)) (λ _ f. absurd f))
+    (λ _ f. absurd (going_untold m r.kind (one_more r) f)) (λ _ f. cc f))
 
-told_last : (m : Manner) (p : Packet) (pr : Progress) → TellsComplete (hears m pr p).1 → IsLast pr p
+told_last : (m : Manner) (p : Packet) (pr : Progress) → Tells (hears m pr p).1 → IsLast pr p
 told_last m (Bam size pgn) pr told = absurd (going_untold m Broadcast (opened Broadcast pgn size 255) told)
 told_last m (Rts size limit pgn) pr told = absurd (going_untold m Directed (opened Directed pgn size limit) told)
 told_last m (Dt number chunk) (Open r) told =
     if_told (IsLast (Open r) (Dt number chunk)) (number == r.held + 1) _ _ told
     (λ same next. next_told m r number chunk (eqb-true number (r.held + 1) same) next)
     (λ _ other. if_told (IsLast (Open r) (Dt number chunk)) (nat_le number r.held) _ _ other
-    (λ _ f. absurd f)
+    (λ _ f. cc f)
     (λ _ later. absurd (later_untold m r.kind r number later)))
 told_last m (Abort reason pgn) (Open r) told =
-    if_told (IsLast (Open r) (Abort reason pgn)) (is_directed r.kind && pgn == r.pgn) _ _ told (λ _ f. absurd f) (λ _ f. absurd f)
-told_last m (Cts count first pgn) (Open r) told = absurd told
-told_last m (EndAck size pgn) (Open r) told = absurd told
-told_last m (Dt number chunk) Closed told = absurd told
-told_last m (Abort reason pgn) Closed told = absurd told
-told_last m (Cts count first pgn) Closed told = absurd told
-told_last m (EndAck size pgn) Closed told = absurd told
-told_last m (Dt number chunk) (Complete pgn) told = absurd told
-told_last m (Abort reason named) (Complete pgn) told = absurd told
-told_last m (Cts count first named) (Complete pgn) told = absurd told
-told_last m (EndAck size named) (Complete pgn) told = absurd told
+    if_told (IsLast (Open r) (Abort reason pgn)) (is_directed r.kind && pgn == r.pgn) _ _ told (λ _ f. cc f) (λ _ f. cc f)
+told_last m (Cts count first pgn) (Open r) told = cc told
+told_last m (EndAck size pgn) (Open r) told = cc told
+told_last m (Dt number chunk) Closed told = cc told
+told_last m (Abort reason pgn) Closed told = cc told
+told_last m (Cts count first pgn) Closed told = cc told
+told_last m (EndAck size pgn) Closed told = cc told
+told_last m (Dt number chunk) (Complete pgn) told = cc told
+told_last m (Abort reason named) (Complete pgn) told = cc told
+told_last m (Cts count first named) (Complete pgn) told = cc told
+told_last m (EndAck size named) (Complete pgn) told = cc told
 
 -- the last packet makes the history carry the message
 last_carried : (h : List Packet) (r : Reception) (bytes chunk : List ℕ) → suc r.held ≡ packets_of r.size → Gathered h r bytes
@@ -394,7 +397,7 @@ last_received s p r chunk o q last =
     let all : grown s.progress p s.bytes ≡ take r.size (s.bytes ++ chunk) = rw (o, q) (last_grown r s.bytes chunk) in
     (ap (λ (x : Progress × Heard). x.0) done, rw (done, all) refl)
 
-pub completes_carried : (h : List Packet) (s : Receiving) (p : Packet) → Gathers h s.progress s.bytes → TellsComplete (hears s.manner s.progress p).1
+pub completes_carried : (h : List Packet) (s : Receiving) (p : Packet) → Gathers h s.progress s.bytes → is_complete (hears s.manner s.progress p).1 ≡ true
     → HoldsCarried (h ++ p ∷ []) (length h) (receives s p)
 completes_carried h s p g told =
     let l = told_last s.manner p s.progress told in

@@ -1,11 +1,11 @@
 -- A listener completes only what the list carries.
-use Rattle.std.proofs.Common.{◌≡◌, ℕ, zero, suc, ◌<◌, List, [], ◌∷◌, ◌++◌, length, take, drop, Option, Some, None, refl, sym, ap, ◌∙◌, subst, arith}
+use Rattle.std.proofs.Common.{◌≡◌, true, ℕ, zero, suc, ◌<◌, List, [], ◌∷◌, ◌++◌, length, take, drop, Option, Some, None, refl, sym, ap, ◌∙◌, subst, arith}
 use Rattle.std.specs.Prelude.{slice_get}
 use Rattle.std.proofs.lemmas.List.{take-append-drop, length-take-le}
 use Rattle.std.proofs.lemmas.Option.{slice_get_within}
-use Rattle.j39_tp.specs.Receiver.{Receiving, hears, receives, message_of}
+use Rattle.j39_tp.specs.Receiver.{Receiving, hears, is_complete, receives, message_of}
 use Rattle.j39_tp.specs.Carried.{Carried, receives_any, listened, CompletesAt, AreInRange}
-use Rattle.j39_tp.specs.inside.Gathered.{Gathers, TellsComplete}
+use Rattle.j39_tp.specs.Gathered.{Gathers}
 use Rattle.j39_tp.specs.declared.receiving.heard.Heard.TheVariants as heard
 use Rattle.j39_tp.specs.declared.receiving.manner.Manner.{Manner}
 use Rattle.j39_tp.specs.declared.receiving.manner.Manner.TheVariants.{Listening}
@@ -64,8 +64,8 @@ carried_whole h q pgn message p e c =
 same_pgn : (a b : ℕ) → Complete a ≡ Complete b → a ≡ b
 same_pgn a b e = cc e
 
-told_complete : (m : Manner) (pr : Progress) (p : Packet) → m ≡ Listening → (hears Listening pr p).1 ≡ heard.Complete → TellsComplete (hears m pr p).1
-told_complete m pr p listens told = rw (listens, told) tt
+told_complete : (m : Manner) (pr : Progress) (p : Packet) → m ≡ Listening → (hears Listening pr p).1 ≡ heard.Complete → is_complete (hears m pr p).1 ≡ true
+told_complete m pr p listens told = rw (listens, told) refl
 
 -- the message of a receiver that holds one
 held_message : (s : Receiving) (pgn : ℕ) (message : List ℕ) → s.progress ≡ Complete pgn → s.bytes ≡ message → message_of s.progress s.bytes ≡ message

@@ -4,7 +4,7 @@ use Rattle.std.specs.Prelude.{nat_le, slice_get}
 use Rattle.std.proofs.lemmas.Bool.{cases_lt, le-leb, lt-leb}
 use Rattle.j39_tp.specs.Chunks.{IsSize, packets_of}
 use Rattle.j39_tp.specs.Carried.{Announces, IsNext, chunks_to, IsUndisturbed, Carried}
-use Rattle.j39_tp.specs.inside.Gathered.{Reaches}
+use Rattle.j39_tp.specs.Gathered.{Reaches}
 use Rattle.j39_tp.specs.declared.packet.Packet.{Packet}
 use Rattle.j39_tp.specs.declared.receiving.reception.Kind.{Kind}
 

@@ -4,5 +4,6 @@ pub mod Reasons
 pub mod Sender
 pub mod Receiver
 pub mod Carried
+pub mod Gathered
 pub mod HonestPackets
 pub mod inside

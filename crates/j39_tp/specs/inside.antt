@@ -1,3 +1,2 @@
--- What private contracts and proofs need, and a law that the proofs of a bus cite.
-pub mod Gathered
+-- What private contracts and proofs need.
 pub mod Held

@@ -1,10 +1,10 @@
 //! Laws of packets and of receivers.
-ghost use Rattle.std.specs.Prelude.{◌≡◌, ℕ, List, [], ◌∷◌, ◌++◌, length};
+ghost use Rattle.std.specs.Prelude.{◌≡◌, ℕ, true, List, [], ◌∷◌, ◌++◌, length};
 ghost use Rattle.j39_tp.specs.Carried.{AreInRange, CompletesAt, Carried};
-ghost use Rattle.j39_tp.specs.inside.Gathered.{Gathers, TellsComplete, HoldsCarried};
+ghost use Rattle.j39_tp.specs.Gathered.{Gathers, HoldsCarried};
 ghost use Rattle.j39_tp.specs.HonestPackets.{AnnouncesMessage, GoesOn, TellsLast, CarriesItsMessage};
 ghost use Rattle.j39_tp.specs.Packets.{InRange, ManagementReadsBack, DataReadsBack, AreOneManagement, AreOneData};
-ghost use Rattle.j39_tp.specs.Receiver.{Receiving, hears, receives, gives_up};
+ghost use Rattle.j39_tp.specs.Receiver.{Receiving, hears, is_complete, receives, gives_up};
 
 use crate::{Packet, PacketError, from_cm, from_dt, known_ranges, to_data};
 
@@ -38,8 +38,8 @@ pub fn receivers_gather_what_they_hear()
     ensures hears { (h : List Packet) (s : Receiving) (p : Packet) → InRange p → Gathers h s.progress s.bytes
         → Gathers (h ++ p ∷ []) (receives s p).progress (receives s p).bytes }
     ensures times_out { (h : List Packet) (s : Receiving) → Gathers h s.progress s.bytes → Gathers h (gives_up s).progress (gives_up s).bytes }
-    ensures completes { (h : List Packet) (s : Receiving) (p : Packet) → Gathers h s.progress s.bytes → TellsComplete (hears s.manner s.progress p).1
-        → HoldsCarried (h ++ p ∷ []) (length h) (receives s p) }
+    ensures completes { (h : List Packet) (s : Receiving) (p : Packet) → Gathers h s.progress s.bytes
+        → is_complete (hears s.manner s.progress p).1 ≡ true → HoldsCarried (h ++ p ∷ []) (length h) (receives s p) }
 {}
 
 /// What an honest sender has put on the bus since its announcement carries its message and no other.

@@ -13,7 +13,7 @@ use Rattle.j39_tp.specs.Chunks.{IsSize, packets_of, part, chunk}
 use Rattle.j39_tp.specs.Receiver as receiver
 use Rattle.j39_tp.specs.Receiver.{Receiving, opened, is_directed}
 use Rattle.j39_tp.specs.Sender as sender
-use Rattle.j39_tp.specs.inside.Gathered.{Reaches, Gathered, Gathers}
+use Rattle.j39_tp.specs.Gathered.{Reaches, Gathered, Gathers}
 use Rattle.j39_tp.specs.declared.packet.Packet.{Packet}
 use Rattle.j39_tp.specs.declared.packet.Packet.TheVariants.{Rts, Cts, EndAck, Bam, Abort, Dt}
 use Rattle.j39_tp.specs.declared.receiving.heard.Heard.{Heard}

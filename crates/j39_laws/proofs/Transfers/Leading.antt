@@ -5,7 +5,7 @@ use Rattle.std.specs.Prelude.{slice_get}
 use Rattle.std.proofs.lemmas.Bool.{not-false}
 use Rattle.j39_tp.specs.Carried.{Carried}
 use Rattle.j39_tp.specs.Sender as sender
-use Rattle.j39_tp.specs.inside.Gathered.{TellsComplete}
+use Rattle.j39_tp.specs.Receiver.{is_complete}
 use Rattle.j39_tp.specs.declared.packet.Packet.{Packet}
 use Rattle.j39_tp.specs.declared.receiving.heard.Heard.{Heard}
 use Rattle.j39_tp.specs.declared.receiving.heard.Heard.TheVariants as heards
@@ -72,7 +72,7 @@ module _ (plan : Plan) (w : World) (inv : IsWorldFit w) where
   -- ---- what is taken
 
   module _ (windows : List ℕ) (u v : ℕ) where
-    carried : (p : Packet) → TellsComplete (hearing windows w u v p).1
+    carried : (p : Packet) → is_complete (hearing windows w u v p).1 ≡ true
         → (pgn : ℕ) × (bytes : List ℕ) × Carried (w.taken v u ++ p ∷ []) (length (w.taken v u)) pgn bytes
     carried p told =
         let g : HasGathered (w.taken v u) (w.receivers v u) = inv.gathered v u in
@@ -80,12 +80,12 @@ module _ (plan : Plan) (w : World) (inv : IsWorldFit w) where
         (record { manner = Answering (window_at windows v); progress = w.receivers v u; bytes = g.0 }) p g.1 told in
         (holds.pgn, _, holds.carried)
 
-    reports_one : (p : Packet) → TellsComplete (hearing windows w u v p).1 → (reports : List Reported) × ReportsOne w u v p reports
+    reports_one : (p : Packet) → is_complete (hearing windows w u v p).1 ≡ true → (reports : List Reported) × ReportsOne w u v p reports
     reports_one p told = let (pgn, bytes, is) = carried p told in (report w u v bytes ∷ [], (pgn, bytes, is, refl))
 
     reported : (p : Packet) (h : Heard) → (hearing windows w u v p).1 ≡ h → (reports : List Reported) × Reports w u v p h reports
-    reported p heards.Complete is = reports_one p (subst TellsComplete (sym is) tt)
-    reported p (heards.CompleteReply q) is = reports_one p (subst TellsComplete (sym is) tt)
+    reported p heards.Complete is = reports_one p (subst (λ (x : Heard). is_complete x ≡ true) (sym is) refl)
+    reported p (heards.CompleteReply q) is = reports_one p (subst (λ (x : Heard). is_complete x ≡ true) (sym is) refl)
     reported p heards.Nothing is = ([], refl)
     reported p heards.Closed is = ([], refl)
     reported p (heards.Reply q) is = ([], refl)

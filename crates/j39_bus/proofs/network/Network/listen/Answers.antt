@@ -1,7 +1,7 @@
 use Rattle.std.proofs.Common.{◌≡◌, ℕ, true, ◌&&◌, eqb, List, [], ◌∷◌, ◌++◌, length, ap, sym, ◌∙◌, subst}
 use Rattle.std.proofs.lemmas.Bool.{cond-false}
 use Rattle.j39_tp.specs.Carried.{Carried}
-use Rattle.j39_tp.specs.inside.Gathered.{Gathers}
+use Rattle.j39_tp.specs.Gathered.{Gathers}
 use Rattle.j39_tp.specs.Receiver.{hears, is_complete, receives}
 use Rattle.j39_tp.specs.declared.packet.Packet.{Packet}
 use Rattle.j39_bus.specs.inside.Network.{world_in}
@@ -9,7 +9,6 @@ use Rattle.j39_bus.specs.inside.Receivers.{receiver_at}
 use Rattle.j39_world.specs.World.{changed_pair}
 use Rattle.j39_bus.proofs.ChangedReceivers.{changed_here, held_changed, progress_changed}
 use Rattle.j39_bus.proofs.ChangedSessions.{after_is, sessions_staged}
-use Rattle.j39_bus.proofs.HeardPackets.{tells}
 use Rattle.j39_bus.proofs.Wires.{as_table}
 use Rattle.j39_world.specs.TransferSteps.{session_hears}
 use Rattle.j39_world.specs.World.{changed}
@@ -70,7 +69,7 @@ returns-clause-complete c = λ h held done.
     let p = c.args.packet.now in
     let r = receiver_at net.receivers v u in
     let by_rule : is_complete (hears r.manner r.progress p).1 ≡ true = ap is_complete (sym c.in_ok-heard.ensures.heard) ∙ done in
-    let holds = c.receivers_gather_what_they_hear.ensures.completes (h.taken v u) r p (held v u) (tells (hears r.manner r.progress p).1 by_rule) in (
+    let holds = c.receivers_gather_what_they_hear.ensures.completes (h.taken v u) r p (held v u) by_rule in (
       holds.pgn,
       subst (Carried (h.taken v u ++ p ∷ []) (length (h.taken v u)) holds.pgn) (sym (c.in_ok-heard.ensures.message done)) holds.carried,
     )

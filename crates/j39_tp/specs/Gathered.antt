@@ -4,8 +4,6 @@ use Rattle.std.specs.Prelude.{◌≡◌, ℕ, zero, suc, ◌<◌, List, [], ◌+
 use Rattle.j39_tp.specs.Chunks.{IsSize}
 use Rattle.j39_tp.specs.Receiver.{Receiving, message_of}
 use Rattle.j39_tp.specs.Carried.{Announces, Awaits, IsUndisturbed, Carried}
-use Rattle.j39_tp.specs.declared.receiving.heard.Heard.{Heard}
-use Rattle.j39_tp.specs.declared.receiving.heard.Heard.TheVariants as heard
 use Rattle.j39_tp.specs.declared.packet.Packet.{Packet}
 use Rattle.j39_tp.specs.declared.packet.Packet.TheVariants.{Dt}
 use Rattle.j39_tp.specs.declared.receiving.progress.Progress.{Progress}
@@ -41,12 +39,6 @@ pub record Gathered (h : List Packet) (r : Reception) (bytes : List ℕ) : Type 
 abbrev pub Gathers : List Packet → Progress → List ℕ → Type 0
 Gathers h (Open r) bytes = Gathered h r bytes
 Gathers h _ bytes = Unit {0}
-
--- a message is told as complete
-abbrev pub TellsComplete : Heard → Type 0
-TellsComplete heard.Complete = Unit {0}
-TellsComplete (heard.CompleteReply packet) = Unit {0}
-TellsComplete _ = ⊥
 
 -- a receiver that holds the message that the list carries at this place
 pub record HoldsCarried (h : List Packet) (place : ℕ) (s : Receiving) : Type 0 where
