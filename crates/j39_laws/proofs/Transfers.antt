@@ -7,3 +7,7 @@ pub mod Lowering
 pub mod Accounted
 pub mod AccountedSteps
 pub mod Ending
+pub mod Flights
+pub mod Coming
+pub mod ComingTaken
+pub mod Arriving

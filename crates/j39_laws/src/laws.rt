@@ -13,8 +13,10 @@ ghost use Rattle.j39_world.specs.Run.{Run, RunsThrough};
 ghost use Rattle.j39_world.specs.Settling.{Settles};
 ghost use Rattle.j39_world.specs.Sound.{AreAddressesSound, AreAddressesDifferent, AreKeptFree, AreNotesRight, IsQuiet, AreReportsSound, IsAcknowledgedReported};
 
+mod arrivals;
 mod transfers;
 
+pub use arrivals::unanswered_messages_arrive;
 pub use transfers::{every_transfer_ends, steps_lead_somewhere};
 
 /// In every world of every run of a plan without findings, with all lawful choices, addresses are sound: each unit that is on holds

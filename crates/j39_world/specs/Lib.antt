@@ -14,5 +14,6 @@ pub mod Settling
 pub mod Leading
 pub mod Ending
 pub mod Conflict
+pub mod Arriving
 pub mod SoundPlan
 pub mod Opening

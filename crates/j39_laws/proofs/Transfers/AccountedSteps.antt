@@ -107,7 +107,7 @@ module _ (plan : Plan) (w : World) (inv : TransferInvariant plan w) (old : AllAc
   none_ends : ((u : ℕ) → w.sessions u ≡ None) → (stations : Stations) (u : ℕ) → AreEndsOn stations u (w.sessions u)
   none_ends none stations u = subst (AreEndsOn stations u) (sym (none u)) tt
 
-  none_open : is_no_transfer_open (count_of plan) w ≡ true → (u : ℕ) → w.sessions u ≡ None
+  pub none_open : is_no_transfer_open (count_of plan) w ≡ true → (u : ℕ) → w.sessions u ≡ None
   none_open closed = none_sends plan w.stations w.claims w.sessions inv.order (units_all plan (λ v. not (is_some (w.sessions v))) closed)
 
   give_accounted : (u v : ℕ) → ltb 0 (length (w.claims u v)) ≡ true → (list : List Item) (new : World) → GivenFrom (units_of plan) w u v list new
@@ -120,7 +120,7 @@ module _ (plan : Plan) (w : World) (inv : TransferInvariant plan w) (old : AllAc
 
   -- ---- a sender begins, goes on, or hears nothing in time
 
-  begin_accounted : (f : ℕ) (o : Option Flow) (bytes : List ℕ) → begin_refusal (count_of plan) w o bytes ≡ None → (new : World)
+  pub begin_accounted : (f : ℕ) (o : Option Flow) (bytes : List ℕ) → begin_refusal (count_of plan) w o bytes ≡ None → (new : World)
       → BeginsAt (count_of plan) w f o bytes new → AllAccounted new
   begin_accounted f None bytes allowed new never = absurd never
   begin_accounted f (Some flow) bytes allowed new e =
@@ -254,7 +254,7 @@ module _ (plan : Plan) (w : World) (inv : TransferInvariant plan w) (old : AllAc
   accounted_keeps (Rest u) allowed new e =
       let (known, (on, (over, none))) = none_refuses plan w (Rest u) allowed in subst AllAccounted (sym e) (rest_accounted u (not-false _ over))
 
-keeps : (plan : Plan) → IsPreserved plan (IsKept plan)
+pub keeps : (plan : Plan) → IsPreserved plan (IsKept plan)
 keeps plan w old step allowed new leads = record {
   transfers = steps_keep plan w old.transfers step allowed new leads;
   accounted = accounted_keeps plan w old.transfers old.accounted step allowed new leads;

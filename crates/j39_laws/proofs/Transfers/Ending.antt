@@ -19,7 +19,7 @@ use Rattle.j39_world.specs.SoundPlan.{Always}
 use Rattle.j39_world.specs.Transfers.{Outgoing, outcome_in}
 use Rattle.j39_world.specs.World.{World}
 use Rattle.j39_laws.proofs.Reports.Orderly.{PlannedAt}
-use Rattle.j39_laws.proofs.Runs.Conditions.{is_unit, none_unknown, not_refused}
+use Rattle.j39_laws.proofs.Runs.Conditions.{is_unit, NoneHoldOf, none_unknown, not_refused}
 use Rattle.j39_laws.proofs.Transfers.Accounted.{SendsTo, IsAccounted, AreEndsOn}
 use Rattle.j39_laws.proofs.Transfers.AccountedSteps.{IsKept, all_kept, sent_unit, sent_where_open}
 use Rattle.j39_laws.proofs.Transfers.FitSteps.{IsWorldFit, steps_fit, worlds_fit}
@@ -83,12 +83,16 @@ module _ (plan : Plan) (w : World) (kept : IsKept plan w) where
   none_off : (s t : ℕ) → AreReady s t → either (is_off w.stations) s t ≡ false
   none_off s t r = or_from (is_off w.stations s) (is_off w.stations t) (not_from_true (is_on w.stations s) r.2) (not_from_true (is_on w.stations t) r.3)
 
-  can_lose : (s t : ℕ) → IsSome (w.wire s t) → CanGoOn plan w
-  can_lose s t some =
+  -- what is undelivered can be taken or lost
+  pub item_ready : (s t : ℕ) → IsSome (w.wire s t) → NoneHoldOf plan w (Lose s t)
+  item_ready s t some =
       let r = accounted_ready s t some.item (subst (AllByRecursion (IsAccounted w.sessions s t)) some.is (kept.accounted.wire s t)).0 in
       let long : 0 < length (w.wire s t) = (let e : length (w.wire s t) ≡ length (some.item ∷ some.rest) = ap length some.is in omega (arith, e)) in
       let full : is_empty (w.wire s t) ≡ false = not_from_true (ltb 0 (length (w.wire s t))) (lt-ltb 0 (length (w.wire s t)) long) in
-      (Lose s t, tt, not_refused plan w (Lose s t) (none_unknown plan s t r.0 r.1, (none_off s t r, (full, tt))))
+      (none_unknown plan s t r.0 r.1, (none_off s t r, (full, tt)))
+
+  can_lose : (s t : ℕ) → IsSome (w.wire s t) → CanGoOn plan w
+  can_lose s t some = (Lose s t, tt, not_refused plan w (Lose s t) (item_ready s t some))
 
   can_time_out : (u t : ℕ) → is_open_at (w.receivers t u) ≡ true → CanGoOn plan w
   can_time_out u t is =
@@ -113,10 +117,10 @@ module _ (plan : Plan) (w : World) (kept : IsKept plan w) where
     on : is_on w.stations u ≡ true
     on = (let ends : AreEndsOn w.stations u (Some o) = subst (AreEndsOn w.stations u) is (kept.accounted.ends u) in ends.0)
 
-    can_emit_next : (next last : ℕ) → o.stage ≡ Sending next last → CanGoOn plan w
-    can_emit_next next last stage =
+    pub emit_allowed : (next last : ℕ) → o.stage ≡ Sending next last → refusal plan w (Emit u) ≡ None
+    emit_allowed next last stage =
         let can : can_emit (w.sessions u) ≡ true = rw (is, stage) refl in
-        (Emit u, tt, not_refused plan w (Emit u) (not_from_true _ unit, (not_from_true _ on, (not_from_true _ can, tt))))
+        not_refused plan w (Emit u) (not_from_true _ unit, (not_from_true _ on, (not_from_true _ can, tt)))
 
     can_give_up : o.stage ≡ Waiting → CanGoOn plan w
     can_give_up stage =
@@ -135,7 +139,7 @@ module _ (plan : Plan) (w : World) (kept : IsKept plan w) where
         ]
 
     by_stage : (stage : Stage) → o.stage ≡ stage → CanGoOn plan w
-    by_stage (Sending next last) stage = can_emit_next next last stage
+    by_stage (Sending next last) stage = (Emit u, tt, emit_allowed next last stage)
     by_stage Waiting stage = can_give_up stage
     by_stage (Resting outcome) stage = rest_or_more outcome stage
 
