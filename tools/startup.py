@@ -115,6 +115,18 @@ def ordered(labels: list[str], first: Iterable[str]) -> list[str]:
     return list(dict.fromkeys([*first, *labels]))
 
 
+def sure_of(plan: str) -> set[str]:
+    """The units that hold their planned addresses in each run; of a plan whose addresses have findings none is known to."""
+    _, answer = program.call(["addresses", "--", plan])
+    lines = [line.split() for line in answer.splitlines()]
+    return {words[1] for words in lines if words[0] == "unit" and words[2] == "stays"}
+
+
+def told(ends: list[str], sure: set[str]) -> list[str]:
+    """The lines that a run ends with, and of which units the address is the same in each run."""
+    return [f"{line}, sure" if line.startswith("unit ") and line.split()[1] in sure else line for line in ends]
+
+
 def main(words: list[str] | None = None) -> int:
     """Writes the schedule."""
     parser = program.parser(__doc__)
@@ -127,7 +139,7 @@ def main(words: list[str] | None = None) -> int:
     with program.copied(given.plan) as plan:
         labels = program.labels_of(plan)
         start_up(units_on(plan, labels, ordered(labels, given.first)), schedule)
-        ends = settled(plan, schedule)
+        ends = told(settled(plan, schedule), sure_of(plan))
     print("\n".join(schedule.lines))
     print("\n".join(ends), file=sys.stderr)
     return 0

@@ -14,7 +14,7 @@ import program
 from tests.support import TOOLS, TOP, InFolder, text_of
 
 PACKAGE = os.path.join(TOOLS, "package")
-COMMANDS = ["check", "run", "read", "frame", "help"]
+COMMANDS = ["check", "addresses", "run", "read", "frame", "help"]
 INSTALLED = ["where", "startup", "dbc2plan", "against", "check-plans"]
 PAGE = text_of(os.path.join(TOP, "docs", "TOOLS.md"))
 

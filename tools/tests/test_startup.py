@@ -19,7 +19,8 @@ class Startup(InFolder):
         lines = answer.splitlines()
         self.assertEqual(lines[-1], "settled")
         shown = [line for line in lines if "#" not in line]
-        self.assertEqual("".join(f"{line}\n" for line in shown), said)
+        self.assertEqual("".join(f"{line}\n" for line in shown), said.replace(", sure\n", "\n"))
+        self.sure = [line.split()[1] for line in said.splitlines() if line.endswith(", sure")]
         return schedule.splitlines(), shown
 
     def test_each_example_that_has_a_bus(self):
@@ -32,6 +33,17 @@ class Startup(InFolder):
         schedule, shown = self.ends(example("address_contest.toml"))
         self.assertEqual(schedule[1:], ["up A", "up B", "give B A", "give A B", "give B A"])
         self.assertEqual(shown, ["unit A address 128", "unit B address 129", "settled"])
+
+    def test_which_addresses_are_sure(self):
+        """Those of units that stay: of all where planned addresses differ, of the smaller NAME of two at one address; of none where a
+        finding on addresses leaves that open."""
+        for plan, sure in [
+            ("first_plan.toml", ["ENGINE", "CLUSTER"]),
+            ("address_contest.toml", ["A"]),
+            ("findings/f02_same_fixed_address.toml", []),
+        ]:
+            self.ends(example(plan))
+            self.assertEqual(self.sure, sure)
 
     def test_units_named_first(self):
         schedule, _ = self.ends(example("address_contest.toml"), "B")
@@ -49,6 +61,7 @@ class Startup(InFolder):
         unit = '[[unit]]\nlabel = "{}"\naddress = 128\nname = {{ identity = {}, arbitrary = true }}\n'
         plan = self.write("plan.toml", "version = 1\n" + "".join(unit.format(*pair) for pair in zip("ABC", (1, 2, 3))))
         self.assertEqual(self.ends(plan)[1], ["unit A address 128", "unit B address 129", "unit C address 130", "settled"])
+        self.assertEqual(self.sure, ["A"])
         steps = ["up A", "up B", "up C", "give C A", "give A C", "give C B", "give C B", "give A B", "give C A",
                  *["give B A"] * 3, *["give A B"] * 2, *["give B C"] * 2, *["give A C"] * 2]
         lines = [line for line in program.run(plan, steps) if "#" not in line]

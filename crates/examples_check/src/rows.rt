@@ -1,7 +1,7 @@
 //! Rows: a file that a command is run on, and beside it what the command writes.
 //!
-//! `PLAN.toml` is checked, `PLAN.NAME.schedule` is run and `PLAN.NAME.log` is read by the plan beside it, and `NAME.line`
-//! is a frame line. Standard error stays empty, and the status is one of the program's output.
+//! `PLAN.toml` is checked, and where `PLAN.addresses` stands beside it also answered as to its addresses; `PLAN.NAME.schedule` is run
+//! and `PLAN.NAME.log` is read by the plan beside it, and `NAME.line` is a frame line. Standard error stays empty, and the status is one of the program's output.
 
 use crate::outcome::perform;
 use crate::pieces::are_as_shown;
@@ -17,11 +17,16 @@ struct Kind {
     shown: &'static str,
 }
 
-const KINDS: [Kind; 4] = [
+const KINDS: [Kind; 5] = [
     Kind {
         command: "check",
         ending: ".toml",
         shown: ".check",
+    },
+    Kind {
+        command: "addresses",
+        ending: ".addresses",
+        shown: ".addresses",
     },
     Kind {
         command: "run",
@@ -61,6 +66,7 @@ fn words_of<R: Files + AllocGlobal>(
     words.push(kind.command.as_bytes().to_vec(rt.alloc())?)?;
     match kind.command {
         "check" => words.push(file.into_bytes())?,
+        "addresses" => words.push(plan_of(rt, name)?.into_bytes())?,
         "frame" => words.push(fs::read(rt, format!(in rt.alloc(); "{folder}{file}")?.as_str())?)?,
         _ => {
             words.push(plan_of(rt, name)?.into_bytes())?;

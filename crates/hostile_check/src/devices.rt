@@ -101,7 +101,8 @@ fn wanted_reads(row: &Row, piece: usize) -> (u64, u64)
     } else {
         reads_of(row.plan, piece)
     };
-    let input = if row.command == Command::Check || row.verdict == Verdict::Unreadable {
+    let is_of_the_plan = row.command == Command::Check || row.command == Command::Addresses;
+    let input = if is_of_the_plan || row.verdict == Verdict::Unreadable {
         0
     } else {
         reads_of(row.input, piece)

@@ -53,6 +53,9 @@ const CHECK: [&str; 16] = [
     "", "refused",
 ];
 
+// Those of addresses, where it doesn't answer as check does.
+const ADDRESSES: [&str; 2] = ["unit", "stay"];
+
 const FRAME: [&str; 7] = [
     "frame", "priority", "claim", "cannot", "identity", "request", "refused",
 ];
@@ -91,6 +94,7 @@ fn is_line_of(command: Command, line: &str) -> bool {
     match command {
         Command::Frame => FRAME.contains(&first),
         Command::Check => CHECK.contains(&first),
+        Command::Addresses => ADDRESSES.contains(&first) || CHECK.contains(&first),
         Command::Run => RUN.contains(&first) || first.contains('#'),
         Command::Read => READ.contains(&first),
     }

@@ -1,7 +1,8 @@
 //! Commands, by what they read.
 use crate::Command;
 use j39_app::{
-    Fault, Sink, Source, Verdict, check_text, input_text, plan_text, read_text, run_planned,
+    Fault, Sink, Source, Verdict, addresses_text, check_text, input_text, plan_text, read_text,
+    run_planned,
 };
 use std::alloc::Global;
 
@@ -16,6 +17,7 @@ pub fn perform<P: Source, S: Source, W: Sink>(
     match command {
         Command::Frame => return input_text(alloc, input, sink),
         Command::Check => return check_text(alloc, plan, sink),
+        Command::Addresses => return addresses_text(alloc, plan, sink),
         Command::Run | Command::Read => {}
     }
     let Some(plan) = plan_text(alloc, plan, sink)? else {

@@ -8,6 +8,8 @@ pub enum Command {
     Frame,
     /// The plan's check.
     Check,
+    /// Which units of the plan stay.
+    Addresses,
     /// The run of a schedule, the input.
     Run,
     /// The reading of a log, the input.

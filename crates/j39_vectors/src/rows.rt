@@ -16,6 +16,18 @@ address = 0
 name = { identity = 2 }
 ";
 
+// Two units that may choose, at one address.
+const CONTEST: &str = "version = 1
+[[unit]]
+label = \"A\"
+address = 128
+name = { identity = 1, arbitrary = true }
+[[unit]]
+label = \"B\"
+address = 128
+name = { identity = 2, arbitrary = true }
+";
+
 // Two fixed units, A at 0 and B at 3, and a group of 17 bytes, which A sends to all by flow 1 and to B by flow 2.
 const SENDING: &str = "version = 1
 [[unit]]
@@ -101,6 +113,18 @@ pub const CHECK_OF_A_FINDING: Row = Row {
 findings 1
 ",
     verdict: Verdict::Findings,
+};
+
+const ADDRESSES_OF_A_CONTEST: Row = Row {
+    name: "two units that may choose, at one address",
+    command: Command::Addresses,
+    plan: CONTEST,
+    input: "",
+    text: "unit A stays 128
+unit B may move from 128
+stay 1 of 2
+",
+    verdict: Verdict::Done,
 };
 
 const RUN_OF_A_CONFLICT: Row = Row {
@@ -244,11 +268,12 @@ frames 4 skipped 0 bad 0
 };
 
 /// Each row.
-pub const ROWS: [Row; 11] = [
+pub const ROWS: [Row; 12] = [
     FRAME,
     CHECK_OF_NOTHING,
     CHECK_OF_A_PLAN,
     CHECK_OF_A_FINDING,
+    ADDRESSES_OF_A_CONTEST,
     RUN_OF_A_CONFLICT,
     RUN_OF_A_BROADCAST,
     RUN_OF_A_MESSAGE,

@@ -11,15 +11,15 @@ _j39plan() {
   local word=${COMP_WORDS[COMP_CWORD]}
   COMPREPLY=()
   if [ "$COMP_CWORD" -eq 1 ]; then
-    mapfile -t COMPREPLY < <(compgen -W 'check run read frame help --help --version' -- "$word")
-  elif [[ ${COMP_WORDS[1]} =~ ^(check|run|read)$ ]]; then
+    mapfile -t COMPREPLY < <(compgen -W 'check addresses run read frame help --help --version' -- "$word")
+  elif [[ ${COMP_WORDS[1]} =~ ^(check|addresses|run|read)$ ]]; then
     case "$COMP_CWORD ${COMP_WORDS[1]}" in
       '3 run') _j39plan_files schedule "$word" ;;
       '3 read') _j39plan_files log "$word" ;;
       *) _j39plan_files toml "$word" ;;
     esac
   elif [ "${COMP_WORDS[1]}" = help ]; then
-    mapfile -t COMPREPLY < <(compgen -W 'check run read frame' -- "$word")
+    mapfile -t COMPREPLY < <(compgen -W 'check addresses run read frame' -- "$word")
   fi
 }
 complete -F _j39plan j39plan
