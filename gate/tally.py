@@ -18,6 +18,7 @@ COMMANDS = (
     ["frame", "18EEFF00#0100800C00000010"],
     ["check", "tractor_and_implement.toml"],
     ["check", "findings/several.toml"],
+    ["addresses", "three_at_one_address.toml"],
     ["run", "transfers.toml", "transfers.directed_lost.schedule"],
     ["read", "tractor_and_implement.toml", "tractor_and_implement.start.log"],
     ["--help"],
