@@ -22,13 +22,23 @@ DECIMAL = re.compile(r"[+-]?[0-9_]{1,20}(?:\.[0-9_]{1,20})?(?:[eE][+-]?[0-9]{1,2
 
 SCHEMA = os.path.join(os.path.dirname(os.path.realpath(__file__)), "plan.schema.json")
 
+# The keys and the kinds of signals that the first version doesn't know, each with the first that does.
+SINCE: dict[object, int] = {(None, "keep_free"): 2, ("signal", "per"): 3, "states": 3, "signed": 3, "dtc": 3}
+
+# What the schema can't say of a key.
+WORDS = {"per": ", a product of 2s and 5s"}
+
+# The keys that a trouble code can't have but with their defaults.
+SCALE = ("step", "per", "offset", "unit")
+
 # The key to look at, of each finding that names two units or two groups.
 PAIR_KEYS = {"F1": ("unit", "name"), "F2": ("unit", "address"), "F5": ("group", "pgn")}
 
 # The key to look at of each finding that names one unit, group, signal or flow, and what is to be known of it.
 KEYS = {
     "F4": ("group", "pgn", "none that can be planned"),
-    "F6": ("signal", "bits", "8, 16 or 32 of a measured signal, 2 of a discrete one, 1 to 32 of a raw one"),
+    "F6": ("signal", "bits", "8, 16 or 32 of a measured signal, 2 of a discrete one, 1 to 32 of a raw one, "
+           "2 to 8 of states, 2 to 32 of a signed one, and of a dtc 32 from bit = 1 on"),
     "F7": ("signal", "byte", "the signal ends behind the group's length"),
     "F9": ("flow", "to", "a frame of this group goes to all"),
     "F10": ("flow", "to", "the sender itself"),
@@ -67,10 +77,14 @@ class Plan:
     def listed(self, place: Place) -> dict[str, dict]:
         """The keys that the table at a place may have, with what the schema says of each."""
         names = [part for part in place if isinstance(part, str)]
-        listed: dict[str, dict] = (self.schema["definitions"][names[-1]] if names else self.schema)["properties"]
-        if names or self.places.number(("version",)) == 2:
-            return listed
-        return {key: rule for key, rule in listed.items() if key != "keep_free"}
+        table = names[-1] if names else None
+        listed: dict[str, dict] = (self.schema["definitions"][table] if table else self.schema)["properties"]
+        return {key: rule for key, rule in listed.items() if self.knows((table, key))}
+
+    def knows(self, word: object) -> bool:
+        """Whether the plan's version knows a key of a table, or a kind."""
+        version = self.places.number(("version",))
+        return SINCE.get(word, 1) <= (version if version in (2, 3) else 1)
 
     def tables_with(self, key: str) -> list[str]:
         """The tables that may have a key."""
@@ -87,11 +101,11 @@ class Plan:
         """What the schema wants of a key, in words."""
         rule = self.rule(place, key)
         if "enum" in rule:
-            return " or ".join(f'"{word}"' for word in rule["enum"])
+            return " or ".join(f'"{word}"' for word in rule["enum"] if self.knows(word))
         if "const" in rule:
             return f"{rule['type']} {rule['const']}"
         if "minimum" in rule:
-            return f"{rule['type']} {rule['minimum']}..{rule['maximum']}"
+            return f"{rule['type']} {rule['minimum']}..{rule['maximum']}" + WORDS.get(key, "")
         if rule.get("items", {}).get("type") == "integer":
             return f"an array of integers {rule['items']['minimum']}..{rule['items']['maximum']}, each once"
         kinds = {"array": "an array of tables", "object": "a table", "boolean": "true or false"}
@@ -168,8 +182,9 @@ def unknown_key(plan: Plan, place: Place) -> Told:
     for key in plan.places.keys(place):
         if key in listed:
             continue
-        if place == () and key == "keep_free":
-            return plan.line((key,)), "key keep_free: only with version = 2"
+        table = place[-2] if len(place) > 1 and isinstance(place[-1], int) else None
+        if since := SINCE.get((table, key)):
+            return plan.line(place + (key,)), f"key {key}: only from version = {since} on"
         tables = plan.tables_with(key)
         hint = likely(key, listed) or (f" belongs to {' or '.join(tables)}" if tables else " isn't listed")
         return plan.line(place + (key,)), f"key {key}{hint}"
@@ -223,6 +238,8 @@ def value_fault(plan: Plan, place: Place, key: str, cause: str) -> Told:
         return plan.line(place + (key,) + kept_fault(plan, key)), f"key {key}: {plan.wanted(place, key)}"
     spelled = plan.places.spelled.get(place + (key,), "")
     shown = f"{key} = {spelled}" if 0 < len(spelled) < 50 and "\n" not in spelled else f"key {key}"
+    if key in SCALE and plan.places.texts.get(place + ("kind",)) == "dtc":
+        return plan.line(place + (key,)), f"{shown}: a dtc has no {key}"
     return plan.line(place + (key,)), f"{shown}: {plan.wanted(place, key)}{value_hint(plan, place, key, cause)}"
 
 

@@ -333,7 +333,7 @@ class Against(InFolder):
         log = self.write("drive.log", "")
         for plan, status, said in [
             (example("findings/f01_same_name.toml"), 1, "refused plan SameName BOOM_LEFT BOOM_RIGHT"),
-            (self.write("plan.toml", "version = 3\n"), 2, "refused Range top key version"),
+            (self.write("plan.toml", "version = 4\n"), 2, "refused Range top key version"),
         ]:
             self.assertEqual(run("against.py", plan, log), (status, "", f"against: {said}\n"))
         missing = self.path("none.log")

@@ -18,6 +18,20 @@ TABLES = {"Top": None, "`[[unit]]`": "unit", "`unit.name`": "name", "`[[group]]`
 # Refusals that a schema can't say.
 UNSAID = ("Text", "Repeated", "UnknownLabel")
 
+# A plan of a version with a signal of a kind.
+SIGNAL = """version = {}
+[[group]]
+label = "G"
+pgn = 65262
+priority = 6
+length = 8
+[[group.signal]]
+label = "S"
+byte = 1
+bits = 32
+kind = "{}"
+"""
+
 
 def rules(table):
     """A table's schema."""
@@ -87,7 +101,8 @@ class Validated(InFolder):
 
     def test_it_agrees_with_the_program_on_the_addresses_kept_free(self):
         for head in (
-            "version = 1\nkeep_free = []", "version = 2\nkeep_free = []", "version = 3", "version = 2", "keep_free = []",
+            "version = 1\nkeep_free = []", "version = 2\nkeep_free = []", "version = 3\nkeep_free = []", "version = 4\nkeep_free = []",
+            "version = 4", "version = 3", "version = 2", "keep_free = []",
             "version = 2\nkeep_free = 128", "version = 2\nkeep_free = [127]", "version = 2\nkeep_free = [128, 247]",
             "version = 2\nkeep_free = [248]", "version = 2\nkeep_free = [128, 128]", 'version = 2\nkeep_free = ["128"]',
             f"version = 2\nkeep_free = {list(range(128, 248))}", f"version = 2\nkeep_free = {list(range(128, 249))}",
@@ -95,9 +110,17 @@ class Validated(InFolder):
             status, _ = program.call(["check", self.write("plan.toml", head + "\n")])
             self.assertEqual(self.faults(head) == [], status != 2, head)
 
+    def test_it_agrees_with_the_program_on_what_each_version_knows_of_a_signal(self):
+        for version in (1, 2, 3):
+            for kind in ("measured", "discrete", "raw", "states", "signed", "dtc", "text"):
+                for per in ("", "per = 1\n", "per = 0\n"):
+                    plan = SIGNAL.format(version, kind) + per
+                    status, _ = program.call(["check", self.write("plan.toml", plan)])
+                    self.assertEqual(self.faults(plan) == [], status != 2, plan)
+
     def test_it_agrees_with_the_program_on_each_bound(self):
         plan = {
-            "version": 1,
+            "version": 3,
             "unit": [{"label": "A", "address": 0, "name": {"identity": 1}}],
             "group": [{"label": "G", "pgn": 65262, "priority": 6, "length": 8,
                        "signal": [{"label": "S", "byte": 1, "bits": 8, "kind": "raw"}]}],
@@ -122,7 +145,7 @@ def changed(plan, table, key, value):
 
 def spelled(plan):
     """The plan as TOML."""
-    lines = ["version = 1"]
+    lines = ["version = 3"]
     for kind in ("unit", "group"):
         lines.append(f"[[{kind}]]")
         lines += [f"{key} = {inline(value)}" for key, value in plan[kind][0].items()]

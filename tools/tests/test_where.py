@@ -165,11 +165,27 @@ class Where(InFolder):
             answer = [f"5: refused {cause} top key keep_free  {wanted}"]
             self.assertEqual(self.answer(plan.format(element)), (2, answer))
         self.assertEqual(self.answer("version = 2\nkeep_free = 240\n"), (2, [f"2: refused WrongType top key keep_free  {wanted}"]))
-        hint = "(key keep_free: only with version = 2)"
+        hint = "(key keep_free: only from version = 2 on)"
         self.assertEqual(self.answer("version = 1\nkeep_free = []\n"), (2, [f"2: refused UnknownKey top  {hint}"]))
         unit = UNIT.format("A", 241, 1).replace("identity = 1", "identity = 1, arbitrary = true")
         hint = "(key address: kept free: a unit with arbitrary = true may not hold it)"
         self.assertEqual(self.answer(plan.format("242") + unit)[1][0], f"9: F12 KeptAddress A 241  {hint}")
+
+    def test_what_only_version_3_knows_of_a_signal(self):
+        signal = ('[[group]]\nlabel = "G"\npgn = 65262\npriority = 6\nlength = 8\n'
+                  '[[group.signal]]\nlabel = "S"\nbyte = 1\nbits = 32\nkind = "{}"\n')
+        place = "group 1 signal 1"
+        for plan, answer in (
+            ("version = 2\n" + signal.format("raw") + "per = 8\n", f"12: refused UnknownKey {place}  (key per: only from version = 3 on)"),
+            ("version = 2\n" + signal.format("states"),
+             f'11: refused Range {place} key kind  (kind = "states": "measured" or "discrete" or "raw")'),
+            ("version = 3\n" + signal.format("text"), f'11: refused Range {place} key kind  (kind = "text": '
+             '"measured" or "discrete" or "raw" or "states" or "signed" or "dtc")'),
+            ("version = 3\n" + signal.format("raw") + "per = 3\n",
+             f"12: refused Range {place} key per  (per = 3: integer 1..10000000, a product of 2s and 5s)"),
+            ("version = 3\n" + signal.format("dtc") + "step = 2\n", f"12: refused Range {place} key step  (step = 2: a dtc has no step)"),
+        ):
+            self.assertEqual(self.answer(plan), (2, [answer]))
 
     def test_each_spelling_of_a_version(self):
         for version in ("2", "0x2", "0b10", "0o2", "+2", "0x0_2"):
@@ -177,7 +193,7 @@ class Where(InFolder):
             hint = "(key keep_free: an array of integers 128..247, each once)"
             self.assertEqual(self.answer(plan), (2, [f"4: refused Repeated top key keep_free  {hint}"]))
         for version in ("1", "0x1", "+1"):
-            hint = "(key keep_free: only with version = 2)"
+            hint = "(key keep_free: only from version = 2 on)"
             self.assertEqual(self.answer(f"version = {version}\nkeep_free = []\n"), (2, [f"2: refused UnknownKey top  {hint}"]))
 
     def test_a_byte_order_mark(self):

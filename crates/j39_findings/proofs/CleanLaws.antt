@@ -45,7 +45,7 @@ planned n h = record {
 }
 
 fits : (s : SignalParts) → ¬ (¬ WidthFits s) → WidthFits s
-fits s h = elim (cases_Bool (width_fits s.kind s.bits)) [ inl is ↦ is | inr other ↦ absurd (h (λ is. absurd cc)) ]
+fits s h = elim (cases_Bool (width_fits s.kind s.start s.bits)) [ inl is ↦ is | inr other ↦ absurd (h (λ is. absurd cc)) ]
 
 inside : (n : ℕ) (s : SignalParts) → ¬ (¬ IsInside n s) → IsInside n s
 inside n s h = elim (cases_lt (8 * n) (s.start + s.bits)) [ inl over ↦ absurd (h (λ is. omega arith)) | inr is ↦ is ]

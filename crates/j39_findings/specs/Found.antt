@@ -73,7 +73,7 @@ group_findings groups = each has_bad_pgn BadPgn 0 groups ++ pairs have_same_pgn 
 -- ---- signals
 
 abbrev pub has_other_width : SignalParts → Bool
-has_other_width signal = not (width_fits signal.kind signal.bits)
+has_other_width signal = not (width_fits signal.kind signal.start signal.bits)
 
 abbrev pub ends_outside : ℕ → SignalParts → Bool
 ends_outside length signal = not (is_inside length signal)

@@ -1,14 +1,16 @@
 -- The lines that report a group: who sent which bytes to whom, and what each signal reads.
-use Rattle.std.specs.Prelude.{ℕ, ℤ, List, [], ◌∷◌, ◌++◌, codes}
-use Rattle.std.specs.Fmt.{signed_decimal}
+use Rattle.std.specs.Prelude.{ℕ, ◌+◌, ◌*◌, ◌/◌, ◌%◌, ◌^◌, ℤ, unsigned_abs, List, [], ◌∷◌, ◌++◌, ◌==◌, if◌then◌else◌, codes}
 use Rattle.hex.specs.Hex.{encode_upper}
 use Rattle.j39_id.specs.declared.ident.Ident.{Ident}
 use Rattle.j39_signal.specs.Bits.{raw_of}
 use Rattle.j39_signal.specs.Parts.{SignalParts}
+use Rattle.j39_signal.specs.declared.kind.Kind.{Kind}
+use Rattle.j39_signal.specs.declared.kind.Kind.TheVariants.{Dtc}
 use Rattle.j39_signal.specs.State.{state_of}
 use Rattle.j39_signal.specs.declared.state.State.{State}
 use Rattle.j39_signal.specs.declared.state.State.TheVariants.{Value, Specific, Reserved, Fault, Absent}
 use Rattle.j39_findings.specs.declared.plan.group_plan.GroupPlan.{GroupPlan}
+use Rattle.j39_text.specs.Decimals.{quotient_text}
 use Rattle.j39_text.specs.FrameText.{destination_text}
 use Rattle.j39_text.specs.Texts.{field, field_text}
 
@@ -17,19 +19,50 @@ unfoldable pub unit_text : List ℕ → List ℕ
 unit_text [] = []
 unit_text (b ∷ unit) = codes " " ++ (b ∷ unit)
 
-unfoldable pub value_text : List ℕ → ℤ → List ℕ
-value_text unit v = field_text (codes " value ") (signed_decimal v) ++ unit_text unit
+-- ---- a diagnostic trouble code (SAE J1939-73, version 4 of the conversion method): the suspect parameter in bits 0 to 15 and 21 to 23,
+-- the failure mode in bits 16 to 20, how often it occurred in bits 24 to 30, and in bit 31 whether it is spelled so
 
-unfoldable pub signal_state_text : List ℕ → State → List ℕ
-signal_state_text unit (Value v) = value_text unit v
-signal_state_text unit (Specific n) = field (codes " specific ") n
-signal_state_text unit (Reserved n) = field (codes " reserved ") n
-signal_state_text unit (Fault n) = field (codes " fault ") n
-signal_state_text unit Absent = codes " absent"
+abbrev pub suspect_parameter : ℕ → ℕ
+suspect_parameter code = code % 2 ^ 16 + 2 ^ 16 * (code / 2 ^ 21 % 2 ^ 3)
+
+abbrev pub failure_mode : ℕ → ℕ
+failure_mode code = code / 2 ^ 16 % 2 ^ 5
+
+abbrev pub occurrences : ℕ → ℕ
+occurrences code = code / 2 ^ 24 % 2 ^ 7
+
+unfoldable pub count_text : ℕ → List ℕ
+count_text code = field (codes " count ") (occurrences code)
+
+unfoldable pub parameter_text : ℕ → List ℕ
+parameter_text code =
+    field (codes " dtc spn ") (suspect_parameter code) ++ (field (codes " fmi ") (failure_mode code) ++ count_text code)
+
+unfoldable pub raw_code_text : ℕ → List ℕ
+raw_code_text code = field (codes " dtc raw ") code ++ count_text code
+
+unfoldable pub code_text : ℕ → List ℕ
+code_text code = if code == 0 then codes " none" else if code / 2 ^ 31 % 2 == 0 then parameter_text code else raw_code_text code
+
+-- ---- a value: that of a trouble code is its raw number
+
+unfoldable pub scaled_text : ℕ → List ℕ → ℤ → List ℕ
+scaled_text per unit v = field_text (codes " value ") (quotient_text per v) ++ unit_text unit
+
+unfoldable pub value_text : Kind → ℕ → List ℕ → ℤ → List ℕ
+value_text Dtc per unit v = code_text (unsigned_abs v)
+value_text _ per unit v = scaled_text per unit v
+
+unfoldable pub signal_state_text : SignalParts → State → List ℕ
+signal_state_text s (Value v) = value_text s.kind s.per s.unit.bytes v
+signal_state_text s (Specific n) = field (codes " specific ") n
+signal_state_text s (Reserved n) = field (codes " reserved ") n
+signal_state_text s (Fault n) = field (codes " fault ") n
+signal_state_text s Absent = codes " absent"
 
 -- a signal that is in this state
 unfoldable pub signal_line : SignalParts → State → List ℕ
-signal_line s state = codes "  " ++ (s.label.bytes ++ (signal_state_text s.unit.bytes state ++ 10 ∷ []))
+signal_line s state = codes "  " ++ (s.label.bytes ++ (signal_state_text s state ++ 10 ∷ []))
 
 -- what each signal reads in these bytes
 unfoldable pub signal_lines : List SignalParts → List ℕ → List ℕ

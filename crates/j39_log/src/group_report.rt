@@ -1,25 +1,31 @@
 //! The lines that report a group.
 ghost use Rattle.std.specs.Prelude.{◌≡◌, [], ◌∷◌, ◌++◌, codes, length, map, OnOk};
-ghost use Rattle.std.specs.Fmt.{signed_decimal};
 ghost use Rattle.hex.specs.Hex.{encode_upper};
+ghost use Rattle.j39_text.specs.Decimals.{quotient_text};
 ghost use Rattle.j39_text.specs.Texts.{field};
 ghost use Rattle.j39_log.specs.LogReports.{group_line, group_report, signal_line, signal_lines, way_text};
 ghost use Rattle.j39_log.specs.inside.ValueLines.{value_line_of, value_lines_of};
 
+use crate::trouble_code::write_code_line;
 use crate::value_line::ValueLine;
 use j39_findings::GroupPlan;
 use j39_id::Ident;
 use j39_id::limits::FRAME_BYTES;
-use j39_signal::{Layout, Signal, State};
-use j39_text::{TextBuffer, write_destination};
+use j39_signal::{Kind, Layout, Signal, State};
+use j39_text::{TextBuffer, write_destination, write_quotient};
 use std::alloc::AllocError;
 
 // The line of a value, between what stands around it.
-fn write_value(text: &mut TextBuffer, line: &ValueLine, value: i64) -> Result<(), AllocError>
-    ensures { OnOk result (text.new ≡ text.old ++ (line.now.before ++ (signed_decimal value ++ line.now.after))) }
+fn write_scaled(
+    text: &mut TextBuffer,
+    signal: &Signal,
+    line: &ValueLine,
+    value: i64,
+) -> Result<(), AllocError>
+    ensures { OnOk result (text.new ≡ text.old ++ (line.now.before ++ (quotient_text signal.now.per value ++ line.now.after))) }
 {
     text.bytes(line.before.as_slice())?;
-    text.number(value)?;
+    write_quotient(text, value, signal.per())?;
     text.bytes(line.after.as_slice())
 }
 
@@ -42,6 +48,22 @@ fn write_absent(text: &mut TextBuffer, signal: &Signal) -> Result<(), AllocError
     text.end_line()
 }
 
+// The line of a value, which of a trouble code is its raw number.
+fn write_value(
+    text: &mut TextBuffer,
+    signal: &Signal,
+    line: &ValueLine,
+    value: i64,
+) -> Result<(), AllocError>
+    requires { line.now ≡ value_line_of signal.now }
+    ensures { OnOk result (text.new ≡ text.old ++ signal_line signal.now (State.Value value)) }
+{
+    match signal.kind() {
+        Kind::Dtc => write_code_line(text, signal, value.unsigned_abs()),
+        _ => write_scaled(text, signal, line, value),
+    }
+}
+
 #[tactic(auto, unfolding(crate::specs::LogReports::signal_line, crate::specs::LogReports::signal_state_text))]
 fn write_signal(
     text: &mut TextBuffer,
@@ -53,7 +75,7 @@ fn write_signal(
     ensures { OnOk result (text.new ≡ text.old ++ signal_line signal.now state) }
 {
     match state {
-        State::Value(value) => write_value(text, line, value),
+        State::Value(value) => write_value(text, signal, line, value),
         State::Specific(raw) => write_raw(text, signal, " specific ", raw),
         State::Reserved(raw) => write_raw(text, signal, " reserved ", raw),
         State::Fault(raw) => write_raw(text, signal, " fault ", raw),

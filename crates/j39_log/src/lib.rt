@@ -8,6 +8,7 @@ mod listeners;
 mod log_reading;
 mod log_text;
 mod transport;
+mod trouble_code;
 mod value_line;
 
 pub use laws::a_log_has_one_text;

@@ -1,5 +1,5 @@
 -- Reading a file gives one answer.
-use Rattle.std.proofs.Common.{◌≡◌, ◌≢◌, ℕ, List, [], ◌∷◌, Option, Some, Result, Ok, Err, refl, sym, ap, ◌∙◌}
+use Rattle.std.proofs.Common.{◌≡◌, ◌≢◌, ℕ, Bool, List, [], ◌∷◌, Option, Some, Result, Ok, Err, refl, sym, ap, ◌∙◌}
 use Rattle.std.specs.List.{AllZip}
 use Rattle.std.proofs.lemmas.Option.{same_Some, none-some}
 use Rattle.toml.specs.Data.{Data, Items, no_items, item, Members}
@@ -19,7 +19,7 @@ use Rattle.j39_plan.specs.GroupTables.{IsGroupOf, signal_rule}
 use Rattle.j39_plan.specs.FlowTables.{IsFlowOf}
 use Rattle.j39_plan.specs.Schema.{tables_of}
 use Rattle.j39_findings.specs.Findings.{AreOneFlow}
-use Rattle.j39_plan.specs.Faults.{faults, unit_rule, group_rule, flow_rule, unit_labels, group_labels}
+use Rattle.j39_plan.specs.Faults.{faults, unit_rule, group_rule, flow_rule, unit_labels, group_labels, is_third}
 use Rattle.j39_plan.specs.Described.{TellsPlan, Described, Reads}
 use Rattle.j39_plan.specs.OnePlan.{AreOneUnit, AreOneSignal, AreOneGroup, AreOnePlan, AreOneAnswer}
 
@@ -43,24 +43,25 @@ one_unit d u v a b = record {
   windows = a.has_window ∙ sym b.has_window;
 }
 
-one_signal : (d : Data) (s t : SignalParts) → IsSignalOf d s → IsSignalOf d t → AreOneSignal s t
-one_signal d s t a b = record {
+one_signal : (third : Bool) (d : Data) (s t : SignalParts) → IsSignalOf third d s → IsSignalOf third d t → AreOneSignal s t
+one_signal third d s t a b = record {
   labels = a.has_label ∙ sym b.has_label;
   starts = a.has_start ∙ sym b.has_start;
   widths = a.has_bits ∙ sym b.has_bits;
   kinds = a.has_kind ∙ sym b.has_kind;
   steps = a.has_step ∙ sym b.has_step;
   offsets = a.has_offset ∙ sym b.has_offset;
+  pers = a.has_per ∙ sym b.has_per;
   units = a.has_unit ∙ sym b.has_unit;
 }
 
-one_group : (d : Data) (g h : GroupPlan) → IsGroupOf d g → IsGroupOf d h → AreOneGroup g h
-one_group d g h a b = record {
+one_group : (third : Bool) (d : Data) (g h : GroupPlan) → IsGroupOf third d g → IsGroupOf third d h → AreOneGroup g h
+one_group third d g h a b = record {
   labels = a.has_label ∙ sym b.has_label;
   pgns = a.has_pgn ∙ sym b.has_pgn;
   priorities = a.has_priority ∙ sym b.has_priority;
   lengths = a.has_length ∙ sym b.has_length;
-  signals = one_each IsSignalOf AreOneSignal one_signal (tables_of signal_rule (inside d)) _ _ a.has_signals b.has_signals;
+  signals = one_each (IsSignalOf third) AreOneSignal (one_signal third) (tables_of signal_rule (inside d)) _ _ a.has_signals b.has_signals;
 }
 
 one_flow : (groups units : List (List ℕ)) (d : Data) (f h : FlowPlan) → IsFlowOf groups units d f → IsFlowOf groups units d h → AreOneFlow f h
@@ -74,7 +75,7 @@ one_plan : (tree : Members) (p q : Plan) → TellsPlan tree p → TellsPlan tree
 one_plan tree p q a b = record {
   keep_free = a.has_keep_free ∙ sym b.has_keep_free;
   units = one_each IsUnitOf AreOneUnit one_unit (tables_of unit_rule tree) _ _ a.has_units b.has_units;
-  groups = one_each IsGroupOf AreOneGroup one_group (tables_of group_rule tree) _ _ a.has_groups b.has_groups;
+  groups = one_each (IsGroupOf (is_third tree)) AreOneGroup (one_group (is_third tree)) (tables_of group_rule tree) _ _ a.has_groups b.has_groups;
   flows = one_each (IsFlowOf (group_labels tree) (unit_labels tree)) AreOneFlow (one_flow (group_labels tree) (unit_labels tree)) (tables_of flow_rule tree) _ _
       a.has_flows b.has_flows;
 }

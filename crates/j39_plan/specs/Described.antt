@@ -15,17 +15,17 @@ use Rattle.j39_plan.specs.Outcome.{first}
 use Rattle.j39_plan.specs.UnitTables.{IsUnitOf}
 use Rattle.j39_plan.specs.GroupTables.{IsGroupOf}
 use Rattle.j39_plan.specs.FlowTables.{IsFlowOf}
-use Rattle.j39_plan.specs.Faults.{faults, is_second, keep_free_rule, unit_rule, group_rule, flow_rule, unit_labels, group_labels}
+use Rattle.j39_plan.specs.Faults.{faults, may_keep, is_third, keep_free_rule, unit_rule, group_rule, flow_rule, unit_labels, group_labels}
 
--- the addresses that a tree keeps free: none, where it isn't of the second version
+-- the addresses that a tree keeps free: none, where its version keeps none
 abbrev pub keep_free_of : Members → FinSet nat_cmp
-keep_free_of tree = if is_second tree then addresses_of keep_free_rule tree else empty
+keep_free_of tree = if may_keep tree then addresses_of keep_free_rule tree else empty
 
 -- what the plan keeps free, its units, groups and flows are those of the tree
 pub record TellsPlan (tree : Members) (p : Plan) : Type 0 where
   pub has_keep_free : p.keep_free ≡ keep_free_of tree
   pub has_units : Each IsUnitOf (tables_of unit_rule tree) p.units.items
-  pub has_groups : Each IsGroupOf (tables_of group_rule tree) p.groups.items
+  pub has_groups : Each (IsGroupOf (is_third tree)) (tables_of group_rule tree) p.groups.items
   pub has_flows : Each (IsFlowOf (group_labels tree) (unit_labels tree)) (tables_of flow_rule tree) p.flows.items
 
 -- the tree has no fault, and the plan is what it tells

@@ -1,5 +1,5 @@
 -- Every fault of a plan file's tree, in the order in which they are looked for.
-use Rattle.std.specs.Prelude.{ℕ, ◌==◌, List, [], ◌∷◌, ◌++◌, map, Bool, if◌then◌else◌, None}
+use Rattle.std.specs.Prelude.{ℕ, ◌==◌, ◌||◌, List, [], ◌∷◌, ◌++◌, map, Bool, if◌then◌else◌, None}
 use Rattle.toml.specs.Data.{Data, Members}
 use Rattle.j39_id.specs.Addresses.{pool_size}
 use Rattle.j39_id.specs.Limits.{unit_limit}
@@ -14,11 +14,15 @@ use Rattle.j39_plan.specs.GroupTables.{group_faults, group_label}
 use Rattle.j39_plan.specs.FlowTables.{flow_faults}
 
 abbrev pub version_rule : Rule
-version_rule = number key.Version 1 2 None
+version_rule = number key.Version 1 3 None
 
--- the version is the integer 2
-unfoldable pub is_second : Members → Bool
-is_second tree = number_of version_rule tree == 2
+-- the version is the integer 2 or 3, which may keep addresses free
+unfoldable pub may_keep : Members → Bool
+may_keep tree = number_of version_rule tree == 2 || number_of version_rule tree == 3
+
+-- the version is the integer 3, which knows more of groups and signals
+unfoldable pub is_third : Members → Bool
+is_third tree = number_of version_rule tree == 3
 
 -- the addresses that no arbitrary unit may hold
 abbrev pub keep_free_rule : Rule
@@ -35,7 +39,7 @@ flow_rule = tables key.Flow 512
 
 -- the keys before the arrays of tables: a plan of the first version keeps no address free
 abbrev pub head_rules : Members → List Rule
-head_rules tree = if is_second tree then version_rule ∷ keep_free_rule ∷ [] else version_rule ∷ []
+head_rules tree = if may_keep tree then version_rule ∷ keep_free_rule ∷ [] else version_rule ∷ []
 
 abbrev pub array_rules : List Rule
 array_rules = unit_rule ∷ group_rule ∷ flow_rule ∷ []
@@ -57,7 +61,7 @@ abbrev pub units_faults : Members → List Fault
 units_faults tree = each_faults unit_faults unit_label 0 [] (tables_of unit_rule tree)
 
 abbrev pub groups_faults : Members → List Fault
-groups_faults tree = each_faults group_faults group_label 0 [] (tables_of group_rule tree)
+groups_faults tree = each_faults (group_faults (is_third tree)) group_label 0 [] (tables_of group_rule tree)
 
 abbrev pub flows_faults : Members → List Fault
 flows_faults tree = each_faults (λ i seen. flow_faults (group_labels tree) (unit_labels tree) i) no_label 0 [] (tables_of flow_rule tree)

@@ -1,5 +1,5 @@
--- The tables of groups.
-use Rattle.std.specs.Prelude.{◌≡◌, ℕ, List, [], ◌++◌, ◌∷◌, None}
+-- The tables of groups, in the third version of a plan and in another.
+use Rattle.std.specs.Prelude.{◌≡◌, ℕ, List, [], ◌++◌, ◌∷◌, Bool, None}
 use Rattle.std.specs.Option.{option_map_or}
 use Rattle.toml.specs.Data.{Data, Members, as_table}
 use Rattle.j39_id.specs.Limits.{message_bytes}
@@ -32,25 +32,25 @@ abbrev pub group_rules : List Rule
 group_rules = label_rule ∷ pgn_rule ∷ priority_rule ∷ length_rule ∷ signal_rule ∷ []
 
 -- the group that a table tells
-pub record TellsGroup (ms : Members) (g : GroupPlan) : Type 0 where
+pub record TellsGroup (third : Bool) (ms : Members) (g : GroupPlan) : Type 0 where
   pub has_label : g.label.bytes ≡ text_of label_rule ms
   pub has_pgn : g.pgn ≡ number_of pgn_rule ms
   pub has_priority : g.priority ≡ number_of priority_rule ms
   pub has_length : g.length ≡ number_of length_rule ms
-  pub has_signals : Each IsSignalOf (tables_of signal_rule ms) g.signals.items
+  pub has_signals : Each (IsSignalOf third) (tables_of signal_rule ms) g.signals.items
 
-abbrev pub IsGroupOf : Data → GroupPlan → Type 0
-IsGroupOf d g = TellsGroup (inside d) g
+abbrev pub IsGroupOf : Bool → Data → GroupPlan → Type 0
+IsGroupOf third d g = TellsGroup third (inside d) g
 
 abbrev pub group_label : Data → List ℕ
 group_label d = text_of label_rule (inside d)
 
-unfoldable pub group_table_faults : ℕ → Members → List Fault
-group_table_faults g ms = table_faults (at.Group g) group_rules ms
-    ++ each_faults (signal_faults g) signal_label 0 [] (tables_of signal_rule ms)
+unfoldable pub group_table_faults : Bool → ℕ → Members → List Fault
+group_table_faults third g ms = table_faults (at.Group g) group_rules ms
+    ++ each_faults (signal_faults third g) signal_label 0 [] (tables_of signal_rule ms)
 
 -- the faults of the g-th group, behind those with the labels seen
-unfoldable pub group_faults : ℕ → List (List ℕ) → Data → List Fault
-group_faults g seen d = table_only_faults (at.Group g) d
-    ++ option_map_or (group_table_faults g) (as_table d) []
+unfoldable pub group_faults : Bool → ℕ → List (List ℕ) → Data → List Fault
+group_faults third g seen d = table_only_faults (at.Group g) d
+    ++ option_map_or (group_table_faults third g) (as_table d) []
     ++ repeated_faults (at.Group g) texts.Label seen (group_label d)

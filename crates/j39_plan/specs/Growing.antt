@@ -1,5 +1,5 @@
 -- Where reading a plan file asks for room: behind an element that was read. Want of memory is answered nowhere else.
-use Rattle.std.specs.Prelude.{◌≡◌, ◌⊎◌, ℕ, List, []}
+use Rattle.std.specs.Prelude.{◌≡◌, ◌⊎◌, ℕ, List, [], Bool}
 use Rattle.toml.specs.Data.{Data, Items, no_items, item, Members}
 use Rattle.j39_plan.specs.declared.reading.fault.Fault.{Fault}
 use Rattle.j39_plan.specs.declared.reading.place.Table.TheVariants as at
@@ -10,7 +10,7 @@ use Rattle.j39_plan.specs.SignalTables.{signal_faults}
 use Rattle.j39_plan.specs.UnitTables.{unit_faults}
 use Rattle.j39_plan.specs.GroupTables.{group_rules, signal_rule, group_faults}
 use Rattle.j39_plan.specs.FlowTables.{flow_faults}
-use Rattle.j39_plan.specs.Faults.{top_faults, unit_rule, group_rule, flow_rule, units_faults, groups_faults, group_labels, unit_labels}
+use Rattle.j39_plan.specs.Faults.{top_faults, unit_rule, group_rule, flow_rule, units_faults, groups_faults, group_labels, unit_labels, is_third}
 
 -- the reader of an element asks for none
 abbrev pub NeverGrows : ℕ → Data → Type 0
@@ -22,15 +22,15 @@ EachGrows faults Grows no_items = ⊥
 EachGrows faults Grows (item d ds) = Grows 0 d ⊎ (faults 0 [] d ≡ [])
 
 -- in a group, whose table has no fault, among its signals
-abbrev pub GroupGrows : ℕ → Members → Type 0
-GroupGrows g ms = (table_faults (at.Group g) group_rules ms ≡ []) × EachGrows (signal_faults g) NeverGrows (tables_of signal_rule ms)
+abbrev pub GroupGrows : Bool → ℕ → Members → Type 0
+GroupGrows third g ms = (table_faults (at.Group g) group_rules ms ≡ []) × EachGrows (signal_faults third g) NeverGrows (tables_of signal_rule ms)
 
-abbrev pub GroupElementGrows : ℕ → Data → Type 0
-GroupElementGrows g d = GroupGrows g (inside d)
+abbrev pub GroupElementGrows : Bool → ℕ → Data → Type 0
+GroupElementGrows third g d = GroupGrows third g (inside d)
 
 -- in a plan, whose top table has no fault, among its units, behind these among its groups, or behind these among its flows
 abbrev pub PlanGrows : Members → Type 0
 PlanGrows tree = (top_faults tree ≡ [])
     × (EachGrows unit_faults NeverGrows (tables_of unit_rule tree)
-    ⊎ ((units_faults tree ≡ []) × (EachGrows group_faults GroupElementGrows (tables_of group_rule tree)
+    ⊎ ((units_faults tree ≡ []) × (EachGrows (group_faults (is_third tree)) (GroupElementGrows (is_third tree)) (tables_of group_rule tree)
     ⊎ ((groups_faults tree ≡ []) × EachGrows (λ i seen. flow_faults (group_labels tree) (unit_labels tree) i) NeverGrows (tables_of flow_rule tree)))))

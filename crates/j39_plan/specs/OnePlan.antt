@@ -26,6 +26,7 @@ pub record AreOneSignal (s t : SignalParts) : Type 0 where
   pub kinds : s.kind ≡ t.kind
   pub steps : s.step ≡ t.step
   pub offsets : s.offset ≡ t.offset
+  pub pers : s.per ≡ t.per
   pub units : s.unit.bytes ≡ t.unit.bytes
 
 pub record AreOneGroup (g h : GroupPlan) : Type 0 where

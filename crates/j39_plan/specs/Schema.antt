@@ -19,6 +19,7 @@ pub data Kind : Type 0 where
   one_table : Kind
   tables_up_to : ℕ → Kind
   addresses_up_to : ℕ → Kind
+  divisor_up_to : ℕ → Kind
 
 -- a key, what its value is to be, and what an absent one stands for: nothing where the key is required
 pub record Rule : Type 0 where
@@ -46,6 +47,9 @@ tables k limit = record { key = k; kind = tables_up_to limit; default = Some (ar
 
 abbrev pub addresses : Key → ℕ → Rule
 addresses k limit = record { key = k; kind = addresses_up_to limit; default = Some (array no_items) }
+
+abbrev pub divisor : Key → ℕ → Rule
+divisor k limit = record { key = k; kind = divisor_up_to limit; default = Some (integer (pos 1)) }
 
 -- ---- values
 

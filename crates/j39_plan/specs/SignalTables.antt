@@ -1,12 +1,12 @@
--- The tables of signals.
+-- The tables of signals. The third version knows more kinds than the first two, and what the values are divided by.
 use Rattle.std.specs.Prelude.{◌≡◌, ℕ, ◌+◌, ◌-◌, ◌*◌, pos, negsuc, List, []}
-use Rattle.std.specs.Prelude.{◌∷◌, ◌++◌, if◌then◌else◌, Some, None, IsTrue, codes}
+use Rattle.std.specs.Prelude.{◌∷◌, ◌++◌, Bool, true, false, ◌&&◌, if◌then◌else◌, Some, None, IsTrue, codes}
 use Rattle.std.specs.Str.{bytes_eq}
 use Rattle.std.specs.Option.{option_map_or}
 use Rattle.toml.specs.Data.{Data, Members, as_table}
 use Rattle.j39_id.specs.Limits.{message_bytes}
 use Rattle.j39_signal.specs.declared.kind.Kind.{Kind}
-use Rattle.j39_signal.specs.declared.kind.Kind.TheVariants.{Measured, Discrete, Raw}
+use Rattle.j39_signal.specs.declared.kind.Kind.TheVariants.{Measured, Discrete, Raw, States, Signed, Dtc}
 use Rattle.j39_signal.specs.Parts.{SignalParts, IsSignal}
 use Rattle.j39_findings.specs.LabelForm.{is_label}
 use Rattle.j39_plan.specs.declared.reading.key.Key.TheVariants as key
@@ -14,7 +14,7 @@ use Rattle.j39_plan.specs.declared.reading.place.Table.{Table}
 use Rattle.j39_plan.specs.declared.reading.place.Table.TheVariants as at
 use Rattle.j39_plan.specs.declared.reading.fault.Fault.{Fault}
 use Rattle.j39_plan.specs.declared.reading.text_kind.TextKind.TheVariants as texts
-use Rattle.j39_plan.specs.Schema.{Rule, number, signed, text, number_of, integer_of, text_of}
+use Rattle.j39_plan.specs.Schema.{Rule, number, signed, divisor, text, number_of, integer_of, text_of}
 use Rattle.j39_plan.specs.TableFaults.{table_faults, table_only_faults}
 use Rattle.j39_plan.specs.Elements.{inside, repeated_faults}
 
@@ -30,40 +30,88 @@ bit_rule = number key.Bit 1 8 (Some 1)
 abbrev pub bits_rule : Rule
 bits_rule = number key.Bits 1 64 None
 
-abbrev pub kind_rule : Rule
-kind_rule = text key.Kind texts.SignalKind None
+-- in the third version, and in another
+abbrev pub kind_rule : Bool → Rule
+kind_rule true = text key.Kind texts.AnySignalKind None
+kind_rule false = text key.Kind texts.SignalKind None
 
-abbrev pub step_rule : Rule
-step_rule = number key.Step 1 1000000 (Some 1)
+-- a trouble code is neither scaled nor has it a unit: of it each of these is what an absent key stands for
+abbrev pub step_rule : Bool → Rule
+step_rule true = number key.Step 1 1 (Some 1)
+step_rule false = number key.Step 1 1000000 (Some 1)
 
-abbrev pub offset_rule : Rule
-offset_rule = signed key.Offset (negsuc 999999999999) (pos 1000000000000) (Some (pos 0))
+abbrev pub per_rule : Bool → Rule
+per_rule true = divisor key.Per 1
+per_rule false = divisor key.Per 10000000
 
-abbrev pub unit_rule : Rule
-unit_rule = text key.Unit texts.SignalUnit (Some [])
+abbrev pub offset_rule : Bool → Rule
+offset_rule true = signed key.Offset (pos 0) (pos 0) (Some (pos 0))
+offset_rule false = signed key.Offset (negsuc 999999999999) (pos 1000000000000) (Some (pos 0))
 
-abbrev pub signal_rules : List Rule
-signal_rules = label_rule ∷ byte_rule ∷ bit_rule ∷ bits_rule ∷ kind_rule ∷ step_rule ∷ offset_rule ∷ unit_rule ∷ []
+abbrev pub unit_rule : Bool → Rule
+unit_rule true = text key.Unit texts.Empty (Some [])
+unit_rule false = text key.Unit texts.SignalUnit (Some [])
 
 abbrev pub kind_of : List ℕ → Kind
-kind_of t = if bytes_eq t (codes "measured") then Measured else if bytes_eq t (codes "discrete") then Discrete else Raw
+kind_of t =
+    if bytes_eq t (codes "measured") then Measured
+    else if bytes_eq t (codes "discrete") then Discrete
+    else if bytes_eq t (codes "states") then States
+    else if bytes_eq t (codes "signed") then Signed
+    else if bytes_eq t (codes "dtc") then Dtc
+    else Raw
+
+abbrev pub is_dtc : Kind → Bool
+is_dtc Dtc = true
+is_dtc _ = false
+
+-- the table is that of a trouble code, which the third version alone knows
+unfoldable pub is_code : Bool → Members → Bool
+is_code third ms = third && is_dtc (kind_of (text_of (kind_rule third) ms))
+
+-- the rules before those of the scale, and those of the scale by whether the table is that of a trouble code
+abbrev pub place_rules : Bool → List Rule
+place_rules third = label_rule ∷ byte_rule ∷ bit_rule ∷ bits_rule ∷ kind_rule third ∷ []
+
+abbrev pub scale_rules : Bool → Bool → List Rule
+scale_rules true code = step_rule code ∷ per_rule code ∷ offset_rule code ∷ unit_rule code ∷ []
+scale_rules false code = step_rule code ∷ offset_rule code ∷ unit_rule code ∷ []
+
+abbrev pub signal_rules : Bool → Members → List Rule
+signal_rules third ms = place_rules third ++ scale_rules third (is_code third ms)
+
+-- ---- a law
+
+-- but in the third version, a signal has these keys, with these ranges and kinds
+abbrev pub OlderRules : Type 0
+OlderRules = (ms : Members) → signal_rules false ms
+    ≡ label_rule ∷ byte_rule ∷ bit_rule ∷ bits_rule ∷ text key.Kind texts.SignalKind None ∷ number key.Step 1 1000000 (Some 1)
+    ∷ signed key.Offset (negsuc 999999999999) (pos 1000000000000) (Some (pos 0)) ∷ text key.Unit texts.SignalUnit (Some []) ∷ []
+
+-- ---- what a table tells
+
+-- what the values are divided by: 1 in a version that doesn't know it
+abbrev pub per_of : Bool → Members → ℕ
+per_of true ms = number_of (per_rule false) ms
+per_of false ms = 1
 
 -- the bit, counted from 0, of a byte and a bit in it, which are counted from 1
 abbrev pub start_of : ℕ → ℕ → ℕ
 start_of byte bit = 8 * (byte - 1) + (bit - 1)
 
 -- the signal that a table tells
-pub record TellsSignal (ms : Members) (s : SignalParts) : Type 0 where
+pub record TellsSignal (third : Bool) (ms : Members) (s : SignalParts) : Type 0 where
   pub has_label : s.label.bytes ≡ text_of label_rule ms
   pub has_start : s.start ≡ start_of (number_of byte_rule ms) (number_of bit_rule ms)
   pub has_bits : s.bits ≡ number_of bits_rule ms
-  pub has_kind : s.kind ≡ kind_of (text_of kind_rule ms)
-  pub has_step : s.step ≡ number_of step_rule ms
-  pub has_offset : s.offset ≡ integer_of offset_rule ms
-  pub has_unit : s.unit.bytes ≡ text_of unit_rule ms
+  pub has_kind : s.kind ≡ kind_of (text_of (kind_rule third) ms)
+  pub has_step : s.step ≡ number_of (step_rule false) ms
+  pub has_offset : s.offset ≡ integer_of (offset_rule false) ms
+  pub has_per : s.per ≡ per_of third ms
+  pub has_unit : s.unit.bytes ≡ text_of (unit_rule false) ms
 
-abbrev pub IsSignalOf : Data → SignalParts → Type 0
-IsSignalOf d s = TellsSignal (inside d) s
+abbrev pub IsSignalOf : Bool → Data → SignalParts → Type 0
+IsSignalOf third d s = TellsSignal third (inside d) s
 
 -- what is true of every signal that is read
 pub record IsFit (s : SignalParts) : Type 0 where
@@ -73,11 +121,11 @@ pub record IsFit (s : SignalParts) : Type 0 where
 abbrev pub signal_label : Data → List ℕ
 signal_label d = text_of label_rule (inside d)
 
-unfoldable pub signal_table_faults : Table → Members → List Fault
-signal_table_faults at = table_faults at signal_rules
+unfoldable pub signal_table_faults : Bool → Table → Members → List Fault
+signal_table_faults third at ms = table_faults at (signal_rules third ms) ms
 
 -- the faults of the i-th signal of the g-th group, behind those with the labels seen
-unfoldable pub signal_faults : ℕ → ℕ → List (List ℕ) → Data → List Fault
-signal_faults g i seen d = table_only_faults (at.Signal g i) d
-    ++ option_map_or (signal_table_faults (at.Signal g i)) (as_table d) []
+unfoldable pub signal_faults : Bool → ℕ → ℕ → List (List ℕ) → Data → List Fault
+signal_faults third g i seen d = table_only_faults (at.Signal g i) d
+    ++ option_map_or (signal_table_faults third (at.Signal g i)) (as_table d) []
     ++ repeated_faults (at.Signal g i) texts.Label seen (signal_label d)

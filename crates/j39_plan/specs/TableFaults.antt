@@ -12,10 +12,11 @@ use Rattle.j39_plan.specs.declared.reading.cause.Cause.TheVariants.{UnknownKey, 
 use Rattle.j39_plan.specs.declared.reading.key.Key.{Key}
 use Rattle.j39_plan.specs.declared.reading.place.Table.{Table}
 use Rattle.j39_plan.specs.declared.reading.fault.Fault.{Fault}
+use Rattle.j39_signal.specs.Parts.{divides_decimally}
 use Rattle.j39_plan.specs.TextKinds.{takes}
 use Rattle.j39_plan.specs.Words.{word_of}
 use Rattle.j39_plan.specs.Schema.{Kind, integer_in, flag_value, text_of_kind, one_table, tables_up_to}
-use Rattle.j39_plan.specs.Schema.{addresses_up_to, Rule, natural, standing, items_count, number_in}
+use Rattle.j39_plan.specs.Schema.{addresses_up_to, divisor_up_to, Rule, natural, standing, items_count, number_in}
 
 abbrev pub fault : Cause → Table → Option Key → Fault
 fault cause at key = record { cause = cause; place = record { table = at; key = key } }
@@ -40,6 +41,8 @@ cause_of (text_of_kind kind) (string s) = if takes kind s then None else Some Ra
 cause_of one_table (table ms) = None
 cause_of (tables_up_to limit) (array ds) = if nat_le (items_count ds) limit then None else Some TooMany
 cause_of (addresses_up_to limit) (array ds) = if nat_le (items_count ds) limit then addresses_cause empty ds else Some TooMany
+cause_of (divisor_up_to limit) (integer z) =
+    if divides_decimally (natural z) && nat_le (natural z) limit then None else Some Range
 cause_of _ _ = Some WrongType
 
 -- the cause for which what stands at a key is refused

@@ -1,19 +1,26 @@
 -- Which texts the keys of a plan take.
-use Rattle.std.specs.Prelude.{ℕ, List, length, Bool, true, ◌&&◌, ◌||◌, nat_le, codes}
+use Rattle.std.specs.Prelude.{ℕ, List, length, Bool, true, ◌&&◌, ◌||◌, ◌==◌, nat_le, codes}
 use Rattle.std.specs.List.{list_all}
 use Rattle.std.specs.Str.{bytes_eq}
 use Rattle.j39_findings.specs.LabelForm.{is_label, is_unit_label}
 use Rattle.j39_plan.specs.declared.reading.text_kind.TextKind.{TextKind}
-use Rattle.j39_plan.specs.declared.reading.text_kind.TextKind.TheVariants.{Label, UnitLabel, Chooser, SignalKind, SignalUnit, Any}
+use Rattle.j39_plan.specs.declared.reading.text_kind.TextKind.TheVariants.{Label, UnitLabel, Chooser, SignalKind, AnySignalKind, SignalUnit, Empty, Any}
 
 -- a visible ASCII character or a space
 abbrev pub is_printable : ℕ → Bool
 is_printable c = nat_le 32 c && nat_le c 126
 
+-- a kind of signal that each version knows
+abbrev pub is_first_kind : List ℕ → Bool
+is_first_kind t = bytes_eq t (codes "measured") || (bytes_eq t (codes "discrete") || bytes_eq t (codes "raw"))
+
 abbrev pub takes : TextKind → List ℕ → Bool
 takes Label t = is_label t
 takes UnitLabel t = is_unit_label t
 takes Chooser t = bytes_eq t (codes "lowest") || bytes_eq t (codes "upward")
-takes SignalKind t = bytes_eq t (codes "measured") || (bytes_eq t (codes "discrete") || bytes_eq t (codes "raw"))
+takes SignalKind t = is_first_kind t
+takes AnySignalKind t =
+    is_first_kind t || (bytes_eq t (codes "states") || (bytes_eq t (codes "signed") || bytes_eq t (codes "dtc")))
 takes SignalUnit t = nat_le (length t) 32 && list_all is_printable t
+takes Empty t = length t == 0
 takes Any t = true

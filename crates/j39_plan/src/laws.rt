@@ -1,10 +1,16 @@
-//! The law of what a plan file describes.
+//! The laws of what a plan file describes.
 ghost use Rattle.std.specs.Prelude.{ℕ, List};
 ghost use Rattle.j39_plan.specs.OnePlan.{HasOneAnswer};
+ghost use Rattle.j39_plan.specs.SignalTables.{OlderRules};
 
 /// But for want of memory, the definition allows one answer for a file: it describes one plan, or it has one first fault, or it
 /// is no TOML text, and never two of these. Two plans are one where they keep the same addresses free and have the same
 /// units, groups, signals and flows, place by place, labels by their bytes.
 pub fn a_file_describes_one_plan()
     ensures { (bytes : List ℕ) → HasOneAnswer bytes }
+{}
+
+/// In a plan that isn't of version 3 a signal has the keys, the ranges and the kinds that it had before there was one.
+pub fn older_versions_know_what_they_knew()
+    ensures { OlderRules }
 {}

@@ -9,5 +9,5 @@ pub use j39_findings::{
     Step, To, UnitPlan, Way, bad_run, check, checked, clean_parts, clean_where_none,
     conflict_runs_are_exact, found_exactly, layout_of, signals_are_sound,
 };
-pub use laws::a_file_describes_one_plan;
+pub use laws::{a_file_describes_one_plan, older_versions_know_what_they_knew};
 pub use reading::{Cause, Fault, Key, Place, PlanError, Table, read_plan};

@@ -28,7 +28,7 @@ use elements::read_each;
 pub use fault::Fault;
 use flows::Flows;
 use groups::Groups;
-use heads::head;
+use heads::{head, is_third};
 use j39_findings::Plan;
 use j39_id::limits::UNIT_LIMIT;
 pub use key::Key;
@@ -48,7 +48,8 @@ fn read_top(alloc: Global, members: &toml::Table) -> Result<Plan, PlanError>
     let group_values = array(members, Table::Top, Key::Group, 256)?;
     let flow_values = array(members, Table::Top, Key::Flow, 512)?;
     let units = read_each(alloc, &Units, unit_values)?;
-    let groups = read_each(alloc, &Groups, group_values)?;
+    let third = is_third(members);
+    let groups = read_each(alloc, &Groups { third }, group_values)?;
     let flows = read_each(
         alloc,
         &Flows {
@@ -66,7 +67,8 @@ fn read_top(alloc: Global, members: &toml::Table) -> Result<Plan, PlanError>
 }
 
 /// The plan that a file describes: TOML of UTF-8 bytes, at most 128 units, 256 groups of 64 signals and 512 flows. One of
-/// version 2 may keep up to 120 addresses of 128 to 247 free; one of version 1 keeps none.
+/// version 2 or 3 may keep up to 120 addresses of 128 to 247 free; one of version 1 keeps none. Version 3 knows more kinds of
+/// signals, and what their values are divided by.
 ///
 /// Refuses bytes that are no TOML text, and else the first fault, in the order of the file's tables and keys. Takes no
 /// memory of bytes that are no UTF-8, or white space and comments alone.

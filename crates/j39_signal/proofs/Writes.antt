@@ -1,9 +1,9 @@
 -- A payload that is written keeps its other signals.
-use Rattle.std.proofs.Common.{◌≡◌, ◌≢◌, ℕ, ℤ, zero, suc, ◌+◌, ◌-◌, ◌*◌, ◌/◌, ◌%◌, ◌^◌, ◌<◌, ◌≤◌, ◌==◌, ◌||◌, true, List, [], ◌∷◌, length}
+use Rattle.std.proofs.Common.{◌≡◌, ◌≢◌, ℕ, ℤ, zero, suc, ◌+◌, ◌-◌, ◌*◌, ◌/◌, ◌%◌, ◌^◌, ◌<◌, ◌≤◌, ◌==◌, ◌||◌, true, false, List, [], ◌∷◌, length}
 use Rattle.std.proofs.Common.{slice_index, slice_index_or, slice_set, map, sym, refl, ap, ◌∙◌, inl, inr, arith}
 use Rattle.std.specs.Prelude.{nat_lt, IsTrue}
 use Rattle.std.specs.List.{AllPairs}
-use Rattle.std.proofs.lemmas.Bool.{cases_order, or_cases, eqb-true, lt-ltb}
+use Rattle.std.proofs.lemmas.Bool.{cases_order, or_cases, eqb-true, lt-ltb, le-ltb}
 use Rattle.std.proofs.lemmas.Nat.{pow_pos}
 use Rattle.std.proofs.lemmas.Nat.Bits.{bit_at_ones}
 use Rattle.std.proofs.lemmas.List.{get_or-replicate, get_or-set_same, get_or-set_other, get_or-map, length-set, length-map, length-replicate}
@@ -13,8 +13,8 @@ use Rattle.j39_signal.specs.Parts.{SignalParts}
 use Rattle.j39_signal.specs.Places.{LaysOut, SharesBit, width_fits}
 use Rattle.j39_signal.specs.State.{Ranges, ranges_of, state_in, state_of, value_of, IsRawOf}
 use Rattle.j39_signal.specs.declared.kind.Kind.{Kind}
-use Rattle.j39_signal.specs.declared.kind.Kind.TheVariants.{Measured, Discrete, Raw}
-use Rattle.j39_signal.specs.declared.state.State.TheVariants.{Value}
+use Rattle.j39_signal.specs.declared.kind.Kind.TheVariants.{Measured, Discrete, Raw, States, Signed, Dtc}
+use Rattle.j39_signal.specs.declared.state.State.TheVariants.{Value, Absent}
 use Rattle.j39_signal.proofs.Numbers.{number_at-same}
 
 -- ---- a write
@@ -128,9 +128,18 @@ value_in ranges value raw h = let below : nat_lt raw ranges.values ≡ true = lt
 pub value_read : (s : SignalParts) (value : ℤ) (raw : ℕ) → IsRawOf s value raw → state_of s raw ≡ Value value
 value_read s value raw h = value_in (ranges_of s.kind s.bits) (value_of s raw) raw h.0 ∙ ap Value h.1
 
+absent_in : (ranges : Ranges) (value : ℤ) (raw : ℕ) → ranges.values ≤ raw → ranges.specific ≤ raw → ranges.reserved ≤ raw → ranges.faults ≤ raw
+    → state_in ranges value raw ≡ Absent
+absent_in ranges value raw a b c d =
+    let past_values : nat_lt raw ranges.values ≡ false = le-ltb raw ranges.values a in
+    let past_specific : nat_lt raw ranges.specific ≡ false = le-ltb raw ranges.specific b in
+    let past_reserved : nat_lt raw ranges.reserved ≡ false = le-ltb raw ranges.reserved c in
+    let past_faults : nat_lt raw ranges.faults ≡ false = le-ltb raw ranges.faults d in
+    rw (past_values, past_specific, past_reserved, past_faults) refl
+
 -- all ones of each width that a kind can have
-ones_in : (kind : Kind) (bits : ℕ) (value : ℤ) → width_fits kind bits ≡ true → state_in (ranges_of kind bits) value (2 ^ bits - 1) ≡ given_up kind value
-ones_in Measured bits value fits =
+ones_in : (kind : Kind) (start bits : ℕ) (value : ℤ) → width_fits kind start bits ≡ true → state_in (ranges_of kind bits) value (2 ^ bits - 1) ≡ given_up kind value
+ones_in Measured start bits value fits =
     elim (or_cases (bits == 8) (bits == 16 || bits == 32) fits) [
       | inl e ↦ let k : bits ≡ 8 = eqb-true bits 8 e in rw k refl
       | inr o ↦
@@ -139,8 +148,11 @@ ones_in Measured bits value fits =
             | inr e ↦ let k : bits ≡ 32 = eqb-true bits 32 e in rw k refl
           ]
     ]
-ones_in Discrete bits value fits = let k : bits ≡ 2 = eqb-true bits 2 fits in rw k refl
-ones_in Raw bits value fits = value_in (ranges_of Raw bits) value (2 ^ bits - 1) (omega (arith, pow_pos bits))
+ones_in Discrete start bits value fits = let k : bits ≡ 2 = eqb-true bits 2 fits in rw k refl
+ones_in Raw start bits value fits = value_in (ranges_of Raw bits) value (2 ^ bits - 1) (omega (arith, pow_pos bits))
+ones_in States start bits value fits = absent_in (ranges_of States bits) value (2 ^ bits - 1) (omega arith) (omega arith) (omega arith) (omega arith)
+ones_in Signed start bits value fits = value_in (ranges_of Signed bits) value (2 ^ bits - 1) (omega (arith, pow_pos bits))
+ones_in Dtc start bits value fits = absent_in (ranges_of Dtc bits) value (2 ^ bits - 1) (omega arith) (omega arith) (omega arith) (omega arith)
 
-pub ones_read : (s : SignalParts) → IsTrue (width_fits s.kind s.bits) → state_of s (all_ones s) ≡ given_up s.kind (value_of s (all_ones s))
-ones_read s fits = ones_in s.kind s.bits (value_of s (all_ones s)) fits
+pub ones_read : (s : SignalParts) → IsTrue (width_fits s.kind s.start s.bits) → state_of s (all_ones s) ≡ given_up s.kind (value_of s (all_ones s))
+ones_read s fits = ones_in s.kind s.start s.bits (value_of s (all_ones s)) fits

@@ -6,7 +6,7 @@ use Rattle.j39_signal.specs.Parts.{SignalParts}
 use Rattle.j39_signal.specs.Places.{Covers, LaysOut, WidthFits}
 use Rattle.j39_signal.specs.State.{IsValue, IsRawOf, state_of, value_of}
 use Rattle.j39_signal.specs.declared.kind.Kind.{Kind}
-use Rattle.j39_signal.specs.declared.kind.Kind.TheVariants.{Measured, Discrete, Raw}
+use Rattle.j39_signal.specs.declared.kind.Kind.TheVariants.{Measured, Discrete, Raw, States, Signed, Dtc}
 use Rattle.j39_signal.specs.declared.state.State.{State}
 use Rattle.j39_signal.specs.declared.state.State.TheVariants.{Value, Absent}
 
@@ -46,11 +46,14 @@ abbrev pub last_raws : List ℕ → List Write → List ℕ
 last_raws raws [] = raws
 last_raws raws (w ∷ ws) = last_raws (slice_set raws w.place w.raw) ws
 
--- what a signal reads that was given up: a raw one has no state for that
+-- what a signal reads that was given up: a raw one and a signed one have no state for that
 abbrev pub given_up : Kind → ℤ → State
 given_up Measured value = Absent
 given_up Discrete value = Absent
 given_up Raw value = Value value
+given_up States value = Absent
+given_up Signed value = Value value
+given_up Dtc value = Absent
 
 -- a payload in which every bit is 1, so that no signal is available
 abbrev pub blank : ℕ → List ℕ

@@ -1,7 +1,12 @@
 -- What a contract sees of a signal, and the ranges that every signal keeps.
-use Rattle.std.specs.Prelude.{ℕ, ◌^◌, ◌<◌, ◌≤◌, ℤ, pos, negsuc, ◌≤ℤ◌}
+use Rattle.std.specs.Prelude.{ℕ, ◌*◌, ◌%◌, ◌^◌, ◌<◌, ◌≤◌, ℤ, pos, negsuc, ◌≤ℤ◌, Bool, ◌==◌, ◌&&◌, nat_le, IsTrue}
 use Rattle.arrayvec.specs.ArrayString.{ArrayString}
 use Rattle.j39_signal.specs.declared.kind.Kind.{Kind}
+
+-- the number is 1 to 10,000,000 and a product of 2s and 5s, so that what is divided by it has finitely many decimals: 2 ^ 23 and
+-- 5 ^ 10 are the greatest powers in that range
+abbrev pub divides_decimally : ℕ → Bool
+divides_decimally per = nat_le 1 per && (nat_le per 10000000 && 2 ^ 23 * 5 ^ 10 % per == 0)
 
 -- the parts of a signal; of its label and its unit the bytes count
 pub record SignalParts : Type 0 where
@@ -11,6 +16,7 @@ pub record SignalParts : Type 0 where
   pub kind : Kind
   pub step : ℕ
   pub offset : ℤ
+  pub per : ℕ
   pub unit : ArrayString
 
 -- the ranges that every signal keeps
@@ -25,6 +31,10 @@ pub record IsSignal (start bits step : ℕ) (offset : ℤ) : Type 0 where
 
 abbrev pub HasRanges : SignalParts → Type 0
 HasRanges s = IsSignal s.start s.bits s.step s.offset
+
+-- what the values of a signal are divided by
+abbrev pub IsDivisor : ℕ → Type 0
+IsDivisor per = IsTrue (divides_decimally per)
 
 -- the numbers of which a signal can be made
 pub record CanBeSignal (bits : ℕ) (step offset : ℤ) : Type 0 where

@@ -1,19 +1,22 @@
 -- The widths and the places of signals (SAE J1939-71, bit and byte order of parameters).
-use Rattle.std.specs.Prelude.{ℕ, ◌+◌, ◌*◌, ◌<◌, ◌≤◌, max, min, Bool, ◌==◌, ◌||◌, ◌&&◌, nat_le, nat_lt, List, All, AllPairs, IsTrue}
+use Rattle.std.specs.Prelude.{ℕ, ◌+◌, ◌*◌, ◌%◌, ◌<◌, ◌≤◌, max, min, Bool, ◌==◌, ◌||◌, ◌&&◌, nat_le, nat_lt, List, All, AllPairs, IsTrue}
 use Rattle.j39_id.specs.Limits.{message_bytes}
 use Rattle.j39_signal.specs.Parts.{SignalParts}
 use Rattle.j39_signal.specs.declared.kind.Kind.{Kind}
-use Rattle.j39_signal.specs.declared.kind.Kind.TheVariants.{Measured, Discrete, Raw}
+use Rattle.j39_signal.specs.declared.kind.Kind.TheVariants.{Measured, Discrete, Raw, States, Signed, Dtc}
 
--- a signal of this kind can have this width
-abbrev pub width_fits : Kind → ℕ → Bool
-width_fits Measured bits = bits == 8 || (bits == 16 || bits == 32)
-width_fits Discrete bits = bits == 2
-width_fits Raw bits = nat_le 1 bits && nat_le bits 32
+-- a signal of this kind that begins at this bit can have this width
+abbrev pub width_fits : Kind → ℕ → ℕ → Bool
+width_fits Measured start bits = bits == 8 || (bits == 16 || bits == 32)
+width_fits Discrete start bits = bits == 2
+width_fits Raw start bits = nat_le 1 bits && nat_le bits 32
+width_fits States start bits = nat_le 2 bits && nat_le bits 8
+width_fits Signed start bits = nat_le 2 bits && nat_le bits 32
+width_fits Dtc start bits = bits == 32 && start % 8 == 0
 
 -- the width of the signal fits its kind
 abbrev pub WidthFits : SignalParts → Type 0
-WidthFits s = IsTrue (width_fits s.kind s.bits)
+WidthFits s = IsTrue (width_fits s.kind s.start s.bits)
 
 -- the first place after the signal
 abbrev pub end_of : SignalParts → ℕ

@@ -15,7 +15,7 @@ first_sharer s before = position (λ t. shares_bit t s) before
 -- the faults of a signal behind others in the order in which they are looked for, each with whether it holds
 abbrev pub signal_faults : ℕ → List SignalParts → SignalParts → List (LayoutError × Bool)
 signal_faults bytes before s =
-    (Width (length before), not (width_fits s.kind s.bits))
+    (Width (length before), not (width_fits s.kind s.start s.bits))
     ∷ (Outside (length before), not (is_inside bytes s))
     ∷ (Overlap (unwrap_or (first_sharer s before) 0) (length before), is_some (first_sharer s before))
     ∷ []

@@ -1,9 +1,9 @@
 -- What a raw number means (SAE J1939-71, transmitted signal ranges).
-use Rattle.std.specs.Prelude.{◌≡◌, ℕ, ◌-◌, ◌*◌, ◌^◌, ◌<◌, ℤ, pos, ◌+ℤ◌, ◌*ℤ◌, nat_lt, if◌then◌else◌, List}
+use Rattle.std.specs.Prelude.{◌≡◌, ◌≢◌, ℕ, ◌-◌, ◌*◌, ◌^◌, ◌<◌, ℤ, pos, ◌+ℤ◌, ◌-ℤ◌, ◌*ℤ◌, Bool, false, nat_le, nat_lt, if◌then◌else◌, List}
 use Rattle.j39_signal.specs.Bits.{Put}
 use Rattle.j39_signal.specs.Parts.{SignalParts}
 use Rattle.j39_signal.specs.declared.kind.Kind.{Kind}
-use Rattle.j39_signal.specs.declared.kind.Kind.TheVariants.{Measured, Discrete, Raw}
+use Rattle.j39_signal.specs.declared.kind.Kind.TheVariants.{Measured, Discrete, Raw, States, Signed, Dtc}
 use Rattle.j39_signal.specs.declared.state.State.{State}
 use Rattle.j39_signal.specs.declared.state.State.TheVariants.{Value, Specific, Reserved, Fault, Absent}
 use Rattle.j39_signal.specs.declared.write_error.WriteError.{WriteError}
@@ -17,7 +17,8 @@ pub record Ranges : Type 0 where
   pub reserved : ℕ
   pub faults : ℕ
 
--- a measured signal shows its state in its top byte: a value up to FA, FB, FC and FD, FE, FF
+-- a measured signal shows its state in its top byte: a value up to FA, FB, FC and FD, FE, FF; of states the number whose bits
+-- are all 1 is absence, and the one below it a fault
 abbrev pub ranges_of : Kind → ℕ → Ranges
 ranges_of Measured bits = record {
   values = 251 * 2 ^ (bits - 8);
@@ -27,10 +28,19 @@ ranges_of Measured bits = record {
 }
 ranges_of Discrete bits = record { values = 2; specific = 2; reserved = 2; faults = 3 }
 ranges_of Raw bits = record { values = 2 ^ bits; specific = 2 ^ bits; reserved = 2 ^ bits; faults = 2 ^ bits }
+ranges_of States bits = record { values = 2 ^ bits - 2; specific = 2 ^ bits - 2; reserved = 2 ^ bits - 2; faults = 2 ^ bits - 1 }
+ranges_of Signed bits = record { values = 2 ^ bits; specific = 2 ^ bits; reserved = 2 ^ bits; faults = 2 ^ bits }
+ranges_of Dtc bits = record { values = 2 ^ bits - 1; specific = 2 ^ bits - 1; reserved = 2 ^ bits - 1; faults = 2 ^ bits - 1 }
 
--- the value of a raw number
+-- the raw number stands for a negative one: in two's complement its highest bit is 1
+abbrev pub is_negative : Kind → ℕ → ℕ → Bool
+is_negative Signed bits raw = nat_le (2 ^ (bits - 1)) raw
+is_negative _ bits raw = false
+
+-- the value of a raw number; a negative one is itself less 2 ^ bits
 abbrev pub value_of : SignalParts → ℕ → ℤ
-value_of s raw = s.offset +ℤ pos (s.step * raw)
+value_of s raw =
+    if is_negative s.kind s.bits raw then s.offset -ℤ pos (s.step * (2 ^ s.bits - raw)) else s.offset +ℤ pos (s.step * raw)
 
 -- the state of a raw number, by the range that it lies in
 abbrev pub state_in : Ranges → ℤ → ℕ → State
@@ -64,3 +74,9 @@ IsOnStep s value = (k : ℤ) × (value ≡ s.offset +ℤ pos s.step *ℤ k)
 abbrev pub RefusesValue : SignalParts → ℤ → WriteError → Type 0
 RefusesValue s value NotOnStep = ¬ IsOnStep s value
 RefusesValue s value OutOfRange = IsOnStep s value × ((raw : ℕ) → ¬ IsRawOf s value raw)
+
+-- ---- laws
+
+-- a signal of any kind but a signed one counts its values up from the offset
+abbrev pub OthersCountUp : Type 0
+OthersCountUp = (s : SignalParts) (raw : ℕ) → s.kind ≢ Signed → value_of s raw ≡ s.offset +ℤ pos (s.step * raw)

@@ -9,4 +9,10 @@ pub enum Kind {
     Discrete,
     /// A number of which every value counts.
     Raw,
+    /// Values of 2 to 8 bits, whose two greatest numbers are a fault and absence, as those of a discrete signal.
+    States,
+    /// A number in two's complement of which every value counts.
+    Signed,
+    /// A diagnostic trouble code of 32 bits from the first bit of a byte on (SAE J1939-73), absent where all of them are 1.
+    Dtc,
 }

@@ -1,5 +1,6 @@
 //! Laws of signals: facts about the definitions, each the contract of a function that does nothing.
 ghost use Rattle.j39_signal.specs.Laid.{LaidOutKeepWrites, ValuesReadBack, AllOnesReadGivenUp};
+ghost use Rattle.j39_signal.specs.State.{OthersCountUp};
 
 /// Signals are sound: signals that lay out a payload read back what was last written, whatever was written to the others.
 ///
@@ -10,4 +11,9 @@ pub fn signals_are_sound()
     ensures kept { LaidOutKeepWrites }
     ensures value { ValuesReadBack }
     ensures given_up { AllOnesReadGivenUp }
+{}
+
+/// But for a signed signal the value of a raw number is the offset plus the step times the raw number.
+pub fn others_count_up()
+    ensures { OthersCountUp }
 {}

@@ -13,9 +13,9 @@ mod state;
 mod write_error;
 
 pub use kind::Kind;
-pub use laws::signals_are_sound;
+pub use laws::{others_count_up, signals_are_sound};
 pub use layout::Layout;
 pub use layout_error::LayoutError;
-pub use signal::Signal;
+pub use signal::{Signal, divides_decimally};
 pub use state::State;
 pub use write_error::WriteError;

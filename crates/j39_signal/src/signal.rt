@@ -1,9 +1,13 @@
 //! Signals.
 ghost use Rattle.std.specs.Prelude.{◌≡◌, ◌↔◌, IsTrue, IsSome, IfSome, pos};
+ghost use Rattle.j39_signal.specs.Parts.{divides_decimally};
 
 use crate::Kind;
 use j39_id::Label;
 use std::marker::Model;
+
+// 2^23 * 5^10, the greatest powers of both up to 10,000,000.
+const DECIMAL_MULTIPLE: u64 = 81_920_000_000_000;
 
 /// A signal of a parameter group: its label, its place in the payload, and how its raw number is scaled.
 #[derive(Clone, Copy, Debug)]
@@ -14,11 +18,12 @@ pub struct Signal {
     kind: Kind,
     step: u32,
     offset: i64,
+    per: u32,
     unit: Label,
 }
 
 impl Model for Signal {
-    ghost use Rattle.j39_signal.specs.Parts.{SignalParts, IsSignal};
+    ghost use Rattle.j39_signal.specs.Parts.{SignalParts, IsSignal, IsDivisor};
 
     ghost Value = { SignalParts };
 
@@ -29,10 +34,11 @@ impl Model for Signal {
       kind = s.kind;
       step = s.step;
       offset = s.offset;
+      per = s.per;
       unit = s.unit;
     } };
 
-    ghost invariant = { λ s. IsSignal s.start s.bits s.step s.offset };
+    ghost invariant = { λ s. IsSignal s.start s.bits s.step s.offset × IsDivisor s.per };
 
     ghost inverse = { λ s. record {
       label = s.label;
@@ -41,15 +47,24 @@ impl Model for Signal {
       kind = s.kind;
       step = s.step;
       offset = s.offset;
+      per = s.per;
       unit = s.unit;
     } };
 }
 
+/// Whether a number is 1..=10,000,000 and has no other prime factors than 2 and 5, so that what it divides has finitely many
+/// decimals.
+pub fn divides_decimally(per: u32) -> bool
+    ensures { result ≡ divides_decimally per }
+{
+    1 <= per && per <= 10_000_000 && DECIMAL_MULTIPLE % u64::from(per) == 0
+}
+
 impl Signal {
-    ghost use Rattle.j39_signal.specs.Parts.{HasRanges, CanBeSignal};
+    ghost use Rattle.j39_signal.specs.Parts.{HasRanges, CanBeSignal, IsDivisor};
     ghost use Rattle.j39_signal.specs.Places.{width_fits, end_of, IsInside, is_inside, SharesBit, shares_bit};
 
-    /// A signal of `bits` bits from bit `start` of the payload on, both counted from 0.
+    /// A signal of `bits` bits from bit `start` of the payload on, both counted from 0. Its values are whole numbers.
     ///
     /// None unless `bits` is 1..=64, `step` is 1..=1,000,000 and `offset` is within plus or minus 10^12.
     pub fn new(
@@ -68,6 +83,7 @@ impl Signal {
         ensures kind { IfSome result (λ s. s.kind ≡ kind) }
         ensures step { IfSome result (λ s. pos s.step ≡ step) }
         ensures offset { IfSome result (λ s. s.offset ≡ offset) }
+        ensures per { IfSome result (λ s. s.per ≡ 1) }
         ensures unit { IfSome result (λ s. s.unit ≡ unit) }
     {
         let in_range = 1 <= bits
@@ -84,8 +100,23 @@ impl Signal {
                 kind,
                 step: step as u32,
                 offset,
+                per: 1,
                 unit,
             })
+        } else {
+            None
+        }
+    }
+
+    /// The signal with its values divided by a number.
+    ///
+    /// None unless the number is 1..=10,000,000 and has no other prime factors than 2 and 5.
+    pub fn divided_by(self, per: u32) -> Option<Self>
+        ensures valid { IsSome result ↔ IsDivisor per }
+        ensures divided { IfSome result (λ s. s ≡ record self { per = per }) }
+    {
+        if divides_decimally(per) {
+            Some(Signal { per, ..self })
         } else {
             None
         }
@@ -136,6 +167,14 @@ impl Signal {
         self.offset
     }
 
+    /// What the values are divided by where they are shown: a product of 2s and 5s.
+    pub fn per(&self) -> u32
+        ensures value { result ≡ self.now.per }
+        ensures divisor { IsDivisor result }
+    {
+        self.per
+    }
+
     /// The unit of the value, empty where it has none.
     pub fn unit(&self) -> &Label
         ensures { result.now ≡ self.now.unit }
@@ -143,14 +182,18 @@ impl Signal {
         &self.unit
     }
 
-    /// Whether the width fits the kind: 8, 16 or 32 bits for a measured signal, 2 for a discrete one, 1..=32 for a raw one.
+    /// Whether the width fits the kind: 8, 16 or 32 bits for a measured signal, 2 for a discrete one, 1..=32 for a raw one,
+    /// 2..=8 for states, 2..=32 for a signed one, and for a trouble code 32 from the first bit of a byte on.
     pub fn width_fits(&self) -> bool
-        ensures { result ≡ width_fits self.now.kind self.now.bits }
+        ensures { result ≡ width_fits self.now.kind self.now.start self.now.bits }
     {
         match self.kind {
             Kind::Measured => self.bits == 8 || self.bits == 16 || self.bits == 32,
             Kind::Discrete => self.bits == 2,
             Kind::Raw => 1 <= self.bits && self.bits <= 32,
+            Kind::States => 2 <= self.bits && self.bits <= 8,
+            Kind::Signed => 2 <= self.bits && self.bits <= 32,
+            Kind::Dtc => self.bits == 32 && self.start % 8 == 0,
         }
     }
 

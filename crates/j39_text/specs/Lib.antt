@@ -1,3 +1,4 @@
+pub mod Decimals
 pub mod FrameText
 pub mod Labels
 pub mod Texts

@@ -6,6 +6,7 @@ mod input;
 mod labels;
 mod laws;
 mod putting;
+mod quotient;
 mod text_buffer;
 
 pub use frame::{frame_text, write_destination};
@@ -14,6 +15,7 @@ pub use labels::{
     group_label, group_pgn, signal_bits, signal_end, signal_label, unit_address, unit_label,
     write_group, write_units,
 };
-pub use laws::a_line_has_one_text;
+pub use laws::{a_line_has_one_text, quotients_are_exact};
 pub use putting::put_text;
+pub use quotient::write_quotient;
 pub use text_buffer::TextBuffer;

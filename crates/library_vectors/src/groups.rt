@@ -99,6 +99,21 @@ pub fn vd() -> [Row; 2] {
     ]
 }
 
+/// A group of a maker: states, numbers in two's complement, and a diagnostic trouble code.
+pub fn maker() -> [Row; 4] {
+    let torque = Row {
+        step: 5,
+        offset: 100,
+        ..unscaled("TORQUE", 2, 1, 8, Kind::Signed)
+    };
+    [
+        unscaled("GEAR", 1, 1, 4, Kind::States),
+        torque,
+        unscaled("ANGLE", 3, 1, 12, Kind::Signed),
+        unscaled("CODE", 5, 1, 32, Kind::Dtc),
+    ]
+}
+
 /// The signal of a row.
 pub fn signal(row: &Row) -> Result<Signal, Fail> {
     if row.byte < 1 || row.byte > 1785 || row.bit < 1 || row.bit > 8 {

@@ -9,6 +9,8 @@ mod groups;
 #[cfg(test)]
 mod identifiers;
 #[cfg(test)]
+mod kinds;
+#[cfg(test)]
 mod plans;
 #[cfg(test)]
 mod signals;

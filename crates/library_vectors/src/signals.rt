@@ -6,8 +6,8 @@ use std::alloc::Global;
 use std::process::Abort;
 use std::test::Fail;
 
-// Writes values into a blank payload, and sees each answer, the payload at the end and the states that it shows.
-fn writes(
+/// Writes values into a blank payload, and sees each answer, the payload at the end and the states that it shows.
+pub fn writes(
     rt: &impl Abort,
     alloc: Global,
     rows: &[Row],
@@ -26,8 +26,8 @@ fn writes(
     Ok(())
 }
 
-// Sees what payloads show of a signal.
-fn shows(
+/// Sees what payloads show of a signal.
+pub fn shows(
     rt: &impl Abort,
     alloc: Global,
     rows: &[Row],

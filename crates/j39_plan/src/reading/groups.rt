@@ -25,9 +25,14 @@ const GROUP_KEYS: [Key; 5] = [
 ];
 
 #[tactic(auto, using(crate::proofs::FirstFaults::faults_after), unfolding(crate::specs::GroupTables::group_table_faults))]
-fn group(alloc: Global, index: usize, members: &toml::Table) -> Result<GroupPlan, PlanError>
-    ensures { GivesGrowing (GroupGrows index (table_view members.now)) result
-        (group_table_faults index (table_view members.now)) (TellsGroup (table_view members.now)) }
+fn group(
+    alloc: Global,
+    third: bool,
+    index: usize,
+    members: &toml::Table,
+) -> Result<GroupPlan, PlanError>
+    ensures { GivesGrowing (GroupGrows third index (table_view members.now)) result
+        (group_table_faults third index (table_view members.now)) (TellsGroup third (table_view members.now)) }
 {
     let table = Table::Group(index);
     only(members, table, &GROUP_KEYS)?;
@@ -36,7 +41,11 @@ fn group(alloc: Global, index: usize, members: &toml::Table) -> Result<GroupPlan
     let priority = number(members, table, Key::Priority, 0, 7, None)?;
     let length = number(members, table, Key::Length, 1, MESSAGE_BYTES as u32, None)?;
     let values = array(members, table, Key::Signal, 64)?;
-    let signals = read_each(alloc, &Signals { group: index }, values)?;
+    let reader = Signals {
+        third,
+        group: index,
+    };
+    let signals = read_each(alloc, &reader, values)?;
     Ok(GroupPlan {
         label,
         pgn,
@@ -46,9 +55,11 @@ fn group(alloc: Global, index: usize, members: &toml::Table) -> Result<GroupPlan
     })
 }
 
-/// The reader of groups.
+/// The reader of groups, in the third version of a plan or in another.
 #[derive(Clone, Copy)]
-pub struct Groups;
+pub struct Groups {
+    pub third: bool,
+}
 
 impl ReadElement<GroupPlan> for Groups {
     ghost use Rattle.j39_plan.specs.Growing.{GroupElementGrows};
@@ -58,11 +69,11 @@ impl ReadElement<GroupPlan> for Groups {
 
     ghost label_of = { group_label };
 
-    ghost faults = { λ _. group_faults };
+    ghost faults = { λ r. group_faults r.third };
 
-    ghost Grows = { λ _. GroupElementGrows };
+    ghost Grows = { λ r. GroupElementGrows r.third };
 
-    ghost Tells = { λ _. IsGroupOf };
+    ghost Tells = { λ r. IsGroupOf r.third };
 
     #[tactic(auto, using(crate::proofs::FirstFaults::faults_after), unfolding(crate::specs::GroupTables::group_faults))]
     fn read(
@@ -73,7 +84,7 @@ impl ReadElement<GroupPlan> for Groups {
         value: &Value,
     ) -> Result<GroupPlan, PlanError> {
         let table = Table::Group(index);
-        let group = group(alloc, index, table_of(value, table)?)?;
+        let group = group(alloc, self.third, index, table_of(value, table)?)?;
         untaken(seen, group.label.as_str(), TextKind::Label, table)?;
         Ok(group)
     }

@@ -6,7 +6,7 @@ ghost use Rattle.j39_id.specs.Addresses.{in_pool};
 ghost use Rattle.j39_plan.specs.declared.reading.place.Table.TheVariants as at;
 ghost use Rattle.j39_plan.specs.Schema.{addresses_of, number_in, numbers_in};
 ghost use Rattle.j39_plan.specs.TableFaults.{address_cause, addresses_cause, key_faults, unknown_faults};
-ghost use Rattle.j39_plan.specs.Faults.{is_second, version_rule, keep_free_rule, array_rules, head_faults};
+ghost use Rattle.j39_plan.specs.Faults.{may_keep, is_third, version_rule, keep_free_rule, array_rules, head_faults};
 ghost use Rattle.j39_plan.specs.Described.{keep_free_of};
 ghost use Rattle.j39_plan.specs.Outcome.{Gives};
 
@@ -20,7 +20,7 @@ use toml::Value;
 
 const FIRST_KEYS: [Key; 4] = [Key::Version, Key::Unit, Key::Group, Key::Flow];
 
-const SECOND_KEYS: [Key; 5] = [
+const LATER_KEYS: [Key; 5] = [
     Key::Version,
     Key::KeepFree,
     Key::Unit,
@@ -93,21 +93,35 @@ fn keep_free(members: &toml::Table) -> Result<AddressSet, PlanError>
     }
 }
 
-/// Whether the version is the second.
-#[tactic(auto, unfolding(crate::specs::Faults::is_second, crate::specs::Schema::number_of))]
-fn is_second(members: &toml::Table) -> bool
-    ensures { result ≡ is_second (table_view members.now) }
+/// Whether the version is the second or the third.
+#[tactic(auto, unfolding(crate::specs::Faults::may_keep, crate::specs::Schema::number_of))]
+fn may_keep(members: &toml::Table) -> bool
+    ensures { result ≡ may_keep (table_view members.now) }
 {
     match value_at(members, Key::Version) {
         None => false,
         Some(value) => match value.as_integer() {
             None => false,
-            Some(version) => version == 2,
+            Some(version) => version == 2 || version == 3,
         },
     }
 }
 
-/// The head of a plan that isn't of the second version, and keeps no address free.
+/// Whether the version is the third.
+#[tactic(auto, unfolding(crate::specs::Faults::is_third, crate::specs::Schema::number_of))]
+pub fn is_third(members: &toml::Table) -> bool
+    ensures { result ≡ is_third (table_view members.now) }
+{
+    match value_at(members, Key::Version) {
+        None => false,
+        Some(value) => match value.as_integer() {
+            None => false,
+            Some(version) => version == 3,
+        },
+    }
+}
+
+/// The head of a plan of a version that keeps no address free.
 #[tactic(auto, using(crate::proofs::FirstFaults::faults_after))]
 fn first_head(members: &toml::Table) -> Result<AddressSet, PlanError>
     ensures gives { Gives result
@@ -117,21 +131,21 @@ fn first_head(members: &toml::Table) -> Result<AddressSet, PlanError>
     ensures range { IfOk result (λ s. (a : ℕ) → contains s a ≡ true → in_pool a ≡ true) }
 {
     only(members, Table::Top, &FIRST_KEYS)?;
-    number(members, Table::Top, Key::Version, 1, 2, None)?;
+    number(members, Table::Top, Key::Version, 1, 3, None)?;
     Ok(AddressSet::new())
 }
 
-/// The head of a plan of the second version.
+/// The head of a plan of a later version.
 #[tactic(auto, using(crate::proofs::FirstFaults::faults_after))]
-fn second_head(members: &toml::Table) -> Result<AddressSet, PlanError>
+fn later_head(members: &toml::Table) -> Result<AddressSet, PlanError>
     ensures gives { Gives result
         (unknown_faults at.Top (map (λ r. r.key) (version_rule ∷ keep_free_rule ∷ array_rules)) (table_view members.now)
         ++ (key_faults at.Top (table_view members.now) version_rule ++ key_faults at.Top (table_view members.now) keep_free_rule))
         (λ s. s ≡ addresses_of keep_free_rule (table_view members.now)) }
     ensures range { IfOk result (λ s. (a : ℕ) → contains s a ≡ true → in_pool a ≡ true) }
 {
-    only(members, Table::Top, &SECOND_KEYS)?;
-    number(members, Table::Top, Key::Version, 1, 2, None)?;
+    only(members, Table::Top, &LATER_KEYS)?;
+    number(members, Table::Top, Key::Version, 1, 3, None)?;
     keep_free(members)
 }
 
@@ -140,8 +154,8 @@ pub fn head(members: &toml::Table) -> Result<AddressSet, PlanError>
     ensures gives { Gives result (head_faults (table_view members.now)) (λ s. s ≡ keep_free_of (table_view members.now)) }
     ensures range { IfOk result (λ s. (a : ℕ) → contains s a ≡ true → in_pool a ≡ true) }
 {
-    if is_second(members) {
-        second_head(members)
+    if may_keep(members) {
+        later_head(members)
     } else {
         first_head(members)
     }

@@ -1,26 +1,27 @@
 //! The signals of a group.
-ghost use Rattle.std.specs.Prelude.{◌≡◌, ◌≤◌, IsTrue, IfOk};
+ghost use Rattle.std.specs.Prelude.{◌≡◌, ◌≤◌, ◌≤ℤ◌, true, false, pos, negsuc, IsTrue, IfOk};
 ghost use Rattle.toml.specs.View.{table_view};
-ghost use Rattle.j39_signal.specs.Parts.{IsSignal};
+ghost use Rattle.j39_signal.specs.Parts.{IsSignal, IsDivisor};
 ghost use Rattle.j39_findings.specs.LabelForm.{is_label};
-ghost use Rattle.j39_plan.specs.Schema.{text_of};
+ghost use Rattle.j39_plan.specs.Schema.{integer_of, number_of, text_of};
 ghost use Rattle.j39_plan.specs.TableFaults.{key_faults};
 ghost use Rattle.j39_plan.specs.Outcome.{Gives};
 ghost use Rattle.j39_id.specs.Limits.{message_bytes};
-ghost use Rattle.j39_plan.specs.SignalTables.{kind_of, kind_rule, signal_table_faults, start_of, TellsSignal};
+ghost use Rattle.j39_plan.specs.SignalTables.{is_code, is_dtc, kind_of, kind_rule, offset_rule, per_rule, signal_table_faults, start_of, step_rule, unit_rule, TellsSignal};
 
 use super::elements::ReadElement;
 use super::labels::{Labelled, untaken};
 use super::tables::{only, table_of};
 use super::text_kind::TextKind;
-use super::values::{integer, number, short_text, text};
+use super::values::{divisor, integer, number, short_text, text};
 use super::{Key, PlanError, Table};
+use j39_id::Label;
 use j39_id::limits::MESSAGE_BYTES;
 use j39_signal::{Kind, Signal};
 use std::alloc::Global;
 use toml::Value;
 
-const SIGNAL_KEYS: [Key; 8] = [
+const FIRST_KEYS: [Key; 8] = [
     Key::Label,
     Key::Byte,
     Key::Bit,
@@ -31,22 +32,38 @@ const SIGNAL_KEYS: [Key; 8] = [
     Key::Unit,
 ];
 
+const THIRD_KEYS: [Key; 9] = [
+    Key::Label,
+    Key::Byte,
+    Key::Bit,
+    Key::Bits,
+    Key::Kind,
+    Key::Step,
+    Key::Per,
+    Key::Offset,
+    Key::Unit,
+];
+
 fn kind_of(word: &str) -> Kind
     ensures { result ≡ kind_of word.now }
 {
     match word {
         "measured" => Kind::Measured,
         "discrete" => Kind::Discrete,
+        "states" => Kind::States,
+        "signed" => Kind::Signed,
+        "dtc" => Kind::Dtc,
         _ => Kind::Raw,
     }
 }
 
-fn kind(members: &toml::Table, table: Table) -> Result<Kind, PlanError>
-    ensures { Gives result (key_faults table (table_view members.now) kind_rule)
-        (λ k. k ≡ kind_of (text_of kind_rule (table_view members.now))) }
+fn is_dtc(kind: Kind) -> bool
+    ensures { result ≡ is_dtc kind }
 {
-    let word = text(members, table, Key::Kind, TextKind::SignalKind, None)?;
-    Ok(kind_of(word))
+    match kind {
+        Kind::Dtc => true,
+        _ => false,
+    }
 }
 
 // The first bit, counted from 0, of a byte and a bit in it, which are counted from 1.
@@ -59,45 +76,167 @@ fn start_of(byte: u32, bit: u32) -> u16
     start as u16
 }
 
-#[tactic(auto, using(crate::proofs::FirstFaults::faults_after), unfolding(crate::specs::SignalTables::signal_table_faults))]
-fn signal(table: Table, members: &toml::Table) -> Result<Signal, PlanError>
-    ensures gives { Gives result (signal_table_faults table (table_view members.now)) (TellsSignal (table_view members.now)) }
-    ensures label_form { IfOk result (λ s. IsTrue (is_label s.label.bytes)) }
-    ensures ranges { IfOk result (λ s. IsSignal s.start s.bits s.step s.offset) }
+// The kind, and whether it is a trouble code.
+#[tactic(auto, unfolding(crate::specs::SignalTables::is_code))]
+fn third_kind(members: &toml::Table, table: Table) -> Result<(Kind, bool), PlanError>
+    ensures { Gives result (key_faults table (table_view members.now) (kind_rule true))
+        (λ k. (k.0 ≡ kind_of (text_of (kind_rule true) (table_view members.now))) × (k.1 ≡ is_code true (table_view members.now))) }
 {
-    only(members, table, &SIGNAL_KEYS)?;
-    let label = short_text(members, table, Key::Label, TextKind::Label, None)?;
-    let byte = number(members, table, Key::Byte, 1, MESSAGE_BYTES as u32, None)?;
-    let bit = number(members, table, Key::Bit, 1, 8, Some(1))?;
-    let bits = number(members, table, Key::Bits, 1, 64, None)?;
-    let kind = kind(members, table)?;
-    let step = number(members, table, Key::Step, 1, 1_000_000, Some(1))?;
-    let offset = integer(
-        members,
-        table,
-        Key::Offset,
-        -1_000_000_000_000,
-        1_000_000_000_000,
-        Some(0),
-    )?;
-    let unit = short_text(members, table, Key::Unit, TextKind::SignalUnit, Some(""))?;
+    let word = text(members, table, Key::Kind, TextKind::AnySignalKind, None)?;
+    let kind = kind_of(word);
+    Ok((kind, is_dtc(kind)))
+}
+
+#[tactic(auto, unfolding(crate::specs::Schema::number_of))]
+fn step(members: &toml::Table, table: Table, code: bool) -> Result<u32, PlanError>
+    ensures gives { Gives result (key_faults table (table_view members.now) (step_rule code))
+        (λ n. n ≡ number_of (step_rule false) (table_view members.now)) }
+    ensures some { IfOk result (λ n. 1 ≤ n) }
+    ensures most { IfOk result (λ n. n ≤ 1000000) }
+{
+    if code {
+        number(members, table, Key::Step, 1, 1, Some(1))
+    } else {
+        number(members, table, Key::Step, 1, 1_000_000, Some(1))
+    }
+}
+
+#[tactic(auto, unfolding(crate::specs::Schema::number_of))]
+fn per(members: &toml::Table, table: Table, code: bool) -> Result<u32, PlanError>
+    ensures gives { Gives result (key_faults table (table_view members.now) (per_rule code))
+        (λ n. n ≡ number_of (per_rule false) (table_view members.now)) }
+    ensures divides { IfOk result IsDivisor }
+{
+    if code {
+        divisor(members, table, Key::Per, 1)
+    } else {
+        divisor(members, table, Key::Per, 10_000_000)
+    }
+}
+
+#[tactic(auto, unfolding(crate::specs::Schema::integer_of))]
+fn offset(members: &toml::Table, table: Table, code: bool) -> Result<i64, PlanError>
+    ensures gives { Gives result (key_faults table (table_view members.now) (offset_rule code))
+        (λ n. n ≡ integer_of (offset_rule false) (table_view members.now)) }
+    ensures least { IfOk result (λ n. negsuc 999999999999 ≤ℤ n) }
+    ensures greatest { IfOk result (λ n. n ≤ℤ pos 1000000000000) }
+{
+    if code {
+        integer(members, table, Key::Offset, 0, 0, Some(0))
+    } else {
+        let (least, most) = (-1_000_000_000_000, 1_000_000_000_000);
+        integer(members, table, Key::Offset, least, most, Some(0))
+    }
+}
+
+#[tactic(auto, unfolding(crate::specs::Schema::text_of))]
+fn unit(members: &toml::Table, table: Table, code: bool) -> Result<Label, PlanError>
+    ensures { Gives result (key_faults table (table_view members.now) (unit_rule code))
+        (λ t. t.bytes ≡ text_of (unit_rule false) (table_view members.now)) }
+{
+    if code {
+        short_text(members, table, Key::Unit, TextKind::Empty, Some(""))
+    } else {
+        short_text(members, table, Key::Unit, TextKind::SignalUnit, Some(""))
+    }
+}
+
+// A signal whose values are whole numbers.
+fn whole_signal(
+    label: Label,
+    start: u16,
+    bits: u32,
+    kind: Kind,
+    step: u32,
+    offset: i64,
+    unit: Label,
+) -> Signal
+    requires bits { (1 ≤ bits) × (bits ≤ 64) }
+    requires step { (1 ≤ step) × (step ≤ 1000000) }
+    requires least { negsuc 999999999999 ≤ℤ offset }
+    requires greatest { offset ≤ℤ pos 1000000000000 }
+    ensures label { result.label ≡ label }
+    ensures start { result.start ≡ start }
+    ensures bits { result.bits ≡ bits }
+    ensures kind { result.kind ≡ kind }
+    ensures step { result.step ≡ step }
+    ensures offset { result.offset ≡ offset }
+    ensures per { result.per ≡ 1 }
+    ensures unit { result.unit ≡ unit }
+    ensures ranges { IsSignal result.start result.bits result.step result.offset }
+{
     match Signal::new(
         label,
-        start_of(byte, bit),
+        start,
         bits as u8,
         kind,
         i64::from(step),
         offset,
         unit,
     ) {
+        Some(signal) => signal,
+        None => unreachable!(),
+    }
+}
+
+#[tactic(auto, using(crate::proofs::FirstFaults::faults_after), unfolding(crate::specs::SignalTables::signal_table_faults, crate::specs::SignalTables::is_code))]
+fn first_signal(table: Table, members: &toml::Table) -> Result<Signal, PlanError>
+    ensures gives { Gives result (signal_table_faults false table (table_view members.now)) (TellsSignal false (table_view members.now)) }
+    ensures label_form { IfOk result (λ s. IsTrue (is_label s.label.bytes)) }
+    ensures ranges { IfOk result (λ s. IsSignal s.start s.bits s.step s.offset) }
+{
+    only(members, table, &FIRST_KEYS)?;
+    let label = short_text(members, table, Key::Label, TextKind::Label, None)?;
+    let byte = number(members, table, Key::Byte, 1, MESSAGE_BYTES as u32, None)?;
+    let bit = number(members, table, Key::Bit, 1, 8, Some(1))?;
+    let bits = number(members, table, Key::Bits, 1, 64, None)?;
+    let kind = kind_of(text(members, table, Key::Kind, TextKind::SignalKind, None)?);
+    let step = step(members, table, false)?;
+    let offset = offset(members, table, false)?;
+    let unit = unit(members, table, false)?;
+    let start = start_of(byte, bit);
+    Ok(whole_signal(label, start, bits, kind, step, offset, unit))
+}
+
+#[tactic(auto, using(crate::proofs::FirstFaults::faults_after), unfolding(crate::specs::SignalTables::signal_table_faults))]
+fn third_signal(table: Table, members: &toml::Table) -> Result<Signal, PlanError>
+    ensures gives { Gives result (signal_table_faults true table (table_view members.now)) (TellsSignal true (table_view members.now)) }
+    ensures label_form { IfOk result (λ s. IsTrue (is_label s.label.bytes)) }
+    ensures ranges { IfOk result (λ s. IsSignal s.start s.bits s.step s.offset) }
+{
+    only(members, table, &THIRD_KEYS)?;
+    let label = short_text(members, table, Key::Label, TextKind::Label, None)?;
+    let byte = number(members, table, Key::Byte, 1, MESSAGE_BYTES as u32, None)?;
+    let bit = number(members, table, Key::Bit, 1, 8, Some(1))?;
+    let bits = number(members, table, Key::Bits, 1, 64, None)?;
+    let kind = third_kind(members, table)?;
+    let step = step(members, table, kind.1)?;
+    let per = per(members, table, kind.1)?;
+    let offset = offset(members, table, kind.1)?;
+    let unit = unit(members, table, kind.1)?;
+    let start = start_of(byte, bit);
+    match whole_signal(label, start, bits, kind.0, step, offset, unit).divided_by(per) {
         Some(signal) => Ok(signal),
         None => unreachable!(),
     }
 }
 
-/// The reader of the signals of the group at a place.
+fn signal(third: bool, table: Table, members: &toml::Table) -> Result<Signal, PlanError>
+    ensures gives { Gives result (signal_table_faults third table (table_view members.now)) (TellsSignal third (table_view members.now)) }
+    ensures label_form { IfOk result (λ s. IsTrue (is_label s.label.bytes)) }
+    ensures ranges { IfOk result (λ s. IsSignal s.start s.bits s.step s.offset) }
+{
+    if third {
+        third_signal(table, members)
+    } else {
+        first_signal(table, members)
+    }
+}
+
+/// The reader of the signals of the group at a place, in the third version of a plan or in another.
 #[derive(Clone, Copy)]
 pub struct Signals {
+    pub third: bool,
     pub group: usize,
 }
 
@@ -109,11 +248,11 @@ impl ReadElement<Signal> for Signals {
 
     ghost label_of = { signal_label };
 
-    ghost faults = { λ r. signal_faults r.group };
+    ghost faults = { λ r. signal_faults r.third r.group };
 
     ghost Grows = { λ _. NeverGrows };
 
-    ghost Tells = { λ _ d s. IsSignalOf d s × IsFit s };
+    ghost Tells = { λ r d s. IsSignalOf r.third d s × IsFit s };
 
     #[tactic(auto, using(crate::proofs::FirstFaults::faults_after), unfolding(crate::specs::SignalTables::signal_faults))]
     fn read(
@@ -124,7 +263,7 @@ impl ReadElement<Signal> for Signals {
         value: &Value,
     ) -> Result<Signal, PlanError> {
         let table = Table::Signal(self.group, index);
-        let signal = signal(table, table_of(value, table)?)?;
+        let signal = signal(self.third, table, table_of(value, table)?)?;
         untaken(seen, signal.label_text(), TextKind::Label, table)?;
         Ok(signal)
     }

@@ -2,6 +2,7 @@
 ghost use Rattle.std.specs.Prelude.{◌≡◌};
 ghost use Rattle.std.specs.List.{list_all};
 ghost use Rattle.j39_findings.specs.LabelForm.{is_label_byte, is_label};
+ghost use Rattle.j39_plan.specs.TextKinds.{is_first_kind};
 
 /// Which texts a key takes.
 #[derive(Clone, Copy)]
@@ -9,8 +10,11 @@ pub enum TextKind {
     Label,
     UnitLabel,
     Chooser,
+    /// What the first two versions know.
     SignalKind,
+    AnySignalKind,
     SignalUnit,
+    Empty,
     Any,
 }
 
@@ -32,6 +36,12 @@ fn is_label(text: &str) -> bool
     1 <= text.len() && text.len() <= 32 && are_label_bytes(text.as_bytes())
 }
 
+fn is_first_kind(text: &str) -> bool
+    ensures { result ≡ is_first_kind text.now }
+{
+    text == "measured" || text == "discrete" || text == "raw"
+}
+
 impl TextKind {
     ghost use Rattle.std.specs.List.{list_all};
     ghost use Rattle.j39_plan.specs.TextKinds.{is_printable, takes};
@@ -50,8 +60,12 @@ impl TextKind {
             TextKind::Label => is_label(text),
             TextKind::UnitLabel => is_label(text) && text != "all",
             TextKind::Chooser => text == "lowest" || text == "upward",
-            TextKind::SignalKind => text == "measured" || text == "discrete" || text == "raw",
+            TextKind::SignalKind => is_first_kind(text),
+            TextKind::AnySignalKind => {
+                is_first_kind(text) || text == "states" || text == "signed" || text == "dtc"
+            }
             TextKind::SignalUnit => text.len() <= 32 && Self::are_printable(text.as_bytes()),
+            TextKind::Empty => text.is_empty(),
             TextKind::Any => true,
         }
     }

@@ -3,6 +3,7 @@ ghost use Rattle.std.specs.Prelude.{◌≡◌, ℕ, true, Some, None, List, opti
 ghost use Rattle.std.specs.Option.{option_copied};
 ghost use Rattle.toml.specs.Data.{get_member};
 ghost use Rattle.toml.specs.View.{view, table_view};
+ghost use Rattle.j39_signal.specs.Parts.{IsDivisor};
 ghost use Rattle.j39_plan.specs.Words.{word_of};
 ghost use Rattle.j39_plan.specs.TextKinds.{takes};
 ghost use Rattle.j39_plan.specs.Schema as schema;
@@ -13,6 +14,7 @@ use super::text_kind::TextKind;
 use super::{Cause, Fault, Key, Place, PlanError, Table};
 use arrayvec::ArrayString;
 use j39_id::Label;
+use j39_signal::divides_decimally;
 use toml::Value;
 
 /// The refusal of a key's value.
@@ -96,6 +98,30 @@ pub fn number(
             None => Err(refused(Cause::WrongType, table, key)),
             Some(number) => {
                 if number < i64::from(low) || i64::from(high) < number {
+                    Err(refused(Cause::Range, table, key))
+                } else {
+                    Ok(number as u32)
+                }
+            }
+        },
+    }
+}
+
+/// The number at a key that values are divided by, a product of 2s and 5s up to a limit, or 1.
+#[tactic(auto, unfolding(crate::specs::TableFaults::key_faults, crate::specs::Schema::number_of))]
+pub fn divisor(members: &toml::Table, table: Table, key: Key, limit: u32) -> Result<u32, PlanError>
+    requires { 1 ≤ limit }
+    ensures gives { let rule = schema.divisor key limit in
+        Gives result (key_faults table (table_view members.now) rule)
+        (λ n. n ≡ schema.number_of rule (table_view members.now)) }
+    ensures divides { IfOk result IsDivisor }
+{
+    match value_at(members, key) {
+        None => Ok(1),
+        Some(value) => match value.as_integer() {
+            None => Err(refused(Cause::WrongType, table, key)),
+            Some(number) => {
+                if number < 1 || i64::from(limit) < number || !divides_decimally(number as u32) {
                     Err(refused(Cause::Range, table, key))
                 } else {
                     Ok(number as u32)

@@ -18,10 +18,10 @@ returns-in_err-flows c =
     let p = err_from_is_err_and c.from_residual-in_err-flows.result c.from_residual-in_err-flows.ensures.1 in
     let gs = c.in_ok-groups.groups.items in
     let us = c.in_ok-units.units.items in
-    let groups = group_texts_told _ gs c.in_ok-groups.ensures.1 in
+    let groups = group_texts_told _ _ gs c.in_ok-groups.ensures.1 in
     let units = unit_texts_told _ us c.in_ok-units.ensures.1 in
     let no_units = rw c.in_ok-unit_values.ensures.1 at c.in_ok-units.ensures.0 in
-    let no_groups = rw c.in_ok-group_values.ensures.1 at c.in_ok-groups.ensures.0 in
+    let no_groups = rw (c.in_ok-group_values.ensures.1, c.is_third-third.ensures) at c.in_ok-groups.ensures.0 in
     let ds = items_view c.in_ok-flow_values.flow_values.now in
     let told :
     FailsGrowing (EachGrows (λ i seen. flow_faults (group_texts gs) (unit_texts us) i) NeverGrows ds) c.in_err-flows.field-0.0
@@ -45,7 +45,7 @@ pub invariant_of-result-clause-unit_labels : goal.invariant_of-result-clause-uni
 invariant_of-result-clause-unit_labels c = units_apart _ _ c.in_ok-units.ensures.1 c.in_ok-units.ensures.0
 
 pub invariant_of-result-clause-group_labels : goal.invariant_of-result-clause-group_labels
-invariant_of-result-clause-group_labels c = groups_apart _ _ c.in_ok-groups.ensures.1 c.in_ok-groups.ensures.0
+invariant_of-result-clause-group_labels c = groups_apart _ _ _ c.in_ok-groups.ensures.1 c.in_ok-groups.ensures.0
 
 pub invariant_of-result-clause-flow_groups : goal.invariant_of-result-clause-flow_groups
 invariant_of-result-clause-flow_groups c = flow_groups _ _ _ _ (rw (c.deref.ensures.value, c.deref-2.ensures.value) at c.in_ok-flows.ensures.1)
@@ -60,10 +60,10 @@ pub returns : goal.returns
 returns c =
     let gs = c.in_ok-groups.groups.items in
     let us = c.in_ok-units.units.items in
-    let groups = group_texts_told _ gs c.in_ok-groups.ensures.1 in
+    let groups = group_texts_told _ _ gs c.in_ok-groups.ensures.1 in
     let units = unit_texts_told _ us c.in_ok-units.ensures.1 in
     let no_units = rw c.in_ok-unit_values.ensures.1 at c.in_ok-units.ensures.0 in
-    let no_groups = rw c.in_ok-group_values.ensures.1 at c.in_ok-groups.ensures.0 in
+    let no_groups = rw (c.in_ok-group_values.ensures.1, c.is_third-third.ensures) at c.in_ok-groups.ensures.0 in
     let ds = items_view c.in_ok-flow_values.flow_values.now in
     let told :
     (each_faults (λ i seen. flow_faults (group_texts gs) (unit_texts us) i) no_label 0 [] ds ≡ [])
@@ -75,7 +75,7 @@ returns c =
       record {
         has_keep_free = c.in_ok-keep_free.ensures.gives.1;
         has_units = rw c.in_ok-unit_values.ensures.1 at c.in_ok-units.ensures.1;
-        has_groups = rw c.in_ok-group_values.ensures.1 at c.in_ok-groups.ensures.1;
+        has_groups = rw (c.in_ok-group_values.ensures.1, c.is_third-third.ensures) at c.in_ok-groups.ensures.1;
         has_flows = flows.1;
       },
     )

@@ -1,0 +1,7 @@
+use Rattle.std.proofs.Common.{refl}
+use Rattle.j39_plan.specs.SignalTables.{is_code}
+use Rattle.j39_plan.proofs.laws.older_versions_know_what_they_knew.Goals as goal
+
+pub returns : goal.returns
+unfolding is_code
+returns c = λ ms. refl
