@@ -30,6 +30,8 @@ WORDS = {"per": ", a product of 2s and 5s"}
 
 # The keys that a trouble code can't have but with their defaults.
 SCALE = ("step", "per", "offset", "unit")
+# The most that a value is divided by.
+PER_MOST = 10_000_000
 
 # The key to look at, of each finding that names two units or two groups.
 PAIR_KEYS = {"F1": ("unit", "name"), "F2": ("unit", "address"), "F5": ("group", "pgn")}
@@ -209,7 +211,7 @@ def number_at(plan: Plan, place: Place, default: int) -> Fraction | None:
 
 
 def whole_scale(plan: Plan, signal: Place) -> str:
-    """A hint at step and offset of a signal as whole numbers, the fraction of both being put into its unit."""
+    """A hint at step and offset of a signal as whole numbers, the fraction of both being put into its divisor or its unit."""
     step, offset = number_at(plan, signal + ("step",), 1), number_at(plan, signal + ("offset",), 0)
     if step is None or offset is None:
         return ""
@@ -217,13 +219,16 @@ def whole_scale(plan: Plan, signal: Place) -> str:
     keys = [f"step = {step * parts}"] + [f"offset = {offset * parts}"] * (offset != 0)
     if parts == 1:
         return f"; without a point: {', '.join(keys)}"
+    per = number_at(plan, signal + ("per",), 1)
+    if plan.knows(("signal", "per")) and per is not None and per * parts <= PER_MOST:
+        return f"; the fraction goes into per: {', '.join(keys)}, per = {per * parts}"
     unit = f"1/{parts} {plan.places.texts.get(signal + ('unit',), '')}".strip()
     return f"; the fraction goes into the unit: {', '.join(keys)}, unit = \"{unit}\""
 
 
 def value_hint(plan: Plan, place: Place, key: str, cause: str) -> str:
     """A hint at the value that may have been meant."""
-    words = plan.rule(place, key).get("enum", [])
+    words = [word for word in plan.rule(place, key).get("enum", []) if plan.knows(word)]
     if words:
         return likely(plan.places.texts.get(place + (key,), ""), words)
     return whole_scale(plan, place) if cause == "WrongType" and key in ("step", "offset") else ""

@@ -184,6 +184,10 @@ class Where(InFolder):
             ("version = 3\n" + signal.format("raw") + "per = 3\n",
              f"12: refused Range {place} key per  (per = 3: integer 1..10000000, a product of 2s and 5s)"),
             ("version = 3\n" + signal.format("dtc") + "step = 2\n", f"12: refused Range {place} key step  (step = 2: a dtc has no step)"),
+            ("version = 3\n" + signal.format("raw") + "step = 0.125\noffset = -0.5\n", f"12: refused WrongType {place} key step  "
+             "(step = 0.125: integer 1..1000000; the fraction goes into per: step = 1, offset = -4, per = 8)"),
+            ("version = 3\n" + signal.format("raw") + "step = 0.5\nper = 4\n", f"12: refused WrongType {place} key step  "
+             "(step = 0.5: integer 1..1000000; the fraction goes into per: step = 1, per = 8)"),
         ):
             self.assertEqual(self.answer(plan), (2, [answer]))
 
@@ -242,7 +246,7 @@ class Where(InFolder):
         self.assertEqual((status, answer.split(":", 1)[1]), (2, "3: refused Text  (byte B0 is no UTF-8)\n"))
 
     def test_annotations(self):
-        name = self.write("plan.toml", "version = 2\n".replace("2", "3"))
+        name = self.write("plan.toml", "version = 4\n")
         status, answer, _ = run("where.py", "--github", name)
         self.assertEqual(status, 2)
         self.assertTrue(answer.startswith(f"::error file={name},line=1::refused Range top key version"), answer)
