@@ -7,10 +7,12 @@ usage: run.py [--timed]    --timed: gate/times.py runs rt ci, and writes what it
 
 import os
 import re
+import resource
 import signal
 import subprocess
 import sys
 import threading
+import time
 
 sys.dont_write_bytecode = True
 import crates
@@ -53,11 +55,26 @@ def counted(name: str, words: list[str], minutes: int | None = None) -> tuple[in
     return passed, failed
 
 
+def timed(name: str, words: list[str], minutes: int | None = None) -> tuple[int, int]:
+    """Does what `counted` does, and says how long the part took."""
+    begin, used = time.monotonic(), processor_seconds()
+    found = counted(name, words, minutes)
+    spent, used = time.monotonic() - begin, processor_seconds() - used
+    print(f"{name}: {used / 60:.1f} minutes of processor time, {spent / 60:.1f} by the clock", flush=True)
+    return found
+
+
+def processor_seconds() -> float:
+    """Returns the processor time of what was started from here and has ended."""
+    usage = resource.getrusage(resource.RUSAGE_CHILDREN)
+    return usage.ru_utime + usage.ru_stime
+
+
 def main(words: list[str]) -> int:
     ci = [sys.executable, "gate/times.py", "ci"] if words == ["--timed"] else ["rt", "ci"]
-    found = [counted("rt ci", ci)]
+    found = [timed("rt ci", ci)]
     for name, words, minutes in PARTS:
-        found.append(counted(name, words, minutes))
+        found.append(timed(name, words, minutes))
     passed, failed = map(sum, zip(*found))
     print(f"{passed} passed, {failed} failed")
     return 1 if failed else 0

@@ -56,6 +56,16 @@ class Group(NamedTuple):
     pgn: int
     length: int
     priority: int
+    private: bool
+    most: int
+
+    def has(self, length: int) -> bool:
+        """Whether it has messages of this length."""
+        return self.length <= length <= self.most
+
+    def lengths(self) -> str:
+        """Its lengths as a text."""
+        return str(self.length) if self.length == self.most else f"{self.length} to {self.most}"
 
 
 # Group, sender and destination.
@@ -96,7 +106,9 @@ def planned_groups(places: Places) -> dict[int, list[Group]]:
     groups: dict[int, list[Group]] = {}
     for place in places.elements(("group",)):
         pgn, length, priority = (places.integer(place + (key,)) for key in ("pgn", "length", "priority"))
-        groups.setdefault(pgn, []).append(Group(places.texts[place + ("label",)], pgn, length, priority))
+        private = places.spelled.get(place + ("private",)) == "true"
+        most = places.number(place + ("most",)) or length
+        groups.setdefault(pgn, []).append(Group(places.texts[place + ("label",)], pgn, length, priority, private, most))
     return groups
 
 
@@ -146,9 +158,10 @@ class Comparison:
             self.tell(line, f"{unit.label} claims address {address}, planned is {unit.address}")
 
     def group_of(self, pgn: int, length: int, way: Way) -> Group | None:
-        """The group of a message: one of its length rather than others of its PGN, and of these one that a flow sends this way."""
-        groups = self.groups.get(pgn, [])
-        groups = [group for group in groups if group.length == length] or groups[:1]
+        """The group of a message: one of its length rather than others of its PGN, and of these one that a flow sends this way. A
+        private one only where a flow does."""
+        groups = [group for group in self.groups.get(pgn, []) if not group.private or (group.label, *way) in self.sent]
+        groups = [group for group in groups if group.has(length)] or groups[:1]
         return next((group for group in groups if (group.label, *way) in self.sent), groups[0] if groups else None)
 
     def judged(self, message: Message) -> tuple[Flow | None, list[str]]:
@@ -158,8 +171,8 @@ class Comparison:
         if group is None:
             return None, [] if pgn in UNPLANNED else [f"PGN {pgn} from {who or source}: no group has it"]
         texts = []
-        if length != group.length:
-            texts.append(f"{group.label} from {who or source} has {length} bytes, planned are {group.length}")
+        if not group.has(length):
+            texts.append(f"{group.label} from {who or source} has {length} bytes, planned are {group.lengths()}")
         if priority not in (None, group.priority):
             texts.append(f"{group.label} from {who or source} has priority {priority}, planned is {group.priority}")
         flow = (group.label, who, to) if who else None

@@ -38,6 +38,7 @@ class Log:
 
     def __init__(self) -> None:
         self.interface: bytes | None = None
+        self.words: list[bytes] = []  # those of the line of the last frame
         self.bad = self.marked = self.elsewhere = 0
 
     def frames(self, log: BinaryIO) -> Iterator[Line]:
@@ -50,10 +51,16 @@ class Log:
             elif frame and self._is_elsewhere(words):
                 self.elsewhere += 1
             elif frame:
+                self.words = words
                 yield Line(number, frame.group(1).decode(), frame.group(2).decode())
             elif words and not SHORT_FRAME.fullmatch(words[-1]):
                 self.bad += 1
                 self.marked += words[-1] in DIRECTIONS
+
+    def time(self) -> str:
+        """The time of the last frame as its line spells it, without brackets; empty where there is none."""
+        time = next((word for word in self.words[:-1] if TIME.fullmatch(word)), b"")
+        return time.decode().strip("()")
 
     def _is_elsewhere(self, words: list[bytes]) -> bool:
         """Whether the word before the frame, where that is no time, names another interface than the log's."""

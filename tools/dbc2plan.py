@@ -18,29 +18,16 @@ from typing import TYPE_CHECKING, Any, NamedTuple
 
 import matrix_file
 import program
+from dbc_names import (
+    ADDRESS_ATTRIBUTE, ARBITRARY_ATTRIBUTE, GROUP_ATTRIBUTE, IDENTITY_ATTRIBUTE, NAME_ATTRIBUTES, NOBODY, UNIT_ATTRIBUTE,
+)
 from j1939 import GLOBAL_ADDRESS, NULL_ADDRESS, PROPRIETARY, SERVICES
 from left_out import LeftOut, Notes, plain
 from matrix_signals import BYTES, layout_of, long_name, meaning_of, signals_of
-from plan_text import Labels, Table, milliseconds, quoted, remark, text_of
+from plan_text import VERSIONS, Labels, Table, milliseconds, quoted, remark, text_of
 
 if TYPE_CHECKING:
     import canmatrix
-
-# The keys of a NAME that units can share, each with the attribute of a DBC node that has it and the most that it may be.
-NAME_ATTRIBUTES = {
-    "manufacturer": ("NmJ1939ManufacturerCode", 2047),
-    "ecu": ("NmJ1939ECUInstance", 7),
-    "function_instance": ("NmJ1939FunctionInstance", 31),
-    "function": ("NmJ1939Function", 255),
-    "system": ("NmJ1939System", 127),
-    "system_instance": ("NmJ1939SystemInstance", 15),
-    "industry": ("NmJ1939IndustryGroup", 7),
-}
-IDENTITY_ATTRIBUTE = ("NmJ1939IdentityNumber", 2097151)
-ADDRESS_ATTRIBUTE = "NmStationAddress"
-ARBITRARY_ATTRIBUTE = "NmJ1939AAC"
-
-NOBODY = "Vector__XXX"
 
 # The most of each that a plan has (docs/PLAN.md).
 UNITS, GROUPS, FLOWS = 128, 256, 512
@@ -115,19 +102,24 @@ def address_of(ecu: canmatrix.Ecu, sources: set[int], notes: Notes) -> int:
     raise LeftOut("its frames come from several addresses" if sources else "no address is given")
 
 
-def check_frame(frame: canmatrix.Frame) -> None:
-    """Refuses a frame that no group can be made of."""
+def check_frame(frame: canmatrix.Frame, version: int) -> None:
+    """Refuses a frame that no group of a plan of this version can be made of."""
     pgn = frame.arbitration_id.pgn if frame.arbitration_id.extended else None
     if pgn is None:
         raise LeftOut("its identifier has 11 bits")
     if frame.is_fd:
         raise LeftOut("it is of CAN FD")
-    if pgn in PROPRIETARY:
+    if pgn in PROPRIETARY and version < 3:
         raise LeftOut(f"PGN {pgn} is proprietary")
     if pgn in SERVICES or pgn >= 131072:
         raise LeftOut(f"PGN {pgn} can't be planned")
     if not 1 <= frame.size <= BYTES:
         raise LeftOut(f"it has {frame.size} bytes")
+
+
+def called(frame: canmatrix.Frame) -> str:
+    """What a frame's group is called: by the frame, unless this says that it is one of several of a group."""
+    return plain(frame.attributes.get(GROUP_ATTRIBUTE) or frame.name or "")
 
 
 def frame_remarks(frame: canmatrix.Frame, label: str) -> list[str]:
@@ -138,6 +130,7 @@ def frame_remarks(frame: canmatrix.Frame, label: str) -> list[str]:
 class Group(NamedTuple):
     """A group of the plan, and where the signals of each frame of it have to be and what they have to mean."""
 
+    name: str
     table: Table
     layout: Hashable
     meaning: Hashable
@@ -147,21 +140,25 @@ class Group(NamedTuple):
         """The group's label."""
         return str(self.table.keys["label"])
 
+    def is_as(self, frame: canmatrix.Frame, version: int) -> bool:
+        """Whether the signals of a frame are at the places of the group's, and mean what these mean."""
+        return (self.layout, self.meaning) == (layout_of(frame), meaning_of(frame, version))
+
 
 class Plan:
     """A plan in the making."""
 
-    def __init__(self, matrix: canmatrix.CanMatrix, notes: Notes, strict: bool = False) -> None:
-        self.matrix, self.notes, self.strict = matrix, notes, strict
+    def __init__(self, matrix: canmatrix.CanMatrix, notes: Notes, strict: bool = False, version: int = VERSIONS[-1]) -> None:
+        self.matrix, self.notes, self.strict, self.version = matrix, notes, strict, version
         self.units: dict[str, Table] = {}
-        self.groups: dict[int, Group] = {}
+        self.groups: list[Group] = []
         self.flows: dict[tuple[str, str, str], Table] = {}
         self.unit_labels, self.group_labels = Labels({"all"}), Labels()
 
     def tables(self) -> Iterator[Table]:
         """The tables of the plan, in the order of its file."""
         yield from self.units.values()
-        yield from (group.table for group in self.groups.values())
+        yield from (group.table for group in self.groups)
         yield from self.flows.values()
 
     def add_units(self, frames: Iterable[canmatrix.Frame]) -> None:
@@ -182,28 +179,56 @@ class Plan:
         address = address_of(ecu, sources, self.notes)
         if len(self.units) == UNITS:
             raise LeftOut(f"a plan has at most {UNITS} units")
-        name, label = name_of(ecu, self.matrix, free_identities, self.notes), self.unit_labels.label(ecu.name or "")
+        name, label = name_of(ecu, self.matrix, free_identities, self.notes), self.unit_labels.label(
+            plain(ecu.attributes.get(UNIT_ATTRIBUTE) or ecu.name or ""))
         self.units[ecu.name] = Table("unit", {"label": label, "address": address, "name": name},
                                      remark(long_name(ecu), label, quoted(ecu.comment)))
 
     def group_of(self, frame: canmatrix.Frame) -> Group:
         """The frame's group, which another frame of the same number and layout may have made."""
-        check_frame(frame)
+        check_frame(frame, self.version)
         pgn = frame.arbitration_id.pgn
-        if pgn in self.groups:
-            self.join(frame, self.groups[pgn])
-            return self.groups[pgn]
+        others = [group for group in self.groups if group.table.keys["pgn"] == pgn]
+        if pgn in PROPRIETARY:
+            others = self.private_ones(frame, others)
+        if others:
+            self.join(frame, others[0])
+            return others[0]
         if len(self.groups) == GROUPS:
             raise LeftOut(f"a plan has at most {GROUPS} groups: choose some by --sender or --group")
-        label = self.group_labels.label(frame.name or "")
-        self.groups[pgn] = Group(Table("group", {
+        label = self.group_labels.label(called(frame))
+        group = Group(called(frame), Table("group", {
             "label": label, "pgn": pgn, "priority": frame.arbitration_id.j1939_priority, "length": frame.size,
-        }, frame_remarks(frame, label), signals_of(frame, self.notes, self.strict)), layout_of(frame), meaning_of(frame))
-        return self.groups[pgn]
+            "private": pgn in PROPRIETARY,
+        }, frame_remarks(frame, label), signals_of(frame, self.notes, self.strict, self.version)),
+            layout_of(frame), meaning_of(frame, self.version))
+        self.groups.append(group)
+        return group
+
+    def private_ones(self, frame: canmatrix.Frame, others: list[Group]) -> list[Group]:
+        """Of the makers' own groups of a frame's number the one that the frame is of, if there is one already. It is told from
+        others by who sends it to whom, so it needs a flow, and no other one may meet its flows."""
+        flows, pgn = self.flows_of(frame), frame.arbitration_id.pgn
+        if not flows:
+            raise LeftOut(f"PGN {pgn} is proprietary, and no unit in the plan sends it to another one")
+        if len(self.flows) == FLOWS:
+            raise LeftOut(f"PGN {pgn} is proprietary, and a plan has at most {FLOWS} flows")
+        met = [group for group in others if any(self.is_met(group, *flow) for flow in flows)]
+        same = [group for group in others if group.is_as(frame, self.version) and (group in met or group.name == called(frame))]
+        for group in met:
+            if group not in same[:1]:
+                raise LeftOut(f"{group.label} has the same PGN {pgn} from the same unit to the same receiver, and is another group")
+        return same[:1]
+
+    def is_met(self, group: Group, sender: str, receiver: str) -> bool:
+        """Whether a unit sends a group to a receiver, or to all where this one goes to one."""
+        return any(
+            (label, unit) == (group.label, sender) and (receiver == to or "all" in (receiver, to)) for label, unit, to in self.flows
+        )
 
     def join(self, frame: canmatrix.Frame, group: Group) -> None:
         """Makes a frame one of a group, if it has its layout."""
-        if (layout_of(frame), meaning_of(frame)) != (group.layout, group.meaning):
+        if not group.is_as(frame, self.version):
             other = "layout" if layout_of(frame) != group.layout else "meaning of its signals: scale, sign, unit or table of values"
             raise LeftOut(f"{group.label} has the same PGN {frame.arbitration_id.pgn} and another {other}")
         group.table.remarks.extend(frame_remarks(frame, group.label))
@@ -222,6 +247,11 @@ class Plan:
             return here[:1]
         named = dict.fromkeys(name for signal in frame.signals for name in signal.receivers)
         return [self.units[name].keys["label"] for name in named if name in self.units] or ["all"]
+
+    def flows_of(self, frame: canmatrix.Frame) -> list[tuple[str, str]]:
+        """Sender and receiver of each flow of a frame between units of the plan, or to all."""
+        senders = [self.units[name].keys["label"] for name in frame.transmitters if name in self.units]
+        return [(sender, receiver) for sender in senders for receiver in self.receivers_of(frame) if sender != receiver]
 
     def add_flows(self, frame: canmatrix.Frame, group: Group) -> None:
         """Who sends a group to whom, as far as the file names units."""
@@ -279,7 +309,7 @@ def plan_of(given: argparse.Namespace, notes: Notes) -> Plan:
     """The plan that can be made of a file."""
     matrix = matrix_file.load(given.file, given.bus, notes)
     frames = chosen(matrix.frames, given.sender, given.group)
-    plan = Plan(matrix, notes, given.strict)
+    plan = Plan(matrix, notes, given.strict, given.version)
     plan.add_units(matrix.frames)
     plan.add_frames(frames)
     if not plan.units and not plan.groups:
@@ -287,9 +317,20 @@ def plan_of(given: argparse.Namespace, notes: Notes) -> Plan:
     return plan
 
 
+class PlanVersion(program.Version):
+    """Keeps the version of the plan to write; prints the tool's where none is named."""
+
+    def __call__(self, words: argparse.ArgumentParser, given: argparse.Namespace, value: Any, *option: object) -> None:
+        if value is None:
+            super().__call__(words)
+        given.version = value
+
+
 def options(words: list[str] | None) -> argparse.Namespace:
     """What the command line asks for."""
-    parser = program.parser(__doc__)
+    parser = program.parser(__doc__, own_version=True)
+    parser.add_argument("--version", action=PlanVersion, nargs="?", type=int, choices=VERSIONS, default=VERSIONS[-1],
+                        help=f"the version of the plan, {VERSIONS[-1]} where none is chosen; without a number: print the version and exit")
     parser.add_argument("file", metavar="FILE", help="a file with one of the endings .dbc, .arxml, .kcd, .sym")
     parser.add_argument("--sender", action="append", default=[], metavar="UNIT", help="only groups that this unit sends")
     parser.add_argument("--group", action="append", default=[], metavar="GROUP", help="only this group, by name or PGN")
@@ -304,7 +345,7 @@ def main(words: list[str] | None = None) -> int:
     given, notes = options(words), Notes()
     try:
         plan = plan_of(given, notes)
-        text = text_of(plan.tables(), os.path.basename(given.file))
+        text = text_of(plan.tables(), os.path.basename(given.file), given.version)
         if len(text.encode()) > program.INPUT_MOST:
             raise LeftOut(f"its plan has more than {program.INPUT_MOST} bytes: choose groups by --sender or --group")
     except LeftOut as why:

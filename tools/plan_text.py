@@ -7,10 +7,11 @@ from typing import Any
 
 from left_out import plain
 
-VERSION = 1
+# The versions of a plan that can be written: factors go to `per` in the later one, to the unit of measurement in the earlier one.
+VERSIONS = (2, 3)
 
 # What a key is where it isn't there (docs/PLAN.md), so that it needn't be written.
-DEFAULTS = {"bit": 1, "step": 1, "offset": 0, "unit": ""}
+DEFAULTS = {"bit": 1, "step": 1, "per": 1, "offset": 0, "unit": "", "private": False}
 
 
 @dataclass
@@ -81,9 +82,9 @@ def lines_of(table: Table) -> Iterator[str]:
         yield from lines_of(part)
 
 
-def text_of(tables: Iterable[Table], source: str) -> str:
+def text_of(tables: Iterable[Table], source: str, version: int = VERSIONS[-1]) -> str:
     """The plan's file."""
-    lines = [f"# From {plain(source)}: look it through.", f"version = {VERSION}"]
+    lines = [f"# From {plain(source)}: look it through.", f"version = {version}"]
     for table in tables:
         lines += lines_of(table)
     return "\n".join(lines) + "\n"

@@ -85,7 +85,7 @@ def copied(name: str) -> Iterator[str]:
         yield copy.name
 
 
-class _Version(argparse.Action):
+class Version(argparse.Action):
     """Prints the tool's name, and the version of the program and thus of all this."""
 
     def __call__(self, words: argparse.ArgumentParser, *_: object) -> NoReturn:
@@ -96,10 +96,12 @@ class _Version(argparse.Action):
         words.exit()
 
 
-def parser(description: str) -> argparse.ArgumentParser:
-    """The words of a tool's command line, its help and its version among them."""
+def parser(description: str, own_version: bool = False) -> argparse.ArgumentParser:
+    """The words of a tool's command line, its help and its version among them, unless the tool has a `--version` of its own."""
     words = argparse.ArgumentParser(description=description.split("\n", maxsplit=1)[0])
-    words.add_argument("--version", action=_Version, nargs=0, help="print the version and exit")
+    if own_version:
+        return words
+    words.add_argument("--version", action=Version, nargs=0, help="print the version and exit")
     return words
 
 

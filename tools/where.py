@@ -14,7 +14,8 @@ from fractions import Fraction
 from math import lcm
 
 import program
-from toml_places import MARK, Place, Places, fault_of
+from lint import Lint
+from toml_places import MARK, Place, Places, fault_of, places_of
 
 # How TOML spells integers, and numbers with a point or a power of ten that aren't too long to be meant.
 INTEGER = re.compile(r"[+-]?(?:[0-9_]+|0x[0-9A-Fa-f_]+|0o[0-7_]+|0b[01_]+)")
@@ -23,10 +24,13 @@ DECIMAL = re.compile(r"[+-]?[0-9_]{1,20}(?:\.[0-9_]{1,20})?(?:[eE][+-]?[0-9]{1,2
 SCHEMA = os.path.join(os.path.dirname(os.path.realpath(__file__)), "plan.schema.json")
 
 # The keys and the kinds of signals that the first version doesn't know, each with the first that does.
-SINCE: dict[object, int] = {(None, "keep_free"): 2, ("signal", "per"): 3, "states": 3, "signed": 3, "dtc": 3}
+SINCE: dict[object, int] = {
+    (None, "keep_free"): 2, (None, "timing"): 3, ("group", "private"): 3, ("group", "most"): 3, ("group", "text"): 3,
+    ("signal", "per"): 3, ("flow", "period"): 3, ("flow", "deadline"): 3, "states": 3, "signed": 3, "dtc": 3,
+}
 
 # What the schema can't say of a key.
-WORDS = {"per": ", a product of 2s and 5s"}
+WORDS = {"per": ", a product of 2s and 5s", "most": ", at least the length"}
 
 # The keys that a trouble code can't have but with their defaults.
 SCALE = ("step", "per", "offset", "unit")
@@ -36,15 +40,19 @@ PER_MOST = 10_000_000
 # The key to look at, of each finding that names two units or two groups.
 PAIR_KEYS = {"F1": ("unit", "name"), "F2": ("unit", "address"), "F5": ("group", "pgn")}
 
-# The key to look at of each finding that names one unit, group, signal or flow, and what is to be known of it.
+# The key to look at of each finding that names one unit, group, signal, text or flow, and what is to be known of it.
 KEYS = {
-    "F4": ("group", "pgn", "none that can be planned"),
+    "F4": ("group", "pgn", "none that can be planned, or a maker's own and not private, or the other way round"),
     "F6": ("signal", "bits", "8, 16 or 32 of a measured signal, 2 of a discrete one, 1 to 32 of a raw one, "
            "2 to 8 of states, 2 to 32 of a signed one, and of a dtc 32 from bit = 1 on"),
     "F7": ("signal", "byte", "the signal ends behind the group's length"),
     "F9": ("flow", "to", "a frame of this group goes to all"),
     "F10": ("flow", "to", "the sender itself"),
     "F12": ("unit", "address", "kept free: a unit with arbitrary = true may not hold it"),
+    "F13": ("group", "private", "no flow sends this group"),
+    "F15": ("text", "byte", "the text ends behind the group's longest messages, or begins behind what follows its shortest"),
+    "F16": ("flow", "period", "it isn't there, and a plan with timing asks for it"),
+    "F18": ("flow", "period", "within the deadline, or the period, there isn't room for all that may go before it: load shows the delays"),
 }
 
 
@@ -78,8 +86,7 @@ class Plan:
 
     def listed(self, place: Place) -> dict[str, dict]:
         """The keys that the table at a place may have, with what the schema says of each."""
-        names = [part for part in place if isinstance(part, str)]
-        table = names[-1] if names else None
+        table = table_of(place)
         listed: dict[str, dict] = (self.schema["definitions"][table] if table else self.schema)["properties"]
         return {key: rule for key, rule in listed.items() if self.knows((table, key))}
 
@@ -103,7 +110,7 @@ class Plan:
         """What the schema wants of a key, in words."""
         rule = self.rule(place, key)
         if "enum" in rule:
-            return " or ".join(f'"{word}"' for word in rule["enum"] if self.knows(word))
+            return " or ".join(json.dumps(word) for word in rule["enum"] if self.knows(word))
         if "const" in rule:
             return f"{rule['type']} {rule['const']}"
         if "minimum" in rule:
@@ -112,6 +119,12 @@ class Plan:
             return f"an array of integers {rule['items']['minimum']}..{rule['items']['maximum']}, each once"
         kinds = {"array": "an array of tables", "object": "a table", "boolean": "true or false"}
         return kinds.get(rule.get("type", "")) or f"a text, {rule['description']}"
+
+
+def table_of(place: Place) -> str | None:
+    """The name of the table at a place, none of the top one."""
+    names = [part for part in place if isinstance(part, str)]
+    return names[-1] if names else None
 
 
 def place_named(words: str) -> Place:
@@ -184,8 +197,7 @@ def unknown_key(plan: Plan, place: Place) -> Told:
     for key in plan.places.keys(place):
         if key in listed:
             continue
-        table = place[-2] if len(place) > 1 and isinstance(place[-1], int) else None
-        if since := SINCE.get((table, key)):
+        if since := SINCE.get((table_of(place), key)):
             return plan.line(place + (key,)), f"key {key}: only from version = {since} on"
         tables = plan.tables_with(key)
         hint = likely(key, listed) or (f" belongs to {' or '.join(tables)}" if tables else " isn't listed")
@@ -228,7 +240,7 @@ def whole_scale(plan: Plan, signal: Place) -> str:
 
 def value_hint(plan: Plan, place: Place, key: str, cause: str) -> str:
     """A hint at the value that may have been meant."""
-    words = [word for word in plan.rule(place, key).get("enum", []) if plan.knows(word)]
+    words = [word for word in plan.rule(place, key).get("enum", []) if isinstance(word, str) and plan.knows(word)]
     if words:
         return likely(plan.places.texts.get(place + (key,), ""), words)
     return whole_scale(plan, place) if cause == "WrongType" and key in ("step", "offset") else ""
@@ -253,6 +265,8 @@ def label_fault(plan: Plan, place: Place, key: str, cause: str) -> Told:
     label = plan.places.texts.get(place + (key,), "")
     if cause == "Repeated":
         first = plan.labelled(place[:-1], label) + ("label",)
+        if place[-2] == "text" and (signal := plan.labelled(place[:-2] + ("signal",), label)) != place[:-2] + ("signal",):
+            first = signal + ("label",)
         hint = f"key label: {label} is at line {plan.line(first)} too"
     else:
         kind = "group" if key == "group" else "unit"
@@ -280,7 +294,7 @@ def refusal(plan: Plan, data: bytes, line: str) -> Told:
 
 
 def of_one(plan: Plan, number: str, words: list[str]) -> Told:
-    """Line and hint of a finding about one group, signal or flow."""
+    """Line and hint of a finding about one group, signal, text or flow."""
     kind, key, hint = KEYS[number]
     place: Place
     if kind == "flow":
@@ -289,8 +303,8 @@ def of_one(plan: Plan, number: str, words: list[str]) -> Told:
         place = plan.labelled(("unit",), words[0])
     else:
         place = plan.labelled(("group",), words[0])
-        if kind == "signal":
-            place = plan.labelled(place + ("signal",), words[1])
+        if kind in ("signal", "text"):
+            place = plan.labelled(place + (kind,), words[1])
     return plan.line(place + (key,)), f"key {key}: {hint}"
 
 
@@ -312,6 +326,8 @@ def finding(plan: Plan, line: str) -> Told:
     number, _, *words = line.split()
     if number == "F3":
         return plan.line(("unit", 1)), "units with arbitrary = true, and others at addresses of 128..247 that aren't kept free"
+    if number == "F17":
+        return plan.line(("timing", "bitrate")), "key bitrate: the flows take more at their periods; load shows how much"
     if number in KEYS:
         return of_one(plan, number, words)
     return of_two(plan, number, words)
@@ -333,6 +349,10 @@ def compiler_message(file: str, line: int, text: str, below: list[str]) -> list[
     return [f"{file}:{line}: {text}", *below]
 
 
+# The signs that an annotation of GitHub's CI doesn't take as they are, in names of files and in texts.
+NAME_SIGNS, TEXT_SIGNS = "%\r\n:,", "%\r\n"
+
+
 def escaped(text: str, chars: str) -> str:
     """A text with these characters by their codes."""
     return "".join(f"%{ord(char):02X}" if char in chars else char for char in text)
@@ -340,7 +360,7 @@ def escaped(text: str, chars: str) -> str:
 
 def github_annotation(file: str, line: int, text: str, below: list[str]) -> list[str]:
     """As an annotation of GitHub's CI, which holds the lines that belong to it."""
-    name, whole = escaped(file, "%\r\n:,"), escaped("\n".join([text, *below]), "%\r\n")
+    name, whole = escaped(file, NAME_SIGNS), escaped("\n".join([text, *below]), TEXT_SIGNS)
     return [f"::error file={name},line={line}::{whole}"]
 
 
@@ -360,11 +380,25 @@ def annotate(name: str, data: bytes, answer: str, form: Form) -> Iterator[str]:
         yield from form(name, at, shown, below)
 
 
+def github_notice(file: str, line: int, text: str, _: list[str]) -> list[str]:
+    """As a notice of GitHub's CI, which is no error."""
+    return [f"::notice file={escaped(file, NAME_SIGNS)},line={line}::{escaped(text, TEXT_SIGNS)}"]
+
+
+def linted(name: str, plan: str, github: bool) -> Iterator[str]:
+    """The hints at a plan that can be read, each with its place in the file."""
+    form = github_notice if github else compiler_message
+    for line, text in Lint(places_of(plan)).hints():
+        yield from form(name, line, f"hint {text}", [])
+
+
 def main(words: list[str] | None = None) -> int:
     """Runs `j39plan check` and answers its exit status."""
     parser = program.parser(__doc__)
     parser.add_argument("plan", metavar="PLAN", help="the name of a plan file")
     parser.add_argument("--github", action="store_true", help="as annotations of GitHub's CI")
+    parser.add_argument("--lint", action="store_true", help="with hints that are no findings, as FILE:LINE: hint ANSWER, for example "
+                        "of a group that no flow sends; they don't change the status")
     given = parser.parse_args(words)
     with program.copied(given.plan) as plan:
         status, answer = program.call(["check", "--", plan])
@@ -373,6 +407,8 @@ def main(words: list[str] | None = None) -> int:
                 data = file.read()
             form = github_annotation if given.github else compiler_message
             answer = "".join(f"{line}\n" for line in annotate(given.plan, data, answer, form))
+        if status in (0, 1) and given.lint:
+            answer = "".join(f"{line}\n" for line in linted(given.plan, plan, given.github)) + answer
     sys.stdout.write(answer)
     return status
 

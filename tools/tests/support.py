@@ -50,6 +50,11 @@ to = "all"
 """
 
 
+def signal(label, byte, bits, kind, more=""):
+    """The table of a signal, and further lines of it."""
+    return f'[[group.signal]]\nlabel = "{label}"\nbyte = {byte}\nbits = {bits}\nkind = "{kind}"\n{more}'
+
+
 def example(name):
     """The file name of an example."""
     return os.path.join(EXAMPLES, name)

@@ -241,6 +241,28 @@ class Against(InFolder):
                                  "L:7: PROP_B from ENGINE has priority 7, planned is 6",
                                  "L:8: PROP_B from DISPLAY to all: no flow"])
 
+    def test_private_groups(self):
+        """Each is told by its flow; what another unit sends with its number is another maker's."""
+        group = '[[group]]\nlabel = "%s"\npgn = 65300\npriority = 6\nlength = %d\nprivate = true\n'
+        flow = '[[flow]]\ngroup = "%s"\nfrom = "%s"\nto = "all"\n'
+        plan = PLAN.replace("version = 1", "version = 3") + group % ("OWN", 4) + group % ("THEIRS", 8) + flow % ("OWN", "ENGINE")
+        third = '[[unit]]\nlabel = "TOOL"\naddress = 249\nname = { identity = 3 }\n'
+        plan += flow % ("THEIRS", "DISPLAY") + third
+        sent = ["18FF1400#00112233", "18FF1480#0011223344556677"]
+        self.assertEqual(self.compared(plan, [*CLAIMS, *FLOWS, *sent, "18FF14F9#00"]), [])
+        self.assertEqual(self.compared(plan, [*FLOWS, *sent, "18FF1400#0011223344556677"]), ["L:9: OWN from ENGINE has 8 bytes, planned are 4"])
+        self.assertEqual(self.compared(plan, [*FLOWS, sent[0], "18FF1480#00112233"]), [
+            "L:8: THEIRS from DISPLAY has 4 bytes, planned are 8"])
+
+    def test_groups_of_several_lengths(self):
+        """A message may have each length from the least to the greatest."""
+        group = '[[group]]\nlabel = "SOFT"\npgn = 65242\npriority = 6\nlength = 2\nmost = 4\n'
+        plan = PLAN.replace("version = 1", "version = 3") + group + '[[flow]]\ngroup = "SOFT"\nfrom = "ENGINE"\nto = "all"\n'
+        sent = ["18FEDA00#0011", "18FEDA00#001122", "18FEDA00#00112233"]
+        self.assertEqual(self.compared(plan, [*CLAIMS, *FLOWS, *sent]), [])
+        self.assertEqual(self.compared(plan, [*CLAIMS, *FLOWS, *sent, "18FEDA00#00", "18FEDA00#0011223344"]), [
+            "L:12: SOFT from ENGINE has 1 bytes, planned are 2 to 4", "L:13: SOFT from ENGINE has 5 bytes, planned are 2 to 4"])
+
     def test_two_groups_of_one_number(self):
         """That of the message's length, and of two that of the flow."""
         unit = '[[unit]]\nlabel = "%s"\naddress = %d\nname = { identity = %d }\n'

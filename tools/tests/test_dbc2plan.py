@@ -7,11 +7,13 @@ import random
 import time
 import tomllib
 import unittest
+from types import SimpleNamespace
 
 import dbc2plan
 import program
 from left_out import Notes
 from matrix_file import import_canmatrix
+from matrix_signals import signals_of
 from plan_text import text_of
 from tests.dbc_files import DBC, WithDbc, message
 from tests.support import InFolder, needs, run
@@ -21,6 +23,15 @@ CANMATRIX_J1939 = "/usr/lib/python3/dist-packages/canmatrix/j1939.dbc"
 # Two nodes of which one has an address, and identifiers of EEC1 (PGN 61444) from the addresses 0 and 15.
 NODES = 'BU_: ENGINE RETARDER\nBA_DEF_ BU_ "NmStationAddress" INT 0 254;\nBA_ "NmStationAddress" BU_ RETARDER 15;\n\n'
 FROM_0, FROM_15 = 0x0CF00400, 0x0CF0040F
+
+# Signals with tables of values: of states, of a switch, of states in another order, and of one that has only values.
+STATES = NODES + message(
+    FROM_0, "EEC1", "ENGINE", 'LAMP : 0|3@1+ (1,0) [0|0] "" RETARDER', 'GEAR : 8|8@1+ (1,0) [0|0] "" RETARDER',
+    'SWITCH : 4|2@1+ (1,0) [0|0] "" RETARDER', 'TURNED : 16|3@1+ (1,0) [0|0] "" RETARDER', 'OPEN : 24|4@1+ (1,0) [0|0] "" RETARDER',
+) + "".join(f"VAL_ {FROM_0 | 1 << 31} {values} ;\n" for values in (
+    'LAMP 0 "Off" 1 "On" 6 "Error" 7 "Not available"', 'GEAR 0 "Park" 1 "Drive" 254 "Error indicator" 255 "Take no action"',
+    'SWITCH 0 "Off" 2 "Error" 3 "Not available"', 'TURNED 6 "Not available" 7 "Error"', 'OPEN 14 "Fourteen" 15 "Not available"',
+))
 
 NAMES = ["all", "A", "a b", "ä", "", "X" * 40, "motor-1", "N1", "\"", "\\", "é" * 40]
 UNITS = ["", "rpm", "°C", "µm³", "日", "k" * 33, "\"\\", "km/h\n", "%"]
@@ -43,7 +54,8 @@ def random_signal(canmatrix, chance, nodes):
         is_little_endian=chance.random() < 0.8, is_signed=chance.random() < 0.2, is_float=chance.random() < 0.1,
         factor=chance.choice(["1", "0.125", "0.0001", "1E-7", "-1", "0", "3.3333", "1000000", "2000000", "1E-20"]),
         offset=chance.choice(["0", "-40", "-273.15", "1E12", "1E13", "0.5"]), unit=chance.choice(UNITS),
-        values=chance.choice([{}, {0: "off", 1: "on"}, {2: "medium"}, {255: "not available"}]), receivers=nodes[1:],
+        values=chance.choice([{}, {0: "off", 1: "on"}, {2: "medium"}, {255: "not available"}, {6: "error", 7: "not available"}]),
+        receivers=nodes[1:],
     )
 
 
@@ -113,22 +125,24 @@ class Groups(WithDbc):
     def test_groups(self):
         plan, _ = self.plan()
         shown = [(group["label"], group["pgn"], group["priority"], group["length"]) for group in plan["group"]]
-        self.assertEqual(shown, [("EEC1", 61444, 3, 8), ("ET1", 65262, 6, 8), ("TSC1", 0, 3, 8), ("ODD", 65220, 6, 8)])
+        self.assertEqual(shown, [("EEC1", 61444, 3, 8), ("ET1", 65262, 6, 8), ("TSC1", 0, 3, 8), ("ODD", 65220, 6, 8),
+                                 ("MAKER", 65296, 6, 8)])
+        self.assertEqual([group["label"] for group in self.plan()[0]["group"] if group.get("private")], ["MAKER"])
+        self.assertNotIn("MAKER", [group["label"] for group in self.plan("--version", "2")[0]["group"]])
+        self.assertIn("group MAKER: PGN 65296 is proprietary", self.plan("--version", "2")[1])
 
     def test_flows(self):
         plan, _ = self.plan()
         shown = [(flow["group"], flow["from"], flow["to"]) for flow in plan["flow"]]
         self.assertEqual(shown, [("EEC1", "ENGINE", "all"), ("ET1", "ENGINE", "all"), ("TSC1", "RETARDER", "ENGINE"),
-                                 ("ODD", "ENGINE", "all"), ("EEC1", "RETARDER", "all")])
+                                 ("ODD", "ENGINE", "all"), ("MAKER", "ENGINE", "all"), ("EEC1", "RETARDER", "all")])
 
     def test_what_is_left_out(self):
         _, said = self.plan()
         for line in [
             "signal MOTOROLA of ODD: its most significant byte comes first",
-            "signal SIGNED of ODD: it is signed",
             "signal WIDE of ODD: it has 40 bits, more than 32",
             "signal FALLING of ODD: factor -1 is no step of 1 to 1000000",
-            "group MAKER: PGN 65296 is proprietary",
             "group CLAIM: PGN 60928 can't be planned",
             "group ET1_OTHER: ET1 has the same PGN 65262 and another layout",
             "group SHORT: its identifier has 11 bits",
@@ -141,6 +155,31 @@ class Groups(WithDbc):
         for identifier, receiver in ((0x0C0000FE, "RETARDER"), (0x0C000F00, "RETARDER"), (0x0C00FFFE, "all")):
             plan, _ = self.plan(data=NODES + message(FROM_0, "EEC1", "ENGINE") + message(identifier, "TSC1", "ENGINE", tsc1))
             self.assertIn({"group": "TSC1", "from": "ENGINE", "to": receiver}, plan["flow"])
+
+    def test_groups_of_makers(self):
+        """Those of one number are told from one another by who sends them to whom."""
+        for number, (first, second, groups) in enumerate((
+            ((0x18FF1000, "ENGINE", 8), (0x18FF100F, "RETARDER", 7), ["ONE", "TWO"]),      # each from a unit of its own
+            ((0x18FF1000, "ENGINE", 8), (0x18FF1000, "ENGINE", 7), ["ONE"]),               # two meanings from one unit to all
+            ((0x18FF1000, "ENGINE", 8), (0x18FF1000, "ENGINE", 8), ["ONE"]),               # one group by two names
+            ((0x18EF0F00, "ENGINE", 8), (0x18EFFF00, "ENGINE", 7), ["ONE"]),               # one receives both
+            ((0x18EF0F00, "ENGINE", 8), (0x18EF000F, "RETARDER", 8), ["ONE", "TWO"]),      # A, in both directions
+            ((0x19EF0F00, "ENGINE", 8), (0x18EF0F00, "ENGINE", 7), ["ONE", "TWO"]),        # A2 and A
+            ((0x18FF1000, "ENGINE", 8), (0x18FF100F, "Vector__XXX", 7), ["ONE"]),          # without a sender
+            ((0x18FF1000, "ENGINE", 8), (0x18EF0F0F, "RETARDER", 7), ["ONE"]),             # to itself
+            ((0x18FF1000, "ENGINE", 8), (0x19FFFF0F, "RETARDER", 7), ["ONE", "TWO"]),      # B with the data page
+        )):
+            with self.subTest(number):
+                data = NODES + message(FROM_0, "EEC1", "ENGINE") + "".join(
+                    message(identifier, name, sender, length=length)
+                    for name, (identifier, sender, length) in (("ONE", first), ("TWO", second)))
+                plan, said = self.plan(data=data)
+                private = [group["label"] for group in plan["group"] if group.get("private")]
+                self.assertEqual(private, groups)
+                self.assertLessEqual(set(private), {flow["group"] for flow in plan["flow"]})
+                self.assertEqual(any(line.startswith("group TWO: ") for line in said), number in (1, 3, 6, 7))
+                status, answer = program.call(["check", self.path("plan.toml")])
+                self.assertEqual(status, 0, answer)
 
     def test_a_flow_to_itself(self):
         plan, said = self.plan(data=NODES + message(0x0C000F0F, "TSC1", "RETARDER"))
@@ -188,19 +227,65 @@ class Groups(WithDbc):
 
     def test_what_is_said_is_counted(self):
         _, said = self.plan()
-        self.assertEqual(said[-1], f"2 units 4 groups 5 flows, notes {len(said) - 1}")
+        self.assertEqual(said[-1], f"2 units 5 groups 6 flows, notes {len(said) - 1}")
 
 
 @needs("canmatrix", "python3-canmatrix")
 class Signals(WithDbc):
     def test_exact_factors(self):
         signals = self.signals()
-        self.assertEqual(signals["SPN190"], {"label": "SPN190", "byte": 4, "bits": 16, "kind": "measured", "unit": "1/8 rpm"})
+        self.assertEqual(signals["SPN190"], {"label": "SPN190", "byte": 4, "bits": 16, "kind": "measured", "per": 8, "unit": "rpm"})
         self.assertEqual(signals["SPN512"]["offset"], -125)
         self.assertEqual(signals["SPN110"], {"label": "SPN110", "byte": 1, "bits": 8, "kind": "measured", "offset": -40,
                                              "unit": "degC"})
-        self.assertEqual((signals["SPN175"]["offset"], signals["SPN175"]["unit"]), (-8736, "1/32 degC"))
+        self.assertEqual([signals["SPN175"][key] for key in ("offset", "per", "unit")], [-8736, 32, "degC"])
+        self.assertEqual(signals["SIGNED"], {"label": "SIGNED", "byte": 4, "bits": 8, "kind": "signed"})
         self.assertEqual((signals["SPN4154"]["kind"], signals["SPN4154"]["bit"]), ("raw", 5))
+
+    def test_the_earlier_version(self):
+        """It has fractions in the units of measurement, and neither signed signals nor states."""
+        plan, said = self.plan("--version", "2")
+        signals = {signal["label"]: signal for group in plan["group"] for signal in group.get("signal", [])}
+        self.assertEqual((plan["version"], self.plan("--version", "3")), (2, self.plan()))
+        self.assertEqual(signals["SPN190"], {"label": "SPN190", "byte": 4, "bits": 16, "kind": "measured", "unit": "1/8 rpm"})
+        self.assertEqual((signals["SPN175"]["offset"], signals["SPN175"]["unit"]), (-8736, "1/32 degC"))
+        self.assertIn("signal SIGNED of ODD: it is signed", said)
+        states, _ = self.plan("--version", "2", data=STATES)
+        self.assertEqual({signal["kind"] for signal in states["group"][0]["signal"]}, {"raw", "discrete"})
+
+    def test_what_is_left_out_of_a_group_of_a_maker(self):
+        _, said = self.plan(data=NODES + message(FROM_0, "EEC1", "ENGINE") + message(0x18FF1000, "ONE", "ENGINE") + (
+            message(0x18FF1000, "TWO", "ENGINE", length=7) + message(0x18FF1100, "THREE", "Vector__XXX")))
+        self.assertIn("group TWO: ONE has the same PGN 65296 from the same unit to the same receiver, and is another group", said)
+        self.assertIn("group THREE: PGN 65297 is proprietary, and no unit in the plan sends it to another one", said)
+
+    def test_a_version_that_there_is_not(self):
+        for version in ("1", "4", "x"):
+            status, plan, said = self.made("--version", version)
+            self.assertEqual((status, plan), (2, ""), said)
+        self.assertRegex(run("dbc2plan.py", "--version")[1], r"\Adbc2plan \(j39plan\) [\d.]+\n\Z")
+
+    def test_signed_signals(self):
+        """Each raw number of two bits and more is a value; one bit has no room for a sign."""
+        signals = self.signals(data=NODES + message(
+            FROM_0, "EEC1", "ENGINE", 'BIT : 0|1@1- (1,0) [0|0] "" RETARDER', 'TWO : 1|2@1- (0.5,-1) [0|0] "A" RETARDER',
+            'ALL : 8|32@1- (1E-07,0) [0|0] "deg" RETARDER', 'BEYOND : 40|16@1- (1E-08,0) [0|0] "deg" RETARDER'))
+        self.assertEqual([signal["kind"] for signal in signals.values()], ["raw", "signed", "signed", "signed"])
+        self.assertEqual(signals["TWO"], {"label": "TWO", "byte": 1, "bit": 2, "bits": 2, "kind": "signed", "per": 2, "offset": -2,
+                                          "unit": "A"})
+        self.assertEqual((signals["ALL"]["per"], signals["ALL"]["unit"]), (10_000_000, "deg"))
+        self.assertNotIn("per", signals["BEYOND"])
+        self.assertEqual(signals["BEYOND"]["unit"], "1/100000000 deg")
+        log = self.write("drive.log", "0CF00400#04FFFFFFFF0000FF\n")
+        answer = program.call(["read", self.path("plan.toml"), log])[1]
+        self.assertIn("  TWO value -2 A\n  ALL value -0.0000001 deg\n", answer)
+
+    def test_states_by_tables_of_values(self):
+        kinds = {label: signal["kind"] for label, signal in self.signals(data=STATES).items()}
+        self.assertEqual(kinds, {"LAMP": "states", "GEAR": "states", "SWITCH": "discrete", "TURNED": "raw", "OPEN": "raw"})
+        log = self.write("drive.log", "0CF00400#37FEFFFFFFFFFFFF\n")
+        answer = program.call(["read", self.path("plan.toml"), log])[1]
+        self.assertIn("  LAMP absent\n  GEAR fault 254\n", answer)
 
     def test_kinds_by_tables_of_values(self):
         kinds = [(label, signal["kind"]) for label, signal in self.signals("--group", "TSC1").items()]
@@ -250,6 +335,31 @@ class Signals(WithDbc):
             self.assertEqual(plan["group"][0]["signal"][0]["unit"], written)
             told = [f"signal SPN1 of EEC1: its unit {spelled!r} is written {written!r}"] if spelled[0] in "日k" else []
             self.assertEqual([line for line in said if line.startswith("signal ")], told)
+
+
+def field(name, start, size, is_text=True):
+    """A signal as canmatrix hands it out: text of a SYM file, which a DBC file can't say, or a number."""
+    return SimpleNamespace(
+        name=name, size=size, is_ascii=is_text, is_signed=False, is_float=False, is_little_endian=True, factor=1, offset=0, unit="",
+        multiplex=None, mux_val=None, mux_val_grp=[], is_multiplexer=False, values={}, attributes={}, comment=None, cycle_time=0,
+        get_startbit=lambda **_: start)
+
+
+class Texts(InFolder):
+    def test_texts(self):
+        """Of whole bytes, where the plan's version has them; one may lie over a signal."""
+        frame = SimpleNamespace(name="VI", size=8, signals=[
+            field("COUNT", 0, 8, False), field("NAME", 8, 56), field("OVER", 0, 16), field("ODD", 0, 12), field("FAR", 56, 16)])
+        said = io.StringIO()
+        with contextlib.redirect_stderr(said):
+            count, name, over = signals_of(frame, Notes(), False, 3)
+            older = signals_of(frame, Notes(), False, 2)
+        self.assertEqual((count.header, count.keys["label"]), ("group.signal", "COUNT"))
+        self.assertEqual((name.header, name.keys), ("group.text", {"label": "NAME", "byte": 2, "bytes": 7}))
+        self.assertEqual((over.header, over.keys), ("group.text", {"label": "OVER", "byte": 1, "bytes": 2}))
+        self.assertEqual([table.keys["label"] for table in older], ["COUNT"])
+        for line in ("signal ODD of VI: it is text, and not of whole bytes", "signal FAR of VI: it lies outside of the 8 bytes"):
+            self.assertIn(line, said.getvalue().splitlines())
 
 
 @needs("canmatrix", "python3-canmatrix")
@@ -315,7 +425,8 @@ class Whole(WithDbc):
         import_canmatrix()
         import canmatrix
         chance, flows = random.Random(1939), 0
-        for _ in range(60):
+        for round_ in range(60):
+            version = 2 + round_ % 2
             db = canmatrix.CanMatrix()
             for number in range(chance.randrange(4)):
                 db.add_ecu(random_ecu(canmatrix, chance, number))
@@ -323,12 +434,12 @@ class Whole(WithDbc):
             for number in range(chance.randrange(8)):
                 db.add_frame(random_frame(canmatrix, chance, nodes, number))
             with contextlib.redirect_stderr(io.StringIO()):
-                plan = dbc2plan.Plan(db, Notes())
+                plan = dbc2plan.Plan(db, Notes(), version=version)
                 plan.add_units(db.frames)
                 plan.add_frames(db.frames)
-            self.checked(text_of(plan.tables(), "random"))
+            self.checked(text_of(plan.tables(), "random", version))
             _, answer = program.call(["check", self.path("plan.toml")])
-            self.assertNotRegex(answer, r"(?m)^(?:F[5-9]|F1[01]) ")
+            self.assertNotRegex(answer, r"(?m)^(?:F[4-9]|F1[013]) ")
             flows += len(plan.flows)
         self.assertGreater(flows, 10)
 

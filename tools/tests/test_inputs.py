@@ -56,13 +56,16 @@ class NoRegularFiles(InFolder):
         self.is_judged_alike(tool("where.py"), refused)
         self.is_judged_alike(tool("where.py"), example("findings/f02_same_fixed_address.toml"))
         self.is_judged_alike(tool("startup.py"), PLAN)
+        self.is_judged_alike(tool("report.py"), PLAN)
         self.is_judged_alike(tool("against.py"), PLAN, LOG)
+        self.is_judged_alike(tool("signals.py"), PLAN, LOG)
 
     def test_plans_of_a_job(self):
         self.is_judged_alike(f"CHECK='{tool('where.py')}' {os.path.join(TOOLS, 'check-plans')}", PLAN)
 
     def test_logs(self):
         self.is_judged_alike(f"{tool('against.py')} {PLAN}", LOG)
+        self.is_judged_alike(f"{tool('signals.py')} {PLAN}", LOG)
 
     def test_plan_and_log(self):
         both = f"{tool('against.py')} <(cat {PLAN}) <(cat {LOG})"
@@ -71,11 +74,11 @@ class NoRegularFiles(InFolder):
         self.assertEqual(OTHER_NAME.sub("F", self.answer(both)[1]), answer.replace(PLAN, "F").replace(LOG, "F"))
 
     def test_a_plan_without_end(self):
-        for name in ("where.py", "startup.py", "against.py"):
+        for name in ("where.py", "startup.py", "report.py", "against.py"):
             self.assertEqual(run(name, "/dev/zero", *[LOG] * (name == "against.py")), (2, "", "j39plan: input too long\n"))
 
     def test_a_folder_and_a_file_that_may_not_be_read(self):
-        for name in ("where.py", "startup.py", "against.py"):
+        for name in ("where.py", "startup.py", "report.py", "against.py"):
             more = [LOG] * (name == "against.py")
             said = f"{name[:-3]}: {self.folder}: Is a directory\n"
             self.assertEqual(run(name, self.folder, *more), (4, "", said))
@@ -102,12 +105,19 @@ class OtherFiles(InFolder):
         for name in self.files:
             refused = program.call(["check", name])[1].strip()
             self.assertTrue(refused.startswith("refused "), name)
-            for words in (["startup.py", name], ["against.py", name, LOG]):
+            for words in (["startup.py", name], ["report.py", name], ["against.py", name, LOG], ["signals.py", name, LOG]):
                 self.assertEqual(run(*words), (2, "", f"{words[0][:-3]}: {refused}\n"))
             for form in ([], ["--github"]):
                 status, answer, said = run("where.py", *form, name)
                 self.assertEqual((status, said, answer.count("\n")), (2, "", 1), name)
                 self.assertIn(refused, answer)
+
+    def test_as_a_log_of_signals(self):
+        for name in self.files:
+            bad = program.call(["read", PLAN, name])[1].split()[-1]
+            _, answer, said = run("signals.py", "--json", PLAN, name)
+            self.assertEqual(said.strip(), f"signals: {bad} lines spell no frame" if bad != "0" else "", name)
+            self.assertEqual(answer == "", not name.endswith("log"))
 
     def test_as_a_log(self):
         """Each line is counted as `read` counts it, and what is put is whole."""

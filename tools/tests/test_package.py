@@ -14,8 +14,8 @@ import program
 from tests.support import TOOLS, TOP, InFolder, text_of
 
 PACKAGE = os.path.join(TOOLS, "package")
-COMMANDS = ["check", "addresses", "run", "read", "frame", "help"]
-INSTALLED = ["where", "startup", "dbc2plan", "against", "check-plans"]
+COMMANDS = ["check", "addresses", "load", "run", "read", "follow", "frame", "help"]
+INSTALLED = ["where", "startup", "dbc2plan", "plan2dbc", "against", "report", "signals", "plot", "check-plans"]
 PAGE = text_of(os.path.join(TOP, "docs", "TOOLS.md"))
 
 # Whose package it is in these tests.
@@ -164,7 +164,7 @@ class Completions(InFolder):
         self.assertEqual(self.complete_bash("j39plan", ""), COMMANDS + ["--help", "--version"])
         self.assertEqual(self.complete_bash("j39plan", "r"), ["run", "read"])
         self.assertEqual(self.complete_bash("j39plan", "check", "plan.s"), ["plan.schema.json"])
-        self.assertEqual(self.complete_bash("j39plan", "help", "f"), ["frame"])
+        self.assertEqual(self.complete_bash("j39plan", "help", "f"), ["follow", "frame"])
 
     def test_bash_of_files(self):
         """Those of the ending that is wanted and folders, else all."""
@@ -172,7 +172,8 @@ class Completions(InFolder):
             self.write(name, "")
         for words, name in ((("j39plan", "check"), "a.toml"), (("j39plan", "run", "a.toml"), "a.schedule"),
                             (("j39plan", "read", "a.toml"), "a.log"), (("j39plan-where",), "a.toml"), (("j39plan-startup",), "a.toml"),
-                            (("j39plan-against", "a.toml"), "a.log"), (("j39plan-dbc2plan",), "a.dbc"),
+                            (("j39plan-against", "a.toml"), "a.log"), (("j39plan-signals", "a.toml"), "a.log"),
+                            (("j39plan-plot", "a.toml"), "a.log"), (("j39plan-dbc2plan",), "a.dbc"),
                             (("j39plan-check-plans", "a.toml"), "a.toml")):
             self.assertEqual(self.complete_bash(*words, "a", cwd=self.folder), [name], words)
 

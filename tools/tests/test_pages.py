@@ -11,7 +11,7 @@ import subprocess
 import program
 from tests.support import TOP, InFolder, example, text_of
 
-PAGES = ["README.md", *(f"docs/{name}" for name in sorted(os.listdir(os.path.join(TOP, "docs"))))]
+PAGES = ["README.md", *(f"docs/{name}" for name in sorted(os.listdir(os.path.join(TOP, "docs"))) if name.endswith(".md"))]
 
 # A command that can be run here: the program or a tool, at the beginning or behind another command.
 COMMAND = re.compile(r"(?:^|[\n;|] ?)(?:\./j39plan|tools/(?!package)[\w.-]+)(?: |$)")

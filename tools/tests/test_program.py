@@ -9,7 +9,10 @@ import program
 from tests.support import TOOLS, InFolder, example, run, text_of
 
 PLAN, LOG = example("tractor_and_implement.toml"), example("tractor_and_implement.start.log")
-CALLS = [["where.py", PLAN], ["startup.py", PLAN], ["against.py", PLAN, LOG], ["dbc2plan.py", "--help"]]
+CALLS = [
+    ["where.py", PLAN], ["startup.py", PLAN], ["against.py", PLAN, LOG], ["report.py", PLAN], ["signals.py", PLAN, LOG],
+    ["plot.py", "--help"], ["dbc2plan.py", "--help"],
+]
 
 # A tool of one line, as the tools are called.
 TOOL = "import sys; sys.path.insert(0, {tools!r}); sys.argv[0] = 'tool.py'; import program; program.end({main})"

@@ -12,8 +12,8 @@ from tests.support import TOOLS, TOP, InFolder, examples, needs, shown_refusals,
 SCHEMA = json.loads(text_of(os.path.join(TOOLS, "plan.schema.json")))
 
 # What the page's headings call the tables.
-TABLES = {"Top": None, "`[[unit]]`": "unit", "`unit.name`": "name", "`[[group]]`": "group",
-          "`[[group.signal]]`": "signal", "`[[flow]]`": "flow"}
+TABLES = {"Top": None, "`[timing]`": "timing", "`[[unit]]`": "unit", "`unit.name`": "name", "`[[group]]`": "group",
+          "`[[group.signal]]`": "signal", "`[[group.text]]`": "text", "`[[flow]]`": "flow"}
 
 # Refusals that a schema can't say.
 UNSAID = ("Text", "Repeated", "UnknownLabel")
@@ -30,6 +30,22 @@ label = "S"
 byte = 1
 bits = 32
 kind = "{}"
+"""
+
+# A flow, which a period and a deadline may follow.
+FLOW = """[[unit]]
+label = "A"
+address = 0
+name = { identity = 1 }
+[[group]]
+label = "G"
+pgn = 65262
+priority = 6
+length = 8
+[[flow]]
+group = "G"
+from = "A"
+to = "all"
 """
 
 
@@ -118,12 +134,22 @@ class Validated(InFolder):
                     status, _ = program.call(["check", self.write("plan.toml", plan)])
                     self.assertEqual(self.faults(plan) == [], status != 2, plan)
 
+    def test_it_agrees_with_the_program_on_what_each_version_knows_of_time(self):
+        for version in (1, 2, 3):
+            for timing in ("", "timing = {}\n", "timing = { bitrate = 250000, unplanned = 0 }\n", "timing = { bitrate = 125000, unplanned = 0 }\n"):
+                for pace in ("", "period = 10\n", "deadline = 10\n", "period = 10\ndeadline = 5\n"):
+                    plan = f"version = {version}\n{timing}{FLOW}{pace}"
+                    status, _ = program.call(["check", self.write("plan.toml", plan)])
+                    self.assertEqual(self.faults(plan) == [], status != 2, plan)
+
     def test_it_agrees_with_the_program_on_each_bound(self):
         plan = {
             "version": 3,
+            "timing": {"bitrate": 250000, "unplanned": 0},
             "unit": [{"label": "A", "address": 0, "name": {"identity": 1}}],
             "group": [{"label": "G", "pgn": 65262, "priority": 6, "length": 8,
-                       "signal": [{"label": "S", "byte": 1, "bits": 8, "kind": "raw"}]}],
+                       "signal": [{"label": "S", "byte": 1, "bits": 8, "kind": "raw"}], "text": [{"label": "T", "byte": 1}]}],
+            "flow": [{"group": "G", "from": "A", "to": "all", "period": 10, "deadline": 10}],
         }
         for table, key, kind, _ in page_rows():
             if table is None or not (found := re.match(r"integer (-?\d+)\.\.(\d+)", kind)):
@@ -138,15 +164,15 @@ class Validated(InFolder):
 def changed(plan, table, key, value):
     """The plan with another value of a key in its first such table."""
     plan = json.loads(json.dumps(plan))
-    {"unit": plan["unit"][0], "name": plan["unit"][0]["name"], "group": plan["group"][0],
-     "signal": plan["group"][0]["signal"][0]}[table][key] = value
+    {"timing": plan["timing"], "unit": plan["unit"][0], "flow": plan["flow"][0], "name": plan["unit"][0]["name"], "group": plan["group"][0],
+     "signal": plan["group"][0]["signal"][0], "text": plan["group"][0]["text"][0]}[table][key] = value
     return plan
 
 
 def spelled(plan):
     """The plan as TOML."""
-    lines = ["version = 3"]
-    for kind in ("unit", "group"):
+    lines = ["version = 3", f"timing = {inline(plan['timing'])}"]
+    for kind in ("unit", "group", "flow"):
         lines.append(f"[[{kind}]]")
         lines += [f"{key} = {inline(value)}" for key, value in plan[kind][0].items()]
     return "\n".join(lines) + "\n"

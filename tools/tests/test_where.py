@@ -14,6 +14,107 @@ from tests.support import MARKED, NEWER, TOOLS, TOP, InFolder, example, examples
 UNIT = '[[unit]]\nlabel = "{}"\naddress = {}\nname = {{ identity = {} }}\n'
 
 
+# A plan with each hint once, and what is as it should be beside it.
+LINTED = """version = 2
+keep_free = [201]
+[[unit]]
+label = "A"
+address = 0
+name = { identity = 7, manufacturer = 1 }
+[[unit]]
+label = "B"
+address = 200
+[unit.name]
+identity = 8
+[[unit]]
+label = "C"
+address = 201
+name = { identity = 9 }
+[[unit]]
+label = "IDLE"
+address = 202
+[unit.name]
+manufacturer = 2
+identity = 7
+arbitrary = true
+[[group]]
+label = "ET1"
+pgn = 65262
+priority = 2
+length = 8
+[[group]]
+label = "SHORT"
+pgn = 65263
+priority = 6
+length = 7
+[[group]]
+label = "UNSENT"
+pgn = 65264
+priority = 3
+length = 8
+[[group]]
+label = "TSC1"
+pgn = 0
+priority = 2
+length = 8
+[[flow]]
+group = "ET1"
+from = "A"
+to = "all"
+[[flow]]
+group = "SHORT"
+from = "B"
+to = "all"
+[[flow]]
+group = "TSC1"
+from = "C"
+to = "A"
+"""
+HINTS = [
+    "9: hint unit B: it may not choose, and its address 200 is one of 128..247, which others may choose",
+    "17: hint unit IDLE: no flow is from it or to it alone",
+    "21: hint unit IDLE: the identity of A, which has another maker, at line 6",
+    "26: hint group ET1: priority 2, and it goes to all; groups that inform have 6 by default",
+    "32: hint group SHORT: 7 bytes; a group of one frame has 8, unused ones filled with ones",
+    "34: hint group UNSENT: no flow sends it",
+]
+
+
+class Lint(InFolder):
+    def lines(self, text, *words):
+        """What `where --lint` answers of a plan, without the file's name, and its status."""
+        name = self.write("plan.toml", text)
+        status, answer, said = run("where.py", "--lint", *words, name)
+        self.assertEqual(said, "")
+        return status, answer.replace(f"{name}:", "").replace(f"file={name},", "").splitlines()
+
+    def test_each_hint(self):
+        self.assertEqual(self.lines(LINTED), (0, [*HINTS, "ok 4 units 4 groups 3 flows"]))
+
+    def test_hints_stand_before_findings_and_leave_the_status(self):
+        status, lines = self.lines(LINTED.replace('to = "A"', 'to = "C"'))
+        self.assertEqual((status, lines[:6], lines[-1]), (1, HINTS, "findings 1"))
+        self.assertTrue(lines[6].startswith("54: F10 FlowToSelf 3"), lines)
+
+    def test_notices_of_github(self):
+        _, lines = self.lines(LINTED, "--github")
+        self.assertEqual(lines[5], "::notice line=34::hint group UNSENT: no flow sends it")
+
+    def test_a_plan_that_is_refused_has_no_hints(self):
+        status, lines = self.lines(LINTED.replace("version = 2", "version = 9"))
+        self.assertEqual((status, len(lines)), (2, 1))
+
+    def test_all_examples(self):
+        """Hints come before what is answered without them."""
+        hints = 0
+        for plan in examples(".toml"):
+            status, answer, _ = run("where.py", plan)
+            linted = run("where.py", "--lint", plan)
+            self.assertEqual((linted[0], linted[1].endswith(answer)), (status, True), plan)
+            hints += linted[1].count(": hint ")
+        self.assertGreater(hints, 3)
+
+
 class Where(InFolder):
     def answer(self, text, *words):
         """What `where` answers of a plan, without the file's name."""
@@ -41,6 +142,7 @@ class Where(InFolder):
             ("f09_flow_to_one", 'to = "CLUSTER"', "key to"),
             ("f10_flow_to_self", 'to = "ENGINE"', "key to"),
             ("f12_kept_address", "address = 240", "key address"),
+            ("f15_text_outside", "byte = 2", "key byte"),
         ]:
             plan = example(f"findings/{name}.toml")
             status, answer, _ = run("where.py", plan)
@@ -74,6 +176,48 @@ class Where(InFolder):
             '[[group.signal]]\nlabel = "T"\nbyte = 1\nbit = 4\nbits = 2\nkind = "raw"\n'
         )
         self.assertEqual(self.answer(plan)[1][0], "12: F8 SignalOverlap G S T  (shares a bit with S at line 7)")
+
+    def test_texts(self):
+        """Where one lies outside, which label it repeats, and from which version on there are any."""
+        plan = (
+            'version = 3\n[[group]]\nlabel = "G"\npgn = 65262\npriority = 6\nlength = 8\n'
+            '[[group.signal]]\nlabel = "S"\nbyte = 1\nbits = 8\nkind = "raw"\n[[group.text]]\nlabel = "T"\nbyte = 2\nbytes = 9\n'
+        )
+        found = "14: F15 TextOutside G T 10  (key byte: the text ends behind the group's longest messages, or begins behind what follows its shortest)"
+        self.assertEqual(self.answer(plan), (1, [found, "findings 1"]))
+        for label, line in (("S", 8), ("T", 13)):
+            repeated = f"17: refused Repeated group 1 text 2 key label  (key label: {label} is at line {line} too)"
+            self.assertEqual(self.answer(f'{plan}[[group.text]]\nlabel = "{label}"\nbyte = 1\n'), (2, [repeated]))
+        early = "12: refused UnknownKey group 1  (key text: only from version = 3 on)"
+        self.assertEqual(self.answer(plan.replace("version = 3", "version = 2")), (2, [early]))
+
+    def test_loads(self):
+        """Which flow has no period or is late, where the bitrate stands, and from which version on these keys are known."""
+        head = 'version = 3\n[timing]\nbitrate = 250000\nunplanned = 0\n[[unit]]\nlabel = "A"\naddress = 0\nname = { identity = 1 }\n'
+        group = '[[group]]\nlabel = "G"\npgn = 61444\npriority = 3\nlength = 8\n'
+        flow = '[[flow]]\ngroup = "G"\nfrom = "A"\nto = "all"\n'
+        none = "14: F16 NoPeriod 1  (key period: it isn't there, and a plan with timing asks for it)"
+        self.assertEqual(self.answer(head + group + flow), (1, [none, "findings 1"]))
+        late = ("18: F18 LateFlow 1  (key period: within the deadline, or the period, there isn't room for all that may go before it: "
+                "load shows the delays)")
+        self.assertEqual(self.answer(f"{head}{group}{flow}period = 1\n"), (1, [late, "findings 1"]))
+        both = f"{head}{group}{flow}period = 1\n{flow.replace('all', 'B')}period = 1\n".replace(
+            "[[group]]", '[[unit]]\nlabel = "B"\naddress = 1\nname = { identity = 2 }\n[[group]]').replace("61444", "256")
+        full = "3: F17 Overload 320000  (key bitrate: the flows take more at their periods; load shows how much)"
+        self.assertEqual(self.answer(both)[1][0], full)
+        early = "2: refused UnknownKey top  (key timing: only from version = 3 on)"
+        self.assertEqual(self.answer(head.replace("version = 3", "version = 2")), (2, [early]))
+        wrong = "3: refused Range timing key bitrate  (bitrate = 125000: 250000 or 500000)"
+        self.assertEqual(self.answer(head.replace("250000", "125000")), (2, [wrong]))
+        missing = "2: refused Missing timing key unplanned  (key unplanned isn't there: integer 0..1000)"
+        self.assertEqual(self.answer(head.replace("unplanned = 0\n", "")), (2, [missing]))
+
+    def test_lengths(self):
+        """What `most` can be, and from which version on it is known."""
+        plan = 'version = 3\n[[group]]\nlabel = "G"\npgn = 65242\npriority = 6\nlength = 8\nmost = 7\n'
+        self.assertEqual(self.answer(plan), (2, ["7: refused Range group 1 key most  (most = 7: integer 1..1785, at least the length)"]))
+        early = "7: refused UnknownKey group 1  (key most: only from version = 3 on)"
+        self.assertEqual(self.answer(plan.replace("version = 3", "version = 2")), (2, [early]))
 
     def test_each_shown_refusal_has_its_line(self):
         lines = [4, 2, 3, 9, 2, 3, 11, 3, 2, 5, 4, 15, 9, 2, 16]

@@ -1,7 +1,8 @@
 //! Rows: a file that a command is run on, and beside it what the command writes.
 //!
-//! `PLAN.toml` is checked, and where `PLAN.addresses` stands beside it also answered as to its addresses; `PLAN.NAME.schedule` is run
-//! and `PLAN.NAME.log` is read by the plan beside it, and `NAME.line` is a frame line. Standard error stays empty, and the status is one of the program's output.
+//! `PLAN.toml` is checked, and where `PLAN.addresses` or `PLAN.load` stands beside it also answered as to its addresses
+//! or to its load; `PLAN.NAME.schedule` is run and `PLAN.NAME.log` is read by the plan beside it and, where `PLAN.NAME.follow` stands
+//! there, also followed; `NAME.line` is a frame line. Standard error stays empty, and the status is one of the program's output.
 
 use crate::outcome::perform;
 use crate::pieces::are_as_shown;
@@ -17,7 +18,7 @@ struct Kind {
     shown: &'static str,
 }
 
-const KINDS: [Kind; 5] = [
+const KINDS: [Kind; 7] = [
     Kind {
         command: "check",
         ending: ".toml",
@@ -29,6 +30,11 @@ const KINDS: [Kind; 5] = [
         shown: ".addresses",
     },
     Kind {
+        command: "load",
+        ending: ".load",
+        shown: ".load",
+    },
+    Kind {
         command: "run",
         ending: ".schedule",
         shown: ".run",
@@ -37,6 +43,11 @@ const KINDS: [Kind; 5] = [
         command: "read",
         ending: ".log",
         shown: ".read",
+    },
+    Kind {
+        command: "follow",
+        ending: ".follow",
+        shown: ".follow",
     },
     Kind {
         command: "frame",
@@ -66,7 +77,11 @@ fn words_of<R: Files + AllocGlobal>(
     words.push(kind.command.as_bytes().to_vec(rt.alloc())?)?;
     match kind.command {
         "check" => words.push(file.into_bytes())?,
-        "addresses" => words.push(plan_of(rt, name)?.into_bytes())?,
+        "addresses" | "load" => words.push(plan_of(rt, name)?.into_bytes())?,
+        "follow" => {
+            words.push(plan_of(rt, name)?.into_bytes())?;
+            words.push(format!(in rt.alloc(); "{name}.log")?.into_bytes())?;
+        }
         "frame" => words.push(fs::read(rt, format!(in rt.alloc(); "{folder}{file}")?.as_str())?)?,
         _ => {
             words.push(plan_of(rt, name)?.into_bytes())?;
@@ -84,14 +99,16 @@ fn is_shown_in_pieces<R: Files + AllocGlobal>(
     name: &str,
     wanted: &[u8],
 ) -> Result<bool, anyhow::Error> {
-    if kind.command != "run" && kind.command != "read" {
-        return Ok(true);
-    }
+    let ending = match kind.command {
+        "run" => ".schedule",
+        "read" | "follow" => ".log",
+        _ => return Ok(true),
+    };
     let plan = format!(in rt.alloc(); "{folder}{}", plan_of(rt, name)?)?;
-    let input = format!(in rt.alloc(); "{folder}{name}{}", kind.ending)?;
+    let input = format!(in rt.alloc(); "{folder}{name}{ending}")?;
     Ok(are_as_shown(
         rt.alloc(),
-        kind.command == "run",
+        kind.command,
         fs::read(rt, plan.as_str())?.as_slice(),
         fs::read(rt, input.as_str())?.as_slice(),
         wanted,

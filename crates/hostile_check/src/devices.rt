@@ -101,7 +101,10 @@ fn wanted_reads(row: &Row, piece: usize) -> (u64, u64)
     } else {
         reads_of(row.plan, piece)
     };
-    let is_of_the_plan = row.command == Command::Check || row.command == Command::Addresses;
+    let is_of_the_plan = matches!(
+        row.command,
+        Command::Check | Command::Addresses | Command::Load
+    );
     let input = if is_of_the_plan || row.verdict == Verdict::Unreadable {
         0
     } else {

@@ -48,13 +48,16 @@ const REFUSED_STEP: [&str; 12] = [
 ];
 
 // The first words of lines of check, and of lines of read.
-const CHECK: [&str; 16] = [
+const CHECK: [&str; 21] = [
     "ok", "findings", "F1", "F2", "F3", "F4", "F5", "F6", "F7", "F8", "F9", "F10", "F11", "F12",
-    "", "refused",
+    "F13", "F15", "F16", "F17", "F18", "", "refused",
 ];
 
 // Those of addresses, where it doesn't answer as check does.
 const ADDRESSES: [&str; 2] = ["unit", "stay"];
+
+// Those of load.
+const LOAD: [&str; 2] = ["flow", "load"];
 
 const FRAME: [&str; 7] = [
     "frame", "priority", "claim", "cannot", "identity", "request", "refused",
@@ -80,11 +83,26 @@ fn refused(line: &str) -> Option<Verdict> {
     }
 }
 
+// Whether a line of load tells of a late flow, or of more bits than the bus carries.
+fn is_too_much(line: &str) -> bool {
+    let number = |place| word(line, place).parse::<u64>().unwrap_or(0);
+    match word(line, 0) {
+        "flow" => word(line, 5) == "late",
+        "load" => number(1) > number(3),
+        _ => false,
+    }
+}
+
 // The verdict that a text tells.
 fn told(text: &str) -> Option<Verdict> {
     match text.lines().find(|line| line.starts_with("refused ")) {
         Some(line) => refused(line),
-        None if text.lines().any(|line| line.starts_with("findings ")) => Some(Verdict::Findings),
+        None
+            if text
+                .lines()
+                .any(|line| line.starts_with("findings ") || is_too_much(line)) => Some(
+            Verdict::Findings,
+        ),
         None => Some(Verdict::Done),
     }
 }
@@ -95,6 +113,7 @@ fn is_line_of(command: Command, line: &str) -> bool {
         Command::Frame => FRAME.contains(&first),
         Command::Check => CHECK.contains(&first),
         Command::Addresses => ADDRESSES.contains(&first) || CHECK.contains(&first),
+        Command::Load => LOAD.contains(&first) || CHECK.contains(&first),
         Command::Run => RUN.contains(&first) || first.contains('#'),
         Command::Read => READ.contains(&first),
     }

@@ -3,17 +3,19 @@ use Rattle.std.specs.Prelude.{◌≡◌, ◌⊎◌, ℕ, List, Option, string_by
 use Rattle.std.specs.List.{before_first}
 use Rattle.j39_app.specs.Known.{AreOf}
 use Rattle.j39_check.specs.AddressesText.{IsAddressesText}
+use Rattle.j39_check.specs.LoadText.{IsLoadText}
 use Rattle.j39_check.specs.CheckText.{IsCheckText}
 use Rattle.j39_text.specs.FrameText.{IsFrameText}
 use Rattle.j39_check.specs.PlanText.{Describes, IsRefusedText}
 use Rattle.j39_id.specs.Lines.{is_line_feed}
+use Rattle.j39_follow.specs.FollowText.{IsFollowText}
 use Rattle.j39_log.specs.ReadText.{IsReadText}
 use Rattle.j39_run.specs.RunText.{IsRunText}
 use Rattle.j39_findings.specs.declared.plan.Plan.{Plan}
 use Rattle.j39_stream.specs.declared.verdict.Verdict.{Verdict}
 use Rattle.j39_stream.specs.declared.verdict.Verdict.TheVariants.{Done, Unreadable}
 use Rattle.j39_words.specs.declared.orders.Order.{Order}
-use Rattle.j39_words.specs.declared.orders.Order.TheVariants.{Input, Frame, Check, Addresses, Run, Read, Help}
+use Rattle.j39_words.specs.declared.orders.Order.TheVariants.{Input, Frame, Check, Addresses, Load, Run, Read, Follow, Help}
 
 -- what is known of the bytes of each name
 abbrev pub Names : Type 0
@@ -35,6 +37,10 @@ IsRunOf plan known text verdict =
 abbrev pub IsReadOf : Plan → Option (List ℕ) → List ℕ → Verdict → Type 0
 IsReadOf plan known text verdict = (log : List ℕ) × (verdict ≡ Done → AreOf known log) × IsReadText plan log text verdict
 
+-- by the claims of the log itself
+abbrev pub IsFollowOf : Plan → Option (List ℕ) → List ℕ → Verdict → Type 0
+IsFollowOf plan known text verdict = (log : List ℕ) × (verdict ≡ Done → AreOf known log) × IsFollowText plan log text verdict
+
 -- what is written for an order, with the verdict, where files have these names and the input is this
 abbrev pub IsAnswer : Names → Option (List ℕ) → Order → List ℕ → Verdict → Type 0
 IsAnswer files input Input text verdict =
@@ -43,8 +49,11 @@ IsAnswer files input (Frame line) text verdict = IsFrameText (string_bytes line)
 IsAnswer files input (Check plan) text verdict = (bytes : List ℕ) × AreOf (files (string_bytes plan)) bytes × IsCheckText bytes text verdict
 IsAnswer files input (Addresses plan) text verdict =
     (bytes : List ℕ) × AreOf (files (string_bytes plan)) bytes × IsAddressesText bytes text verdict
+IsAnswer files input (Load plan) text verdict = (bytes : List ℕ) × AreOf (files (string_bytes plan)) bytes × IsLoadText bytes text verdict
 IsAnswer files input (Run plan schedule) text verdict =
     IsAnswerOfTwo IsRunOf (files (string_bytes plan)) (files (string_bytes schedule)) text verdict
 IsAnswer files input (Read plan log) text verdict =
     IsAnswerOfTwo IsReadOf (files (string_bytes plan)) (files (string_bytes log)) text verdict
+IsAnswer files input (Follow plan log) text verdict =
+    IsAnswerOfTwo IsFollowOf (files (string_bytes plan)) (files (string_bytes log)) text verdict
 IsAnswer files input (Help shown) text verdict = (text ≡ string_bytes shown) × (verdict ≡ Done)

@@ -1,15 +1,16 @@
 //! What is written for an order.
 ghost use Rattle.std.specs.Prelude.{◌≡◌, ℕ, IfOk, List, OnSome};
 ghost use Rattle.std.specs.Io.KnownBytes.{Appends};
-ghost use Rattle.j39_app.specs.Answers.{IsAnswer, IsAnswerOfTwo, IsReadOf, IsRunOf};
+ghost use Rattle.j39_app.specs.Answers.{IsAnswer, IsAnswerOfTwo, IsFollowOf, IsReadOf, IsRunOf};
 ghost use Rattle.j39_app.specs.Known.{AreOf};
 ghost use Rattle.j39_check.specs.AddressesText.{IsAddressesText};
+ghost use Rattle.j39_check.specs.LoadText.{IsLoadText};
 ghost use Rattle.j39_check.specs.CheckText.{IsCheckText};
 ghost use Rattle.j39_check.specs.PlanText.{IsPlanText};
 
 use crate::{
-    Fault, Folder, Order, Sink, Source, Verdict, addresses_text, check_text, frame_text,
-    input_text, plan_text, put_all, read_text, run_planned,
+    Fault, Folder, Order, Sink, Source, Verdict, addresses_text, check_text, follow_text,
+    frame_text, input_text, plan_text, put_all, read_text, run_planned, timing_text,
 };
 use j39_findings::Plan;
 use std::alloc::Global;
@@ -52,6 +53,18 @@ fn addresses_file<F: Folder, W: Sink>(
     addresses_text(alloc, &mut files.open(plan)?, sink)
 }
 
+fn load_file<F: Folder, W: Sink>(
+    alloc: Global,
+    files: &F,
+    plan: &str,
+    sink: &mut W,
+) -> Result<Verdict, Fault>
+    ensures { IfOk result (λ verdict. (bytes : List ℕ) × (text : List ℕ) × AreOf (F.bytes_of files.now plan.now) bytes
+        × IsLoadText bytes text verdict × Appends (W.taken sink.old) (W.taken sink.new) text) }
+{
+    timing_text(alloc, &mut files.open(plan)?, sink)
+}
+
 fn run_by<F: Folder, W: Sink>(
     alloc: Global,
     files: &F,
@@ -76,6 +89,19 @@ fn read_by<F: Folder, W: Sink>(
         × Appends (W.taken sink.old) (W.taken sink.new) text) }
 {
     read_text(alloc, plan, &mut files.open(log)?, sink)
+}
+
+fn follow_by<F: Folder, W: Sink>(
+    alloc: Global,
+    files: &F,
+    plan: &Plan,
+    log: &str,
+    sink: &mut W,
+) -> Result<Verdict, Fault>
+    ensures { IfOk result (λ verdict. (text : List ℕ) × IsFollowOf plan.now (F.bytes_of files.now log.now) text verdict
+        × Appends (W.taken sink.old) (W.taken sink.new) text) }
+{
+    follow_text(alloc, plan, &mut files.open(log)?, sink)
 }
 
 // Writes what happens on the bus of a plan by a schedule, whose file is opened once the plan was read.
@@ -114,6 +140,24 @@ fn read_files<F: Folder, W: Sink>(
     }
 }
 
+// Writes who sent what in a log; the log's file is opened once the plan was read.
+fn follow_files<F: Folder, W: Sink>(
+    alloc: Global,
+    files: &F,
+    plan: &str,
+    log: &str,
+    sink: &mut W,
+) -> Result<Verdict, Fault>
+    ensures { IfOk result (λ verdict. (text : List ℕ)
+        × IsAnswerOfTwo IsFollowOf (F.bytes_of files.now plan.now) (F.bytes_of files.now log.now) text verdict
+        × Appends (W.taken sink.old) (W.taken sink.new) text) }
+{
+    match plan_of(alloc, files, plan, sink)? {
+        Some(plan) => follow_by(alloc, files, &plan, log, sink),
+        None => Ok(Verdict::Unreadable),
+    }
+}
+
 /// Writes what is asked for by an order: of the bytes of the files that it names, of its own line, or of the first line of the
 /// input.
 pub fn answer<F: Folder, S: Source, W: Sink>(
@@ -131,8 +175,10 @@ pub fn answer<F: Folder, S: Source, W: Sink>(
         Order::Frame(line) => frame_text(alloc, line.as_bytes(), sink),
         Order::Check(plan) => check_file(alloc, files, plan, sink),
         Order::Addresses(plan) => addresses_file(alloc, files, plan, sink),
+        Order::Load(plan) => load_file(alloc, files, plan, sink),
         Order::Run(plan, schedule) => run_files(alloc, files, plan, schedule, sink),
         Order::Read(plan, log) => read_files(alloc, files, plan, log, sink),
+        Order::Follow(plan, log) => follow_files(alloc, files, plan, log, sink),
         Order::Help(text) => {
             put_all(sink, text.as_bytes())?;
             Ok(Verdict::Done)

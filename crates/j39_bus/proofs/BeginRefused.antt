@@ -1,7 +1,7 @@
 -- Why a message is not begun.
-use Rattle.std.proofs.Common.{◌≡◌, ℕ, zero, suc, ◌<◌, ◌≤◌, inl, inr, Bool, true, ◌==◌, List, [], ◌∷◌, length, get_or, refl, sym, ap, ◌∙◌}
+use Rattle.std.proofs.Common.{◌≡◌, ℕ, zero, suc, ◌<◌, ◌≤◌, inl, inr, Bool, true, ◌==◌, nat_le, List, [], ◌∷◌, length, get_or, refl, sym, ap, ◌∙◌}
 use Rattle.std.proofs.Common.{subst, arith, Option, Some, None}
-use Rattle.std.proofs.lemmas.Bool.{cases_Bool, eqb-true, not-false, true≢false}
+use Rattle.std.proofs.lemmas.Bool.{and_parts, cases_Bool, eqb-true, leb-true, not-false, true≢false}
 use Rattle.std.specs.List.{list_all, range_with_len, slice_get}
 use Rattle.j39_id.specs.Limits.{message_bytes}
 use Rattle.j39_claim.specs.declared.item.Item.{Item}
@@ -65,8 +65,8 @@ module _ (net : Network) (well : IsNetwork net) (f : ℕ) (bytes : List ℕ)
       let (sendable, (on, (told, (addressed, (free, (fits, rest)))))) =
       none_hold (begin_refusals (length net.claimers.items) (world_in nowhere net) (Some flow) bytes)
       (ap (λ (o : Option Flow). begin_refusal (length net.claimers.items) (world_in nowhere net) o bytes) (sym flow_is) ∙ allowed nowhere) in
-      let same : length bytes ≡ flow.length = eqb-true (length bytes) flow.length (not-false _ fits) in
-      omega (arith, same, flow_fits.length)
+      let most : length bytes ≤ flow.most = leb-true (length bytes) flow.most (and_parts (nat_le flow.length (length bytes)) _ (not-false _ fits)).1 in
+      omega (arith, most, flow_fits.length)
 
   pub planned_flow : (plan : Plan) → IsOfPlan plan net → slice_get (flows_of plan) f ≡ Some flow
   planned_flow plan of = ap (λ (fs : List Flow). slice_get fs f) (sym of.flows) ∙ flow_is

@@ -15,7 +15,7 @@ fn flow_of(groups: &[GroupPlan], flow: &FlowPlan) -> Flow
     requires groups { All IsSendable groups.now }
     requires group { flow.now.group < length groups.now }
     ensures flow { result ≡ flow_of groups.now flow.now }
-    ensures length { result.length ≤ message_bytes }
+    ensures length { result.most ≤ message_bytes }
     ensures priority { result.priority ≤ 7 }
 {
     let group = &groups[flow.group];
@@ -26,6 +26,7 @@ fn flow_of(groups: &[GroupPlan], flow: &FlowPlan) -> Flow
         pgn,
         priority: group.priority,
         length: group.length,
+        most: group.most,
         sender: flow.sender,
         to: flow.to,
     }

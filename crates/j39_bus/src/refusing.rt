@@ -1,7 +1,7 @@
 //! Why steps are refused.
-ghost use Rattle.std.specs.Prelude.{◌≡◌, ◌==◌, Some, length};
+ghost use Rattle.std.specs.Prelude.{◌≡◌, Some, length};
 ghost use Rattle.j39_findings.specs.declared.steps.Step.TheVariants.{Up, Give, Ask, Emit, Take, LateSender, LateReceiver, Rest};
-ghost use Rattle.j39_world.specs.Flows.{can_be_sent};
+ghost use Rattle.j39_world.specs.Flows.{can_be_sent, has_length};
 ghost use Rattle.j39_bus.specs.Stations.{station_at};
 ghost use Rattle.j39_bus.specs.BusState.{Histories, nowhere};
 ghost use Rattle.j39_bus.specs.inside.Network.{IsNetwork, IsRefusal, world_in};
@@ -23,15 +23,15 @@ fn can_be_sent(flow: &Flow) -> bool
     match flow.to {
         To::All => true,
         To::One(unit) => unit != flow.sender
-            && (flow.pgn.is_pdu1() || usize::from(flow.length) > FRAME_BYTES),
+            && (flow.pgn.is_pdu1() || usize::from(flow.most) > FRAME_BYTES),
     }
 }
 
-// Whether so many bytes are sent by a flow.
+// Whether a flow has messages of so many bytes.
 fn fits(flow: &Flow, bytes: &[u8]) -> bool
-    ensures { result ≡ (length bytes.now == flow.now.length) }
+    ensures { result ≡ has_length flow.now (length bytes.now) }
 {
-    bytes.len() == usize::from(flow.length)
+    usize::from(flow.length) <= bytes.len() && bytes.len() <= usize::from(flow.most)
 }
 
 impl Network {

@@ -1,5 +1,5 @@
 pub mod FindingLists
+pub mod LoadReports
 pub mod OneText
 pub mod UnitLists
-pub mod WhoStays
 pub mod WrittenRuns

@@ -1,23 +1,51 @@
--- Check has one text.
-use Rattle.std.proofs.Common.{◌≡◌, ℕ, List, [], Some, Err, refl, subst, sym, ap, ◌∙◌}
+-- Check has one text, and so has addresses.
+use Rattle.std.proofs.Common.{◌≡◌, ℕ, suc, zero, ◌+◌, Bool, true, false, cond, codes, count_by, length, List, [], ◌∷◌, ◌++◌, Option, Some, None, true≢false, inl, inr, Err, refl, subst, sym, ap, ◌∙◌}
+use Rattle.std.proofs.lemmas.List.Sums.{sum_by-cons}
 use Rattle.std.proofs.lemmas.Option.{same_Some}
+use Rattle.std.specs.List.{slice_get}
 use Rattle.j39_findings.specs.declared.plan.Plan.{Plan}
+use Rattle.j39_findings.specs.declared.plan.unit_plan.UnitPlan.{UnitPlan}
 use Rattle.j39_plan.specs.declared.reading.fault.Fault.{Fault}
 use Rattle.j39_plan.specs.declared.reading.plan_error.PlanError.{PlanError}
 use Rattle.j39_plan.specs.declared.reading.plan_error.PlanError.TheVariants as errors
 use Rattle.j39_plan.specs.Described.{Reads, tree_of}
 use Rattle.j39_plan.specs.Faults.{faults}
 use Rattle.j39_plan.specs.Outcome.{first}
+use Rattle.j39_findings.specs.declared.plan.timing.Timing.{Timing}
+use Rattle.j39_findings.specs.Found.{found}
 use Rattle.j39_findings.proofs.FoundLaws.{none_from_clean}
+use Rattle.j39_load.specs.declared.delay.Delay.{Delay}
+use Rattle.j39_load.specs.declared.flow_load.FlowLoad.{FlowLoad}
+use Rattle.j39_load.specs.declared.load_finding.LoadFinding.{LoadFinding}
+use Rattle.j39_load.specs.LoadFindings.{AreLoadFindings, load_findings}
+use Rattle.j39_load.specs.Loads.{loads_of, total_load}
+use Rattle.j39_load.proofs.OneLoad.{one_asked, told_once}
+use Rattle.j39_check.specs.AddressesText.{HasOneAddressesReport, stays_text, stays_word, unit_line, unit_lines}
 use Rattle.j39_check.specs.PlanText.{Describes, IsRefusalLine, fault_line}
 use Rattle.j39_stream.specs.declared.verdict.Verdict.TheVariants.{Done, Findings, Refused, Unreadable}
-use Rattle.j39_check.specs.CheckText.{HasOneRefusal, HasOneReport, IsNotRefused}
+use Rattle.j39_text.specs.Texts.{field}
+use Rattle.j39_check.specs.CheckText.{HasOneRefusal, HasOneReport, IsNotRefused, findings_text}
+use Rattle.j39_check.specs.LoadLines.{loads_text}
+use Rattle.j39_check.specs.LoadText.{HasOneLoadReport, IsLoadReport, TellsLoads, have_periods, load_verdict}
+use Rattle.j39_stream.specs.declared.verdict.Verdict.{Verdict}
+
+-- what is wrong with what a plan asks of its bus is one
+pub one_list : (plan : Plan) (timing : Option Timing) (findings others : List LoadFinding) → AreLoadFindings plan timing findings
+    → AreLoadFindings plan timing others → findings ≡ others
+one_list plan None findings others are more = are ∙ sym more
+one_list plan (Some timing) findings others are more =
+    let same = one_asked plan timing are.0 more.0 are.1 more.1 are.2 more.2 in
+    are.3 ∙ ap (λ (loads : List (Option FlowLoad)). load_findings timing (total_load loads) are.1) same.0
+    ∙ ap (load_findings timing (total_load (loads_of timing plan more.0))) same.1 ∙ sym more.3
 
 pub one_report : (plan : Plan) → HasOneReport plan
-one_report plan text other Done Done is another = (is.2 ∙ sym another.2, refl)
-one_report plan text other Done Findings is another = absurd (another.0 (none_from_clean plan is.0))
-one_report plan text other Findings Done is another = absurd (is.0 (none_from_clean plan another.0))
-one_report plan text other Findings Findings is another = (is.1 ∙ sym another.1, refl)
+one_report plan text other Done Done is another = (is.3 ∙ sym another.3, refl)
+one_report plan text other Done Findings is another =
+    absurd (another.2 (none_from_clean plan is.0, sym (one_list plan plan.timing [] another.0 is.1 another.1)))
+one_report plan text other Findings Done is another =
+    absurd (is.2 (none_from_clean plan another.0, sym (one_list plan plan.timing [] is.0 another.1 is.1)))
+one_report plan text other Findings Findings is another =
+    (is.3 ∙ ap (findings_text plan (found plan)) (one_list plan plan.timing is.0 another.0 is.1 another.1) ∙ sym another.3, refl)
 one_report plan text other Done Refused is another = absurd another
 one_report plan text other Done Unreadable is another = absurd another
 one_report plan text other Findings Refused is another = absurd another
@@ -54,3 +82,73 @@ described_only bytes plan errors.Memory text described read line = line
 
 pub not_refused : (bytes : List ℕ) → IsNotRefused bytes
 not_refused bytes plan text described refused = described_only bytes plan refused.0 text described refused.1 refused.2
+
+-- ---- addresses
+
+module _ (stays other : UnitPlan → Bool) where
+  abbrev TellSame : List UnitPlan → Type 0
+  TellSame units = (u : ℕ) (unit : UnitPlan) → slice_get units u ≡ Some unit → stays unit ≡ other unit
+
+  line_same : (unit : UnitPlan) → stays unit ≡ other unit → unit_line stays unit ≡ unit_line other unit
+  unfolding unit_line
+  line_same unit same = ap (λ b. codes "unit " ++ (unit.label.bytes ++ (field (stays_word b) unit.address ++ 10 ∷ []))) same
+
+  lines_same : (units : List UnitPlan) → TellSame units → unit_lines stays units ≡ unit_lines other units
+  unfolding unit_lines
+  lines_same [] same = refl
+  lines_same (unit ∷ units) same =
+      ap (λ line. line ++ unit_lines stays units) (line_same unit (same zero unit refl))
+      ∙ ap (λ lines. unit_line other unit ++ lines) (lines_same units (λ u. same (suc u)))
+
+  count_same : (units : List UnitPlan) → TellSame units → count_by stays units ≡ count_by other units
+  count_same [] same = refl
+  count_same (unit ∷ units) same =
+      sum_by-cons (λ x. cond (stays x) 1 0) unit units
+      ∙ ap (λ b. cond b 1 0 + count_by stays units) (same zero unit refl)
+      ∙ ap (λ n. cond (other unit) 1 0 + n) (count_same units (λ u. same (suc u)))
+      ∙ sym (sum_by-cons (λ x. cond (other x) 1 0) unit units)
+
+  text_same : (units : List UnitPlan) → TellSame units → stays_text stays units ≡ stays_text other units
+  unfolding stays_text
+  text_same units same =
+      ap (λ lines. lines ++ (field (codes "stay ") (count_by stays units) ++ (field (codes " of ") (length units) ++ 10 ∷ []))) (lines_same units same)
+      ∙ ap (λ n. unit_lines other units ++ (field (codes "stay ") n ++ (field (codes " of ") (length units) ++ 10 ∷ []))) (count_same units same)
+
+pub one_addresses_report : (plan : Plan) → HasOneAddressesReport plan
+one_addresses_report plan text other Done Done is another =
+    let same = text_same is.2 another.2 plan.units.items (λ u unit at. told_once _ _ _ (is.3 u unit at) (another.3 u unit at)) in
+    (is.4 ∙ same ∙ sym another.4, refl)
+one_addresses_report plan text other Done Findings is another = absurd (is.0 another.0.0 another.0.1 another.0.2)
+one_addresses_report plan text other Findings Done is another = absurd (another.0 is.0.0 is.0.1 is.0.2)
+one_addresses_report plan text other Findings Findings is another = one_report plan text other Findings Findings is.1 another.1
+one_addresses_report plan text other Done Refused is another = absurd another
+one_addresses_report plan text other Done Unreadable is another = absurd another
+one_addresses_report plan text other Findings Refused is another = absurd another
+one_addresses_report plan text other Findings Unreadable is another = absurd another
+one_addresses_report plan text other Refused another_verdict is another = absurd is
+one_addresses_report plan text other Unreadable another_verdict is another = absurd is
+
+-- ---- load
+
+module _ (plan : Plan) (timing : Timing) (stays other : UnitPlan → Bool) (delays others : List (Option Delay))
+    (same : loads_of timing plan stays ≡ loads_of timing plan other) (alike : delays ≡ others) (text more : List ℕ) (verdict another : Verdict) where
+  one_told : TellsLoads plan timing stays delays text verdict → TellsLoads plan timing other others more another → (text ≡ more) × (verdict ≡ another)
+  one_told (inl is) (inl are) = (
+    is.2 ∙ ap (λ (loads : List (Option FlowLoad)). loads_text plan timing.bitrate loads delays) same
+        ∙ ap (loads_text plan timing.bitrate (loads_of timing plan other)) alike ∙ sym are.2,
+    is.3 ∙ ap (λ (loads : List (Option FlowLoad)). load_verdict (load_findings timing (total_load loads) delays)) same
+        ∙ ap (λ (ds : List (Option Delay)). load_verdict (load_findings timing (total_load (loads_of timing plan other)) ds)) alike ∙ sym are.3,
+  )
+  one_told (inl is) (inr are) = absurd (true≢false (sym is.1 ∙ ap have_periods alike ∙ are.0 is.0))
+  one_told (inr is) (inl are) = absurd (true≢false (sym are.1 ∙ ap have_periods (sym alike) ∙ is.0 are.0))
+  one_told (inr is) (inr are) = one_report plan text more verdict another is.1 are.1
+
+one_load_answer : (plan : Plan) (timing : Option Timing) (text other : List ℕ) (verdict another : Verdict)
+    → IsLoadReport plan timing text verdict → IsLoadReport plan timing other another → (text ≡ other) × (verdict ≡ another)
+one_load_answer plan None text other verdict another is are = (is.0 ∙ sym are.0, is.1 ∙ sym are.1)
+one_load_answer plan (Some timing) text other verdict another is are =
+    let same = one_asked plan timing is.0 are.0 is.1 are.1 is.2 are.2 in
+    one_told plan timing is.0 are.0 is.1 are.1 same.0 same.1 text other verdict another is.3 are.3
+
+pub one_load_report : (plan : Plan) → HasOneLoadReport plan
+one_load_report plan text other verdict another = one_load_answer plan plan.timing text other verdict another

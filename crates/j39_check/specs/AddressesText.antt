@@ -1,11 +1,11 @@
 -- The text that the addresses command writes for a plan file.
-use Rattle.std.specs.Prelude.{◌≡◌, ◌⊎◌, ℕ, Bool, true, false, List, [], ◌∷◌, ◌++◌, codes, count_by, length, MatchBool, Some}
-use Rattle.std.specs.List.{slice_get}
+use Rattle.std.specs.Prelude.{◌≡◌, ◌⊎◌, ℕ, Bool, true, false, List, [], ◌∷◌, ◌++◌, codes, count_by, length}
 use Rattle.j39_findings.specs.declared.plan.Plan.{Plan}
 use Rattle.j39_findings.specs.declared.plan.unit_plan.UnitPlan.{UnitPlan}
 use Rattle.j39_findings.specs.declared.checking.finding.Finding.{Finding}
 use Rattle.j39_findings.specs.declared.checking.finding.Finding.TheVariants.{SameName, SameFixedAddress, TooFewAddresses, KeptAddress}
 use Rattle.j39_findings.specs.Findings.{Holds}
+use Rattle.j39_load.specs.Standing.{TellsWhoStays}
 use Rattle.j39_world.specs.PlannedUnits.{units_of}
 use Rattle.j39_world.specs.SoundPlan.{Always}
 use Rattle.j39_world.specs.Staying.{HoldsPlanned, Stays}
@@ -25,10 +25,9 @@ is_of_addresses _ = false
 
 -- ---- who stays
 
--- of the unit at each place this tells whether it stays, and one that does holds its planned address whenever it is on
-abbrev pub TellsWhoStays : Plan → (UnitPlan → Bool) → Type 0
-TellsWhoStays plan stays = (u : ℕ) (unit : UnitPlan) → slice_get plan.units.items u ≡ Some unit
-    → MatchBool (stays unit) (Stays (units_of plan) u × Always plan (λ w. HoldsPlanned (units_of plan) w u)) (¬ Stays (units_of plan) u)
+-- a unit that stays holds its planned address whenever it is on
+abbrev pub StayingHolds : Plan → Type 0
+StayingHolds plan = (u : ℕ) → Stays (units_of plan) u → Always plan (λ w. HoldsPlanned (units_of plan) w u)
 
 abbrev pub stays_word : Bool → List ℕ
 stays_word true = codes " stays "
@@ -52,7 +51,7 @@ stays_text stays units =
 -- what is written for a plan, with the verdict: where nothing is wrong with NAMEs and addresses who stays, else what check writes
 abbrev pub IsAddressesReport : Plan → List ℕ → Verdict → Type 0
 IsAddressesReport plan text Done = ((finding : Finding) → is_of_addresses finding ≡ true → ¬ Holds plan finding)
-    × (stays : UnitPlan → Bool) × TellsWhoStays plan stays × (text ≡ stays_text stays plan.units.items)
+    × StayingHolds plan × (stays : UnitPlan → Bool) × TellsWhoStays plan stays × (text ≡ stays_text stays plan.units.items)
 IsAddressesReport plan text Findings =
     ((finding : Finding) × (is_of_addresses finding ≡ true) × Holds plan finding) × IsReport plan text Findings
 IsAddressesReport plan text Refused = ⊥
@@ -62,3 +61,10 @@ IsAddressesReport plan text Unreadable = ⊥
 abbrev pub IsAddressesText : List ℕ → List ℕ → Verdict → Type 0
 IsAddressesText bytes text verdict =
     ((plan : Plan) × Describes bytes plan × IsAddressesReport plan text verdict) ⊎ (IsRefusedText bytes text × (verdict ≡ Unreadable))
+
+-- ---- laws
+
+-- a plan has one report of addresses
+abbrev pub HasOneAddressesReport : Plan → Type 0
+HasOneAddressesReport plan = (text other : List ℕ) (verdict another : Verdict)
+    → IsAddressesReport plan text verdict → IsAddressesReport plan other another → (text ≡ other) × (verdict ≡ another)

@@ -1,11 +1,14 @@
 -- The text that the check command writes for a plan file.
-use Rattle.std.specs.Prelude.{◌≡◌, ◌≢◌, ◌⊎◌, ℕ, List, [], ◌∷◌, ◌++◌, codes, length}
+use Rattle.std.specs.Prelude.{◌≡◌, ◌⊎◌, ℕ, ◌+◌, List, [], ◌∷◌, ◌++◌, codes, length}
 use Rattle.j39_findings.specs.declared.plan.Plan.{Plan}
 use Rattle.j39_findings.specs.declared.checking.finding.Finding.{Finding}
 use Rattle.j39_findings.specs.Findings.{Clean}
 use Rattle.j39_findings.specs.Found.{found}
+use Rattle.j39_load.specs.declared.load_finding.LoadFinding.{LoadFinding}
+use Rattle.j39_load.specs.LoadFindings.{AreLoadFindings}
 use Rattle.j39_world.specs.SoundPlan.{IsSound}
 use Rattle.j39_check.specs.FindingLines.{finding_lines}
+use Rattle.j39_check.specs.LoadLines.{load_finding_lines}
 use Rattle.j39_check.specs.PlanText.{Describes, IsRefusedText}
 use Rattle.j39_text.specs.Texts.{field}
 use Rattle.j39_stream.specs.declared.verdict.Verdict.{Verdict}
@@ -17,14 +20,16 @@ ok_line plan =
     field (codes "ok ") (length plan.units.items) ++ (field (codes " units ") (length plan.groups.items)
     ++ (field (codes " groups ") (length plan.flows.items) ++ codes " flows\n"))
 
--- a line for each finding, and how many they are
-unfoldable pub findings_text : Plan → List Finding → List ℕ
-findings_text plan findings = finding_lines plan findings ++ (field (codes "findings ") (length findings) ++ 10 ∷ [])
+-- a line for each finding, those on what is asked of the bus behind the others, and how many they are
+unfoldable pub findings_text : Plan → List Finding → List LoadFinding → List ℕ
+findings_text plan findings others = finding_lines plan findings
+    ++ (load_finding_lines others ++ (field (codes "findings ") (length findings + length others) ++ 10 ∷ []))
 
 -- what is written for a plan, with the verdict: one in which nothing is wrong is sound
 abbrev pub IsReport : Plan → List ℕ → Verdict → Type 0
-IsReport plan text Done = Clean plan × IsSound plan × (text ≡ ok_line plan)
-IsReport plan text Findings = (found plan ≢ []) × (text ≡ findings_text plan (found plan))
+IsReport plan text Done = Clean plan × AreLoadFindings plan plan.timing [] × IsSound plan × (text ≡ ok_line plan)
+IsReport plan text Findings = (others : List LoadFinding) × AreLoadFindings plan plan.timing others
+    × ¬ ((found plan ≡ []) × (others ≡ [])) × (text ≡ findings_text plan (found plan) others)
 IsReport plan text Refused = ⊥
 IsReport plan text Unreadable = ⊥
 

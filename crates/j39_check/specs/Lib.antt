@@ -1,5 +1,6 @@
 pub mod AddressesText
 pub mod CheckText
 pub mod FindingLines
+pub mod LoadLines
+pub mod LoadText
 pub mod PlanText
-pub mod inside

@@ -1,13 +1,13 @@
 //! The lines of findings.
 ghost use Rattle.std.specs.Prelude.{◌≡◌, ◌++◌, OnOk};
-ghost use Rattle.j39_findings.specs.declared.checking.finding.Finding.TheVariants.{SameFixedAddress, BadPgn, SamePgn, SignalWidth, SignalOutside, SignalOverlap, FlowRepeated, KeptAddress};
+ghost use Rattle.j39_findings.specs.declared.checking.finding.Finding.TheVariants.{SameFixedAddress, BadPgn, SamePgn, SignalWidth, SignalOutside, SignalOverlap, FlowRepeated, KeptAddress, TextOutside};
 ghost use Rattle.j39_check.specs.FindingLines.{finding_line, finding_lines, finding_report, finding_text, run_lines, signal_text};
 
 use j39_findings::{Finding, Plan, bad_run};
 use j39_schedule::write_steps;
 use j39_text::{
-    TextBuffer, group_label, group_pgn, signal_bits, signal_end, signal_label, unit_address,
-    unit_label, write_group, write_units,
+    TextBuffer, group_label, group_pgn, signal_bits, signal_end, signal_label, text_end,
+    text_label, unit_address, unit_label, write_group, write_units,
 };
 use std::alloc::{AllocError, Global};
 
@@ -126,6 +126,21 @@ fn write_kept_address(text: &mut TextBuffer, plan: &Plan, unit: usize) -> Result
 }
 
 #[tactic(auto, unfolding(crate::specs::FindingLines::finding_text))]
+fn write_text_outside(
+    text: &mut TextBuffer,
+    plan: &Plan,
+    group: usize,
+    place: usize,
+) -> Result<(), AllocError>
+    ensures { OnOk result (text.new ≡ text.old ++ finding_text plan.now (TextOutside group place)) }
+{
+    write_group(text, "F15 TextOutside ", plan, group)?;
+    text.word(" ")?;
+    text.word(text_label(plan, group, place))?;
+    text.field(" ", text_end(plan, group, place))
+}
+
+#[tactic(auto, unfolding(crate::specs::FindingLines::finding_text))]
 fn write_finding(text: &mut TextBuffer, plan: &Plan, finding: Finding) -> Result<(), AllocError>
     ensures { OnOk result (text.new ≡ text.old ++ finding_text plan.now finding) }
 {
@@ -142,6 +157,8 @@ fn write_finding(text: &mut TextBuffer, plan: &Plan, finding: Finding) -> Result
         Finding::FlowToSelf(f) => text.place("F10 FlowToSelf ", f),
         Finding::FlowRepeated(f, h) => write_flow_repeated(text, plan, f, h),
         Finding::KeptAddress(i) => write_kept_address(text, plan, i),
+        Finding::PrivateUnsent(g) => write_group(text, "F13 PrivateUnsent ", plan, g),
+        Finding::TextOutside(g, t) => write_text_outside(text, plan, g, t),
     }
 }
 

@@ -1,7 +1,9 @@
-//! The laws of what check writes.
+//! The laws of what check and addresses write.
 ghost use Rattle.std.specs.Prelude.{ℕ, List};
 ghost use Rattle.j39_findings.specs.declared.plan.Plan.{Plan};
+ghost use Rattle.j39_check.specs.AddressesText.{HasOneAddressesReport};
 ghost use Rattle.j39_check.specs.CheckText.{HasOneRefusal, HasOneReport, IsNotRefused};
+ghost use Rattle.j39_check.specs.LoadText.{HasOneLoadReport};
 ghost use Rattle.j39_check.specs.FindingLines.{RunReadsBack, RunShowsConflict};
 
 /// A plan has one text of check, with one verdict; so has a file that is refused, and no file that describes a plan is refused.
@@ -9,6 +11,16 @@ pub fn check_has_one_text()
     ensures report { (plan : Plan) → HasOneReport plan }
     ensures refusal { (bytes : List ℕ) → HasOneRefusal bytes }
     ensures apart { (bytes : List ℕ) → IsNotRefused bytes }
+{}
+
+/// A plan has one text of addresses, with one verdict: whoever tells of each unit whether it stays tells the same.
+pub fn addresses_have_one_text()
+    ensures { (plan : Plan) → HasOneAddressesReport plan }
+{}
+
+/// A plan has one text of load, with one verdict.
+pub fn load_has_one_text()
+    ensures { (plan : Plan) → HasOneLoadReport plan }
 {}
 
 /// The lines that are written below a finding are a schedule of the run that shows its conflict, and there are none below a

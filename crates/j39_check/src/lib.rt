@@ -5,13 +5,19 @@ mod addresses;
 mod check;
 mod finding_lines;
 mod laws;
+mod load_lines;
+mod load_report;
 mod plan_file;
 mod plan_report;
-mod standing;
 mod stays_lines;
 mod stays_report;
+mod timing;
 
 pub use addresses::addresses_text;
 pub use check::check_text;
-pub use laws::{check_has_one_text, written_runs_read_back, written_runs_show_the_conflict};
+pub use laws::{
+    addresses_have_one_text, check_has_one_text, load_has_one_text, written_runs_read_back,
+    written_runs_show_the_conflict,
+};
 pub use plan_file::plan_text;
+pub use timing::timing_text;

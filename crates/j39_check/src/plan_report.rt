@@ -3,8 +3,10 @@ ghost use Rattle.std.specs.Prelude.{◌≡◌, ◌++◌, OnOk, IfOk};
 ghost use Rattle.j39_check.specs.CheckText.{IsReport, findings_text, ok_line};
 
 use crate::finding_lines::write_lines;
+use crate::load_lines::write_load_findings;
 use j39_findings::{Finding, Plan, Refused, RefusedCause, checked};
 use j39_laws::certify;
+use j39_load::{LoadFinding, check_load};
 use j39_stream::Verdict;
 use j39_text::TextBuffer;
 use std::alloc::{AllocError, Global};
@@ -25,11 +27,13 @@ pub(super) fn write_findings(
     text: &mut TextBuffer,
     plan: &Plan,
     findings: &[Finding],
+    others: &[LoadFinding],
 ) -> Result<(), AllocError>
-    ensures { OnOk result (text.new ≡ text.old ++ findings_text plan.now findings.now) }
+    ensures { OnOk result (text.new ≡ text.old ++ findings_text plan.now findings.now others.now) }
 {
     write_lines(alloc, text, plan, findings)?;
-    text.field("findings ", findings.len())?;
+    write_load_findings(text, others)?;
+    text.field("findings ", findings.len() + others.len())?;
     text.end_line()
 }
 
@@ -38,15 +42,20 @@ pub(super) fn report(alloc: Global, plan: Plan) -> Result<(TextBuffer, Verdict),
     ensures { IfOk result (λ report. IsReport plan report.0 report.1) }
 {
     let mut text = TextBuffer::new(alloc);
+    let others = check_load(alloc, &plan)?;
     match checked(alloc, plan) {
-        Ok(plan) => {
+        Ok(plan) if others.is_empty() => {
             certify(&plan);
             write_ok(&mut text, plan.plan())?;
             Ok((text, Verdict::Done))
         }
+        Ok(plan) => {
+            write_findings(alloc, &mut text, plan.plan(), &[], others.as_slice())?;
+            Ok((text, Verdict::Findings))
+        }
         Err(Refused { plan, cause }) => match cause {
             RefusedCause::Findings(findings) => {
-                write_findings(alloc, &mut text, &plan, &findings)?;
+                write_findings(alloc, &mut text, &plan, &findings, others.as_slice())?;
                 Ok((text, Verdict::Findings))
             }
             RefusedCause::Memory => Err(AllocError),

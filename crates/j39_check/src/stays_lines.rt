@@ -1,10 +1,10 @@
 //! The lines that say which units of a plan stay.
 ghost use Rattle.std.specs.Prelude.{◌≡◌, ◌++◌, OnOk};
 ghost use Rattle.j39_check.specs.AddressesText.{stays_text, stays_word, unit_line, unit_lines};
-ghost use Rattle.j39_check.specs.inside.Standing.{stays_by};
+ghost use Rattle.j39_load.specs.Standing.{stays_by};
 
-use crate::standing::Standing;
 use j39_findings::UnitPlan;
+use j39_load::Standing;
 use j39_text::TextBuffer;
 use std::alloc::AllocError;
 

@@ -3,9 +3,10 @@ ghost use Rattle.std.specs.Prelude.{◌≡◌, IfOk};
 ghost use Rattle.j39_check.specs.AddressesText.{IsAddressesReport, is_of_addresses};
 
 use crate::plan_report::write_findings;
-use crate::standing::Standing;
 use crate::stays_lines::write_stays;
 use j39_findings::{Finding, Plan, check};
+use j39_laws::who_stays;
+use j39_load::{Standing, check_load};
 use j39_stream::Verdict;
 use j39_text::TextBuffer;
 use std::alloc::{AllocError, Global};
@@ -29,9 +30,11 @@ pub(super) fn stays_report(alloc: Global, plan: &Plan) -> Result<(TextBuffer, Ve
     let mut text = TextBuffer::new(alloc);
     let findings = check(alloc, plan)?;
     if findings.iter().any(is_of_addresses) {
-        write_findings(alloc, &mut text, plan, &findings)?;
+        let others = check_load(alloc, plan)?;
+        write_findings(alloc, &mut text, plan, &findings, others.as_slice())?;
         return Ok((text, Verdict::Findings));
     }
+    who_stays();
     write_stays(&mut text, &Standing::new(plan), plan.units.as_slice())?;
     Ok((text, Verdict::Done))
 }

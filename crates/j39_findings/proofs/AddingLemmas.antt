@@ -6,10 +6,10 @@ use Rattle.std.specs.List.{slice_get}
 use Rattle.std.proofs.lemmas.Option.{slice_get-get_or}
 use Rattle.j39_findings.specs.Adding.{Adds}
 use Rattle.j39_findings.specs.ListPlaces.{in_each, each, pairs, found_if}
-use Rattle.j39_findings.specs.Found.{unit_findings, group_findings, signal_findings, flow_findings, kept_findings, found}
+use Rattle.j39_findings.specs.Found.{unit_findings, group_findings, signal_findings, flow_findings, kept_findings, unsent_findings, text_findings, found}
 use Rattle.j39_findings.specs.Findings.{Clean}
 use Rattle.j39_findings.specs.declared.plan.Plan.{Plan}
-use Rattle.j39_findings.proofs.FoundLaws.{none_from_clean}
+use Rattle.j39_findings.proofs.FoundLaws.{none_from_clean, rest}
 use Rattle.j39_findings.proofs.Members.{in_each_of, behind}
 use Rattle.j39_findings.proofs.PlaceLemmas.{after, pairs_is}
 
@@ -91,7 +91,7 @@ pub units_some : (plan : Plan) → unit_findings plan.keep_free plan.units.items
 unfolding found
 units_some plan some = some_left _ _ some
 
-pub groups_some : (plan : Plan) → group_findings plan.groups.items ≢ [] → found plan ≢ []
+pub groups_some : (plan : Plan) → group_findings plan.groups.items plan.flows.items ≢ [] → found plan ≢ []
 unfolding found
 groups_some plan some = some_right _ _ (some_left _ _ some)
 
@@ -99,16 +99,24 @@ pub signals_some : (plan : Plan) → signal_findings plan.groups.items ≢ [] �
 unfolding found
 signals_some plan some = some_right _ _ (some_right _ _ (some_left _ _ some))
 
--- of the flows' findings, and those behind them
-rest_some : (plan : Plan) → flow_findings plan.groups.items plan.flows.items ++ kept_findings plan.keep_free plan.units.items ≢ [] → found plan ≢ []
+rest_some : (plan : Plan) → rest plan ≢ [] → found plan ≢ []
 unfolding found
 rest_some plan some =
-    let signals = signal_findings plan.groups.items in
-    let rest = flow_findings plan.groups.items plan.flows.items ++ kept_findings plan.keep_free plan.units.items in
-    some_right (unit_findings plan.keep_free plan.units.items) _ (some_right (group_findings plan.groups.items) _ (some_right signals rest some))
+    some_right (unit_findings plan.keep_free plan.units.items) _ (some_right (group_findings plan.groups.items plan.flows.items) _
+    (some_right (signal_findings plan.groups.items) (rest plan) some))
 
 pub flows_some : (plan : Plan) → flow_findings plan.groups.items plan.flows.items ≢ [] → found plan ≢ []
 flows_some plan some = rest_some plan (some_left _ _ some)
 
 pub kept_some : (plan : Plan) → kept_findings plan.keep_free plan.units.items ≢ [] → found plan ≢ []
-kept_some plan some = rest_some plan (some_right (flow_findings plan.groups.items plan.flows.items) _ some)
+kept_some plan some = rest_some plan (some_right (flow_findings plan.groups.items plan.flows.items) _ (some_left _ _ some))
+
+pub unsent_some : (plan : Plan) → unsent_findings plan.groups.items plan.flows.items ≢ [] → found plan ≢ []
+unsent_some plan some =
+    rest_some plan (some_right (flow_findings plan.groups.items plan.flows.items) _
+    (some_right (kept_findings plan.keep_free plan.units.items) _ (some_left _ _ some)))
+
+pub texts_some : (plan : Plan) → text_findings plan.groups.items ≢ [] → found plan ≢ []
+texts_some plan some =
+    rest_some plan (some_right (flow_findings plan.groups.items plan.flows.items) _
+    (some_right (kept_findings plan.keep_free plan.units.items) _ (some_right (unsent_findings plan.groups.items plan.flows.items) _ some)))

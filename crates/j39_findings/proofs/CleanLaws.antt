@@ -1,21 +1,25 @@
 -- What 'no finding' says.
-use Rattle.std.proofs.Common.{ℕ, ◌+◌, ◌*◌, ◌<◌, List, All, AllPairs, get_or, length, refl, inl, inr, arith}
+use Rattle.std.proofs.Common.{◌≡◌, ℕ, ◌+◌, ◌*◌, ◌<◌, List, All, AllPairs, get_or, length, Bool, true, Decides, refl, inl, inr, arith}
 use Rattle.std.proofs.lemmas.Bool.{cases_Bool, cases_lt}
 use Rattle.std.proofs.lemmas.Bool.Decides.{not_from_Decides}
 use Rattle.std.proofs.lemmas.Option.{slice_get-get_or}
 use Rattle.std.specs.FinSet.{contains}
 use Rattle.j39_claim.specs.AddressSets.{free_count}
 use Rattle.j39_id.specs.Pgn.{IsPgn, is_pgn}
+use Rattle.j39_id.specs.Proprietary.{is_proprietary}
 use Rattle.j39_signal.specs.Parts.{SignalParts}
 use Rattle.j39_signal.specs.Places.{WidthFits, IsInside, SharesBit, LaysOut, width_fits}
 use Rattle.j39_findings.specs.declared.plan.Plan.{Plan}
 use Rattle.j39_findings.specs.declared.plan.group_plan.GroupPlan.{GroupPlan}
+use Rattle.j39_findings.specs.declared.plan.text_plan.TextPlan.{TextPlan}
 use Rattle.j39_findings.specs.declared.checking.finding.Finding.TheVariants.{SameName, SameFixedAddress, TooFewAddresses, BadPgn, SamePgn, SignalWidth}
-use Rattle.j39_findings.specs.declared.checking.finding.Finding.TheVariants.{SignalOutside, SignalOverlap, FlowToOne, FlowToSelf, FlowRepeated, KeptAddress}
-use Rattle.j39_findings.specs.ListPlaces.{ValueAt, PairAt}
-use Rattle.j39_findings.specs.Findings.{CannotBePlanned, Clean}
-use Rattle.j39_findings.specs.CleanParts.{CanBePlanned, CleanParts}
-use Rattle.j39_findings.proofs.Deciding.{Decides-is_pgn}
+use Rattle.j39_findings.specs.declared.checking.finding.Finding.TheVariants.{SignalOutside, SignalOverlap, FlowToOne, FlowToSelf, FlowRepeated, KeptAddress, PrivateUnsent, TextOutside}
+use Rattle.j39_findings.specs.ListPlaces.{ValueAt, PairAt, SomeMeets}
+use Rattle.j39_findings.specs.Findings.{IsProprietary, HasBadPgn, IsOutside, Sends, Clean}
+use Rattle.j39_findings.specs.CleanParts.{CanBePlanned, HaveOwnPgn, LiesInside, CleanParts}
+use Rattle.j39_findings.specs.Lengths.{IsLengthOf}
+use Rattle.j39_findings.specs.TextPlaces.{last_byte}
+use Rattle.j39_findings.proofs.Deciding.{Decides-is_pgn, Decides-is_proprietary, Decides-sends_some}
 
 none_at : {A : Type 0} (P : A → Type 0) (xs : List A) → ((i : ℕ) → ¬ ValueAt P xs i) → All (λ x. ¬ P x) xs
 none_at P xs none = λ i d less meets. none i (record { value = get_or xs i d; value_is = slice_get-get_or xs i d less; meets = meets })
@@ -36,13 +40,26 @@ group_of n h = elim (cases_Bool (is_pgn n)) [
   | inr other ↦ absurd (h (not_from_Decides (is_pgn n) (Decides-is_pgn n) other))
 ]
 
-planned : (n : ℕ) → ¬ CannotBePlanned n → CanBePlanned n
-planned n h = record {
-  group = group_of n (λ none. h (inl none));
-  page = elim (cases_lt n 131072) [ inl less ↦ less | inr more ↦ absurd (h (inr (inl more))) ];
-  not_proprietary = λ is. h (inr (inr (inl is)));
-  not_service = λ is. h (inr (inr (inr is)));
+-- the number is a maker's own where the group is private
+own_of : (g : GroupPlan) → ¬ HasBadPgn g → g.private ≡ true → IsProprietary g.pgn
+own_of g h private = elim (cases_Bool (is_proprietary g.pgn)) [
+  | inl is ↦ (Decides-is_proprietary g.pgn).0 is
+  | inr other ↦ absurd (h (inr (inr (private, not_from_Decides (is_proprietary g.pgn) (Decides-is_proprietary g.pgn) other))))
+]
+
+private_of : (g : GroupPlan) → ¬ HasBadPgn g → IsProprietary g.pgn → g.private ≡ true
+private_of g h own = elim (cases_Bool g.private) [ inl is ↦ is | inr other ↦ absurd (h (inr (inl (other, own)))) ]
+
+planned : (g : GroupPlan) → ¬ HasBadPgn g → CanBePlanned g
+planned g h = record {
+  group = group_of g.pgn (λ none. h (inl (inl none)));
+  page = elim (cases_lt g.pgn 131072) [ inl less ↦ less | inr more ↦ absurd (h (inl (inr (inl more)))) ];
+  own = (own_of g h, private_of g h);
+  not_service = λ is. h (inl (inr (inr is)));
 }
+
+by_test : (b : Bool) (P : Type 0) → Decides b P → ¬ (¬ P) → P
+by_test b P decides h = elim (cases_Bool b) [ inl is ↦ decides.0 is | inr other ↦ absurd (h (not_from_Decides b decides other)) ]
 
 fits : (s : SignalParts) → ¬ (¬ WidthFits s) → WidthFits s
 fits s h = elim (cases_Bool (width_fits s.kind s.start s.bits)) [ inl is ↦ is | inr other ↦ absurd (h (λ is. absurd cc)) ]
@@ -70,6 +87,26 @@ layout plan clean g d less =
       apart = no_pair_at SharesBit group.signals.items (λ s t at. clean (SignalOverlap g s t) (at_group plan _ g d less at));
     }
 
+lies_inside : (g : GroupPlan) (t : TextPlan) → ¬ IsOutside g t → LiesInside g t
+lies_inside g t h = record {
+  begins = elim (cases_lt (g.length + 1) t.byte) [ inl over ↦ absurd (h (inl over)) | inr is ↦ is ];
+  ends = elim (cases_lt g.most (last_byte t)) [ inl over ↦ absurd (h (inr over)) | inr is ↦ is ];
+}
+
+-- signals that lay out the shortest messages of a group lay out its longer ones
+pub lays_out_each : (plan : Plan) → Clean plan → All (λ g. (bytes : ℕ) → IsLengthOf g bytes → LaysOut bytes g.signals.items) plan.groups.items
+lays_out_each plan clean g d less bytes of =
+    let group = get_or plan.groups.items g d in
+    let short = layout plan clean g d less in
+    let most = group.most_range in
+    record {
+      some_bytes = omega (arith, of.0, group.length_positive);
+      most_bytes = omega (arith, of.1, most);
+      widths = short.widths;
+      inside = λ s e in_group. omega (arith, short.inside s e in_group, of.0);
+      apart = short.apart;
+    }
+
 pub parts_of : (plan : Plan) → Clean plan → CleanParts plan
 parts_of plan clean = record {
   names = no_pair_at _ plan.units.items (λ i j. clean (SameName i j));
@@ -81,9 +118,22 @@ parts_of plan clean = record {
     | inr free ↦ free
   ];
   groups = λ g d less. planned _ (none_at _ plan.groups.items (λ k. clean (BadPgn k)) g d less);
-  pgns = no_pair_at _ plan.groups.items (λ g h. clean (SamePgn g h));
+  pgns = λ g h d below less.
+      let none = no_pair_at _ plan.groups.items (λ k l. clean (SamePgn k l)) g h d below less in
+      record {
+        first = λ shared same. none (same, inl shared);
+        second = λ shared same. none (same, inr (inl shared));
+        apart = λ same together. none (same, inr (inr together));
+      };
   layouts = layout plan clean;
   to_one = λ f d less to_one lost. none_at _ plan.flows.items (λ k. clean (FlowToOne k)) f d less (to_one, lost);
   to_self = none_at _ plan.flows.items (λ f. clean (FlowToSelf f));
   flows = no_pair_at _ plan.flows.items (λ f h. clean (FlowRepeated f h));
+  sent = λ g d less private.
+      by_test _ _ (Decides-sends_some plan.groups.items plan.flows.items (get_or plan.groups.items g d))
+      (λ none. none_at _ plan.groups.items (λ k. clean (PrivateUnsent k)) g d less (private, none));
+  texts = λ g d less t e in_group.
+      let group = get_or plan.groups.items g d in
+      lies_inside group (get_or group.texts.items t e)
+      (none_at (IsOutside group) group.texts.items (λ k at. clean (TextOutside g k) (at_group plan _ g d less at)) t e in_group);
 }

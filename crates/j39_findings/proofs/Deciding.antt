@@ -7,6 +7,7 @@ use Rattle.std.proofs.lemmas.List.Sums.{sum_by-cons}
 use Rattle.std.proofs.lemmas.Bool.{false≢true, leb-true, le-leb, cases_Bool, cases_lt}
 use Rattle.std.proofs.lemmas.Bool.Decides.{Decides-eqb, Decides-and, Decides-or, Decides-not, Decides-like, Decides-ltb}
 use Rattle.std.proofs.lemmas.Option.{none-some, same_Some}
+use Rattle.std.proofs.lemmas.Slice.Eq.{bytes_eq-Decides}
 use Rattle.std.specs.FinSet.{FinSet}
 use Rattle.std.specs.Ordering.{nat_cmp}
 use Rattle.j39_id.specs.Name.{is_arbitrary}
@@ -18,17 +19,19 @@ use Rattle.j39_id.specs.Services.{service_groups}
 use Rattle.j39_signal.specs.Parts.{SignalParts}
 use Rattle.j39_signal.specs.Places.{WidthFits, IsInside, SharesBit, shares_bit}
 use Rattle.j39_signal.proofs.Sharing.{shared_by_test}
-use Rattle.j39_findings.specs.ListPlaces.{SoManyMeet, ValueAt}
+use Rattle.j39_findings.specs.ListPlaces.{SomeMeets, SoManyMeet, ValueAt}
 use Rattle.j39_findings.specs.declared.plan.unit_plan.UnitPlan.{UnitPlan}
 use Rattle.j39_findings.specs.declared.plan.group_plan.GroupPlan.{GroupPlan}
 use Rattle.j39_findings.specs.declared.plan.flow_plan.FlowPlan.{FlowPlan}
+use Rattle.j39_findings.specs.declared.plan.text_plan.TextPlan.{TextPlan}
+use Rattle.j39_findings.specs.TextPlaces.{last_byte}
 use Rattle.j39_findings.specs.declared.plan.to.To.{To}
 use Rattle.j39_findings.specs.declared.plan.to.To.TheVariants.{All, One}
-use Rattle.j39_findings.specs.Findings.{HaveSameName, HaveSameFixedAddress, NeedsPoolAddress, PrefersKept, IsProprietary, CannotBePlanned}
-use Rattle.j39_findings.specs.Findings.{HasBadPgn, HaveSamePgn, IsOneFrameToAll, CannotGoToOne, GoesToItsSender, AreOneFlow}
-use Rattle.j39_findings.specs.Found.{have_same_name, have_same_fixed_address, needs_pool_address, prefers_kept, cannot_be_planned}
-use Rattle.j39_findings.specs.Found.{has_bad_pgn, have_same_pgn, has_other_width, ends_outside, is_one_frame_to_all, is_group_of}
-use Rattle.j39_findings.specs.Found.{is_to_one, is_to, have_same_receiver, cannot_go_to_one, goes_to_its_sender, are_one_flow}
+use Rattle.j39_findings.specs.Findings.{HaveSameName, HaveSameFixedAddress, NeedsPoolAddress, PrefersKept, IsProprietary, IsForNoPlan}
+use Rattle.j39_findings.specs.Findings.{IsWronglyPrivate, HasBadPgn, Sends, DoReceiversMeet, AreSentTogether, HaveSamePgn, IsPrivateUnsent, IsOneFrameToAll, MayBeOneFrameToAll, CannotGoToOne, GoesToItsSender, AreOneFlow, IsOutside}
+use Rattle.j39_findings.specs.Found.{have_same_name, have_same_fixed_address, needs_pool_address, prefers_kept, is_for_no_plan, is_wrongly_private}
+use Rattle.j39_findings.specs.Found.{has_bad_pgn, sends, do_receivers_meet, sends_beside, are_sent_together, have_same_pgn, is_private_unsent, has_other_width, ends_outside, is_one_frame_to_all, may_be_one_frame_to_all, is_group_of}
+use Rattle.j39_findings.specs.Found.{is_to_one, is_to, have_same_receiver, cannot_go_to_one, goes_to_its_sender, are_one_flow, lies_outside}
 
 Decides-leb : (a b : ℕ) → Decides (nat_le a b) (a ≤ b)
 Decides-leb a b = (leb-true a b, le-leb a b)
@@ -117,16 +120,17 @@ Decides-list_any : (n : ℕ) (xs : List ℕ) → Decides (list_any (λ x. x == n
 Decides-list_any n [] = (λ e. absurd (false≢true e), λ h. absurd (omega arith))
 Decides-list_any n (x ∷ xs) = Decides-like _ (contains_from n x xs) (contains_parts n x xs) (Decides-or _ _ (Decides-eqb x n) (Decides-list_any n xs))
 
-pub Decides-cannot_be_planned : (n : ℕ) → Decides (cannot_be_planned n) (CannotBePlanned n)
-Decides-cannot_be_planned n =
-    Decides-or _ _ (Decides-not _ (Decides-is_pgn n)) (Decides-or _ _ (Decides-leb extended_page n)
-    (Decides-or _ _ (Decides-is_proprietary n) (Decides-list_any n service_groups)))
+Decides-is_for_no_plan : (n : ℕ) → Decides (is_for_no_plan n) (IsForNoPlan n)
+Decides-is_for_no_plan n =
+    Decides-or _ _ (Decides-not _ (Decides-is_pgn n)) (Decides-or _ _ (Decides-leb extended_page n) (Decides-list_any n service_groups))
+
+Decides-is_wrongly_private : (g : GroupPlan) → Decides (is_wrongly_private g) (IsWronglyPrivate g)
+Decides-is_wrongly_private g =
+    let own = Decides-is_proprietary g.pgn in
+    Decides-or _ _ (Decides-and _ _ (not_is g.private) own) (Decides-and _ _ (λ e. e, λ e. e) (Decides-not _ own))
 
 pub Decides-has_bad_pgn : (g : GroupPlan) → Decides (has_bad_pgn g) (HasBadPgn g)
-Decides-has_bad_pgn g = Decides-cannot_be_planned g.pgn
-
-pub Decides-have_same_pgn : (g h : GroupPlan) → Decides (have_same_pgn g h) (HaveSamePgn g h)
-Decides-have_same_pgn g h = Decides-eqb g.pgn h.pgn
+Decides-has_bad_pgn g = Decides-or _ _ (Decides-is_for_no_plan g.pgn) (Decides-is_wrongly_private g)
 
 -- ---- signals
 
@@ -138,6 +142,11 @@ Decides-ends_outside length s = Decides-not _ (Decides-leb _ _)
 
 pub Decides-shares_bit : (s t : SignalParts) → Decides (shares_bit s t) (SharesBit s t)
 Decides-shares_bit s t = shared_by_test s t
+
+-- ---- texts
+
+pub Decides-lies_outside : (g : GroupPlan) (t : TextPlan) → Decides (lies_outside g t) (IsOutside g t)
+Decides-lies_outside g t = Decides-or _ _ (Decides-ltb (g.length + 1) t.byte) (Decides-ltb g.most (last_byte t))
 
 -- ---- flows
 
@@ -154,18 +163,34 @@ Decides-have_same_receiver All All = (λ e. refl, λ e. refl)
 Decides-have_same_receiver All (One receiver) = (λ e. absurd (false≢true e), λ e. cc)
 Decides-have_same_receiver (One receiver) other = Decides-like _ (λ e. sym e) (λ e. sym e) (Decides-is_to other receiver)
 
-one_frame_decides : (g : GroupPlan) → Decides (is_one_frame_to_all g) (IsOneFrameToAll g)
-one_frame_decides g = Decides-and _ _ (Decides-leb pdu2_first (pf_of g.pgn)) (Decides-leb g.length frame_bytes)
+-- the first value meets P, or one behind it
+some_from : {A : Type 0} (P : A → Type 0) (x : A) (xs : List A) → P x ⊎ SomeMeets P xs → SomeMeets P (x ∷ xs)
+some_from P x xs (inl here) = (0, record { value = x; value_is = refl; meets = here })
+some_from P x xs (inr (i, v)) = (suc i, record { value = v.value; value_is = v.value_is; meets = v.meets })
 
-group_of_decides : (gs : List GroupPlan) (i : ℕ) (o : Option GroupPlan) → slice_get gs i ≡ o
-    → Decides (is_group_of is_one_frame_to_all o) (ValueAt IsOneFrameToAll gs i)
-group_of_decides gs i None is = (λ e. absurd (false≢true e), λ v. absurd (none-some _ (sym is ∙ v.value_is)))
-group_of_decides gs i (Some g) is =
+some_parts : {A : Type 0} (P : A → Type 0) (x : A) (xs : List A) → SomeMeets P (x ∷ xs) → P x ⊎ SomeMeets P xs
+some_parts P x xs (zero, v) = inl (subst P (sym (same_Some _ _ v.value_is)) v.meets)
+some_parts P x xs (suc i, v) = inr (i, record { value = v.value; value_is = v.value_is; meets = v.meets })
+
+some_decides : {A : Type 0} {test : A → Bool} (P : A → Type 0) → ((x : A) → Decides (test x) (P x)) → (xs : List A) → Decides (list_any test xs) (SomeMeets P xs)
+some_decides P by [] = (λ e. absurd (false≢true e), λ (i, v). absurd (none-some _ v.value_is))
+some_decides P by (x ∷ xs) = Decides-like _ (some_from P x xs) (some_parts P x xs) (Decides-or _ _ (by x) (some_decides P by xs))
+
+one_frame_decides : (g : GroupPlan) → Decides (is_one_frame_to_all g) (IsOneFrameToAll g)
+one_frame_decides g = Decides-and _ _ (Decides-leb pdu2_first (pf_of g.pgn)) (Decides-leb g.most frame_bytes)
+
+some_frame_decides : (g : GroupPlan) → Decides (may_be_one_frame_to_all g) (MayBeOneFrameToAll g)
+some_frame_decides g = Decides-and _ _ (Decides-leb pdu2_first (pf_of g.pgn)) (Decides-leb g.length frame_bytes)
+
+group_of_decides : {test : GroupPlan → Bool} (P : GroupPlan → Type 0) → ((g : GroupPlan) → Decides (test g) (P g)) → (gs : List GroupPlan) (i : ℕ) (o : Option GroupPlan)
+    → slice_get gs i ≡ o → Decides (is_group_of test o) (ValueAt P gs i)
+group_of_decides P by gs i None is = (λ e. absurd (false≢true e), λ v. absurd (none-some _ (sym is ∙ v.value_is)))
+group_of_decides P by gs i (Some g) is =
     Decides-like _ (λ h. record { value = g; value_is = is; meets = h })
-    (λ v. subst IsOneFrameToAll (same_Some _ _ (sym v.value_is ∙ is)) v.meets) (one_frame_decides g)
+    (λ v. subst P (same_Some _ _ (sym v.value_is ∙ is)) v.meets) (by g)
 
 pub Decides-cannot_go_to_one : (gs : List GroupPlan) (f : FlowPlan) → Decides (cannot_go_to_one gs f) (CannotGoToOne gs f)
-Decides-cannot_go_to_one gs f = Decides-and _ _ (Decides-is_to_one f.to) (group_of_decides gs f.group (slice_get gs f.group) refl)
+Decides-cannot_go_to_one gs f = Decides-and _ _ (Decides-is_to_one f.to) (group_of_decides IsOneFrameToAll one_frame_decides gs f.group (slice_get gs f.group) refl)
 
 pub Decides-goes_to_its_sender : (f : FlowPlan) → Decides (goes_to_its_sender f) (GoesToItsSender f)
 Decides-goes_to_its_sender f = Decides-is_to f.to f.sender
@@ -174,3 +199,50 @@ pub Decides-are_one_flow : (f h : FlowPlan) → Decides (are_one_flow f h) (AreO
 Decides-are_one_flow f h =
     Decides-like _ (λ p. (p.0, p.1.0, p.1.1)) (λ p. (p.0, (p.1, p.2)))
     (Decides-and _ _ (Decides-eqb f.group h.group) (Decides-and _ _ (Decides-eqb f.sender h.sender) (Decides-have_same_receiver f.to h.to)))
+
+-- ---- private groups
+
+all_from : (to : To) → not (is_to_one to) ≡ true → to ≡ All
+all_from All is = refl
+all_from (One receiver) is = absurd (false≢true is)
+
+is_all : (to : To) → to ≡ All → not (is_to_one to) ≡ true
+is_all All is = refl
+is_all (One receiver) is = cc
+
+to_all_decides : (to : To) → Decides (not (is_to_one to)) (to ≡ All)
+to_all_decides to = (all_from to, is_all to)
+
+Decides-sends : (gs : List GroupPlan) (g : GroupPlan) (f : FlowPlan) → Decides (sends gs g f) (Sends gs g f)
+Decides-sends gs g f =
+    group_of_decides (λ sent. sent.label.bytes ≡ g.label.bytes) (λ sent. bytes_eq-Decides sent.label.bytes g.label.bytes) gs f.group (slice_get gs f.group) refl
+
+Decides-do_receivers_meet : (g h : GroupPlan) (f k : FlowPlan) → Decides (do_receivers_meet g h f k) (DoReceiversMeet g h f k)
+Decides-do_receivers_meet g h f k =
+    Decides-or _ _ (to_all_decides f.to) (Decides-or _ _ (to_all_decides k.to)
+    (Decides-or _ _ (Decides-have_same_receiver f.to k.to) (Decides-and _ _ (some_frame_decides g) (some_frame_decides h))))
+
+beside_decides : (gs : List GroupPlan) (g h : GroupPlan) (f k : FlowPlan)
+    → Decides (sends_beside gs g h f k) ((k.sender ≡ f.sender) × Sends gs h k × DoReceiversMeet g h f k)
+beside_decides gs g h f k =
+    Decides-like _ (λ p. (p.0, p.1.0, p.1.1)) (λ p. (p.0, (p.1, p.2)))
+    (Decides-and _ _ (Decides-eqb k.sender f.sender) (Decides-and _ _ (Decides-sends gs h k) (Decides-do_receivers_meet g h f k)))
+
+Decides-are_sent_together : (gs : List GroupPlan) (fs : List FlowPlan) (g h : GroupPlan)
+    → Decides (are_sent_together gs fs g h) (AreSentTogether gs fs g h)
+Decides-are_sent_together gs fs g h =
+    some_decides (λ f. Sends gs g f × SomeMeets (λ k. (k.sender ≡ f.sender) × Sends gs h k × DoReceiversMeet g h f k) fs)
+    (λ f. Decides-and _ _ (Decides-sends gs g f)
+    (some_decides (λ k. (k.sender ≡ f.sender) × Sends gs h k × DoReceiversMeet g h f k) (beside_decides gs g h f) fs)) fs
+
+pub Decides-have_same_pgn : (gs : List GroupPlan) (fs : List FlowPlan) (g h : GroupPlan) → Decides (have_same_pgn gs fs g h) (HaveSamePgn gs fs g h)
+Decides-have_same_pgn gs fs g h =
+    Decides-and _ _ (Decides-eqb g.pgn h.pgn)
+    (Decides-or _ _ (not_is g.private) (Decides-or _ _ (not_is h.private) (Decides-are_sent_together gs fs g h)))
+
+pub Decides-sends_some : (gs : List GroupPlan) (fs : List FlowPlan) (g : GroupPlan) → Decides (list_any (sends gs g) fs) (SomeMeets (Sends gs g) fs)
+Decides-sends_some gs fs g = some_decides (Sends gs g) (Decides-sends gs g) fs
+
+pub Decides-is_private_unsent : (gs : List GroupPlan) (fs : List FlowPlan) (g : GroupPlan) → Decides (is_private_unsent gs fs g) (IsPrivateUnsent gs fs g)
+Decides-is_private_unsent gs fs g =
+    Decides-and _ _ (λ e. e, λ e. e) (Decides-not _ (Decides-sends_some gs fs g))

@@ -4,24 +4,23 @@ use Rattle.std.proofs.Common.{Some, Contains, Decides, refl, sym, ◌∙◌, ap,
 use Rattle.std.specs.List.{slice_get}
 use Rattle.std.proofs.lemmas.Bool.Decides.{Decides-ltb}
 use Rattle.std.proofs.lemmas.List.Elements.{Contains-append_cases}
-use Rattle.j39_signal.specs.Parts.{SignalParts}
 use Rattle.j39_signal.specs.Places.{WidthFits, IsInside, SharesBit, shares_bit}
 use Rattle.j39_findings.specs.declared.plan.Plan.{Plan}
 use Rattle.j39_findings.specs.declared.plan.group_plan.GroupPlan.{GroupPlan}
 use Rattle.j39_findings.specs.declared.checking.finding.Finding.{Finding}
 use Rattle.j39_findings.specs.declared.checking.finding.Finding.TheVariants.{SameName, SameFixedAddress, TooFewAddresses, BadPgn, SamePgn, SignalWidth}
-use Rattle.j39_findings.specs.declared.checking.finding.Finding.TheVariants.{SignalOutside, SignalOverlap, FlowToOne, FlowToSelf, FlowRepeated, KeptAddress}
+use Rattle.j39_findings.specs.declared.checking.finding.Finding.TheVariants.{SignalOutside, SignalOverlap, FlowToOne, FlowToSelf, FlowRepeated, KeptAddress, PrivateUnsent, TextOutside}
 use Rattle.j39_findings.specs.ListPlaces.{in_each, each, pairs, ValueAt, PairAt}
 use Rattle.j39_claim.specs.AddressSets.{free_count}
 use Rattle.j39_findings.specs.Findings.{HaveSameName, HaveSameFixedAddress, HasBadPgn, HaveSamePgn, CannotGoToOne}
-use Rattle.j39_findings.specs.Findings.{GoesToItsSender, AreOneFlow, Holds, PrefersKept, IsBefore, IsBelow, finding_number, places_of}
+use Rattle.j39_findings.specs.Findings.{GoesToItsSender, AreOneFlow, Holds, PrefersKept, IsPrivateUnsent, IsOutside, IsBefore, IsBelow, finding_number, places_of}
 use Rattle.j39_findings.specs.Found.{needed_addresses, too_few_addresses, unit_findings, group_findings, has_other_width}
-use Rattle.j39_findings.specs.Found.{ends_outside, overlap_findings, signal_findings, flow_findings, kept_findings}
+use Rattle.j39_findings.specs.Found.{ends_outside, lies_outside, overlap_findings, signal_findings, flow_findings, kept_findings, unsent_findings, text_findings}
 use Rattle.j39_findings.proofs.Members.{of_in_each, of_found_if, of_each, of_pairs}
 use Rattle.j39_findings.proofs.Rising.{Rises, Rises-append, Rises-found_if, Rises-in_each, Rises-each, Rises-pairs}
 use Rattle.j39_findings.proofs.Deciding.{Decides-have_same_name, Decides-have_same_fixed_address, Decides-needs_pool_address, Decides-has_bad_pgn, passing_meet}
 use Rattle.j39_findings.proofs.Deciding.{Decides-have_same_pgn, Decides-has_other_width, Decides-ends_outside, Decides-shares_bit}
-use Rattle.j39_findings.proofs.Deciding.{Decides-cannot_go_to_one, Decides-goes_to_its_sender, Decides-are_one_flow, Decides-prefers_kept}
+use Rattle.j39_findings.proofs.Deciding.{Decides-cannot_go_to_one, Decides-goes_to_its_sender, Decides-are_one_flow, Decides-prefers_kept, Decides-is_private_unsent, Decides-lies_outside}
 
 -- findings of numbers from low to high that hold, in order
 pub record Covers (plan : Plan) (low high : ℕ) (findings : List Finding) : Type 0 where
@@ -130,21 +129,22 @@ units_covered plan =
 
 -- ---- groups
 
-pub groups_covered : (plan : Plan) → Covers plan 4 5 (group_findings plan.groups.items)
+pub groups_covered : (plan : Plan) → Covers plan 4 5 (group_findings plan.groups.items plan.flows.items)
 unfolding group_findings
 groups_covered plan =
     Covers-append plan 4 4 5 5 _ _ (omega arith) (omega arith) (omega arith)
     (each_family plan 4 HasBadPgn Decides-has_bad_pgn BadPgn plan.groups.items (λ i h. h) (λ i. record { number = refl; places = refl }))
-    (pairs_family plan 5 HaveSamePgn Decides-have_same_pgn SamePgn plan.groups.items (λ i j h. h) (λ i j. record { number = refl; places = refl }))
+    (pairs_family plan 5 (HaveSamePgn plan.groups.items plan.flows.items) (Decides-have_same_pgn plan.groups.items plan.flows.items) SamePgn plan.groups.items
+    (λ i j h. h) (λ i j. record { number = refl; places = refl }))
 
--- ---- signals
+-- ---- signals and texts
 
-signals_family : (plan : Plan) (n : ℕ) (find : ℕ → GroupPlan → List Finding)
+inside_family : (plan : Plan) (n : ℕ) (find : ℕ → GroupPlan → List Finding)
     → ((g : ℕ) (group : GroupPlan) (f : Finding) → slice_get plan.groups.items g ≡ Some group → Contains (find g group) f → Holds plan f)
     → ((g : ℕ) (group : GroupPlan) (f : Finding) → Contains (find g group) f → IsOfGroup n g f)
     → ((g : ℕ) (group : GroupPlan) → Rises IsBefore (find g group))
     → Covers plan n n (in_each find 0 plan.groups.items)
-signals_family plan n find holds named within =
+inside_family plan n find holds named within =
     family plan n (in_each find 0 plan.groups.items)
     (λ f h.
     let r = of_in_each find 0 plan.groups.items f h in
@@ -153,27 +153,27 @@ signals_family plan n find holds named within =
     (Rises-in_each IsBefore find within
     (λ k l x y f g less in_k in_l. below_by_group n k l f g less (named k x f in_k) (named l y g in_l)) 0 plan.groups.items)
 
--- one finding for each signal that meets P of its group
-each_signal : (plan : Plan) (n : ℕ) (test : GroupPlan → SignalParts → Bool) (P : GroupPlan → SignalParts → Type 0)
-    → ((group : GroupPlan) (s : SignalParts) → Decides (test group s) (P group s))
+-- one finding for each of a group's signals, or of its texts, that meets P of the group
+each_inside : {A : Type 0} (plan : Plan) (n : ℕ) (inside : GroupPlan → List A) (test : GroupPlan → A → Bool) (P : GroupPlan → A → Type 0)
+    → ((group : GroupPlan) (x : A) → Decides (test group x) (P group x))
     → (make : ℕ → ℕ → Finding)
-    → ((g s : ℕ) → ValueAt (λ group. ValueAt (P group) group.signals.items s) plan.groups.items g → Holds plan (make g s))
+    → ((g s : ℕ) → ValueAt (λ group. ValueAt (P group) (inside group) s) plan.groups.items g → Holds plan (make g s))
     → ((g s : ℕ) → Names n (g ∷ s ∷ []) (make g s))
-    → Covers plan n n (in_each (λ g group. each (test group) (make g) 0 group.signals.items) 0 plan.groups.items)
-each_signal plan n test P decides make holds named =
-    signals_family plan n (λ g group. each (test group) (make g) 0 group.signals.items)
+    → Covers plan n n (in_each (λ g group. each (test group) (make g) 0 (inside group)) 0 plan.groups.items)
+each_inside plan n inside test P decides make holds named =
+    inside_family plan n (λ g group. each (test group) (make g) 0 (inside group))
     (λ g group f is h.
-    let r = of_each (P group) (decides group) (make g) group.signals.items f h in
+    let r = of_each (P group) (decides group) (make g) (inside group) f h in
     holds_at plan f (make g r.0) r.1 (holds g r.0 (record { value = group; value_is = is; meets = r.2 })))
     (λ g group f h.
-    let r = of_each (P group) (decides group) (make g) group.signals.items f h in
+    let r = of_each (P group) (decides group) (make g) (inside group) f h in
     of_group n g f (make g r.0) r.1 (record { rest = r.0 ∷ []; names = named g r.0 }))
     (λ g group. Rises-each IsBefore (test group) (make g)
-    (λ k l less. before n _ _ (make g k) (make g l) (named g k) (named g l) (inr (refl, inl less))) 0 group.signals.items)
+    (λ k l less. before n _ _ (make g k) (make g l) (named g k) (named g l) (inr (refl, inl less))) 0 (inside group))
 
 overlaps_covered : (plan : Plan) → Covers plan 8 8 (in_each overlap_findings 0 plan.groups.items)
 overlaps_covered plan =
-    signals_family plan 8 overlap_findings
+    inside_family plan 8 overlap_findings
     (λ g group f is h.
     let r = of_pairs SharesBit Decides-shares_bit (SignalOverlap g) group.signals.items f h in
     holds_at plan f (SignalOverlap g r.0 r.1) r.2 (record { value = group; value_is = is; meets = r.3 }))
@@ -187,10 +187,10 @@ pub signals_covered : (plan : Plan) → Covers plan 6 8 (signal_findings plan.gr
 unfolding signal_findings
 signals_covered plan =
     Covers-append plan 6 6 7 8 _ _ (omega arith) (omega arith) (omega arith)
-    (each_signal plan 6 (λ group. has_other_width) (λ group s. ¬ WidthFits s) (λ group. Decides-has_other_width) SignalWidth
+    (each_inside plan 6 (λ group. group.signals.items) (λ group. has_other_width) (λ group s. ¬ WidthFits s) (λ group. Decides-has_other_width) SignalWidth
     (λ g s h. h) (λ g s. record { number = refl; places = refl }))
     (Covers-append plan 7 7 8 8 _ _ (omega arith) (omega arith) (omega arith)
-    (each_signal plan 7 (λ group. ends_outside group.length) (λ group s. ¬ IsInside group.length s)
+    (each_inside plan 7 (λ group. group.signals.items) (λ group. ends_outside group.length) (λ group s. ¬ IsInside group.length s)
     (λ group. Decides-ends_outside group.length) SignalOutside (λ g s h. h) (λ g s. record { number = refl; places = refl }))
     (overlaps_covered plan))
 
@@ -215,3 +215,21 @@ unfolding kept_findings
 kept_covered plan =
     each_family plan 12 (PrefersKept plan.keep_free) (Decides-prefers_kept plan.keep_free) KeptAddress plan.units.items (λ i h. h)
     (λ i. record { number = refl; places = refl })
+
+-- ---- private groups that nobody sends
+
+pub unsent_covered : (plan : Plan) → Covers plan 13 13 (unsent_findings plan.groups.items plan.flows.items)
+unfolding unsent_findings
+unsent_covered plan =
+    let groups = plan.groups.items in
+    let flows = plan.flows.items in
+    each_family plan 13 (IsPrivateUnsent groups flows) (Decides-is_private_unsent groups flows) PrivateUnsent groups (λ i h. h)
+    (λ i. record { number = refl; places = refl })
+
+-- ---- texts
+
+pub texts_covered : (plan : Plan) → Covers plan 15 15 (text_findings plan.groups.items)
+unfolding text_findings
+texts_covered plan =
+    each_inside plan 15 (λ group. group.texts.items) lies_outside IsOutside Decides-lies_outside TextOutside (λ g t h. h)
+    (λ g t. record { number = refl; places = refl })

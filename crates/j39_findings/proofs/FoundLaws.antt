@@ -8,51 +8,58 @@ use Rattle.j39_findings.specs.declared.plan.Plan.{Plan}
 use Rattle.j39_findings.specs.declared.plan.group_plan.GroupPlan.{GroupPlan}
 use Rattle.j39_findings.specs.declared.checking.finding.Finding.{Finding}
 use Rattle.j39_findings.specs.declared.checking.finding.Finding.TheVariants.{SameName, SameFixedAddress, TooFewAddresses, BadPgn, SamePgn, SignalWidth}
-use Rattle.j39_findings.specs.declared.checking.finding.Finding.TheVariants.{SignalOutside, SignalOverlap, FlowToOne, FlowToSelf, FlowRepeated, KeptAddress}
+use Rattle.j39_findings.specs.declared.checking.finding.Finding.TheVariants.{SignalOutside, SignalOverlap, FlowToOne, FlowToSelf, FlowRepeated, KeptAddress, PrivateUnsent, TextOutside}
 use Rattle.j39_findings.specs.ListPlaces.{in_each, each, pairs}
 use Rattle.j39_claim.specs.AddressSets.{free_count}
 use Rattle.j39_findings.specs.Findings.{HaveSameName, HaveSameFixedAddress, HasBadPgn, HaveSamePgn, CannotGoToOne}
-use Rattle.j39_findings.specs.Findings.{GoesToItsSender, AreOneFlow, PrefersKept, Holds, IsBefore, AreFindings, Clean}
+use Rattle.j39_findings.specs.Findings.{GoesToItsSender, AreOneFlow, PrefersKept, IsPrivateUnsent, IsOutside, Holds, IsBefore, AreFindings, Clean}
 use Rattle.j39_findings.specs.Found.{have_same_name, have_same_fixed_address, needed_addresses, too_few_addresses, unit_findings, has_bad_pgn, have_same_pgn}
 use Rattle.j39_findings.specs.Found.{group_findings, width_findings, outside_findings, overlap_findings, signal_findings, cannot_go_to_one}
-use Rattle.j39_findings.specs.Found.{goes_to_its_sender, are_one_flow, flow_findings, prefers_kept, kept_findings, found}
+use Rattle.j39_findings.specs.Found.{goes_to_its_sender, are_one_flow, flow_findings, prefers_kept, kept_findings, is_private_unsent, unsent_findings, outside_text_findings, text_findings, found}
 use Rattle.j39_findings.proofs.Members.{in_each_of, found_if_of, each_of, pairs_of}
 use Rattle.j39_findings.proofs.Rising.{AllPairs-from_Rises}
 use Rattle.j39_findings.proofs.Deciding.{Decides-have_same_name, Decides-have_same_fixed_address, Decides-needs_pool_address, Decides-has_bad_pgn, meeting_pass}
 use Rattle.j39_findings.proofs.Deciding.{Decides-have_same_pgn, Decides-has_other_width, Decides-ends_outside, Decides-shares_bit}
-use Rattle.j39_findings.proofs.Deciding.{Decides-cannot_go_to_one, Decides-goes_to_its_sender, Decides-are_one_flow, Decides-prefers_kept}
-use Rattle.j39_findings.proofs.Families.{Covers, Covers-append, units_covered, groups_covered, signals_covered, flows_covered, kept_covered}
+use Rattle.j39_findings.proofs.Deciding.{Decides-cannot_go_to_one, Decides-goes_to_its_sender, Decides-are_one_flow, Decides-prefers_kept, Decides-is_private_unsent, Decides-lies_outside}
+use Rattle.j39_findings.proofs.Families.{Covers, Covers-append, units_covered, groups_covered, signals_covered, flows_covered, kept_covered, unsent_covered, texts_covered}
 
-found_covered : (plan : Plan) → Covers plan 1 12 (found plan)
+found_covered : (plan : Plan) → Covers plan 1 15 (found plan)
 unfolding found
 found_covered plan =
-    Covers-append plan 1 3 4 12 _ _ (omega arith) (omega arith) (omega arith) (units_covered plan)
-    (Covers-append plan 4 5 6 12 _ _ (omega arith) (omega arith) (omega arith) (groups_covered plan)
-    (Covers-append plan 6 8 9 12 _ _ (omega arith) (omega arith) (omega arith) (signals_covered plan)
-    (Covers-append plan 9 11 12 12 _ _ (omega arith) (omega arith) (omega arith) (flows_covered plan) (kept_covered plan))))
+    Covers-append plan 1 3 4 15 _ _ (omega arith) (omega arith) (omega arith) (units_covered plan)
+    (Covers-append plan 4 5 6 15 _ _ (omega arith) (omega arith) (omega arith) (groups_covered plan)
+    (Covers-append plan 6 8 9 15 _ _ (omega arith) (omega arith) (omega arith) (signals_covered plan)
+    (Covers-append plan 9 11 12 15 _ _ (omega arith) (omega arith) (omega arith) (flows_covered plan)
+    (Covers-append plan 12 12 13 15 _ _ (omega arith) (omega arith) (omega arith) (kept_covered plan)
+    (Covers-append plan 13 13 15 15 _ _ (omega arith) (omega arith) (omega arith) (unsent_covered plan) (texts_covered plan))))))
 
 in_units : (plan : Plan) (f : Finding) → Contains (unit_findings plan.keep_free plan.units.items) f → Contains (found plan) f
 unfolding found
 in_units plan f h = Contains-append_left (unit_findings plan.keep_free plan.units.items) _ f h
 
-in_groups : (plan : Plan) (f : Finding) → Contains (group_findings plan.groups.items) f → Contains (found plan) f
+in_groups : (plan : Plan) (f : Finding) → Contains (group_findings plan.groups.items plan.flows.items) f → Contains (found plan) f
 unfolding found
 in_groups plan f h =
-    Contains-append_right (unit_findings plan.keep_free plan.units.items) _ f (Contains-append_left (group_findings plan.groups.items) _ f h)
+    Contains-append_right (unit_findings plan.keep_free plan.units.items) _ f (Contains-append_left (group_findings plan.groups.items plan.flows.items) _ f h)
 
 in_signals : (plan : Plan) (f : Finding) → Contains (signal_findings plan.groups.items) f → Contains (found plan) f
 unfolding found
 in_signals plan f h =
     Contains-append_right (unit_findings plan.keep_free plan.units.items) _ f
-    (Contains-append_right (group_findings plan.groups.items) _ f (Contains-append_left (signal_findings plan.groups.items) _ f h))
+    (Contains-append_right (group_findings plan.groups.items plan.flows.items) _ f (Contains-append_left (signal_findings plan.groups.items) _ f h))
 
--- among the flows' findings, and those behind them
-in_rest : (plan : Plan) (f : Finding) → Contains (flow_findings plan.groups.items plan.flows.items ++ kept_findings plan.keep_free plan.units.items) f
-    → Contains (found plan) f
+-- the findings of the flows, and those behind them
+abbrev pub rest : Plan → List Finding
+rest plan =
+    flow_findings plan.groups.items plan.flows.items
+    ++ (kept_findings plan.keep_free plan.units.items
+    ++ (unsent_findings plan.groups.items plan.flows.items ++ text_findings plan.groups.items))
+
+in_rest : (plan : Plan) (f : Finding) → Contains (rest plan) f → Contains (found plan) f
 unfolding found
 in_rest plan f h =
     Contains-append_right (unit_findings plan.keep_free plan.units.items) _ f
-    (Contains-append_right (group_findings plan.groups.items) _ f (Contains-append_right (signal_findings plan.groups.items) _ f h))
+    (Contains-append_right (group_findings plan.groups.items plan.flows.items) _ f (Contains-append_right (signal_findings plan.groups.items) _ f h))
 
 in_flows : (plan : Plan) (f : Finding) → Contains (flow_findings plan.groups.items plan.flows.items) f → Contains (found plan) f
 in_flows plan f h = in_rest plan f (Contains-append_left (flow_findings plan.groups.items plan.flows.items) _ f h)
@@ -60,12 +67,28 @@ in_flows plan f h = in_rest plan f (Contains-append_left (flow_findings plan.gro
 kept_found : (plan : Plan) (f : Finding) → Contains (each (prefers_kept plan.keep_free) KeptAddress 0 plan.units.items) f → Contains (found plan) f
 unfolding kept_findings
 kept_found plan f h =
-    in_rest plan f (Contains-append_right (flow_findings plan.groups.items plan.flows.items) (kept_findings plan.keep_free plan.units.items) f h)
+    in_rest plan f (Contains-append_right (flow_findings plan.groups.items plan.flows.items) _ f
+    (Contains-append_left (kept_findings plan.keep_free plan.units.items) _ f h))
 
-of_signal : (plan : Plan) (find : ℕ → GroupPlan → List Finding) (g : ℕ) (group : GroupPlan) (f : Finding)
+unsent_found : (plan : Plan) (f : Finding)
+    → Contains (each (is_private_unsent plan.groups.items plan.flows.items) PrivateUnsent 0 plan.groups.items) f → Contains (found plan) f
+unfolding unsent_findings
+unsent_found plan f h =
+    in_rest plan f (Contains-append_right (flow_findings plan.groups.items plan.flows.items) _ f
+    (Contains-append_right (kept_findings plan.keep_free plan.units.items) _ f
+    (Contains-append_left (unsent_findings plan.groups.items plan.flows.items) _ f h)))
+
+text_found : (plan : Plan) (f : Finding) → Contains (in_each outside_text_findings 0 plan.groups.items) f → Contains (found plan) f
+unfolding text_findings
+text_found plan f h =
+    in_rest plan f (Contains-append_right (flow_findings plan.groups.items plan.flows.items) _ f
+    (Contains-append_right (kept_findings plan.keep_free plan.units.items) _ f
+    (Contains-append_right (unsent_findings plan.groups.items plan.flows.items) (text_findings plan.groups.items) f h)))
+
+of_group : (plan : Plan) (find : ℕ → GroupPlan → List Finding) (g : ℕ) (group : GroupPlan) (f : Finding)
     → slice_get plan.groups.items g ≡ Some group
     → Contains (find g group) f → Contains (in_each find 0 plan.groups.items) f
-of_signal plan find g group f is h = in_each_of find 0 plan.groups.items f g g group (omega arith) is h
+of_group plan find g group f is h = in_each_of find 0 plan.groups.items f g g group (omega arith) is h
 
 -- in one of the three parts of a list
 of_three : (xs ys zs : List Finding) (f : Finding) → Contains xs f ⊎ (Contains ys f ⊎ Contains zs f) → Contains (xs ++ (ys ++ zs)) f
@@ -84,12 +107,12 @@ unit_found plan f h =
     in_units plan f (of_three names addresses (too_few_addresses plan.keep_free plan.units.items) f h)
 
 group_found : (plan : Plan) (f : Finding)
-    → Contains (each has_bad_pgn BadPgn 0 plan.groups.items) f ⊎ Contains (pairs have_same_pgn SamePgn plan.groups.items) f
+    → Contains (each has_bad_pgn BadPgn 0 plan.groups.items) f ⊎ Contains (pairs (have_same_pgn plan.groups.items plan.flows.items) SamePgn plan.groups.items) f
     → Contains (found plan) f
 unfolding group_findings
 group_found plan f h =
     let bad = each has_bad_pgn BadPgn 0 plan.groups.items in
-    let same = pairs have_same_pgn SamePgn plan.groups.items in
+    let same = pairs (have_same_pgn plan.groups.items plan.flows.items) SamePgn plan.groups.items in
     in_groups plan f (elim h [ inl in_bad ↦ Contains-append_left bad same f in_bad | inr in_same ↦ Contains-append_right bad same f in_same ])
 
 signal_found : (plan : Plan) (f : Finding)
@@ -123,21 +146,27 @@ found_of plan (TooFewAddresses n) (are, more) =
     let passes = (Decides-ltb (free_count plan.keep_free) needed).1 (subst Q is more) in
     unit_found plan _ (inr (inr (subst P (sym is) (found_if_of _ (TooFewAddresses needed) passes))))
 found_of plan (BadPgn g) h = group_found plan _ (inl (each_of HasBadPgn Decides-has_bad_pgn BadPgn plan.groups.items g h))
-found_of plan (SamePgn g k) h = group_found plan _ (inr (pairs_of HaveSamePgn Decides-have_same_pgn SamePgn plan.groups.items g k h))
+found_of plan (SamePgn g k) h = group_found plan _ (inr (pairs_of (HaveSamePgn plan.groups.items plan.flows.items) (Decides-have_same_pgn plan.groups.items plan.flows.items) SamePgn plan.groups.items g k h))
 found_of plan (SignalWidth g s) h =
-    signal_found plan _ (inl (of_signal plan width_findings g h.value (SignalWidth g s) h.value_is
+    signal_found plan _ (inl (of_group plan width_findings g h.value (SignalWidth g s) h.value_is
     (each_of (λ signal. ¬ WidthFits signal) Decides-has_other_width (SignalWidth g) h.value.signals.items s h.meets)))
 found_of plan (SignalOutside g s) h =
-    signal_found plan _ (inr (inl (of_signal plan outside_findings g h.value (SignalOutside g s) h.value_is
+    signal_found plan _ (inr (inl (of_group plan outside_findings g h.value (SignalOutside g s) h.value_is
     (each_of (λ signal. ¬ IsInside h.value.length signal) (Decides-ends_outside h.value.length) (SignalOutside g) h.value.signals.items s h.meets))))
 found_of plan (SignalOverlap g s t) h =
-    signal_found plan _ (inr (inr (of_signal plan overlap_findings g h.value (SignalOverlap g s t) h.value_is
+    signal_found plan _ (inr (inr (of_group plan overlap_findings g h.value (SignalOverlap g s t) h.value_is
     (pairs_of SharesBit Decides-shares_bit (SignalOverlap g) h.value.signals.items s t h.meets))))
 found_of plan (FlowToOne f) h =
     flow_found plan _ (inl (each_of (CannotGoToOne plan.groups.items) (Decides-cannot_go_to_one plan.groups.items) FlowToOne plan.flows.items f h))
 found_of plan (FlowToSelf f) h = flow_found plan _ (inr (inl (each_of GoesToItsSender Decides-goes_to_its_sender FlowToSelf plan.flows.items f h)))
 found_of plan (KeptAddress i) h =
     kept_found plan _ (each_of (PrefersKept plan.keep_free) (Decides-prefers_kept plan.keep_free) KeptAddress plan.units.items i h)
+found_of plan (PrivateUnsent g) h =
+    unsent_found plan _ (each_of (IsPrivateUnsent plan.groups.items plan.flows.items) (Decides-is_private_unsent plan.groups.items plan.flows.items)
+    PrivateUnsent plan.groups.items g h)
+found_of plan (TextOutside g t) h =
+    text_found plan _ (of_group plan outside_text_findings g h.value (TextOutside g t) h.value_is
+    (each_of (IsOutside h.value) (Decides-lies_outside h.value) (TextOutside g) h.value.texts.items t h.meets))
 found_of plan (FlowRepeated f k) h = flow_found plan _ (inr (inr (pairs_of AreOneFlow Decides-are_one_flow FlowRepeated plan.flows.items f k h)))
 
 pub are_findings : (plan : Plan) → AreFindings plan (found plan)

@@ -5,6 +5,8 @@ pub mod Deciding
 pub mod Families
 pub mod FoundLaws
 pub mod LastWrites
+pub mod Lengths
 pub mod Members
 pub mod PlaceLemmas
+pub mod PrivateGroups
 pub mod Rising

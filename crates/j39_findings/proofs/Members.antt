@@ -1,9 +1,9 @@
 -- What is found of a list, in terms of its values and their places.
 use Rattle.std.proofs.Common.{◌≡◌, ℕ, zero, suc, ◌+◌, ◌-◌, List, [], ◌∷◌, Bool, true, false}
-use Rattle.std.proofs.Common.{drop, Some, Contains, Decides, refl, sym, ◌∙◌, subst, ap, arith, inl, inr}
+use Rattle.std.proofs.Common.{drop, All, Some, Contains, Decides, refl, sym, ◌∙◌, subst, ap, arith, inl, inr}
 use Rattle.std.specs.List.{slice_get}
 use Rattle.std.proofs.lemmas.Bool.{false≢true}
-use Rattle.std.proofs.lemmas.Option.{none-some, same_Some}
+use Rattle.std.proofs.lemmas.Option.{none-some, same_Some, slice_get_within, get_or_from_slice_get}
 use Rattle.std.proofs.lemmas.List.Elements.{Contains-append_cases, Contains-append_left, Contains-append_right}
 use Rattle.j39_findings.specs.ListPlaces.{found_if, in_each, each, pairs, ValueAt, PairAt}
 use Rattle.j39_findings.proofs.PlaceLemmas.{after}
@@ -50,6 +50,10 @@ found_if_of true made h = (0, omega arith, refl)
 found_if_of false made h = absurd (false≢true h)
 
 -- ---- each value
+
+-- what all meet, the value at a place meets
+pub all_at : {A : Type 0} (P : A → Type 0) (xs : List A) → All P xs → (i : ℕ) (x : A) → slice_get xs i ≡ Some x → P x
+all_at P xs all i x is = subst P (get_or_from_slice_get xs i x x is) (all i x (slice_get_within xs i x is))
 
 pub of_each : {A B : Type 0} {test : A → Bool} (P : A → Type 0) → ((x : A) → Decides (test x) (P x)) → (make : ℕ → B) (xs : List A) (f : B)
     → Contains (each test make 0 xs) f → (i : ℕ) × (f ≡ make i) × ValueAt P xs i

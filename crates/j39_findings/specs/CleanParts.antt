@@ -1,14 +1,17 @@
 -- What a clean plan keeps, part by part.
-use Rattle.std.specs.Prelude.{◌≡◌, ◌≢◌, ℕ, true, false, ◌<◌, ◌≤◌, All, AllPairs, Contains}
+use Rattle.std.specs.Prelude.{◌≡◌, ◌≢◌, ℕ, true, false, ◌+◌, ◌<◌, ◌≤◌, ◌↔◌, All, AllPairs, Contains}
 use Rattle.std.specs.FinSet.{contains}
 use Rattle.j39_claim.specs.AddressSets.{free_count}
 use Rattle.j39_id.specs.Name.{is_arbitrary}
 use Rattle.j39_id.specs.Pgn.{IsPgn, extended_page}
 use Rattle.j39_id.specs.Services.{service_groups}
 use Rattle.j39_signal.specs.Places.{LaysOut}
-use Rattle.j39_findings.specs.ListPlaces.{ValueAt, SoManyMeet}
-use Rattle.j39_findings.specs.Findings.{IsFixed, NeedsPoolAddress, IsProprietary, IsToOne, IsOneFrameToAll, AreOneFlow}
+use Rattle.j39_findings.specs.ListPlaces.{ValueAt, SomeMeets, SoManyMeet}
+use Rattle.j39_findings.specs.TextPlaces.{last_byte}
+use Rattle.j39_findings.specs.Findings.{IsFixed, NeedsPoolAddress, IsProprietary, IsToOne, IsOneFrameToAll, AreOneFlow, Sends, AreSentTogether}
 use Rattle.j39_findings.specs.declared.plan.Plan.{Plan}
+use Rattle.j39_findings.specs.declared.plan.group_plan.GroupPlan.{GroupPlan}
+use Rattle.j39_findings.specs.declared.plan.text_plan.TextPlan.{TextPlan}
 use Rattle.j39_findings.specs.declared.plan.unit_plan.UnitPlan.{UnitPlan}
 use Rattle.j39_findings.specs.declared.plan.to.To.TheVariants.{One}
 
@@ -16,21 +19,34 @@ use Rattle.j39_findings.specs.declared.plan.to.To.TheVariants.{One}
 abbrev pub HoldApart : UnitPlan → UnitPlan → Type 0
 HoldApart u v = IsFixed u → IsFixed v → u.address ≢ v.address
 
--- a group of one data page that is neither proprietary nor a service of the network
-pub record CanBePlanned (pgn : ℕ) : Type 0 where
-  pub group : IsPgn pgn
-  pub page : pgn < extended_page
-  pub not_proprietary : ¬ IsProprietary pgn
-  pub not_service : ¬ Contains service_groups pgn
+-- a group of one data page that is no service of the network, and a maker's own exactly where it is private
+pub record CanBePlanned (g : GroupPlan) : Type 0 where
+  pub group : IsPgn g.pgn
+  pub page : g.pgn < extended_page
+  pub own : (g.private ≡ true) ↔ IsProprietary g.pgn
+  pub not_service : ¬ Contains service_groups g.pgn
+
+-- two groups of one number are both private, and no unit sends both to receivers that meet
+pub record HaveOwnPgn (plan : Plan) (g h : GroupPlan) : Type 0 where
+  pub first : g.private ≡ false → g.pgn ≢ h.pgn
+  pub second : h.private ≡ false → g.pgn ≢ h.pgn
+  pub apart : g.pgn ≡ h.pgn → ¬ AreSentTogether plan.groups.items plan.flows.items g h
+
+-- a text begins inside the shortest message or right behind it, and ends inside the longest
+pub record LiesInside (g : GroupPlan) (t : TextPlan) : Type 0 where
+  pub begins : t.byte ≤ g.length + 1
+  pub ends : last_byte t ≤ g.most
 
 pub record CleanParts (plan : Plan) : Type 0 where
   pub names : AllPairs (λ u v. u.name ≢ v.name) plan.units.items
   pub fixed_addresses : AllPairs HoldApart plan.units.items
   pub addresses : (n : ℕ) → SoManyMeet (NeedsPoolAddress plan.keep_free) plan.units.items n → n ≤ free_count plan.keep_free
   pub not_kept : All (λ u. is_arbitrary u.name ≡ true → contains plan.keep_free u.address ≡ false) plan.units.items
-  pub groups : All (λ g. CanBePlanned g.pgn) plan.groups.items
-  pub pgns : AllPairs (λ g h. g.pgn ≢ h.pgn) plan.groups.items
+  pub groups : All CanBePlanned plan.groups.items
+  pub pgns : AllPairs (HaveOwnPgn plan) plan.groups.items
   pub layouts : All (λ g. LaysOut g.length g.signals.items) plan.groups.items
   pub to_one : All (λ f. IsToOne f → ¬ ValueAt IsOneFrameToAll plan.groups.items f.group) plan.flows.items
   pub to_self : All (λ f. f.to ≢ One f.sender) plan.flows.items
   pub flows : AllPairs (λ f h. ¬ AreOneFlow f h) plan.flows.items
+  pub sent : All (λ g. g.private ≡ true → SomeMeets (Sends plan.groups.items g) plan.flows.items) plan.groups.items
+  pub texts : All (λ g. All (LiesInside g) g.texts.items) plan.groups.items

@@ -1,6 +1,6 @@
 -- What can be wrong with a plan: each finding as a plain statement on its units, groups, signals and flows, by their
 -- places from 0 (addresses and NAMEs: SAE J1939-81; groups and their destinations: SAE J1939-21; signals: SAE J1939-71).
-use Rattle.std.specs.Prelude.{◌≡◌, ℕ, ◌<◌, ◌≤◌, ◌⊎◌, List, [], ◌∷◌}
+use Rattle.std.specs.Prelude.{◌≡◌, ℕ, ◌+◌, ◌<◌, ◌≤◌, ◌⊎◌, List, [], ◌∷◌}
 use Rattle.std.specs.Prelude.{true, false, Contains, AllPairs}
 use Rattle.std.specs.FinSet.{FinSet, contains}
 use Rattle.std.specs.Ordering.{nat_cmp}
@@ -11,15 +11,17 @@ use Rattle.j39_id.specs.Pgn.{IsPgn, extended_page, pdu2_first, pf_of}
 use Rattle.j39_id.specs.Proprietary.{proprietary_a, proprietary_a2, proprietary_b_first, proprietary_b_last, proprietary_b2_first, proprietary_b2_last}
 use Rattle.j39_id.specs.Services.{service_groups}
 use Rattle.j39_signal.specs.Places.{WidthFits, IsInside, SharesBit}
-use Rattle.j39_findings.specs.ListPlaces.{ValueAt, PairAt, SoManyMeet}
+use Rattle.j39_findings.specs.ListPlaces.{ValueAt, PairAt, SomeMeets, SoManyMeet}
+use Rattle.j39_findings.specs.TextPlaces.{last_byte}
 use Rattle.j39_findings.specs.declared.plan.Plan.{Plan}
 use Rattle.j39_findings.specs.declared.plan.unit_plan.UnitPlan.{UnitPlan}
 use Rattle.j39_findings.specs.declared.plan.group_plan.GroupPlan.{GroupPlan}
 use Rattle.j39_findings.specs.declared.plan.flow_plan.FlowPlan.{FlowPlan}
-use Rattle.j39_findings.specs.declared.plan.to.To.TheVariants.{One}
+use Rattle.j39_findings.specs.declared.plan.text_plan.TextPlan.{TextPlan}
+use Rattle.j39_findings.specs.declared.plan.to.To.TheVariants.{All, One}
 use Rattle.j39_findings.specs.declared.checking.finding.Finding.{Finding}
 use Rattle.j39_findings.specs.declared.checking.finding.Finding.TheVariants.{SameName, SameFixedAddress, TooFewAddresses, BadPgn, SamePgn, SignalWidth}
-use Rattle.j39_findings.specs.declared.checking.finding.Finding.TheVariants.{SignalOutside, SignalOverlap, FlowToOne, FlowToSelf, FlowRepeated, KeptAddress}
+use Rattle.j39_findings.specs.declared.checking.finding.Finding.TheVariants.{SignalOutside, SignalOverlap, FlowToOne, FlowToSelf, FlowRepeated, KeptAddress, PrivateUnsent, TextOutside}
 
 -- ---- units
 
@@ -51,20 +53,46 @@ IsProprietary pgn =
     ⊎ (((proprietary_b_first ≤ pgn) × (pgn ≤ proprietary_b_last)) ⊎ ((proprietary_b2_first ≤ pgn) × (pgn ≤ proprietary_b2_last))))
 
 -- a number that is no group's, or whose group is not for a plan, as those of the extended data page
-abbrev pub CannotBePlanned : ℕ → Type 0
-CannotBePlanned pgn = (¬ IsPgn pgn) ⊎ ((extended_page ≤ pgn) ⊎ (IsProprietary pgn ⊎ Contains service_groups pgn))
+abbrev pub IsForNoPlan : ℕ → Type 0
+IsForNoPlan pgn = (¬ IsPgn pgn) ⊎ ((extended_page ≤ pgn) ⊎ Contains service_groups pgn)
+
+-- a maker's own number of a group that isn't private, or another one of a group that is
+abbrev pub IsWronglyPrivate : GroupPlan → Type 0
+IsWronglyPrivate group = ((group.private ≡ false) × IsProprietary group.pgn) ⊎ ((group.private ≡ true) × (¬ IsProprietary group.pgn))
 
 abbrev pub HasBadPgn : GroupPlan → Type 0
-HasBadPgn group = CannotBePlanned group.pgn
+HasBadPgn group = IsForNoPlan group.pgn ⊎ IsWronglyPrivate group
 
-abbrev pub HaveSamePgn : GroupPlan → GroupPlan → Type 0
-HaveSamePgn g h = g.pgn ≡ h.pgn
+-- a group each message of which is sent in one frame, and whose frames name no destination
+abbrev pub IsOneFrameToAll : GroupPlan → Type 0
+IsOneFrameToAll group = (pdu2_first ≤ pf_of group.pgn) × (group.most ≤ frame_bytes)
+
+-- a group some message of which is sent so
+abbrev pub MayBeOneFrameToAll : GroupPlan → Type 0
+MayBeOneFrameToAll group = (pdu2_first ≤ pf_of group.pgn) × (group.length ≤ frame_bytes)
+
+-- the flow sends the group, which its label names
+abbrev pub Sends : List GroupPlan → GroupPlan → FlowPlan → Type 0
+Sends groups group flow = ValueAt (λ sent. sent.label.bytes ≡ group.label.bytes) groups flow.group
+
+-- one unit can hear a message of either flow: one of them goes to all, or both to this unit, or both may go in a frame that names no
+-- destination
+abbrev pub DoReceiversMeet : GroupPlan → GroupPlan → FlowPlan → FlowPlan → Type 0
+DoReceiversMeet g h f k = (f.to ≡ All) ⊎ ((k.to ≡ All) ⊎ ((f.to ≡ k.to) ⊎ (MayBeOneFrameToAll g × MayBeOneFrameToAll h)))
+
+-- a unit sends both groups to receivers that meet
+abbrev pub AreSentTogether : List GroupPlan → List FlowPlan → GroupPlan → GroupPlan → Type 0
+AreSentTogether groups flows g h =
+    SomeMeets (λ f. Sends groups g f × SomeMeets (λ k. (k.sender ≡ f.sender) × Sends groups h k × DoReceiversMeet g h f k) flows) flows
+
+-- of two private groups it counts only where a unit sends both to receivers that meet
+abbrev pub HaveSamePgn : List GroupPlan → List FlowPlan → GroupPlan → GroupPlan → Type 0
+HaveSamePgn groups flows g h = (g.pgn ≡ h.pgn) × ((g.private ≡ false) ⊎ ((h.private ≡ false) ⊎ AreSentTogether groups flows g h))
+
+abbrev pub IsPrivateUnsent : List GroupPlan → List FlowPlan → GroupPlan → Type 0
+IsPrivateUnsent groups flows group = (group.private ≡ true) × (¬ SomeMeets (Sends groups group) flows)
 
 -- ---- flows
-
--- a group that is sent in one frame, and whose frames name no destination
-abbrev pub IsOneFrameToAll : GroupPlan → Type 0
-IsOneFrameToAll group = (pdu2_first ≤ pf_of group.pgn) × (group.length ≤ frame_bytes)
 
 abbrev pub IsToOne : FlowPlan → Type 0
 IsToOne flow = (receiver : ℕ) × (flow.to ≡ One receiver)
@@ -78,6 +106,13 @@ GoesToItsSender flow = flow.to ≡ One flow.sender
 abbrev pub AreOneFlow : FlowPlan → FlowPlan → Type 0
 AreOneFlow f h = (f.group ≡ h.group) × (f.sender ≡ h.sender) × (f.to ≡ h.to)
 
+-- ---- texts
+
+-- a text that begins behind the place after the last byte of the shortest message, in which it may be empty, or that ends behind the
+-- last byte of the longest
+abbrev pub IsOutside : GroupPlan → TextPlan → Type 0
+IsOutside group text = (group.length + 1 < text.byte) ⊎ (group.most < last_byte text)
+
 -- ---- the findings
 
 -- what a finding says of a plan
@@ -86,7 +121,7 @@ Holds plan (SameName i j) = PairAt HaveSameName plan.units.items i j
 Holds plan (SameFixedAddress i j) = PairAt HaveSameFixedAddress plan.units.items i j
 Holds plan (TooFewAddresses n) = SoManyMeet (NeedsPoolAddress plan.keep_free) plan.units.items n × (free_count plan.keep_free < n)
 Holds plan (BadPgn g) = ValueAt HasBadPgn plan.groups.items g
-Holds plan (SamePgn g h) = PairAt HaveSamePgn plan.groups.items g h
+Holds plan (SamePgn g h) = PairAt (HaveSamePgn plan.groups.items plan.flows.items) plan.groups.items g h
 Holds plan (SignalWidth g s) = ValueAt (λ group. ValueAt (λ signal. ¬ WidthFits signal) group.signals.items s) plan.groups.items g
 Holds plan (SignalOutside g s) = ValueAt (λ group. ValueAt (λ signal. ¬ IsInside group.length signal) group.signals.items s) plan.groups.items g
 Holds plan (SignalOverlap g s t) = ValueAt (λ group. PairAt SharesBit group.signals.items s t) plan.groups.items g
@@ -94,6 +129,8 @@ Holds plan (FlowToOne f) = ValueAt (CannotGoToOne plan.groups.items) plan.flows.
 Holds plan (FlowToSelf f) = ValueAt GoesToItsSender plan.flows.items f
 Holds plan (FlowRepeated f h) = PairAt AreOneFlow plan.flows.items f h
 Holds plan (KeptAddress i) = ValueAt (PrefersKept plan.keep_free) plan.units.items i
+Holds plan (PrivateUnsent g) = ValueAt (IsPrivateUnsent plan.groups.items plan.flows.items) plan.groups.items g
+Holds plan (TextOutside g t) = ValueAt (λ group. ValueAt (IsOutside group) group.texts.items t) plan.groups.items g
 
 -- nothing is wrong with the plan
 abbrev pub Clean : Plan → Type 0
@@ -115,6 +152,8 @@ finding_number (FlowToOne f) = 9
 finding_number (FlowToSelf f) = 10
 finding_number (FlowRepeated f h) = 11
 finding_number (KeptAddress i) = 12
+finding_number (PrivateUnsent g) = 13
+finding_number (TextOutside g t) = 15
 
 -- the places that it names
 abbrev pub places_of : Finding → List ℕ
@@ -130,6 +169,8 @@ places_of (FlowToOne f) = f ∷ []
 places_of (FlowToSelf f) = f ∷ []
 places_of (FlowRepeated f h) = f ∷ h ∷ []
 places_of (KeptAddress i) = i ∷ []
+places_of (PrivateUnsent g) = g ∷ []
+places_of (TextOutside g t) = g ∷ t ∷ []
 
 -- the first place in which two lists differ is smaller in the first list
 abbrev pub IsBelow : List ℕ → List ℕ → Type 0

@@ -1,6 +1,7 @@
 -- The findings of a plan as a list: a test for each statement, and the list of all that pass.
-use Rattle.std.specs.Prelude.{ℕ, List, ◌++◌, Bool, true, false, not, ◌&&◌, ◌||◌, ◌==◌, nat_le, nat_lt, count_by, Option, Some, None}
-use Rattle.std.specs.List.{slice_get}
+use Rattle.std.specs.Prelude.{ℕ, ◌+◌, List, ◌++◌, Bool, true, false, not, ◌&&◌, ◌||◌, ◌==◌, nat_le, nat_lt, count_by, Option, Some, None}
+use Rattle.std.specs.List.{slice_get, list_any}
+use Rattle.std.specs.Str.{bytes_eq}
 use Rattle.std.specs.FinSet.{FinSet, contains}
 use Rattle.std.specs.Ordering.{nat_cmp}
 use Rattle.j39_claim.specs.AddressSets.{free_count, is_free}
@@ -13,15 +14,17 @@ use Rattle.j39_id.specs.Services.{is_service}
 use Rattle.j39_signal.specs.Parts.{SignalParts}
 use Rattle.j39_signal.specs.Places.{width_fits, is_inside, shares_bit}
 use Rattle.j39_findings.specs.ListPlaces.{found_if, each, pairs, in_each}
+use Rattle.j39_findings.specs.TextPlaces.{last_byte}
 use Rattle.j39_findings.specs.declared.plan.Plan.{Plan}
 use Rattle.j39_findings.specs.declared.plan.unit_plan.UnitPlan.{UnitPlan}
 use Rattle.j39_findings.specs.declared.plan.group_plan.GroupPlan.{GroupPlan}
 use Rattle.j39_findings.specs.declared.plan.flow_plan.FlowPlan.{FlowPlan}
+use Rattle.j39_findings.specs.declared.plan.text_plan.TextPlan.{TextPlan}
 use Rattle.j39_findings.specs.declared.plan.to.To.{To}
 use Rattle.j39_findings.specs.declared.plan.to.To.TheVariants.{All, One}
 use Rattle.j39_findings.specs.declared.checking.finding.Finding.{Finding}
 use Rattle.j39_findings.specs.declared.checking.finding.Finding.TheVariants.{SameName, SameFixedAddress, TooFewAddresses, BadPgn, SamePgn, SignalWidth}
-use Rattle.j39_findings.specs.declared.checking.finding.Finding.TheVariants.{SignalOutside, SignalOverlap, FlowToOne, FlowToSelf, FlowRepeated, KeptAddress}
+use Rattle.j39_findings.specs.declared.checking.finding.Finding.TheVariants.{SignalOutside, SignalOverlap, FlowToOne, FlowToSelf, FlowRepeated, KeptAddress, PrivateUnsent, TextOutside}
 
 -- ---- units
 
@@ -58,17 +61,74 @@ kept_findings kept units = each (prefers_kept kept) KeptAddress 0 units
 
 -- ---- groups
 
-abbrev pub cannot_be_planned : ℕ → Bool
-cannot_be_planned pgn = not (is_pgn pgn) || (nat_le extended_page pgn || (is_proprietary pgn || is_service pgn))
+abbrev pub is_for_no_plan : ℕ → Bool
+is_for_no_plan pgn = not (is_pgn pgn) || (nat_le extended_page pgn || is_service pgn)
+
+abbrev pub is_wrongly_private : GroupPlan → Bool
+is_wrongly_private group = (not group.private && is_proprietary group.pgn) || (group.private && not (is_proprietary group.pgn))
 
 abbrev pub has_bad_pgn : GroupPlan → Bool
-has_bad_pgn group = cannot_be_planned group.pgn
+has_bad_pgn group = is_for_no_plan group.pgn || is_wrongly_private group
 
-abbrev pub have_same_pgn : GroupPlan → GroupPlan → Bool
-have_same_pgn g h = g.pgn == h.pgn
+-- each message of the group, or some, is sent in one frame that names no destination
+abbrev pub is_one_frame_to_all : GroupPlan → Bool
+is_one_frame_to_all group = is_pdu2 group.pgn && nat_le group.most frame_bytes
 
-unfoldable pub group_findings : List GroupPlan → List Finding
-group_findings groups = each has_bad_pgn BadPgn 0 groups ++ pairs have_same_pgn SamePgn groups
+abbrev pub may_be_one_frame_to_all : GroupPlan → Bool
+may_be_one_frame_to_all group = is_pdu2 group.pgn && nat_le group.length frame_bytes
+
+abbrev pub is_group_of : (GroupPlan → Bool) → Option GroupPlan → Bool
+is_group_of test None = false
+is_group_of test (Some group) = test group
+
+abbrev pub is_to_one : To → Bool
+is_to_one All = false
+is_to_one (One receiver) = true
+
+abbrev pub is_to : To → ℕ → Bool
+is_to All unit = false
+is_to (One receiver) unit = receiver == unit
+
+abbrev pub have_same_receiver : To → To → Bool
+have_same_receiver All to = not (is_to_one to)
+have_same_receiver (One receiver) to = is_to to receiver
+
+abbrev pub sends : List GroupPlan → GroupPlan → FlowPlan → Bool
+sends groups group flow = is_group_of (λ sent. bytes_eq sent.label.bytes group.label.bytes) (slice_get groups flow.group)
+
+abbrev pub do_receivers_meet : GroupPlan → GroupPlan → FlowPlan → FlowPlan → Bool
+do_receivers_meet g h f k =
+    not (is_to_one f.to) || (not (is_to_one k.to) || (have_same_receiver f.to k.to || (may_be_one_frame_to_all g && may_be_one_frame_to_all h)))
+
+-- whether the second flow sends the other group from the same unit to receivers that meet those of the first
+abbrev pub sends_beside : List GroupPlan → GroupPlan → GroupPlan → FlowPlan → FlowPlan → Bool
+sends_beside groups g h f k = k.sender == f.sender && (sends groups h k && do_receivers_meet g h f k)
+
+abbrev pub is_sent_beside : List GroupPlan → List FlowPlan → GroupPlan → GroupPlan → FlowPlan → Bool
+is_sent_beside groups flows g h f = list_any (sends_beside groups g h f) flows
+
+abbrev pub sends_first : List GroupPlan → List FlowPlan → GroupPlan → GroupPlan → FlowPlan → Bool
+sends_first groups flows g h f = sends groups g f && is_sent_beside groups flows g h f
+
+abbrev pub are_sent_together : List GroupPlan → List FlowPlan → GroupPlan → GroupPlan → Bool
+are_sent_together groups flows g h = list_any (sends_first groups flows g h) flows
+
+abbrev pub have_same_pgn : List GroupPlan → List FlowPlan → GroupPlan → GroupPlan → Bool
+have_same_pgn groups flows g h = g.pgn == h.pgn && (not g.private || (not h.private || are_sent_together groups flows g h))
+
+unfoldable pub group_findings : List GroupPlan → List FlowPlan → List Finding
+group_findings groups flows = each has_bad_pgn BadPgn 0 groups ++ pairs (have_same_pgn groups flows) SamePgn groups
+
+-- ---- private groups that nobody sends
+
+abbrev pub is_sent : List GroupPlan → List FlowPlan → GroupPlan → Bool
+is_sent groups flows group = list_any (sends groups group) flows
+
+abbrev pub is_private_unsent : List GroupPlan → List FlowPlan → GroupPlan → Bool
+is_private_unsent groups flows group = group.private && not (is_sent groups flows group)
+
+unfoldable pub unsent_findings : List GroupPlan → List FlowPlan → List Finding
+unsent_findings groups flows = each (is_private_unsent groups flows) PrivateUnsent 0 groups
 
 -- ---- signals
 
@@ -90,26 +150,18 @@ overlap_findings g group = pairs shares_bit (SignalOverlap g) group.signals.item
 unfoldable pub signal_findings : List GroupPlan → List Finding
 signal_findings groups = in_each width_findings 0 groups ++ (in_each outside_findings 0 groups ++ in_each overlap_findings 0 groups)
 
+-- ---- texts
+
+abbrev pub lies_outside : GroupPlan → TextPlan → Bool
+lies_outside group text = nat_lt (group.length + 1) text.byte || nat_lt group.most (last_byte text)
+
+abbrev pub outside_text_findings : ℕ → GroupPlan → List Finding
+outside_text_findings g group = each (lies_outside group) (TextOutside g) 0 group.texts.items
+
+unfoldable pub text_findings : List GroupPlan → List Finding
+text_findings groups = in_each outside_text_findings 0 groups
+
 -- ---- flows
-
-abbrev pub is_one_frame_to_all : GroupPlan → Bool
-is_one_frame_to_all group = is_pdu2 group.pgn && nat_le group.length frame_bytes
-
-abbrev pub is_group_of : (GroupPlan → Bool) → Option GroupPlan → Bool
-is_group_of test None = false
-is_group_of test (Some group) = test group
-
-abbrev pub is_to_one : To → Bool
-is_to_one All = false
-is_to_one (One receiver) = true
-
-abbrev pub is_to : To → ℕ → Bool
-is_to All unit = false
-is_to (One receiver) unit = receiver == unit
-
-abbrev pub have_same_receiver : To → To → Bool
-have_same_receiver All to = not (is_to_one to)
-have_same_receiver (One receiver) to = is_to to receiver
 
 abbrev pub cannot_go_to_one : List GroupPlan → FlowPlan → Bool
 cannot_go_to_one groups flow = is_to_one flow.to && is_group_of is_one_frame_to_all (slice_get groups flow.group)
@@ -128,5 +180,6 @@ flow_findings groups flows =
 
 unfoldable pub found : Plan → List Finding
 found plan =
-    unit_findings plan.keep_free plan.units.items ++ (group_findings plan.groups.items ++ (signal_findings plan.groups.items
-    ++ (flow_findings plan.groups.items plan.flows.items ++ kept_findings plan.keep_free plan.units.items)))
+    unit_findings plan.keep_free plan.units.items ++ (group_findings plan.groups.items plan.flows.items ++ (signal_findings plan.groups.items
+    ++ (flow_findings plan.groups.items plan.flows.items ++ (kept_findings plan.keep_free plan.units.items
+    ++ (unsent_findings plan.groups.items plan.flows.items ++ text_findings plan.groups.items)))))

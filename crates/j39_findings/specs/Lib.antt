@@ -4,7 +4,10 @@ pub mod ConflictRuns
 pub mod Findings
 pub mod Found
 pub mod LabelForm
+pub mod Lengths
 pub mod ListPlaces
 pub mod PlannedGroups
+pub mod PrivateGroups
 pub mod Refused
 pub mod SoundSignals
+pub mod TextPlaces

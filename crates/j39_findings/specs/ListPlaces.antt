@@ -17,6 +17,10 @@ pub record PairAt {A : Type 0} (R : A → A → Type 0) (xs : List A) (i j : ℕ
   pub second_is : slice_get xs j ≡ Some second
   pub related : R first second
 
+-- some value of the list meets P
+abbrev pub SomeMeets : {A : Type 0} → (A → Type 0) → List A → Type 0
+SomeMeets P xs = (i : ℕ) × ValueAt P xs i
+
 -- so many values of the list meet P
 abbrev pub SoManyMeet : {A : Type 0} → (A → Type 0) → List A → ℕ → Type 0
 SoManyMeet P [] n = n ≡ 0

@@ -8,9 +8,11 @@ mod finding;
 mod flows;
 mod groups;
 mod kept;
+mod private;
 mod refused;
 mod rules;
 mod signals;
+mod texts;
 mod units;
 
 use crate::plan::Plan;
@@ -19,9 +21,11 @@ pub use finding::{Finding, Findings};
 use flows::find_in_flows;
 use groups::find_in_groups;
 use kept::find_kept;
+use private::find_unsent;
 pub use refused::{Refused, RefusedCause};
 use signals::find_in_signals;
 use std::alloc::{AllocError, Global};
+use texts::find_in_texts;
 use units::find_in_units;
 
 /// All that is wrong with the plan, and nothing else, by the findings' numbers and then by their places in rising order.
@@ -34,9 +38,11 @@ pub fn check(alloc: Global, plan: &Plan) -> Result<Findings, AllocError>
 {
     let mut findings = Vec::new(alloc);
     find_in_units(&mut findings, &plan.keep_free, &plan.units)?;
-    find_in_groups(&mut findings, &plan.groups)?;
+    find_in_groups(&mut findings, &plan.groups, &plan.flows)?;
     find_in_signals(&mut findings, &plan.groups)?;
     find_in_flows(&mut findings, &plan.groups, &plan.flows)?;
     find_kept(&mut findings, &plan.keep_free, &plan.units)?;
+    find_unsent(&mut findings, &plan.groups, &plan.flows)?;
+    find_in_texts(&mut findings, &plan.groups)?;
     Ok(findings)
 }

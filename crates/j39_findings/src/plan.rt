@@ -7,6 +7,10 @@ ghost use Rattle.j39_findings.specs.declared.plan.to.To.TheVariants.{One};
 
 mod flow_plan;
 mod group_plan;
+mod pace;
+mod text_places;
+mod text_plan;
+mod timing;
 mod to;
 mod unit_plan;
 mod way;
@@ -14,6 +18,9 @@ mod way;
 pub use flow_plan::FlowPlan;
 pub use group_plan::GroupPlan;
 use j39_claim::AddressSet;
+pub use pace::Pace;
+pub use text_plan::TextPlan;
+pub use timing::{Bitrate, Timing};
 pub use to::To;
 pub use unit_plan::UnitPlan;
 pub use way::Way;
@@ -24,6 +31,8 @@ pub use way::Way;
 pub struct Plan {
     /// Addresses of 128 to 247 that no arbitrary unit may hold.
     pub keep_free: AddressSet,
+    /// What is known of the bus itself, where its load and its delays are to be told.
+    pub timing: Option<Timing>,
     pub units: Vec<UnitPlan>,
     pub groups: Vec<GroupPlan>,
     pub flows: Vec<FlowPlan>,

@@ -14,7 +14,7 @@ use Rattle.j39_world.specs.PlannedUnits.{units_of}
 use Rattle.j39_world.specs.Opening.{AreNamesDistinct}
 use Rattle.j39_world.specs.Settling.{Settles}
 use Rattle.j39_world.specs.Ending.{TransfersEnd}
-use Rattle.j39_world.specs.Arriving.{ArrivesUnanswered}
+use Rattle.j39_world.specs.Arriving.{ArrivesUnanswered, ArrivesAnswered}
 use Rattle.j39_world.specs.Sound.{AreAddressesSound, AreAddressesDifferent, AreNotesRight, AreKeptFree, IsQuiet, AreReportsSound, IsAcknowledgedReported}
 use Rattle.j39_world.specs.SoundPlan.{IsSound}
 use Rattle.j39_world.specs.Staying.{ArePlannedApart, HoldsPlanned}
@@ -42,8 +42,9 @@ pub sound_by_laws : (plan : Plan) → Clean plan
     → ((p : Plan) (steps : List Step) (w : World) → Run p first steps w → IsAcknowledgedReported w)
     → ((p : Plan) (steps : List Step) (w : World) → Run p first steps w → TransfersEnd p w)
     → ((p : Plan) (steps : List Step) (w : World) → Run p first steps w → ArrivesUnanswered p w)
+    → ((p : Plan) (steps : List Step) (w : World) → Run p first steps w → ArrivesAnswered p w)
     → IsSound plan
-sound_by_laws plan clean addresses different planned notes kept settles signals reports acknowledged ends arrives = record {
+sound_by_laws plan clean addresses different planned notes kept settles signals reports acknowledged ends arrives arrives_answered = record {
   addresses = λ steps w run. addresses plan steps w clean run;
   quiet = λ steps w run. different plan steps w clean run;
   sending = λ steps w run (u, o, is). different plan steps w clean run (quiet_where_empty w.claims ((reports plan steps w run).delivered u o is));
@@ -56,4 +57,5 @@ sound_by_laws plan clean addresses different planned notes kept settles signals 
   acknowledged = λ steps w run. acknowledged plan steps w run;
   ends = λ steps w run. ends plan steps w run;
   arrives = λ steps w run. arrives plan steps w run;
+  arrives_answered = λ steps w run. arrives_answered plan steps w run;
 }

@@ -5,3 +5,4 @@ pub mod Reports
 pub mod Transfers
 pub mod Conflicts
 pub mod Certified
+pub mod Lengths

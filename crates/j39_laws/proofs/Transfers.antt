@@ -11,3 +11,12 @@ pub mod Flights
 pub mod Coming
 pub mod ComingTaken
 pub mod Arriving
+pub mod Naming
+pub mod Named
+pub mod Beside
+pub mod Between
+pub mod BetweenTaken
+pub mod Answered
+pub mod AnsweredTaken
+pub mod ArrivingAnswered
+pub mod AnsweredRuns

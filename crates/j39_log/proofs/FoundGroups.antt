@@ -1,18 +1,20 @@
 -- The group that is found for a number and a length.
-use Rattle.std.proofs.Common.{◌≡◌, ℕ, ◌<◌, ◌==◌, ◌&&◌, Bool, true, false, List, length, map, get_or, Option, Some, refl, sym, ap, ◌∙◌, eqb-true}
+use Rattle.std.proofs.Common.{◌≡◌, ℕ, ◌<◌, ◌&&◌, Bool, true, false, nat_le, List, length, map, get_or, Option, Some, refl, sym, ap, ◌∙◌}
 use Rattle.std.proofs.Common.{Vec, Global, inl, inr, arith}
-use Rattle.std.specs.List.{HoldsAt}
+use Rattle.std.specs.List.{HoldsAt, position}
+use Rattle.std.proofs.lemmas.Bool.{and_parts, leb-true}
 use Rattle.std.proofs.lemmas.List.Quantifiers.{position-Some}
 use Rattle.std.proofs.lemmas.Option.{slice_get-get_or, slice_get_cases}
 use Rattle.std.proofs.lemmas.List.{get_or-map, length-map}
 use Rattle.j39_signal.specs.LayoutParts.{LayoutParts}
 use Rattle.j39_findings.specs.declared.plan.Plan.{Plan}
 use Rattle.j39_findings.specs.declared.plan.group_plan.GroupPlan.{GroupPlan}
+use Rattle.j39_findings.specs.Lengths.{IsLengthOf}
 use Rattle.j39_findings.specs.PlannedGroups.{layout_of}
 use Rattle.j39_log.specs.inside.Listening.{IsCatalogOf}
 use Rattle.j39_log.specs.inside.ValueLines.{items_of, value_lines_of}
 use Rattle.j39_log.specs.declared.value_line.ValueLine.{ValueLine}
-use Rattle.j39_log.specs.LogFrames.{planned_group, is_planned_as, planned}
+use Rattle.j39_log.specs.LogFrames.{planned_group, is_planned_as, is_shared_as, planned}
 use Rattle.j39_log.specs.LogReports.{group_report}
 use Rattle.j39_log.specs.ReadText.{IsGroupReport}
 use Rattle.j39_id.specs.Ident.{pgn_of}
@@ -20,17 +22,14 @@ use Rattle.j39_id.specs.declared.frame.Frame.{Frame}
 use Rattle.j39_id.specs.declared.ident.Ident.{Ident}
 use Rattle.j39_log.specs.declared.catalog.Catalog.{Catalog}
 
-second : (a b : Bool) → (a && b) ≡ true → b ≡ true
-second true b e = e
-second false b e = cc
-
--- the place that is found is within the groups, and its group has the length
+-- the place that is found is within the groups, and its group has messages of this length
 pub planned_there : (plan : Plan) (pgn bytes place : ℕ) (group : GroupPlan) → planned plan pgn bytes ≡ Some place → group ≡ get_or plan.groups.items place group
-    → (place < length plan.groups.items) × (group.length ≡ bytes)
+    → (place < length plan.groups.items) × IsLengthOf group bytes
 planned_there plan pgn bytes place group found here =
     let at = position-Some (is_planned_as pgn bytes) plan.groups.items place group found in
     let passes : is_planned_as pgn bytes group ≡ true = ap (is_planned_as pgn bytes) here ∙ at.1 in
-    (at.0, eqb-true group.length bytes (second (group.pgn == pgn) (group.length == bytes) passes))
+    let lengths = and_parts (nat_le group.length bytes) (nat_le bytes group.most) (and_parts (is_shared_as pgn group) _ passes).1 in
+    (at.0, (leb-true group.length bytes lengths.0, leb-true bytes group.most lengths.1))
 
 -- its layout is that of the group
 pub laid_there : (plan : Plan) (catalog : Catalog) (place : ℕ) (group : GroupPlan) (layout : LayoutParts) → IsCatalogOf plan catalog
@@ -68,7 +67,7 @@ report_there plan place group i bytes less here = record {
 }
 
 -- the group that is found for a frame's number and its bytes
-pub found_for : (plan : Plan) (f : Frame) (pgn : ℕ) (bytes : List ℕ) (place : Option ℕ) → pgn ≡ pgn_of f.ident → bytes ≡ f.payload.items
-    → place ≡ planned plan pgn (length bytes) → place ≡ planned_group plan f
-found_for plan f pgn bytes place number payload found =
-    found ∙ ap (λ (n : ℕ). planned plan n (length bytes)) number ∙ ap (λ (xs : List ℕ). planned plan (pgn_of f.ident) (length xs)) payload
+pub found_for : (plan : Plan) (groups : List GroupPlan) (f : Frame) (pgn : ℕ) (bytes : List ℕ) (place : Option ℕ) → groups ≡ plan.groups.items
+    → pgn ≡ pgn_of f.ident → bytes ≡ f.payload.items → place ≡ position (is_planned_as pgn (length bytes)) groups → place ≡ planned_group plan f
+found_for plan groups f pgn bytes place same number payload found =
+    found ∙ ap (position (is_planned_as pgn (length bytes))) same ∙ ap (λ (n : ℕ). planned plan n (length bytes)) number ∙ ap (λ (xs : List ℕ). planned plan (pgn_of f.ident) (length xs)) payload

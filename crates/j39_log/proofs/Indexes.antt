@@ -1,74 +1,136 @@
--- The index of groups by their numbers and lengths, group after group.
-use Rattle.std.proofs.Common.{◌≡◌, ℕ, ◌+◌, ◌==◌, ◌&&◌, Bool, true, false, cond, List, [], ◌∷◌, ◌++◌}
-use Rattle.std.proofs.Common.{length, Option, Some, None, refl, sym, ap, ◌∙◌, arith, eqb-true}
+-- The index of groups by their numbers, group after group, and the first group of a number that is found.
+use Rattle.std.proofs.Common.{◌≡◌, ℕ, zero, suc, ◌+◌, ◌<◌, ◌≤◌, ◌⊎◌, ◌==◌, ◌&&◌, Bool, true, false, not, cond, List, [], ◌∷◌, ◌++◌, All}
+use Rattle.std.proofs.Common.{get_or, length, nat_eq, eqb, Option, Some, None, refl, sym, ap, ◌∙◌, subst, arith, inl, inr}
 use Rattle.std.specs.HashMap.{HashMap, get}
 use Rattle.std.specs.List.{position, position_from}
-use Rattle.std.specs.Option.{option_or}
+use Rattle.std.proofs.Math.Seq.{get_or-append_seam}
+use Rattle.std.proofs.lemmas.Bool.{and_right, cases_eq, cases_lt, eq-eqb, ne_eqb}
 use Rattle.std.proofs.lemmas.Iterator.Adapters.{position_from-zero}
+use Rattle.std.proofs.lemmas.List.{get_or_append_left, length-append}
+use Rattle.std.proofs.lemmas.List.Elements.{All-push}
 use Rattle.j39_findings.specs.declared.plan.group_plan.GroupPlan.{GroupPlan}
-use Rattle.j39_log.specs.inside.Listening.{IsIndex, is_same_key}
-use Rattle.j39_log.specs.LogFrames.{is_planned_as}
+use Rattle.j39_log.specs.declared.catalog.Span.{Span}
+use Rattle.j39_log.specs.inside.Listening.{HasAllOf, IsIndex, IsSpanOf, extended}
+use Rattle.j39_log.specs.LogFrames.{is_planned_as, is_shared_as}
 
-if_before : (b : Bool) (i : ℕ) (o p : Option ℕ) → cond b (Some i) (option_or o p) ≡ option_or (cond b (Some i) o) p
-if_before true i o p = refl
-if_before false i o p = refl
+-- ---- the first place
 
--- the first place among one more group
-from_more : (p : GroupPlan → Bool) (i n : ℕ) (xs : List GroupPlan) (y : GroupPlan) → i + length xs ≡ n
-    → position_from p i (xs ++ y ∷ []) ≡ option_or (position_from p i xs) (cond (p y) (Some n) None)
-from_more p i n [] y at =
-    let here : i ≡ n = omega arith in
-    ap (λ (m : ℕ). cond (p y) (Some m) None) here
-from_more p i n (x ∷ xs) y at =
-    ap (λ (o : Option ℕ). cond (p x) (Some i) o) (from_more p (i + 1) n xs y (omega arith))
-    ∙ if_before (p x) i (position_from p (i + 1) xs) (cond (p y) (Some n) None)
+first_from : (p : GroupPlan → Bool) (n place : ℕ) (groups : List GroupPlan) (d : GroupPlan) → place < length groups
+    → p (get_or groups place d) ≡ true → ((k : ℕ) (d : GroupPlan) → k < place → p (get_or groups k d) ≡ false)
+    → position_from p n groups ≡ Some (n + place)
+first_from p n place [] d less passes none = absurd (omega arith)
+first_from p n zero (group ∷ groups) d less passes none =
+    let same : n ≡ n + 0 = omega arith in
+    rw passes (ap Some same)
+first_from p n (suc place) (group ∷ groups) d less passes none =
+    let other : p group ≡ false = none 0 group (omega arith) in
+    let same : (n + 1) + place ≡ n + suc place = omega arith in
+    rw other (first_from p (n + 1) place groups d (omega arith) passes (λ k e below. none (suc k) e (omega (arith, below))) ∙ ap Some same)
 
-position_more : (p : GroupPlan → Bool) (n : ℕ) (xs : List GroupPlan) (y : GroupPlan) → length xs ≡ n
-    → position p (xs ++ y ∷ []) ≡ option_or (position p xs) (cond (p y) (Some n) None)
-position_more p n xs y at =
-    position_from-zero p (xs ++ y ∷ []) ∙ from_more p 0 n xs y (omega arith)
-    ∙ ap (λ (o : Option ℕ). option_or o (cond (p y) (Some n) None)) (sym (position_from-zero p xs))
+none_from : (p : GroupPlan → Bool) (n : ℕ) (groups : List GroupPlan)
+    → ((k : ℕ) (d : GroupPlan) → k < length groups → p (get_or groups k d) ≡ false) → position_from p n groups ≡ None
+none_from p n [] none = refl
+none_from p n (group ∷ groups) none =
+    let other : p group ≡ false = none 0 group (omega arith) in
+    rw other (none_from p (n + 1) groups (λ k d below. none (suc k) d (omega (arith, below))))
 
-both : (a b : Bool) → (a && b) ≡ true → (a ≡ true) × (b ≡ true)
-both true b e = (refl, e)
-both false b e = cc
+pub first_place : (p : GroupPlan → Bool) (place : ℕ) (groups : List GroupPlan) (d : GroupPlan) → place < length groups
+    → p (get_or groups place d) ≡ true → ((k : ℕ) (d : GroupPlan) → k < place → p (get_or groups k d) ≡ false)
+    → position p groups ≡ Some place
+first_place p place groups d less passes none =
+    let same : 0 + place ≡ place = omega arith in
+    position_from-zero p groups ∙ first_from p 0 place groups d less passes none ∙ ap Some same
 
-same_key : (k q : ℕ × ℕ) → is_same_key k q ≡ true → k ≡ q
-same_key k q e =
-    let parts = both (k.0 == q.0) (k.1 == q.1) e in
-    let first : k.0 ≡ q.0 = eqb-true k.0 q.0 parts.0 in
-    let second : k.1 ≡ q.1 = eqb-true k.1 q.1 parts.1 in
-    ap (λ (n : ℕ). (n, k.1)) first ∙ ap (λ (n : ℕ). (q.0, n)) second
+pub no_place : (p : GroupPlan → Bool) (groups : List GroupPlan) → ((k : ℕ) (d : GroupPlan) → k < length groups → p (get_or groups k d) ≡ false)
+    → position p groups ≡ None
+no_place p groups none = position_from-zero p groups ∙ none_from p 0 groups none
+
+-- ---- groups of a number
+
+pub unplanned : (pgn bytes : ℕ) (group : GroupPlan) → is_shared_as pgn group ≡ false → is_planned_as pgn bytes group ≡ false
+unplanned pgn bytes group other = rw other refl
+
+hidden : (pgn : ℕ) (group : GroupPlan) → group.private ≡ true → is_shared_as pgn group ≡ false
+hidden pgn group private = ap (λ (b : Bool). not b && group.pgn == pgn) private
+
+of_other : (pgn : ℕ) (group : GroupPlan) → eqb group.pgn pgn ≡ false → is_shared_as pgn group ≡ false
+of_other pgn group other = and_right (not group.private) (group.pgn == pgn) other
+
+own : (pgn : ℕ) (group : GroupPlan) → group.private ≡ false → eqb group.pgn pgn ≡ true → is_shared_as pgn group ≡ true
+own pgn group shared same = ap (λ (b : Bool). not b && group.pgn == pgn) shared ∙ same
 
 -- ---- the step
 
-kept_by : (b : Bool) (o w : Option ℕ) (i : ℕ) → (b ≡ true → o ≡ Some i) → o ≡ option_or o (cond b w None)
-kept_by true o w i here = let e = here refl in rw e refl
-kept_by false None w i here = refl
-kept_by false (Some j) w i here = refl
+module _ (groups : List GroupPlan) (group : GroupPlan) (n : ℕ) (at : length groups ≡ n) where
+  abbrev more : List GroupPlan
+  more = groups ++ group ∷ []
 
--- an index that has the key stays
-pub present : {S : Type 0} (places : HashMap (ℕ × ℕ) ℕ S) (groups : List GroupPlan) (group : GroupPlan) (n i : ℕ) → length groups ≡ n
-    → get is_same_key places (group.pgn, group.length) ≡ Some i → IsIndex groups places → IsIndex (groups ++ group ∷ []) places
-present places groups group n i at found index key =
-    let here : is_planned_as key.0 key.1 group ≡ true → position (is_planned_as key.0 key.1) groups ≡ Some i =
-    λ same. sym (index key) ∙ ap (get is_same_key places) (sym (same_key (group.pgn, group.length) key same)) ∙ found in
-    index key ∙ kept_by (is_planned_as key.0 key.1 group) (position (is_planned_as key.0 key.1) groups) (Some n) i here
-    ∙ sym (position_more (is_planned_as key.0 key.1) n groups group at)
+  one_more : length more ≡ n + 1
+  one_more = length-append groups (group ∷ []) ∙ (omega (arith, at))
 
-put_by : (b : Bool) (o : Option ℕ) (n : ℕ) → (b ≡ true → o ≡ None) → cond b (Some n) o ≡ option_or o (cond b (Some n) None)
-put_by true o n none = let e = none refl in rw e refl
-put_by false None n none = refl
-put_by false (Some j) n none = refl
+  old_place : (place : ℕ) (d : GroupPlan) → place < n → get_or more place d ≡ get_or groups place d
+  old_place place d less = get_or_append_left groups (group ∷ []) d place (omega (arith, less, at))
 
--- and one that lacks it gets it
-pub absent : {S : Type 0} (old new : HashMap (ℕ × ℕ) ℕ S) (groups : List GroupPlan) (group : GroupPlan) (n : ℕ) → length groups ≡ n
-    → get is_same_key old (group.pgn, group.length) ≡ None
-    → ((key : ℕ × ℕ) → get is_same_key new key ≡ cond (is_same_key (group.pgn, group.length) key) (Some n) (get is_same_key old key))
+  new_place : (place : ℕ) (d : GroupPlan) → place ≡ n → get_or more place d ≡ group
+  new_place place d same =
+      let here : place ≡ length groups = omega (arith, same, at) in
+      ap (λ (k : ℕ). get_or more k d) here ∙ get_or-append_seam groups group [] d
+
+  -- a group of another number, or a private one
+  passed : (pgn : ℕ) (span : Option Span) → is_shared_as pgn group ≡ false → IsSpanOf groups pgn span → IsSpanOf more pgn span
+  passed pgn None other none = All-push (λ (g : GroupPlan). is_shared_as pgn g ≡ false) groups group none other
+  passed pgn (Some span) other has = record {
+    in_order = has.in_order;
+    inside = omega (arith, has.inside, at, one_more);
+    others = λ place d less out. elim (cases_lt place n) [
+      | inl old ↦ rw (old_place place d old) (has.others place d (omega (arith, old, at)) out)
+      | inr new ↦ rw (new_place place d (omega (arith, new, less, one_more))) other
+    ];
+  }
+
+  -- one of the number
+  counted : (pgn : ℕ) (span : Option Span) → IsSpanOf groups pgn span → IsSpanOf more pgn (Some (extended span n))
+  counted pgn None none = record {
+    in_order = omega arith;
+    inside = omega (arith, one_more);
+    others = λ place d less out. elim out [
+      | inl old ↦ rw (old_place place d old) (none place d (omega (arith, old, at)))
+      | inr past ↦ absurd (omega (arith, past, less, one_more))
+    ];
+  }
+  counted pgn (Some span) has = record {
+    in_order = omega (arith, has.in_order, has.inside, at);
+    inside = omega (arith, one_more);
+    others = λ place d less out. elim out [
+      | inl old ↦
+          let below : place < n = omega (arith, old, has.in_order, has.inside, at) in
+          rw (old_place place d below) (has.others place d (omega (arith, below, at)) (inl old))
+      | inr past ↦ absurd (omega (arith, past, less, one_more))
+    ];
+  }
+
+-- an index stays behind a private group
+pub passed_over : {S : Type 0} (spans : HashMap ℕ Span S) (groups : List GroupPlan) (group : GroupPlan) (n : ℕ) → length groups ≡ n
+    → group.private ≡ true → IsIndex groups spans → IsIndex (groups ++ group ∷ []) spans
+passed_over spans groups group n at private index pgn = passed groups group n at pgn (get nat_eq spans pgn) (hidden pgn group private) (index pgn)
+
+-- and one that has the span of another's number extended has that group too
+pub put_in : {S : Type 0} (old new : HashMap ℕ Span S) (groups : List GroupPlan) (group : GroupPlan) (n : ℕ) → length groups ≡ n
+    → ((pgn : ℕ) → get nat_eq new pgn ≡ cond (nat_eq group.pgn pgn) (Some (extended (get nat_eq old group.pgn) n)) (get nat_eq old pgn))
     → IsIndex groups old → IsIndex (groups ++ group ∷ []) new
-absent old new groups group n at none updates index key =
-    let missing : is_planned_as key.0 key.1 group ≡ true → position (is_planned_as key.0 key.1) groups ≡ None =
-    λ same. sym (index key) ∙ ap (get is_same_key old) (sym (same_key (group.pgn, group.length) key same)) ∙ none in
-    updates key ∙ ap (λ (o : Option ℕ). cond (is_planned_as key.0 key.1 group) (Some n) o) (index key)
-    ∙ put_by (is_planned_as key.0 key.1 group) (position (is_planned_as key.0 key.1) groups) n missing
-    ∙ sym (position_more (is_planned_as key.0 key.1) n groups group at)
+put_in old new groups group n at updates index pgn =
+    elim (cases_eq group.pgn pgn) [
+      | inl same ↦
+          let e : eqb group.pgn pgn ≡ true = eq-eqb group.pgn pgn same in
+          let now : get nat_eq new pgn ≡ Some (extended (get nat_eq old group.pgn) n) =
+          updates pgn ∙ ap (λ (b : Bool). cond b (Some (extended (get nat_eq old group.pgn) n)) (get nat_eq old pgn)) e in
+          let span : get nat_eq old group.pgn ≡ get nat_eq old pgn = ap (get nat_eq old) same in
+          subst (IsSpanOf (groups ++ group ∷ []) pgn) (sym (now ∙ ap (λ (o : Option Span). Some (extended o n)) span))
+          (counted groups group n at pgn (get nat_eq old pgn) (index pgn))
+      | inr apart ↦
+          let e : eqb group.pgn pgn ≡ false = ne_eqb group.pgn pgn apart in
+          let now : get nat_eq new pgn ≡ get nat_eq old pgn =
+          updates pgn ∙ ap (λ (b : Bool). cond b (Some (extended (get nat_eq old group.pgn) n)) (get nat_eq old pgn)) e in
+          subst (IsSpanOf (groups ++ group ∷ []) pgn) (sym now)
+          (passed groups group n at pgn (get nat_eq old pgn) (of_other pgn group e) (index pgn))
+    ]

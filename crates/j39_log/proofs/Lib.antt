@@ -3,8 +3,10 @@ pub mod FoundGroups
 pub mod Indexes
 pub mod ListenerTables
 pub mod LogReading
+pub mod OlderPlans
 pub mod OneText
 pub mod Outcomes
 pub mod PairLists
 pub mod SignalLists
+pub mod TextLists
 pub mod ValueLines

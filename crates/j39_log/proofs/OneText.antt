@@ -33,7 +33,7 @@ some_same x y e = cc
 two_services : (n : ℕ) → n ≡ connection_management → n ≡ data_transfer → ⊥
 two_services n a b = omega (arith, a, b)
 
-one_packet : (f : Frame) (p q : Packet) → IsPacket f p → IsPacket f q → p ≡ q
+pub one_packet : (f : Frame) (p q : Packet) → IsPacket f p → IsPacket f q → p ≡ q
 one_packet f p q (inl a) (inl b) = one_management f.payload.items p q a.1 b.1
 one_packet f p q (inl a) (inr b) = absurd (two_services _ a.0 b.0)
 one_packet f p q (inr a) (inl b) = absurd (two_services _ b.0 a.0)
@@ -125,14 +125,14 @@ unrefused groups n g all before refused =
     let here : get_or (take n groups) g group ≡ group = get_or-take n groups g group before ∙ get_or_from_slice_get groups g group group refused.value_is in
     not_both_ways group (subst IsSendable here (all g group within)) refused.meets
 
-not_all : (groups : List GroupPlan) (g : ℕ) → All IsSendable groups → IsFirstRefused groups g → ⊥
+pub not_all : (groups : List GroupPlan) (g : ℕ) → All IsSendable groups → IsFirstRefused groups g → ⊥
 not_all groups g all first =
     let refused = first.1 in
     let group : GroupPlan = refused.value in
     let here : get_or groups g group ≡ group = get_or_from_slice_get groups g group group refused.value_is in
     not_both_ways group (subst IsSendable here (all g group (slice_get_within groups g group refused.value_is))) refused.meets
 
-one_refused : (groups : List GroupPlan) (g h : ℕ) → IsFirstRefused groups g → IsFirstRefused groups h → g ≡ h
+pub one_refused : (groups : List GroupPlan) (g h : ℕ) → IsFirstRefused groups g → IsFirstRefused groups h → g ≡ h
 one_refused groups g h a b =
     elim (cases_order g h) [
       | inl same ↦ same

@@ -53,7 +53,7 @@ heard_more s d (y ∷ seen) x =
     ap (λ (t : List Packet). heard_of s d y.frame.ident y.packet ++ t) (heard_more s d seen x)
     ∙ sym (append_assoc (heard_of s d y.frame.ident y.packet) (heard s d seen) (heard_of s d x.frame.ident x.packet))
 
-one_turn : (b : Bool) (r : Receiving) (h : List Packet) (p : Packet) → r ≡ after_all h
+pub one_turn : (b : Bool) (r : Receiving) (h : List Packet) (p : Packet) → r ≡ after_all h
     → (if b then receives r p else r) ≡ after_all (h ++ (if b then p ∷ [] else []))
 one_turn true r h p e = ap (λ (s : Receiving). receives s p) e ∙ sym (after_all_more h p)
 one_turn false r h p e = e ∙ sym (ap after_all (append-nil h))

@@ -1,5 +1,7 @@
 pub mod LogFrames
 pub mod LogPairs
 pub mod LogReports
+pub mod OlderPlans
 pub mod ReadText
+pub mod TextLines
 pub mod inside

@@ -1,5 +1,5 @@
 -- What a frame of a log is for its reader: a planned group, else a transport packet, else nothing that is looked at.
-use Rattle.std.specs.Prelude.{◌≡◌, ◌≢◌, ℕ, ◌⊎◌, ◌==◌, ◌&&◌, Bool, length, Option, Some, None}
+use Rattle.std.specs.Prelude.{◌≡◌, ◌≢◌, ℕ, ◌⊎◌, ◌==◌, ◌&&◌, Bool, not, nat_le, length, Option, Some, None}
 use Rattle.std.specs.List.{position}
 use Rattle.j39_id.specs.Addresses.{global_address}
 use Rattle.j39_id.specs.Ident.{pgn_of}
@@ -11,11 +11,15 @@ use Rattle.j39_tp.specs.Packets.{ManagementReads, DataReads}
 use Rattle.j39_tp.specs.declared.packet.Packet.{Packet}
 use Rattle.j39_tp.specs.declared.packet.Packet.TheVariants.{Rts, Bam}
 
--- the group has this number and so many bytes
-abbrev pub is_planned_as : ℕ → ℕ → GroupPlan → Bool
-is_planned_as pgn bytes group = group.pgn == pgn && group.length == bytes
+-- the group has this number, and isn't private: whose number a private one has, a log doesn't tell
+abbrev pub is_shared_as : ℕ → GroupPlan → Bool
+is_shared_as pgn group = not group.private && group.pgn == pgn
 
--- the place of the first group of this number and length
+-- and it has messages of so many bytes
+abbrev pub is_planned_as : ℕ → ℕ → GroupPlan → Bool
+is_planned_as pgn bytes group = is_shared_as pgn group && (nat_le group.length bytes && nat_le bytes group.most)
+
+-- the place of the first such group
 abbrev pub planned : Plan → ℕ → ℕ → Option ℕ
 planned plan pgn bytes = position (is_planned_as pgn bytes) plan.groups.items
 

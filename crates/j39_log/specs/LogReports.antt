@@ -1,4 +1,4 @@
--- The lines that report a group: who sent which bytes to whom, and what each signal reads.
+-- The lines that report a group: who sent which bytes to whom, and what each signal and each text reads.
 use Rattle.std.specs.Prelude.{ℕ, ◌+◌, ◌*◌, ◌/◌, ◌%◌, ◌^◌, ℤ, unsigned_abs, List, [], ◌∷◌, ◌++◌, ◌==◌, if◌then◌else◌, codes}
 use Rattle.hex.specs.Hex.{encode_upper}
 use Rattle.j39_id.specs.declared.ident.Ident.{Ident}
@@ -13,6 +13,7 @@ use Rattle.j39_findings.specs.declared.plan.group_plan.GroupPlan.{GroupPlan}
 use Rattle.j39_text.specs.Decimals.{quotient_text}
 use Rattle.j39_text.specs.FrameText.{destination_text}
 use Rattle.j39_text.specs.Texts.{field, field_text}
+use Rattle.j39_log.specs.TextLines.{text_lines}
 
 -- one space and the unit, where there is one
 unfoldable pub unit_text : List ℕ → List ℕ
@@ -77,5 +78,9 @@ unfoldable pub group_line : GroupPlan → Ident → List ℕ → List ℕ
 group_line group i bytes =
     codes "group " ++ (group.label.bytes ++ (way_text i ++ (codes " bytes " ++ (encode_upper bytes ++ 10 ∷ []))))
 
+-- what the signals and the texts of a group read in these bytes
+unfoldable pub reading_lines : GroupPlan → List ℕ → List ℕ
+reading_lines group bytes = signal_lines group.signals.items bytes ++ text_lines group.texts.items bytes
+
 unfoldable pub group_report : GroupPlan → Ident → List ℕ → List ℕ
-group_report group i bytes = group_line group i bytes ++ signal_lines group.signals.items bytes
+group_report group i bytes = group_line group i bytes ++ reading_lines group bytes

@@ -1,7 +1,7 @@
 //! The groups of a plan as a reader of frames finds them.
 ghost use Rattle.std.specs.Prelude.{◌≡◌, ◌<◌, List, [], ◌∷◌, ◌++◌, length, map, All, OnOk, IfOk, IfErr};
 ghost use Rattle.std.specs.List.{HoldsAt, position};
-ghost use Rattle.j39_log.specs.inside.Listening.{IsBadCatalog, IsCatalogOf, IsIndex};
+ghost use Rattle.j39_log.specs.inside.Listening.{extended, HasAllOf, IsBadCatalog, IsCatalogOf, IsIndex};
 ghost use Rattle.j39_log.specs.inside.ValueLines.{items_of};
 ghost use Rattle.j39_log.specs.LogFrames.{is_planned_as};
 ghost use Rattle.j39_findings.specs.PlannedGroups.{IsSendable, layout_of as parts_of};
@@ -15,20 +15,28 @@ use std::collections::HashMap;
 
 /// Why there is no catalog of a plan.
 #[derive(Clone, Copy, Debug, PartialEq, Eq)]
-pub(crate) enum CatalogError {
+pub enum CatalogError {
     /// The first group that is refused, by its place.
     BadGroup(usize),
     /// An allocation was refused.
     Memory,
 }
 
-/// The groups of a plan: their layouts by place, what stands around the values of their signals, and the first place of each
-/// number and length.
+/// Where the groups of one number stand that aren't private: from the first of them to behind the last. In a plan without findings it is
+/// one group.
+#[derive(Clone, Copy)]
+struct Span {
+    first: usize,
+    end: usize,
+}
+
+/// The groups of a plan: their layouts by place, what stands around the values of their signals, and by its number where those
+/// stand that aren't private.
 #[derive(Drop)]
-pub(crate) struct Catalog {
+pub struct Catalog {
     layouts: Vec<Layout>,
     lines: Vec<Vec<ValueLine>>,
-    places: HashMap<(u32, usize), usize>,
+    spans: HashMap<u32, Span>,
 }
 
 // The layouts of the groups, by place.
@@ -52,37 +60,70 @@ fn layouts_of(alloc: Global, groups: &[GroupPlan]) -> Result<Vec<Layout>, Catalo
     Ok(layouts)
 }
 
-// The place of a group after others, unless one of them has its number and length.
-fn add_place(
-    places: &mut HashMap<(u32, usize), usize>,
-    group: &GroupPlan,
-    place: usize,
-) -> Result<(), AllocError>
-    ensures { OnOk result ((before : List APlannedGroup) → length before ≡ place → IsIndex before places.old
-        → IsIndex (before ++ group.now ∷ []) places.new) }
+// The span of a number with one more group, at this place behind the others.
+fn extended(span: Option<Span>, place: usize) -> Span
+    requires { place < usize.MAX }
+    ensures { result ≡ extended span place }
 {
-    let key = (group.pgn, usize::from(group.length));
-    match places.get(&key).copied() {
-        Some(_earlier) => Ok(()),
-        None => match places.insert(key, place) {
-            Ok(_) => Ok(()),
-            Err(_) => Err(AllocError),
+    Span {
+        first: match span {
+            Some(span) => span.first,
+            None => place,
         },
+        end: place + 1,
     }
 }
 
-// The first place of each number and length.
-fn places_of(
-    alloc: Global,
-    groups: &[GroupPlan],
-) -> Result<HashMap<(u32, usize), usize>, AllocError>
+// The place of a group after others, unless it is private.
+fn add_place(
+    spans: &mut HashMap<u32, Span>,
+    group: &GroupPlan,
+    place: usize,
+) -> Result<(), AllocError>
+    requires { place < usize.MAX }
+    ensures { OnOk result ((before : List APlannedGroup) → length before ≡ place → IsIndex before spans.old
+        → IsIndex (before ++ group.now ∷ []) spans.new) }
+{
+    if group.private {
+        return Ok(());
+    }
+    let span = extended(spans.get(&group.pgn).copied(), place);
+    match spans.insert(group.pgn, span) {
+        Ok(_) => Ok(()),
+        Err(_) => Err(AllocError),
+    }
+}
+
+// The span of each number, among groups that aren't private.
+fn spans_of(alloc: Global, groups: &[GroupPlan]) -> Result<HashMap<u32, Span>, AllocError>
     ensures { IfOk result (IsIndex groups.now) }
 {
-    let mut places = HashMap::new(alloc);
+    let mut spans = HashMap::new(alloc);
     for (place, group) in groups.iter().enumerate() {
-        add_place(&mut places, group, place)?;
+        add_place(&mut spans, group, place)?;
     }
-    Ok(places)
+    Ok(spans)
+}
+
+// Whether the group has this number, isn't private, and has messages of so many bytes.
+fn is_planned_as(group: &GroupPlan, pgn: u32, bytes: usize) -> bool
+    ensures { result ≡ is_planned_as pgn bytes group.now }
+{
+    (!group.private && group.pgn == pgn)
+        && (usize::from(group.length) <= bytes && bytes <= usize::from(group.most))
+}
+
+// The place of the first such group, which stands in the span of its number.
+fn place_in(groups: &[GroupPlan], span: Span, pgn: u32, bytes: usize) -> Option<usize>
+    requires { HasAllOf groups.now pgn span }
+    ensures { result ≡ position (is_planned_as pgn bytes) groups.now }
+{
+    for place in span.first..span.end {
+        if is_planned_as(&groups[place], pgn, bytes) {
+            return Some(place);
+        }
+    }
+    None
 }
 
 impl Catalog {
@@ -95,21 +136,25 @@ impl Catalog {
         let Ok(lines) = value_lines_of(alloc, plan.groups.as_slice()) else {
             return Err(CatalogError::Memory);
         };
-        let Ok(places) = places_of(alloc, plan.groups.as_slice()) else {
+        let Ok(spans) = spans_of(alloc, plan.groups.as_slice()) else {
             return Err(CatalogError::Memory);
         };
         Ok(Catalog {
             layouts,
             lines,
-            places,
+            spans,
         })
     }
 
-    /// The place of the first group of this number and length.
-    pub fn place(&self, pgn: u32, bytes: usize) -> Option<usize>
-        ensures { (groups : List APlannedGroup) → IsIndex groups self.now.places → result ≡ position (is_planned_as pgn bytes) groups }
+    /// The place of the first of the plan's groups of this number that isn't private and has messages of so many bytes.
+    pub fn place(&self, groups: &[GroupPlan], pgn: u32, bytes: usize) -> Option<usize>
+        requires { IsIndex groups.now self.now.spans }
+        ensures { result ≡ position (is_planned_as pgn bytes) groups.now }
     {
-        self.places.get(&(pgn, bytes)).copied()
+        match self.spans.get(&pgn).copied() {
+            Some(span) => place_in(groups, span, pgn, bytes),
+            None => None,
+        }
     }
 
     /// The layout of the group at a place.

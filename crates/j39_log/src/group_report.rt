@@ -1,11 +1,12 @@
 //! The lines that report a group.
-ghost use Rattle.std.specs.Prelude.{◌≡◌, [], ◌∷◌, ◌++◌, codes, length, map, OnOk};
+ghost use Rattle.std.specs.Prelude.{◌≡◌, ◌≤◌, [], ◌∷◌, ◌++◌, codes, length, map, OnOk};
 ghost use Rattle.hex.specs.Hex.{encode_upper};
 ghost use Rattle.j39_text.specs.Decimals.{quotient_text};
 ghost use Rattle.j39_text.specs.Texts.{field};
-ghost use Rattle.j39_log.specs.LogReports.{group_line, group_report, signal_line, signal_lines, way_text};
+ghost use Rattle.j39_log.specs.LogReports.{group_line, group_report, reading_lines, signal_line, signal_lines, way_text};
 ghost use Rattle.j39_log.specs.inside.ValueLines.{value_line_of, value_lines_of};
 
+use crate::text_lines::write_texts;
 use crate::trouble_code::write_code_line;
 use crate::value_line::ValueLine;
 use j39_findings::GroupPlan;
@@ -83,7 +84,7 @@ fn write_signal(
     }
 }
 
-// The signals of a group, which lay out the bytes.
+// The signals of a group, which lay out the first bytes.
 fn write_signals(
     text: &mut TextBuffer,
     signals: &[Signal],
@@ -93,7 +94,7 @@ fn write_signals(
 ) -> Result<(), AllocError>
     requires signals { layout.now.signals ≡ signals.now }
     requires lines { lines.now ≡ map value_line_of signals.now }
-    requires bytes { length bytes.now ≡ layout.now.length }
+    requires bytes { layout.now.length ≤ length bytes.now }
     ensures { OnOk result (text.new ≡ text.old ++ signal_lines signals.now bytes.now) }
 {
     for (place, signal) in signals.iter().enumerate() {
@@ -140,7 +141,25 @@ fn write_group_line(
     text.end_line()
 }
 
-/// Writes who sent which bytes of a group to whom, and what each of its signals reads.
+/// Writes what the signals and the texts of a group read.
+#[tactic(auto, unfolding(crate::specs::LogReports::reading_lines))]
+pub(super) fn write_readings(
+    text: &mut TextBuffer,
+    group: &GroupPlan,
+    lines: &[ValueLine],
+    layout: &Layout,
+    bytes: &[u8],
+) -> Result<(), AllocError>
+    requires signals { layout.now.signals ≡ group.now.signals.items }
+    requires lines { lines.now ≡ value_lines_of group.now }
+    requires bytes { layout.now.length ≤ length bytes.now }
+    ensures { OnOk result (text.new ≡ text.old ++ reading_lines group.now bytes.now) }
+{
+    write_signals(text, group.signals.as_slice(), lines, layout, bytes)?;
+    write_texts(text, group.texts.as_slice(), bytes)
+}
+
+/// Writes who sent which bytes of a group to whom, and what each of its signals and texts reads.
 #[tactic(auto, unfolding(crate::specs::LogReports::group_report))]
 pub(super) fn write_report(
     text: &mut TextBuffer,
@@ -152,9 +171,9 @@ pub(super) fn write_report(
 ) -> Result<(), AllocError>
     requires signals { layout.now.signals ≡ group.now.signals.items }
     requires lines { lines.now ≡ value_lines_of group.now }
-    requires bytes { length bytes.now ≡ layout.now.length }
+    requires bytes { layout.now.length ≤ length bytes.now }
     ensures { OnOk result (text.new ≡ text.old ++ group_report group.now ident bytes.now) }
 {
     write_group_line(text, group, ident, bytes)?;
-    write_signals(text, group.signals.as_slice(), lines, layout, bytes)
+    write_readings(text, group, lines, layout, bytes)
 }

@@ -7,9 +7,16 @@ mod laws;
 mod listeners;
 mod log_reading;
 mod log_text;
+mod readings;
+mod text_lines;
 mod transport;
 mod trouble_code;
 mod value_line;
 
-pub use laws::a_log_has_one_text;
-pub use log_text::read_text;
+pub use catalog::{Catalog, CatalogError};
+pub use laws::{a_log_has_one_text, older_plans_are_read_as_before};
+pub use listeners::{Listeners, listen};
+pub use log_text::{read_text, refusal};
+pub use readings::write_group_readings;
+pub use transport::transport_packet;
+pub use value_line::ValueLine;

@@ -1,9 +1,9 @@
 //! A listener for each pair of addresses.
-ghost use Rattle.std.specs.Prelude.{◌≡◌, ◌≢◌, ◌<◌, ℕ, [], true, false, vec_len, None, OnOk, IfOk, IfSome, IfNone, if◌then◌else◌};
+ghost use Rattle.std.specs.Prelude.{◌≡◌, ◌≢◌, ◌<◌, ◌==◌, ℕ, [], true, false, vec_len, None, OnOk, IfOk, IfSome, IfNone, if◌then◌else◌};
 ghost use Rattle.j39_tp.specs.Packets.{is_announcement};
 ghost use Rattle.j39_tp.specs.Receiver.{fresh, receives};
 ghost use Rattle.j39_tp.specs.declared.receiving.manner.Manner.TheVariants.{Listening};
-ghost use Rattle.j39_log.specs.inside.Listening.{HasListener, completes, is_pair, listener_at, listener_in};
+ghost use Rattle.j39_log.specs.inside.Listening.{HasListener, completes, is_of_pair, is_pair, listener_at, listener_in};
 ghost use Rattle.j39_log.specs.inside.Listening.{listener_of_pair, slots_at};
 ghost use Rattle.j39_log.specs.LogPairs.{is_abort as aborts, is_heard_by};
 
@@ -16,7 +16,7 @@ type Row = Vec<Option<Box<Receiver>>>;
 
 /// A listener for each pair of addresses that had an announcement: a row for each source, up to the greatest that announced.
 #[derive(Drop)]
-pub(crate) struct Listeners {
+pub struct Listeners {
     alloc: Global,
     rows: Vec<Row>,
 }
@@ -100,6 +100,17 @@ fn hear_at(row: &mut Row, destination: usize, packet: &Packet) -> bool
     hear_in(&mut row[destination], packet)
 }
 
+// No listener at a place of a row.
+fn empty(row: &mut Row, destination: usize)
+    ensures { (d : ℕ) → listener_at row.new.items d
+        ≡ (if destination == d then fresh Listening else listener_at row.old.items d) }
+{
+    if row.len() <= destination {
+        return;
+    }
+    row[destination] = None;
+}
+
 impl Listeners {
     pub fn new(alloc: Global) -> Self
         ensures { result.rows.items ≡ [] }
@@ -150,6 +161,29 @@ impl Listeners {
         Ok(self.hear_by(source, destination, packet))
     }
 
+    // The pair begins anew.
+    fn close(&mut self, source: usize, destination: usize)
+        ensures { (s d : ℕ) → listener_of_pair self.new.rows.items s d
+            ≡ (if is_pair source destination s d then fresh Listening else listener_of_pair self.old.rows.items s d) }
+    {
+        if self.rows.len() <= source {
+            return;
+        }
+        empty(&mut self.rows[source], destination);
+    }
+
+    /// Each pair of this address begins anew.
+    pub fn forget(&mut self, address: u8)
+        ensures { (s d : ℕ) → s < 256 → d < 256 → listener_of_pair self.new.rows.items s d
+            ≡ (if is_of_pair address s d then fresh Listening else listener_of_pair self.old.rows.items s d) }
+    {
+        let place = usize::from(address);
+        for other in 0..256 {
+            self.close(place, other);
+            self.close(other, place);
+        }
+    }
+
     /// The listener of a pair.
     pub fn listener(&self, source: u8, destination: u8) -> Option<&Receiver>
         ensures some { IfSome result (λ listener. listener.now ≡ listener_of_pair self.now.rows.items source destination) }
@@ -164,11 +198,7 @@ impl Listeners {
 }
 
 /// Whether the packet completes a message of the pair that it is sent from and to. An Abort is heard both ways round.
-pub(super) fn listen(
-    listeners: &mut Listeners,
-    ident: Ident,
-    packet: &Packet,
-) -> Result<bool, AllocError>
+pub fn listen(listeners: &mut Listeners, ident: Ident, packet: &Packet) -> Result<bool, AllocError>
     ensures heard { OnOk result ((source destination : ℕ) → source < 256 → destination < 256
         → listener_of_pair listeners.new.rows.items source destination
         ≡ (if is_heard_by source destination ident packet.now

@@ -66,7 +66,7 @@ fn write_planned(
     ensures { OnOk result ((piece : List ℕ) × IsGroupReport plan.now (planned plan.now pgn (length bytes.now)) ident bytes.now piece
         × (text.new ≡ text.old ++ piece)) }
 {
-    match catalog.place(pgn, bytes.len()) {
+    match catalog.place(&plan.groups, pgn, bytes.len()) {
         Some(place) => write_group(text, plan, catalog, place, ident, bytes),
         None => Ok(()),
     }
@@ -136,7 +136,7 @@ fn write_frame(
         × (text.new ≡ text.old ++ piece)) }
 {
     let bytes = frame.payload.as_slice();
-    if let Some(place) = catalog.place(frame.ident.pgn().number(), bytes.len()) {
+    if let Some(place) = catalog.place(&plan.groups, frame.ident.pgn().number(), bytes.len()) {
         return write_group(text, plan, catalog, place, frame.ident, bytes);
     }
     match transport_packet(frame) {

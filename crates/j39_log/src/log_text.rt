@@ -91,9 +91,9 @@ fn read_log<S: Source, W: Sink>(
     put_text(sink, &mut reading.text)
 }
 
-// The line of a refused plan.
+/// The line of a refused plan.
 #[tactic(auto, unfolding(crate::specs::ReadText::refused_plan_line))]
-fn refusal(alloc: Global, plan: &Plan, group: usize) -> Result<TextBuffer, AllocError>
+pub fn refusal(alloc: Global, plan: &Plan, group: usize) -> Result<TextBuffer, AllocError>
     ensures { IfOk result (λ text. text ≡ refused_plan_line plan.now group) }
 {
     let mut text = TextBuffer::new(alloc);

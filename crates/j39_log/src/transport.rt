@@ -47,7 +47,7 @@ fn data_packet(frame: &Frame) -> Option<Packet>
 }
 
 /// The transport packet that a frame is.
-pub(super) fn transport_packet(frame: &Frame) -> Option<Packet>
+pub fn transport_packet(frame: &Frame) -> Option<Packet>
     ensures found { IfSome result (λ p. IsPacket frame.now p × InRange p) }
     ensures none { IfNone result ((p : APacket) → ¬ IsPacket frame.now p) }
 {

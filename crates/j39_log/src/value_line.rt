@@ -11,7 +11,7 @@ use std::alloc::{AllocError, Global};
 
 /// The text before the value of a signal, and the one behind it.
 #[derive(Drop)]
-pub(crate) struct ValueLine {
+pub struct ValueLine {
     pub before: TextBuffer,
     pub after: TextBuffer,
 }

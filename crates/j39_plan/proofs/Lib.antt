@@ -1,6 +1,7 @@
 pub mod EachElement
 pub mod FirstFaults
 pub mod HeadElements
+pub mod HeadRules
 pub mod Labelled
 pub mod NoFaults
 pub mod OneAnswer

@@ -78,7 +78,7 @@ AreApart = AllPairs (λ l m. l ≢ m)
 nothing_apart : AreApart []
 nothing_apart i j d before below = absurd (omega arith)
 
-apart_from : (seen : List (List ℕ)) (label : List ℕ) → is_among seen label ≡ false → All (λ l. l ≢ label) seen
+pub apart_from : (seen : List (List ℕ)) (label : List ℕ) → is_among seen label ≡ false → All (λ l. l ≢ label) seen
 apart_from [] label none = λ k d below. absurd (omega arith)
 apart_from (l ∷ seen) label none =
     let parts = or_parts (bytes_eq l label) (is_among seen label) none in

@@ -1,5 +1,6 @@
 -- Reading a file gives one answer.
-use Rattle.std.proofs.Common.{◌≡◌, ◌≢◌, ℕ, Bool, List, [], ◌∷◌, Option, Some, Result, Ok, Err, refl, sym, ap, ◌∙◌}
+use Rattle.std.proofs.Common.{◌≡◌, ◌≢◌, ℕ, Bool, List, [], ◌∷◌, Option, Some, None, Result, Ok, Err, refl, sym, ap, ◌∙◌}
+use Rattle.std.specs.Prelude.{unwrap_or}
 use Rattle.std.specs.List.{AllZip}
 use Rattle.std.proofs.lemmas.Option.{same_Some, none-some}
 use Rattle.toml.specs.Data.{Data, Items, no_items, item, Members}
@@ -8,6 +9,9 @@ use Rattle.j39_findings.specs.declared.plan.Plan.{Plan}
 use Rattle.j39_findings.specs.declared.plan.unit_plan.UnitPlan.{UnitPlan}
 use Rattle.j39_findings.specs.declared.plan.group_plan.GroupPlan.{GroupPlan}
 use Rattle.j39_findings.specs.declared.plan.flow_plan.FlowPlan.{FlowPlan}
+use Rattle.j39_findings.specs.declared.plan.text_plan.TextPlan.{TextPlan}
+use Rattle.j39_findings.specs.declared.plan.pace.Pace.{Pace}
+use Rattle.j39_findings.specs.declared.plan.timing.Timing.{Timing}
 use Rattle.j39_plan.specs.declared.reading.fault.Fault.{Fault}
 use Rattle.j39_plan.specs.declared.reading.plan_error.PlanError.{PlanError}
 use Rattle.j39_plan.specs.declared.reading.plan_error.PlanError.TheVariants as errors
@@ -15,13 +19,14 @@ use Rattle.j39_plan.specs.Elements.{Each, inside}
 use Rattle.j39_plan.specs.Outcome.{first}
 use Rattle.j39_plan.specs.UnitTables.{IsUnitOf}
 use Rattle.j39_plan.specs.SignalTables.{IsSignalOf}
-use Rattle.j39_plan.specs.GroupTables.{IsGroupOf, signal_rule}
-use Rattle.j39_plan.specs.FlowTables.{IsFlowOf}
-use Rattle.j39_plan.specs.Schema.{tables_of}
-use Rattle.j39_findings.specs.Findings.{AreOneFlow}
-use Rattle.j39_plan.specs.Faults.{faults, unit_rule, group_rule, flow_rule, unit_labels, group_labels, is_third}
+use Rattle.j39_plan.specs.TextTables.{IsTextOf}
+use Rattle.j39_plan.specs.GroupTables.{IsGroupOf, signal_rule, texts_of}
+use Rattle.j39_plan.specs.FlowTables.{IsFlowOf, TellsPace, deadline_rule}
+use Rattle.j39_plan.specs.TimingTables.{TellsTiming}
+use Rattle.j39_plan.specs.Schema.{tables_of, given_number}
+use Rattle.j39_plan.specs.Faults.{faults, unit_rule, group_rule, flow_rule, timing_table, unit_labels, group_labels, is_third}
 use Rattle.j39_plan.specs.Described.{TellsPlan, Described, Reads}
-use Rattle.j39_plan.specs.OnePlan.{AreOneUnit, AreOneSignal, AreOneGroup, AreOnePlan, AreOneAnswer}
+use Rattle.j39_plan.specs.OnePlan.{AreOneUnit, AreOneSignal, AreOneText, AreOneGroup, AreOneTiming, AreOnePace, AreOneFlowPlan, AreOnePlan, AreOneAnswer}
 
 -- what elements tell is one, where what each tells is
 one_each : {T : Type 0} (Is : Data → T → Type 0) (One : T → T → Type 0) (one : (d : Data) (x y : T) → Is d x → Is d y → One x y)
@@ -55,28 +60,58 @@ one_signal third d s t a b = record {
   units = a.has_unit ∙ sym b.has_unit;
 }
 
+one_text : (d : Data) (t u : TextPlan) → IsTextOf d t → IsTextOf d u → AreOneText t u
+one_text d t u a b = record {
+  labels = a.has_label ∙ sym b.has_label;
+  places = a.has_byte ∙ sym b.has_byte;
+  lengths = a.has_bytes ∙ sym b.has_bytes;
+}
+
 one_group : (third : Bool) (d : Data) (g h : GroupPlan) → IsGroupOf third d g → IsGroupOf third d h → AreOneGroup g h
 one_group third d g h a b = record {
   labels = a.has_label ∙ sym b.has_label;
   pgns = a.has_pgn ∙ sym b.has_pgn;
   priorities = a.has_priority ∙ sym b.has_priority;
   lengths = a.has_length ∙ sym b.has_length;
+  privates = a.has_private ∙ sym b.has_private;
+  mosts = a.has_most ∙ sym b.has_most;
   signals = one_each (IsSignalOf third) AreOneSignal (one_signal third) (tables_of signal_rule (inside d)) _ _ a.has_signals b.has_signals;
+  texts = one_each IsTextOf AreOneText one_text (texts_of third (inside d)) _ _ a.has_texts b.has_texts;
 }
 
-one_flow : (groups units : List (List ℕ)) (d : Data) (f h : FlowPlan) → IsFlowOf groups units d f → IsFlowOf groups units d h → AreOneFlow f h
-one_flow groups units d f h a b = (
-  same_Some _ _ (sym a.has_group ∙ b.has_group),
-  same_Some _ _ (sym a.has_sender ∙ b.has_sender),
-  same_Some _ _ (sym a.has_receivers ∙ b.has_receivers),
-)
+one_timing : (tree : Option Members) (t u : Option Timing) → TellsTiming tree t → TellsTiming tree u → AreOneTiming t u
+one_timing None None None a b = tt
+one_timing None None (Some u) a b = absurd b
+one_timing None (Some t) u a b = absurd a
+one_timing (Some ms) None u a b = absurd a
+one_timing (Some ms) (Some t) None a b = absurd b
+one_timing (Some ms) (Some t) (Some u) a b = (a.has_bitrate ∙ sym b.has_bitrate, a.has_unplanned ∙ sym b.has_unplanned)
+
+one_pace : (third : Bool) (ms : Members) (p q : Option Pace) → TellsPace third ms p → TellsPace third ms q → AreOnePace p q
+one_pace third ms None None a b = tt
+one_pace third ms None (Some q) a b = absurd (none-some _ (a.has_period ∙ sym b.has_period))
+one_pace third ms (Some p) None a b = absurd (none-some _ (b.has_period ∙ sym a.has_period))
+one_pace third ms (Some p) (Some q) a b =
+    let periods : p.period ≡ q.period = same_Some _ _ (a.has_period ∙ sym b.has_period) in
+    (periods, a.has_deadline ∙ ap (λ n. unwrap_or (given_number deadline_rule ms) n) periods ∙ sym b.has_deadline)
+
+one_flow : (third : Bool) (groups units : List (List ℕ)) (d : Data) (f h : FlowPlan) → IsFlowOf third groups units d f → IsFlowOf third groups units d h → AreOneFlowPlan f h
+one_flow third groups units d f h a b = record {
+  flows = (
+    same_Some _ _ (sym a.has_group ∙ b.has_group),
+    same_Some _ _ (sym a.has_sender ∙ b.has_sender),
+    same_Some _ _ (sym a.has_receivers ∙ b.has_receivers),
+  );
+  paces = one_pace third (inside d) f.pace h.pace a.has_pace b.has_pace;
+}
 
 one_plan : (tree : Members) (p q : Plan) → TellsPlan tree p → TellsPlan tree q → AreOnePlan p q
 one_plan tree p q a b = record {
   keep_free = a.has_keep_free ∙ sym b.has_keep_free;
+  timing = one_timing (timing_table tree) p.timing q.timing a.has_timing b.has_timing;
   units = one_each IsUnitOf AreOneUnit one_unit (tables_of unit_rule tree) _ _ a.has_units b.has_units;
   groups = one_each (IsGroupOf (is_third tree)) AreOneGroup (one_group (is_third tree)) (tables_of group_rule tree) _ _ a.has_groups b.has_groups;
-  flows = one_each (IsFlowOf (group_labels tree) (unit_labels tree)) AreOneFlow (one_flow (group_labels tree) (unit_labels tree)) (tables_of flow_rule tree) _ _
+  flows = one_each (IsFlowOf (is_third tree) (group_labels tree) (unit_labels tree)) AreOneFlowPlan (one_flow (is_third tree) (group_labels tree) (unit_labels tree)) (tables_of flow_rule tree) _ _
       a.has_flows b.has_flows;
 }
 

@@ -1,12 +1,24 @@
--- What is true of the signals of a group that was read.
-use Rattle.std.proofs.Common.{◌≡◌, ◌≢◌, ℕ, Bool, false, List, [], AllPairs}
-use Rattle.toml.specs.Data.{Data, Items}
+-- What is true of the signals and the texts of a group that was read.
+use Rattle.std.proofs.Common.{◌≡◌, ◌≢◌, ℕ, suc, Bool, true, false, List, [], ◌∷◌, ◌++◌, ◌||◌, ◌≤◌, All, AllPairs, map, sym, ◌∙◌, arith}
+use Rattle.std.proofs.lemmas.Bool.{or_parts}
+use Rattle.std.proofs.lemmas.Bool.Decides.{not_from_Decides}
+use Rattle.std.proofs.lemmas.List.{length-map, get_or-map}
+use Rattle.std.proofs.lemmas.List.Elements.{All-cons}
+use Rattle.std.proofs.lemmas.Slice.Eq.{bytes_eq-Decides}
+use Rattle.std.specs.Str.{bytes_eq}
+use Rattle.toml.specs.Data.{Data, Items, no_items, item, Members}
 use Rattle.j39_signal.specs.Parts.{SignalParts}
+use Rattle.j39_findings.specs.declared.plan.text_plan.TextPlan.{TextPlan}
 use Rattle.j39_plan.specs.declared.reading.place.Table.TheVariants as at
 use Rattle.j39_plan.specs.declared.reading.text_kind.TextKind.TheVariants as texts
-use Rattle.j39_plan.specs.Elements.{each_faults, Each, is_among}
+use Rattle.j39_plan.specs.declared.reading.key.Key.TheVariants as key
+use Rattle.j39_plan.specs.Schema.{items_count}
+use Rattle.j39_plan.specs.Elements.{each_faults, Each, is_among, labels_of}
 use Rattle.j39_plan.specs.SignalTables.{IsSignalOf, IsFit, signal_label, signal_faults}
-use Rattle.j39_plan.proofs.NoFaults.{none_right, fresh_label, labels_apart}
+use Rattle.j39_plan.specs.TextTables.{IsTextOf, text_label, text_faults}
+use Rattle.j39_plan.specs.GroupTables.{texts_of}
+use Rattle.j39_plan.proofs.Labelled.{is_among_both}
+use Rattle.j39_plan.proofs.NoFaults.{none_left, none_right, fresh_label, labels_apart, labels_told, apart_from, tables_count}
 
 abbrev pub IsRead : Bool → Data → SignalParts → Type 0
 IsRead third d s = IsSignalOf third d s × IsFit s
@@ -21,3 +33,52 @@ pub signals_apart : (third : Bool) (g : ℕ) (ds : Items) (xs : List SignalParts
     → AllPairs (λ s t. s.label.bytes ≢ t.label.bytes) xs
 signals_apart third g ds xs each none =
     labels_apart (IsRead third) (signal_faults third g) signal_label (λ s. s.label.bytes) (λ d s read. read.0.has_label) (fresh_signal third g) ds xs each none
+
+-- the labels of signals
+abbrev pub signal_texts : List SignalParts → List (List ℕ)
+signal_texts = map (λ s. s.label.bytes)
+
+-- those of signals that were read are those of the file
+pub signal_texts_told : (third : Bool) (ds : Items) (xs : List SignalParts) → Each (IsRead third) ds xs → signal_texts xs ≡ labels_of signal_label ds
+signal_texts_told third = labels_told (IsRead third) signal_label (λ s. s.label.bytes) (λ d s read. read.0.has_label)
+
+-- ---- texts
+
+pub texts_count : (third : Bool) (ms : Members) → items_count (texts_of third ms) ≤ 64
+texts_count true ms = tables_count key.Text 64 ms
+texts_count false ms = omega arith
+
+-- a text without a fault has a label that neither a signal nor a text before it has
+fresh_text : (taken : List (List ℕ)) (g i : ℕ) (seen : List (List ℕ)) (d : Data) (t : TextPlan) → IsTextOf d t → text_faults taken g i seen d ≡ []
+    → (is_among taken (text_label d) || is_among seen (text_label d)) ≡ false
+unfolding text_faults
+fresh_text taken g i seen d t is none =
+    sym (is_among_both taken seen (text_label d))
+    ∙ fresh_label (at.Text g i) texts.Label (taken ++ seen) (text_label d) (rw (← is.has_label) t.label_form) (none_right _ _ none)
+
+pub texts_apart : (taken : List (List ℕ)) (g : ℕ) (ds : Items) (xs : List TextPlan) → Each IsTextOf ds xs
+    → each_faults (text_faults taken g) text_label 0 [] ds ≡ [] → AllPairs (λ s t. s.label.bytes ≢ t.label.bytes) xs
+texts_apart taken g ds xs each none =
+    labels_apart IsTextOf (text_faults taken g) text_label (λ t. t.label.bytes) (λ d t is. is.has_label)
+    (λ i seen d t is here. (or_parts _ _ (fresh_text taken g i seen d t is here)).1) ds xs each none
+
+apart_signals : (label : List ℕ) (signals : List SignalParts) → All (λ l. l ≢ label) (signal_texts signals)
+    → All (λ s. s.label.bytes ≢ label) signals
+apart_signals label signals apart k d below =
+    let at = get_or-map (λ (s : SignalParts). s.label.bytes) signals k d d.label.bytes below in
+    rw (← at) (apart k d.label.bytes (rw length-map below))
+
+-- texts without faults have labels that no signal has
+pub texts_beside : (signals : List SignalParts) (g i : ℕ) (seen : List (List ℕ)) (ds : Items) (xs : List TextPlan) → Each IsTextOf ds xs
+    → each_faults (text_faults (signal_texts signals) g) text_label i seen ds ≡ []
+    → All (λ t. All (λ s. s.label.bytes ≢ t.label.bytes) signals) xs
+unfolding Each each_faults
+texts_beside signals g i seen no_items [] each none = λ k d below. absurd (omega arith)
+texts_beside signals g i seen no_items (x ∷ xs) each none = absurd each
+texts_beside signals g i seen (item d ds) [] each none = absurd each
+texts_beside signals g i seen (item d ds) (x ∷ xs) each none =
+    let taken = signal_texts signals in
+    let fresh = (or_parts _ _ (fresh_text taken g i seen d x each.0 (none_left _ _ none))).0 in
+    let here = apart_signals (text_label d) signals (apart_from taken (text_label d) fresh) in
+    All-cons (λ t. All (λ s. s.label.bytes ≢ t.label.bytes) signals) x xs (rw (each.0.has_label) here)
+    (texts_beside signals g (suc i) (seen ++ text_label d ∷ []) ds xs each.1 (none_right _ _ none))

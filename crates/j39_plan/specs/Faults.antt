@@ -1,17 +1,19 @@
 -- Every fault of a plan file's tree, in the order in which they are looked for.
-use Rattle.std.specs.Prelude.{ℕ, ◌==◌, ◌||◌, List, [], ◌∷◌, ◌++◌, map, Bool, if◌then◌else◌, None}
+use Rattle.std.specs.Prelude.{ℕ, ◌==◌, ◌||◌, List, [], ◌∷◌, ◌++◌, map, Bool, if◌then◌else◌, Option, None}
+use Rattle.std.specs.Option.{option_map_or}
 use Rattle.toml.specs.Data.{Data, Members}
 use Rattle.j39_id.specs.Addresses.{pool_size}
 use Rattle.j39_id.specs.Limits.{unit_limit}
 use Rattle.j39_plan.specs.declared.reading.key.Key.TheVariants as key
 use Rattle.j39_plan.specs.declared.reading.place.Table.TheVariants as at
 use Rattle.j39_plan.specs.declared.reading.fault.Fault.{Fault}
-use Rattle.j39_plan.specs.Schema.{Rule, number, addresses, tables, number_of, tables_of}
-use Rattle.j39_plan.specs.TableFaults.{unknown_faults, keys_faults}
+use Rattle.j39_plan.specs.Schema.{Rule, number, addresses, tables, optional_table, number_of, table_of, tables_of}
+use Rattle.j39_plan.specs.TableFaults.{unknown_faults, key_faults, keys_faults}
 use Rattle.j39_plan.specs.Elements.{each_faults, labels_of}
 use Rattle.j39_plan.specs.UnitTables.{unit_faults, unit_label}
 use Rattle.j39_plan.specs.GroupTables.{group_faults, group_label}
 use Rattle.j39_plan.specs.FlowTables.{flow_faults}
+use Rattle.j39_plan.specs.TimingTables.{timing_table_faults}
 
 abbrev pub version_rule : Rule
 version_rule = number key.Version 1 3 None
@@ -20,13 +22,17 @@ version_rule = number key.Version 1 3 None
 unfoldable pub may_keep : Members → Bool
 may_keep tree = number_of version_rule tree == 2 || number_of version_rule tree == 3
 
--- the version is the integer 3, which knows more of groups and signals
+-- the version is the integer 3, which knows more of groups, signals and flows, and of the bus itself
 unfoldable pub is_third : Members → Bool
 is_third tree = number_of version_rule tree == 3
 
 -- the addresses that no arbitrary unit may hold
 abbrev pub keep_free_rule : Rule
 keep_free_rule = addresses key.KeepFree pool_size
+
+-- what is known of the bus itself
+abbrev pub timing_rule : Rule
+timing_rule = optional_table key.Timing
 
 abbrev pub unit_rule : Rule
 unit_rule = tables key.Unit unit_limit
@@ -37,15 +43,22 @@ group_rule = tables key.Group 256
 abbrev pub flow_rule : Rule
 flow_rule = tables key.Flow 512
 
--- the keys before the arrays of tables: a plan of the first version keeps no address free
+-- the first keys of tables: a plan of the first version keeps no address free
 abbrev pub head_rules : Members → List Rule
 head_rules tree = if may_keep tree then version_rule ∷ keep_free_rule ∷ [] else version_rule ∷ []
 
 abbrev pub array_rules : List Rule
 array_rules = unit_rule ∷ group_rule ∷ flow_rule ∷ []
 
+abbrev pub timing_rules : Members → List Rule
+timing_rules tree = if is_third tree then timing_rule ∷ [] else []
+
 abbrev pub top_rules : Members → List Rule
-top_rules tree = head_rules tree ++ array_rules
+top_rules tree = head_rules tree ++ (timing_rules tree ++ array_rules)
+
+-- the table of the bus itself: none in a version that doesn't know it
+abbrev pub timing_table : Members → Option Members
+timing_table tree = if is_third tree then table_of timing_rule tree else None
 
 abbrev pub unit_labels : Members → List (List ℕ)
 unit_labels tree = labels_of unit_label (tables_of unit_rule tree)
@@ -64,14 +77,18 @@ abbrev pub groups_faults : Members → List Fault
 groups_faults tree = each_faults (group_faults (is_third tree)) group_label 0 [] (tables_of group_rule tree)
 
 abbrev pub flows_faults : Members → List Fault
-flows_faults tree = each_faults (λ i seen. flow_faults (group_labels tree) (unit_labels tree) i) no_label 0 [] (tables_of flow_rule tree)
+flows_faults tree = each_faults (λ i seen. flow_faults (is_third tree) (group_labels tree) (unit_labels tree) i) no_label 0 [] (tables_of flow_rule tree)
 
--- a key that no rule names, and what stands at the keys before the arrays
+-- a key that no rule names, and what stands at the version and at the addresses to keep free
 abbrev pub head_faults : Members → List Fault
 head_faults tree = unknown_faults at.Top (map (λ r. r.key) (top_rules tree)) tree ++ keys_faults at.Top tree (head_rules tree)
 
+-- what stands at the key of the bus itself, and then the faults of its table
+abbrev pub timing_faults : Members → List Fault
+timing_faults tree = keys_faults at.Top tree (timing_rules tree) ++ option_map_or timing_table_faults (timing_table tree) []
+
 abbrev pub top_faults : Members → List Fault
-top_faults tree = head_faults tree ++ keys_faults at.Top tree array_rules
+top_faults tree = head_faults tree ++ (timing_faults tree ++ keys_faults at.Top tree array_rules)
 
 -- the top table's keys, then the units, the groups and the flows, each in order
 abbrev pub faults : Members → List Fault

@@ -1,17 +1,18 @@
--- The tables of groups, in the third version of a plan and in another.
-use Rattle.std.specs.Prelude.{◌≡◌, ℕ, List, [], ◌++◌, ◌∷◌, Bool, None}
+-- The tables of groups. The third version knows whether a group's number is a maker's own, the length of its longest messages, and texts.
+use Rattle.std.specs.Prelude.{◌≡◌, ℕ, List, [], ◌++◌, ◌∷◌, Bool, true, false, Some, None}
 use Rattle.std.specs.Option.{option_map_or}
-use Rattle.toml.specs.Data.{Data, Members, as_table}
+use Rattle.toml.specs.Data.{Data, Items, no_items, Members, as_table}
 use Rattle.j39_id.specs.Limits.{message_bytes}
 use Rattle.j39_findings.specs.declared.plan.group_plan.GroupPlan.{GroupPlan}
 use Rattle.j39_plan.specs.declared.reading.key.Key.TheVariants as key
 use Rattle.j39_plan.specs.declared.reading.place.Table.TheVariants as at
 use Rattle.j39_plan.specs.declared.reading.fault.Fault.{Fault}
 use Rattle.j39_plan.specs.declared.reading.text_kind.TextKind.TheVariants as texts
-use Rattle.j39_plan.specs.Schema.{Rule, number, text, tables, number_of, text_of, tables_of}
+use Rattle.j39_plan.specs.Schema.{Rule, number, flag, text, tables, number_of, flag_of, text_of, tables_of}
 use Rattle.j39_plan.specs.TableFaults.{table_faults, table_only_faults}
-use Rattle.j39_plan.specs.Elements.{inside, repeated_faults, each_faults, Each}
+use Rattle.j39_plan.specs.Elements.{inside, repeated_faults, each_faults, labels_of, Each}
 use Rattle.j39_plan.specs.SignalTables.{IsSignalOf, signal_label, signal_faults}
+use Rattle.j39_plan.specs.TextTables.{IsTextOf, text_label, text_faults}
 
 abbrev pub label_rule : Rule
 label_rule = text key.Label texts.Label None
@@ -25,11 +26,41 @@ priority_rule = number key.Priority 0 7 None
 abbrev pub length_rule : Rule
 length_rule = number key.Length 1 message_bytes None
 
+abbrev pub private_rule : Rule
+private_rule = flag key.Private false
+
+-- at least the length of the shortest, which it is without the key
+abbrev pub most_rule : ℕ → Rule
+most_rule length = number key.Most length message_bytes (Some length)
+
 abbrev pub signal_rule : Rule
 signal_rule = tables key.Signal 64
 
-abbrev pub group_rules : List Rule
-group_rules = label_rule ∷ pgn_rule ∷ priority_rule ∷ length_rule ∷ signal_rule ∷ []
+abbrev pub text_rule : Rule
+text_rule = tables key.Text 64
+
+-- behind the length, in the third version and in another
+abbrev pub later_rules : Bool → ℕ → List Rule
+later_rules true length = private_rule ∷ most_rule length ∷ signal_rule ∷ text_rule ∷ []
+later_rules false length = signal_rule ∷ []
+
+abbrev pub group_rules : Bool → Members → List Rule
+group_rules third ms = label_rule ∷ pgn_rule ∷ priority_rule ∷ length_rule ∷ later_rules third (number_of length_rule ms)
+
+-- whether the number is a maker's own: it isn't in a version that doesn't know it
+abbrev pub private_of : Bool → Members → Bool
+private_of true ms = flag_of private_rule ms
+private_of false ms = false
+
+-- the length of its longest messages: that of all in a version that doesn't know several
+abbrev pub most_of : Bool → ℕ → Members → ℕ
+most_of true length ms = number_of (most_rule length) ms
+most_of false length ms = length
+
+-- the tables of its texts: none in a version that doesn't know them
+abbrev pub texts_of : Bool → Members → Items
+texts_of true ms = tables_of text_rule ms
+texts_of false ms = no_items
 
 -- the group that a table tells
 pub record TellsGroup (third : Bool) (ms : Members) (g : GroupPlan) : Type 0 where
@@ -37,7 +68,17 @@ pub record TellsGroup (third : Bool) (ms : Members) (g : GroupPlan) : Type 0 whe
   pub has_pgn : g.pgn ≡ number_of pgn_rule ms
   pub has_priority : g.priority ≡ number_of priority_rule ms
   pub has_length : g.length ≡ number_of length_rule ms
+  pub has_private : g.private ≡ private_of third ms
+  pub has_most : g.most ≡ most_of third (number_of length_rule ms) ms
   pub has_signals : Each (IsSignalOf third) (tables_of signal_rule ms) g.signals.items
+  pub has_texts : Each IsTextOf (texts_of third ms) g.texts.items
+
+-- but in the third version a group has these keys, and its messages have one length
+abbrev pub OlderRules : Type 0
+OlderRules = (ms : Members) → group_rules false ms ≡ label_rule ∷ pgn_rule ∷ priority_rule ∷ length_rule ∷ signal_rule ∷ []
+
+abbrev pub OlderLengths : Type 0
+OlderLengths = (ms : Members) (g : GroupPlan) → TellsGroup false ms g → g.most ≡ g.length
 
 abbrev pub IsGroupOf : Bool → Data → GroupPlan → Type 0
 IsGroupOf third d g = TellsGroup third (inside d) g
@@ -45,9 +86,19 @@ IsGroupOf third d g = TellsGroup third (inside d) g
 abbrev pub group_label : Data → List ℕ
 group_label d = text_of label_rule (inside d)
 
+abbrev pub signals_faults : Bool → ℕ → Members → List Fault
+signals_faults third g ms = each_faults (signal_faults third g) signal_label 0 [] (tables_of signal_rule ms)
+
+-- of its texts, whose labels none of its signals may have either
+abbrev pub signal_labels : Members → List (List ℕ)
+signal_labels ms = labels_of signal_label (tables_of signal_rule ms)
+
+abbrev pub texts_faults : Bool → ℕ → Members → List Fault
+texts_faults third g ms = each_faults (text_faults (signal_labels ms) g) text_label 0 [] (texts_of third ms)
+
 unfoldable pub group_table_faults : Bool → ℕ → Members → List Fault
-group_table_faults third g ms = table_faults (at.Group g) group_rules ms
-    ++ each_faults (signal_faults third g) signal_label 0 [] (tables_of signal_rule ms)
+group_table_faults third g ms =
+    table_faults (at.Group g) (group_rules third ms) ms ++ (signals_faults third g ms ++ texts_faults third g ms)
 
 -- the faults of the g-th group, behind those with the labels seen
 unfoldable pub group_faults : Bool → ℕ → List (List ℕ) → Data → List Fault

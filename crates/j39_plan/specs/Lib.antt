@@ -10,5 +10,7 @@ pub mod Schema
 pub mod SignalTables
 pub mod TableFaults
 pub mod TextKinds
+pub mod TextTables
+pub mod TimingTables
 pub mod UnitTables
 pub mod Words

@@ -1,10 +1,14 @@
 -- A file describes one plan.
-use Rattle.std.specs.Prelude.{◌≡◌, ◌≢◌, ℕ, List, Result, Ok, Err}
+use Rattle.std.specs.Prelude.{◌≡◌, ◌≢◌, ℕ, List, Option, Some, None, Result, Ok, Err}
 use Rattle.std.specs.List.{AllZip}
 use Rattle.j39_signal.specs.Parts.{SignalParts}
 use Rattle.j39_findings.specs.declared.plan.Plan.{Plan}
 use Rattle.j39_findings.specs.declared.plan.unit_plan.UnitPlan.{UnitPlan}
 use Rattle.j39_findings.specs.declared.plan.group_plan.GroupPlan.{GroupPlan}
+use Rattle.j39_findings.specs.declared.plan.text_plan.TextPlan.{TextPlan}
+use Rattle.j39_findings.specs.declared.plan.flow_plan.FlowPlan.{FlowPlan}
+use Rattle.j39_findings.specs.declared.plan.pace.Pace.{Pace}
+use Rattle.j39_findings.specs.declared.plan.timing.Timing.{Timing}
 use Rattle.j39_plan.specs.declared.reading.plan_error.PlanError.{PlanError}
 use Rattle.j39_plan.specs.declared.reading.plan_error.PlanError.TheVariants.{Memory}
 use Rattle.j39_findings.specs.Findings.{AreOneFlow}
@@ -29,18 +33,43 @@ pub record AreOneSignal (s t : SignalParts) : Type 0 where
   pub pers : s.per ≡ t.per
   pub units : s.unit.bytes ≡ t.unit.bytes
 
+pub record AreOneText (t u : TextPlan) : Type 0 where
+  pub labels : t.label.bytes ≡ u.label.bytes
+  pub places : t.byte ≡ u.byte
+  pub lengths : t.bytes ≡ u.bytes
+
 pub record AreOneGroup (g h : GroupPlan) : Type 0 where
   pub labels : g.label.bytes ≡ h.label.bytes
   pub pgns : g.pgn ≡ h.pgn
   pub priorities : g.priority ≡ h.priority
   pub lengths : g.length ≡ h.length
+  pub privates : g.private ≡ h.private
+  pub mosts : g.most ≡ h.most
   pub signals : AllZip AreOneSignal g.signals.items h.signals.items
+  pub texts : AllZip AreOneText g.texts.items h.texts.items
+
+-- one bus
+abbrev pub AreOneTiming : Option Timing → Option Timing → Type 0
+AreOneTiming None None = Unit {0}
+AreOneTiming (Some t) (Some u) = (t.bitrate ≡ u.bitrate) × (t.unplanned ≡ u.unplanned)
+AreOneTiming _ _ = ⊥
+
+-- one period and one deadline, or none
+abbrev pub AreOnePace : Option Pace → Option Pace → Type 0
+AreOnePace None None = Unit {0}
+AreOnePace (Some p) (Some q) = (p.period ≡ q.period) × (p.deadline ≡ q.deadline)
+AreOnePace _ _ = ⊥
+
+pub record AreOneFlowPlan (f h : FlowPlan) : Type 0 where
+  pub flows : AreOneFlow f h
+  pub paces : AreOnePace f.pace h.pace
 
 pub record AreOnePlan (p q : Plan) : Type 0 where
   pub keep_free : p.keep_free ≡ q.keep_free
+  pub timing : AreOneTiming p.timing q.timing
   pub units : AllZip AreOneUnit p.units.items q.units.items
   pub groups : AllZip AreOneGroup p.groups.items q.groups.items
-  pub flows : AllZip AreOneFlow p.flows.items q.flows.items
+  pub flows : AllZip AreOneFlowPlan p.flows.items q.flows.items
 
 -- ---- the law
 

@@ -20,8 +20,12 @@ pub data Kind : Type 0 where
   tables_up_to : ℕ → Kind
   addresses_up_to : ℕ → Kind
   divisor_up_to : ℕ → Kind
+  given_integer_in : ℤ → ℤ → Kind
+  given_table : Kind
+  one_of_both : ℕ → ℕ → Kind
 
--- a key, what its value is to be, and what an absent one stands for: nothing where the key is required
+-- a key, what its value is to be, and what an absent one stands for: nothing where the key is required, or where its absence means
+-- something by itself
 pub record Rule : Type 0 where
   pub key : Key
   pub kind : Kind
@@ -42,6 +46,14 @@ text k kind default = record { key = k; kind = text_of_kind kind; default = opti
 abbrev pub inner_table : Key → Rule
 inner_table k = record { key = k; kind = one_table; default = None }
 
+-- a table that may be absent
+abbrev pub optional_table : Key → Rule
+optional_table k = record { key = k; kind = given_table; default = None }
+
+-- one of two numbers
+abbrev pub either : Key → ℕ → ℕ → Rule
+either k one other = record { key = k; kind = one_of_both one other; default = None }
+
 abbrev pub tables : Key → ℕ → Rule
 tables k limit = record { key = k; kind = tables_up_to limit; default = Some (array no_items) }
 
@@ -50,6 +62,10 @@ addresses k limit = record { key = k; kind = addresses_up_to limit; default = So
 
 abbrev pub divisor : Key → ℕ → Rule
 divisor k limit = record { key = k; kind = divisor_up_to limit; default = Some (integer (pos 1)) }
+
+-- a number that may be absent
+abbrev pub optional : Key → ℕ → ℕ → Rule
+optional k low high = record { key = k; kind = given_integer_in (pos low) (pos high); default = None }
 
 -- ---- values
 
@@ -66,6 +82,10 @@ integer_of r ms = unwrap_or (option_and_then as_integer (standing r ms)) (pos 0)
 
 unfoldable pub number_of : Rule → Members → ℕ
 number_of r ms = natural (unwrap_or (option_and_then as_integer (standing r ms)) (pos 0))
+
+-- the number, where one stands there
+unfoldable pub given_number : Rule → Members → Option ℕ
+given_number r ms = option_map natural (option_and_then as_integer (standing r ms))
 
 unfoldable pub flag_of : Rule → Members → Bool
 flag_of r ms = unwrap_or (option_and_then as_bool (standing r ms)) false

@@ -1,5 +1,5 @@
 -- Every fault of a table by its rules, in order.
-use Rattle.std.specs.Prelude.{ℕ, List, [], ◌∷◌, ◌++◌, Bool, true, ◌&&◌, ◌||◌, if◌then◌else◌, Option, Some, None, map, nat_le, int_lt}
+use Rattle.std.specs.Prelude.{ℕ, ℤ, List, [], ◌∷◌, ◌++◌, Bool, true, ◌&&◌, ◌||◌, ◌==◌, if◌then◌else◌, Option, Some, None, map, nat_le, int_lt}
 use Rattle.std.specs.List.{list_any}
 use Rattle.std.specs.Str.{bytes_eq}
 use Rattle.std.specs.FinSet.{FinSet, empty, contains, insert}
@@ -16,7 +16,7 @@ use Rattle.j39_signal.specs.Parts.{divides_decimally}
 use Rattle.j39_plan.specs.TextKinds.{takes}
 use Rattle.j39_plan.specs.Words.{word_of}
 use Rattle.j39_plan.specs.Schema.{Kind, integer_in, flag_value, text_of_kind, one_table, tables_up_to}
-use Rattle.j39_plan.specs.Schema.{addresses_up_to, divisor_up_to, Rule, natural, standing, items_count, number_in}
+use Rattle.j39_plan.specs.Schema.{addresses_up_to, divisor_up_to, given_integer_in, given_table, one_of_both, Rule, natural, standing, items_count, number_in}
 
 abbrev pub fault : Cause → Table → Option Key → Fault
 fault cause at key = record { cause = cause; place = record { table = at; key = key } }
@@ -33,12 +33,19 @@ abbrev pub addresses_cause : FinSet nat_cmp → Items → Option Cause
 addresses_cause earlier no_items = None
 addresses_cause earlier (item d ds) = option_or (address_cause earlier d) (addresses_cause (insert earlier (number_in d)) ds)
 
+-- the cause for which an integer is refused that is to lie in a range
+abbrev pub range_cause : ℤ → ℤ → ℤ → Option Cause
+range_cause low high z = if int_lt z low || int_lt high z then Some Range else None
+
 -- the first cause for which a value is refused
 abbrev pub cause_of : Kind → Data → Option Cause
-cause_of (integer_in low high) (integer z) = if int_lt z low || int_lt high z then Some Range else None
+cause_of (integer_in low high) (integer z) = range_cause low high z
+cause_of (given_integer_in low high) (integer z) = range_cause low high z
 cause_of flag_value (boolean b) = None
 cause_of (text_of_kind kind) (string s) = if takes kind s then None else Some Range
 cause_of one_table (table ms) = None
+cause_of given_table (table ms) = None
+cause_of (one_of_both one other) (integer z) = if natural z == one || natural z == other then None else Some Range
 cause_of (tables_up_to limit) (array ds) = if nat_le (items_count ds) limit then None else Some TooMany
 cause_of (addresses_up_to limit) (array ds) = if nat_le (items_count ds) limit then addresses_cause empty ds else Some TooMany
 cause_of (divisor_up_to limit) (integer z) =
@@ -47,6 +54,8 @@ cause_of _ _ = Some WrongType
 
 -- the cause for which what stands at a key is refused
 abbrev pub refusal : Kind → Option Data → Option Cause
+refusal (given_integer_in low high) None = None
+refusal given_table None = None
 refusal kind None = Some Missing
 refusal kind (Some d) = cause_of kind d
 

@@ -1,7 +1,9 @@
 //! The laws of what a plan file describes.
 ghost use Rattle.std.specs.Prelude.{ℕ, List};
 ghost use Rattle.j39_plan.specs.OnePlan.{HasOneAnswer};
+ghost use Rattle.j39_plan.specs.GroupTables.{OlderLengths, OlderRules as OlderGroupRules};
 ghost use Rattle.j39_plan.specs.SignalTables.{OlderRules};
+ghost use Rattle.j39_plan.specs.FlowTables.{OlderRules as OlderFlowRules};
 
 /// But for want of memory, the definition allows one answer for a file: it describes one plan, or it has one first fault, or it
 /// is no TOML text, and never two of these. Two plans are one where they keep the same addresses free and have the same
@@ -10,7 +12,11 @@ pub fn a_file_describes_one_plan()
     ensures { (bytes : List ℕ) → HasOneAnswer bytes }
 {}
 
-/// In a plan that isn't of version 3 a signal has the keys, the ranges and the kinds that it had before there was one.
+/// In a plan that isn't of version 3 a group and a flow have the keys that they had before there was one, and groups messages of one
+/// length; and a signal has the keys, the ranges and the kinds.
 pub fn older_versions_know_what_they_knew()
-    ensures { OlderRules }
+    ensures groups { OlderGroupRules }
+    ensures lengths { OlderLengths }
+    ensures signals { OlderRules }
+    ensures flows { OlderFlowRules }
 {}

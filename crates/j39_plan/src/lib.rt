@@ -6,7 +6,7 @@ mod reading;
 
 pub use j39_findings::{
     CheckedPlan, Finding, Findings, FlowPlan, GroupFault, GroupPlan, Plan, Refused, RefusedCause,
-    Step, To, UnitPlan, Way, bad_run, check, checked, clean_parts, clean_where_none,
+    Step, TextPlan, To, UnitPlan, Way, bad_run, check, checked, clean_parts, clean_where_none,
     conflict_runs_are_exact, found_exactly, layout_of, signals_are_sound,
 };
 pub use laws::{a_file_describes_one_plan, older_versions_know_what_they_knew};

@@ -20,6 +20,8 @@ mod plan_error;
 mod signals;
 mod tables;
 mod text_kind;
+mod texts;
+mod timing;
 mod units;
 mod values;
 
@@ -37,6 +39,7 @@ pub use plan_error::PlanError;
 use std::alloc::Global;
 use std::str;
 use tables::array;
+use timing::timing;
 use units::Units;
 
 #[tactic(auto, using(crate::proofs::FirstFaults::faults_after))]
@@ -44,15 +47,17 @@ fn read_top(alloc: Global, members: &toml::Table) -> Result<Plan, PlanError>
     ensures { GivesGrowing (PlanGrows (table_view members.now)) result (faults (table_view members.now)) (TellsPlan (table_view members.now)) }
 {
     let keep_free = head(members)?;
+    let third = is_third(members);
+    let timing = timing(members, third)?;
     let unit_values = array(members, Table::Top, Key::Unit, UNIT_LIMIT)?;
     let group_values = array(members, Table::Top, Key::Group, 256)?;
     let flow_values = array(members, Table::Top, Key::Flow, 512)?;
     let units = read_each(alloc, &Units, unit_values)?;
-    let third = is_third(members);
     let groups = read_each(alloc, &Groups { third }, group_values)?;
     let flows = read_each(
         alloc,
         &Flows {
+            third,
             groups: &groups,
             units: &units,
         },
@@ -60,6 +65,7 @@ fn read_top(alloc: Global, members: &toml::Table) -> Result<Plan, PlanError>
     )?;
     Ok(Plan {
         keep_free,
+        timing,
         units,
         groups,
         flows,
@@ -67,8 +73,9 @@ fn read_top(alloc: Global, members: &toml::Table) -> Result<Plan, PlanError>
 }
 
 /// The plan that a file describes: TOML of UTF-8 bytes, at most 128 units, 256 groups of 64 signals and 512 flows. One of
-/// version 2 or 3 may keep up to 120 addresses of 128 to 247 free; one of version 1 keeps none. Version 3 knows more kinds of
-/// signals, and what their values are divided by.
+/// version 2 or 3 may keep up to 120 addresses of 128 to 247 free; one of version 1 keeps none. Version 3 knows groups of several
+/// lengths, more kinds of signals, what their values are divided by, 64 texts of a group, what is known of the bus itself, and how
+/// often flows are sent.
 ///
 /// Refuses bytes that are no TOML text, and else the first fault, in the order of the file's tables and keys. Takes no
 /// memory of bytes that are no UTF-8, or white space and comments alone.

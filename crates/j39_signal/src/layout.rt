@@ -1,5 +1,5 @@
 //! Layouts.
-ghost use Rattle.std.specs.Prelude.{◌≡◌, ◌≢◌, ◌<◌, length, All, IfOk, IfErr, IfSome, IfNone, OnOk, OnErr};
+ghost use Rattle.std.specs.Prelude.{◌≡◌, ◌≢◌, ◌<◌, ◌≤◌, length, All, IfOk, IfErr, IfSome, IfNone, OnOk, OnErr};
 ghost use Rattle.std.specs.List.{HoldsAt};
 ghost use Rattle.j39_id.specs.FirstFault.{first_fault};
 ghost use Rattle.j39_signal.specs.Bits.{Put, raw_of, all_ones};
@@ -134,11 +134,11 @@ impl Layout {
         self.signal(i).write_absent(payload);
     }
 
-    /// The state of the signal at place `i`.
+    /// The state of the signal at place `i`, in a payload that may be longer than what is laid out.
     #[tactic(auto, using(crate::proofs::AtPlace::at_place))]
     pub fn read(&self, payload: &[u8], i: usize) -> State
         requires place { i < length self.now.signals }
-        requires bytes { length payload.now ≡ self.now.length }
+        requires bytes { self.now.length ≤ length payload.now }
         ensures { HoldsAt (λ s. result ≡ state_of s (raw_of payload.now s)) self.now.signals i }
     {
         self.signal(i).read(payload)

@@ -1,5 +1,6 @@
 -- The text of a number divided by a product of 2s and 5s: its sign, its whole part, and its decimals where it isn't whole.
 use Rattle.std.specs.Prelude.{◌≡◌, ℕ, zero, suc, ◌+◌, ◌*◌, ◌/◌, ◌%◌, ◌^◌, ℤ, pos, negsuc, List, [], ◌∷◌, ◌++◌, ◌==◌, if◌then◌else◌, decimal}
+use Rattle.std.specs.Fmt.{signed_decimal}
 use Rattle.std.specs.List.{list_all}
 use Rattle.j39_signal.specs.Parts.{IsDivisor}
 
@@ -35,8 +36,12 @@ unfoldable pub quotient_text : ℕ → ℤ → List ℕ
 quotient_text per (pos n) = magnitude_text per n
 quotient_text per (negsuc n) = 45 ∷ magnitude_text per (suc n)
 
--- ---- a law
+-- ---- laws
 
 -- these decimals are exact: nothing is left behind the last of them
 abbrev pub QuotientsAreExact : Type 0
 QuotientsAreExact = (n per : ℕ) → IsDivisor per → finest n per * per ≡ n * 10 ^ most_decimals
+
+-- a number that isn't divided is shown as it is
+abbrev pub UndividedStaysWhole : Type 0
+UndividedStaysWhole = (v : ℤ) → quotient_text 1 v ≡ signed_decimal v

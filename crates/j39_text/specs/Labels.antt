@@ -7,6 +7,8 @@ use Rattle.j39_signal.specs.Places.{end_of}
 use Rattle.j39_findings.specs.declared.plan.Plan.{Plan}
 use Rattle.j39_findings.specs.declared.plan.unit_plan.UnitPlan.{UnitPlan}
 use Rattle.j39_findings.specs.declared.plan.group_plan.GroupPlan.{GroupPlan}
+use Rattle.j39_findings.specs.declared.plan.text_plan.TextPlan.{TextPlan}
+use Rattle.j39_findings.specs.TextPlaces.{last_byte}
 
 unfoldable pub unit_label : Plan → ℕ → List ℕ
 unit_label plan i = option_map_or (λ (unit : UnitPlan). unit.label.bytes) (slice_get plan.units.items i) []
@@ -32,6 +34,16 @@ signal_bits plan g s = option_map_or (λ (signal : SignalParts). signal.bits) (s
 -- the first place after the signal
 unfoldable pub signal_end : Plan → ℕ → ℕ → ℕ
 signal_end plan g s = option_map_or end_of (slice_get (signals_of plan g) s) 0
+
+unfoldable pub texts_of : Plan → ℕ → List TextPlan
+texts_of plan g = option_map_or (λ (group : GroupPlan). group.texts.items) (slice_get plan.groups.items g) []
+
+unfoldable pub text_label : Plan → ℕ → ℕ → List ℕ
+text_label plan g t = option_map_or (λ (text : TextPlan). text.label.bytes) (slice_get (texts_of plan g) t) []
+
+-- the last byte of the text
+unfoldable pub text_end : Plan → ℕ → ℕ → ℕ
+text_end plan g t = option_map_or last_byte (slice_get (texts_of plan g) t) 0
 
 -- a word, and two units
 unfoldable pub units_text : List ℕ → Plan → ℕ → ℕ → List ℕ

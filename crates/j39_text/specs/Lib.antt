@@ -1,4 +1,5 @@
 pub mod Decimals
 pub mod FrameText
 pub mod Labels
+pub mod Quotations
 pub mod Texts

@@ -1,10 +1,10 @@
 //! What a place of a plan names. Past the last place there is nothing.
 ghost use Rattle.std.specs.Prelude.{◌≡◌, ◌++◌, OnOk};
 ghost use Rattle.j39_text.specs.Labels.{group_label, group_pgn, group_text, signal_bits, signal_end, signal_label};
-ghost use Rattle.j39_text.specs.Labels.{signals_of, unit_address, unit_label, units_text};
+ghost use Rattle.j39_text.specs.Labels.{signals_of, text_end, text_label, texts_of, unit_address, unit_label, units_text};
 
 use crate::TextBuffer;
-use j39_findings::Plan;
+use j39_findings::{Plan, TextPlan};
 use j39_signal::Signal;
 use std::alloc::AllocError;
 
@@ -85,6 +85,37 @@ pub fn signal_end(plan: &Plan, group: usize, signal: usize) -> u32
 {
     match signals_of(plan, group).get(signal) {
         Some(signal) => u32::from(signal.start()) + u32::from(signal.bits()),
+        None => 0,
+    }
+}
+
+#[tactic(auto, unfolding(crate::specs::Labels::texts_of))]
+fn texts_of(plan: &Plan, group: usize) -> &[TextPlan]
+    ensures { result.now ≡ texts_of plan.now group }
+{
+    match plan.groups.get(group) {
+        Some(group) => group.texts.as_slice(),
+        None => &[],
+    }
+}
+
+#[tactic(auto, unfolding(crate::specs::Labels::text_label))]
+pub fn text_label(plan: &Plan, group: usize, text: usize) -> &str
+    ensures { result.now ≡ text_label plan.now group text }
+{
+    match texts_of(plan, group).get(text) {
+        Some(text) => text.label.as_str(),
+        None => "",
+    }
+}
+
+/// The last byte of a text, counted from 1.
+#[tactic(auto, unfolding(crate::specs::Labels::text_end))]
+pub fn text_end(plan: &Plan, group: usize, text: usize) -> u16
+    ensures { result ≡ text_end plan.now group text }
+{
+    match texts_of(plan, group).get(text) {
+        Some(text) => text.last_byte(),
         None => 0,
     }
 }

@@ -6,16 +6,21 @@ mod input;
 mod labels;
 mod laws;
 mod putting;
+mod quotation;
 mod quotient;
 mod text_buffer;
 
 pub use frame::{frame_text, write_destination};
 pub use input::input_text;
 pub use labels::{
-    group_label, group_pgn, signal_bits, signal_end, signal_label, unit_address, unit_label,
-    write_group, write_units,
+    group_label, group_pgn, signal_bits, signal_end, signal_label, text_end, text_label,
+    unit_address, unit_label, write_group, write_units,
 };
-pub use laws::{a_line_has_one_text, quotients_are_exact};
+pub use laws::{
+    a_line_has_one_text, quotations_tell_their_bytes, quotients_are_exact,
+    undivided_numbers_stay_whole,
+};
 pub use putting::put_text;
+pub use quotation::write_quotation;
 pub use quotient::write_quotient;
 pub use text_buffer::TextBuffer;

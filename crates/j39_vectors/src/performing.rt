@@ -2,7 +2,7 @@
 use crate::Command;
 use j39_app::{
     Fault, Sink, Source, Verdict, addresses_text, check_text, input_text, plan_text, read_text,
-    run_planned,
+    run_planned, timing_text,
 };
 use std::alloc::Global;
 
@@ -18,6 +18,7 @@ pub fn perform<P: Source, S: Source, W: Sink>(
         Command::Frame => return input_text(alloc, input, sink),
         Command::Check => return check_text(alloc, plan, sink),
         Command::Addresses => return addresses_text(alloc, plan, sink),
+        Command::Load => return timing_text(alloc, plan, sink),
         Command::Run | Command::Read => {}
     }
     let Some(plan) = plan_text(alloc, plan, sink)? else {

@@ -10,6 +10,8 @@ pub enum Command {
     Check,
     /// Which units of the plan stay.
     Addresses,
+    /// The plan's load and delays.
+    Load,
     /// The run of a schedule, the input.
     Run,
     /// The reading of a log, the input.

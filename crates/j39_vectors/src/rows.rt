@@ -53,6 +53,27 @@ from = \"A\"
 to = \"B\"
 ";
 
+// A group that A sends each millisecond, on a bus that carries 250 bits in one.
+const HURRIED: &str = "version = 3
+[timing]
+bitrate = 250000
+unplanned = 0
+[[unit]]
+label = \"A\"
+address = 0
+name = { identity = 1 }
+[[group]]
+label = \"EEC1\"
+pgn = 61444
+priority = 3
+length = 8
+[[flow]]
+group = \"EEC1\"
+from = \"A\"
+to = \"all\"
+period = 1
+";
+
 // A group with one signal.
 const TEMPERATURE: &str = "version = 1
 [[group]]
@@ -125,6 +146,17 @@ unit B may move from 128
 stay 1 of 2
 ",
     verdict: Verdict::Done,
+};
+
+const LOAD_OF_A_LATE_FLOW: Row = Row {
+    name: "a flow that is late",
+    command: Command::Load,
+    plan: HURRIED,
+    input: "",
+    text: "flow 1 EEC1 A all late of 1000 us
+load 160000 of 250000
+",
+    verdict: Verdict::Findings,
 };
 
 const RUN_OF_A_CONFLICT: Row = Row {
@@ -268,12 +300,13 @@ frames 4 skipped 0 bad 0
 };
 
 /// Each row.
-pub const ROWS: [Row; 12] = [
+pub const ROWS: [Row; 13] = [
     FRAME,
     CHECK_OF_NOTHING,
     CHECK_OF_A_PLAN,
     CHECK_OF_A_FINDING,
     ADDRESSES_OF_A_CONTEST,
+    LOAD_OF_A_LATE_FLOW,
     RUN_OF_A_CONFLICT,
     RUN_OF_A_BROADCAST,
     RUN_OF_A_MESSAGE,

@@ -25,8 +25,12 @@ commands =
     (with_subcommand
     (with_subcommand
     (with_subcommand
+    (with_subcommand
+    (with_subcommand
     (with_subcommand program (one_value (codes "frame") (codes "LINE")).top)
     (one_value (codes "check") (codes "PLAN")).top)
     (one_value (codes "addresses") (codes "PLAN")).top)
+    (one_value (codes "load") (codes "PLAN")).top)
     (two_values (codes "run") (codes "PLAN") (codes "SCHEDULE")).top)
-    (two_values (codes "read") (codes "PLAN") (codes "LOG")).top
+    (two_values (codes "read") (codes "PLAN") (codes "LOG")).top)
+    (two_values (codes "follow") (codes "PLAN") (codes "LOG")).top

@@ -5,7 +5,7 @@ use Rattle.j39_words.specs.Commands.{commands}
 use Rattle.clap.specs.declared.error.kind.ErrorKind.{ErrorKind}
 use Rattle.clap.specs.declared.error.kind.ErrorKind.TheVariants as kind
 use Rattle.j39_words.specs.declared.orders.Order.{Order}
-use Rattle.j39_words.specs.declared.orders.Order.TheVariants.{Input, Frame, Check, Addresses, Run, Read, Help}
+use Rattle.j39_words.specs.declared.orders.Order.TheVariants.{Input, Frame, Check, Addresses, Load, Run, Read, Follow, Help}
 
 -- the subcommand that was met has this name, and the value by this name is the text
 abbrev pub Gives : Option (Text × List Row) → Text → Text → Text → Type 0
@@ -16,10 +16,13 @@ abbrev pub Orders : Option (Text × List Row) → Order → Type 0
 Orders met (Frame line) = Gives met (codes "frame") (codes "LINE") (string_bytes line)
 Orders met (Check plan) = Gives met (codes "check") (codes "PLAN") (string_bytes plan)
 Orders met (Addresses plan) = Gives met (codes "addresses") (codes "PLAN") (string_bytes plan)
+Orders met (Load plan) = Gives met (codes "load") (codes "PLAN") (string_bytes plan)
 Orders met (Run plan schedule) =
     Gives met (codes "run") (codes "PLAN") (string_bytes plan) × Gives met (codes "run") (codes "SCHEDULE") (string_bytes schedule)
 Orders met (Read plan log) =
     Gives met (codes "read") (codes "PLAN") (string_bytes plan) × Gives met (codes "read") (codes "LOG") (string_bytes log)
+Orders met (Follow plan log) =
+    Gives met (codes "follow") (codes "PLAN") (string_bytes plan) × Gives met (codes "follow") (codes "LOG") (string_bytes log)
 Orders met Input = ⊥
 Orders met (Help text) = Unit {0}
 
@@ -29,8 +32,10 @@ IsHelp Input = ⊥
 IsHelp (Frame line) = ⊥
 IsHelp (Check plan) = ⊥
 IsHelp (Addresses plan) = ⊥
+IsHelp (Load plan) = ⊥
 IsHelp (Run plan schedule) = ⊥
 IsHelp (Read plan log) = ⊥
+IsHelp (Follow plan log) = ⊥
 
 -- what the words order: the input where there are none, and else what they name
 abbrev pub Answers : List Text → Order → Type 0

@@ -32,11 +32,13 @@ fn command(alloc: Global, name: &str, values: &ArgMatches) -> Result<Order, Word
         "frame" => Ok(Order::Frame(value(alloc, values, "LINE")?)),
         "check" => Ok(Order::Check(value(alloc, values, "PLAN")?)),
         "addresses" => Ok(Order::Addresses(value(alloc, values, "PLAN")?)),
+        "load" => Ok(Order::Load(value(alloc, values, "PLAN")?)),
         "run" => Ok(Order::Run(
             value(alloc, values, "PLAN")?,
             value(alloc, values, "SCHEDULE")?,
         )),
         "read" => Ok(Order::Read(value(alloc, values, "PLAN")?, value(alloc, values, "LOG")?)),
+        "follow" => Ok(Order::Follow(value(alloc, values, "PLAN")?, value(alloc, values, "LOG")?)),
         _ => Err(WordsFault::Bad),
     }
 }

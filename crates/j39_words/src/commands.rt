@@ -129,6 +129,25 @@ fn with_addresses<'a>(alloc: Global, program: Command<'a>) -> Result<Command<'a>
     )
 }
 
+fn with_load<'a>(alloc: Global, program: Command<'a>) -> Result<Command<'a>, AllocError>
+    ensures { IfOk result (λ c. app_of c ≡ with_subcommand (app_of program.entry) (one_value (codes "load") (codes "PLAN")).top) }
+{
+    with(
+        program,
+        one_value(
+            alloc,
+            "load",
+            "Shows within which time the frames of each flow of the plan are on the bus, and how full it is",
+            "PLAN",
+            "The name of a plan file with the table timing and a period of each flow. A time counts from when the frame is ready \
+            in its controller, and holds where no frame is damaged or lost; messages of one flow are queued at least its period \
+            apart, and a long one ends before the next; each controller offers its queued frame of the smallest identifier \
+            first; no claim and no request is under way, and no unit changes its address while a frame of it waits; and other \
+            frames have priority 6 or 7 and 8 bytes at most, and at most as many as unplanned says go before one that waits",
+        ),
+    )
+}
+
 fn with_run<'a>(alloc: Global, program: Command<'a>) -> Result<Command<'a>, AllocError>
     ensures { IfOk result (λ c. app_of c ≡ with_subcommand (app_of program.entry) (two_values (codes "run") (codes "PLAN") (codes "SCHEDULE")).top) }
 {
@@ -164,12 +183,46 @@ fn with_read<'a>(alloc: Global, program: Command<'a>) -> Result<Command<'a>, All
     )
 }
 
+fn with_follow<'a>(alloc: Global, program: Command<'a>) -> Result<Command<'a>, AllocError>
+    ensures { IfOk result (λ c. app_of c ≡ with_subcommand (app_of program.entry) (two_values (codes "follow") (codes "PLAN") (codes "LOG")).top) }
+{
+    with(
+        program,
+        two_values(
+            alloc,
+            "follow",
+            "Shows who sent what in the log, by the claims of the log itself",
+            "PLAN",
+            "The name of a plan file",
+            "LOG",
+            "The name of a file as candump -L writes it, of one interface, with R or T behind the data or without",
+        ),
+    )
+}
+
+// The commands that read a plan alone.
+fn with_plans<'a>(alloc: Global, program: Command<'a>) -> Result<Command<'a>, AllocError>
+    ensures { IfOk result (λ c. app_of c ≡ with_subcommand (with_subcommand (with_subcommand (app_of program.entry)
+        (one_value (codes "check") (codes "PLAN")).top) (one_value (codes "addresses") (codes "PLAN")).top)
+        (one_value (codes "load") (codes "PLAN")).top) }
+{
+    with_load(alloc, with_addresses(alloc, with_check(alloc, program)?)?)
+}
+
+// Those that read a plan and another file.
+fn with_files<'a>(alloc: Global, program: Command<'a>) -> Result<Command<'a>, AllocError>
+    ensures { IfOk result (λ c. app_of c ≡ with_subcommand (with_subcommand (with_subcommand (app_of program.entry)
+        (two_values (codes "run") (codes "PLAN") (codes "SCHEDULE")).top) (two_values (codes "read") (codes "PLAN") (codes "LOG")).top)
+        (two_values (codes "follow") (codes "PLAN") (codes "LOG")).top) }
+{
+    with_follow(alloc, with_read(alloc, with_run(alloc, program)?)?)
+}
+
 /// The commands.
 #[tactic(auto, unfolding(crate::specs::Commands::commands))]
 pub(super) fn commands<'a>(alloc: Global) -> Result<Command<'a>, AllocError>
     ensures { IfOk result (λ c. app_of c ≡ commands) }
 {
-    let shown = with_check(alloc, with_frame(alloc, program(alloc)?)?)?;
-    let told = with_addresses(alloc, shown)?;
-    with_read(alloc, with_run(alloc, told)?)
+    let lines = with_frame(alloc, program(alloc)?)?;
+    with_files(alloc, with_plans(alloc, lines)?)
 }

@@ -16,10 +16,14 @@ pub enum Order {
     Check(String),
     /// `addresses PLAN`: which units of the plan of the file of this name hold their planned addresses whatever happens.
     Addresses(String),
+    /// `load PLAN`: how long frames wait, and how full the bus is, by the plan of the file of this name.
+    Load(String),
     /// `run PLAN SCHEDULE`: what happens on the bus of the plan by the schedule, the files of these names.
     Run(String, String),
     /// `read PLAN LOG`: what the log says of the plan's groups, the files of these names.
     Read(String, String),
+    /// `follow PLAN LOG`: who sent what in the log, by its own claims, the files of these names.
+    Follow(String, String),
     /// The help of the program or of a command, or the program's version: this text.
     Help(String),
 }

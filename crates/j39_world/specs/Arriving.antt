@@ -1,24 +1,36 @@
--- How messages arrive that no receiver answers: one to all, or of one frame (SAE J1939-21, transport protocol functions). Where
--- nothing of such a message is lost, each receiver reports it once, whatever other messages go beside it.
-use Rattle.std.specs.Prelude.{◌≡◌, ◌≢◌, ℕ, true, ◌⊎◌, List, [], ◌∷◌, ◌++◌, None, Some}
+-- How messages arrive of which nothing is lost (SAE J1939-21, transport protocol functions): one that no receiver answers, to all or of
+-- one frame, whatever other messages go beside it, and one of several frames to one unit, which answers it.
+use Rattle.std.specs.Prelude.{◌≡◌, ◌≢◌, ℕ, Bool, true, false, ◌⊎◌, List, [], ◌∷◌, ◌++◌, length, Option, None, Some}
 use Rattle.std.specs.List.{All, slice_get}
-use Rattle.j39_tp.specs.declared.sending.outcome.Outcome.TheVariants.{Sent}
+use Rattle.j39_tp.specs.declared.sending.outcome.Outcome.{Outcome}
+use Rattle.j39_tp.specs.declared.sending.outcome.Outcome.TheVariants.{Sent, Acked}
 use Rattle.j39_tp.specs.declared.sending.stage.Stage.TheVariants.{Resting}
 use Rattle.j39_findings.specs.declared.plan.Plan.{Plan}
 use Rattle.j39_findings.specs.declared.plan.to.To.TheVariants as tos
 use Rattle.j39_findings.specs.declared.steps.Step.{Step}
-use Rattle.j39_findings.specs.declared.steps.Step.TheVariants.{Emit, Take, Lose, LateReceiver, Rest}
+use Rattle.j39_findings.specs.declared.steps.Step.TheVariants.{Begin, Emit, Take, Lose, LateSender, LateReceiver, Rest}
 use Rattle.j39_world.specs.declared.flow.Flow.{Flow}
+use Rattle.j39_world.specs.declared.wired.Wired.{Wired}
 use Rattle.j39_world.specs.Flows.{flows_of, is_short}
-use Rattle.j39_world.specs.Run.{count_of, begin_refusal, refusal, Run}
+use Rattle.j39_world.specs.Resting.{is_of_sender, is_of_receiver}
+use Rattle.j39_world.specs.Run.{count_of, begin_refusal, refusal, Follows, Run}
 use Rattle.j39_world.specs.Sound.{reported}
 use Rattle.j39_world.specs.Transfers.{Outgoing, is_among}
 use Rattle.j39_world.specs.TransferSteps.{outgoing, begins}
 use Rattle.j39_world.specs.World.{World}
 
--- its messages go to all, or in one frame
-abbrev pub IsUnanswered : Flow → Type 0
-IsUnanswered flow = (flow.to ≡ tos.All) ⊎ (is_short flow.length ≡ true)
+-- its sender rests with this outcome, and each receiver has reported it once since the first of two worlds, and nothing else of this
+-- sender
+pub record HasArrived (before after : World) (u : ℕ) (message : Outgoing) (outcome : Outcome) : Type 0 where
+  pub rests : (s : Outgoing) × (after.sessions u ≡ Some s) × (s.stage ≡ Resting outcome)
+  pub reports : (v : ℕ) → is_among message.targets v ≡ true
+      → reported after.reports v u ≡ reported before.reports v u ++ record { flow = message.flow; bytes = message.bytes } ∷ []
+
+-- ---- a message that no receiver answers
+
+-- these bytes go to all, or in one frame
+abbrev pub IsUnanswered : Flow → List ℕ → Type 0
+IsUnanswered flow bytes = (flow.to ≡ tos.All) ⊎ (is_short (length bytes) ≡ true)
 
 -- nothing that u sends these units is lost by the step, by it none of them hears nothing of u in time, and u isn't idle by it
 abbrev pub Spares : ℕ → List ℕ → Step → Type 0
@@ -32,19 +44,89 @@ pub record IsThrough (plan : Plan) (w : World) (u : ℕ) (targets : List ℕ) : 
   pub sent : refusal plan w (Emit u) ≢ None
   pub taken : (v : ℕ) → is_among targets v ≡ true → refusal plan w (Take u v) ≢ None
 
--- its sender rests, and each receiver has reported it once since the first of two worlds, and nothing else of this sender
-pub record HasArrived (before after : World) (u : ℕ) (message : Outgoing) : Type 0 where
-  pub rests : (s : Outgoing) × (after.sessions u ≡ Some s) × (s.stage ≡ Resting Sent)
-  pub reports : (v : ℕ) → is_among message.targets v ≡ true
-      → reported after.reports v u ≡ reported before.reports v u ++ record { flow = message.flow; bytes = message.bytes } ∷ []
-
 -- a message that is begun here and that no receiver answers has arrived in each world to which steps lead that spare it, once all of it
 -- was sent and taken
 abbrev pub ArrivesUnanswered : Plan → World → Type 0
 ArrivesUnanswered plan w =
     (f : ℕ) (flow : Flow) (bytes : List ℕ) (steps : List Step) (after : World)
-    → slice_get (flows_of plan) f ≡ Some flow → IsUnanswered flow → begin_refusal (count_of plan) w (Some flow) bytes ≡ None
+    → slice_get (flows_of plan) f ≡ Some flow → IsUnanswered flow bytes → begin_refusal (count_of plan) w (Some flow) bytes ≡ None
     → All (Spares flow.sender (outgoing (count_of plan) w.stations f flow bytes).targets) steps
     → Run plan (begins (count_of plan) w f flow bytes) steps after
     → IsThrough plan after flow.sender (outgoing (count_of plan) w.stations f flow bytes).targets
-    → HasArrived w after flow.sender (outgoing (count_of plan) w.stations f flow bytes)
+    → HasArrived w after flow.sender (outgoing (count_of plan) w.stations f flow bytes) Sent
+
+-- ---- a message of several frames to one unit
+
+-- the oldest of these, if there is one, passes
+abbrev pub oldest_passes : (Wired → Bool) → List Wired → Bool
+oldest_passes test [] = true
+oldest_passes test (item ∷ rest) = test item
+
+-- by the step nothing is lost of u's message to v nor of what answers it, neither of the two hears nothing of it in time, and u isn't idle
+abbrev pub SparesBetween : World → ℕ → ℕ → Step → Type 0
+SparesBetween w u v (Lose s t) =
+    (s ≡ u → t ≡ v → oldest_passes is_of_receiver (w.wire u v) ≡ true) × (s ≡ v → t ≡ u → oldest_passes is_of_sender (w.wire v u) ≡ true)
+SparesBetween w u v (LateSender s) = s ≢ u
+SparesBetween w u v (LateReceiver s t) = s ≡ u → t ≢ v
+SparesBetween w u v (Rest s) = s ≢ u
+SparesBetween w u v _ = Unit {0}
+
+-- a run of steps that spare it
+abbrev pub SparingRun : Plan → ℕ → ℕ → World → List Step → World → Type 0
+SparingRun plan u v w [] new = new ≡ w
+SparingRun plan u v w (step ∷ steps) new = SparesBetween w u v step × ((mid : World) × Follows plan w step mid × SparingRun plan u v mid steps new)
+
+-- u can't send more, and neither of the two can take more of the other
+pub record IsThroughBetween (plan : Plan) (w : World) (u v : ℕ) : Type 0 where
+  pub sent : refusal plan w (Emit u) ≢ None
+  pub taken : refusal plan w (Take u v) ≢ None
+  pub answered : refusal plan w (Take v u) ≢ None
+
+-- a message of several frames to one unit that is begun here, a run from there that spares it, and the world to which it leads and in
+-- which all of it and of what answers it was taken
+pub record Answered (plan : Plan) (w : World) : Type 0 where
+  pub place : ℕ
+  pub flow : Flow
+  pub bytes : List ℕ
+  pub receiver : ℕ
+  pub steps : List Step
+  pub after : World
+  pub planned : slice_get (flows_of plan) place ≡ Some flow
+  pub one : flow.to ≡ tos.One receiver
+  pub several : is_short (length bytes) ≡ false
+  pub allowed : begin_refusal (count_of plan) w (Some flow) bytes ≡ None
+  pub runs : SparingRun plan flow.sender receiver (begins (count_of plan) w place flow bytes) steps after
+  pub through : IsThroughBetween plan after flow.sender receiver
+
+-- what v sends, if anything, is no message of this group to u alone
+abbrev pub SendsOther : Option Outgoing → ℕ → ℕ → Type 0
+SendsOther None u pgn = Unit {0}
+SendsOther (Some s) u pgn = s.to ≡ tos.One u → s.pgn ≢ pgn
+
+-- no message of this group from v to u alone is begun by the step
+abbrev pub BeginsOther : Plan → ℕ → ℕ → ℕ → Step → Type 0
+BeginsOther plan v u pgn (Begin f bytes) =
+    (flow : Flow) → slice_get (flows_of plan) f ≡ Some flow → flow.sender ≡ v → flow.to ≡ tos.One u → flow.pgn ≢ pgn
+BeginsOther plan v u pgn _ = Unit {0}
+
+-- its receiver sends its sender no message of its group while it is on its way: an Abort names a group and may be of either direction,
+-- so one of such a message would end this one
+pub record IsAlone (plan : Plan) (w : World) (m : Answered plan w) : Type 0 where
+  pub first : SendsOther (w.sessions m.receiver) m.flow.sender m.flow.pgn
+  pub since : All (BeginsOther plan m.receiver m.flow.sender m.flow.pgn) m.steps
+
+-- its sender rests acknowledged, and its receiver has reported it once since
+abbrev pub HasArrivedAnswered : (plan : Plan) (w : World) → Answered plan w → Type 0
+HasArrivedAnswered plan w m = HasArrived w m.after m.flow.sender (outgoing (count_of plan) w.stations m.place m.flow m.bytes) Acked
+
+abbrev pub ArrivesAnswered : Plan → World → Type 0
+ArrivesAnswered plan w = (m : Answered plan w) → IsAlone plan w m → HasArrivedAnswered plan w m
+
+-- each such message that can be begun here, while its receiver sends its sender none of its group, can arrive: some run spares it, and
+-- all of it is taken
+abbrev pub CanArriveAnswered : Plan → World → Type 0
+CanArriveAnswered plan w =
+    (f : ℕ) (flow : Flow) (v : ℕ) (bytes : List ℕ)
+    → slice_get (flows_of plan) f ≡ Some flow → flow.to ≡ tos.One v → is_short (length bytes) ≡ false
+    → begin_refusal (count_of plan) w (Some flow) bytes ≡ None → SendsOther (w.sessions v) flow.sender flow.pgn
+    → (m : Answered plan w) × (m.place ≡ f) × (m.bytes ≡ bytes) × IsAlone plan w m

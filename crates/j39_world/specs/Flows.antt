@@ -1,5 +1,5 @@
 -- What the transfer steps need of a plan: what each flow sends to whom, and how much each unit lets be sent to it at once.
-use Rattle.std.specs.Prelude.{ℕ, Bool, true, ◌&&◌, not, nat_eq, nat_le, List, map, slice_index_or}
+use Rattle.std.specs.Prelude.{◌≡◌, ◌==◌, ℕ, Bool, true, ◌&&◌, not, nat_eq, nat_le, List, map, slice_index_or, Some}
 use Rattle.std.specs.List.{slice_get}
 use Rattle.std.specs.Option.{option_map_or}
 use Rattle.j39_id.specs.Limits.{frame_bytes}
@@ -19,6 +19,7 @@ flow_of groups f = record {
   pgn = option_map_or (λ (g : GroupPlan). g.pgn) (slice_get groups f.group) 0;
   priority = option_map_or (λ (g : GroupPlan). g.priority) (slice_get groups f.group) 0;
   length = option_map_or (λ (g : GroupPlan). g.length) (slice_get groups f.group) 0;
+  most = option_map_or (λ (g : GroupPlan). g.most) (slice_get groups f.group) 0;
   sender = f.sender;
   to = f.to;
 }
@@ -42,10 +43,23 @@ dest_of (One v) = dests.One
 abbrev pub is_short : ℕ → Bool
 is_short size = nat_le size frame_bytes
 
+-- a flow has messages of so many bytes
+abbrev pub has_length : Flow → ℕ → Bool
+has_length flow bytes = nat_le flow.length bytes && nat_le bytes flow.most
+
 -- a flow to one unit goes to another one, and its group can be sent to one
 abbrev pub can_go_to : Flow → To → Bool
 can_go_to flow All = true
-can_go_to flow (One v) = not (nat_eq v flow.sender) && not (is_pdu2 flow.pgn && is_short flow.length)
+can_go_to flow (One v) = not (nat_eq v flow.sender) && not (is_pdu2 flow.pgn && is_short flow.most)
 
 abbrev pub can_be_sent : Flow → Bool
 can_be_sent flow = can_go_to flow flow.to
+
+-- ---- plans whose groups have one length each
+
+-- the flow has messages of one length
+abbrev pub HasOneLength : Flow → Type 0
+HasOneLength flow = (flow.most ≡ flow.length) × ((bytes : ℕ) → has_length flow bytes ≡ (flow.length == bytes))
+
+abbrev pub HaveOneLengthEach : Plan → Type 0
+HaveOneLengthEach plan = (f : ℕ) (flow : Flow) → slice_get (flows_of plan) f ≡ Some flow → HasOneLength flow

@@ -16,7 +16,7 @@ use Rattle.j39_world.specs.declared.step_error.StepError.TheVariants.{UnknownUni
 use Rattle.j39_world.specs.declared.step_error.StepError.TheVariants.{NotSettled, NoAddress}
 use Rattle.j39_world.specs.declared.step_error.StepError.TheVariants.{Busy, WrongLength, NothingToSend, NoSession, CannotRest, Memory}
 use Rattle.j39_world.specs.PlannedUnits.{units_of}
-use Rattle.j39_world.specs.Flows.{flows_of, windows_of, can_be_sent}
+use Rattle.j39_world.specs.Flows.{flows_of, windows_of, can_be_sent, has_length}
 use Rattle.j39_world.specs.declared.flow.Flow.{Flow}
 use Rattle.j39_world.specs.Transfers.{Outgoing}
 use Rattle.j39_world.specs.World.{World, Stations, Undelivered}
@@ -99,7 +99,7 @@ begin_refusals count w (Some flow) bytes =
     ∷ (NotSettled, not (is_nothing_undelivered count w.claims))
     ∷ (NoAddress, not (at_ends (has_address w.stations) flow.sender flow.to))
     ∷ (Busy, is_some (w.sessions flow.sender))
-    ∷ (WrongLength, not (length bytes == flow.length))
+    ∷ (WrongLength, not (has_length flow (length bytes)))
     ∷ []
 
 -- of a step among so many units with these flows; want of memory is none of the world's

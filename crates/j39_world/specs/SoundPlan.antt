@@ -1,6 +1,6 @@
 -- What a plan without findings has: its addresses, its signals and its reports are sound, planned addresses that differ stay, units
 -- that have heard all know one another, what it keeps free stays free, its claims die down, and its messages come to their end; one
--- that no receiver answers arrives where nothing of it is lost.
+-- of which nothing is lost arrives.
 use Rattle.std.specs.Prelude.{◌≡◌, ℕ, List, Some}
 use Rattle.j39_findings.specs.SoundSignals.{SoundSignals}
 use Rattle.j39_findings.specs.declared.plan.Plan.{Plan}
@@ -11,7 +11,7 @@ use Rattle.j39_world.specs.Run.{Run}
 use Rattle.j39_world.specs.PlannedUnits.{units_of}
 use Rattle.j39_world.specs.Settling.{Settles}
 use Rattle.j39_world.specs.Ending.{TransfersEnd}
-use Rattle.j39_world.specs.Arriving.{ArrivesUnanswered}
+use Rattle.j39_world.specs.Arriving.{ArrivesUnanswered, ArrivesAnswered}
 use Rattle.j39_world.specs.Sound.{AreAddressesSound, AreAddressesDifferent, AreNotesRight, AreKeptFree, IsQuiet, AreReportsSound, IsAcknowledgedReported}
 use Rattle.j39_world.specs.Staying.{ArePlannedApart, HoldsPlanned}
 
@@ -47,3 +47,6 @@ pub record IsSound (plan : Plan) : Type 0 where
   pub ends : Always plan (TransfersEnd plan)
   -- a message to all or of one frame of which nothing is lost is reported once by each receiver
   pub arrives : Always plan (ArrivesUnanswered plan)
+  -- one of several frames to one unit of which nothing is lost is reported once and acknowledged, where its receiver sends its sender
+  -- none of its group meanwhile
+  pub arrives_answered : Always plan (ArrivesAnswered plan)

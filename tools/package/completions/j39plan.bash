@@ -11,15 +11,15 @@ _j39plan() {
   local word=${COMP_WORDS[COMP_CWORD]}
   COMPREPLY=()
   if [ "$COMP_CWORD" -eq 1 ]; then
-    mapfile -t COMPREPLY < <(compgen -W 'check addresses run read frame help --help --version' -- "$word")
-  elif [[ ${COMP_WORDS[1]} =~ ^(check|addresses|run|read)$ ]]; then
+    mapfile -t COMPREPLY < <(compgen -W 'check addresses load run read follow frame help --help --version' -- "$word")
+  elif [[ ${COMP_WORDS[1]} =~ ^(check|addresses|load|run|read|follow)$ ]]; then
     case "$COMP_CWORD ${COMP_WORDS[1]}" in
       '3 run') _j39plan_files schedule "$word" ;;
-      '3 read') _j39plan_files log "$word" ;;
+      '3 read' | '3 follow') _j39plan_files log "$word" ;;
       *) _j39plan_files toml "$word" ;;
     esac
   elif [ "${COMP_WORDS[1]}" = help ]; then
-    mapfile -t COMPREPLY < <(compgen -W 'check addresses run read frame' -- "$word")
+    mapfile -t COMPREPLY < <(compgen -W 'check addresses load run read follow frame' -- "$word")
   fi
 }
 complete -F _j39plan j39plan
@@ -32,10 +32,10 @@ _j39plan_tool() {
     mapfile -t COMPREPLY < <(compgen -W "$("${COMP_WORDS[0]}" --help 2> /dev/null | grep -oE -- '--[a-z]+' | sort -u)" -- "$word")
   elif [ "$tool" = j39plan-dbc2plan ]; then
     _j39plan_files dbc "$word"
-  elif [ "$tool" = j39plan-against ] && [ "$COMP_CWORD" -gt 1 ]; then
+  elif [[ $tool =~ ^j39plan-(against|signals|plot)$ ]] && [ "$COMP_CWORD" -gt 1 ]; then
     _j39plan_files log "$word"
   else
     _j39plan_files toml "$word"
   fi
 }
-complete -F _j39plan_tool j39plan-where j39plan-startup j39plan-dbc2plan j39plan-against j39plan-check-plans
+complete -F _j39plan_tool j39plan-where j39plan-startup j39plan-dbc2plan j39plan-plan2dbc j39plan-against j39plan-report j39plan-signals j39plan-plot j39plan-check-plans

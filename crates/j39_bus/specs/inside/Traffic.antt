@@ -25,7 +25,7 @@ IsInside n (ToOne v) = v < n
 pub record IsFlow (n : ℕ) (f : Flow) : Type 0 where
   pub sender : f.sender < n
   pub receiver : IsInside n f.to
-  pub length : f.length ≤ message_bytes
+  pub length : f.most ≤ message_bytes
   pub priority : f.priority ≤ 7
 
 -- these are units, each named once

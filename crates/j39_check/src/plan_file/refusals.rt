@@ -12,6 +12,7 @@ fn write_table(text: &mut TextBuffer, table: Table) -> Result<(), AllocError>
 {
     match table {
         Table::Top => text.word("top"),
+        Table::Timing => text.word("timing"),
         Table::Unit(unit) => text.place("unit ", unit),
         Table::UnitName(unit) => {
             text.place("unit ", unit)?;
@@ -21,6 +22,10 @@ fn write_table(text: &mut TextBuffer, table: Table) -> Result<(), AllocError>
         Table::Signal(group, signal) => {
             text.place("group ", group)?;
             text.place(" signal ", signal)
+        }
+        Table::Text(group, place) => {
+            text.place("group ", group)?;
+            text.place(" text ", place)
         }
         Table::Flow(flow) => text.place("flow ", flow),
     }

@@ -10,9 +10,10 @@ pub enum Finding {
     SameFixedAddress(usize, usize),
     /// F3: this many units need an address of 128 to 247 that isn't kept free, and there are fewer.
     TooFewAddresses(usize),
-    /// F4: the group's PGN is none, or one that may not be planned.
+    /// F4: the group's PGN is none, or one that may not be planned, or it is a maker's own and the group isn't private, or the
+    /// other way round.
     BadPgn(usize),
-    /// F5: two groups have one PGN.
+    /// F5: two groups have one PGN; of private ones only where a unit sends both to receivers that meet.
     SamePgn(usize, usize),
     /// F6: of a group, the signal's width doesn't fit its kind.
     SignalWidth(usize, usize),
@@ -28,6 +29,11 @@ pub enum Finding {
     FlowRepeated(usize, usize),
     /// F12: the arbitrary unit prefers an address that is kept free.
     KeptAddress(usize),
+    /// F13: the private group is sent by no flow.
+    PrivateUnsent(usize),
+    /// F15: of a group, the text begins behind the byte after the last one of the shortest message, or ends behind the last byte of
+    /// the longest.
+    TextOutside(usize, usize),
 }
 
 /// Everything that is wrong with a plan, in order.

@@ -2,7 +2,7 @@
 ghost use Rattle.std.specs.Prelude.{◌≡◌};
 ghost use Rattle.j39_findings.specs.Adding.{Adds};
 ghost use Rattle.j39_findings.specs.ListPlaces.{found_if};
-ghost use Rattle.j39_findings.specs.Found.{is_one_frame_to_all, cannot_go_to_one, goes_to_its_sender, are_one_flow, flow_findings};
+ghost use Rattle.j39_findings.specs.Found.{is_one_frame_to_all, may_be_one_frame_to_all, cannot_go_to_one, goes_to_its_sender, are_one_flow, flow_findings};
 
 use crate::checking::finding::Finding;
 use crate::checking::rules::{PairRule, Rule, find_each, find_pairs, push_if};
@@ -11,9 +11,16 @@ use j39_id::limits::FRAME_BYTES;
 use j39_id::{PDU2_FIRST, pf_of};
 use std::alloc::AllocError;
 
-// Whether the group is sent in one frame, which has no destination.
+// Whether each message of the group is sent in one frame, which has no destination.
 fn is_one_frame_to_all(group: &GroupPlan) -> bool
     ensures { result ≡ is_one_frame_to_all group.now }
+{
+    pf_of(group.pgn) >= PDU2_FIRST && usize::from(group.most) <= FRAME_BYTES
+}
+
+/// Whether some message of the group is sent in one frame, which has no destination.
+pub fn may_be_one_frame_to_all(group: &GroupPlan) -> bool
+    ensures { result ≡ may_be_one_frame_to_all group.now }
 {
     pf_of(group.pgn) >= PDU2_FIRST && usize::from(group.length) <= FRAME_BYTES
 }
@@ -79,12 +86,12 @@ struct FlowRepeated;
 impl PairRule<FlowPlan> for FlowRepeated {
     ghost use Rattle.j39_findings.specs.declared.checking.finding.Finding.TheVariants.{FlowRepeated as FlowsRepeated};
 
-    ghost test = { are_one_flow };
+    ghost test = { λ _. are_one_flow };
 
     ghost make = { λ _ f h. FlowsRepeated f h };
 
     fn holds(&self, first: &FlowPlan, second: &FlowPlan) -> bool {
-        first == second
+        first.group == second.group && first.sender == second.sender && first.to == second.to
     }
 
     fn finding(&self, first: usize, second: usize) -> Finding {

@@ -21,12 +21,12 @@ pub trait Rule<T> {
 pub trait PairRule<T> {
     ghost use Rattle.j39_findings.specs.declared.checking.finding.Finding.{Finding as Found};
 
-    ghost test: { T → T → Bool };
+    ghost test: { Self → T → T → Bool };
 
     ghost make: { Self → ℕ → ℕ → Found };
 
     fn holds(&self, first: &T, second: &T) -> bool
-        ensures { result ≡ test first.now second.now };
+        ensures { result ≡ test self.now first.now second.now };
 
     fn finding(&self, first: usize, second: usize) -> Finding
         ensures { result ≡ make self.now first second };
@@ -65,7 +65,7 @@ fn find_against<T, R: PairRule<T>>(
 ) -> Result<(), AllocError>
     requires { i < length values.now }
     ensures { Adds result findings.old.items findings.new.items
-        (each (R.test value.now) (R.make rule.now i) (i + 1) (drop (i + 1) values.now)) }
+        (each (R.test rule.now value.now) (R.make rule.now i) (i + 1) (drop (i + 1) values.now)) }
 {
     for j in i + 1..values.len() {
         push_if(findings, rule.holds(value, &values[j]), rule.finding(i, j))?;
@@ -79,7 +79,7 @@ pub fn find_pairs<T, R: PairRule<T>>(
     rule: &R,
     values: &[T],
 ) -> Result<(), AllocError>
-    ensures { Adds result findings.old.items findings.new.items (pairs R.test (R.make rule.now) values.now) }
+    ensures { Adds result findings.old.items findings.new.items (pairs (R.test rule.now) (R.make rule.now) values.now) }
 {
     for (i, value) in values.iter().enumerate() {
         find_against(findings, rule, i, value, values)?;

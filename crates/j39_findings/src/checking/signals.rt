@@ -67,7 +67,7 @@ struct SignalOverlap {
 impl PairRule<Signal> for SignalOverlap {
     ghost use Rattle.j39_findings.specs.declared.checking.finding.Finding.TheVariants.{SignalOverlap as Overlaps};
 
-    ghost test = { shares_bit };
+    ghost test = { λ _. shares_bit };
 
     ghost make = { λ rule s t. Overlaps rule.group s t };
 

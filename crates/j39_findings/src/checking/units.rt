@@ -16,7 +16,7 @@ struct SameName;
 impl PairRule<UnitPlan> for SameName {
     ghost use Rattle.j39_findings.specs.declared.checking.finding.Finding.TheVariants.{SameName as SameNames};
 
-    ghost test = { have_same_name };
+    ghost test = { λ _. have_same_name };
 
     ghost make = { λ _ i j. SameNames i j };
 
@@ -41,7 +41,7 @@ struct SameFixedAddress;
 impl PairRule<UnitPlan> for SameFixedAddress {
     ghost use Rattle.j39_findings.specs.declared.checking.finding.Finding.TheVariants.{SameFixedAddress as SameAddresses};
 
-    ghost test = { have_same_fixed_address };
+    ghost test = { λ _. have_same_fixed_address };
 
     ghost make = { λ _ i j. SameAddresses i j };
 

@@ -146,7 +146,7 @@ planned_to plan w units flow count All on can = record {
 }
 planned_to plan w units flow count (One x) on can =
     let ends = and_parts (is_on w.stations flow.sender) (is_on w.stations x) on in
-    let other = and_parts (not (eqb x flow.sender)) (not (is_pdu2 flow.pgn && is_short flow.length)) can in
+    let other = and_parts (not (eqb x flow.sender)) (not (is_pdu2 flow.pgn && is_short flow.most)) can in
     record {
       unit = units flow.sender ends.0;
       others = λ v among. let same : x ≡ v = sym (among_one x v among) in

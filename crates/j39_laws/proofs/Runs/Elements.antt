@@ -17,6 +17,11 @@ pub all_weaker : {X : Type 0} (P Q : X → Type 0) → ((x : X) → P x → Q x)
 all_weaker P Q each [] all = tt
 all_weaker P Q each (x ∷ xs) all = (each x all.0, all_weaker P Q each xs all.1)
 
+pub all_both : {X : Type 0} (P Q R : X → Type 0) → ((x : X) → P x → Q x → R x) → (xs : List X) → AllByRecursion P xs → AllByRecursion Q xs
+    → AllByRecursion R xs
+all_both P Q R each [] p q = tt
+all_both P Q R each (x ∷ xs) p q = (each x p.0 q.0, all_both P Q R each xs p.1 q.1)
+
 pub all_tested : {X : Type 0} (test : X → Bool) (P : X → Type 0) → ((x : X) → test x ≡ true → P x)
     → (xs : List X) → list_all test xs ≡ true → AllByRecursion P xs
 all_tested test P each [] all = tt

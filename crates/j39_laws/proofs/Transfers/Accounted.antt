@@ -1,6 +1,6 @@
 -- What is undelivered of messages is of one that is still sent, and who sends and receives it is on.
 use Rattle.std.proofs.Common.{◌≡◌, ℕ, ◌⊎◌, inl, inr, Bool, true, false, not, ◌&&◌, eqb, List, [], ◌∷◌, length, refl, sym, ◌∙◌, subst, Option, Some, None}
-use Rattle.std.specs.Prelude.{map, nat_lt, nat_le}
+use Rattle.std.specs.Prelude.{map}
 use Rattle.std.specs.List.{AllByRecursion}
 use Rattle.std.proofs.lemmas.Bool.{cases_eq, cond_both, true≢false}
 use Rattle.j39_tp.specs.Receiver as receiver

@@ -1,9 +1,9 @@
 -- In every world of every run what is undelivered of messages is of one that is still sent, and who sends and receives it is on.
-use Rattle.std.proofs.Common.{◌≡◌, ℕ, inl, inr, true, not, ◌&&◌, eqb, ltb, List, [], ◌∷◌, ◌++◌, length, refl, sym, ap, ◌∙◌, subst, Option, Some, None}
+use Rattle.std.proofs.Common.{◌≡◌, ℕ, inl, inr, true, false, not, ◌&&◌, eqb, ltb, List, [], ◌∷◌, ◌++◌, length, refl, sym, ap, ◌∙◌, subst, Option, Some, None}
 use Rattle.std.specs.Prelude.{map, slice_get}
 use Rattle.std.specs.List.{AllByRecursion, list_all, range_with_len}
 use Rattle.std.specs.Option.{is_some}
-use Rattle.std.proofs.lemmas.Bool.{and_parts, cond_both, eqb-true, not-false}
+use Rattle.std.proofs.lemmas.Bool.{and_parts, cond_both, eqb-true, not-false, not-true}
 use Rattle.j39_tp.specs.Receiver as receiver
 use Rattle.j39_tp.specs.Receiver.{is_open_at}
 use Rattle.j39_tp.specs.Sender as sender
@@ -29,14 +29,14 @@ use Rattle.j39_world.specs.Resting.{is_of_sender, is_of_receiver, is_over_with, 
 use Rattle.j39_world.specs.Run.{count_of, is_on, at_ends, begin_refusal, begin_refusals, is_no_transfer_open, refusal, StepsTo}
 use Rattle.j39_world.specs.SoundPlan.{Always}
 use Rattle.j39_world.specs.Transfers.{Outgoing, Reported, Sessions, Wire, is_among, added, outcome_in}
-use Rattle.j39_world.specs.TransferSteps.{targets_of, outgoing, first_item, BeginsAt, sent_to_receivers, session_after, reaction_of, receiver_replies}
+use Rattle.j39_world.specs.TransferSteps.{targets_of, outgoing, first_item, begins, BeginsAt, sent_to_receivers, session_after, reaction_of, receiver_replies}
 use Rattle.j39_world.specs.TransferSteps.{sender_replies, hearing, packet_taken, TakenFrom, LostFrom, packets_in, receiver_timed_out, rested}
 use Rattle.j39_world.specs.World.{World, Stations, changed, changed_pair, is_other_on}
 use Rattle.j39_laws.proofs.Reports.Exchanges.{pair_of}
 use Rattle.j39_laws.proofs.Reports.ExchangeSteps.{asides_answer}
 use Rattle.j39_laws.proofs.Reports.Hearings.{packets_aside}
 use Rattle.j39_laws.proofs.Reports.Orderly.{PlannedAt, none_sends, none_sends_while}
-use Rattle.j39_laws.proofs.Reports.SenderSteps.{among_filtered, among_one, no_session}
+use Rattle.j39_laws.proofs.Reports.SenderSteps.{among_filtered, among_one, no_session, begin_keeps}
 use Rattle.j39_laws.proofs.Reports.SoundReports.{at_first, steps_keep}
 use Rattle.j39_laws.proofs.Reports.TransferInvariant.{TransferInvariant}
 use Rattle.j39_laws.proofs.Runs.Always.{IsPreserved, always}
@@ -107,7 +107,7 @@ module _ (plan : Plan) (w : World) (inv : TransferInvariant plan w) (old : AllAc
   none_ends : ((u : ℕ) → w.sessions u ≡ None) → (stations : Stations) (u : ℕ) → AreEndsOn stations u (w.sessions u)
   none_ends none stations u = subst (AreEndsOn stations u) (sym (none u)) tt
 
-  pub none_open : is_no_transfer_open (count_of plan) w ≡ true → (u : ℕ) → w.sessions u ≡ None
+  none_open : is_no_transfer_open (count_of plan) w ≡ true → (u : ℕ) → w.sessions u ≡ None
   none_open closed = none_sends plan w.stations w.claims w.sessions inv.order (units_all plan (λ v. not (is_some (w.sessions v))) closed)
 
   give_accounted : (u v : ℕ) → ltb 0 (length (w.claims u v)) ≡ true → (list : List Item) (new : World) → GivenFrom (units_of plan) w u v list new
@@ -120,7 +120,7 @@ module _ (plan : Plan) (w : World) (inv : TransferInvariant plan w) (old : AllAc
 
   -- ---- a sender begins, goes on, or hears nothing in time
 
-  pub begin_accounted : (f : ℕ) (o : Option Flow) (bytes : List ℕ) → begin_refusal (count_of plan) w o bytes ≡ None → (new : World)
+  begin_accounted : (f : ℕ) (o : Option Flow) (bytes : List ℕ) → begin_refusal (count_of plan) w o bytes ≡ None → (new : World)
       → BeginsAt (count_of plan) w f o bytes new → AllAccounted new
   begin_accounted f None bytes allowed new never = absurd never
   begin_accounted f (Some flow) bytes allowed new e =
@@ -206,8 +206,9 @@ module _ (plan : Plan) (w : World) (inv : TransferInvariant plan w) (old : AllAc
   pub sent_unit : (u t : ℕ) → SendsTo (w.sessions u) t → is_unit plan t ≡ true
   sent_unit u t sends = planned_unit u t (w.sessions u) (inv.order.planned u) sends
 
-  over_with : (u : ℕ) → can_rest (count_of plan) w u ≡ true → (t : ℕ) → SendsTo (w.sessions u) t
+  pub over_with : (u : ℕ) → can_rest (count_of plan) w u ≡ true → (t : ℕ) → SendsTo (w.sessions u) t
       → AllByRecursion (λ item. not (is_of_sender item) ≡ true) (w.wire u t) × AllByRecursion (λ item. not (is_of_receiver item) ≡ true) (w.wire t u)
+      × (is_open_at (w.receivers t u) ≡ false)
   over_with u can t sends =
       let parts = and_parts (is_some (outcome_in (w.sessions u))) (list_all (is_over_with w u) (range_with_len 0 (count_of plan))) can in
       let over = units_all plan (is_over_with w u) parts.1 t (sent_unit u t sends) in
@@ -216,6 +217,7 @@ module _ (plan : Plan) (w : World) (inv : TransferInvariant plan w) (old : AllAc
       let both = and_parts (list_all (λ item. not (is_of_sender item)) (w.wire u t)) (list_all (λ item. not (is_of_receiver item)) (w.wire t u)) wires.1 in (
         all_tested (λ item. not (is_of_sender item)) (λ item. not (is_of_sender item) ≡ true) (λ item is. is) (w.wire u t) both.0,
         all_tested (λ item. not (is_of_receiver item)) (λ item. not (is_of_receiver item) ≡ true) (λ item is. is) (w.wire t u) both.1,
+        not-true (is_open_at (w.receivers t u)) wires.0,
       )
 
   rest_accounted : (u : ℕ) → can_rest (count_of plan) w u ≡ true → AllAccounted (rested w u)
@@ -262,3 +264,46 @@ keeps plan w old step allowed new leads = record {
 
 pub all_kept : (plan : Plan) → Always plan (IsKept plan)
 all_kept plan = always plan (IsKept plan) (record { transfers = at_first plan; accounted = record { wire = λ s t. tt; ends = λ u. tt } }) (keeps plan)
+
+-- a message that is begun
+pub begin_kept : (plan : Plan) (w : World) → IsKept plan w → (f : ℕ) (flow : Flow) (bytes : List ℕ) → begin_refusal (count_of plan) w (Some flow) bytes ≡ None
+    → IsKept plan (begins (count_of plan) w f flow bytes)
+begin_kept plan w kept f flow bytes allowed = record {
+  transfers = begin_keeps plan w kept.transfers f (Some flow) bytes allowed (begins (count_of plan) w f flow bytes) refl;
+  accounted = begin_accounted plan w kept.transfers kept.accounted f (Some flow) bytes allowed (begins (count_of plan) w f flow bytes) refl;
+}
+
+-- ---- while a message is sent
+
+-- a unit is switched, or tells or hears of addresses
+abbrev pub IsOfClaims : Step → Type 0
+IsOfClaims (Up u) = Unit {0}
+IsOfClaims (Down u) = Unit {0}
+IsOfClaims (Give u v) = Unit {0}
+IsOfClaims (Ask u) = Unit {0}
+IsOfClaims _ = ⊥
+
+-- none does
+pub claims_refused : (plan : Plan) (w : World) → IsKept plan w → (u : ℕ) (o : Outgoing) → w.sessions u ≡ Some o → (step : Step) → IsOfClaims step
+    → refusal plan w step ≡ None → ⊥
+claims_refused plan w kept u o session step of allowed = refused step of allowed
+  where
+    open_still : ((x : ℕ) → w.sessions x ≡ None) → ⊥
+    open_still none = (let idle = none u in cc (idle, session))
+
+    refused : (s : Step) → IsOfClaims s → refusal plan w s ≡ None → ⊥
+    refused (Up v) is none = (let (known, (off_is, (idle, rest))) = none_refuses plan w (Up v) none in
+        open_still (none_open plan w kept.transfers kept.accounted (not-false _ idle)))
+    refused (Down v) is none = (let (known, (on, (idle, rest))) = none_refuses plan w (Down v) none in
+        open_still (none_open plan w kept.transfers kept.accounted (not-false _ idle)))
+    refused (Ask v) is none = (let (known, (on, (idle, rest))) = none_refuses plan w (Ask v) none in
+        open_still (none_open plan w kept.transfers kept.accounted (not-false _ idle)))
+    refused (Give x y) is none = (let (known, (on, (some, rest))) = none_refuses plan w (Give x y) none in
+        open_still (none_sends_while plan w.stations w.claims w.sessions kept.transfers.order x y (not-false _ some)))
+    refused (Begin f bytes) is none = is
+    refused (Emit v) is none = is
+    refused (Take x y) is none = is
+    refused (Lose x y) is none = is
+    refused (LateSender v) is none = is
+    refused (LateReceiver x y) is none = is
+    refused (Rest v) is none = is

@@ -5,7 +5,7 @@ use Rattle.std.specs.Bool.{MatchBool}
 use Rattle.std.specs.Prelude.{slice_get}
 use Rattle.std.specs.List.{All}
 use Rattle.std.specs.Option.{is_some}
-use Rattle.std.proofs.lemmas.Bool.{and_from, cases_Bool, cond-true, cond-false, eq-eqb, eqb-true, leb-false, not-false, true≢false}
+use Rattle.std.proofs.lemmas.Bool.{and_from, cases_Bool, cond-true, cond-false, eq-eqb, leb-false, true≢false}
 use Rattle.std.proofs.lemmas.List.Elements.{All-head, All-tail}
 use Rattle.j39_tp.specs.Chunks.{packets_of}
 use Rattle.j39_tp.specs.Sender as sender
@@ -31,11 +31,10 @@ use Rattle.j39_world.specs.Transfers.{Outgoing, Begun, is_among}
 use Rattle.j39_world.specs.TransferSteps.{outgoing, first_item, begins}
 use Rattle.j39_world.specs.World.{World}
 use Rattle.j39_laws.proofs.Reports.Exchanges.{pair_of, message_to, IsIdle, Exchange}
-use Rattle.j39_laws.proofs.Reports.Orderly.{none_sends_while}
-use Rattle.j39_laws.proofs.Reports.SenderSteps.{begin_keeps, no_session}
+use Rattle.j39_laws.proofs.Reports.SenderSteps.{no_session}
 use Rattle.j39_laws.proofs.Runs.Changed.{changed_here}
-use Rattle.j39_laws.proofs.Runs.Conditions.{none_refuses, not_refused}
-use Rattle.j39_laws.proofs.Transfers.AccountedSteps.{IsKept, all_kept, keeps, begin_accounted, none_open}
+use Rattle.j39_laws.proofs.Runs.Conditions.{not_refused}
+use Rattle.j39_laws.proofs.Transfers.AccountedSteps.{IsKept, all_kept, keeps, begin_kept, IsOfClaims, claims_refused}
 use Rattle.j39_laws.proofs.Transfers.Coming as coming
 use Rattle.j39_laws.proofs.Transfers.Coming.{at_stage, IsComing}
 use Rattle.j39_laws.proofs.Transfers.ComingTaken as taken
@@ -49,22 +48,14 @@ module _ (plan : Plan) (u : ℕ) (o : Outgoing) (before : ℕ → List Begun) (u
   -- ---- steps that spare it
 
   module _ (w : World) (kept : IsKept plan w) (c : Coming w) where
-    never_idle : w.sessions u ≡ None → ⊥
-    never_idle idle = (let session = c.session in cc (idle, session))
+    none_claims : (step : Step) → IsOfClaims step → refusal plan w step ≡ None → ⊥
+    none_claims = claims_refused plan w kept u (at_stage plan u o before unanswered c.stage) c.session
 
     step_keeps : (step : Step) → Spares u o.targets step → refusal plan w step ≡ None → (new : World) → StepsTo plan w step new → Coming new
-    step_keeps (Up v) spares allowed new leads =
-        let (known, (off, (idle, none))) = none_refuses plan w (Up v) allowed in
-        absurd (never_idle (none_open plan w kept.transfers kept.accounted (not-false _ idle) u))
-    step_keeps (Down v) spares allowed new leads =
-        let (known, (on, (idle, none))) = none_refuses plan w (Down v) allowed in
-        absurd (never_idle (none_open plan w kept.transfers kept.accounted (not-false _ idle) u))
-    step_keeps (Ask v) spares allowed new leads =
-        let (known, (on, (idle, none))) = none_refuses plan w (Ask v) allowed in
-        absurd (never_idle (none_open plan w kept.transfers kept.accounted (not-false _ idle) u))
-    step_keeps (Give x y) spares allowed new leads =
-        let (known, (on, (some, none))) = none_refuses plan w (Give x y) allowed in
-        absurd (never_idle (none_sends_while plan w.stations w.claims w.sessions kept.transfers.order x y (not-false _ some) u))
+    step_keeps (Up v) spares allowed new leads = absurd (none_claims (Up v) tt allowed)
+    step_keeps (Down v) spares allowed new leads = absurd (none_claims (Down v) tt allowed)
+    step_keeps (Ask v) spares allowed new leads = absurd (none_claims (Ask v) tt allowed)
+    step_keeps (Give x y) spares allowed new leads = absurd (none_claims (Give x y) tt allowed)
     step_keeps (Begin f bytes) spares allowed new leads =
         coming.begin_keeps plan u o before unanswered w kept.transfers kept.accounted c f (slice_get (flows_of plan) f) bytes.items allowed new leads
     step_keeps (Emit s) spares allowed new leads = coming.emit_keeps plan u o before unanswered w kept.transfers kept.accounted c s new leads
@@ -120,7 +111,7 @@ module _ (plan : Plan) (u : ℕ) (o : Outgoing) (before : ℕ → List Begun) (u
 
 -- ---- it is begun
 
-module _ (plan : Plan) (w : World) (kept : IsKept plan w) (f : ℕ) (flow : Flow) (bytes : List ℕ) (unanswered : IsUnanswered flow)
+module _ (plan : Plan) (w : World) (kept : IsKept plan w) (f : ℕ) (flow : Flow) (bytes : List ℕ) (unanswered : IsUnanswered flow bytes)
     (allowed : begin_refusal (count_of plan) w (Some flow) bytes ≡ None) where
   abbrev message : Outgoing
   message = outgoing (count_of plan) w.stations f flow bytes
@@ -136,16 +127,8 @@ module _ (plan : Plan) (w : World) (kept : IsKept plan w) (f : ℕ) (flow : Flow
       let (sendable, (on, (told, (addressed, (free, rest))))) = none_hold (begin_refusals (count_of plan) w (Some flow) bytes) allowed in
       no_session (w.sessions flow.sender) free
 
-  long_enough : length bytes ≡ flow.length
-  long_enough =
-      let (sendable, (on, (told, (addressed, (free, (long, rest)))))) = none_hold (begin_refusals (count_of plan) w (Some flow) bytes) allowed in
-      eqb-true (length bytes) flow.length (not-false (length bytes == flow.length) long)
-
-  message_unanswered : (message.to ≡ tos.All) ⊎ (is_whole message ≡ true)
-  message_unanswered = elim unanswered [ inl all ↦ inl all | inr whole ↦ inr (ap is_short long_enough ∙ whole) ]
-
   to_all : is_whole message ≡ false → flow.to ≡ tos.All
-  to_all long = elim message_unanswered [ inl all ↦ all | inr whole ↦ absurd (true≢false (sym whole ∙ long)) ]
+  to_all long = elim unanswered [ inl all ↦ all | inr whole ↦ absurd (true≢false (sym whole ∙ long)) ]
 
   sent_whole : is_whole message ≡ true → HasSent message message.stage 1 × IsItem message 0 (first_item flow bytes)
   sent_whole whole =
@@ -185,7 +168,7 @@ module _ (plan : Plan) (w : World) (kept : IsKept plan w) (f : ℕ) (flow : Flow
         receiver = inl (record { none = refl; closed = old.closed; same = refl });
       }
 
-  begun_comes : IsComing plan flow.sender message earlier message_unanswered begun
+  begun_comes : IsComing plan flow.sender message earlier unanswered begun
   begun_comes = record {
     stage = message.stage;
     sent = 1;
@@ -195,22 +178,19 @@ module _ (plan : Plan) (w : World) (kept : IsKept plan w) (f : ℕ) (flow : Flow
   }
 
   begun_kept : IsKept plan begun
-  begun_kept = record {
-    transfers = begin_keeps plan w kept.transfers f (Some flow) bytes allowed begun refl;
-    accounted = begin_accounted plan w kept.transfers kept.accounted f (Some flow) bytes allowed begun refl;
-  }
+  begun_kept = begin_kept plan w kept f flow bytes allowed
 
   has_arrived : (steps : List Step) (after : World) → All (Spares flow.sender message.targets) steps → Run plan begun steps after
-      → IsThrough plan after flow.sender message.targets → HasArrived w after flow.sender message
+      → IsThrough plan after flow.sender message.targets → HasArrived w after flow.sender message Sent
   has_arrived steps after spares run through =
-      let (here, c) = run_keeps plan flow.sender message earlier message_unanswered steps begun after begun_kept begun_comes spares run in
+      let (here, c) = run_keeps plan flow.sender message earlier unanswered steps begun after begun_kept begun_comes spares run in
       record {
         rests = (
-          at_stage plan flow.sender message earlier message_unanswered c.stage,
+          at_stage plan flow.sender message earlier unanswered c.stage,
           c.session,
-          rests_sent plan flow.sender message earlier message_unanswered after here c through,
+          rests_sent plan flow.sender message earlier unanswered after here c through,
         );
-        reports = reported_once plan flow.sender message earlier message_unanswered after here c through;
+        reports = reported_once plan flow.sender message earlier unanswered after here c through;
       }
 
 pub arrives_unanswered : (plan : Plan) → Always plan (ArrivesUnanswered plan)

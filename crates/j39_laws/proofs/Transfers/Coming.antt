@@ -26,16 +26,17 @@ use Rattle.j39_world.proofs.Refusals.{none_hold}
 use Rattle.j39_world.specs.declared.flow.Flow.{Flow}
 use Rattle.j39_world.specs.declared.wired.Wired.{Wired}
 use Rattle.j39_world.specs.declared.wired.Wired.TheVariants as wired
-use Rattle.j39_world.specs.Flows.{dest_of}
+use Rattle.j39_world.specs.Flows.{window_at, dest_of}
 use Rattle.j39_world.specs.Run.{count_of, begin_refusal, begin_refusals}
 use Rattle.j39_world.specs.Sound.{reported}
 use Rattle.j39_world.specs.Transfers.{Outgoing, Begun, Reported, Sessions, Wire, is_among, added}
 use Rattle.j39_world.specs.TransferSteps.{outgoing, first_item, begins, BeginsAt, sent_to_receivers, session_hears}
-use Rattle.j39_world.specs.TransferSteps.{flow_in, ReportsOne, Reports}
+use Rattle.j39_world.specs.TransferSteps.{flow_in, hearing, ReportsOne, Reports}
 use Rattle.j39_world.specs.TransferSteps.{Emits, SenderTimesOut, rested}
 use Rattle.j39_world.specs.World.{World, changed, changed_pair}
-use Rattle.j39_laws.proofs.Reports.Exchanges.{IsAnswering}
-use Rattle.j39_laws.proofs.Reports.Reporting.{reported_none, reported_elsewhere}
+use Rattle.j39_laws.proofs.Reports.ExchangeTaken as taking
+use Rattle.j39_laws.proofs.Reports.Exchanges.{Message, pair_of, message_for, message_to, begun_of, IsAnswering}
+use Rattle.j39_laws.proofs.Reports.Reporting.{reported_none, reported_here, reported_elsewhere}
 use Rattle.j39_laws.proofs.Reports.SenderSteps.{no_session}
 use Rattle.j39_laws.proofs.Reports.TransferInvariant.{TransferInvariant}
 use Rattle.j39_laws.proofs.Runs.Changed.{IsElsewhere, changed_here, changed_elsewhere, pair_each}
@@ -89,6 +90,34 @@ module _ (w : World) (x y : ℕ) (p : Packet) (rs : List Reported) where
   reports_apart heards.Nothing s t apart r = none_apart s t r
   reports_apart heards.Closed s t apart r = none_apart s t r
 
+-- what is complete is the message that is sent
+pub message_reported : (plan : Plan) (w : World) → TransferInvariant plan w → (x y : ℕ) (s : Outgoing) → w.sessions x ≡ Some s → is_among s.targets y ≡ true
+    → (windows : List ℕ) (p : Packet) (rest : List Wired) → w.wire x y ≡ wired.Packet p ∷ rest → (rs : List Reported)
+    → Reports w x y p (hearing windows w x y p).1 rs → TellsMessage (hearing windows w x y p).1
+    → reported (w.reports ++ rs) y x ≡ reported w.reports y x ++ begun_of s ∷ []
+message_reported plan w inv x y s session among windows p rest is rs told message =
+    let heard : Heard = (hearing windows w x y p).1 in
+    let (pgn, bytes, carried, one) = reports_message w x y p rs heard message told in
+    let sends : message_to (w.sessions x) y ≡ Some (record { pgn = s.pgn; begun = begun_of s }) =
+    ap (λ (z : Option Outgoing). message_to z y) session ∙ ap (λ b. message_for b s) among in
+    let bytes_are : bytes ≡ s.bytes =
+    elim (taking.packet_taken (message_to (w.sessions x) y) (window_at windows y) (pair_of w x y) p rest is (inv.exchanges x y)) [
+      | inl on ↦ absurd (not_both w x y p rs heard on.told message)
+      | inr c ↦
+          let is_one = c.is in
+          let same_message : c.message ≡ record { pgn = s.pgn; begun = begun_of s } = cc (is_one, sends) in
+          c.carried pgn bytes carried ∙ ap (λ (m : Message). m.begun.bytes) same_message
+    ] in
+    ap (λ (xs : List Reported). reported (w.reports ++ xs) y x) one
+    ∙ (reported_here w.reports x y (flow_in (w.sessions x)) bytes
+    ∙ (λ i. reported w.reports y x ++ record { flow = flow_in (session i); bytes = bytes_are i } ∷ []))
+
+-- ---- what a unit sends, another doesn't
+
+pub added_elsewhere : (wire : Wire) (s : ℕ) (targets : List ℕ) (item : Wired) (x y : ℕ) → x ≢ s → added wire s targets item x y ≡ wire x y
+added_elsewhere wire s targets item x y other =
+    cond-false (eqb x s && is_among targets y) (wire x y ++ item ∷ []) (wire x y) (and_left (eqb x s) (is_among targets y) (ne_eqb x s other))
+
 -- ---- a sender that rests hears nothing
 
 resting_hears : (dest : Dest) (own size : ℕ) (outcome : Outcome) (p : Packet) → (sender.hears dest own size (Resting outcome) p).0 ≡ Resting outcome
@@ -135,10 +164,6 @@ module _ (plan : Plan) (u : ℕ) (o : Outgoing) (before : ℕ → List Begun) (u
 
   -- ---- others send
 
-  sent_elsewhere : (wire : Wire) (s : ℕ) → s ≢ u → (targets : List ℕ) (item : Wired) (v : ℕ) → added wire s targets item u v ≡ wire u v
-  sent_elsewhere wire s other targets item v =
-      cond-false (eqb u s && is_among targets v) (wire u v ++ item ∷ []) (wire u v) (and_left (eqb u s) (is_among targets v) (ne_eqb u s (λ e. other (sym e))))
-
   module _ (w : World) (inv : TransferInvariant plan w) (old : AllAccounted w) (coming : IsComing w) where
     pub session_elsewhere : (s : ℕ) (x : Option Outgoing) → s ≢ u → changed w.sessions s x u ≡ Some (at_stage coming.stage)
     session_elsewhere s x other = changed_elsewhere w.sessions s x u (λ e. other (sym e)) ∙ coming.session
@@ -153,7 +178,7 @@ module _ (plan : Plan) (u : ℕ) (o : Outgoing) (before : ℕ → List Begun) (u
       sends = coming.sends;
       ways =
           λ v among.
-          let list : new.wire u v ≡ w.wire u v = ap (λ (f : Wire). f u v) wire ∙ sent_elsewhere w.wire s other targets item v in
+          let list : new.wire u v ≡ w.wire u v = ap (λ (f : Wire). f u v) wire ∙ added_elsewhere w.wire s targets item u v (λ e. other (sym e)) in
           subst (λ (xs : List Wired). IsUnderWay o coming.sent xs (new.receivers v u) (reported new.reports v u) (before v)) (sym list)
           (subst (λ (f : ℕ → ℕ → Progress). IsUnderWay o coming.sent (w.wire u v) (f v u) (reported new.reports v u) (before v)) (sym receivers)
           (subst (λ (rs : List Reported). IsUnderWay o coming.sent (w.wire u v) (w.receivers v u) (reported rs v u) (before v)) (sym reports)

@@ -21,8 +21,7 @@ use Rattle.j39_world.specs.TransferSteps.{session_after, reaction_of, receiver_r
 use Rattle.j39_world.specs.TransferSteps.{packet_taken, TakenFrom, LostFrom, packets_in, receiver_timed_out}
 use Rattle.j39_world.specs.World.{World, changed, changed_pair}
 use Rattle.j39_laws.proofs.Reports.ExchangeSteps.{asides_answer, answers_answering}
-use Rattle.j39_laws.proofs.Reports.ExchangeTaken as taking
-use Rattle.j39_laws.proofs.Reports.Exchanges.{Message, pair_of, message_for, message_to, begun_of, IsAnswering}
+use Rattle.j39_laws.proofs.Reports.Exchanges.{begun_of, IsAnswering}
 use Rattle.j39_laws.proofs.Reports.Hearings.{packets_aside, reaction_aside}
 use Rattle.j39_laws.proofs.Reports.Reporting.{reported_here, reported_elsewhere}
 use Rattle.j39_laws.proofs.Reports.TransferInvariant.{TransferInvariant}
@@ -30,7 +29,7 @@ use Rattle.j39_laws.proofs.Runs.Changed.{IsElsewhere, changed_here, changed_else
 use Rattle.j39_laws.proofs.Runs.Elements.{all-append}
 use Rattle.j39_laws.proofs.Transfers.FitSteps.{receiver_answers}
 use Rattle.j39_laws.proofs.Transfers.Flights.{is_whole, InFlight, sent_most, HasTaken, IsUnderWay, grown_under_way, short_heard, HearsOn, packet_heard}
-use Rattle.j39_laws.proofs.Transfers.Coming.{answers_grow, reports_nothing, reports_message, none_apart, not_both, reports_apart, at_stage, IsComing, stage_kept}
+use Rattle.j39_laws.proofs.Transfers.Coming.{answers_grow, reports_nothing, none_apart, reports_apart, message_reported, at_stage, IsComing, stage_kept}
 
 module _ (plan : Plan) (u : ℕ) (o : Outgoing) (before : ℕ → List Begun) (unanswered : (o.to ≡ tos.All) ⊎ (is_whole o ≡ true)) where
   abbrev Coming : World → Type 0
@@ -141,22 +140,7 @@ module _ (plan : Plan) (u : ℕ) (o : Outgoing) (before : ℕ → List Begun) (u
 
       -- what is complete is the message
       one_report : x ≡ u → is_among o.targets y ≡ true → TellsMessage heard.1 → reported (w.reports ++ rs) y x ≡ reported w.reports y x ++ begun_of o ∷ []
-      one_report same among message =
-          let (pgn, bytes, carried, one) = reports_message w x y p rs heard.1 message told in
-          let session = session_at x same in
-          let sends : message_to (w.sessions x) y ≡ Some (record { pgn = o.pgn; begun = begun_of o }) =
-          ap (λ (z : Option Outgoing). message_to z y) session ∙ ap (λ b. message_for b (at_stage plan u o before unanswered coming.stage)) among in
-          let bytes_are : bytes ≡ o.bytes =
-          elim (taking.packet_taken (message_to (w.sessions x) y) (window_at windows y) (pair_of w x y) p rest is (inv.exchanges x y)) [
-            | inl on ↦ absurd (not_both w x y p rs heard.1 on.told message)
-            | inr c ↦
-                let is_one = c.is in
-                let same_message : c.message ≡ record { pgn = o.pgn; begun = begun_of o } = cc (is_one, sends) in
-                c.carried pgn bytes carried ∙ ap (λ (m : Message). m.begun.bytes) same_message
-          ] in
-          ap (λ (xs : List Reported). reported (w.reports ++ xs) y x) one
-          ∙ (reported_here w.reports x y (flow_in (w.sessions x)) bytes
-          ∙ (λ i. reported w.reports y x ++ record { flow = flow_in (session i); bytes = bytes_are i } ∷ []))
+      one_report same among = message_reported plan w inv x y (at_stage plan u o before unanswered coming.stage) (session_at x same) among windows p rest is rs told
 
       packet_here : x ≡ u → is_among o.targets y ≡ true → WayAt coming.sent then x y
       packet_here same among =

@@ -1,10 +1,10 @@
 -- In every world of every run what is on the wire fits, no message is longer than one can be, and each receiver has gathered what
 -- it took.
-use Rattle.std.proofs.Common.{◌≡◌, ℕ, zero, suc, ◌≤◌, ◌==◌, ◌&&◌, eqb, List, [], ◌∷◌, ◌++◌, length, refl, sym, subst, subst₂, arith, inl, inr, Option, Some, None}
+use Rattle.std.proofs.Common.{◌≡◌, ℕ, zero, suc, ◌≤◌, ◌==◌, ◌&&◌, eqb, nat_le, List, [], ◌∷◌, ◌++◌, length, refl, sym, subst, subst₂, arith, inl, inr, Option, Some, None}
 use Rattle.std.specs.Prelude.{map, slice_get}
 use Rattle.std.specs.List.{AllByRecursion}
 use Rattle.std.specs.Option.{option_map_or}
-use Rattle.std.proofs.lemmas.Bool.{cond_both, eqb-true, leb-false, not-false}
+use Rattle.std.proofs.lemmas.Bool.{and_parts, cond_both, leb-false, leb-true, not-false}
 use Rattle.j39_id.specs.Limits.{message_bytes}
 use Rattle.j39_tp.specs.Receiver as receiver
 use Rattle.j39_tp.specs.Sender as sender
@@ -62,15 +62,15 @@ at_first = record { wire = λ s t. tt; messages = λ u. tt; within = λ v u. tt;
 
 -- ---- what a flow sends
 
-flow_fits_in : (o : Option GroupPlan) → option_map_or (λ (g : GroupPlan). g.length) o 0 ≤ message_bytes
+flow_fits_in : (o : Option GroupPlan) → option_map_or (λ (g : GroupPlan). g.most) o 0 ≤ message_bytes
 flow_fits_in None = omega arith
-flow_fits_in (Some g) = g.length_range
+flow_fits_in (Some g) = g.most_range
 
 flow_fits : (groups : List GroupPlan) (flows : List FlowPlan) (f : ℕ) (flow : Flow) → slice_get (map (flow_of groups) flows) f ≡ Some flow
-    → flow.length ≤ message_bytes
+    → flow.most ≤ message_bytes
 flow_fits groups [] f flow is = absurd (cc is)
 flow_fits groups (x ∷ flows) zero flow is =
-    let same : flow_of groups x ≡ flow = cc is in subst (λ (y : Flow). y.length ≤ message_bytes) same (flow_fits_in (slice_get groups x.group))
+    let same : flow_of groups x ≡ flow = cc is in subst (λ (y : Flow). y.most ≤ message_bytes) same (flow_fits_in (slice_get groups x.group))
 flow_fits groups (x ∷ flows) (suc f) flow is = flow_fits groups flows f flow is
 
 -- ---- packets
@@ -112,13 +112,13 @@ module _ (plan : Plan) (w : World) (inv : IsWorldFit w) where
   less_fits : (u v : ℕ) (item : Wired) (rest : List Wired) → w.wire u v ≡ item ∷ rest → IsWireFit (changed_pair w.wire u v rest)
   less_fits u v item rest is = pair_each (λ s t (xs : List Wired). AllByRecursion IsItemFit xs) w.wire u v rest (subst (AllByRecursion IsItemFit) is (inv.wire u v)).1 inv.wire
 
-  begin_fits : (f : ℕ) (bytes : List ℕ) (o : Option Flow) → slice_get (flows_of plan) f ≡ o → begin_refusal (count_of plan) w o bytes ≡ None → (new : World)
+  pub begin_fits : (f : ℕ) (bytes : List ℕ) (o : Option Flow) → slice_get (flows_of plan) f ≡ o → begin_refusal (count_of plan) w o bytes ≡ None → (new : World)
       → BeginsAt (count_of plan) w f o bytes new → IsWorldFit new
   begin_fits f bytes None is allowed new never = absurd never
   begin_fits f bytes (Some flow) is allowed new e =
       let (sendable, (on, (told, (addressed, (free, (long, rest)))))) = none_hold (begin_refusals (count_of plan) w (Some flow) bytes) allowed in
-      let same : length bytes ≡ flow.length = eqb-true (length bytes) flow.length (not-false (length bytes == flow.length) long) in
-      let within : flow.length ≤ message_bytes = flow_fits plan.groups.items plan.flows.items f flow is in
+      let same : length bytes ≤ flow.most = leb-true (length bytes) flow.most (and_parts (nat_le flow.length (length bytes)) _ (not-false _ long)).1 in
+      let within : flow.most ≤ message_bytes = flow_fits plan.groups.items plan.flows.items f flow is in
       let most : length bytes ≤ message_bytes = omega arith in
       let o : Outgoing = outgoing (count_of plan) w.stations f flow bytes in
       subst IsWorldFit (sym e) (record {

@@ -1,8 +1,8 @@
-//! The law of messages that arrive.
+//! The laws of messages that arrive.
 ghost use Rattle.std.specs.Prelude.{List};
 ghost use Rattle.j39_findings.specs.declared.plan.Plan.{Plan as Plans};
 ghost use Rattle.j39_findings.specs.declared.steps.Step.{Step as Steps};
-ghost use Rattle.j39_world.specs.Arriving.{ArrivesUnanswered};
+ghost use Rattle.j39_world.specs.Arriving.{ArrivesUnanswered, Answered, CanArriveAnswered, HasArrivedAnswered, IsAlone};
 ghost use Rattle.j39_world.specs.Run.{Run};
 ghost use Rattle.j39_world.specs.World.{World, first};
 
@@ -11,4 +11,14 @@ ghost use Rattle.j39_world.specs.World.{World, first};
 /// once since, whatever other messages go beside it and whatever was lost of them and before.
 pub fn unanswered_messages_arrive()
     ensures { (plan : Plans) (steps : List Steps) (w : World) → Run plan first steps w → ArrivesUnanswered plan w }
+{}
+
+/// In every world of every run of every plan, a message of several frames to one unit that is begun there arrives where no frame of it and no
+/// answer to it is lost, neither of the two hears nothing of it in time, and its receiver sends its sender no message of its group to it
+/// alone meanwhile: once all of it and of its answers was sent and taken, its sender rests acknowledged, and its receiver has reported it
+/// once since, whatever other messages go beside it and whatever is lost of them and before. From each Begin some run does so.
+pub fn answered_messages_arrive()
+    ensures arrives { (plan : Plans) (steps : List Steps) (w : World) → Run plan first steps w
+        → (m : Answered plan w) → IsAlone plan w m → HasArrivedAnswered plan w m }
+    ensures possible { (plan : Plans) (steps : List Steps) (w : World) → Run plan first steps w → CanArriveAnswered plan w }
 {}

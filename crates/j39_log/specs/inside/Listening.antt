@@ -1,9 +1,9 @@
 -- What the reader of a log keeps, and what it stands for.
-use Rattle.std.specs.Prelude.{◌≡◌, ◌==◌, ◌&&◌, ◌<◌, Bool, ℕ, List, [], length, map, All, Box, Option, Some, None}
+use Rattle.std.specs.Prelude.{◌≡◌, ◌==◌, ◌+◌, ◌&&◌, ◌||◌, ◌<◌, ◌≤◌, ◌⊎◌, Bool, false, ℕ, nat_eq, List, [], length, get_or, map, All, Box, Option, Some, None}
 use Rattle.std.specs.declared.alloc.Global.{Global}
 use Rattle.std.specs.declared.vec.Vec.{Vec}
 use Rattle.std.specs.HashMap.{HashMap, get}
-use Rattle.std.specs.List.{position, slice_get}
+use Rattle.std.specs.List.{slice_get}
 use Rattle.j39_findings.specs.declared.plan.Plan.{Plan}
 use Rattle.j39_findings.specs.declared.plan.group_plan.GroupPlan.{GroupPlan}
 use Rattle.j39_tp.specs.Carried.{listened}
@@ -11,12 +11,13 @@ use Rattle.j39_tp.specs.Packets.{InRange}
 use Rattle.j39_tp.specs.Receiver.{Receiving, fresh, hears, is_complete}
 use Rattle.j39_tp.specs.declared.receiving.manner.Manner.TheVariants.{Listening}
 use Rattle.j39_tp.specs.declared.packet.Packet.{Packet}
-use Rattle.j39_log.specs.LogFrames.{is_planned_as}
+use Rattle.j39_log.specs.LogFrames.{is_shared_as}
 use Rattle.j39_log.specs.LogPairs.{Seen, heard}
 use Rattle.j39_findings.specs.PlannedGroups.{IsFirstRefused, layout_of}
 use Rattle.j39_log.specs.declared.catalog.CatalogError.{CatalogError}
 use Rattle.j39_log.specs.declared.catalog.CatalogError.TheVariants.{BadGroup, Memory}
 use Rattle.j39_log.specs.declared.catalog.Catalog.{Catalog}
+use Rattle.j39_log.specs.declared.catalog.Span.{Span}
 use Rattle.j39_log.specs.inside.ValueLines.{items_of, value_lines_of}
 
 -- ---- groups
@@ -26,18 +27,32 @@ abbrev pub IsBadCatalog : List GroupPlan → CatalogError → Type 0
 IsBadCatalog groups (BadGroup g) = IsFirstRefused groups g
 IsBadCatalog groups Memory = Unit {0}
 
-abbrev pub is_same_key : ℕ × ℕ → ℕ × ℕ → Bool
-is_same_key k l = k.0 == l.0 && k.1 == l.1
+-- the span of a number with one more group behind the others
+abbrev pub extended : Option Span → ℕ → Span
+extended None place = record { first = place; end = place + 1 }
+extended (Some span) place = record { first = span.first; end = place + 1 }
 
--- the index has the first place of each number and length
-abbrev pub IsIndex : {S : Type 0} → List GroupPlan → HashMap (ℕ × ℕ) ℕ S → Type 0
-IsIndex groups places = (key : ℕ × ℕ) → get is_same_key places key ≡ position (is_planned_as key.0 key.1) groups
+-- outside of the span no group has the number that isn't private
+pub record HasAllOf (groups : List GroupPlan) (pgn : ℕ) (span : Span) : Type 0 where
+  pub in_order : span.first ≤ span.end
+  pub inside : span.end ≤ length groups
+  pub others : (place : ℕ) (d : GroupPlan) → place < length groups → (place < span.first) ⊎ (span.end ≤ place)
+      → is_shared_as pgn (get_or groups place d) ≡ false
+
+-- all groups of the number that aren't private are in the span, or there are none
+abbrev pub IsSpanOf : List GroupPlan → ℕ → Option Span → Type 0
+IsSpanOf groups pgn None = All (λ group. is_shared_as pgn group ≡ false) groups
+IsSpanOf groups pgn (Some span) = HasAllOf groups pgn span
+
+-- the index has the span of each number
+abbrev pub IsIndex : {S : Type 0} → List GroupPlan → HashMap ℕ Span S → Type 0
+IsIndex groups spans = (pgn : ℕ) → IsSpanOf groups pgn (get nat_eq spans pgn)
 
 -- a catalog has the groups of the plan
 pub record IsCatalogOf (plan : Plan) (catalog : Catalog) : Type 0 where
   pub layouts : catalog.layouts.items ≡ map layout_of plan.groups.items
   pub lines : map items_of catalog.lines.items ≡ map value_lines_of plan.groups.items
-  pub index : IsIndex plan.groups.items catalog.places
+  pub index : IsIndex plan.groups.items catalog.spans
 
 -- ---- listeners
 
@@ -88,6 +103,10 @@ HasListener slots destination = (b : Box Receiving Global) × (slice_get slots d
 -- these are the two addresses of the pair
 abbrev pub is_pair : ℕ → ℕ → ℕ → ℕ → Bool
 is_pair source destination s d = source == s && destination == d
+
+-- the address is one of the pair
+abbrev pub is_of_pair : ℕ → ℕ → ℕ → Bool
+is_of_pair address s d = address == s || address == d
 
 -- a listener that heard all of these packets
 abbrev pub after_all : List Packet → Receiving

@@ -1,28 +1,108 @@
 //! The groups of a plan.
-ghost use Rattle.toml.specs.View.{table_view};
-ghost use Rattle.j39_plan.specs.Outcome.{GivesGrowing};
+ghost use Rattle.std.specs.Prelude.{◌≡◌, ◌≤◌, ◌<◌, map, IfOk};
+ghost use Rattle.toml.specs.View.{items_view, table_view};
+ghost use Rattle.j39_id.specs.Limits.{message_bytes};
+ghost use Rattle.j39_plan.specs.Schema.{tables_of};
+ghost use Rattle.j39_plan.specs.TableFaults.{keys_faults, unknown_faults};
+ghost use Rattle.j39_plan.specs.Outcome.{Gives, GivesGrowing};
 ghost use Rattle.j39_plan.specs.Growing.{GroupGrows};
-ghost use Rattle.j39_plan.specs.GroupTables.{group_table_faults, TellsGroup};
+ghost use Rattle.j39_plan.specs.GroupTables.{group_rules, group_table_faults, later_rules, most_of, private_of, signal_rule, texts_of, TellsGroup};
 
 use super::elements::{ReadElement, read_each};
 use super::labels::untaken;
 use super::signals::Signals;
 use super::tables::{array, only, table_of};
 use super::text_kind::TextKind;
-use super::values::{number, short_text};
+use super::texts::Texts;
+use super::values::{flag, number, short_text};
 use super::{Key, PlanError, Table};
 use j39_findings::GroupPlan;
 use j39_id::limits::MESSAGE_BYTES;
 use std::alloc::Global;
 use toml::Value;
 
-const GROUP_KEYS: [Key; 5] = [
+const FIRST_KEYS: [Key; 5] = [
     Key::Label,
     Key::Pgn,
     Key::Priority,
     Key::Length,
     Key::Signal,
 ];
+
+const THIRD_KEYS: [Key; 8] = [
+    Key::Label,
+    Key::Pgn,
+    Key::Priority,
+    Key::Length,
+    Key::Private,
+    Key::Most,
+    Key::Signal,
+    Key::Text,
+];
+
+fn only_known(third: bool, members: &toml::Table, table: Table) -> Result<(), PlanError>
+    ensures { Gives result (unknown_faults table (map (λ r. r.key) (group_rules third (table_view members.now))) (table_view members.now)) (λ _. Unit {0}) }
+{
+    if third {
+        only(members, table, &THIRD_KEYS)
+    } else {
+        only(members, table, &FIRST_KEYS)
+    }
+}
+
+// What stands behind the length: whether the number is a maker's own, the length of the longest messages, and the tables of signals
+// and of texts.
+#[derive(Clone, Copy)]
+struct LaterKeys<'a> {
+    private: bool,
+    most: u32,
+    signals: &'a [Value],
+    texts: &'a [Value],
+}
+
+#[tactic(auto, using(crate::proofs::FirstFaults::faults_after))]
+fn later_keys(
+    third: bool,
+    length: u32,
+    members: &toml::Table,
+    table: Table,
+) -> Result<LaterKeys, PlanError>
+    requires { length ≤ message_bytes }
+    ensures gives { Gives result (keys_faults table (table_view members.now) (later_rules third length))
+        (λ later. (later.private ≡ private_of third (table_view members.now)) × (later.most ≡ most_of third length (table_view members.now))
+        × (items_view later.signals.now ≡ tables_of signal_rule (table_view members.now))
+        × (items_view later.texts.now ≡ texts_of third (table_view members.now))) }
+    ensures at_least { IfOk result (λ later. length ≤ later.most) }
+    ensures at_most { IfOk result (λ later. later.most ≤ message_bytes) }
+{
+    if third {
+        let private = flag(members, table, Key::Private, false)?;
+        let most = number(
+            members,
+            table,
+            Key::Most,
+            length,
+            MESSAGE_BYTES as u32,
+            Some(length),
+        )?;
+        let signals = array(members, table, Key::Signal, 64)?;
+        let texts = array(members, table, Key::Text, 64)?;
+        Ok(LaterKeys {
+            private,
+            most,
+            signals,
+            texts,
+        })
+    } else {
+        let signals = array(members, table, Key::Signal, 64)?;
+        Ok(LaterKeys {
+            private: false,
+            most: length,
+            signals,
+            texts: &[],
+        })
+    }
+}
 
 #[tactic(auto, using(crate::proofs::FirstFaults::faults_after), unfolding(crate::specs::GroupTables::group_table_faults))]
 fn group(
@@ -35,23 +115,34 @@ fn group(
         (group_table_faults third index (table_view members.now)) (TellsGroup third (table_view members.now)) }
 {
     let table = Table::Group(index);
-    only(members, table, &GROUP_KEYS)?;
+    only_known(third, members, table)?;
     let label = short_text(members, table, Key::Label, TextKind::Label, None)?;
     let pgn = number(members, table, Key::Pgn, 0, 0xff_ffff, None)?;
     let priority = number(members, table, Key::Priority, 0, 7, None)?;
     let length = number(members, table, Key::Length, 1, MESSAGE_BYTES as u32, None)?;
-    let values = array(members, table, Key::Signal, 64)?;
+    let later = later_keys(third, length, members, table)?;
     let reader = Signals {
         third,
         group: index,
     };
-    let signals = read_each(alloc, &reader, values)?;
+    let signals = read_each(alloc, &reader, later.signals)?;
+    let texts = read_each(
+        alloc,
+        &Texts {
+            group: index,
+            signals: &signals,
+        },
+        later.texts,
+    )?;
     Ok(GroupPlan {
         label,
         pgn,
         priority: priority as u8,
         length: length as u16,
+        private: later.private,
+        most: later.most as u16,
         signals,
+        texts,
     })
 }
 

@@ -28,6 +28,15 @@ const LATER_KEYS: [Key; 5] = [
     Key::Flow,
 ];
 
+const THIRD_KEYS: [Key; 6] = [
+    Key::Version,
+    Key::KeepFree,
+    Key::Timing,
+    Key::Unit,
+    Key::Group,
+    Key::Flow,
+];
+
 /// The address that an element tells that stands behind those with the addresses seen.
 fn address(seen: &AddressSet, value: &Value) -> Result<Address, Cause>
     ensures told { IfOk result (λ a. (address_cause seen.now (view value.now) ≡ None) × (a ≡ number_in (view value.now))) }
@@ -135,16 +144,16 @@ fn first_head(members: &toml::Table) -> Result<AddressSet, PlanError>
     Ok(AddressSet::new())
 }
 
-/// The head of a plan of a later version.
+/// The head of a plan of a later version, whose top table has these keys.
 #[tactic(auto, using(crate::proofs::FirstFaults::faults_after))]
-fn later_head(members: &toml::Table) -> Result<AddressSet, PlanError>
+fn later_head(members: &toml::Table, keys: &[Key]) -> Result<AddressSet, PlanError>
     ensures gives { Gives result
-        (unknown_faults at.Top (map (λ r. r.key) (version_rule ∷ keep_free_rule ∷ array_rules)) (table_view members.now)
+        (unknown_faults at.Top keys.now (table_view members.now)
         ++ (key_faults at.Top (table_view members.now) version_rule ++ key_faults at.Top (table_view members.now) keep_free_rule))
         (λ s. s ≡ addresses_of keep_free_rule (table_view members.now)) }
     ensures range { IfOk result (λ s. (a : ℕ) → contains s a ≡ true → in_pool a ≡ true) }
 {
-    only(members, Table::Top, &LATER_KEYS)?;
+    only(members, Table::Top, keys)?;
     number(members, Table::Top, Key::Version, 1, 3, None)?;
     keep_free(members)
 }
@@ -154,8 +163,10 @@ pub fn head(members: &toml::Table) -> Result<AddressSet, PlanError>
     ensures gives { Gives result (head_faults (table_view members.now)) (λ s. s ≡ keep_free_of (table_view members.now)) }
     ensures range { IfOk result (λ s. (a : ℕ) → contains s a ≡ true → in_pool a ≡ true) }
 {
-    if may_keep(members) {
-        later_head(members)
+    if is_third(members) {
+        later_head(members, &THIRD_KEYS)
+    } else if may_keep(members) {
+        later_head(members, &LATER_KEYS)
     } else {
         first_head(members)
     }

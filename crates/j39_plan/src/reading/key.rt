@@ -6,6 +6,9 @@ ghost use Rattle.std.specs.Prelude.{◌≡◌};
 pub enum Key {
     Version,
     KeepFree,
+    Timing,
+    Bitrate,
+    Unplanned,
     Unit,
     Group,
     Flow,
@@ -26,8 +29,12 @@ pub enum Key {
     Pgn,
     Priority,
     Length,
+    Private,
+    Most,
     Signal,
+    Text,
     Byte,
+    Bytes,
     Bit,
     Bits,
     Kind,
@@ -36,6 +43,8 @@ pub enum Key {
     Offset,
     From,
     To,
+    Period,
+    Deadline,
 }
 
 impl Key {
@@ -48,6 +57,9 @@ impl Key {
         match self {
             Key::Version => "version",
             Key::KeepFree => "keep_free",
+            Key::Timing => "timing",
+            Key::Bitrate => "bitrate",
+            Key::Unplanned => "unplanned",
             Key::Unit => "unit",
             Key::Group => "group",
             Key::Flow => "flow",
@@ -68,8 +80,12 @@ impl Key {
             Key::Pgn => "pgn",
             Key::Priority => "priority",
             Key::Length => "length",
+            Key::Private => "private",
+            Key::Most => "most",
             Key::Signal => "signal",
+            Key::Text => "text",
             Key::Byte => "byte",
+            Key::Bytes => "bytes",
             Key::Bit => "bit",
             Key::Bits => "bits",
             Key::Kind => "kind",
@@ -78,6 +94,8 @@ impl Key {
             Key::Offset => "offset",
             Key::From => "from",
             Key::To => "to",
+            Key::Period => "period",
+            Key::Deadline => "deadline",
         }
     }
 }

@@ -1,5 +1,5 @@
 //! Labels, and what they name.
-ghost use Rattle.std.specs.Prelude.{◌≡◌, ℕ, List, map, position, true};
+ghost use Rattle.std.specs.Prelude.{◌≡◌, ℕ, List, ◌++◌, map, position, true};
 ghost use Rattle.std.specs.List.{list_any};
 ghost use Rattle.std.specs.Str.{bytes_eq};
 ghost use Rattle.j39_plan.specs.TextKinds.{takes};
@@ -10,7 +10,7 @@ ghost use Rattle.j39_plan.specs.FlowTables.{place_of};
 use super::text_kind::TextKind;
 use super::values::refused;
 use super::{Cause, Key, PlanError, Table};
-use j39_findings::{GroupPlan, UnitPlan};
+use j39_findings::{GroupPlan, TextPlan, UnitPlan};
 use j39_signal::Signal;
 
 /// What has a label.
@@ -47,6 +47,14 @@ impl Labelled for Signal {
     }
 }
 
+impl Labelled for TextPlan {
+    ghost label_bytes = { λ t. t.label.bytes };
+
+    fn label_text(&self) -> &str {
+        self.label.as_str()
+    }
+}
+
 fn is_taken<T: Labelled>(items: &[T], label: &str) -> bool
     ensures { result ≡ list_any (λ x. bytes_eq (T.label_bytes x) label.now) items.now }
 {
@@ -65,6 +73,25 @@ pub fn untaken<T: Labelled>(
     ensures { Gives result (repeated_faults table kind (map T.label_bytes items.now) label.now) (λ _. Unit {0}) }
 {
     if is_taken(items, label) {
+        Err(refused(Cause::Repeated, table, Key::Label))
+    } else {
+        Ok(())
+    }
+}
+
+/// Refuses a label that one of the others or of the items has.
+#[tactic(auto, using(crate::proofs::Labelled::is_taken_view, crate::proofs::Labelled::is_among_both), unfolding(crate::specs::Elements::repeated_faults))]
+pub fn untaken_beside<U: Labelled, T: Labelled>(
+    others: &[U],
+    items: &[T],
+    label: &str,
+    kind: TextKind,
+    table: Table,
+) -> Result<(), PlanError>
+    requires { takes kind label.now ≡ true }
+    ensures { Gives result (repeated_faults table kind (map U.label_bytes others.now ++ map T.label_bytes items.now) label.now) (λ _. Unit {0}) }
+{
+    if is_taken(others, label) || is_taken(items, label) {
         Err(refused(Cause::Repeated, table, Key::Label))
     } else {
         Ok(())

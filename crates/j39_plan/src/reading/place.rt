@@ -5,12 +5,15 @@ use super::Key;
 #[derive(Clone, Copy, Debug, PartialEq, Eq)]
 pub enum Table {
     Top,
+    Timing,
     Unit(usize),
     /// The NAME of a unit.
     UnitName(usize),
     Group(usize),
     /// A signal, behind the index of its group.
     Signal(usize, usize),
+    /// A text, behind the index of its group.
+    Text(usize, usize),
     Flow(usize),
 }
 

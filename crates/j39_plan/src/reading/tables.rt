@@ -1,5 +1,5 @@
 //! Tables and arrays of tables.
-ghost use Rattle.std.specs.Prelude.{◌≡◌, string_bytes, Some};
+ghost use Rattle.std.specs.Prelude.{◌≡◌, string_bytes, Some, option_map};
 ghost use Rattle.std.specs.List.{list_all};
 ghost use Rattle.std.specs.Map.{keys_of};
 ghost use Rattle.toml.specs.Data.{as_table};
@@ -28,6 +28,26 @@ pub fn inner<'a>(
         Some(value) => match value.as_table() {
             None => Err(refused(Cause::WrongType, table, key)),
             Some(inner) => Ok(inner),
+        },
+    }
+}
+
+/// The table at a key, or none where the key is absent.
+#[tactic(auto, unfolding(crate::specs::TableFaults::key_faults, crate::specs::Schema::table_of))]
+pub fn optional_inner<'a>(
+    members: &'a toml::Table,
+    table: Table,
+    key: Key,
+) -> Result<Option<&'a toml::Table>, PlanError>
+    ensures { let rule = schema.optional_table key in
+        Gives result (key_faults table (table_view members.now) rule)
+        (λ found. option_map (λ t. table_view t.now) found ≡ schema.table_of rule (table_view members.now)) }
+{
+    match value_at(members, key) {
+        None => Ok(None),
+        Some(value) => match value.as_table() {
+            None => Err(refused(Cause::WrongType, table, key)),
+            Some(inner) => Ok(Some(inner)),
         },
     }
 }

@@ -1,5 +1,5 @@
 //! The values of a table's keys.
-ghost use Rattle.std.specs.Prelude.{◌≡◌, ℕ, true, Some, None, List, option_map, IfSome, IfOk, ◌≤◌, ◌≤ℤ◌, length};
+ghost use Rattle.std.specs.Prelude.{◌≡◌, ℕ, true, if◌then◌else◌, Some, None, List, option_map, IfSome, IfOk, ◌≤◌, ◌≤ℤ◌, length};
 ghost use Rattle.std.specs.Option.{option_copied};
 ghost use Rattle.toml.specs.Data.{get_member};
 ghost use Rattle.toml.specs.View.{view, table_view};
@@ -101,6 +101,72 @@ pub fn number(
                     Err(refused(Cause::Range, table, key))
                 } else {
                     Ok(number as u32)
+                }
+            }
+        },
+    }
+}
+
+/// The number at a key, within a range, or none where the key is absent, unless it is required.
+#[tactic(auto, unfolding(crate::specs::TableFaults::key_faults, crate::specs::Schema::given_number))]
+pub fn optional_number(
+    members: &toml::Table,
+    table: Table,
+    key: Key,
+    low: u32,
+    high: u32,
+    is_required: bool,
+) -> Result<Option<u32>, PlanError>
+    ensures gives { let rule = if is_required then schema.number key low high None else schema.optional key low high in
+        Gives result (key_faults table (table_view members.now) rule)
+        (λ n. n ≡ schema.given_number rule (table_view members.now)) }
+    ensures at_least { IfOk result (λ given. IfSome given (λ n. low ≤ n)) }
+    ensures at_most { IfOk result (λ given. IfSome given (λ n. n ≤ high)) }
+{
+    match value_at(members, key) {
+        None => {
+            if is_required {
+                Err(refused(Cause::Missing, table, key))
+            } else {
+                Ok(None)
+            }
+        }
+        Some(value) => match value.as_integer() {
+            None => Err(refused(Cause::WrongType, table, key)),
+            Some(number) => {
+                if number < i64::from(low) || i64::from(high) < number {
+                    Err(refused(Cause::Range, table, key))
+                } else {
+                    Ok(Some(number as u32))
+                }
+            }
+        },
+    }
+}
+
+/// The number at a key, which is one of two.
+#[tactic(auto, unfolding(crate::specs::TableFaults::key_faults, crate::specs::Schema::number_of))]
+pub fn either(
+    members: &toml::Table,
+    table: Table,
+    key: Key,
+    one: u32,
+    other: u32,
+) -> Result<u32, PlanError>
+    requires positive { (1 ≤ one) × (1 ≤ other) }
+    ensures gives { let rule = schema.either key one other in
+        Gives result (key_faults table (table_view members.now) rule)
+        (λ n. n ≡ schema.number_of rule (table_view members.now)) }
+{
+    match value_at(members, key) {
+        None => Err(refused(Cause::Missing, table, key)),
+        Some(value) => match value.as_integer() {
+            None => Err(refused(Cause::WrongType, table, key)),
+            Some(number) => {
+                if number == i64::from(one) || number == i64::from(other) {
+                    Ok(number as u32)
+                } else {
+                    Err(refused(Cause::Range, table, key))
                 }
             }
         },

@@ -8,3 +8,6 @@ returns-in-Run g c = rw c.in-Run.is (rw (c.deref-in-Run.ensures, c.deref-in-Run-
 
 pub returns-in-Read : goal.returns-in-Read
 returns-in-Read g c = rw c.in-Read.is (rw (c.deref-in-Read.ensures, c.deref-in-Read-2.ensures) at c.read_files.ensures)
+
+pub returns-in-Follow : goal.returns-in-Follow
+returns-in-Follow g c = rw c.in-Follow.is (rw (c.deref-in-Follow.ensures, c.deref-in-Follow-2.ensures) at c.follow_files.ensures)

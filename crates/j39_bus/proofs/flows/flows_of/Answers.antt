@@ -19,12 +19,12 @@ loop-flow-preserved c =
     let n = length plan.units.items in
     let xs = c.deref-flow-items.result.now in
     let k = c.loop-flow.flow-index in
-    let d : FlowPlan = record { group = 0; sender = 0; to = ToAll } in
+    let d = c.flow-item.result in
     let inside : k < length xs = omega arith in
     let planned : k < length plan.flows.items = omega (arith, inside, ap length c.deref-flow-items.ensures.value) in
     let at : get_or xs k d ≡ get_or plan.flows.items k d = ap (λ ys. get_or ys k d) c.deref-flow-items.ensures.value in
     let flow : c.flow_of.result ≡ flow_of plan.groups.items (get_or xs k d) = c.flow_of.ensures.flow
-    ∙ ap (λ gs. flow_of gs (get_or xs k d)) c.as_slice.ensures.value in
+    ∙ ap (λ gs. flow_of gs d) c.as_slice.ensures.value ∙ ap (flow_of plan.groups.items) c.flow-item.is in
     let sender : c.flow_of.result.sender ≡ (get_or plan.flows.items k d).sender = ap (λ (f : Flow). f.sender) flow ∙ ap (λ (f : FlowPlan). f.sender) at in
     let to : c.flow_of.result.to ≡ (get_or plan.flows.items k d).to = ap (λ (f : Flow). f.to) flow ∙ ap (λ (f : FlowPlan). f.to) at in
     let fits : IsFlow n c.flow_of.result = record {

@@ -1,6 +1,6 @@
 use Rattle.std.proofs.Common.{◌≡◌, ◌++◌, drop}
 use Rattle.j39_check.specs.AddressesText.{unit_lines}
-use Rattle.j39_check.specs.inside.Standing.{stays_by}
+use Rattle.j39_load.specs.Standing.{stays_by}
 use Rattle.j39_check.proofs.stays_lines.write_units.Given as goal
 
 abbrev pub invariant-loop-unit : goal.invariant-loop-unit

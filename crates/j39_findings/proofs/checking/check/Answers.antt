@@ -3,11 +3,12 @@ use Rattle.j39_findings.specs.declared.checking.finding.Finding.{Finding}
 use Rattle.j39_findings.specs.Findings.{AreFindings}
 use Rattle.j39_findings.specs.Found.{found}
 use Rattle.j39_findings.proofs.FoundLaws.{are_findings}
-use Rattle.j39_findings.proofs.AddingLemmas.{WantsMemory, wants_memory, units_some, groups_some, signals_some, flows_some, kept_some}
+use Rattle.j39_findings.proofs.AddingLemmas.{WantsMemory, wants_memory, units_some, groups_some, signals_some, flows_some, kept_some, unsent_some, texts_some}
 use Rattle.j39_findings.proofs.checking.check.Goals as goal
 use Rattle.j39_findings.proofs.checking.check.Goals.{After-drop-findings, After-drop-findings-in_err-find_in_groups}
 use Rattle.j39_findings.proofs.checking.check.Goals.{After-drop-findings-in_err-find_in_signals}
 use Rattle.j39_findings.proofs.checking.check.Goals.{After-drop-findings-in_err-find_in_flows, After-drop-findings-in_err-find_kept}
+use Rattle.j39_findings.proofs.checking.check.Goals.{After-drop-findings-in_err-find_unsent, After-drop-findings-in_err-find_in_texts}
 
 units_want : (c : After-drop-findings) → WantsMemory c.args.plan.now c.from_residual.result
 units_want c =
@@ -23,7 +24,7 @@ returns-in_err-find_in_units-clause-clean c = (units_want c).1
 groups_want : (c : After-drop-findings-in_err-find_in_groups) → WantsMemory c.args.plan.now c.from_residual-in_err-find_in_groups.result
 groups_want c =
     wants_memory c.args.plan.now _ _ c.from_residual-in_err-find_in_groups.ensures.1
-    (groups_some c.args.plan.now (rw (c.deref-2.ensures.value) at c.in_err-find_in_groups.ensures))
+    (groups_some c.args.plan.now (rw (c.deref-2.ensures.value, c.deref-3.ensures.value) at c.in_err-find_in_groups.ensures))
 
 pub returns-in_err-find_in_groups-clause-memory : goal.returns-in_err-find_in_groups-clause-memory
 returns-in_err-find_in_groups-clause-memory c = (groups_want c).0
@@ -34,7 +35,7 @@ returns-in_err-find_in_groups-clause-clean c = (groups_want c).1
 signals_want : (c : After-drop-findings-in_err-find_in_signals) → WantsMemory c.args.plan.now c.from_residual-in_err-find_in_signals.result
 signals_want c =
     wants_memory c.args.plan.now _ _ c.from_residual-in_err-find_in_signals.ensures.1
-    (signals_some c.args.plan.now (rw (c.deref-3.ensures.value) at c.in_err-find_in_signals.ensures))
+    (signals_some c.args.plan.now (rw (c.deref-4.ensures.value) at c.in_err-find_in_signals.ensures))
 
 pub returns-in_err-find_in_signals-clause-memory : goal.returns-in_err-find_in_signals-clause-memory
 returns-in_err-find_in_signals-clause-memory c = (signals_want c).0
@@ -45,7 +46,7 @@ returns-in_err-find_in_signals-clause-clean c = (signals_want c).1
 flows_want : (c : After-drop-findings-in_err-find_in_flows) → WantsMemory c.args.plan.now c.from_residual-in_err-find_in_flows.result
 flows_want c =
     wants_memory c.args.plan.now _ _ c.from_residual-in_err-find_in_flows.ensures.1
-    (flows_some c.args.plan.now (rw (c.deref-4.ensures.value, c.deref-5.ensures.value) at c.in_err-find_in_flows.ensures))
+    (flows_some c.args.plan.now (rw (c.deref-5.ensures.value, c.deref-6.ensures.value) at c.in_err-find_in_flows.ensures))
 
 pub returns-in_err-find_in_flows-clause-memory : goal.returns-in_err-find_in_flows-clause-memory
 returns-in_err-find_in_flows-clause-memory c = (flows_want c).0
@@ -56,13 +57,35 @@ returns-in_err-find_in_flows-clause-clean c = (flows_want c).1
 kept_want : (c : After-drop-findings-in_err-find_kept) → WantsMemory c.args.plan.now c.from_residual-in_err-find_kept.result
 kept_want c =
     wants_memory c.args.plan.now _ _ c.from_residual-in_err-find_kept.ensures.1
-    (kept_some c.args.plan.now (rw (c.deref-6.ensures.value) at c.in_err-find_kept.ensures))
+    (kept_some c.args.plan.now (rw (c.deref-7.ensures.value) at c.in_err-find_kept.ensures))
 
 pub returns-in_err-find_kept-clause-memory : goal.returns-in_err-find_kept-clause-memory
 returns-in_err-find_kept-clause-memory c = (kept_want c).0
 
 pub returns-in_err-find_kept-clause-clean : goal.returns-in_err-find_kept-clause-clean
 returns-in_err-find_kept-clause-clean c = (kept_want c).1
+
+unsent_want : (c : After-drop-findings-in_err-find_unsent) → WantsMemory c.args.plan.now c.from_residual-in_err-find_unsent.result
+unsent_want c =
+    wants_memory c.args.plan.now _ _ c.from_residual-in_err-find_unsent.ensures.1
+    (unsent_some c.args.plan.now (rw (c.deref-8.ensures.value, c.deref-9.ensures.value) at c.in_err-find_unsent.ensures))
+
+pub returns-in_err-find_unsent-clause-memory : goal.returns-in_err-find_unsent-clause-memory
+returns-in_err-find_unsent-clause-memory c = (unsent_want c).0
+
+pub returns-in_err-find_unsent-clause-clean : goal.returns-in_err-find_unsent-clause-clean
+returns-in_err-find_unsent-clause-clean c = (unsent_want c).1
+
+texts_want : (c : After-drop-findings-in_err-find_in_texts) → WantsMemory c.args.plan.now c.from_residual-in_err-find_in_texts.result
+texts_want c =
+    wants_memory c.args.plan.now _ _ c.from_residual-in_err-find_in_texts.ensures.1
+    (texts_some c.args.plan.now (rw (c.deref-10.ensures.value) at c.in_err-find_in_texts.ensures))
+
+pub returns-in_err-find_in_texts-clause-memory : goal.returns-in_err-find_in_texts-clause-memory
+returns-in_err-find_in_texts-clause-memory c = (texts_want c).0
+
+pub returns-in_err-find_in_texts-clause-clean : goal.returns-in_err-find_in_texts-clause-clean
+returns-in_err-find_in_texts-clause-clean c = (texts_want c).1
 
 pub returns-clause-list : goal.returns-clause-list
 unfolding found
@@ -71,6 +94,6 @@ returns-clause-list c = search (rules, append_assoc)
 pub returns-clause-exact : goal.returns-clause-exact
 unfolding found
 returns-clause-exact c =
-    let listed : c.find_kept.new.findings.items ≡ found c.args.plan.now = search (rules, append_assoc) in
+    let listed : c.find_in_texts.new.findings.items ≡ found c.args.plan.now = search (rules, append_assoc) in
     let P : List Finding → Type 0 = AreFindings c.args.plan.now in
     subst P (sym listed) (are_findings c.args.plan.now)

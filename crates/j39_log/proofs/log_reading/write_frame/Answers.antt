@@ -13,8 +13,8 @@ returns-in-Some c =
     let plan = c.args.plan.now in
     let f = c.args.frame.now in
     let group : c.place.result ≡ planned_group plan f =
-    found_for plan f c.number.result c.as_slice-bytes.result.now c.place.result (c.number.ensures.value ∙ c.pgn.ensures)
-    c.as_slice-bytes.ensures.value (c.place.ensures plan.groups.items c.requires.index) in
+    found_for plan c.deref.result.now f c.number.result c.as_slice-bytes.result.now c.place.result c.deref.ensures.value
+    (c.number.ensures.value ∙ c.pgn.ensures) c.as_slice-bytes.ensures.value c.place.ensures in
     let planned : planned_group plan f ≡ Some c.in-Some.place = sym group ∙ c.in-Some.is in
     IfOk-weaker c.write_group.result _ _
     (λ _ written. λ seen have ranges. (
@@ -33,8 +33,8 @@ returns-in-Some-transport_packet c =
     let plan = c.args.plan.now in
     let f = c.args.frame.now in
     let group : c.place.result ≡ planned_group plan f =
-    found_for plan f c.number.result c.as_slice-bytes.result.now c.place.result (c.number.ensures.value ∙ c.pgn.ensures)
-    c.as_slice-bytes.ensures.value (c.place.ensures plan.groups.items c.requires.index) in
+    found_for plan c.deref.result.now f c.number.result c.as_slice-bytes.result.now c.place.result c.deref.ensures.value
+    (c.number.ensures.value ∙ c.pgn.ensures) c.as_slice-bytes.ensures.value c.place.ensures in
     both_ok c.write_packet.result _ _ _ c.write_packet.ensures.heard c.write_packet.ensures.message
     (λ heard written. λ seen have ranges.
     let told = written seen have ranges in (
@@ -52,8 +52,8 @@ returns-in-None c = λ seen have ranges.
     let plan = c.args.plan.now in
     let f = c.args.frame.now in
     let group : c.place.result ≡ planned_group plan f =
-    found_for plan f c.number.result c.as_slice-bytes.result.now c.place.result (c.number.ensures.value ∙ c.pgn.ensures)
-    c.as_slice-bytes.ensures.value (c.place.ensures plan.groups.items c.requires.index) in (
+    found_for plan c.deref.result.now f c.number.result c.as_slice-bytes.result.now c.place.result c.deref.ensures.value
+    (c.number.ensures.value ∙ c.pgn.ensures) c.as_slice-bytes.ensures.value c.place.ensures in (
       None,
       [],
       inr c.in-None.ensures.none,

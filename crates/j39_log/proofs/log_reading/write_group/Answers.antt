@@ -1,4 +1,4 @@
-use Rattle.std.proofs.Common.{length, sym, ap, ◌∙◌}
+use Rattle.std.proofs.Common.{length, ap, arith}
 use Rattle.std.proofs.lemmas.Result.{IfOk-weaker}
 use Rattle.j39_signal.specs.LayoutParts.{LayoutParts}
 use Rattle.j39_log.specs.LogReports.{group_report}
@@ -26,7 +26,8 @@ write_report-requires-clause-bytes c =
     c.index.ensures in
     let laid = laid_there c.args.plan.now c.args.catalog.now c.args.place c.index.result.now c.layout.result.now c.requires.catalog found.0
     c.index.ensures c.layout.ensures in
-    sym (ap (λ (l : LayoutParts). l.length) laid ∙ found.1)
+    let same = ap (λ (l : LayoutParts). l.length) laid in
+    omega (arith, same, found.1.0)
 
 pub returns : goal.returns
 returns c =

@@ -2,6 +2,6 @@ use Rattle.std.proofs.Common.{refl}
 use Rattle.j39_plan.specs.SignalTables.{is_code}
 use Rattle.j39_plan.proofs.laws.older_versions_know_what_they_knew.Goals as goal
 
-pub returns : goal.returns
+pub returns-clause-signals : goal.returns-clause-signals
 unfolding is_code
-returns c = λ ms. refl
+returns-clause-signals c = λ ms. refl

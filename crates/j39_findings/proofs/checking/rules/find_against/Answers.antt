@@ -11,11 +11,11 @@ returns-in_err-push_if g c =
     let y = c.index-values-j.result in
     let at = c.index-values-j.is in
     refuses _ _ _ _ _ c.from_residual.ensures.1
-    (some_against g.R.PairRule.test make c.args.i c.args.value.now xs c.loop-j.j y (omega arith) c.loop-j-test.true at some)
+    (some_against (g.R.PairRule.test c.args.rule.now) make c.args.i c.args.value.now xs c.loop-j.j y (omega arith) c.loop-j-test.true at some)
 
 pub loop-j-preserved : goal.loop-j-preserved
 loop-j-preserved g c =
-    let test = g.R.PairRule.test c.args.value.now in
+    let test = g.R.PairRule.test c.args.rule.now c.args.value.now in
     let make = g.R.PairRule.make c.args.rule.now c.args.i in
     let y = c.index-values-j.result in
     let old = c.loop-j.findings.items in
@@ -26,6 +26,6 @@ loop-j-preserved g c =
 pub returns : goal.returns
 returns g c =
     let over : length c.args.values.now ≤ c.loop-j.j = omega arith in
-    let test = g.R.PairRule.test c.args.value.now in
+    let test = g.R.PairRule.test c.args.rule.now c.args.value.now in
     let make = g.R.PairRule.make c.args.rule.now c.args.i in
     sym (each_all test make c.loop-j.j c.args.values.now c.loop-j.findings.items over) ∙ c.loop-j.invariant

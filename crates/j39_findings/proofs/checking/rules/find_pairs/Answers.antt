@@ -9,11 +9,11 @@ returns-in_err-find_against g c =
     let x = c.index-values-i.result in
     let at = c.index-values-i.is in
     refuses _ _ _ _ _ c.from_residual.ensures.1
-    (some_pair g.R.PairRule.test make c.args.values.now c.loop-i.i x c.loop-i-test.true at c.in_err-find_against.ensures)
+    (some_pair (g.R.PairRule.test c.args.rule.now) make c.args.values.now c.loop-i.i x c.loop-i-test.true at c.in_err-find_against.ensures)
 
 pub loop-i-preserved : goal.loop-i-preserved
 loop-i-preserved g c =
-    let find = after g.R.PairRule.test (g.R.PairRule.make c.args.rule.now) c.args.values.now in
+    let find = after (g.R.PairRule.test c.args.rule.now) (g.R.PairRule.make c.args.rule.now) c.args.values.now in
     let x = c.index-values-i.result in
     let old = c.loop-i.findings.items in
     let at = c.index-values-i.is in
@@ -23,6 +23,6 @@ loop-i-preserved g c =
 pub returns : goal.returns
 returns g c =
     let over : length c.args.values.now ≤ c.loop-i.i = omega arith in
-    let find = after g.R.PairRule.test (g.R.PairRule.make c.args.rule.now) c.args.values.now in
-    rw (pairs_is g.R.PairRule.test (g.R.PairRule.make c.args.rule.now) c.args.values.now)
+    let find = after (g.R.PairRule.test c.args.rule.now) (g.R.PairRule.make c.args.rule.now) c.args.values.now in
+    rw (pairs_is (g.R.PairRule.test c.args.rule.now) (g.R.PairRule.make c.args.rule.now) c.args.values.now)
     (sym (in_each_all find c.loop-i.i c.args.values.now c.loop-i.findings.items over) ∙ c.loop-i.invariant)

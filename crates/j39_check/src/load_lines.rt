@@ -1,0 +1,189 @@
+//! The lines of what a plan asks of its bus.
+ghost use Rattle.std.specs.Prelude.{◌≡◌, ◌+◌, ◌*◌, ◌++◌, ◌<◌, ◌^◌, length, OnOk};
+ghost use Rattle.j39_check.specs.LoadLines.{bit_microseconds, delay_text, flow_line, flow_text, known_delay_text, load_finding_line, load_finding_lines, load_finding_text};
+ghost use Rattle.j39_check.specs.LoadLines.{loads_text, microseconds_field, receiver_text};
+ghost use Rattle.j39_load.specs.Places.{told_from};
+
+use j39_findings::{Bitrate, FlowPlan, Plan, To};
+use j39_load::{Delay, FlowLoad, LoadFinding, Loads, bits_of_second};
+use j39_text::{TextBuffer, group_label, unit_label};
+use std::alloc::AllocError;
+
+#[tactic(auto, unfolding(crate::specs::LoadLines::load_finding_text))]
+fn write_load_finding(text: &mut TextBuffer, finding: LoadFinding) -> Result<(), AllocError>
+    ensures { OnOk result (text.new ≡ text.old ++ load_finding_text finding) }
+{
+    match finding {
+        LoadFinding::NoPeriod(flow) => text.place("F16 NoPeriod ", flow),
+        LoadFinding::Overload(bits) => text.field("F17 Overload ", bits),
+        LoadFinding::LateFlow(flow) => text.place("F18 LateFlow ", flow),
+    }
+}
+
+#[tactic(auto, unfolding(crate::specs::LoadLines::load_finding_line))]
+fn write_load_finding_line(text: &mut TextBuffer, finding: LoadFinding) -> Result<(), AllocError>
+    ensures { OnOk result (text.new ≡ text.old ++ load_finding_line finding) }
+{
+    write_load_finding(text, finding)?;
+    text.end_line()
+}
+
+/// Writes a line for each finding.
+#[tactic(auto, unfolding(j39_load::specs::Places::told_from))]
+pub(super) fn write_load_findings(
+    text: &mut TextBuffer,
+    findings: &[LoadFinding],
+) -> Result<(), AllocError>
+    ensures { OnOk result (text.new ≡ text.old ++ load_finding_lines findings.now) }
+{
+    for finding in findings {
+        write_load_finding_line(text, *finding)?;
+    }
+    Ok(())
+}
+
+fn bit_microseconds(bitrate: Bitrate) -> u64
+    ensures { result ≡ bit_microseconds bitrate }
+{
+    match bitrate {
+        Bitrate::Kbit250 => 4,
+        Bitrate::Kbit500 => 2,
+    }
+}
+
+#[tactic(auto, unfolding(crate::specs::LoadLines::microseconds_field))]
+fn write_microseconds(
+    text: &mut TextBuffer,
+    word: &str,
+    bitrate: Bitrate,
+    bits: u32,
+) -> Result<(), AllocError>
+    ensures { OnOk result (text.new ≡ text.old ++ microseconds_field word.now bitrate bits) }
+{
+    text.field(word, u64::from(bits) * bit_microseconds(bitrate))
+}
+
+#[tactic(auto, unfolding(crate::specs::LoadLines::delay_text))]
+fn write_delay(
+    text: &mut TextBuffer,
+    bitrate: Bitrate,
+    limit: u32,
+    delay: Delay,
+) -> Result<(), AllocError>
+    ensures { OnOk result (text.new ≡ text.old ++ delay_text bitrate limit delay) }
+{
+    match delay {
+        Delay::Within(bits) => {
+            write_microseconds(text, " within ", bitrate, bits)?;
+            write_microseconds(text, " of ", bitrate, limit)?;
+            text.word(" us")
+        }
+        Delay::Late => {
+            write_microseconds(text, " late of ", bitrate, limit)?;
+            text.word(" us")
+        }
+        Delay::Long(frames) => text.field(" frames ", frames),
+    }
+}
+
+#[tactic(auto, unfolding(crate::specs::LoadLines::known_delay_text))]
+fn write_known_delay(
+    text: &mut TextBuffer,
+    bitrate: Bitrate,
+    load: &Option<FlowLoad>,
+    delay: &Option<Delay>,
+) -> Result<(), AllocError>
+    ensures { OnOk result (text.new ≡ text.old ++ known_delay_text bitrate load.now delay.now) }
+{
+    match (load, delay) {
+        (Some(load), Some(delay)) => write_delay(text, bitrate, load.limit, *delay),
+        _ => Ok(()),
+    }
+}
+
+#[tactic(auto, unfolding(crate::specs::LoadLines::receiver_text))]
+fn receiver_text(plan: &Plan, to: To) -> &str
+    ensures { result.now ≡ receiver_text plan.now to }
+{
+    match to {
+        To::All => "all",
+        To::One(unit) => unit_label(plan, unit),
+    }
+}
+
+#[tactic(auto, unfolding(crate::specs::LoadLines::flow_text))]
+fn write_flow(
+    text: &mut TextBuffer,
+    plan: &Plan,
+    place: usize,
+    flow: &FlowPlan,
+) -> Result<(), AllocError>
+    ensures { OnOk result (text.new ≡ text.old ++ flow_text plan.now place flow.now) }
+{
+    text.place("flow ", place)?;
+    text.word(" ")?;
+    text.word(group_label(plan, flow.group))?;
+    text.word(" ")?;
+    text.word(unit_label(plan, flow.sender))?;
+    text.word(" ")?;
+    text.word(receiver_text(plan, flow.to))
+}
+
+#[tactic(auto, unfolding(crate::specs::LoadLines::flow_line))]
+fn write_flow_line(
+    text: &mut TextBuffer,
+    plan: &Plan,
+    loads: &Loads,
+    delays: &[Option<Delay>],
+    place: usize,
+    flow: &FlowPlan,
+) -> Result<(), AllocError>
+    requires loads { place < length loads.now.flows.items }
+    requires delays { place < length delays.now }
+    ensures { OnOk result (text.new ≡ text.old ++ flow_line plan.now loads.now.timing.bitrate loads.now.flows.items delays.now place flow.now) }
+{
+    write_flow(text, plan, place, flow)?;
+    write_known_delay(
+        text,
+        loads.timing.bitrate,
+        &loads.flows[place],
+        &delays[place],
+    )?;
+    text.end_line()
+}
+
+#[tactic(auto, unfolding(j39_load::specs::Places::told_from))]
+fn write_flows(
+    text: &mut TextBuffer,
+    plan: &Plan,
+    loads: &Loads,
+    delays: &[Option<Delay>],
+) -> Result<(), AllocError>
+    requires loads { length loads.now.flows.items ≡ length plan.now.flows.items }
+    requires delays { length delays.now ≡ length plan.now.flows.items }
+    ensures { OnOk result (text.new ≡ text.old
+        ++ told_from (flow_line plan.now loads.now.timing.bitrate loads.now.flows.items delays.now) 0 plan.now.flows.items) }
+{
+    for (place, flow) in plan.flows.iter().enumerate() {
+        write_flow_line(text, plan, loads, delays, place, flow)?;
+    }
+    Ok(())
+}
+
+/// Writes each flow with its delay, and the load of all.
+#[tactic(auto, unfolding(crate::specs::LoadLines::loads_text))]
+pub(super) fn write_loads(
+    text: &mut TextBuffer,
+    plan: &Plan,
+    loads: &Loads,
+    delays: &[Option<Delay>],
+) -> Result<(), AllocError>
+    requires loads { length loads.now.flows.items ≡ length plan.now.flows.items }
+    requires delays { length delays.now ≡ length plan.now.flows.items }
+    ensures { OnOk result (text.new ≡ text.old ++ loads_text plan.now loads.now.timing.bitrate loads.now.flows.items delays.now) }
+{
+    write_flows(text, plan, loads, delays)?;
+    text.field("load ", loads.total())?;
+    text.field(" of ", bits_of_second(loads.timing.bitrate))?;
+    text.end_line()
+}

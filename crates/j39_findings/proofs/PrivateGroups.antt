@@ -1,0 +1,127 @@
+-- Whose a message is, and plans without private groups.
+use Rattle.std.proofs.Common.{List, ◌≡◌, ℕ, ◌<◌, ◌⊎◌, ◌↔◌, Bool, true, false, All as AllOf, Some, refl, sym, ◌∙◌, subst, inl, inr, arith}
+use Rattle.std.specs.List.{slice_get}
+use Rattle.std.proofs.lemmas.Bool.{false≢true, cases_lt}
+use Rattle.j39_findings.specs.ListPlaces.{ValueAt, PairAt, SomeMeets}
+use Rattle.j39_findings.specs.Findings.{IsForNoPlan, IsProprietary, HasBadPgn, HaveSamePgn, AreSentTogether, DoReceiversMeet, Clean, Holds}
+use Rattle.j39_findings.specs.PrivateGroups.{Fits, CanBe, OneGroupFits, HasNoPrivate, IsFoundAsBefore}
+use Rattle.j39_findings.specs.declared.plan.Plan.{Plan}
+use Rattle.j39_findings.specs.declared.plan.group_plan.GroupPlan.{GroupPlan}
+use Rattle.j39_findings.specs.declared.plan.flow_plan.FlowPlan.{FlowPlan}
+use Rattle.j39_findings.specs.declared.plan.to.To.{To}
+use Rattle.j39_findings.specs.declared.plan.to.To.TheVariants.{All}
+use Rattle.j39_findings.specs.declared.checking.finding.Finding.TheVariants.{BadPgn, SamePgn, PrivateUnsent}
+use Rattle.j39_findings.proofs.Members.{all_at}
+
+-- ---- one group fits
+
+-- flows that reach one place meet
+meet : (plan : Plan) (g h : GroupPlan) (sender : ℕ) (to : To) (f k : FlowPlan) → Fits plan g sender to f → Fits plan h sender to k
+    → DoReceiversMeet g h f k
+meet plan g h sender to f k a b =
+    elim a.reaches [
+      | inl here ↦ elim b.reaches [
+        | inl there ↦ inr (inr (inl (here ∙ sym there)))
+        | inr frame ↦ inl (here ∙ frame.1)
+      ]
+      | inr frame ↦ elim b.reaches [
+        | inl there ↦ inr (inl (there ∙ frame.1))
+        | inr other ↦ inr (inr (inr (frame.2, other.2)))
+      ]
+    ]
+
+together : (plan : Plan) (g h : GroupPlan) (sender : ℕ) (to : To)
+    → SomeMeets (Fits plan g sender to) plan.flows.items → SomeMeets (Fits plan h sender to) plan.flows.items
+    → AreSentTogether plan.groups.items plan.flows.items g h
+together plan g h sender to (i, f) (j, k) = (
+  i,
+  record {
+    value = f.value;
+    value_is = f.value_is;
+    meets = (
+      f.meets.sends,
+      (
+        j,
+        record {
+          value = k.value;
+          value_is = k.value_is;
+          meets = (k.meets.from ∙ sym f.meets.from, k.meets.sends, meet plan g h sender to f.value k.value f.meets k.meets);
+        },
+      ),
+    );
+  },
+)
+
+in_order : (plan : Plan) → Clean plan → (pgn sender : ℕ) (to : To) (g h : ℕ) → g < h → ValueAt (CanBe plan pgn sender to) plan.groups.items g
+    → ValueAt (CanBe plan pgn sender to) plan.groups.items h → ⊥
+in_order plan clean pgn sender to g h less a b = clean (SamePgn g h) (record {
+  first = a.value;
+  second = b.value;
+  below = less;
+  first_is = a.value_is;
+  second_is = b.value_is;
+  related = (a.meets.number ∙ sym b.meets.number, inr (inr (together plan a.value b.value sender to a.meets.fits b.meets.fits)));
+})
+
+pub one_fits : (plan : Plan) → Clean plan → OneGroupFits plan
+one_fits plan clean pgn sender to g h a b =
+    elim (cases_lt g h) [
+      | inl less ↦ absurd (in_order plan clean pgn sender to g h less a b)
+      | inr most ↦ elim (cases_lt h g) [
+        | inl more ↦ absurd (in_order plan clean pgn sender to h g more b a)
+        | inr least ↦ omega arith
+      ]
+    ]
+
+-- ---- plans without private groups
+
+shared_at : (xs : List GroupPlan) → AllOf (λ group. group.private ≡ false) xs → (i : ℕ) (group : GroupPlan) → slice_get xs i ≡ Some group
+    → group.private ≡ false
+shared_at = all_at (λ group. group.private ≡ false)
+
+not_both : {b : Bool} → b ≡ false → b ≡ true → ⊥
+not_both off on = false≢true (sym off ∙ on)
+
+number_before : (group : GroupPlan) → group.private ≡ false → HasBadPgn group → IsForNoPlan group.pgn ⊎ IsProprietary group.pgn
+number_before group shared (inl bad) = inl bad
+number_before group shared (inr (inl own)) = inr own.1
+number_before group shared (inr (inr other)) = absurd (not_both shared other.0)
+
+number_now : (group : GroupPlan) → group.private ≡ false → IsForNoPlan group.pgn ⊎ IsProprietary group.pgn → HasBadPgn group
+number_now group shared (inl bad) = inl bad
+number_now group shared (inr own) = inr (inl (shared, own))
+
+pub found_as_before : (plan : Plan) → HasNoPrivate plan → IsFoundAsBefore plan
+found_as_before plan none = record {
+  numbers = λ g. (
+    λ v. record {
+      value = v.value;
+      value_is = v.value_is;
+      meets = number_before v.value (shared_at plan.groups.items none g v.value v.value_is) v.meets;
+    },
+    λ v. record {
+      value = v.value;
+      value_is = v.value_is;
+      meets = number_now v.value (shared_at plan.groups.items none g v.value v.value_is) v.meets;
+    },
+  );
+  pairs = λ g h. (
+    λ p. record {
+      first = p.first;
+      second = p.second;
+      below = p.below;
+      first_is = p.first_is;
+      second_is = p.second_is;
+      related = p.related.0;
+    },
+    λ p. record {
+      first = p.first;
+      second = p.second;
+      below = p.below;
+      first_is = p.first_is;
+      second_is = p.second_is;
+      related = (p.related, inl (shared_at plan.groups.items none g p.first p.first_is));
+    },
+  );
+  unsent = λ g v. not_both (shared_at plan.groups.items none g v.value v.value_is) v.meets.0;
+}

@@ -1,0 +1,140 @@
+//! Which flows send private groups.
+ghost use Rattle.std.specs.Prelude.{◌≡◌};
+ghost use Rattle.j39_findings.specs.Adding.{Adds};
+ghost use Rattle.j39_findings.specs.ListPlaces.{found_if};
+ghost use Rattle.j39_findings.specs.Found.{sends, do_receivers_meet, sends_beside, is_sent_beside, sends_first, are_sent_together, is_sent, is_private_unsent, unsent_findings};
+
+use crate::checking::finding::Finding;
+use crate::checking::flows::may_be_one_frame_to_all;
+use crate::checking::rules::{Rule, find_each, push_if};
+use crate::plan::{FlowPlan, GroupPlan, To};
+use std::alloc::AllocError;
+
+// Whether the flow sends the group, which its label names.
+fn sends(groups: &[GroupPlan], group: &GroupPlan, flow: &FlowPlan) -> bool
+    ensures { result ≡ sends groups.now group.now flow.now }
+{
+    match groups.get(flow.group) {
+        Some(sent) => sent.label.as_str() == group.label.as_str(),
+        None => false,
+    }
+}
+
+// Whether one unit can hear a message of either flow.
+fn do_receivers_meet(
+    first: &GroupPlan,
+    second: &GroupPlan,
+    flow: &FlowPlan,
+    other: &FlowPlan,
+) -> bool
+    ensures { result ≡ do_receivers_meet first.now second.now flow.now other.now }
+{
+    flow.to == To::All
+        || other.to == To::All
+        || flow.to == other.to
+        || may_be_one_frame_to_all(first) && may_be_one_frame_to_all(second)
+}
+
+fn sends_beside(
+    groups: &[GroupPlan],
+    first: &GroupPlan,
+    second: &GroupPlan,
+    flow: &FlowPlan,
+    other: &FlowPlan,
+) -> bool
+    ensures { result ≡ sends_beside groups.now first.now second.now flow.now other.now }
+{
+    other.sender == flow.sender
+        && sends(groups, second, other)
+        && do_receivers_meet(first, second, flow, other)
+}
+
+fn is_sent_beside(
+    groups: &[GroupPlan],
+    flows: &[FlowPlan],
+    first: &GroupPlan,
+    second: &GroupPlan,
+    flow: &FlowPlan,
+) -> bool
+    ensures { result ≡ is_sent_beside groups.now flows.now first.now second.now flow.now }
+{
+    flows
+        .iter()
+        .any(|other| sends_beside(groups, first, second, flow, other))
+}
+
+// Whether the flow sends the first group, and another one of the same unit sends the second beside it.
+fn sends_first(
+    groups: &[GroupPlan],
+    flows: &[FlowPlan],
+    first: &GroupPlan,
+    second: &GroupPlan,
+    flow: &FlowPlan,
+) -> bool
+    ensures { result ≡ sends_first groups.now flows.now first.now second.now flow.now }
+{
+    sends(groups, first, flow) && is_sent_beside(groups, flows, first, second, flow)
+}
+
+/// Whether a unit sends both groups to receivers that meet.
+pub fn are_sent_together(
+    groups: &[GroupPlan],
+    flows: &[FlowPlan],
+    first: &GroupPlan,
+    second: &GroupPlan,
+) -> bool
+    ensures { result ≡ are_sent_together groups.now flows.now first.now second.now }
+{
+    flows
+        .iter()
+        .any(|flow| sends_first(groups, flows, first, second, flow))
+}
+
+fn is_sent(groups: &[GroupPlan], flows: &[FlowPlan], group: &GroupPlan) -> bool
+    ensures { result ≡ is_sent groups.now flows.now group.now }
+{
+    flows.iter().any(|flow| sends(groups, group, flow))
+}
+
+fn is_private_unsent(groups: &[GroupPlan], flows: &[FlowPlan], group: &GroupPlan) -> bool
+    ensures { result ≡ is_private_unsent groups.now flows.now group.now }
+{
+    group.private && !is_sent(groups, flows, group)
+}
+
+#[derive(Clone, Copy)]
+struct PrivateUnsent<'a> {
+    groups: &'a [GroupPlan],
+    flows: &'a [FlowPlan],
+}
+
+impl Rule<GroupPlan> for PrivateUnsent<'_> {
+    ghost use Rattle.j39_findings.specs.declared.checking.finding.Finding.TheVariants.{PrivateUnsent as PrivatesUnsent};
+
+    ghost gives = { λ rule g group. found_if (is_private_unsent rule.groups.now rule.flows.now group) (PrivatesUnsent g) };
+
+    fn find(
+        &self,
+        findings: &mut Vec<Finding>,
+        place: usize,
+        group: &GroupPlan,
+    ) -> Result<(), AllocError> {
+        push_if(
+            findings,
+            is_private_unsent(self.groups, self.flows, group),
+            Finding::PrivateUnsent(place),
+        )
+    }
+}
+
+/// Adds the private groups that no flow sends.
+#[tactic(auto, unfolding(crate::specs::Found::unsent_findings, crate::specs::ListPlaces::each))]
+pub fn find_unsent(
+    findings: &mut Vec<Finding>,
+    groups: &[GroupPlan],
+    flows: &[FlowPlan],
+) -> Result<(), AllocError>
+    ensures { Adds result findings.old.items findings.new.items (unsent_findings groups.now flows.now) }
+{
+    find_each(findings, &PrivateUnsent { groups, flows }, groups)
+}

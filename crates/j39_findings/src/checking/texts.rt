@@ -1,0 +1,66 @@
+//! Which texts of groups lie outside of the bytes of their messages.
+ghost use Rattle.std.specs.Prelude.{◌≡◌};
+ghost use Rattle.j39_findings.specs.Adding.{Adds};
+ghost use Rattle.j39_findings.specs.ListPlaces.{found_if};
+ghost use Rattle.j39_findings.specs.Found.{lies_outside, outside_text_findings, text_findings};
+
+use crate::checking::finding::Finding;
+use crate::checking::rules::{Rule, find_each, push_if};
+use crate::plan::{GroupPlan, TextPlan};
+use std::alloc::AllocError;
+
+fn lies_outside(group: &GroupPlan, text: &TextPlan) -> bool
+    ensures { result ≡ lies_outside group.now text.now }
+{
+    text.byte > group.length + 1 || text.last_byte() > group.most
+}
+
+#[derive(Clone, Copy)]
+struct TextOutside<'a> {
+    place: usize,
+    group: &'a GroupPlan,
+}
+
+impl Rule<TextPlan> for TextOutside<'_> {
+    ghost use Rattle.j39_findings.specs.declared.checking.finding.Finding.TheVariants.{TextOutside as TextsOutside};
+
+    ghost gives = { λ rule t text. found_if (lies_outside rule.group.now text) (TextsOutside rule.place t) };
+
+    fn find(
+        &self,
+        findings: &mut Vec<Finding>,
+        place: usize,
+        text: &TextPlan,
+    ) -> Result<(), AllocError> {
+        push_if(
+            findings,
+            lies_outside(self.group, text),
+            Finding::TextOutside(self.place, place),
+        )
+    }
+}
+
+#[derive(Clone, Copy)]
+struct OutsideTexts;
+
+impl Rule<GroupPlan> for OutsideTexts {
+    ghost gives = { λ _ g group. outside_text_findings g group };
+
+    #[tactic(auto, unfolding(crate::specs::ListPlaces::each))]
+    fn find(
+        &self,
+        findings: &mut Vec<Finding>,
+        place: usize,
+        group: &GroupPlan,
+    ) -> Result<(), AllocError> {
+        find_each(findings, &TextOutside { place, group }, &group.texts)
+    }
+}
+
+/// Adds the texts that lie outside.
+#[tactic(auto, unfolding(crate::specs::Found::text_findings))]
+pub fn find_in_texts(findings: &mut Vec<Finding>, groups: &[GroupPlan]) -> Result<(), AllocError>
+    ensures { Adds result findings.old.items findings.new.items (text_findings groups.now) }
+{
+    find_each(findings, &OutsideTexts, groups)
+}

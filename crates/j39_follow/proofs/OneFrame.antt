@@ -1,0 +1,194 @@
+-- What is written at a frame is one text.
+use Rattle.std.proofs.Common.{◌≡◌, ◌≢◌, ◌⊎◌, ◌<◌, ℕ, Bool, List, [], ◌∷◌, ◌++◌, codes, length, if◌then◌else◌, Option, Some, None, inl, inr, refl, sym, ap, subst, ◌∙◌}
+use Rattle.std.proofs.Common.{append_assoc}
+use Rattle.std.proofs.lemmas.Bool.{cases_order}
+use Rattle.std.proofs.lemmas.List.{append-nil, same_from_push}
+use Rattle.j39_id.specs.declared.frame.Frame.{Frame}
+use Rattle.j39_id.specs.declared.ident.Ident.{Ident}
+use Rattle.j39_findings.specs.declared.plan.Plan.{Plan}
+use Rattle.j39_findings.specs.declared.plan.group_plan.GroupPlan.{GroupPlan}
+use Rattle.j39_log.proofs.OneText.{one_packet}
+use Rattle.j39_log.specs.LogPairs.{Seen, heard}
+use Rattle.j39_log.specs.LogReports.{reading_lines}
+use Rattle.j39_text.specs.FrameText.{cannot_claim, claims_address, requested_group, requests_group}
+use Rattle.j39_text.specs.Texts.{field}
+use Rattle.j39_tp.proofs.Tracking.{one_message, one_pgn}
+use Rattle.j39_tp.specs.declared.packet.Packet.{Packet}
+use Rattle.j39_follow.specs.Fits.{IsGroupOf, flow_of}
+use Rattle.j39_follow.specs.FollowReports.{IsGroupOfMessage, IsGrouped, IsMessageReport, IsNotice, IsSending, IsWay, Message, aim_at, cannot_line, claim_line, group_line, is_to_all}
+use Rattle.j39_follow.specs.FollowText.{HeardSince, IsCarriedReport, IsHeardAs, IsPacketReport, Parts, frames_of, in_frame}
+use Rattle.j39_follow.specs.Who.{unit_of, who_text}
+use Rattle.j39_follow.specs.declared.message.Sort.{Sort}
+use Rattle.j39_follow.specs.declared.message.Sort.TheVariants.{Grouped}
+use Rattle.j39_follow.specs.declared.sending.Aim.{Aim}
+use Rattle.j39_follow.specs.declared.sending.Aim.TheVariants as aims
+use Rattle.j39_follow.specs.declared.sending.Sending.{Sending}
+use Rattle.j39_follow.specs.declared.who.Who.{Who}
+use Rattle.j39_follow.proofs.Holding.{ending}
+use Rattle.j39_follow.proofs.Parties.{one_who}
+
+some_same : {A : Type 0} (x y : A) → Some x ≡ Some y → x ≡ y
+some_same x y e = cc
+
+none_some : {A : Type 0} (x : A) → None ≡ Some x → ⊥
+none_some x e = cc
+
+-- ---- from whom to whom
+
+one_way : (plan : Plan) (frames : List Frame) (i : Ident) (t u : List ℕ) → IsWay plan frames i t → IsWay plan frames i u → t ≡ u
+one_way plan frames i t u a b =
+    let sender = one_who plan frames i.sa a.sender b.sender a.sender_is b.sender_is in
+    let receiver = one_who plan frames i.ps a.receiver b.receiver a.receiver_is b.receiver_is in
+    a.text_is
+    ∙ ap (λ (w : Who). codes " from " ++ (who_text plan w i.sa
+    ++ (codes " to " ++ (if is_to_all i then codes "all" else who_text plan a.receiver i.ps)))) sender
+    ∙ ap (λ (w : Who). codes " from " ++ (who_text plan b.sender i.sa
+    ++ (codes " to " ++ (if is_to_all i then codes "all" else who_text plan w i.ps)))) receiver
+    ∙ sym b.text_is
+
+pub one_notice : (plan : Plan) (frames : List Frame) (front : List ℕ) (f : Frame) (t u : List ℕ)
+    → IsNotice plan frames front f t → IsNotice plan frames front f u → t ≡ u
+one_notice plan frames front f t u a b =
+    a.2
+    ∙ ap (λ (way : List ℕ). if claims_address f then claim_line plan front f
+    else if cannot_claim f then cannot_line plan front f
+    else if requests_group f then front ++ (field (codes "request ") (requested_group f) ++ (way ++ 10 ∷ []))
+    else []) (one_way plan frames f.ident a.0 b.0 a.1 b.1)
+    ∙ sym b.2
+
+-- ---- messages
+
+same_sending : (a b : Sending) → a.sender ≡ b.sender → a.aim ≡ b.aim → a.unaddressed ≡ b.unaddressed → a ≡ b
+same_sending a b first second third =
+    let one : a ≡ record a { sender = b.sender } = ap (λ (x : Option ℕ). record a { sender = x }) first in
+    let two : record a { sender = b.sender } ≡ record b { unaddressed = a.unaddressed } =
+    ap (λ (x : Aim). record { sender = b.sender; aim = x; unaddressed = a.unaddressed }) second in
+    one ∙ two ∙ ap (λ (x : Bool). record b { unaddressed = x }) third
+
+one_sending : (plan : Plan) (frames : List Frame) (m : Message) (s t : Sending) → IsSending plan frames m s → IsSending plan frames m t → s ≡ t
+one_sending plan frames m s t a b =
+    let sender = one_who plan frames m.ident.sa a.sender b.sender a.sender_is b.sender_is in
+    let receiver = one_who plan frames m.ident.ps a.receiver b.receiver a.receiver_is b.receiver_is in
+    same_sending s t (a.sender_unit ∙ ap unit_of sender ∙ sym b.sender_unit)
+    (a.aim_is ∙ ap (λ (w : Who). if is_to_all m.ident then aims.All else aim_at (unit_of w)) receiver ∙ sym b.aim_is)
+    (a.unaddressed_is ∙ sym b.unaddressed_is)
+
+one_group : (plan : Plan) (pgn bytes : ℕ) (sent : Sending) (a b : Option ℕ) → IsGroupOf plan pgn bytes sent a → IsGroupOf plan pgn bytes sent b → a ≡ b
+one_group plan pgn bytes sent (Some g) (Some h) x y = elim (cases_order g h) [
+  | inl same ↦ ap Some same
+  | inr (inl less) ↦ absurd (y.1 g less x.0)
+  | inr (inr more) ↦ absurd (x.1 h more y.0)
+]
+one_group plan pgn bytes sent (Some g) None x y = absurd (y g x.0)
+one_group plan pgn bytes sent None (Some h) x y = absurd (x h y.0)
+one_group plan pgn bytes sent None None x y = refl
+
+one_group_of_message : (plan : Plan) (frames : List Frame) (m : Message) (a b : Option ℕ) → IsGroupOfMessage plan frames m a
+    → IsGroupOfMessage plan frames m b → a ≡ b
+one_group_of_message plan frames m a b x y =
+    let same = one_sending plan frames m x.0 y.0 x.1 y.1 in
+    one_group plan m.pgn (length m.bytes) y.0 a b (subst (λ (s : Sending). IsGroupOf plan m.pgn (length m.bytes) s a) same x.2) y.2
+
+one_grouped : (plan : Plan) (frames : List Frame) (front : List ℕ) (m : Message) (sent : Sending) (group : Option ℕ) (s z : Sort) (t u : List ℕ)
+    → IsGrouped plan frames front m sent group s t → IsGrouped plan frames front m sent group z u → (s ≡ z) × (t ≡ u)
+one_grouped plan frames front m sent None s z t u a b = (a.0 ∙ sym b.0, a.1 ∙ sym b.1)
+one_grouped plan frames front m sent (Some g) s z t u a b =
+    let way = one_way plan frames m.ident a.1 b.1 a.2 b.2 in
+    let group = some_same a.3.value b.3.value (sym a.3.value_is ∙ b.3.value_is) in (
+      a.0 ∙ sym b.0,
+      a.3.meets
+          ∙ ap (λ (w : List ℕ). group_line a.3.value front w (flow_of plan g sent) m ++ reading_lines a.3.value m.bytes) way
+          ∙ ap (λ (x : GroupPlan). group_line x front b.1 (flow_of plan g sent) m ++ reading_lines x m.bytes) group
+          ∙ sym b.3.meets,
+    )
+
+pub one_message_report : (plan : Plan) (frames : List Frame) (front : List ℕ) (m : Message) (s z : Sort) (t u : List ℕ)
+    → IsMessageReport plan frames front m s t → IsMessageReport plan frames front m z u → (s ≡ z) × (t ≡ u)
+one_message_report plan frames front m s z t u a b =
+    let sent = one_sending plan frames m a.0 b.0 a.2 b.2 in
+    let of = subst (λ (x : Sending). IsGroupOf plan m.pgn (length m.bytes) x a.1) sent a.3 in
+    let group = one_group plan m.pgn (length m.bytes) b.0 a.1 b.1 of b.3 in
+    one_grouped plan frames front m b.0 b.1 s z t u
+    (subst (λ (g : Option ℕ). IsGrouped plan frames front m b.0 g s t) group
+    (subst (λ (x : Sending). IsGrouped plan frames front m x a.1 s t) sent a.4)) b.4
+
+pub one_heard_as : (plan : Plan) (frames : List Frame) (f : Frame) (p q : Option Packet) → IsHeardAs plan frames f p → IsHeardAs plan frames f q → p ≡ q
+one_heard_as plan frames f (Some p) (Some q) a b = ap Some (one_packet f p q a.1 b.1)
+one_heard_as plan frames f (Some p) None a (inl none) = absurd (none p a.1)
+one_heard_as plan frames f (Some p) None a (inr group) =
+    absurd (none_some group.0 (one_group_of_message plan frames (in_frame f) None (Some group.0) a.0 group.1))
+one_heard_as plan frames f None (Some q) (inl none) b = absurd (none q b.1)
+one_heard_as plan frames f None (Some q) (inr group) b =
+    absurd (none_some group.0 (one_group_of_message plan frames (in_frame f) None (Some group.0) b.0 group.1))
+one_heard_as plan frames f None None a b = refl
+
+-- ---- what a pair heard
+
+-- of two ways to cut a list one cuts later
+cut_later : (a b c d : List Seen) → a ++ b ≡ c ++ d
+    → ((m : List Seen) × (c ≡ a ++ m) × (b ≡ m ++ d)) ⊎ ((m : List Seen) × (a ≡ c ++ m) × (d ≡ m ++ b))
+cut_later [] b c d e = inl (c, refl, e)
+cut_later (x ∷ a) b [] d e = inr (x ∷ a, refl, sym e)
+cut_later (x ∷ a) b (y ∷ c) d e =
+    let head : x ≡ y = cc in
+    let tail : a ++ b ≡ c ++ d = cc in
+    elim (cut_later a b c d tail) [
+      | inl later ↦ inl (later.0, ap (λ (z : Seen). z ∷ c) (sym head) ∙ ap (λ (t : List Seen). x ∷ t) later.1, later.2)
+      | inr later ↦ inr (later.0, ap (λ (z : Seen). z ∷ a) head ∙ ap (λ (t : List Seen). y ∷ t) later.1, later.2)
+    ]
+
+no_end : {A : Type 0} (front : List A) (x : A) → [] ≡ front ++ x ∷ [] → ⊥
+no_end [] x e = cc
+no_end (y ∷ front) x e = cc
+
+-- a list that begins anew later doesn't, where none of the two addresses changes hands between
+not_later : (plan : Plan) (seen : List Seen) (s d : ℕ) (h k : List Packet) (a : HeardSince plan seen s d h) (b : HeardSince plan seen s d k)
+    (m : List Seen) → b.before ≡ a.before ++ m → a.since ≡ m ++ b.since → m ≡ []
+not_later plan seen s d h k a b m later rest = elim (ending m) [
+  | inl none ↦ none
+  | inr end ↦
+      let row : b.before ≡ (a.before ++ end.0) ++ end.1 ∷ [] =
+      later ∙ ap (λ (t : List Seen). a.before ++ t) end.2 ∙ sym (append_assoc a.before end.0 (end.1 ∷ [])) in
+      let between : a.since ≡ end.0 ++ end.1 ∷ b.since =
+      rest ∙ ap (λ (t : List Seen). t ++ b.since) end.2 ∙ append_assoc end.0 (end.1 ∷ []) b.since in
+      elim b.anew [
+        | inl first ↦ absurd (no_end (a.before ++ end.0) end.1 (sym first ∙ row))
+        | inr parting ↦
+            let same = same_from_push (a.before ++ end.0) parting.0 end.1 parting.1 (sym row ∙ parting.2) in
+            absurd (a.steady end.0 end.1 b.since between
+            (subst (λ (x : Seen). Parts plan (a.before ++ end.0) x s d) (sym same.1)
+            (subst (λ (t : List Seen). Parts plan t parting.1 s d) (sym same.0) parting.3)))
+      ]
+]
+
+pub one_since : (plan : Plan) (seen : List Seen) (s d : ℕ) (h k : List Packet) → HeardSince plan seen s d h → HeardSince plan seen s d k → h ≡ k
+one_since plan seen s d h k a b = elim (cut_later a.before a.since b.before b.since (sym a.row ∙ b.row)) [
+  | inl later ↦
+      let none = not_later plan seen s d h k a b later.0 later.1 later.2 in
+      a.packets_are ∙ ap (heard s d) (later.2 ∙ ap (λ (t : List Seen). t ++ b.since) none) ∙ sym b.packets_are
+  | inr later ↦
+      let none = not_later plan seen s d k h b a later.0 later.1 later.2 in
+      a.packets_are ∙ ap (heard s d) (sym (later.2 ∙ ap (λ (t : List Seen). t ++ a.since) none)) ∙ sym b.packets_are
+]
+
+one_carried : (plan : Plan) (frames : List Frame) (front : List ℕ) (h : List Packet) (place : ℕ) (f : Frame) (s z : List Sort) (t u : List ℕ)
+    → IsCarriedReport plan frames front h place f s t → IsCarriedReport plan frames front h place f z u → (s ≡ z) × (t ≡ u)
+one_carried plan frames front h place f s z t u (inl a) (inl b) =
+    let pgn : a.0 ≡ b.0 = one_pgn h place a.0 b.0 a.1 b.1 a.3 b.3 in
+    let bytes : a.1 ≡ b.1 = one_message h place a.0 b.0 a.1 b.1 a.3 b.3 in
+    let there = subst
+    (λ (x : List ℕ). IsMessageReport plan frames front (record { pgn = b.0; bytes = x; ident = f.ident; framed = None }) a.2 t) bytes
+    (subst (λ (n : ℕ). IsMessageReport plan frames front (record { pgn = n; bytes = a.1; ident = f.ident; framed = None }) a.2 t) pgn a.4) in
+    let same = one_message_report plan frames front (record { pgn = b.0; bytes = b.1; ident = f.ident; framed = None }) a.2 b.2 t u there b.4 in
+    (a.5 ∙ ap (λ (x : Sort). x ∷ []) same.0 ∙ sym b.5, same.1)
+one_carried plan frames front h place f s z t u (inl a) (inr b) = absurd (b.0 a.0 a.1 a.3)
+one_carried plan frames front h place f s z t u (inr a) (inl b) = absurd (a.0 b.0 b.1 b.3)
+one_carried plan frames front h place f s z t u (inr a) (inr b) = (a.1 ∙ sym b.1, a.2 ∙ sym b.2)
+
+pub one_packet_report : (plan : Plan) (before : List Seen) (front : List ℕ) (f : Frame) (p : Option Packet) (s z : List Sort) (t u : List ℕ)
+    → IsPacketReport plan before front f p s t → IsPacketReport plan before front f p z u → (s ≡ z) × (t ≡ u)
+one_packet_report plan before front f None s z t u a b = (a.0 ∙ sym b.0, a.1 ∙ sym b.1)
+one_packet_report plan before front f (Some p) s z t u a b =
+    let same = one_since plan before f.ident.sa f.ident.ps a.0 b.0 a.1 b.1 in
+    one_carried plan (frames_of before ++ f ∷ []) front (b.0 ++ p ∷ []) (length b.0) f s z t u
+    (subst (λ (h : List Packet). IsCarriedReport plan (frames_of before ++ f ∷ []) front (h ++ p ∷ []) (length h) f s t) same a.2) b.2

@@ -1,0 +1,132 @@
+-- A table of holders, once one frame more was sent.
+use Rattle.std.proofs.Common.{◌≡◌, ◌≢◌, ◌==◌, ◌||◌, if◌then◌else◌, ℕ, Bool, true, false, List, [], ◌∷◌}
+use Rattle.std.proofs.Common.{◌++◌, Option, Some, None, inl, inr, refl, sym, ap, subst, ◌∙◌}
+use Rattle.std.proofs.Common.{eqb-true}
+use Rattle.std.proofs.lemmas.Bool.{eqb-false}
+use Rattle.j39_id.specs.declared.frame.Frame.{Frame}
+use Rattle.j39_text.specs.FrameText.{cannot_claim, claims_address, name_in}
+use Rattle.j39_follow.specs.Holders.{Claims, Holds, IsTold, TakesFrom, TellsOf}
+use Rattle.j39_follow.specs.declared.holders.Holders.{Holders}
+use Rattle.j39_findings.specs.declared.plan.Plan.{Plan}
+use Rattle.j39_follow.specs.inside.Recounting.{IsMoved, IsNew, Recounts, TellsPlace, is_marked}
+use Rattle.j39_follow.proofs.Holding.{held_by, holds_new, holds_on, told_by, told_new, told_on}
+
+or_left : (a b : Bool) → a ≡ true → (a || b) ≡ true
+or_left true b e = refl
+or_left false b e = cc
+
+some_same : {A : Type 0} (x y : A) → Some x ≡ Some y → x ≡ y
+some_same x y e = cc
+
+none_some : {A : Type 0} (x : A) → None ≡ Some x → ⊥
+none_some x e = cc
+
+-- a claim tells of the NAME
+pub claim_tells : (f : Frame) (name address : ℕ) → Claims f name address → TellsOf f name
+claim_tells f name address c = record { told = or_left (claims_address f) (cannot_claim f) c.claim; name_is = c.name_is }
+
+place_tells : (f : Frame) (name : ℕ) (place : Option ℕ) → TellsPlace f name place → TellsOf f name
+place_tells f name (Some a) t = claim_tells f name a t
+place_tells f name None t = t.0
+
+-- a frame claims what it tells alone
+claim_new : (f : Frame) (name : ℕ) (place : Option ℕ) (n a : ℕ) → TellsPlace f name place → Claims f n a → IsNew place name a n
+claim_new f name (Some b) n a t c = (ap Some (sym t.source_is ∙ c.source_is), sym c.name_is ∙ t.name_is)
+claim_new f name None n a t c = absurd (t.1 n a c)
+
+new_claim : (f : Frame) (name : ℕ) (place : Option ℕ) (n a : ℕ) → TellsPlace f name place → IsNew place name a n → Claims f n a
+new_claim f name (Some b) n a t is = rw (is.1, sym (some_same b a is.0)) t
+new_claim f name None n a t is = absurd (let e = is.0 in cc)
+
+-- what it takes from others
+takes : (f : Frame) (name : ℕ) (place : Option ℕ) (n a : ℕ) → TellsPlace f name place → n ≢ name → place ≢ Some a → ¬ TakesFrom n a f
+takes f name place n a t other elsewhere (inl tells) = other (sym tells.name_is ∙ (place_tells f name place t).name_is)
+takes f name place n a t other elsewhere (inr claim) = elsewhere (claim_new f name place claim.0 a t claim.1).0
+
+told_after : (b : Bool) (x : Bool) (A B : Type 0) → (b ≡ true → A) → (x ≡ true → A) → (if b then true else x) ≡ true → A
+told_after true x A B first second e = first refl
+told_after false x A B first second e = second e
+
+untold_after : (b : Bool) (x : Bool) → (if b then true else x) ≡ false → (b ≡ false) × (x ≡ false)
+untold_after true x e = cc
+untold_after false x e = (refl, e)
+
+pub moved : (plan : Plan) (old new : Holders) (frames : List Frame) (f : Frame) (name : ℕ) (place : Option ℕ) → Recounts plan old frames
+    → TellsPlace f name place
+    → IsMoved plan old new name place → Recounts plan new (frames ++ f ∷ [])
+moved plan old new frames f name place of t m = record {
+  held = λ a n at. elim (m.held a n at) [
+    | inl is ↦ holds_new frames f n a (new_claim f name place n a t is)
+    | inr stays ↦ holds_on frames f n a (of.held a n stays.2) (takes f name place n a t stays.0 stays.1)
+  ];
+  holds = λ a n h. m.holds a n (elim (held_by frames f n a h) [
+    | inl claim ↦ inl (claim_new f name place n a t claim)
+    | inr kept ↦ inr (
+      (λ e. kept.1 (inl (subst (TellsOf f) (sym e) (place_tells f name place t)))),
+      (λ e. kept.1 (inr (name, new_claim f name place name a t (e, refl)))),
+      of.holds a n kept.0,
+    )
+  ]);
+  told = λ u unit at yes.
+      told_after (unit.name == name) (is_marked old u) (IsTold (frames ++ f ∷ []) unit.name) ⊥
+      (λ same. told_new frames f unit.name (subst (TellsOf f) (sym (eqb-true unit.name name same)) (place_tells f name place t)))
+      (λ before. told_on frames f unit.name (of.told u unit at before))
+      (sym (m.marked u unit at) ∙ yes);
+  untold = λ u unit at no told.
+      let both = untold_after (unit.name == name) (is_marked old u) (sym (m.marked u unit at) ∙ no) in
+      elim (told_by frames f unit.name told) [
+        | inl tells ↦ eqb-false unit.name name both.0 (sym tells.name_is ∙ (place_tells f name place t).name_is)
+        | inr earlier ↦ of.untold u unit at both.1 earlier
+      ];
+}
+
+-- ---- a frame that tells of no NAME changes nothing
+
+abbrev pub TellsNothing : Frame → Type 0
+TellsNothing f = (name : ℕ) → ¬ TellsOf f name
+
+takes_nothing : (f : Frame) (n a : ℕ) → TellsNothing f → ¬ TakesFrom n a f
+takes_nothing f n a silent (inl tells) = silent n tells
+takes_nothing f n a silent (inr claim) = silent claim.0 (claim_tells f claim.0 a claim.1)
+
+held_before : (frames : List Frame) (f : Frame) (n a : ℕ) → TellsNothing f → Holds (frames ++ f ∷ []) n a → Holds frames n a
+held_before frames f n a silent h = elim (held_by frames f n a h) [
+  | inl claim ↦ absurd (silent n (claim_tells f n a claim))
+  | inr kept ↦ kept.0
+]
+
+pub nothing_told : (plan : Plan) (holders : Holders) (frames : List Frame) (f : Frame) → TellsNothing f → Recounts plan holders frames
+    → Recounts plan holders (frames ++ f ∷ [])
+nothing_told plan holders frames f silent of = record {
+  held = λ a n at. holds_on frames f n a (of.held a n at) (takes_nothing f n a silent);
+  holds = λ a n h. of.holds a n (held_before frames f n a silent h);
+  told = λ u unit at yes. told_on frames f unit.name (of.told u unit at yes);
+  untold = λ u unit at no told. elim (told_by frames f unit.name told) [
+    | inl tells ↦ silent unit.name tells
+    | inr earlier ↦ of.untold u unit at no earlier
+  ];
+}
+
+-- ---- what a frame tells
+
+true_false : true ≡ false → ⊥
+true_false e = cc
+
+neither : (a b : Bool) → a ≡ false → b ≡ false → (a || b) ≡ false
+neither true b e d = absurd (true_false e)
+neither false b e d = d
+
+or_right : (a b : Bool) → b ≡ true → (a || b) ≡ true
+or_right true b e = refl
+or_right false b e = e
+
+-- one that claims no address, and isn't of a unit that can't
+pub silent : (f : Frame) → claims_address f ≡ false → cannot_claim f ≡ false → (name : ℕ) → ¬ TellsOf f name
+silent f claims cannot name tells =
+    true_false (sym tells.told ∙ neither (claims_address f) (cannot_claim f) claims cannot)
+
+pub told_cannot : (f : Frame) (name : ℕ) → claims_address f ≡ false → cannot_claim f ≡ true → name_in f ≡ name → TellsPlace f name None
+told_cannot f name claims cannot is = (
+  record { told = or_right (claims_address f) (cannot_claim f) cannot; name_is = is },
+  λ other address c. true_false (sym c.claim ∙ claims),
+)

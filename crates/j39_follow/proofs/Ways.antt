@@ -1,0 +1,34 @@
+-- From whom to whom a frame went, and what is written first at it.
+use Rattle.std.proofs.Common.{◌≡◌, ◌++◌, ℕ, Bool, true, false, if◌then◌else◌, List, codes, refl}
+use Rattle.j39_id.specs.declared.frame.Frame.{Frame}
+use Rattle.j39_id.specs.declared.ident.Ident.{Ident}
+use Rattle.j39_findings.specs.declared.plan.Plan.{Plan}
+use Rattle.j39_follow.specs.FollowReports.{IsWay, is_to_all}
+use Rattle.j39_follow.specs.Who.{who_text}
+use Rattle.j39_follow.specs.declared.directory.Directory.{Directory}
+use Rattle.j39_follow.specs.inside.Recounting.{Knows, party_at}
+
+-- a frame has a way
+pub a_way : (plan : Plan) (directory : Directory) (frames : List Frame) (i : Ident) → Knows plan directory frames
+    → (way : List ℕ) × IsWay plan frames i way
+a_way plan directory frames i knows =
+    let sender = party_at directory.parties i.sa in
+    let receiver = party_at directory.parties i.ps in (
+      codes " from " ++ (who_text plan sender i.sa ++ (codes " to " ++ (if is_to_all i then codes "all" else who_text plan receiver i.ps))),
+      record {
+        sender = sender;
+        receiver = receiver;
+        sender_is = knows.parties i.sa i.sa_range;
+        receiver_is = knows.parties i.ps i.ps_range;
+        text_is = refl;
+      },
+    )
+
+-- a text that is chosen by a test
+pub if_so : (b : Bool) (x y : List ℕ) → b ≡ true → x ≡ (if b then x else y)
+if_so true x y e = refl
+if_so false x y e = cc
+
+pub if_not : (b : Bool) (x y z : List ℕ) → b ≡ false → z ≡ y → z ≡ (if b then x else y)
+if_not true x y z e same = cc
+if_not false x y z e same = same

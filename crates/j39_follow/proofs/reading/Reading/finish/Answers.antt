@@ -1,0 +1,35 @@
+use Rattle.std.proofs.Common.{◌≡◌, ◌++◌, List, ℕ, length, refl, sym, ap, subst, ◌∙◌, append_assoc}
+use Rattle.std.proofs.lemmas.Result.{IfOk-weaker}
+use Rattle.j39_follow.specs.FollowText.{counts_line, flow_lines, frames_of, group_ends}
+use Rattle.j39_follow.specs.declared.holders.Holders.{Holders}
+use Rattle.j39_follow.specs.inside.Recounting.{Recounts}
+use Rattle.j39_follow.proofs.reading.Reading.finish.Goals as goal
+
+grouped : (old a b units counts : List ℕ) → (old ++ (a ++ (b ++ units))) ++ counts ≡ old ++ (a ++ (b ++ (units ++ counts)))
+grouped old a b units counts = simp append_assoc refl
+
+pub returns : goal.returns
+returns c =
+    let self = c.args.self.now in
+    let plan = c.args.plan.now in
+    IfOk-weaker c.write_counts.result _ _
+    (λ _ written. λ past recalls.
+    let m = recalls.remembers in
+    let recounts = subst (λ (h : Holders). Recounts plan h (frames_of past.seen)) (sym c.holders.ensures) m.knows.recounts in
+    let ends = c.in_ok-write_endings.ensures past.sent (frames_of past.seen) m.tally recounts in
+    let a : List ℕ = flow_lines plan past.sent 0 plan.flows.items in
+    let b : List ℕ = group_ends plan past.sent 0 plan.groups.items in
+    let counts : counts_line self.frames self.skipped self.bad self.elsewhere
+    ≡ counts_line (length past.seen) past.skipped past.bad past.elsewhere =
+    ap (λ (n : ℕ). counts_line n self.skipped self.bad self.elsewhere) recalls.frames_are
+    ∙ ap (λ (n : ℕ). counts_line (length past.seen) n self.bad self.elsewhere) recalls.skipped_are
+    ∙ ap (λ (n : ℕ). counts_line (length past.seen) past.skipped n self.elsewhere) recalls.bad_are
+    ∙ ap (λ (n : ℕ). counts_line (length past.seen) past.skipped past.bad n) recalls.elsewhere_are in (
+      ends.0,
+      ends.1,
+      written
+          ∙ ap (λ (t : List ℕ). t ++ counts_line self.frames self.skipped self.bad self.elsewhere) ends.2
+          ∙ ap (λ (t : List ℕ). (self.text ++ (a ++ (b ++ ends.0))) ++ t) counts
+          ∙ grouped self.text a b ends.0 (counts_line (length past.seen) past.skipped past.bad past.elsewhere),
+    ))
+    c.write_counts.ensures

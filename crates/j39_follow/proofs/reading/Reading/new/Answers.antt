@@ -1,0 +1,20 @@
+use Rattle.std.proofs.Common.{refl, arith}
+use Rattle.j39_follow.proofs.Heard.{nothing_heard_since}
+use Rattle.j39_follow.proofs.reading.Reading.new.Goals as goal
+
+pub returns-clause-past : goal.returns-clause-past
+returns-clause-past c = record {
+  remembers = record {
+    knows = c.new-2.ensures;
+    heard = nothing_heard_since c.args.plan.now c.new-3.result c.new-3.ensures;
+    ranges = λ k d less. absurd (omega arith);
+    tally = c.new-4.ensures c.args.plan.now;
+    few = omega arith;
+  };
+  interface_is = refl;
+  number_is = refl;
+  frames_are = refl;
+  skipped_are = refl;
+  bad_are = refl;
+  elsewhere_are = refl;
+}

@@ -1,0 +1,81 @@
+use Rattle.std.proofs.Common.{◌≤◌, ◌++◌, ◌∷◌, [], ℕ, List, Option, Some, None, length, refl, sym, ap, subst, ◌∙◌, arith}
+use Rattle.std.specs.Option.{option_copied, option_to_list}
+use Rattle.std.proofs.lemmas.List.{length-append, length_push}
+use Rattle.std.proofs.lemmas.List.Elements.{All-push}
+use Rattle.j39_id.specs.declared.frame.Frame.{Frame}
+use Rattle.j39_log.specs.LogPairs.{Seen}
+use Rattle.j39_log.specs.inside.Listening.{IsInRange}
+use Rattle.j39_follow.specs.FollowReports.{IsMessageReport, IsNotice, stamp}
+use Rattle.j39_follow.specs.FollowText.{IsPacketReport, Past, in_frame}
+use Rattle.j39_follow.specs.LogLines.{interface_behind}
+use Rattle.j39_follow.specs.declared.message.Sort.{Sort}
+use Rattle.j39_follow.specs.inside.FrameWriting.{with_frame}
+use Rattle.j39_follow.specs.inside.Recalling.{interface_of}
+use Rattle.j39_follow.specs.inside.Recounting.{Knows}
+use Rattle.j39_follow.proofs.Heard.{frames_more}
+use Rattle.j39_follow.proofs.reading.Reading.read_frame.Goals as goal
+
+one_at_most : (o : Option Sort) → length (option_to_list o) ≤ 1
+one_at_most None = omega arith
+one_at_most (Some s) = omega arith
+
+pub returns-clause-frame : goal.returns-clause-frame
+returns-clause-frame c = λ past recalls.
+    let plan = c.args.plan.now in
+    let f = c.args.frame.now in
+    let time : List ℕ = c.args.time.now in
+    let named : Option (List ℕ) = option_copied c.args.named in
+    let m = recalls.remembers in
+    let frames = recalls.frames_are in
+    let room = c.requires.room.frames in
+    let done = c.in_ok-follow.ensures.followed past m (omega (arith, frames, room)) in
+    let same = c.in_ok-follow.ensures.counts in
+    let x : Seen = record { frame = f; packet = done.packet } in
+    let sorts : List Sort = option_to_list done.ended in
+    let next : Past = record past {
+      seen = past.seen ++ x ∷ [];
+      interface = interface_behind past.interface named;
+      sent = past.sent ++ done.sort ∷ sorts;
+    } in
+    let number = recalls.number_is in
+    let counted = same.frames in
+    let more = length_push past.seen x in
+    let sent = length-append past.sent (done.sort ∷ sorts) in
+    let ended = one_at_most done.ended in
+    let few = m.few in (
+      next,
+      done.notice ++ (done.report ++ done.carried),
+      record {
+        packet = done.packet;
+        sort = done.sort;
+        sorts = sorts;
+        notice = done.notice;
+        report = done.report;
+        carried = done.carried;
+        heard_as = done.heard_as;
+        notice_is = subst (λ (n : ℕ). IsNotice plan (with_frame past.seen f) (stamp n time) f done.notice) number done.notice_is;
+        report_is = subst (λ (n : ℕ). IsMessageReport plan (with_frame past.seen f) (stamp n time) (in_frame f) done.sort done.report) number
+            done.report_is;
+        carried_is = subst (λ (n : ℕ). IsPacketReport plan past.seen (stamp n time) f done.packet sorts done.carried) number done.carried_is;
+        text_is = refl;
+        next_is = refl;
+      },
+      record {
+        remembers = record {
+          knows = subst (λ (fs : List Frame). Knows plan c.follow.new.self.directory fs) (sym (frames_more past.seen x)) done.knows;
+          heard = done.heard;
+          ranges = All-push (λ (y : Seen). IsInRange y.packet) past.seen x m.ranges done.range;
+          tally = done.tally;
+          few = omega (arith, sent, ended, more, few);
+        };
+        interface_is =
+            c.in_ok-keep_interface.ensures
+            ∙ ap (λ (i : Option (List ℕ)). interface_behind i named) (ap interface_of same.interface ∙ recalls.interface_is);
+        number_is = same.number ∙ recalls.number_is;
+        frames_are = omega (arith, frames, counted, more);
+        skipped_are = same.skipped ∙ recalls.skipped_are;
+        bad_are = same.bad ∙ recalls.bad_are;
+        elsewhere_are = same.elsewhere ∙ recalls.elsewhere_are;
+      },
+      done.text_is,
+    )

@@ -1,0 +1,84 @@
+use Rattle.std.proofs.Common.{◌≡◌, ◌+◌, ℕ, List, [], Option, false, true, inl, inr, refl, sym, subst, ◌∙◌}
+use Rattle.std.specs.Option.{option_copied}
+use Rattle.std.proofs.lemmas.List.{append-nil}
+use Rattle.std.proofs.lemmas.Result.{IfOk-weaker}
+use Rattle.j39_follow.specs.FollowText.{Past, passed_over}
+use Rattle.j39_follow.specs.LogLines.{IsElsewhere}
+use Rattle.j39_follow.proofs.Recalls.{names_it, one_more_elsewhere}
+use Rattle.j39_follow.proofs.reading.Reading.read_line.Goals as goal
+
+false_true : false ≡ true → ⊥
+false_true e = cc
+
+pub returns-then-is_elsewhere-clause-line : goal.returns-then-is_elsewhere-clause-line
+returns-then-is_elsewhere-clause-line c = λ past recalls.
+    let read = c.read_part-read in
+    let named = c.interface-named in
+    let next : Past = record past { elsewhere = past.elsewhere + 1 } in (
+      next,
+      [],
+      (
+        read.result.now,
+        option_copied named.result,
+        read.ensures,
+        names_it read.result.now named.result named.ensures.named named.ensures.none,
+        inl (
+          subst (λ (i : Option (List ℕ)). IsElsewhere i (option_copied named.result)) recalls.interface_is
+              (c.is_elsewhere.ensures.0 c.if-is_elsewhere.true),
+          refl,
+          refl,
+        ),
+      ),
+      one_more_elsewhere c.args.plan.now c.args.self.now past recalls,
+      sym (append-nil c.args.self.now.text),
+    )
+
+pub returns-in-Ok-clause-line : goal.returns-in-Ok-clause-line
+returns-in-Ok-clause-line c =
+    let read = c.read_part-read in
+    let named = c.interface-named in
+    IfOk-weaker c.read_frame-in-Ok.result _ _
+    (λ _ followed. λ past recalls.
+    let told = followed past recalls in (
+      told.0,
+      told.1,
+      (
+        read.result.now,
+        option_copied named.result,
+        read.ensures,
+        names_it read.result.now named.result named.ensures.named named.ensures.none,
+        inr (
+          λ there.
+              false_true (sym c.if-is_elsewhere.false
+              ∙ c.is_elsewhere.ensures.1
+              (subst (λ (i : Option (List ℕ)). IsElsewhere i (option_copied named.result)) (sym recalls.interface_is) there)),
+          inl (c.in-Ok.frame, c.time_text.result.now, c.in-Ok.ensures.found, c.time_text.ensures, told.2),
+        ),
+      ),
+      told.3,
+      told.4,
+    ))
+    c.read_frame-in-Ok.ensures.frame
+
+pub returns-in-Err-clause-line : goal.returns-in-Err-clause-line
+returns-in-Err-clause-line c = λ past recalls.
+    let read = c.read_part-read in
+    let named = c.interface-named in (
+      passed_over c.in-Err.error past,
+      [],
+      (
+        read.result.now,
+        option_copied named.result,
+        read.ensures,
+        names_it read.result.now named.result named.ensures.named named.ensures.none,
+        inr (
+          λ there.
+              false_true (sym c.if-is_elsewhere.false
+              ∙ c.is_elsewhere.ensures.1
+              (subst (λ (i : Option (List ℕ)). IsElsewhere i (option_copied named.result)) (sym recalls.interface_is) there)),
+          inr (c.in-Err.error, c.in-Err.ensures.refused, refl, refl),
+        ),
+      ),
+      c.pass_over.ensures.past c.args.plan.now past recalls,
+      c.pass_over.ensures.text ∙ sym (append-nil c.args.self.now.text),
+    )

@@ -1,0 +1,55 @@
+use Rattle.std.proofs.Common.{◌≡◌, ◌≢◌, ℕ, Option, Some, None, true, false, inl, inr, refl, sym, ap, ◌∙◌}
+use Rattle.std.specs.Option.{is_some}
+use Rattle.std.proofs.lemmas.Option.{get_or_from_slice_get, slice_get-get_or}
+use Rattle.j39_findings.specs.declared.plan.group_plan.GroupPlan.{GroupPlan}
+use Rattle.j39_follow.specs.Fits.{flow_of}
+use Rattle.j39_follow.proofs.sending.may_be_group.Goals as goal
+
+some_or_none : (o : Option ℕ) → is_some o ≡ true → o ≢ None
+some_or_none None e d = cc
+some_or_none (Some x) e d = cc
+
+none_or_some : (o : Option ℕ) → o ≢ None → is_some o ≡ true
+none_or_some None e = absurd (e refl)
+none_or_some (Some x) e = refl
+
+false_true : false ≡ true → ⊥
+false_true e = cc
+
+pub returns-then-not-group : goal.returns-then-not-group
+returns-then-not-group c = (
+  λ e. record {
+    value = c.index-group.result.now;
+    value_is =
+        slice_get-get_or c.args.plan.now.groups.items c.args.place c.index-group.result.now c.requires ∙ ap Some (sym c.index-group.ensures);
+    meets = record {
+      number = c.if-group-pgn.false;
+      length = sym c.has_length.ensures ∙ c.if-not-has_length.false;
+      own = inl c.if-not-group.true;
+    };
+  },
+  λ may. refl,
+)
+
+pub returns : goal.returns
+returns c = (
+  λ e. record {
+    value = c.index-group.result.now;
+    value_is =
+        slice_get-get_or c.args.plan.now.groups.items c.args.place c.index-group.result.now c.requires ∙ ap Some (sym c.index-group.ensures);
+    meets = record {
+      number = c.if-group-pgn.false;
+      length = sym c.has_length.ensures ∙ c.if-not-has_length.false;
+      own = inr (some_or_none (flow_of c.args.plan.now c.args.place c.args.sent)
+          (ap is_some (sym c.flow_of.ensures) ∙ sym c.is_some.ensures ∙ e));
+    };
+  },
+  λ may. elim may.meets.own [
+    | inl shared ↦
+        let same : c.index-group.result.now ≡ may.value =
+        c.index-group.ensures
+        ∙ get_or_from_slice_get c.args.plan.now.groups.items c.args.place may.value c.index-group.result.now may.value_is in
+        absurd (false_true (sym shared ∙ sym (ap (λ (g : GroupPlan). g.private) same) ∙ c.if-not-group.false))
+    | inr flow ↦ c.is_some.ensures ∙ ap is_some c.flow_of.ensures ∙ none_or_some (flow_of c.args.plan.now c.args.place c.args.sent) flow
+  ],
+)

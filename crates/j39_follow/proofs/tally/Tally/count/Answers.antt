@@ -1,0 +1,15 @@
+use Rattle.std.proofs.Common.{rules, ◌≡◌, ◌∷◌, ◌++◌, [], length, refl, sym, subst, ◌∙◌}
+use Rattle.j39_follow.specs.declared.message.Sort.{Sort}
+use Rattle.j39_follow.specs.declared.tally.Tally.{Tally}
+use Rattle.j39_follow.specs.inside.Tallies.{IsTally}
+use Rattle.j39_follow.proofs.Tallied.{other_counted}
+use Rattle.j39_follow.proofs.tally.Tally.count.Goals as goal
+
+pub returns-in-Some : goal.returns-in-Some
+returns-in-Some c = λ sent few of.
+    let old = c.args.self.now in
+    let new : Tally = record { flows = old.flows; groups = old.groups; others = c.add_one-in-Some.new.counts } in
+    let room : length old.others ≡ 256 = search rules in
+    subst (λ (s : Sort). IsTally c.args.plan.now new (sent ++ s ∷ [])) (sym c.in-Other.is)
+    (other_counted c.args.plan.now old new sent c.in-Other.pgn c.in-Some.first few (sym c.first_of.ensures ∙ c.in-Some.is) room refl refl
+    c.add_one-in-Some.ensures of)

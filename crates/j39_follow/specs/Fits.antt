@@ -1,0 +1,51 @@
+-- The group and the flow of a message: by its number and length, by who sent it, and to whom it went.
+use Rattle.std.specs.Prelude.{◌≡◌, ◌≢◌, ◌<◌, ◌⊎◌, ℕ, nat_le, ◌==◌, ◌&&◌, Bool, true, false, Option, Some, None}
+use Rattle.std.specs.List.{position}
+use Rattle.j39_findings.specs.ListPlaces.{ValueAt}
+use Rattle.j39_findings.specs.declared.plan.Plan.{Plan}
+use Rattle.j39_findings.specs.declared.plan.flow_plan.FlowPlan.{FlowPlan}
+use Rattle.j39_findings.specs.declared.plan.group_plan.GroupPlan.{GroupPlan}
+use Rattle.j39_findings.specs.declared.plan.to.To.{To}
+use Rattle.j39_findings.specs.declared.plan.to.To.TheVariants.{All as ToAll, One as ToOne}
+use Rattle.j39_follow.specs.declared.sending.Aim.{Aim}
+use Rattle.j39_follow.specs.declared.sending.Aim.TheVariants.{All, One}
+use Rattle.j39_follow.specs.declared.sending.Sending.{Sending}
+
+-- who is meant by a flow gets the message: all of a flow to all, one of a flow to one;
+-- a single frame of PDU2 names no destination, so one of a flow to a unit goes to all
+abbrev pub reaches : To → Aim → Bool → Bool
+reaches ToAll All unaddressed = true
+reaches (ToOne unit) (One receiver) unaddressed = unit == receiver
+reaches (ToOne unit) All unaddressed = unaddressed
+reaches _ _ unaddressed = false
+
+abbrev pub is_unit : Option ℕ → ℕ → Bool
+is_unit None unit = false
+is_unit (Some u) unit = u == unit
+
+-- a flow of this group fits what was sent
+abbrev pub fits : ℕ → Sending → FlowPlan → Bool
+fits group sent flow = flow.group == group && (is_unit sent.sender flow.sender && reaches flow.to sent.aim sent.unaddressed)
+
+-- the first flow of the group that fits
+abbrev pub flow_of : Plan → ℕ → Sending → Option ℕ
+flow_of plan group sent = position (fits group sent) plan.flows.items
+
+-- messages of the group may have so many bytes
+abbrev pub has_length : GroupPlan → ℕ → Bool
+has_length group bytes = nat_le group.length bytes && nat_le bytes group.most
+
+-- the group at this place has the number and so many bytes, and isn't private, or a flow of it fits
+pub record IsPlannedAs (plan : Plan) (pgn bytes : ℕ) (sent : Sending) (place : ℕ) (group : GroupPlan) : Type 0 where
+  pub number : group.pgn ≡ pgn
+  pub length : has_length group bytes ≡ true
+  pub own : (group.private ≡ false) ⊎ (flow_of plan place sent ≢ None)
+
+abbrev pub MayBeGroup : Plan → ℕ → ℕ → Sending → ℕ → Type 0
+MayBeGroup plan pgn bytes sent place = ValueAt (IsPlannedAs plan pgn bytes sent place) plan.groups.items place
+
+-- the group of so many bytes of this number: the first that it may be
+abbrev pub IsGroupOf : Plan → ℕ → ℕ → Sending → Option ℕ → Type 0
+IsGroupOf plan pgn bytes sent (Some place) =
+    MayBeGroup plan pgn bytes sent place × ((earlier : ℕ) → earlier < place → ¬ MayBeGroup plan pgn bytes sent earlier)
+IsGroupOf plan pgn bytes sent None = (place : ℕ) → ¬ MayBeGroup plan pgn bytes sent place

@@ -1,0 +1,254 @@
+-- The text that the follow command writes for a plan and a log.
+use Rattle.std.specs.Prelude.{◌≡◌, ℕ, ◌+◌, ◌==◌, ◌⊎◌, Bool, false, if◌then◌else◌, List}
+use Rattle.std.specs.Prelude.{[], ◌∷◌, ◌++◌, length, map, count_by, codes, Some, None, Option}
+use Rattle.std.specs.List.{All, position}
+use Rattle.std.specs.Option.{option_eq}
+use Rattle.j39_id.specs.FrameLine.{Spells, HasLineFault}
+use Rattle.j39_id.specs.Ident.{pgn_of}
+use Rattle.j39_id.specs.Lines.{Line, Short, Long, lines}
+use Rattle.j39_id.specs.declared.frame.Frame.{Frame}
+use Rattle.j39_id.specs.declared.line_error.LineError.{LineError}
+use Rattle.j39_id.specs.declared.line_error.LineError.TheVariants.{Empty, ShortIdent}
+use Rattle.j39_findings.specs.PlannedGroups.{IsSendable, IsFirstRefused}
+use Rattle.j39_findings.specs.declared.plan.Plan.{Plan}
+use Rattle.j39_findings.specs.declared.plan.flow_plan.FlowPlan.{FlowPlan}
+use Rattle.j39_findings.specs.declared.plan.group_plan.GroupPlan.{GroupPlan}
+use Rattle.j39_findings.specs.declared.plan.to.To.{To}
+use Rattle.j39_findings.specs.declared.plan.to.To.TheVariants.{All as ToAll, One as ToOne}
+use Rattle.j39_findings.specs.declared.plan.unit_plan.UnitPlan.{UnitPlan}
+use Rattle.j39_log.specs.LogFrames.{IsPacket}
+use Rattle.j39_log.specs.LogPairs.{Seen, heard}
+use Rattle.j39_log.specs.ReadText.{CarriesNone, refused_plan_line}
+use Rattle.j39_tp.specs.Carried.{Carried}
+use Rattle.j39_tp.specs.declared.packet.Packet.{Packet}
+use Rattle.j39_text.specs.Labels.{group_label, unit_label}
+use Rattle.j39_text.specs.Texts.{field, place_field}
+use Rattle.j39_stream.specs.declared.verdict.Verdict.{Verdict}
+use Rattle.j39_stream.specs.declared.verdict.Verdict.TheVariants.{Done, Findings, Refused, Unreadable}
+use Rattle.j39_follow.specs.FollowReports.{IsGroupOfMessage, IsMessageReport, IsNotice, Message, stamp}
+use Rattle.j39_follow.specs.declared.message.Sort.{Sort}
+use Rattle.j39_follow.specs.declared.message.Sort.TheVariants.{Grouped, Other}
+use Rattle.j39_follow.specs.Holders.{Holds, IsTold}
+use Rattle.j39_follow.specs.LogLines.{IsElsewhere, IsReadPart, IsTimeText, NamesInterface, interface_behind}
+use Rattle.j39_follow.specs.Who.{ChangesHands}
+
+-- ---- what each two addresses heard
+
+abbrev pub frames_of : List Seen → List Frame
+frames_of seen = map (λ (s : Seen). s.frame) seen
+
+-- at this frame, after those, one of the two addresses changes hands
+abbrev pub Parts : Plan → List Seen → Seen → ℕ → ℕ → Type 0
+Parts plan before x source destination =
+    ChangesHands plan (frames_of before) x.frame source ⊎ ChangesHands plan (frames_of before) x.frame destination
+
+-- the last of these frames is one at which it does
+abbrev pub EndsInParting : Plan → List Seen → ℕ → ℕ → Type 0
+EndsInParting plan seen source destination =
+    (front : List Seen) × (x : Seen) × (seen ≡ front ++ x ∷ []) × Parts plan front x source destination
+
+-- the packets that a pair heard since one of its addresses last changed hands
+pub record HeardSince (plan : Plan) (seen : List Seen) (source destination : ℕ) (packets : List Packet) : Type 0 where
+  pub before : List Seen
+  pub since : List Seen
+  pub row : seen ≡ before ++ since
+  pub anew : (before ≡ []) ⊎ EndsInParting plan before source destination
+  pub steady : (front : List Seen) (x : Seen) (back : List Seen) → since ≡ front ++ x ∷ back
+      → ¬ Parts plan (before ++ front) x source destination
+  pub packets_are : packets ≡ heard source destination since
+
+-- ---- a frame
+
+-- the message that came in one frame
+abbrev pub in_frame : Frame → Message
+in_frame f = record { pgn = pgn_of f.ident; bytes = f.payload.items; ident = f.ident; framed = Some f.ident.priority }
+
+-- the transport packet that is heard of a frame, these being the frames up to it; of a frame that is a group none is
+abbrev pub IsHeardAs : Plan → List Frame → Frame → Option Packet → Type 0
+IsHeardAs plan frames f (Some p) = IsGroupOfMessage plan frames (in_frame f) None × IsPacket f p
+IsHeardAs plan frames f None = ((p : Packet) → ¬ IsPacket f p) ⊎ ((g : ℕ) × IsGroupOfMessage plan frames (in_frame f) (Some g))
+
+-- what is written where a packet ends a message, and what that counts as
+abbrev pub IsCarriedReport : Plan → List Frame → List ℕ → List Packet → ℕ → Frame → List Sort → List ℕ → Type 0
+IsCarriedReport plan frames front h place f sorts text =
+    ((pgn : ℕ) × (bytes : List ℕ) × (sort : Sort) × Carried h place pgn bytes
+    × IsMessageReport plan frames front (record { pgn = pgn; bytes = bytes; ident = f.ident; framed = None }) sort text
+    × (sorts ≡ sort ∷ []))
+    ⊎ (CarriesNone h place × (sorts ≡ []) × (text ≡ []))
+
+abbrev pub IsPacketReport : Plan → List Seen → List ℕ → Frame → Option Packet → List Sort → List ℕ → Type 0
+IsPacketReport plan before front f None sorts text = (sorts ≡ []) × (text ≡ [])
+IsPacketReport plan before front f (Some p) sorts text =
+    (h : List Packet) × HeardSince plan before f.ident.sa f.ident.ps h
+    × IsCarriedReport plan (frames_of before ++ f ∷ []) front (h ++ p ∷ []) (length h) f sorts text
+
+-- ---- a log
+
+-- what came so far: how many lines, the frames, the interface of the log, what was sent, and how many lines were passed over
+pub record Past : Type 0 where
+  pub number : ℕ
+  pub seen : List Seen
+  pub interface : Option (List ℕ)
+  pub sent : List Sort
+  pub skipped : ℕ
+  pub bad : ℕ
+  pub elsewhere : ℕ
+
+abbrev pub nothing_yet : Past
+nothing_yet = record { number = 0; seen = []; interface = None; sent = []; skipped = 0; bad = 0; elsewhere = 0 }
+
+abbrev pub with_bad : Past → Past
+with_bad past = record past { bad = past.bad + 1 }
+
+-- a line without a word isn't counted, and one of an 11-bit identifier is skipped
+abbrev pub passed_over : LineError → Past → Past
+passed_over Empty past = past
+passed_over ShortIdent past = record past { skipped = past.skipped + 1 }
+passed_over _ past = with_bad past
+
+-- from what came so far a frame leads to this, and this is written at it: what it tells, what it is, and what it ends
+pub record ReadsFrame (plan : Plan) (past : Past) (front : List ℕ) (named : Option (List ℕ)) (f : Frame)
+    (next : Past) (text : List ℕ) : Type 0 where
+  pub packet : Option Packet
+  pub sort : Sort
+  pub sorts : List Sort
+  pub notice : List ℕ
+  pub report : List ℕ
+  pub carried : List ℕ
+  pub heard_as : IsHeardAs plan (frames_of past.seen ++ f ∷ []) f packet
+  pub notice_is : IsNotice plan (frames_of past.seen ++ f ∷ []) front f notice
+  pub report_is : IsMessageReport plan (frames_of past.seen ++ f ∷ []) front (in_frame f) sort report
+  pub carried_is : IsPacketReport plan past.seen front f packet sorts carried
+  pub text_is : text ≡ notice ++ (report ++ carried)
+  pub next_is : next ≡ record past {
+    seen = past.seen ++ record { frame = f; packet = packet } ∷ [];
+    interface = interface_behind past.interface named;
+    sent = past.sent ++ sort ∷ sorts;
+  }
+
+-- a line that isn't elsewhere is read: as the frame that its part spells, or it is passed over
+abbrev pub ReadsPart : Plan → Past → List ℕ → List ℕ → Option (List ℕ) → Past → List ℕ → Type 0
+ReadsPart plan past line part named next text =
+    ((f : Frame) × (time : List ℕ) × Spells part f × IsTimeText line time
+    × ReadsFrame plan past (stamp past.number time) named f next text)
+    ⊎ ((e : LineError) × HasLineFault part e × (next ≡ passed_over e past) × (text ≡ []))
+
+abbrev pub ReadsShort : Plan → Past → List ℕ → Past → List ℕ → Type 0
+ReadsShort plan past line next text =
+    (part : List ℕ) × (named : Option (List ℕ)) × IsReadPart line part × NamesInterface part named
+    × ((IsElsewhere past.interface named × (next ≡ record past { elsewhere = past.elsewhere + 1 }) × (text ≡ []))
+    ⊎ ((¬ IsElsewhere past.interface named) × ReadsPart plan past line part named next text))
+
+-- the past, once a line more has begun
+abbrev pub one_line_more : Past → Past
+one_line_more past = record past { number = past.number + 1 }
+
+abbrev pub ReadsLine : Plan → Past → Line → Past → List ℕ → Type 0
+ReadsLine plan past (Short line) next text = ReadsShort plan (one_line_more past) line next text
+ReadsLine plan past Long next text = (next ≡ with_bad (one_line_more past)) × (text ≡ [])
+
+-- so do all lines, one after another
+abbrev pub ReadsLines : Plan → Past → List Line → Past → List ℕ → Type 0
+ReadsLines plan past [] end text = (end ≡ past) × (text ≡ [])
+ReadsLines plan past (line ∷ rest) end text =
+    (next : Past) × (front : List ℕ) × (back : List ℕ) × ReadsLine plan past line next front
+    × ReadsLines plan next rest end back × (text ≡ front ++ back)
+
+-- ---- the end of a log
+
+abbrev pub is_of_flow : ℕ → Sort → Bool
+is_of_flow flow (Grouped g (Some f)) = f == flow
+is_of_flow flow _ = false
+
+abbrev pub is_without_flow : ℕ → Sort → Bool
+is_without_flow group (Grouped g None) = g == group
+is_without_flow group _ = false
+
+abbrev pub is_other : ℕ → Sort → Bool
+is_other pgn (Other n) = n == pgn
+is_other pgn _ = false
+
+unfoldable pub to_text : Plan → To → List ℕ
+to_text plan ToAll = codes "all"
+to_text plan (ToOne u) = unit_label plan u
+
+unfoldable pub ends_text : Plan → FlowPlan → List ℕ
+ends_text plan flow = codes " from " ++ (unit_label plan flow.sender ++ (codes " to " ++ to_text plan flow.to))
+
+-- a flow that was sent so often
+unfoldable pub sent_line : Plan → ℕ → FlowPlan → ℕ → List ℕ
+sent_line plan n flow times =
+    place_field (codes "flow ") n ++ (codes " " ++ (group_label plan flow.group ++ (ends_text plan flow ++ (field (codes " sent ") times ++ 10 ∷ []))))
+
+-- of each flow how often it was sent
+abbrev pub flow_line : Plan → List Sort → ℕ → FlowPlan → List ℕ
+flow_line plan sent n flow = sent_line plan n flow (count_by (is_of_flow n) sent)
+
+unfoldable pub flow_lines : Plan → List Sort → ℕ → List FlowPlan → List ℕ
+flow_lines plan sent n [] = []
+flow_lines plan sent n (flow ∷ flows) = flow_line plan sent n flow ++ flow_lines plan sent (n + 1) flows
+
+-- the group at this place is the first of its number
+abbrev pub is_first_of : Plan → ℕ → GroupPlan → Bool
+is_first_of plan g group = option_eq (λ a b. a == b) (position (λ (h : GroupPlan). h.pgn == group.pgn) plan.groups.items) (Some g)
+
+-- a group that was sent so often without a flow, and what else there was of its number
+unfoldable pub rest_line : GroupPlan → ℕ → ℕ → List ℕ
+rest_line group unplanned others =
+    codes "group " ++ (group.label.bytes ++ (field (codes " no_flow ") unplanned ++ (field (codes " other ") others ++ 10 ∷ [])))
+
+-- what else there was of the number of a group, told at the first group that has it
+abbrev pub others_of : Plan → List Sort → ℕ → GroupPlan → ℕ
+others_of plan sent g group = if is_first_of plan g group then count_by (is_other group.pgn) sent else 0
+
+-- of each group how often it was sent without a flow, and at the first of a number what else there was of that number
+abbrev pub group_end : Plan → List Sort → ℕ → GroupPlan → List ℕ
+group_end plan sent g group = rest_line group (count_by (is_without_flow g) sent) (others_of plan sent g group)
+
+unfoldable pub group_ends : Plan → List Sort → ℕ → List GroupPlan → List ℕ
+group_ends plan sent g [] = []
+group_ends plan sent g (group ∷ groups) = group_end plan sent g group ++ group_ends plan sent (g + 1) groups
+
+unfoldable pub unit_line : UnitPlan → List ℕ → List ℕ
+unit_line unit words = codes "unit " ++ (unit.label.bytes ++ (words ++ 10 ∷ []))
+
+-- where a unit stands: at the address that its NAME holds, at none, or nothing was told of it
+abbrev pub IsUnitLine : List Frame → UnitPlan → List ℕ → Type 0
+IsUnitLine frames unit text =
+    ((address : ℕ) × Holds frames unit.name address × (text ≡ unit_line unit (field (codes " address ") address)))
+    ⊎ (IsTold frames unit.name × ((address : ℕ) → ¬ Holds frames unit.name address) × (text ≡ unit_line unit (codes " none")))
+    ⊎ ((¬ IsTold frames unit.name) × (text ≡ unit_line unit (codes " unheard")))
+
+abbrev pub AreUnitLines : List Frame → List UnitPlan → List ℕ → Type 0
+AreUnitLines frames [] text = text ≡ []
+AreUnitLines frames (unit ∷ units) text =
+    (front : List ℕ) × (back : List ℕ) × IsUnitLine frames unit front × AreUnitLines frames units back × (text ≡ front ++ back)
+
+unfoldable pub counts_line : ℕ → ℕ → ℕ → ℕ → List ℕ
+counts_line frames skipped bad elsewhere =
+    field (codes "frames ") frames ++ (field (codes " skipped ") skipped ++ (field (codes " bad ") bad
+    ++ (field (codes " elsewhere ") elsewhere ++ 10 ∷ [])))
+
+-- what is written of a log: what its lines report, then what was sent of each flow and group, where each unit stands, and the counts
+pub record IsLogText (plan : Plan) (log text : List ℕ) : Type 0 where
+  pub past : Past
+  pub reports : List ℕ
+  pub units : List ℕ
+  pub read : ReadsLines plan nothing_yet (lines log) past reports
+  pub units_are : AreUnitLines (frames_of past.seen) plan.units.items units
+  pub text_is : text ≡ reports ++ (flow_lines plan past.sent 0 plan.flows.items ++ (group_ends plan past.sent 0 plan.groups.items
+      ++ (units ++ counts_line (length past.seen) past.skipped past.bad past.elsewhere)))
+
+-- what is written for a plan and a log, with the verdict; of the log of a refused plan nothing is read
+abbrev pub IsFollowText : Plan → List ℕ → List ℕ → Verdict → Type 0
+IsFollowText plan log text Done = All IsSendable plan.groups.items × IsLogText plan log text
+IsFollowText plan log text Refused = (g : ℕ) × IsFirstRefused plan.groups.items g × (text ≡ refused_plan_line plan g) × (log ≡ [])
+IsFollowText plan log text Findings = ⊥
+IsFollowText plan log text Unreadable = ⊥
+
+-- ---- a law
+
+-- for a plan and a log there is one text, and one verdict
+abbrev pub LogHasOneFollowText : Type 0
+LogHasOneFollowText = (plan : Plan) (log text other : List ℕ) (verdict outcome : Verdict)
+    → IsFollowText plan log text verdict → IsFollowText plan log other outcome → (text ≡ other) × (verdict ≡ outcome)

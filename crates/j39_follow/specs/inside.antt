@@ -1,0 +1,9 @@
+-- What only private contracts and proofs need.
+pub mod FrameWriting
+pub mod Hearing
+pub mod Likeliest
+pub mod Recalling
+pub mod Recounting
+pub mod Reporting
+pub mod Splitting
+pub mod Tallies

@@ -1,0 +1,48 @@
+-- What is written at a frame.
+use Rattle.std.specs.Prelude.{◌≡◌, ℕ, List, [], ◌∷◌, ◌++◌, Option, Some, None}
+use Rattle.std.specs.Option.{option_to_list}
+use Rattle.j39_id.specs.declared.frame.Frame.{Frame}
+use Rattle.j39_id.specs.declared.ident.Ident.{Ident}
+use Rattle.j39_findings.specs.declared.plan.Plan.{Plan}
+use Rattle.j39_log.specs.LogPairs.{Seen}
+use Rattle.j39_log.specs.declared.listeners.Listeners.{Listeners}
+use Rattle.j39_log.specs.inside.Listening.{IsInRange}
+use Rattle.j39_tp.specs.Receiver.{Receiving}
+use Rattle.j39_tp.specs.declared.packet.Packet.{Packet}
+use Rattle.j39_tp.specs.declared.receiving.progress.Progress.TheVariants.{Complete}
+use Rattle.j39_follow.specs.FollowReports.{IsMessageReport, IsNotice}
+use Rattle.j39_follow.specs.FollowText.{IsHeardAs, IsPacketReport, frames_of, in_frame}
+use Rattle.j39_follow.specs.declared.message.Sort.{Sort}
+use Rattle.j39_follow.specs.inside.Hearing.{HaveHeardOneMore}
+
+-- the frame, behind those before it
+abbrev pub with_frame : List Seen → Frame → List Frame
+with_frame seen f = frames_of seen ++ f ∷ []
+
+-- the report of the message that a listener holds, and what it counts as
+pub record IsCompleted (plan : Plan) (frames : List Frame) (front : List ℕ) (listener : Receiving) (i : Ident) (counted : Option Sort)
+    (old new : List ℕ) : Type 0 where
+  pub pgn : ℕ
+  pub bytes : List ℕ
+  pub sort : Sort
+  pub piece : List ℕ
+  pub counted_is : counted ≡ Some sort
+  pub progress_is : listener.progress ≡ Complete pgn
+  pub bytes_are : listener.bytes ≡ bytes
+  pub report : IsMessageReport plan frames front (record { pgn = pgn; bytes = bytes; ident = i; framed = None }) sort piece
+  pub text_is : new ≡ old ++ piece
+
+-- what a frame tells, what it is, and what it ends
+pub record IsFrameWritten (plan : Plan) (listeners : Listeners) (seen : List Seen) (front : List ℕ) (f : Frame)
+    (sort : Sort) (ended : Option Sort) (old new : List ℕ) : Type 0 where
+  pub packet : Option Packet
+  pub notice : List ℕ
+  pub report : List ℕ
+  pub carried : List ℕ
+  pub heard_as : IsHeardAs plan (with_frame seen f) f packet
+  pub range : IsInRange packet
+  pub notice_is : IsNotice plan (with_frame seen f) front f notice
+  pub report_is : IsMessageReport plan (with_frame seen f) front (in_frame f) sort report
+  pub carried_is : IsPacketReport plan seen front f packet (option_to_list ended) carried
+  pub heard : HaveHeardOneMore plan listeners seen (record { frame = f; packet = packet })
+  pub text_is : new ≡ old ++ (notice ++ (report ++ carried))

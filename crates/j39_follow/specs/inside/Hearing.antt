@@ -1,0 +1,45 @@
+-- What each pair of addresses heard since one of the two last changed hands.
+use Rattle.std.specs.Prelude.{◌≡◌, ◌<◌, ◌&&◌, ◌||◌, ◌==◌, ℕ, Bool, not, List}
+use Rattle.std.specs.Prelude.{◌++◌, Option}
+use Rattle.std.specs.Option.{option_eq}
+use Rattle.j39_findings.specs.declared.plan.Plan.{Plan}
+use Rattle.j39_log.specs.LogPairs.{Seen, heard_of}
+use Rattle.j39_log.specs.declared.listeners.Listeners.{Listeners}
+use Rattle.j39_log.specs.inside.Listening.{after_all, listener_of_pair}
+use Rattle.j39_tp.specs.Receiver.{Receiving}
+use Rattle.j39_tp.specs.declared.packet.Packet.{Packet}
+use Rattle.j39_follow.specs.FollowText.{HeardSince}
+use Rattle.j39_follow.specs.Who.{stranger_of, unit_of}
+use Rattle.j39_follow.specs.declared.who.Who.{Who}
+use Rattle.j39_follow.specs.inside.Recounting.{party_at}
+
+abbrev pub listener_at : Listeners → ℕ → ℕ → Receiving
+listener_at listeners source destination = listener_of_pair listeners.rows.items source destination
+
+-- each listener heard what its pair heard since
+abbrev pub HaveHeardSince : Plan → Listeners → List Seen → Type 0
+HaveHeardSince plan listeners seen = (source destination : ℕ) → source < 256 → destination < 256
+    → (h : List Packet) × HeardSince plan seen source destination h × (listener_at listeners source destination ≡ after_all h)
+
+-- each heard one frame more, and what its pair had heard since before that
+abbrev pub HaveHeardOneMore : Plan → Listeners → List Seen → Seen → Type 0
+HaveHeardOneMore plan listeners seen x = (source destination : ℕ) → source < 256 → destination < 256
+    → (h : List Packet) × HeardSince plan seen source destination h
+    × (listener_at listeners source destination ≡ after_all (h ++ heard_of source destination x.frame.ident x.packet))
+
+-- ---- change of hands
+
+abbrev pub is_same_number : Option ℕ → Option ℕ → Bool
+is_same_number a b = option_eq (λ x y. x == y) a b
+
+-- the two are one unit, one NAME, or both nobody
+abbrev pub is_same_party : Who → Who → Bool
+is_same_party a b = is_same_number (unit_of a) (unit_of b) && is_same_number (stranger_of a) (stranger_of b)
+
+-- the address has another party
+abbrev pub differs_at : List Who → List Who → ℕ → Bool
+differs_at old new address = not (is_same_party (party_at old address) (party_at new address))
+
+-- one of the two addresses has
+abbrev pub is_parted : List Who → List Who → ℕ → ℕ → Bool
+is_parted old new source destination = differs_at old new source || differs_at old new destination

@@ -1,0 +1,72 @@
+-- What a table of holders keeps, and what it stands for.
+use Rattle.std.specs.Prelude.{◌≡◌, ◌≢◌, ◌⊎◌, ◌==◌, ◌<◌, ℕ, Bool, true, false, List, Option, Some, None, if◌then◌else◌}
+use Rattle.std.specs.Prelude.{slice_index_or}
+use Rattle.std.specs.List.{slice_get}
+use Rattle.j39_id.specs.declared.frame.Frame.{Frame}
+use Rattle.j39_findings.specs.declared.plan.Plan.{Plan}
+use Rattle.j39_findings.specs.declared.plan.unit_plan.UnitPlan.{UnitPlan}
+use Rattle.j39_follow.specs.Holders.{Claims, Holds, IsTold, TellsOf}
+use Rattle.j39_follow.specs.Who.{IsWho}
+use Rattle.j39_follow.specs.declared.directory.Directory.{Directory}
+use Rattle.j39_follow.specs.declared.holders.Holders.{Holders}
+use Rattle.j39_follow.specs.declared.who.Who.{Who}
+use Rattle.j39_follow.specs.declared.who.Who.TheVariants.{Holder}
+
+-- something was told of the unit at this place
+abbrev pub is_marked : Holders → ℕ → Bool
+is_marked holders u = slice_index_or holders.told u false
+
+-- the table has this NAME at this address
+abbrev pub IsAt : Holders → ℕ → ℕ → Type 0
+IsAt holders address name = slice_get holders.names address ≡ Some (Some name)
+
+-- the holders are those behind these frames
+pub record Recounts (plan : Plan) (holders : Holders) (frames : List Frame) : Type 0 where
+  pub held : (address name : ℕ) → IsAt holders address name → Holds frames name address
+  pub holds : (address name : ℕ) → Holds frames name address → IsAt holders address name
+  pub told : (u : ℕ) (unit : UnitPlan) → slice_get plan.units.items u ≡ Some unit → is_marked holders u ≡ true → IsTold frames unit.name
+  pub untold : (u : ℕ) (unit : UnitPlan) → slice_get plan.units.items u ≡ Some unit → is_marked holders u ≡ false
+      → ¬ IsTold frames unit.name
+
+-- the frame tells that the NAME stands at this address, or that it could not claim one
+abbrev pub TellsPlace : Frame → ℕ → Option ℕ → Type 0
+TellsPlace f name (Some address) = Claims f name address
+TellsPlace f name None = TellsOf f name × ((other address : ℕ) → ¬ Claims f other address)
+
+-- a table from which the NAME was taken
+pub record IsLeft (old new : Holders) (name : ℕ) : Type 0 where
+  pub left : (a n : ℕ) → IsAt new a n → (n ≢ name) × IsAt old a n
+  pub stays : (a n : ℕ) → (n ≢ name) × IsAt old a n → IsAt new a n
+
+-- what of a table stays where this NAME is told to stand elsewhere, and where it stands then
+abbrev pub Stays : Holders → Option ℕ → ℕ → ℕ → ℕ → Type 0
+Stays old place name a n = (n ≢ name) × (place ≢ Some a) × IsAt old a n
+
+abbrev pub IsNew : Option ℕ → ℕ → ℕ → ℕ → Type 0
+IsNew place name a n = (place ≡ Some a) × (n ≡ name)
+
+-- the units of this NAME are marked as told of
+abbrev pub IsMarked : Plan → Holders → Holders → ℕ → Type 0
+IsMarked plan old new name = (u : ℕ) (unit : UnitPlan) → slice_get plan.units.items u ≡ Some unit
+    → is_marked new u ≡ (if unit.name == name then true else is_marked old u)
+
+-- a table in which the NAME was told to stand there
+pub record IsMoved (plan : Plan) (old new : Holders) (name : ℕ) (place : Option ℕ) : Type 0 where
+  pub held : (a n : ℕ) → IsAt new a n → IsNew place name a n ⊎ Stays old place name a n
+  pub holds : (a n : ℕ) → IsNew place name a n ⊎ Stays old place name a n → IsAt new a n
+  pub marked : IsMarked plan old new name
+
+-- ---- who stands behind each address
+
+-- the party at a place of the table; behind its last place anything
+abbrev pub party_at : List Who → ℕ → Who
+party_at parties address = slice_index_or parties address (Holder 0)
+
+-- the parties of all addresses are these
+abbrev pub ArePartiesOf : Plan → List Frame → List Who → Type 0
+ArePartiesOf plan frames parties = (address : ℕ) → address < 256 → IsWho plan frames address (party_at parties address)
+
+-- a directory has what these frames tell
+pub record Knows (plan : Plan) (directory : Directory) (frames : List Frame) : Type 0 where
+  pub recounts : Recounts plan directory.holders frames
+  pub parties : ArePartiesOf plan frames directory.parties

@@ -1,0 +1,19 @@
+-- What a report is written from.
+use Rattle.std.specs.Prelude.{ℕ, Bool, true, false, List}
+use Rattle.j39_follow.specs.FollowReports.{Message, stamp}
+use Rattle.j39_follow.specs.declared.message.Arrival.{Arrival}
+use Rattle.j39_follow.specs.declared.message.Sort.{Sort}
+use Rattle.j39_follow.specs.declared.message.Sort.TheVariants.{Grouped, Other}
+use Rattle.j39_follow.specs.declared.stamp.Stamp.{Stamp}
+
+-- the message that came
+abbrev pub message_of : Arrival → Message
+message_of a = record { pgn = a.pgn; bytes = a.bytes.now; ident = a.ident; framed = a.framed }
+
+-- what stands before a report
+abbrev pub front_of : Stamp → List ℕ
+front_of s = stamp s.number s.time.now
+
+abbrev pub is_grouped : Sort → Bool
+is_grouped (Grouped group flow) = true
+is_grouped (Other pgn) = false

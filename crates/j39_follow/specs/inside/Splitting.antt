@@ -1,0 +1,14 @@
+-- How a line is taken apart.
+use Rattle.std.specs.Prelude.{◌≡◌, ◌-◌, ◌≤◌, ℕ, List, length, slice_index}
+use Rattle.j39_id.specs.FrameLine.{IsLastWord}
+
+-- the last word of a line, and what stands before it
+abbrev pub SplitsLast : List ℕ → List ℕ → List ℕ → Type 0
+SplitsLast line front word = (last : IsLastWord line word) × (last.front ≡ front)
+
+-- 3 to 32 bytes, the first and the last of them parentheses
+pub record IsEnclosed (word : List ℕ) : Type 0 where
+  pub some : 3 ≤ length word
+  pub room : length word ≤ 32
+  pub opens : slice_index word 0 ≡ 40
+  pub closes : slice_index word (length word - 1) ≡ 41

@@ -1,0 +1,136 @@
+//! What is written at a frame: what it tells, what it is, and the message that it ends.
+ghost use Rattle.std.specs.Prelude.{◌≡◌, ◌++◌, ◌∷◌, [], ℕ, List, Some, IfOk, OnOk};
+ghost use Rattle.std.specs.Option.{option_to_list};
+ghost use Rattle.j39_id.specs.declared.frame.Frame.{Frame as AFrame};
+ghost use Rattle.j39_log.specs.LogPairs.{Seen};
+ghost use Rattle.j39_log.specs.inside.Listening.{AreAllInRange, IsCatalogOf};
+ghost use Rattle.j39_tp.specs.Packets.{InRange};
+ghost use Rattle.j39_tp.specs.declared.receiving.progress.Progress.TheVariants.{Complete};
+ghost use Rattle.j39_follow.specs.FollowReports.{IsMessageReport};
+ghost use Rattle.j39_follow.specs.FollowText.{IsPacketReport, in_frame as message_in_frame};
+ghost use Rattle.j39_follow.specs.inside.FrameWriting.{IsCompleted, IsFrameWritten, with_frame};
+ghost use Rattle.j39_follow.specs.inside.Hearing.{HaveHeardOneMore, HaveHeardSince, listener_at};
+ghost use Rattle.j39_follow.specs.inside.Recounting.{Knows};
+ghost use Rattle.j39_follow.specs.inside.Reporting.{front_of, message_of};
+
+use crate::directory::Directory;
+use crate::group_line::write_message;
+use crate::message::{Arrival, Sort};
+use crate::notice::write_notice;
+use crate::stamp::Stamp;
+use j39_findings::Plan;
+use j39_id::{Frame, Ident};
+use j39_log::{Catalog, Listeners, listen, transport_packet};
+use j39_text::TextBuffer;
+use j39_tp::{Packet, listener_completes_what_is_carried};
+use std::alloc::AllocError;
+
+// The message that came in a frame.
+fn in_frame(frame: &Frame) -> Arrival<'_>
+    ensures { message_of result ≡ message_in_frame frame.now }
+{
+    Arrival {
+        pgn: frame.ident.pgn().number(),
+        bytes: frame.payload.as_slice(),
+        ident: frame.ident,
+        framed: Some(frame.ident.priority),
+    }
+}
+
+// The report of the message that a pair just completed, and what it counts as.
+fn write_completed(
+    text: &mut TextBuffer,
+    plan: &Plan,
+    catalog: &Catalog,
+    directory: &Directory,
+    listeners: &Listeners,
+    stamp: Stamp<'_>,
+    ident: Ident,
+) -> Result<Option<Sort>, AllocError>
+    requires catalog { IsCatalogOf plan.now catalog.now }
+    requires complete { (pgn : ℕ) × ((listener_at listeners.now ident.sa ident.ps).progress ≡ Complete pgn) }
+    ensures { IfOk result (λ counted. (frames : List AFrame) → Knows plan.now directory.now frames
+        → IsCompleted plan.now frames (front_of stamp.entry) (listener_at listeners.now ident.sa ident.ps) ident counted text.old text.new) }
+{
+    let Some(listener) = listeners.listener(ident.sa, ident.ps) else {
+        return Ok(None);
+    };
+    match listener.group() {
+        Some(pgn) => {
+            let message = Arrival {
+                pgn: pgn.number(),
+                bytes: listener.bytes(),
+                ident,
+                framed: None,
+            };
+            let sort = write_message(text, plan, catalog, directory, stamp, message)?;
+            Ok(Some(sort))
+        }
+        None => Ok(None),
+    }
+}
+
+// What is written at a transport packet, and what the message counts as that it ends.
+fn write_packet(
+    text: &mut TextBuffer,
+    listeners: &mut Listeners,
+    plan: &Plan,
+    catalog: &Catalog,
+    directory: &Directory,
+    stamp: Stamp<'_>,
+    frame: &Frame,
+    packet: &Packet,
+) -> Result<Option<Sort>, AllocError>
+    requires catalog { IsCatalogOf plan.now catalog.now }
+    requires range { InRange packet.now }
+    ensures heard { OnOk result ((seen : List Seen) → HaveHeardSince plan.now listeners.old seen
+        → HaveHeardOneMore plan.now listeners.new seen (record { frame = frame.now; packet = Some packet.now })) }
+    ensures carried { IfOk result (λ ended. (seen : List Seen) → Knows plan.now directory.now (with_frame seen frame.now)
+        → HaveHeardSince plan.now listeners.old seen → AreAllInRange seen
+        → (piece : List ℕ) × IsPacketReport plan.now seen (front_of stamp.entry) frame.now (Some packet.now) (option_to_list ended) piece
+        × (text.new ≡ text.old ++ piece)) }
+{
+    listener_completes_what_is_carried();
+    if listen(listeners, frame.ident, packet)? {
+        write_completed(
+            text,
+            plan,
+            catalog,
+            directory,
+            listeners,
+            stamp,
+            frame.ident,
+        )
+    } else {
+        Ok(None)
+    }
+}
+
+/// What is written at a frame whose claim was noted, what it counts as, and what the message counts as that it ends.
+pub(crate) fn write_frame(
+    text: &mut TextBuffer,
+    listeners: &mut Listeners,
+    plan: &Plan,
+    catalog: &Catalog,
+    directory: &Directory,
+    stamp: Stamp<'_>,
+    frame: &Frame,
+) -> Result<(Sort, Option<Sort>), AllocError>
+    requires { IsCatalogOf plan.now catalog.now }
+    ensures { IfOk result (λ sorts. (seen : List Seen) → Knows plan.now directory.now (with_frame seen frame.now)
+        → HaveHeardSince plan.now listeners.old seen → AreAllInRange seen
+        → IsFrameWritten plan.now listeners.new seen (front_of stamp.entry) frame.now sorts.0 sorts.1 text.old text.new) }
+{
+    write_notice(text, plan, directory, stamp, frame)?;
+    let sort = write_message(text, plan, catalog, directory, stamp, in_frame(frame))?;
+    if sort.is_grouped() {
+        return Ok((sort, None));
+    }
+    let Some(packet) = transport_packet(frame) else {
+        return Ok((sort, None));
+    };
+    let ended = write_packet(
+        text, listeners, plan, catalog, directory, stamp, frame, &packet,
+    )?;
+    Ok((sort, ended))
+}

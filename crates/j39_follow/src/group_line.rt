@@ -1,0 +1,144 @@
+//! The report of a message: who sent which group to whom, and what it reads.
+ghost use Rattle.std.specs.Prelude.{◌≡◌, ◌++◌, ℕ, List, if◌then◌else◌, IfOk, OnOk};
+ghost use Rattle.j39_id.specs.declared.frame.Frame.{Frame as AFrame};
+ghost use Rattle.j39_findings.specs.declared.plan.Plan.{Plan as APlan};
+ghost use Rattle.j39_log.specs.inside.Listening.{IsCatalogOf};
+ghost use Rattle.j39_follow.specs.FollowReports.{IsMessageReport, IsSending, IsWay, aim_at, flow_word, group_line, is_to_all as goes_to_all, priority_text, sent_text};
+ghost use Rattle.j39_follow.specs.Who.{IsWho, unit_of};
+ghost use Rattle.j39_follow.specs.declared.sending.Aim.TheVariants as aims;
+ghost use Rattle.j39_follow.specs.declared.who.Who.{Who as AWho};
+ghost use Rattle.j39_follow.specs.inside.Recounting.{Knows};
+ghost use Rattle.j39_follow.specs.inside.Reporting.{front_of, message_of};
+
+use crate::directory::Directory;
+use crate::message::{Arrival, Sort};
+use crate::party_text::{is_to_all, write_way};
+use crate::sending::{Aim, Sending, flow_of, group_of};
+use crate::stamp::{Stamp, write_stamp};
+use j39_findings::{GroupPlan, Plan};
+use j39_id::{PDU2_FIRST, pf_of};
+use j39_log::{Catalog, write_group_readings};
+use j39_text::TextBuffer;
+use std::alloc::AllocError;
+
+// Whom a message went to.
+fn aim_of(directory: &Directory, message: Arrival<'_>) -> Aim
+    ensures { (plan : APlan) (frames : List AFrame) → Knows plan directory.now frames
+        → (receiver : AWho) × IsWho plan frames message.entry.ident.ps receiver
+        × (result ≡ (if goes_to_all message.entry.ident then aims.All else aim_at (unit_of receiver))) }
+{
+    if is_to_all(message.ident) {
+        return Aim::All;
+    }
+    match directory.party(message.ident.ps).unit() {
+        Some(unit) => Aim::One(unit),
+        None => Aim::Neither,
+    }
+}
+
+// Who sent a message, to whom.
+fn sending_of(directory: &Directory, message: Arrival<'_>) -> Sending
+    ensures { (plan : APlan) (frames : List AFrame) → Knows plan directory.now frames → IsSending plan frames (message_of message.entry) result }
+{
+    Sending {
+        sender: directory.party(message.ident.sa).unit(),
+        aim: aim_of(directory, message),
+        unaddressed: message.framed.is_some() && pf_of(message.pgn) >= PDU2_FIRST,
+    }
+}
+
+#[tactic(auto, unfolding(crate::specs::FollowReports::flow_word))]
+fn write_flow(text: &mut TextBuffer, flow: Option<usize>) -> Result<(), AllocError>
+    ensures { OnOk result (text.new ≡ text.old ++ flow_word flow) }
+{
+    match flow {
+        Some(flow) => text.place(" flow ", flow),
+        None => text.word(" no flow"),
+    }
+}
+
+// Writes the priority of a frame that isn't its group's.
+#[tactic(auto, unfolding(crate::specs::FollowReports::priority_text))]
+fn write_priority(text: &mut TextBuffer, planned: u8, framed: Option<u8>) -> Result<(), AllocError>
+    ensures { OnOk result (text.new ≡ text.old ++ priority_text planned framed) }
+{
+    match framed {
+        Some(priority) => {
+            if priority == planned {
+                Ok(())
+            } else {
+                text.field(" priority ", priority)
+            }
+        }
+        None => Ok(()),
+    }
+}
+
+#[tactic(auto, unfolding(crate::specs::FollowReports::sent_text))]
+fn write_sent(
+    text: &mut TextBuffer,
+    group: &GroupPlan,
+    flow: Option<usize>,
+    message: Arrival<'_>,
+) -> Result<(), AllocError>
+    ensures { OnOk result (text.new ≡ text.old ++ sent_text group.now flow (message_of message.entry)) }
+{
+    write_flow(text, flow)?;
+    write_priority(text, group.priority, message.framed)?;
+    text.word(" bytes ")?;
+    text.hex(message.bytes)?;
+    text.end_line()
+}
+
+#[tactic(auto, unfolding(crate::specs::FollowReports::group_line))]
+fn write_group_line(
+    text: &mut TextBuffer,
+    plan: &Plan,
+    directory: &Directory,
+    stamp: Stamp<'_>,
+    group: &GroupPlan,
+    flow: Option<usize>,
+    message: Arrival<'_>,
+) -> Result<(), AllocError>
+    ensures { OnOk result ((frames : List AFrame) → Knows plan.now directory.now frames
+        → (way : List ℕ) × IsWay plan.now frames message.entry.ident way
+        × (text.new ≡ text.old ++ group_line group.now (front_of stamp.entry) way flow (message_of message.entry))) }
+{
+    write_stamp(text, stamp)?;
+    text.word("group ")?;
+    text.word(group.label.as_str())?;
+    write_way(text, plan, directory, message.ident)?;
+    write_sent(text, group, flow, message)
+}
+
+/// Writes the report of a message, if it is a group, and tells what it counts as.
+pub(crate) fn write_message(
+    text: &mut TextBuffer,
+    plan: &Plan,
+    catalog: &Catalog,
+    directory: &Directory,
+    stamp: Stamp<'_>,
+    message: Arrival<'_>,
+) -> Result<Sort, AllocError>
+    requires { IsCatalogOf plan.now catalog.now }
+    ensures { IfOk result (λ sort. (frames : List AFrame) → Knows plan.now directory.now frames
+        → (piece : List ℕ) × IsMessageReport plan.now frames (front_of stamp.entry) (message_of message.entry) sort piece
+        × (text.new ≡ text.old ++ piece)) }
+{
+    let sent = sending_of(directory, message);
+    let Some(group) = group_of(plan, message.pgn, message.bytes.len(), sent) else {
+        return Ok(Sort::Other(message.pgn));
+    };
+    let flow = flow_of(plan, group, sent);
+    write_group_line(
+        text,
+        plan,
+        directory,
+        stamp,
+        &plan.groups[group],
+        flow,
+        message,
+    )?;
+    write_group_readings(text, plan, catalog, group, message.bytes)?;
+    Ok(Sort::Grouped(group, flow))
+}

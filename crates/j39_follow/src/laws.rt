@@ -1,0 +1,14 @@
+//! Laws of what frames tell of addresses, and of the text of a log.
+ghost use Rattle.j39_follow.specs.FollowText.{LogHasOneFollowText};
+ghost use Rattle.j39_follow.specs.Holders.{HasOneHolder, HoldsOneAddress};
+
+/// After any frames an address has one holder or none, and a NAME holds one address at most.
+pub fn holders_are_one_to_one()
+    ensures holder { HasOneHolder }
+    ensures address { HoldsOneAddress }
+{}
+
+/// For a plan and a log the definition allows one text of `follow`, with one verdict.
+pub fn a_followed_log_has_one_text()
+    ensures { LogHasOneFollowText }
+{}

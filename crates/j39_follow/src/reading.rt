@@ -1,0 +1,288 @@
+//! Following a log line after line.
+ghost use Rattle.std.specs.Prelude.{◌≡◌, ◌+◌, ◌-◌, ◌^◌, ◌<◌, ◌≤◌, ◌↔◌, ◌++◌, [], ℕ, List, length, IfOk, OnOk, IsTrue};
+ghost use Rattle.std.specs.Option.{option_copied};
+ghost use Rattle.j39_id.specs.Lines.{tells};
+ghost use Rattle.j39_findings.specs.declared.plan.Plan.{Plan as APlan};
+ghost use Rattle.j39_log.specs.inside.Listening.{AreAllInRange, IsCatalogOf};
+ghost use Rattle.j39_follow.specs.FollowReports.{stamp};
+ghost use Rattle.j39_follow.specs.FollowText.{AreUnitLines, Past, ReadsFrame, ReadsLines, ReadsShort, counts_line, frames_of, nothing_yet, passed_over};
+ghost use Rattle.j39_follow.specs.LogLines.{IsElsewhere, interface_behind};
+ghost use Rattle.j39_follow.specs.inside.FrameWriting.{with_frame};
+ghost use Rattle.j39_follow.specs.inside.Hearing.{HaveHeardSince};
+ghost use Rattle.j39_follow.specs.inside.Recalling.{CountsWithin, IsFollowed, IsOneMore, IsReported, IsSameCounts, Recalls, Remembers, end_text, interface_of};
+ghost use Rattle.j39_follow.specs.inside.Recounting.{Knows};
+ghost use Rattle.j39_follow.specs.inside.Tallies.{IsTally};
+
+use crate::directory::Directory;
+use crate::endings::write_endings;
+use crate::frame_report::write_frame;
+use crate::holders::{cannot_claim, claims_address};
+use crate::log_line::{interface, read_part, time_text};
+use crate::parting::part;
+use crate::stamp::Stamp;
+use crate::tally::Tally;
+use j39_findings::Plan;
+use j39_id::{Cut, Frame, LineError, read_frame};
+use j39_log::{Catalog, Listeners};
+use j39_text::TextBuffer;
+use std::alloc::{AllocError, Global};
+
+/// What was read of a log so far, and what is to be written of it.
+#[derive(Drop)]
+pub(crate) struct Reading {
+    alloc: Global,
+    pub text: TextBuffer,
+    directory: Directory,
+    listeners: Listeners,
+    tally: Tally,
+    interface: Option<Vec<u8>>,
+    number: u64,
+    frames: u64,
+    skipped: u64,
+    bad: u64,
+    elsewhere: u64,
+}
+
+fn copied(alloc: Global, name: &[u8]) -> Result<Vec<u8>, AllocError>
+    ensures { IfOk result (λ copy. copy.items ≡ name.now) }
+{
+    let mut copy = Vec::new(alloc);
+    copy.extend_from_slice(name)?;
+    Ok(copy)
+}
+
+// Keeps the interface that a line names, if none was named before.
+fn keep_interface(
+    alloc: Global,
+    kept: &mut Option<Vec<u8>>,
+    named: Option<&[u8]>,
+) -> Result<(), AllocError>
+    ensures { OnOk result (interface_of kept.new ≡ interface_behind (interface_of kept.old) (option_copied named.entry)) }
+{
+    if kept.is_some() {
+        return Ok(());
+    }
+    let Some(name) = named else {
+        return Ok(());
+    };
+    *kept = Some(copied(alloc, name)?);
+    Ok(())
+}
+
+// Whether a line names another interface than the log's.
+fn is_elsewhere(log: &Option<Vec<u8>>, named: Option<&[u8]>) -> bool
+    ensures { IsTrue result ↔ IsElsewhere (interface_of log.now) (option_copied named.entry) }
+{
+    let Some(log) = log else {
+        return false;
+    };
+    let Some(name) = named else {
+        return false;
+    };
+    log.as_slice() != name
+}
+
+impl Reading {
+    pub fn new(alloc: Global, plan: &Plan) -> Self
+        ensures text { result.text ≡ [] }
+        ensures past { Recalls plan.now result nothing_yet }
+        ensures count { CountsWithin result 0 }
+    {
+        Reading {
+            alloc,
+            text: TextBuffer::new(alloc),
+            directory: Directory::new(plan),
+            listeners: Listeners::new(alloc),
+            tally: Tally::new(),
+            interface: None,
+            number: 0,
+            frames: 0,
+            skipped: 0,
+            bad: 0,
+            elsewhere: 0,
+        }
+    }
+
+    // Writes and counts a frame whose claim was noted.
+    fn report(
+        &mut self,
+        plan: &Plan,
+        catalog: &Catalog,
+        time: &[u8],
+        frame: &Frame,
+    ) -> Result<(), AllocError>
+        requires { IsCatalogOf plan.now catalog.now }
+        ensures directory { self.new.directory ≡ self.old.directory }
+        ensures counts { IsSameCounts self.old self.new }
+        ensures reported { OnOk result ((past : Past) → Knows plan.now self.old.directory (with_frame past.seen frame.now)
+            → HaveHeardSince plan.now self.old.listeners past.seen → AreAllInRange past.seen → IsTally plan.now self.old.tally past.sent
+            → length past.sent + 2 < 2 ^ 64 → IsReported plan.now self.old self.new past (stamp self.old.number time.now) frame.now) }
+    {
+        let stamp = Stamp {
+            number: self.number,
+            time,
+        };
+        let (sort, ended) = write_frame(
+            &mut self.text,
+            &mut self.listeners,
+            plan,
+            catalog,
+            &self.directory,
+            stamp,
+            frame,
+        )?;
+        self.tally.count_frame(plan, sort, ended);
+        Ok(())
+    }
+
+    // Follows a frame that tells of an address: the pairs of which one changes hands begin anew.
+    fn follow_claim(
+        &mut self,
+        plan: &Plan,
+        catalog: &Catalog,
+        time: &[u8],
+        frame: &Frame,
+    ) -> Result<(), AllocError>
+        requires { IsCatalogOf plan.now catalog.now }
+        ensures counts { IsSameCounts self.old self.new }
+        ensures followed { OnOk result ((past : Past) → Remembers plan.now self.old past → length past.seen ≤ 2 ^ 62 + 1
+            → IsFollowed plan.now self.old self.new past (stamp self.old.number time.now) frame.now) }
+    {
+        let before = self.directory.parties();
+        self.directory.hear(plan, frame);
+        self.report(plan, catalog, time, frame)?;
+        let after = self.directory.parties();
+        part(&mut self.listeners, &before, &after);
+        Ok(())
+    }
+
+    // Follows a frame.
+    fn follow(
+        &mut self,
+        plan: &Plan,
+        catalog: &Catalog,
+        time: &[u8],
+        frame: &Frame,
+    ) -> Result<(), AllocError>
+        requires { IsCatalogOf plan.now catalog.now }
+        ensures counts { IsSameCounts self.old self.new }
+        ensures followed { OnOk result ((past : Past) → Remembers plan.now self.old past → length past.seen ≤ 2 ^ 62 + 1
+            → IsFollowed plan.now self.old self.new past (stamp self.old.number time.now) frame.now) }
+    {
+        if claims_address(frame) {
+            return self.follow_claim(plan, catalog, time, frame);
+        }
+        if cannot_claim(frame) {
+            return self.follow_claim(plan, catalog, time, frame);
+        }
+        self.report(plan, catalog, time, frame)
+    }
+
+    fn read_frame(
+        &mut self,
+        plan: &Plan,
+        catalog: &Catalog,
+        time: &[u8],
+        named: Option<&[u8]>,
+        frame: &Frame,
+    ) -> Result<(), AllocError>
+        requires catalog { IsCatalogOf plan.now catalog.now }
+        requires room { CountsWithin self.old (2 ^ 62 + 1) }
+        ensures frame { OnOk result ((past : Past) → Recalls plan.now self.old past → (next : Past) × (piece : List ℕ)
+            × ReadsFrame plan.now past (stamp past.number time.now) (option_copied named.entry) frame.now next piece
+            × Recalls plan.now self.new next × (self.new.text ≡ self.old.text ++ piece)) }
+        ensures count { OnOk result (IsOneMore self.old self.new) }
+    {
+        self.follow(plan, catalog, time, frame)?;
+        keep_interface(self.alloc, &mut self.interface, named)?;
+        self.frames += 1;
+        Ok(())
+    }
+
+    // Counts a line that spells no frame: one of an 11-bit identifier as skipped, and one without a word not at all.
+    fn pass_over(&mut self, error: LineError)
+        requires { CountsWithin self.old (2 ^ 62 + 1) }
+        ensures past { (plan : APlan) (past : Past) → Recalls plan self.old past → Recalls plan self.new (passed_over error past) }
+        ensures text { self.new.text ≡ self.old.text }
+        ensures count { IsOneMore self.old self.new }
+    {
+        match error {
+            LineError::Empty => {}
+            LineError::ShortIdent => self.skipped += 1,
+            _other => self.bad += 1,
+        }
+    }
+
+    /// Reads a line, whose number is noted.
+    fn read_line(&mut self, plan: &Plan, catalog: &Catalog, line: &[u8]) -> Result<(), AllocError>
+        requires catalog { IsCatalogOf plan.now catalog.now }
+        requires room { CountsWithin self.old (2 ^ 62 + 1) }
+        ensures line { OnOk result ((past : Past) → Recalls plan.now self.old past → (next : Past) × (piece : List ℕ)
+            × ReadsShort plan.now past line.now next piece × Recalls plan.now self.new next × (self.new.text ≡ self.old.text ++ piece)) }
+        ensures count { OnOk result (IsOneMore self.old self.new) }
+    {
+        let read = read_part(line);
+        let named = interface(read);
+        if is_elsewhere(&self.interface, named) {
+            self.elsewhere += 1;
+            return Ok(());
+        }
+        match read_frame(read) {
+            Ok(frame) => self.read_frame(plan, catalog, time_text(line), named, &frame),
+            Err(error) => {
+                self.pass_over(error);
+                Ok(())
+            }
+        }
+    }
+
+    /// Reads what a cutter tells: a line, a line that is too long, or nothing yet.
+    pub fn read_cut(
+        &mut self,
+        plan: &Plan,
+        catalog: &Catalog,
+        cut: Cut,
+        line: &[u8],
+    ) -> Result<(), AllocError>
+        requires catalog { IsCatalogOf plan.now catalog.now }
+        requires room { CountsWithin self.old (2 ^ 62) }
+        ensures lines { OnOk result ((past : Past) → Recalls plan.now self.old past → (next : Past) × (piece : List ℕ)
+            × ReadsLines plan.now past (tells cut line.now) next piece × Recalls plan.now self.new next
+            × (self.new.text ≡ self.old.text ++ piece)) }
+        ensures count { OnOk result ((most : ℕ) → CountsWithin self.old most → CountsWithin self.new (most + 1)) }
+    {
+        match cut {
+            Cut::More => Ok(()),
+            Cut::Line => {
+                self.number += 1;
+                self.read_line(plan, catalog, line)
+            }
+            Cut::Long => {
+                self.number += 1;
+                self.bad += 1;
+                Ok(())
+            }
+        }
+    }
+
+    #[tactic(auto, unfolding(crate::specs::FollowText::counts_line))]
+    fn write_counts(&mut self) -> Result<(), AllocError>
+        ensures { OnOk result (self.new.text ≡ self.old.text
+            ++ counts_line self.old.frames self.old.skipped self.old.bad self.old.elsewhere) }
+    {
+        self.text.field("frames ", self.frames)?;
+        self.text.field(" skipped ", self.skipped)?;
+        self.text.field(" bad ", self.bad)?;
+        self.text.field(" elsewhere ", self.elsewhere)?;
+        self.text.end_line()
+    }
+
+    /// Writes what was sent, where each unit stands, and how many lines there were of each sort.
+    pub fn finish(&mut self, plan: &Plan) -> Result<(), AllocError>
+        ensures { OnOk result ((past : Past) → Recalls plan.now self.old past → (units : List ℕ)
+            × AreUnitLines (frames_of past.seen) plan.now.units.items units × (self.new.text ≡ self.old.text ++ end_text plan.now past units)) }
+    {
+        write_endings(&mut self.text, plan, &self.tally, self.directory.holders())?;
+        self.write_counts()
+    }
+}

@@ -1,0 +1,100 @@
+//! A message as it was sent, and the flow that it fits.
+ghost use Rattle.std.specs.Prelude.{◌≡◌, ◌<◌, ◌↔◌, IsTrue, length};
+ghost use Rattle.j39_follow.specs.Fits.{IsGroupOf, MayBeGroup, fits, flow_of as first_flow, has_length, is_unit, reaches as is_reached};
+
+use j39_findings::{FlowPlan, GroupPlan, Plan, To};
+
+/// Whom a message went to. Units are given by their places, from 0.
+#[derive(Clone, Copy, Debug, PartialEq, Eq)]
+pub enum Aim {
+    /// All other units.
+    All,
+    /// The unit behind the destination's address.
+    One(usize),
+    /// An address behind which no unit stands.
+    Neither,
+}
+
+/// Who sent a message, to whom.
+#[derive(Clone, Copy, Debug, PartialEq, Eq)]
+pub struct Sending {
+    /// The unit behind the source, if it is one of the plan.
+    pub sender: Option<usize>,
+    pub aim: Aim,
+    /// Whether it came in one frame that names no destination.
+    pub unaddressed: bool,
+}
+
+// Whether a message to these goes to whom a flow is meant for.
+fn reaches(to: To, aim: Aim, unaddressed: bool) -> bool
+    ensures { result ≡ is_reached to aim unaddressed }
+{
+    match (to, aim) {
+        (To::All, Aim::All) => true,
+        (To::One(unit), Aim::One(receiver)) => unit == receiver,
+        (To::One(_), Aim::All) => unaddressed,
+        _ => false,
+    }
+}
+
+// Whether this unit is the sender.
+fn is_sender(sender: Option<usize>, unit: usize) -> bool
+    ensures { result ≡ is_unit sender unit }
+{
+    sender == Some(unit)
+}
+
+fn is_fit(group: usize, sent: Sending, flow: &FlowPlan) -> bool
+    ensures { result ≡ fits group sent flow.now }
+{
+    flow.group == group
+        && is_sender(sent.sender, flow.sender)
+        && reaches(flow.to, sent.aim, sent.unaddressed)
+}
+
+/// The first flow of a group that fits what was sent, by its place.
+pub fn flow_of(plan: &Plan, group: usize, sent: Sending) -> Option<usize>
+    ensures { result ≡ first_flow plan.now group sent }
+{
+    plan.flows
+        .as_slice()
+        .iter()
+        .position(|flow| is_fit(group, sent, flow))
+}
+
+// Whether messages of a group may have so many bytes.
+fn has_length(group: &GroupPlan, bytes: usize) -> bool
+    ensures { result ≡ has_length group.now bytes }
+{
+    usize::from(group.length) <= bytes && bytes <= usize::from(group.most)
+}
+
+// Whether a group may be that of so many bytes of this number, as they were sent.
+fn may_be_group(plan: &Plan, place: usize, pgn: u32, bytes: usize, sent: Sending) -> bool
+    requires { place < length plan.now.groups.items }
+    ensures { IsTrue result ↔ MayBeGroup plan.now pgn bytes sent place }
+{
+    let group = &plan.groups[place];
+    if group.pgn != pgn {
+        return false;
+    }
+    if !has_length(group, bytes) {
+        return false;
+    }
+    if !group.private {
+        return true;
+    }
+    flow_of(plan, place, sent).is_some()
+}
+
+/// The group of so many bytes of a number, by its place: the first that isn't private, or that a flow of it fits.
+pub fn group_of(plan: &Plan, pgn: u32, bytes: usize, sent: Sending) -> Option<usize>
+    ensures { IsGroupOf plan.now pgn bytes sent result }
+{
+    for place in 0..plan.groups.len() {
+        if may_be_group(plan, place, pgn, bytes, sent) {
+            return Some(place);
+        }
+    }
+    None
+}

@@ -1,0 +1,108 @@
+//! How often what was sent.
+ghost use Rattle.std.specs.Prelude.{◌≡◌, ◌==◌, ◌+◌, ◌-◌, ◌^◌, ◌<◌, ◌∷◌, ◌++◌, [], ℕ, List, if◌then◌else◌, length, min};
+ghost use Rattle.std.specs.List.{position};
+ghost use Rattle.std.specs.Option.{option_to_list};
+ghost use Rattle.j39_findings.specs.declared.plan.Plan.{Plan as APlan};
+ghost use Rattle.j39_findings.specs.declared.plan.group_plan.GroupPlan.{GroupPlan as APlannedGroup};
+ghost use Rattle.j39_follow.specs.inside.Tallies.{IsTally, count_at};
+ghost use Rattle.j39_follow.specs.declared.message.Sort.{Sort as ASort};
+
+use crate::message::Sort;
+use j39_findings::Plan;
+
+// The most flows and groups of a plan.
+const FLOWS: usize = 512;
+
+const GROUPS: usize = 256;
+
+/// How often each flow was sent, each group without a flow, and at the first group of a number what else there was of the number.
+#[derive(Drop)]
+pub(crate) struct Tally {
+    flows: [u64; FLOWS],
+    groups: [u64; GROUPS],
+    others: [u64; GROUPS],
+}
+
+// One more at a place.
+fn add_one(counts: &mut [u64], place: usize)
+    ensures { (k : ℕ) → k < length counts.old → count_at counts.new k
+        ≡ (if place == k then min (count_at counts.old k + 1) (2 ^ 64 - 1) else count_at counts.old k) }
+{
+    if place < counts.len() {
+        counts[place] = counts[place].saturating_add(1);
+    }
+}
+
+/// The first group of a number, by its place.
+pub(crate) fn first_of(plan: &Plan, pgn: u32) -> Option<usize>
+    ensures { result ≡ position (λ (group : APlannedGroup). group.pgn == pgn) plan.now.groups.items }
+{
+    plan.groups
+        .as_slice()
+        .iter()
+        .position(|group| group.pgn == pgn)
+}
+
+impl Tally {
+    pub fn new() -> Self
+        ensures { (plan : APlan) → IsTally plan result [] }
+    {
+        Tally {
+            flows: [0; FLOWS],
+            groups: [0; GROUPS],
+            others: [0; GROUPS],
+        }
+    }
+
+    /// Counts a frame, and the message that it ends.
+    pub fn count_frame(&mut self, plan: &Plan, sort: Sort, ended: Option<Sort>)
+        ensures { (sent : List ASort) → length sent + 2 < 2 ^ 64 → IsTally plan.now self.old sent
+            → IsTally plan.now self.new (sent ++ sort ∷ option_to_list ended) }
+    {
+        self.count(plan, sort);
+        match ended {
+            Some(ended) => self.count(plan, ended),
+            None => {}
+        }
+    }
+
+    // Counts a message.
+    fn count(&mut self, plan: &Plan, sort: Sort)
+        ensures { (sent : List ASort) → length sent < 2 ^ 64 - 1 → IsTally plan.now self.old sent
+            → IsTally plan.now self.new (sent ++ sort ∷ []) }
+    {
+        match sort {
+            Sort::Grouped(_, Some(flow)) => add_one(&mut self.flows, flow),
+            Sort::Grouped(group, None) => add_one(&mut self.groups, group),
+            Sort::Other(pgn) => {
+                if let Some(first) = first_of(plan, pgn) {
+                    add_one(&mut self.others, first);
+                }
+            }
+        }
+    }
+
+    /// How often a flow was sent.
+    pub fn of_flow(&self, flow: usize) -> u64
+        requires { flow < 512 }
+        ensures { result ≡ count_at self.now.flows flow }
+    {
+        self.flows[flow]
+    }
+
+    /// How often a group was sent without a flow.
+    pub fn of_group(&self, group: usize) -> u64
+        requires { group < 256 }
+        ensures { result ≡ count_at self.now.groups group }
+    {
+        self.groups[group]
+    }
+
+    /// How much else there was of the number of a group, at the first group that has it.
+    pub fn of_others(&self, group: usize) -> u64
+        requires { group < 256 }
+        ensures { result ≡ count_at self.now.others group }
+    {
+        self.others[group]
+    }
+}

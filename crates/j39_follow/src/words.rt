@@ -1,0 +1,128 @@
+//! The words of a line.
+ghost use Rattle.std.specs.Prelude.{◌≡◌, ◌≢◌, ◌-◌, ◌<◌, ◌≤◌, ◌↔◌, ℕ, List, length, slice_index, true, false, IfNone, IfSome, IsTrue};
+ghost use Rattle.std.specs.List.{All, AllPass, AllWithin};
+ghost use Rattle.j39_id.specs.FrameLine.{is_separator as separates};
+ghost use Rattle.j39_follow.specs.LogLines.{IsDirection, IsFirstWord, IsOfTime, IsTime};
+ghost use Rattle.j39_follow.specs.inside.Splitting.{IsEnclosed, SplitsLast};
+
+use j39_id::is_separator;
+
+// Where the words of a line end.
+fn words_end(line: &[u8]) -> usize
+    ensures within { result ≤ length line.now }
+    ensures blank { AllWithin (λ c. separates c ≡ true) line.now result (length line.now) }
+    ensures ends { 0 < result → separates (slice_index line.now (result - 1)) ≡ false }
+{
+    let mut stop = line.len();
+    while stop > 0 && is_separator(line[stop - 1]) {
+        stop -= 1;
+    }
+    stop
+}
+
+// Where the last word begins of a line that ends in one.
+#[inline(never)]
+fn word_start(line: &[u8]) -> usize
+    requires some { 0 < length line.now }
+    requires ends { separates (slice_index line.now (length line.now - 1)) ≡ false }
+    ensures start { result < length line.now }
+    ensures word { AllWithin (λ c. separates c ≡ false) line.now result (length line.now) }
+    ensures parted { 0 < result → separates (slice_index line.now (result - 1)) ≡ true }
+{
+    let mut start = line.len() - 1;
+    while start > 0 && !is_separator(line[start - 1]) {
+        start -= 1;
+    }
+    start
+}
+
+/// What stands before the last word of a line, and the word.
+pub(crate) fn split_last(line: &[u8]) -> Option<(&[u8], &[u8])>
+    ensures found { IfSome result (λ parts. SplitsLast line.now parts.0.now parts.1.now) }
+    ensures none { IfNone result (AllPass separates line.now) }
+{
+    let stop = words_end(line);
+    if stop == 0 {
+        return None;
+    }
+    let start = word_start(&line[..stop]);
+    Some((&line[..start], &line[start..stop]))
+}
+
+// How many separators stand before the first word of a line.
+fn blank_start(line: &[u8]) -> usize
+    ensures within { result ≤ length line.now }
+    ensures blank { AllWithin (λ c. separates c ≡ true) line.now 0 result }
+    ensures ends { result < length line.now → separates (slice_index line.now result) ≡ false }
+{
+    let mut start = 0;
+    while start < line.len() && is_separator(line[start]) {
+        start += 1;
+    }
+    start
+}
+
+// How long the word is that a line begins with.
+fn word_length(line: &[u8]) -> usize
+    ensures within { result ≤ length line.now }
+    ensures word { AllWithin (λ c. separates c ≡ false) line.now 0 result }
+    ensures parted { result < length line.now → separates (slice_index line.now result) ≡ true }
+{
+    let mut stop = 0;
+    while stop < line.len() && !is_separator(line[stop]) {
+        stop += 1;
+    }
+    stop
+}
+
+/// The first word of a line.
+pub(crate) fn first_word(line: &[u8]) -> Option<&[u8]>
+    ensures found { IfSome result (λ word. IsFirstWord line.now word.now) }
+    ensures none { IfNone result (AllPass separates line.now) }
+{
+    let start = blank_start(line);
+    if start == line.len() {
+        return None;
+    }
+    let rest = &line[start..];
+    Some(&rest[..word_length(rest)])
+}
+
+/// Whether a word tells whether a frame was received or transmitted.
+pub(crate) fn is_direction(word: &[u8]) -> bool
+    ensures { IsTrue result ↔ IsDirection word.now }
+{
+    matches!(word, b"R" | b"T")
+}
+
+// Whether a time has this byte between its parentheses.
+fn is_of_time(byte: u8) -> bool
+    ensures { IsTrue result ↔ IsOfTime byte }
+{
+    matches!(byte, b'0'..=b'9' | b'.')
+}
+
+// Whether a time has these between its parentheses.
+fn are_of_time(bytes: &[u8]) -> bool
+    ensures { IsTrue result ↔ All IsOfTime bytes.now }
+{
+    bytes.iter().all(|byte| is_of_time(*byte))
+}
+
+// Whether a word has the size and the parentheses of a time.
+fn is_enclosed(word: &[u8]) -> bool
+    ensures { IsTrue result ↔ IsEnclosed word.now }
+{
+    let size = word.len();
+    3 <= size && size <= 32 && word[0] == b'(' && word[size - 1] == b')'
+}
+
+/// Whether a word is a time: 1 to 30 digits and points in parentheses.
+pub(crate) fn is_time(word: &[u8]) -> bool
+    ensures { IsTrue result ↔ IsTime word.now }
+{
+    if !is_enclosed(word) {
+        return false;
+    }
+    are_of_time(&word[1..word.len() - 1])
+}

@@ -1,0 +1,42 @@
+-- What is wrong with what the flows of a plan ask of its bus, in the order in which it is told: flows without a period, a load above the
+-- bitrate, and flows that aren't shown to be in time.
+use Rattle.std.specs.Prelude.{◌≡◌, ℕ, Bool, nat_lt, if◌then◌else◌, List, [], ◌∷◌, ◌++◌, Option, Some, None}
+use Rattle.j39_findings.specs.declared.plan.Plan.{Plan}
+use Rattle.j39_findings.specs.declared.plan.timing.Timing.{Timing}
+use Rattle.j39_findings.specs.declared.plan.unit_plan.UnitPlan.{UnitPlan}
+use Rattle.j39_load.specs.declared.delay.Delay.{Delay}
+use Rattle.j39_load.specs.declared.delay.Delay.TheVariants.{Within, Late, Long}
+use Rattle.j39_load.specs.declared.load_finding.LoadFinding.{LoadFinding}
+use Rattle.j39_load.specs.declared.load_finding.LoadFinding.TheVariants.{NoPeriod, Overload, LateFlow}
+use Rattle.j39_load.specs.Delays.{TellDelays}
+use Rattle.j39_load.specs.Loads.{bits_of_second, loads_of, total_load}
+use Rattle.j39_load.specs.Places.{told_from}
+use Rattle.j39_load.specs.Standing.{TellsWhoStays}
+
+-- the flow at a place has no period, and so no delay is told of it
+abbrev pub without_period : ℕ → Option Delay → List LoadFinding
+without_period flow None = NoPeriod flow ∷ []
+without_period flow (Some delay) = []
+
+-- no wait of the flow at a place is within its limit
+abbrev pub lateness : ℕ → Option Delay → List LoadFinding
+lateness flow (Some Late) = LateFlow flow ∷ []
+lateness flow _ = []
+
+-- the load is more than the bus carries in a second
+abbrev pub overload : Timing → ℕ → List LoadFinding
+overload timing load = if nat_lt (bits_of_second timing.bitrate) load then Overload load ∷ [] else []
+
+abbrev pub load_findings : Timing → ℕ → List (Option Delay) → List LoadFinding
+load_findings timing load delays = told_from without_period 0 delays ++ (overload timing load ++ told_from lateness 0 delays)
+
+-- what a plan asks of a bus: what each flow does, by who stays, and how long its frames wait
+pub record AsksOfBus (plan : Plan) (timing : Timing) (stays : UnitPlan → Bool) (delays : List (Option Delay)) : Type 0 where
+  pub standing : TellsWhoStays plan stays
+  pub waits : TellDelays timing (loads_of timing plan stays) delays
+
+-- this is what is wrong: nothing where nothing is known of the bus
+abbrev pub AreLoadFindings : Plan → Option Timing → List LoadFinding → Type 0
+AreLoadFindings plan None findings = findings ≡ []
+AreLoadFindings plan (Some timing) findings = (stays : UnitPlan → Bool) × (delays : List (Option Delay))
+    × AsksOfBus plan timing stays delays × (findings ≡ load_findings timing (total_load (loads_of timing plan stays)) delays)

@@ -1,0 +1,134 @@
+-- What each flow of a plan asks of the bus: how many frames, how long, how often, and how urgent.
+use Rattle.std.specs.Prelude.{ℕ, ◌+◌, ◌*◌, ◌^◌, min, max, nat_le, Bool, if◌then◌else◌, List, length, map, sum_by, Option, Some, None}
+use Rattle.std.specs.Int.{div_ceil}
+use Rattle.std.specs.List.{slice_get}
+use Rattle.std.specs.Option.{option_and_then, option_map, option_map_or}
+use Rattle.j39_id.specs.Addresses.{global_address, pool_first, pool_last}
+use Rattle.j39_id.specs.Ident.{identifier_of}
+use Rattle.j39_id.specs.Limits.{frame_bytes}
+use Rattle.j39_id.specs.Services.{data_transfer, transport_priority}
+use Rattle.j39_findings.specs.declared.plan.Plan.{Plan}
+use Rattle.j39_findings.specs.declared.plan.flow_plan.FlowPlan.{FlowPlan}
+use Rattle.j39_findings.specs.declared.plan.group_plan.GroupPlan.{GroupPlan}
+use Rattle.j39_findings.specs.declared.plan.pace.Pace.{Pace}
+use Rattle.j39_findings.specs.declared.plan.timing.Bitrate.{Bitrate}
+use Rattle.j39_findings.specs.declared.plan.timing.Bitrate.TheVariants.{Kbit250, Kbit500}
+use Rattle.j39_findings.specs.declared.plan.timing.Timing.{Timing}
+use Rattle.j39_findings.specs.declared.plan.to.To.{To}
+use Rattle.j39_findings.specs.declared.plan.to.To.TheVariants.{All, One}
+use Rattle.j39_findings.specs.declared.plan.unit_plan.UnitPlan.{UnitPlan}
+use Rattle.j39_load.specs.declared.flow_load.FlowLoad.{FlowLoad}
+use Rattle.j39_timing.specs.FrameBits.{longest_frame}
+use Rattle.j39_timing.specs.declared.stream.Stream.{Stream}
+use Rattle.j39_tp.specs.Chunks.{packets_of}
+
+-- ---- the bus
+
+abbrev pub bits_per_ms : Bitrate → ℕ
+bits_per_ms Kbit250 = 250
+bits_per_ms Kbit500 = 500
+
+-- the bits that a bus carries in a second
+abbrev pub bits_of_second : Bitrate → ℕ
+bits_of_second bitrate = 1000 * bits_per_ms bitrate
+
+abbrev pub bits_of_ms : Timing → ℕ → ℕ
+bits_of_ms timing ms = ms * bits_per_ms timing.bitrate
+
+-- ---- frames
+
+-- each message of the group goes in one frame
+abbrev pub is_short : GroupPlan → Bool
+is_short group = nat_le group.most frame_bytes
+
+-- the most bytes of a frame
+abbrev pub most_bytes : GroupPlan → ℕ
+most_bytes group = if is_short group then group.most else frame_bytes
+
+-- what is read of the unit at a place
+abbrev pub of_unit : List UnitPlan → (UnitPlan → ℕ) → ℕ → ℕ
+of_unit units read u = option_map_or read (slice_get units u) 0
+
+-- the frames of a message of the transport protocol: to all its announcement and its packets; to one unit its RTS, its packets, one CTS
+-- for as many packets as the receiver takes at once, and the acknowledgement of its end
+abbrev pub long_frames : List UnitPlan → ℕ → To → ℕ
+long_frames units packets All = 1 + packets
+long_frames units packets (One v) = 2 + packets + div_ceil packets (of_unit units (λ unit. unit.window) v)
+
+abbrev pub frames_of : List UnitPlan → GroupPlan → To → ℕ
+frames_of units group to = if is_short group then 1 else long_frames units (packets_of group.most) to
+
+-- the frames of a flow; those of a long message are queued while it lasts
+abbrev pub stream_of : Timing → List UnitPlan → GroupPlan → To → ℕ → Stream
+stream_of timing units group to period = record {
+  frames = frames_of units group to;
+  period = bits_of_ms timing period;
+  bits = longest_frame (most_bytes group);
+  spread = if is_short group then 0 else 1;
+}
+
+-- ---- identifiers: the smaller one goes first
+
+-- a unit that stays holds its planned address, another one this or one of the pool
+abbrev pub least_address : (UnitPlan → Bool) → UnitPlan → ℕ
+least_address stays unit = if stays unit then unit.address else min unit.address pool_first
+
+abbrev pub greatest_address : (UnitPlan → Bool) → UnitPlan → ℕ
+greatest_address stays unit = if stays unit then unit.address else max unit.address pool_last
+
+abbrev pub destination_at : List UnitPlan → (UnitPlan → ℕ) → To → ℕ
+destination_at units address All = global_address
+destination_at units address (One v) = of_unit units address v
+
+-- some messages of the group go in one frame
+abbrev pub has_short : GroupPlan → Bool
+has_short group = nat_le group.length frame_bytes
+
+abbrev pub group_ident : List UnitPlan → (UnitPlan → ℕ) → GroupPlan → FlowPlan → ℕ
+group_ident units address group flow =
+    identifier_of group.priority group.pgn (destination_at units address flow.to) (of_unit units address flow.sender)
+
+abbrev pub packet_ident : List UnitPlan → (UnitPlan → ℕ) → FlowPlan → ℕ
+packet_ident units address flow =
+    identifier_of transport_priority data_transfer (destination_at units address flow.to) (of_unit units address flow.sender)
+
+-- the identifier of a flow's frames where the units hold these addresses: that of its group, or, as a long message counts by its data
+-- packets, that of these; where its messages go either way the smaller one
+abbrev pub ident_at : List UnitPlan → (UnitPlan → ℕ) → GroupPlan → FlowPlan → ℕ
+ident_at units address group flow =
+    if is_short group then group_ident units address group flow
+    else if has_short group then min (group_ident units address group flow) (packet_ident units address flow)
+    else packet_ident units address flow
+
+-- ---- flows
+
+-- within so many bits each frame of the flow has to be on the bus; never later than the next message is queued
+abbrev pub limit_of : Timing → Pace → ℕ
+limit_of timing pace = bits_of_ms timing (min pace.deadline pace.period)
+
+-- the bits that a flow takes in a second at most
+abbrev pub load_of : Stream → ℕ → ℕ
+load_of stream period = div_ceil (1000 * (stream.frames * stream.bits)) period
+
+abbrev pub flow_load : Timing → List UnitPlan → (UnitPlan → Bool) → FlowPlan → Pace → GroupPlan → FlowLoad
+flow_load timing units stays flow pace group = record {
+  stream = stream_of timing units group flow.to pace.period;
+  is_short = is_short group;
+  least_ident = ident_at units (least_address stays) group flow;
+  greatest_ident = ident_at units (greatest_address stays) group flow;
+  limit = limit_of timing pace;
+  bits_per_second = load_of (stream_of timing units group flow.to pace.period) pace.period;
+}
+
+-- what a flow asks of the bus, where it is known how often it is sent
+abbrev pub load_of_flow : Timing → Plan → (UnitPlan → Bool) → FlowPlan → Option FlowLoad
+load_of_flow timing plan stays flow =
+    option_and_then (λ pace. option_map (flow_load timing plan.units.items stays flow pace) (slice_get plan.groups.items flow.group)) flow.pace
+
+-- what each flow asks of the bus, in order
+abbrev pub loads_of : Timing → Plan → (UnitPlan → Bool) → List (Option FlowLoad)
+loads_of timing plan stays = map (load_of_flow timing plan stays) plan.flows.items
+
+-- the bits that all of them take in a second at most
+abbrev pub total_load : List (Option FlowLoad) → ℕ
+total_load loads = sum_by (λ load. option_map_or (λ (l : FlowLoad). l.bits_per_second) load 0) loads

@@ -1,0 +1,50 @@
+-- Which units of a plan stay, and how that is told: by the least NAME that is planned at each address, and the least of those that may
+-- have to move.
+use Rattle.std.specs.Prelude.{◌≡◌, ℕ, ◌<◌, ◌≤◌, Bool, true, MatchBool, not, ◌&&◌, ◌||◌, cond, nat_le, nat_lt, List, length, slice_index_or, Option, Some, None}
+use Rattle.std.specs.List.{slice_get}
+use Rattle.j39_id.specs.Addresses.{in_pool}
+use Rattle.j39_id.specs.Name.{is_arbitrary}
+use Rattle.j39_findings.specs.declared.plan.Plan.{Plan}
+use Rattle.j39_findings.specs.declared.plan.unit_plan.UnitPlan.{UnitPlan}
+use Rattle.j39_world.specs.PlannedUnits.{units_of}
+use Rattle.j39_world.specs.Staying.{Stays}
+
+-- of the unit at each place this tells whether it stays
+abbrev pub TellsWhoStays : Plan → (UnitPlan → Bool) → Type 0
+TellsWhoStays plan stays = (u : ℕ) (unit : UnitPlan) → slice_get plan.units.items u ≡ Some unit
+    → MatchBool (stays unit) (Stays (units_of plan) u) (¬ Stays (units_of plan) u)
+
+-- this is the least NAME of those of the first so many units of which it holds, if it holds of one
+pub record IsLeastName (units : List UnitPlan) (count : ℕ) (Among : UnitPlan → Type 0) (least : Option ℕ) : Type 0 where
+  pub one : (n : ℕ) → least ≡ Some n
+      → (u : ℕ) × (unit : UnitPlan) × (u < count) × (slice_get units u ≡ Some unit) × Among unit × (unit.name ≡ n)
+  pub below : (u : ℕ) (unit : UnitPlan) → u < count → slice_get units u ≡ Some unit → Among unit → (n : ℕ) × (least ≡ Some n) × (n ≤ unit.name)
+
+-- the least of these with one more
+abbrev pub smaller : Option ℕ → ℕ → ℕ
+smaller None name = name
+smaller (Some least) name = cond (nat_lt least name) least name
+
+-- the unit has the least NAME at its address, or one that isn't above it
+abbrev pub is_least : Option ℕ → ℕ → Bool
+is_least None name = true
+is_least (Some least) name = nat_le name least
+
+abbrev pub is_first_by : List (Option ℕ) → UnitPlan → Bool
+is_first_by firsts unit = is_least (slice_index_or firsts unit.address None) unit.name
+
+abbrev pub stays_by : List (Option ℕ) → Option ℕ → UnitPlan → Bool
+stays_by firsts mover unit = is_first_by firsts unit && (not (in_pool unit.address) || is_least mover unit.name)
+
+-- the least NAME at each address, of the first so many units
+pub record AreFirsts (units : List UnitPlan) (count : ℕ) (firsts : List (Option ℕ)) : Type 0 where
+  pub size : length firsts ≡ 256
+  pub each : (a : ℕ) → a < 256 → IsLeastName units count (λ unit. unit.address ≡ a) (slice_index_or firsts a None)
+
+-- the unit may choose, and isn't the first at its planned address
+abbrev pub is_mover_by : List (Option ℕ) → UnitPlan → Bool
+is_mover_by firsts unit = is_arbitrary unit.name && not (is_first_by firsts unit)
+
+-- the least NAME of these units, of the first so many
+abbrev pub IsMover : List UnitPlan → ℕ → List (Option ℕ) → Option ℕ → Type 0
+IsMover units count firsts mover = IsLeastName units count (λ unit. is_mover_by firsts unit ≡ true) mover

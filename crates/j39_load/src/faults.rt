@@ -1,0 +1,85 @@
+//! What is wrong with what a plan asks of its bus.
+ghost use Rattle.std.specs.Prelude.{◌≡◌, ◌∷◌, ◌++◌, [], IfOk, IfSome, IfNone, OnOk};
+ghost use Rattle.j39_load.specs.LoadFindings.{AreLoadFindings, load_findings};
+ghost use Rattle.j39_load.specs.Loads.{bits_of_second, total_load};
+ghost use Rattle.j39_load.specs.Places.{told_from};
+ghost use Rattle.j39_load.specs.inside.Faults.{found_at};
+
+use crate::delay::Delay;
+use crate::load_finding::LoadFinding;
+use crate::loads::Loads;
+use crate::streams::bits_per_ms;
+use j39_findings::{Bitrate, Plan, Timing};
+use std::alloc::{AllocError, Global};
+
+/// What is looked for at each flow.
+#[derive(Clone, Copy, PartialEq, Eq)]
+pub(crate) enum Fault {
+    WithoutPeriod,
+    Lateness,
+}
+
+fn finding_at(fault: Fault, flow: usize, delay: Option<Delay>) -> Option<LoadFinding>
+    ensures some { IfSome result (λ finding. found_at fault flow delay ≡ finding ∷ []) }
+    ensures none { IfNone result (found_at fault flow delay ≡ []) }
+{
+    match (fault, delay) {
+        (Fault::WithoutPeriod, None) => Some(LoadFinding::NoPeriod(flow)),
+        (Fault::Lateness, Some(Delay::Late)) => Some(LoadFinding::LateFlow(flow)),
+        _ => None,
+    }
+}
+
+// Adds what is found at the flows of these delays.
+#[tactic(auto, unfolding(crate::specs::Places::told_from))]
+fn find_each(
+    findings: &mut Vec<LoadFinding>,
+    fault: Fault,
+    delays: &[Option<Delay>],
+) -> Result<(), AllocError>
+    ensures { OnOk result (findings.new.items ≡ findings.old.items ++ told_from (found_at fault) 0 delays.now) }
+{
+    for (flow, delay) in delays.iter().enumerate() {
+        if let Some(finding) = finding_at(fault, flow, *delay) {
+            findings.push(finding)?;
+        }
+    }
+    Ok(())
+}
+
+/// How many bits a bus carries in a second.
+pub fn bits_of_second(bitrate: Bitrate) -> u32
+    ensures { result ≡ bits_of_second bitrate }
+{
+    1_000 * u32::from(bits_per_ms(bitrate))
+}
+
+/// What is wrong with what the flows of a plan ask of its bus: nothing where nothing is known of this.
+pub fn check_load(alloc: Global, plan: &Plan) -> Result<Vec<LoadFinding>, AllocError>
+    ensures { IfOk result (λ findings. AreLoadFindings plan.now plan.now.timing findings.items) }
+{
+    let Some(timing) = plan.timing else {
+        return Ok(Vec::new(alloc));
+    };
+    let loads = Loads::new(alloc, timing, plan)?;
+    let delays = loads.delays(alloc)?;
+    load_findings(alloc, timing, loads.total(), delays.as_slice())
+}
+
+/// What is wrong with a load of so many bits in a second and with these delays of the flows.
+pub fn load_findings(
+    alloc: Global,
+    timing: Timing,
+    load: u64,
+    delays: &[Option<Delay>],
+) -> Result<Vec<LoadFinding>, AllocError>
+    ensures { IfOk result (λ findings. findings.items ≡ load_findings timing load delays.now) }
+{
+    let mut findings = Vec::new(alloc);
+    find_each(&mut findings, Fault::WithoutPeriod, delays)?;
+    if u64::from(bits_of_second(timing.bitrate)) < load {
+        findings.push(LoadFinding::Overload(load))?;
+    }
+    find_each(&mut findings, Fault::Lateness, delays)?;
+    Ok(findings)
+}

@@ -1,0 +1,68 @@
+//! Identifiers of the frames of a flow.
+ghost use Rattle.std.specs.Prelude.{◌≡◌, ◌<◌, ℕ, length};
+ghost use Rattle.j39_id.specs.Ident.{identifier_of};
+ghost use Rattle.j39_findings.specs.declared.plan.to.To.TheVariants.{One};
+ghost use Rattle.j39_load.specs.Loads.{destination_at, ident_at};
+ghost use Rattle.j39_load.specs.Standing.{stays_by};
+ghost use Rattle.j39_load.specs.inside.Extremes.{extreme_address};
+
+use crate::extreme::Extreme;
+use crate::standing::Standing;
+use j39_findings::{FlowPlan, GroupPlan, To, UnitPlan};
+use j39_id::addresses::GLOBAL_ADDRESS;
+use j39_id::limits::FRAME_BYTES;
+use j39_id::services::{DATA_TRANSFER, TRANSPORT_PRIORITY};
+use j39_id::{PDU2_FIRST, pf_of};
+
+// The number of the identifier by which a group is sent, whose number need be no group's.
+fn identifier(priority: u8, pgn: u32, destination: u8, source: u8) -> u64
+    ensures { result ≡ identifier_of priority pgn destination source }
+{
+    let named = if pf_of(pgn) >= PDU2_FIRST {
+        0
+    } else {
+        u64::from(destination) * 256
+    };
+    u64::from(priority) * 67_108_864 + u64::from(pgn) * 256 + named + u64::from(source)
+}
+
+fn destination(units: &[UnitPlan], standing: &Standing, extreme: Extreme, to: To) -> u8
+    requires { (v : ℕ) → to ≡ One v → v < length units.now }
+    ensures { result ≡ destination_at units.now (extreme_address extreme (stays_by standing.now.firsts standing.now.mover)) to }
+{
+    match to {
+        To::All => GLOBAL_ADDRESS,
+        To::One(unit) => extreme.address(standing, &units[unit]),
+    }
+}
+
+/// The number of the identifier of a flow's frames, where its units hold their addresses at this end.
+pub(crate) fn ident(
+    units: &[UnitPlan],
+    standing: &Standing,
+    extreme: Extreme,
+    group: &GroupPlan,
+    flow: &FlowPlan,
+) -> u64
+    requires sender { flow.now.sender < length units.now }
+    requires receiver { (v : ℕ) → flow.now.to ≡ One v → v < length units.now }
+    ensures { result ≡ ident_at units.now (extreme_address extreme (stays_by standing.now.firsts standing.now.mover)) group.now flow.now }
+{
+    let source = extreme.address(standing, &units[flow.sender]);
+    let destination = destination(units, standing, extreme, flow.to);
+    let own = identifier(group.priority, group.pgn, destination, source);
+    if usize::from(group.most) <= FRAME_BYTES {
+        return own;
+    }
+    let of_packets = identifier(
+        TRANSPORT_PRIORITY,
+        DATA_TRANSFER.number(),
+        destination,
+        source,
+    );
+    if usize::from(group.length) <= FRAME_BYTES {
+        own.min(of_packets)
+    } else {
+        of_packets
+    }
+}

@@ -1,0 +1,21 @@
+//! What the bus carries: which units stay at their addresses, how urgent the frames of each flow are, how much of the bus they take, and how
+//! long they wait.
+#![tactic(auto)]
+
+mod delay;
+mod delays;
+mod extreme;
+mod faults;
+mod flow_load;
+mod identifiers;
+mod load_finding;
+mod loads;
+mod standing;
+mod streams;
+
+pub use delay::Delay;
+pub use faults::{bits_of_second, check_load, load_findings};
+pub use flow_load::FlowLoad;
+pub use load_finding::LoadFinding;
+pub use loads::Loads;
+pub use standing::Standing;

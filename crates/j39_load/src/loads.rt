@@ -1,0 +1,164 @@
+//! What the flows of a plan ask of the bus.
+ghost use Rattle.std.specs.Prelude.{◌≡◌, ◌^◌, ◌<◌, ◌≤◌, ℕ, Bool, All, length, IfOk};
+ghost use Rattle.j39_findings.specs.declared.plan.to.To.TheVariants.{One};
+ghost use Rattle.j39_findings.specs.declared.plan.unit_plan.UnitPlan.{UnitPlan as APlannedUnit};
+ghost use Rattle.j39_load.specs.Delays.{HasDelay, TellDelays};
+ghost use Rattle.j39_load.specs.Loads.{flow_load, limit_of, load_of_flow, loads_of, total_load};
+ghost use Rattle.j39_load.specs.Standing.{TellsWhoStays, stays_by};
+ghost use Rattle.std.proofs.Props.{props};
+ghost use Rattle.std.specs.Option.{option_map_or};
+ghost use Rattle.j39_load.specs.SoundLoads.{IsSound, IsSoundLoad};
+
+use crate::delay::Delay;
+use crate::delays::delay_of;
+use crate::extreme::Extreme;
+use crate::flow_load::FlowLoad;
+use crate::identifiers::ident;
+use crate::standing::Standing;
+use crate::streams::{bits_of_ms, load, stream};
+use j39_findings::{FlowPlan, GroupPlan, Pace, Plan, Timing, UnitPlan};
+use j39_id::limits::FRAME_BYTES;
+use std::alloc::{AllocError, Global};
+
+// Within how many bits each frame of a flow of this pace has to be on the bus.
+fn limit(timing: Timing, pace: Pace) -> u32
+    ensures limit { result ≡ limit_of timing pace }
+    ensures few { result < 2 ^ 31 }
+{
+    bits_of_ms(timing, pace.deadline.min(pace.period))
+}
+
+fn flow_load(
+    timing: Timing,
+    units: &[UnitPlan],
+    standing: &Standing,
+    flow: &FlowPlan,
+    pace: Pace,
+    group: &GroupPlan,
+) -> FlowLoad
+    requires sender { flow.now.sender < length units.now }
+    requires receiver { (v : ℕ) → flow.now.to ≡ One v → v < length units.now }
+    ensures load { result ≡ flow_load timing units.now (stays_by standing.now.firsts standing.now.mover) flow.now pace group.now }
+    ensures sound { IsSoundLoad result }
+{
+    let stream = stream(timing, units, group, flow.to, pace.period);
+    FlowLoad {
+        stream,
+        is_short: usize::from(group.most) <= FRAME_BYTES,
+        least_ident: ident(units, standing, Extreme::Least, group, flow),
+        greatest_ident: ident(units, standing, Extreme::Greatest, group, flow),
+        limit: limit(timing, pace),
+        bits_per_second: load(stream, pace.period),
+    }
+}
+
+// What a flow asks of the bus, where it is known how often it is sent.
+fn load_of_flow(
+    timing: Timing,
+    plan: &Plan,
+    standing: &Standing,
+    flow: &FlowPlan,
+) -> Option<FlowLoad>
+    requires group { flow.now.group < length plan.now.groups.items }
+    requires sender { flow.now.sender < length plan.now.units.items }
+    requires receiver { (v : ℕ) → flow.now.to ≡ One v → v < length plan.now.units.items }
+    ensures load { result ≡ load_of_flow timing plan.now (stays_by standing.now.firsts standing.now.mover) flow.now }
+    ensures sound { IsSound result }
+{
+    match flow.pace {
+        Some(pace) => {
+            let group = &plan.groups[flow.group];
+            let units = plan.units.as_slice();
+            Some(flow_load(timing, units, standing, flow, pace, group))
+        }
+        None => None,
+    }
+}
+
+// What each flow of a plan asks of the bus, in order.
+fn loads_of(
+    alloc: Global,
+    timing: Timing,
+    plan: &Plan,
+    standing: &Standing,
+) -> Result<Vec<Option<FlowLoad>>, AllocError>
+    ensures loads { IfOk result (λ loads. loads.items ≡ loads_of timing plan.now (stays_by standing.now.firsts standing.now.mover)) }
+    ensures count { IfOk result (λ loads. length loads.items ≡ length plan.now.flows.items) }
+    ensures sound { IfOk result (λ loads. All IsSound loads.items) }
+{
+    let mut loads = Vec::with_capacity(alloc, plan.flows.len())?;
+    for place in 0..plan.flows.len() {
+        loads.push_reserved(load_of_flow(timing, plan, standing, &plan.flows[place]));
+    }
+    Ok(loads)
+}
+
+// How many bits a flow takes in a second at most, and none where it isn't known how often it is sent.
+fn bits_per_second(load: &Option<FlowLoad>) -> u64
+    ensures bits { result ≡ option_map_or (λ l. l.bits_per_second) load.now 0 }
+    ensures few { result < 2 ^ 32 }
+{
+    match load {
+        Some(load) => u64::from(load.bits_per_second),
+        None => 0,
+    }
+}
+
+/// What the flows of a plan ask of the bus, in order: nothing where it isn't known how often a flow is sent.
+#[derive(Drop)]
+pub struct Loads {
+    pub timing: Timing,
+    pub flows: Vec<Option<FlowLoad>>,
+    pub ghost count: { length flows.items ≤ 512 },
+    pub ghost sound: { All IsSound flows.items } by { Prim.hlevel props },
+}
+
+impl Loads {
+    /// What the flows of a plan ask of its bus.
+    pub fn new(alloc: Global, timing: Timing, plan: &Plan) -> Result<Self, AllocError>
+        ensures timing { IfOk result (λ loads. loads.timing ≡ timing) }
+        ensures flows { IfOk result (λ loads. (stays : APlannedUnit → Bool) × TellsWhoStays plan.now stays
+            × (loads.flows.items ≡ loads_of timing plan.now stays)) }
+        ensures count { IfOk result (λ loads. length loads.flows.items ≡ length plan.now.flows.items) }
+    {
+        let standing = Standing::new(plan);
+        let flows = loads_of(alloc, timing, plan, &standing)?;
+        Ok(Loads { timing, flows })
+    }
+
+    /// How many bits all of them take in a second at most.
+    pub fn total(&self) -> u64
+        ensures { result ≡ total_load self.now.flows.items }
+    {
+        let mut total = 0;
+        for load in &self.flows {
+            total += bits_per_second(load);
+        }
+        total
+    }
+
+    // The delay of the flow at this place, and none where it isn't known how often it is sent.
+    fn delay(&self, alloc: Global, flow: usize) -> Result<Option<Delay>, AllocError>
+        requires { flow < length self.now.flows.items }
+        ensures { IfOk result (HasDelay self.now.timing self.now.flows.items flow) }
+    {
+        match &self.flows[flow] {
+            Some(load) => {
+                let flows = self.flows.as_slice();
+                Ok(Some(delay_of(alloc, self.timing, flows, flow, load)?))
+            }
+            None => Ok(None),
+        }
+    }
+
+    /// The delay of each flow, in order, and none where it isn't known how often it is sent.
+    pub fn delays(&self, alloc: Global) -> Result<Vec<Option<Delay>>, AllocError>
+        ensures { IfOk result (λ delays. TellDelays self.now.timing self.now.flows.items delays.items) }
+    {
+        let mut delays = Vec::with_capacity(alloc, self.flows.len())?;
+        for flow in 0..self.flows.len() {
+            delays.push_reserved(self.delay(alloc, flow)?);
+        }
+        Ok(delays)
+    }
+}

@@ -1,0 +1,91 @@
+//! Which units of a plan hold their planned addresses, whatever the others do.
+ghost use Rattle.std.specs.Prelude.{◌≡◌, length, IsTrue};
+ghost use Rattle.j39_load.specs.Standing.{AreFirsts, TellsWhoStays, IsMover, is_first_by, is_least, is_mover_by, smaller, stays_by};
+
+use j39_findings::{Plan, UnitPlan};
+use j39_id::Name;
+use j39_id::addresses::is_in_pool;
+
+/// The smallest NAME that is planned at each address.
+type Firsts = [Option<Name>; 256];
+
+fn smaller(least: Option<Name>, name: Name) -> Name
+    ensures { result ≡ smaller least name }
+{
+    match least {
+        Some(least) if least < name => least,
+        _ => name,
+    }
+}
+
+fn is_least(least: Option<Name>, name: Name) -> bool
+    ensures { result ≡ is_least least name }
+{
+    match least {
+        Some(least) => name <= least,
+        None => true,
+    }
+}
+
+fn is_first(firsts: &Firsts, unit: &UnitPlan) -> bool
+    ensures { result ≡ is_first_by firsts.now unit.now }
+{
+    is_least(firsts[usize::from(unit.address.number())], unit.name)
+}
+
+fn firsts_of(units: &[UnitPlan]) -> Firsts
+    ensures { AreFirsts units.now (length units.now) result }
+{
+    let mut firsts = [None; 256];
+    for unit in units {
+        let place = usize::from(unit.address.number());
+        firsts[place] = Some(smaller(firsts[place], unit.name));
+    }
+    firsts
+}
+
+// It may choose, and isn't the first at its planned address.
+fn is_mover(firsts: &Firsts, unit: &UnitPlan) -> bool
+    ensures { result ≡ is_mover_by firsts.now unit.now }
+{
+    unit.name.is_arbitrary() && !is_first(firsts, unit)
+}
+
+// The smallest NAME of these.
+fn mover_of(units: &[UnitPlan], firsts: &Firsts) -> Option<Name>
+    ensures { IsMover units.now (length units.now) firsts.now result }
+{
+    let mut mover = None;
+    for unit in units {
+        if is_mover(firsts, unit) {
+            mover = Some(smaller(mover, unit.name));
+        }
+    }
+    mover
+}
+
+/// What tells which units of a plan stay.
+#[derive(Drop)]
+pub struct Standing {
+    /// The smallest NAME that is planned at each address.
+    pub firsts: [Option<Name>; 256],
+    /// The smallest NAME of those that may have to move.
+    pub mover: Option<Name>,
+}
+
+impl Standing {
+    pub fn new(plan: &Plan) -> Self
+        ensures { TellsWhoStays plan.now (stays_by result.firsts result.mover) }
+    {
+        let firsts = firsts_of(plan.units.as_slice());
+        let mover = mover_of(plan.units.as_slice(), &firsts);
+        Standing { firsts, mover }
+    }
+
+    pub fn stays(&self, unit: &UnitPlan) -> bool
+        ensures { result ≡ stays_by self.now.firsts self.now.mover unit.now }
+    {
+        is_first(&self.firsts, unit)
+            && (!is_in_pool(unit.address.number()) || is_least(self.mover, unit.name))
+    }
+}

@@ -1,0 +1,66 @@
+-- Plans without the keys of version 3.
+use Rattle.std.proofs.Common.{◌≡◌, ℕ, suc, ◌+◌, ◌⊎◌, ℤ, ◌==◌, Bool, false, not, ◌&&◌, cond, nat_le, List, [], ◌∷◌, ◌++◌, codes, Option, Some, All as AllOf, refl, sym, ap, ◌∙◌, inl, inr, arith}
+use Rattle.std.specs.Fmt.{signed_decimal}
+use Rattle.std.specs.List.{position_from}
+use Rattle.std.proofs.lemmas.Iterator.Adapters.{position_from-zero}
+use Rattle.std.proofs.lemmas.List.{append-nil}
+use Rattle.j39_signal.specs.declared.kind.Kind.{Kind}
+use Rattle.j39_findings.proofs.Lengths.{same_length}
+use Rattle.j39_findings.specs.PrivateGroups.{HasNoPrivate}
+use Rattle.j39_findings.specs.declared.plan.Plan.{Plan}
+use Rattle.j39_findings.specs.declared.plan.group_plan.GroupPlan.{GroupPlan}
+use Rattle.j39_findings.specs.declared.plan.text_plan.TextPlan.{TextPlan}
+use Rattle.j39_text.specs.Decimals.{quotient_text}
+use Rattle.j39_text.specs.Texts.{field_text}
+use Rattle.j39_text.proofs.Quotients.{undivided}
+use Rattle.j39_log.specs.LogFrames.{is_planned_as}
+use Rattle.j39_log.specs.LogReports.{group_line, group_report, reading_lines, scaled_text, signal_lines, signal_state_text, unit_text, value_text}
+use Rattle.j39_log.specs.TextLines.{text_lines}
+use Rattle.j39_log.specs.OlderPlans.{GroupsAreFoundByNumber, IsOlderKind, SignalsAlone, ValuesAreShownWhole, has_number}
+
+shared : (group : GroupPlan) (pgn bytes : ℕ) → group.private ≡ false → group.most ≡ group.length → is_planned_as pgn bytes group ≡ has_number pgn bytes group
+shared group pgn bytes own one =
+    ap (λ (b : Bool). (not b && group.pgn == pgn) && (nat_le group.length bytes && nat_le bytes group.most)) own
+    ∙ ap (λ (n : ℕ). group.pgn == pgn && (nat_le group.length bytes && nat_le bytes n)) one
+    ∙ ap (λ (b : Bool). group.pgn == pgn && b) (same_length group.length bytes)
+
+found_from : (pgn bytes i : ℕ) (groups : List GroupPlan) → AllOf (λ (group : GroupPlan). group.private ≡ false) groups
+    → AllOf (λ (group : GroupPlan). group.most ≡ group.length) groups
+    → position_from (is_planned_as pgn bytes) i groups ≡ position_from (has_number pgn bytes) i groups
+found_from pgn bytes i [] none one = refl
+found_from pgn bytes i (group ∷ groups) none one =
+    ap (λ (b : Bool). cond b (Some i) (position_from (is_planned_as pgn bytes) (i + 1) groups)) (shared group pgn bytes (none 0 group (omega arith)) (one 0 group (omega arith)))
+    ∙ ap (λ (o : Option ℕ). cond (has_number pgn bytes group) (Some i) o) (found_from pgn bytes (i + 1) groups
+    (λ k d less. none (suc k) d (omega (arith, less))) (λ k d less. one (suc k) d (omega (arith, less))))
+
+pub by_number : GroupsAreFoundByNumber
+by_number plan pgn bytes none one =
+    position_from-zero (is_planned_as pgn bytes) plan.groups.items ∙ found_from pgn bytes 0 plan.groups.items none one
+    ∙ sym (position_from-zero (has_number pgn bytes) plan.groups.items)
+
+scaled : (kind : Kind) (per : ℕ) (unit : List ℕ) (v : ℤ) → IsOlderKind kind → value_text kind per unit v ≡ scaled_text per unit v
+unfolding value_text
+scaled kind per unit v (inl measured) = rw measured refl
+scaled kind per unit v (inr (inl discrete)) = rw discrete refl
+scaled kind per unit v (inr (inr raw)) = rw raw refl
+
+whole : (per : ℕ) (unit : List ℕ) (v : ℤ) → per ≡ 1 → scaled_text per unit v ≡ field_text (codes " value ") (signed_decimal v) ++ unit_text unit
+unfolding scaled_text
+whole per unit v one =
+    ap (λ (n : ℕ). field_text (codes " value ") (quotient_text n v) ++ unit_text unit) one
+    ∙ ap (λ (digits : List ℕ). field_text (codes " value ") digits ++ unit_text unit) (undivided v)
+
+pub shown_whole : ValuesAreShownWhole
+unfolding signal_state_text
+shown_whole s v older one = scaled s.kind s.per s.unit.bytes v older ∙ whole s.per s.unit.bytes v one
+
+no_lines : (texts : List TextPlan) (bytes : List ℕ) → texts ≡ [] → text_lines texts bytes ≡ []
+unfolding text_lines
+no_lines texts bytes none = rw none refl
+
+pub signals_alone : SignalsAlone
+unfolding group_report reading_lines
+signals_alone group i bytes none =
+    let signals = signal_lines group.signals.items bytes in
+    ap (λ (lines : List ℕ). group_line group i bytes ++ (signals ++ lines)) (no_lines group.texts.items bytes none)
+    ∙ ap (λ (lines : List ℕ). group_line group i bytes ++ lines) (append-nil signals)

@@ -1,0 +1,47 @@
+-- The tables of texts, which the third version alone knows.
+use Rattle.std.specs.Prelude.{◌≡◌, ℕ, List, ◌∷◌, ◌++◌, [], None, IsTrue}
+use Rattle.std.specs.Option.{option_map_or}
+use Rattle.toml.specs.Data.{Data, Members, as_table}
+use Rattle.j39_id.specs.Limits.{message_bytes}
+use Rattle.j39_findings.specs.declared.plan.text_plan.TextPlan.{TextPlan}
+use Rattle.j39_plan.specs.declared.reading.key.Key.TheVariants as key
+use Rattle.j39_plan.specs.declared.reading.place.Table.{Table}
+use Rattle.j39_plan.specs.declared.reading.place.Table.TheVariants as at
+use Rattle.j39_plan.specs.declared.reading.fault.Fault.{Fault}
+use Rattle.j39_plan.specs.declared.reading.text_kind.TextKind.TheVariants as texts
+use Rattle.j39_plan.specs.Schema.{Rule, number, optional, text, number_of, given_number, text_of}
+use Rattle.j39_plan.specs.TableFaults.{table_faults, table_only_faults}
+use Rattle.j39_plan.specs.Elements.{inside, repeated_faults}
+
+abbrev pub label_rule : Rule
+label_rule = text key.Label texts.Label None
+
+abbrev pub byte_rule : Rule
+byte_rule = number key.Byte 1 message_bytes None
+
+abbrev pub bytes_rule : Rule
+bytes_rule = optional key.Bytes 1 message_bytes
+
+abbrev pub text_rules : List Rule
+text_rules = label_rule ∷ byte_rule ∷ bytes_rule ∷ []
+
+-- the text that a table tells
+pub record TellsText (ms : Members) (t : TextPlan) : Type 0 where
+  pub has_label : t.label.bytes ≡ text_of label_rule ms
+  pub has_byte : t.byte ≡ number_of byte_rule ms
+  pub has_bytes : t.bytes ≡ given_number bytes_rule ms
+
+abbrev pub IsTextOf : Data → TextPlan → Type 0
+IsTextOf d t = TellsText (inside d) t
+
+abbrev pub text_label : Data → List ℕ
+text_label d = text_of label_rule (inside d)
+
+unfoldable pub text_table_faults : Table → Members → List Fault
+text_table_faults at ms = table_faults at text_rules ms
+
+-- the faults of the i-th text of the g-th group, behind signals with some labels and texts with those seen
+unfoldable pub text_faults : List (List ℕ) → ℕ → ℕ → List (List ℕ) → Data → List Fault
+text_faults taken g i seen d = table_only_faults (at.Text g i) d
+    ++ option_map_or (text_table_faults (at.Text g i)) (as_table d) []
+    ++ repeated_faults (at.Text g i) texts.Label (taken ++ seen) (text_label d)

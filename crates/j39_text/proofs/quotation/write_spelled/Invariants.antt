@@ -1,0 +1,6 @@
+use Rattle.std.proofs.Common.{◌≡◌, ◌++◌, drop}
+use Rattle.j39_text.specs.Quotations.{spelled}
+use Rattle.j39_text.proofs.quotation.write_spelled.Given as goal
+
+abbrev pub invariant-loop-byte : goal.invariant-loop-byte
+invariant-loop-byte l = l.text ++ spelled (drop l.byte-index l.bytes) ≡ l.initial.text ++ spelled l.bytes

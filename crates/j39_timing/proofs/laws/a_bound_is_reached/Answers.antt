@@ -1,0 +1,5 @@
+use Rattle.j39_timing.proofs.Reached.{reached}
+use Rattle.j39_timing.proofs.laws.a_bound_is_reached.Goals as goal
+
+pub returns : goal.returns
+returns c = record { reached = reached }

@@ -1,0 +1,5 @@
+pub mod Sums
+pub mod FrameBits
+pub mod Schedule
+pub mod Streams
+pub mod Waits

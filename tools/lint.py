@@ -1,0 +1,98 @@
+"""Hints at what of a plan may not be meant, though it is no finding."""
+
+from __future__ import annotations
+
+from collections.abc import Iterator
+
+from j1939 import POOL
+from toml_places import Place, Places
+
+# The line of a place, and a hint.
+Hint = tuple[int, str]
+
+# The priorities above that of control, which is 3 by default; that of information is 6 (SAE J1939-21).
+HIGH_PRIORITY = range(3)
+FRAME_BYTES = 8
+
+
+class Lint:
+    """The hints at a plan's text."""
+
+    def __init__(self, places: Places) -> None:
+        self.places = places
+        self.units, self.groups = places.elements(("unit",)), places.elements(("group",))
+        self.flows = places.elements(("flow",))
+
+    def hints(self) -> list[Hint]:
+        """All hints, in the order of the file."""
+        found = (self.unsent, self.idle, self.fixed_in_pool, self.short, self.urgent, self.equal_identities)
+        return sorted({hint for part in found for hint in part()})
+
+    def label(self, place: Place) -> str:
+        """The label of a table."""
+        return self.places.texts[place + ("label",)]
+
+    def at(self, place: Place, text: str) -> Hint:
+        """A hint at a place."""
+        return self.places.line(place), text
+
+    def is_arbitrary(self, unit: Place) -> bool:
+        """Whether a unit may choose its address."""
+        return self.places.spelled.get(unit + ("name", "arbitrary")) == "true"
+
+    def unsent(self) -> Iterator[Hint]:
+        """Groups that no flow sends."""
+        sent = {self.places.texts[flow + ("group",)] for flow in self.flows}
+        for group in self.groups:
+            if self.label(group) not in sent:
+                yield self.at(group + ("label",), f"group {self.label(group)}: no flow sends it")
+
+    def idle(self) -> Iterator[Hint]:
+        """Units that neither send a group nor get one that goes to them."""
+        busy = {self.places.texts[flow + (end,)] for flow in self.flows for end in ("from", "to")}
+        for unit in self.units:
+            if self.label(unit) not in busy:
+                yield self.at(unit + ("label",), f"unit {self.label(unit)}: no flow is from it or to it alone")
+
+    def fixed_in_pool(self) -> Iterator[Hint]:
+        """Units that may not choose, at an address among those that others choose, and that isn't kept free."""
+        kept = {self.places.integer(place) for place in self.places.elements(("keep_free",))}
+        for unit in self.units:
+            address = self.places.integer(unit + ("address",))
+            if address in POOL and address not in kept and not self.is_arbitrary(unit):
+                text = f"unit {self.label(unit)}: it may not choose, and its address {address} is one of 128..247, which others may choose"
+                yield self.at(unit + ("address",), text)
+
+    def short(self) -> Iterator[Hint]:
+        """Groups of one frame that don't fill it."""
+        for group in self.groups:
+            length = self.places.integer(group + ("length",))
+            if length < FRAME_BYTES:
+                text = f"group {self.label(group)}: {length} bytes; a group of one frame has 8, unused ones filled with ones"
+                yield self.at(group + ("length",), text)
+
+    def urgent(self) -> Iterator[Hint]:
+        """Groups that go to all, and thus inform, at the priorities of control."""
+        to_all = {self.places.texts[flow + ("group",)] for flow in self.flows if self.places.texts[flow + ("to",)] == "all"}
+        for group in self.groups:
+            priority = self.places.integer(group + ("priority",))
+            if priority in HIGH_PRIORITY and self.label(group) in to_all:
+                text = f"group {self.label(group)}: priority {priority}, and it goes to all; groups that inform have 6 by default"
+                yield self.at(group + ("priority",), text)
+
+    def equal_identities(self) -> Iterator[Hint]:
+        """Units of different makers with one identity number: it may have been copied."""
+        first: dict[int, list[Place]] = {}
+        for unit in self.units:
+            name = unit + ("name",)
+            others = first.setdefault(self.places.integer(name + ("identity",)), [])
+            other = next((other for other in others if self.maker(other) != self.maker(unit)), None)
+            if other is not None:
+                text = f"unit {self.label(unit)}: the identity of {self.label(other)}, which has another maker, at line "
+                yield self.at(name + ("identity",), text + str(self.places.line(other + ("name", "identity"))))
+            others.append(unit)
+
+    def maker(self, unit: Place) -> int:
+        """The manufacturer code of a unit."""
+        place = unit + ("name", "manufacturer")
+        return self.places.integer(place) if place in self.places.spelled else 0

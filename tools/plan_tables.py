@@ -1,0 +1,145 @@
+"""The tables of a plan that the program has read: units, groups with their signals, and flows, with the defaults of what isn't said."""
+
+from dataclasses import dataclass
+from fractions import Fraction
+
+from toml_places import Place, Places
+
+# The fields of a NAME: key, first bit, width.
+NAME_FIELDS = (
+    ("identity", 0, 21), ("manufacturer", 21, 11), ("ecu", 32, 3), ("function_instance", 35, 5), ("function", 40, 8),
+    ("system", 49, 7), ("system_instance", 56, 4), ("industry", 60, 3), ("arbitrary", 63, 1),
+)
+
+
+@dataclass(frozen=True)
+class Unit:
+    """A planned unit, with the fields of its NAME by their keys."""
+
+    label: str
+    address: int
+    chooser: str
+    window: int
+    fields: dict[str, int]
+
+    @property
+    def name(self) -> str:
+        """Its NAME as 16 hex digits."""
+        return f"{sum(self.fields[key] << first for key, first, _ in NAME_FIELDS):016X}"
+
+    @property
+    def may_choose(self) -> bool:
+        """Whether it may choose another address where its own is taken."""
+        return self.fields["arbitrary"] == 1
+
+
+@dataclass(frozen=True)
+class Signal:
+    """A signal of a group: where it begins, bytes and bits counted from 1, its width, and what its raw numbers mean."""
+
+    label: str
+    byte: int
+    bit: int
+    bits: int
+    kind: str
+    step: int
+    per: int
+    offset: int
+    unit: str
+
+    @property
+    def span(self) -> range:
+        """Its bits, counted from 0 in the group's data."""
+        start = 8 * (self.byte - 1) + self.bit - 1
+        return range(start, start + self.bits)
+
+    def value(self, raw: int) -> Fraction:
+        """The value of a raw number."""
+        return Fraction(self.offset + self.step * raw, self.per)
+
+
+@dataclass(frozen=True)
+class Text:
+    """A text of a group: its first byte, from 1, and how many it has; None where it goes to the end of the data."""
+
+    label: str
+    byte: int
+    bytes: int | None
+
+    def places(self, length: int) -> range:
+        """Its bytes, counted from 1, in data of this length."""
+        return range(self.byte, length + 1 if self.bytes is None else self.byte + self.bytes)
+
+
+@dataclass(frozen=True)
+class Group:
+    """A planned group."""
+
+    label: str
+    pgn: int
+    priority: int
+    length: int
+    private: bool
+    most: int
+    signals: list[Signal]
+    texts: list[Text]
+
+
+@dataclass(frozen=True)
+class Flow:
+    """Who sends which group to whom."""
+
+    group: str
+    sender: str
+    to: str
+
+
+class Tables:
+    """The tables of a plan, in the order of the file, read where its keys and values stand."""
+
+    def __init__(self, places: Places) -> None:
+        self._places = places
+        self.version = places.number(("version",)) or 1
+        self.kept = [places.integer(place) for place in places.elements(("keep_free",))]
+        self.units = [self._unit(place) for place in places.elements(("unit",))]
+        self.groups = [self._group(place) for place in places.elements(("group",))]
+        self.flows = [Flow(*(self._text(place, key) for key in ("group", "from", "to"))) for place in places.elements(("flow",))]
+
+    @classmethod
+    def of(cls, text: bytes) -> "Tables":
+        """The tables of a plan's text."""
+        return cls(Places(text.decode(errors="replace")))
+
+    def _text(self, place: Place, key: str, default: str = "") -> str:
+        return self._places.texts.get(place + (key,), default)
+
+    def _number(self, place: Place, key: str, default: int = 0) -> int:
+        number = self._places.number(place + (key,))
+        return default if number is None else number
+
+    def _unit(self, place: Place) -> Unit:
+        name = place + ("name",)
+        fields = {key: self._number(name, key) for key, _, _ in NAME_FIELDS}
+        fields["arbitrary"] = int(self._places.spelled.get(name + ("arbitrary",)) == "true")
+        return Unit(
+            self._text(place, "label"), self._number(place, "address"), self._text(place, "chooser", "lowest"),
+            self._number(place, "window", 255), fields,
+        )
+
+    def _group(self, place: Place) -> Group:
+        pgn, priority, length = (self._number(place, key) for key in ("pgn", "priority", "length"))
+        signals = [self._signal(other) for other in self._places.elements(place + ("signal",))]
+        private = self._places.spelled.get(place + ("private",)) == "true"
+        most = self._number(place, "most", length)
+        texts = [self._text_of(other) for other in self._places.elements(place + ("text",))]
+        return Group(self._text(place, "label"), pgn, priority, length, private, most, signals, texts)
+
+    def _text_of(self, place: Place) -> Text:
+        return Text(self._text(place, "label"), self._number(place, "byte"), self._places.number(place + ("bytes",)))
+
+    def _signal(self, place: Place) -> Signal:
+        return Signal(
+            self._text(place, "label"), self._number(place, "byte"), self._number(place, "bit", 1), self._number(place, "bits"),
+            self._text(place, "kind"), self._number(place, "step", 1), self._number(place, "per", 1), self._number(place, "offset"),
+            self._text(place, "unit"),
+        )

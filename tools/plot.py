@@ -1,0 +1,87 @@
+#!/usr/bin/python3
+"""Draws signals of a log over time, below one another, as a PNG or SVG file; with --addresses also who held which address when.
+
+What the frames say is what `j39plan read` reports of them. Where a signal is absent or faulty its line has a gap and a mark.
+"""
+
+import importlib.util
+import os
+from collections import defaultdict
+from collections.abc import Iterable
+
+import program
+from candump import Log
+from curves import Curve, Held, Timeline, curves_of
+from plan_tables import Tables
+from readings import Choice, Column, Rows
+from reports import Feed, read, say_what_was_passed_over, tables_of
+
+ENDINGS = (".png", ".svg")
+
+# The most pictures below one another.
+MOST = 24
+
+
+def drawn(given_log: str, plan: str, tables: Tables, choice: Choice) -> tuple[dict[Column, list[Curve]], list[Held]]:
+    """The curves of each chosen signal, those of each sender apart, and who held which address."""
+    log = Log()
+    feed = Feed(tables, log)
+    timeline = Timeline(feed, (unit.address for unit in tables.units))
+    feed.claimed = timeline.claimed
+    with open(given_log, "rb") as file:
+        curves = curves_of(Rows(choice).of(timeline.passed(read(plan, file, feed))))
+    say_what_was_passed_over(log)
+    by_signal = defaultdict(list)
+    for curve in curves:
+        by_signal[curve.group, curve.signal].append(curve)
+    return by_signal, timeline.held()
+
+
+def in_order(columns: dict[Column, str], names: list[str]) -> dict[Column, str]:
+    """The chosen signals in the order in which they were named."""
+    ranks = {name: rank for rank, name in reversed(list(enumerate(names)))}
+    return dict(sorted(columns.items(), key=lambda chosen: min(
+        ranks.get(name, len(names)) for name in (*chosen[0], ".".join(chosen[0])))))
+
+
+def refuse_unless_possible(names: Iterable[str], addresses: bool, output: str) -> None:
+    """Refuses what can't be drawn, and where what draws isn't there."""
+    if not output.endswith(ENDINGS):
+        raise program.Refused(program.UNREADABLE, f"{output}: the file's name ends in {' or '.join(ENDINGS)}")
+    if not names and not addresses:
+        raise program.Refused(program.UNREADABLE, "nothing to draw: name a signal, or --addresses")
+    if importlib.util.find_spec("matplotlib") is None:
+        raise program.Refused(program.MISSING, "matplotlib isn't there: apt-get install python3-matplotlib")
+
+
+def main(words: list[str] | None = None) -> int:
+    """Draws the picture."""
+    parser = program.parser(__doc__)
+    parser.epilog = "example: %(prog)s plan.toml drive.log SPN190 SPN110 -o drive.png"
+    parser.add_argument("plan", metavar="PLAN", help="the name of a plan file")
+    parser.add_argument("log", metavar="LOG", help="the name of a file as candump -L writes it")
+    parser.add_argument("names", metavar="SIGNAL", nargs="*", help="signals, GROUP.SIGNAL, or groups with all their signals")
+    parser.add_argument("-o", "--output", metavar="FILE", required=True,
+                        help="the name of the picture, which ends in .png or .svg")
+    parser.add_argument("--addresses", action="store_true", help="draw who held which address when, too")
+    given = parser.parse_intermixed_args(words)
+    refuse_unless_possible(given.names, given.addresses, given.output)
+    with program.copied(given.plan) as plan:
+        tables = tables_of(plan)
+        choice = Choice(tables, given.names, nothing=not given.names)
+        if len(choice.columns) > MOST:
+            raise program.Refused(program.UNREADABLE, f"{len(choice.columns)} signals are chosen, and {MOST} can be drawn")
+        curves, held = drawn(given.log, plan, tables, choice)
+    import picture
+
+    columns, title = in_order(choice.columns, given.names), os.path.basename(given.log)
+    figure = picture.figure_of(columns, curves, held if given.addresses else None, title)
+    picture.save(figure, given.output)
+    for group, signal in choice.columns:
+        if (group, signal) not in curves:
+            program.say(f"{group}.{signal} isn't in the log")
+    return 0
+
+
+if __name__ == "__main__":
+    program.end(main)

@@ -1,0 +1,63 @@
+#!/usr/bin/python3
+"""Writes a plan as one HTML page: units and their NAMEs, groups as maps of their bytes, flows as a matrix, and the findings.
+
+The page has no script and loads nothing. It follows the reader's dark or light screen, can be printed, and every table has a caption
+and headers, so that a screen reader finds its way.
+"""
+
+import os
+import sys
+from collections.abc import Iterator
+
+import program
+import where
+from left_out import plain
+from plan_tables import Tables
+from report_page import Finding, Stand, page
+
+
+def findings(plan: where.Plan, answer: str) -> Iterator[Finding]:
+    """The findings of `check`, each with its line, a hint, and the steps of a run that shows it."""
+    for line, *below in where.parted(answer):
+        if line.startswith("F"):
+            at, hint = where.finding(plan, line)
+            yield Finding(line, at, hint or "", [step.strip() for step in below])
+
+
+def stands(answer: str) -> dict[str, Stand]:
+    """Where units stand by `addresses`; of a plan whose addresses have findings that isn't known."""
+    told = (line.split() for line in answer.splitlines())
+    return {words[1]: Stand(words[2] == "stays", int(words[-1])) for words in told if words[0] == "unit"}
+
+
+def page_of(plan: str, title: str) -> str:
+    """The page of a plan that can be read."""
+    status, answer = program.call(["check", "--", plan])
+    if status not in (0, 1):
+        raise program.Refused(status, answer.strip())
+    with open(plan, "rb") as file:
+        told = where.Plan(file.read().decode(errors="replace"))
+    _, addresses = program.call(["addresses", "--", plan])
+    found = list(findings(told, answer))
+    return page(title, Tables(told.places), found, stands(addresses), program.call(["--version"])[1].strip())
+
+
+def main(words: list[str] | None = None) -> int:
+    """Writes the page, whatever findings the plan has."""
+    parser = program.parser(__doc__)
+    parser.epilog = "example: %(prog)s plan.toml -o plan.html"
+    parser.add_argument("plan", metavar="PLAN", help="the name of a plan file")
+    parser.add_argument("-o", "--output", metavar="FILE", help="the name of the HTML file; standard output, if none is named")
+    given = parser.parse_args(words)
+    with program.copied(given.plan) as plan:
+        text = page_of(plan, plain(os.fsencode(given.plan).decode(errors="replace")))
+    if given.output is None:
+        sys.stdout.buffer.write(text.encode())
+        return 0
+    with open(given.output, "w", encoding="utf-8") as file:
+        file.write(text)
+    return 0
+
+
+if __name__ == "__main__":
+    program.end(main)

@@ -1,0 +1,277 @@
+"""The HTML page of a plan."""
+
+from collections import defaultdict
+from collections.abc import Iterable, Iterator
+from html import escape
+from itertools import groupby
+from typing import NamedTuple
+
+from plan_tables import NAME_FIELDS, Flow, Group, Signal, Tables, Text, Unit
+from report_style import STYLE
+
+# How many receivers stand beside one another, so that a matrix fits on a sheet of paper.
+RECEIVERS = 8
+
+# The most raw number that is a value, of the kinds of which not all are.
+MEASURED = {8: 0xFA, 16: 0xFAFF, 32: 0xFAFFFFFF}
+
+# What of a NAME a unit's table has beside the whole.
+FIELDS = [key for key, _, _ in NAME_FIELDS if key != "arbitrary"]
+
+
+class Finding(NamedTuple):
+    """What `check` found, the line of the file where it belongs, a hint, and the steps of a run that shows it."""
+
+    text: str
+    line: int
+    hint: str
+    steps: list[str]
+
+
+class Stand(NamedTuple):
+    """Whether a unit holds its planned address in every run, and that address."""
+
+    stays: bool
+    address: int
+
+
+def spaced(key: str) -> str:
+    """A key as words."""
+    return key.replace("_", " ")
+
+
+def row(head: str, cells: Iterable[str], scope: str = "row") -> str:
+    """A table's row; its cells are HTML."""
+    return f'<tr><th scope="{scope}">{head}</th>' + "".join(f"<td>{cell}</td>" for cell in cells) + "</tr>"
+
+
+def table(caption: str, heads: Iterable[str], rows: Iterable[str], kind: str = "") -> str:
+    """A table with a caption and headers of its columns, in a frame that scrolls where it is too wide."""
+    top = "".join(f'<th scope="col">{head}</th>' for head in heads)
+    label = f' class="{kind}"' if kind else ""
+    return (
+        f'<div class="wide" role="region" tabindex="0" aria-label="{caption}"><table{label}>\n<caption>{caption}</caption>\n'
+        f"<thead><tr>{top}</tr></thead>\n<tbody>\n" + "\n".join(rows) + "\n</tbody>\n</table></div>"
+    )
+
+
+def section(name: str, heading: str, parts: Iterable[str]) -> str:
+    """A section with its heading."""
+    inside = "\n".join(parts)
+    return f'<section id="{name}" aria-labelledby="{name}-heading">\n<h2 id="{name}-heading">{heading}</h2>\n{inside}\n</section>'
+
+
+def finding_section(title: str, found: list[Finding]) -> str:
+    """The findings with their lines, or that there is none."""
+    if not found:
+        return section("findings", "Findings", ["<p><strong>ok</strong>: <code>check</code> found nothing.</p>"])
+    rows = []
+    for number, finding in enumerate(found, 1):
+        steps = "<br>".join(f"<code>{escape(step)}</code>" for step in finding.steps) or "–"
+        place = f"<code>{title}:{finding.line}</code>"
+        rows.append(row(str(number), [place, f"<code>{escape(finding.text)}</code>", escape(finding.hint) or "–", steps]))
+    heads = ("No.", "File and line", "Finding", "What to look at", "A run that shows it")
+    return section("findings", "Findings", [table(f"Findings: {len(found)}", heads, rows)])
+
+
+def standing(unit: Unit, stands: dict[str, Stand]) -> str:
+    """Where a unit stands, in words."""
+    if unit.label not in stands:
+        return "not known: the addresses have findings"
+    return "stays" if stands[unit.label].stays else "may move"
+
+
+def unit_section(tables: Tables, stands: dict[str, Stand]) -> str:
+    """The units with the fields of their NAMEs and where they stand."""
+    units = tables.units
+    if not units:
+        return section("units", "Units", ["<p>The plan has no units.</p>"])
+    where = [
+        row(escape(unit.label), [str(unit.address), standing(unit, stands), "may choose" if unit.may_choose else "fixed",
+            unit.chooser if unit.may_choose else "–", str(unit.window)])
+        for unit in units
+    ]
+    names = [
+        row(escape(unit.label), [f"<code>{unit.name}</code>", *(str(unit.fields[key]) for key in FIELDS)])
+        for unit in units
+    ]
+    kept = ", ".join(map(str, tables.kept))
+    heads = ("Unit", "Planned address", "In every run", "By its NAME", "Looks for another", "Window")
+    parts = [
+        table("Units and where they stand", heads, where),
+        table("NAMEs of the units", ("Unit", "NAME", *map(spaced, FIELDS)), names, "numbers"),
+    ]
+    return section("units", "Units", parts + ([f"<p>Addresses that no unit may choose: {kept}.</p>"] if kept else []))
+
+
+def senders(flows: list[Flow]) -> dict[str, list[str]]:
+    """Who sends each group."""
+    sent: dict[str, list[str]] = defaultdict(list)
+    for flow in flows:
+        if flow.sender not in sent[flow.group]:
+            sent[flow.group].append(flow.sender)
+    return sent
+
+
+def byte_row(byte: int, owners: list[str], is_inside: bool) -> str:
+    """The row of a byte, the most significant bit first; neighbouring bits of one signal are one cell."""
+    cells = []
+    for owner, bits in groupby(reversed(owners)):
+        width = len(list(bits))
+        span = f' colspan="{width}"' if width > 1 else ""
+        cells.append(f"<td{span}>{owner}</td>" if owner else f'<td class="free"{span}>free</td>')
+    outside = "" if is_inside else " (outside)"
+    return f'<tr><th scope="row">{byte}{outside}</th>{"".join(cells)}</tr>'
+
+
+def byte_rows(group: Group) -> Iterator[str]:
+    """The bytes of a group; those without a signal that follow one another, and have the same texts, are one row."""
+    owners: dict[int, list[str]] = defaultdict(list)
+    texts: dict[int, list[str]] = defaultdict(list)
+    for signal in group.signals:
+        for bit in signal.span:
+            owners[bit].append(escape(signal.label))
+    for text in group.texts:
+        for byte in text.places(group.most):
+            texts[byte].append(escape(text.label))
+    used = {bit // 8 + 1 for bit in owners}
+    last = max(used | set(texts) | {group.most})
+    for (is_used, named, is_inside), run in groupby(
+        range(1, last + 1), lambda byte: (byte in used, " and ".join(texts.get(byte, ())), byte <= group.most)
+    ):
+        bytes_ = list(run)
+        if is_used:
+            for byte in bytes_:
+                names = [" and ".join([*owners.get(bit, ()), *texts.get(byte, ())]) for bit in range(8 * byte - 8, 8 * byte)]
+                yield byte_row(byte, names, is_inside)
+        else:
+            head = (str(bytes_[0]) if len(bytes_) == 1 else f"{bytes_[0]} to {bytes_[-1]}") + ("" if is_inside else " (outside)")
+            cell = f'<td colspan="8">{named}</td>' if named else '<td class="free" colspan="8">free</td>'
+            yield f'<tr><th scope="row">{head}</th>{cell}</tr>'
+
+
+def decimal(signal: Signal, raw: int) -> str:
+    """The value of a raw number, as exactly as ten digits show it."""
+    value = signal.value(raw)
+    return str(value.numerator) if value.denominator == 1 else f"{float(value):.10g}"
+
+
+def range_of(signal: Signal) -> str:
+    """The least and the greatest value that a signal can have."""
+    if signal.kind == "dtc":
+        return "trouble codes"
+    least, most = 0, 2 ** signal.bits - 1
+    if signal.kind == "measured":
+        most = MEASURED.get(signal.bits, most)
+    elif signal.kind in ("discrete", "states"):
+        most -= 2
+    elif signal.kind == "signed":
+        least, most = -(2 ** (signal.bits - 1)), 2 ** (signal.bits - 1) - 1
+    return f"{decimal(signal, least)} to {decimal(signal, most)}"
+
+
+def formula(signal: Signal) -> str:
+    """How a value is had from the raw number."""
+    if signal.kind == "dtc":
+        return "–"
+    scaled = "raw" if signal.step == 1 else f"{signal.step} × raw"
+    if signal.offset:
+        scaled += f" {'+' if signal.offset > 0 else '−'} {abs(signal.offset)}"
+    if signal.per == 1:
+        return scaled
+    return f"({scaled}) / {signal.per}" if signal.offset else f"{scaled} / {signal.per}"
+
+
+def signal_row(signal: Signal) -> str:
+    """A signal by where it lies and what it means."""
+    cells = [f"{signal.byte}.{signal.bit}", str(signal.bits), signal.kind, formula(signal), range_of(signal), signal.unit or "–"]
+    return row(escape(signal.label), map(escape, cells))
+
+
+def text_row(text: Text) -> str:
+    """A text by where it lies."""
+    return row(escape(text.label), (str(text.byte), "to the end" if text.bytes is None else str(text.bytes)))
+
+
+def group_part(number: int, group: Group, sent_by: list[str]) -> str:
+    """A group with the map of its bytes, its signals and its texts."""
+    label, who = escape(group.label), escape(", ".join(sent_by)) or "nobody"
+    own = ", a maker's own number" if group.private else ""
+    bytes_ = f"{group.length}" if group.length == group.most else f"{group.length} to {group.most}"
+    facts = f"PGN {group.pgn} (<code>{group.pgn:04X}</code>){own}, priority {group.priority}, bytes: {bytes_}, sent by {who}."
+    bits = [f"bit {bit}" for bit in range(8, 0, -1)]
+    parts = [f'<h3 id="group-{number}">{label}</h3>', f"<p>{facts}</p>",
+             table(f"Bytes of {label}", ("Byte", *bits), byte_rows(group), "bytes")]
+    if group.signals:
+        heads = ("Signal", "Byte.bit", "Bits", "Kind", "Value", "Range", "Unit of measurement")
+        parts.append(table(f"Signals of {label}", heads, map(signal_row, group.signals)))
+    if group.texts:
+        parts.append(table(f"Texts of {label}", ("Text", "Byte", "Bytes"), map(text_row, group.texts)))
+    return f'<article aria-labelledby="group-{number}">\n' + "\n".join(parts) + "\n</article>"
+
+
+def group_section(tables: Tables) -> str:
+    """The groups, each with its bytes."""
+    if not tables.groups:
+        return section("groups", "Groups", ["<p>The plan has no groups.</p>"])
+    sent = senders(tables.flows)
+    return section(
+        "groups", "Groups",
+        [group_part(number, group, sent.get(group.label, [])) for number, group in enumerate(tables.groups, 1)],
+    )
+
+
+def flow_section(tables: Tables) -> str:
+    """Who sends what to whom: a row a sender, a column a receiver."""
+    if not tables.flows:
+        return section("flows", "Flows", ["<p>The plan has no flows.</p>"])
+    links = {group.label: f'<a href="#group-{number}">{escape(group.label)}</a>' for number, group in enumerate(tables.groups, 1)}
+    cells: dict[tuple[str, str], list[str]] = defaultdict(list)
+    for flow in tables.flows:
+        cells[flow.sender, flow.to].append(links[flow.group])
+    order = [unit.label for unit in tables.units]
+    receivers = [label for label in ("all", *order) if any(to == label for _, to in cells)]
+    parts = []
+    for first in range(0, len(receivers), RECEIVERS):
+        some = receivers[first:first + RECEIVERS]
+        rows = [
+            row(escape(sender), ["<br>".join(cells.get((sender, to), ["–"])) for to in some])
+            for sender in order if any((sender, to) in cells for to in some)
+        ]
+        more = f", receivers {first + 1} to {first + len(some)} of {len(receivers)}" if len(receivers) > RECEIVERS else ""
+        heads = ("From", *(f"to {escape(to)}" for to in some))
+        parts.append(table(f"Groups by sender and receiver{more}", heads, rows))
+    return section("flows", "Flows", parts)
+
+
+def page(title: str, tables: Tables, found: list[Finding], stands: dict[str, Stand], version: str) -> str:
+    """The whole page. The title is the name of the plan's file."""
+    title = escape(title)
+    counts = f"{len(tables.units)} units, {len(tables.groups)} groups, {len(tables.flows)} flows, findings: {len(found)}"
+    links = "".join(f'<li><a href="#{name}">{name.capitalize()}</a></li>' for name in ("findings", "units", "flows", "groups"))
+    sections = [finding_section(title, found), unit_section(tables, stands), flow_section(tables), group_section(tables)]
+    return f"""<!DOCTYPE html>
+<html lang="en">
+<head>
+<meta charset="utf-8">
+<meta http-equiv="Content-Security-Policy" content="default-src 'none'; style-src 'unsafe-inline'">
+<meta name="viewport" content="width=device-width, initial-scale=1">
+<meta name="color-scheme" content="light dark">
+<title>Plan {title}</title>
+<style>
+{STYLE}</style>
+</head>
+<body>
+<a class="skip" href="#content">To the content</a>
+<header>
+<h1>Plan {title}</h1>
+<p>Version {tables.version} of the format: {counts}.</p>
+<nav aria-label="Sections"><ul>{links}</ul></nav>
+</header>
+<main id="content">
+{chr(10).join(sections)}
+</main>
+<footer><p>Written by {escape(version)}.</p></footer>
+</body>
+</html>
+"""

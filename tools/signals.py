@@ -1,0 +1,116 @@
+#!/usr/bin/python3
+"""Writes the signals of a log as a table: time, line, sender, receiver, group, signal, state, value, unit of measurement.
+
+The log is one of candump -L. What the frames say is what `j39plan read` reports of them.
+"""
+
+import csv
+import json
+import re
+import sys
+from collections.abc import Callable, Iterator
+from typing import TextIO
+
+import program
+from candump import Log
+from readings import Choice, Reading, Row, Rows
+from reports import Feed, is_live, read, say_what_was_passed_over, tables_of
+
+HEADS = ("time", "line", "from", "to", "group", "signal", "state", "value", "unit", "detail")
+
+# A number as JSON spells it.
+NUMBER = re.compile(r"-?(?:0|[1-9]\d*)(?:\.\d+)?")
+
+
+class Plain:
+    """A row a signal, with commas between its columns."""
+
+    def __init__(self, file: TextIO, _: Choice) -> None:
+        self._writer = csv.writer(file, lineterminator="\n")
+        self._writer.writerow(HEADS)
+
+    def put(self, row: Row) -> None:
+        """Writes the signals of a message."""
+        line, time, sender, to = row.origin
+        self._writer.writerows(
+            (time, line, sender, to, row.group, label, *reading) for label, reading in row.readings
+        )
+
+
+class Lines:
+    """A JSON object a signal, each on a line. A key is left out where there is nothing to say."""
+
+    def __init__(self, file: TextIO, _: Choice) -> None:
+        self._file = file
+
+    def put(self, row: Row) -> None:
+        """Writes the signals of a message."""
+        line, time, sender, to = row.origin
+        head = [("time", time), ("line", str(line)), ("from", json.dumps(sender)), ("to", json.dumps(to)), ("group", json.dumps(row.group))]
+        head[0] = ("time", time if NUMBER.fullmatch(time) else json.dumps(time) if time else "")
+        for label, (state, value, unit, detail) in row.readings:
+            tail = [("signal", label), ("state", state), ("unit", unit), ("detail", detail)]
+            cells = [*head, *((key, json.dumps(text) if text else "") for key, text in tail[:2]), ("value", value),
+                     *((key, json.dumps(text) if text else "") for key, text in tail[2:])]
+            self._file.write("{" + ", ".join(f'"{key}": {text}' for key, text in cells if text) + "}\n")
+
+
+class Wide:
+    """A row a message, with a column for each signal: its value, or the word for what it has instead of one."""
+
+    def __init__(self, file: TextIO, choice: Choice) -> None:
+        self._writer = csv.writer(file, lineterminator="\n")
+        self._columns = {column: at for at, column in enumerate(choice.columns)}
+        heads = [f"{group}.{label}" + (f" [{unit}]" if unit else "") for (group, label), unit in choice.columns.items()]
+        self._writer.writerow([*HEADS[:5], *heads])
+
+    def put(self, row: Row) -> None:
+        """Writes the signals of a message."""
+        line, time, sender, to = row.origin
+        cells = [""] * len(self._columns)
+        for label, reading in row.readings:
+            cells[self._columns[row.group, label]] = cell(reading)
+        self._writer.writerow([time, line, sender, to, row.group, *cells])
+
+
+def cell(reading: Reading) -> str:
+    """What stands in the column of a signal."""
+    if reading.state in ("value", "text"):
+        return reading.value or reading.detail
+    return f"{reading.state} {reading.detail}" if reading.state == "dtc" else reading.state
+
+
+def put_all(rows: Iterator[Row], put: Callable[[Row], None], flush: Callable[[], None] | None) -> None:
+    """Writes rows, each at once where somebody waits for it."""
+    for row in rows:
+        put(row)
+        if flush:
+            flush()
+
+
+def main(words: list[str] | None = None) -> int:
+    """Writes the table."""
+    parser = program.parser(__doc__)
+    parser.epilog = "example: %(prog)s plan.toml drive.log SPN190 ET1 > signals.csv"
+    parser.add_argument("plan", metavar="PLAN", help="the name of a plan file")
+    parser.add_argument("log", metavar="LOG", help="the name of a file as candump -L writes it")
+    parser.add_argument("names", metavar="NAME", nargs="*", help="groups, signals, or GROUP.SIGNAL; all, if none is named")
+    forms = parser.add_mutually_exclusive_group()
+    forms.add_argument("--csv", dest="form", action="store_const", const=Plain, help="a row a signal (the default)")
+    forms.add_argument("--json", dest="form", action="store_const", const=Lines, help="a JSON object a signal, each on a line")
+    forms.add_argument("--wide", dest="form", action="store_const", const=Wide, help="a row a message, a column a signal")
+    parser.set_defaults(form=Plain)
+    given = parser.parse_intermixed_args(words)
+    log = Log()
+    with program.copied(given.plan) as plan, open(given.log, "rb") as file:
+        tables = tables_of(plan)
+        choice = Choice(tables, given.names)
+        form = given.form(sys.stdout, choice)
+        rows = Rows(choice).of(read(plan, file, Feed(tables, log)))
+        put_all(rows, form.put, sys.stdout.flush if is_live(file) else None)
+    say_what_was_passed_over(log)
+    return 0
+
+
+if __name__ == "__main__":
+    program.end(main)

@@ -1,0 +1,230 @@
+"""DBCs of plans: what they say is what the plan said, read back and decoded."""
+
+import random
+import tomllib
+from fractions import Fraction
+from math import gcd
+
+import program
+from matrix_file import import_canmatrix
+from tests.support import MARKED, NEWER, InFolder, example, examples, needs, run, text_of
+
+KINDS = {
+    "measured": (8, 16, 32), "discrete": (2,), "raw": (1, 2, 3, 8, 16, 31, 32), "states": (2, 3, 8), "signed": (2, 8, 13, 32),
+    "dtc": (32,),
+}
+LABELS = ["A", "1", "7UP", "BO_", "Vector__XXX", "FILTER", "X" * 32, "motor", "MOTOR", "_"]
+UNITS = ["", "rpm", "1/8 rpm", "%", "degC", "km/h"]
+
+
+def scale(signal):
+    """Step, offset and divisor of a signal in the smallest numbers."""
+    numbers = signal.get("step", 1), signal.get("offset", 0), signal.get("per", 1)
+    return tuple(number // gcd(*numbers) for number in numbers)
+
+
+def said(plan):
+    """What of a plan a DBC can say."""
+    addresses = {unit["label"]: unit["address"] for unit in plan.get("unit", [])}
+    units = {unit["label"]: (unit["address"], {key: part for key, part in unit["name"].items() if part})
+             for unit in plan.get("unit", [])}
+    groups = {
+        group["label"]: (group["pgn"], group["priority"], group["length"], group.get("private", False), [
+            (signal["label"], signal["byte"], signal.get("bit", 1), signal["bits"], signal["kind"], scale(signal), signal.get("unit", ""))
+            for signal in group.get("signal", [])])
+        for group in plan.get("group", [])
+    }
+    to_all = {label for label, group in groups.items() if group[0] >> 8 & 0xFF >= 240}
+    flows = {(flow["group"], flow["from"], "all" if flow["group"] in to_all else flow["to"]) for flow in plan.get("flow", [])}
+    return units, groups, flows, sorted(addresses)
+
+
+def random_signals(chance, length):
+    """Signals behind one another in a group."""
+    signals, at = [], 0
+    while True:
+        kind = chance.choice(list(KINDS))
+        bits, at = chance.choice(KINDS[kind]), at + chance.choice([0, 0, 1, 5])
+        at = -(-at // 8) * 8 if kind == "dtc" else at
+        if at + bits > 8 * length or len(signals) == 20:
+            return signals
+        signals.append({"label": (LABELS + [f"S{len(signals)}"] * 20)[len(signals)], "byte": at // 8 + 1, "bit": at % 8 + 1, "bits": bits,
+                        "kind": kind, **({} if kind == "dtc" else random_scale(chance))})
+        at += bits
+
+
+def random_scale(chance):
+    """What the values of a signal mean."""
+    return {"step": chance.choice([1, 1, 3, 25, 1000000]), "per": chance.choice([1, 8, 10, 1000, 2**23, 5**10]),
+            "offset": chance.choice([0, -40, 7, -10**12, 10**12]), "unit": chance.choice(UNITS)}
+
+
+def written(header, keys):
+    """A table of a plan."""
+    lines = [f"[[{header}]]"]
+    for key, part in keys.items():
+        lines.append(f"{key} = {str(part).lower() if isinstance(part, bool) else repr(part)}")
+    return "\n".join(lines) + "\n"
+
+
+def random_plan(chance):
+    """The text of a random plan without findings that a DBC could not say."""
+    text, labels = "version = 3\n", chance.sample(LABELS, chance.randrange(1, 6))
+    for number, label in enumerate(labels):
+        text += written("unit", {"label": label, "address": 10 * number}) + (
+            f"name = {{ identity = {number}, function = {chance.randrange(256)}, industry = {chance.randrange(8)}, "
+            f"arbitrary = {chance.choice(['true', 'false'])} }}\n")
+    pgns = chance.sample([0, 256, 61444, 65262, 65226, 131071 - 512, 65000], chance.randrange(1, 6))
+    for label, pgn in zip(chance.sample(LABELS, len(pgns)), pgns):
+        length = chance.choice([1, 7, 8, 9, 40])
+        text += written("group", {"label": label, "pgn": pgn, "priority": chance.randrange(8), "length": length})
+        text += "".join(written("group.signal", signal) for signal in random_signals(chance, length))
+        for sender in chance.sample(labels, chance.randrange(len(labels) + 1)):
+            others = [other for other in labels if other != sender and pgn < 256 * 240] + ["all"]
+            text += "".join(written("flow", {"group": label, "from": sender, "to": to})
+                            for to in chance.sample(others, chance.randrange(1, len(others) + 1)))
+    return text
+
+
+class WithPlans(InFolder):
+    def made(self, plan):
+        """The DBC of a plan's file, under its name, and what is said of it."""
+        status, dbc, told = run("plan2dbc.py", plan)
+        self.assertEqual(status, 0, told)
+        return self.write("file.dbc", dbc), told
+
+    def back(self, plan):
+        """The plan that comes of a plan's DBC."""
+        status, text, told = run("dbc2plan.py", self.made(plan)[0])
+        self.assertEqual(status, 0, told)
+        return tomllib.loads(text)
+
+
+@needs("canmatrix", "python3-canmatrix")
+class RoundTrip(WithPlans):
+    def test_the_examples(self):
+        """But those with findings, which have two messages of one identifier or widths that no kind has."""
+        plans = [plan for plan in examples(".toml") if "findings" not in plan]
+        self.assertGreater(len(plans), 6)
+        for plan in plans:
+            with self.subTest(plan):
+                self.assertEqual(said(self.back(plan)), said(tomllib.loads(text_of(plan))))
+
+    def test_random_plans(self):
+        chance, flows = random.Random(1939), 0
+        for number in range(40):
+            with self.subTest(number):
+                plan = self.write("plan.toml", random_plan(chance))
+                status, answer = program.call(["check", plan])
+                self.assertNotEqual(status, 2, answer)
+                whole = tomllib.loads(text_of(plan))
+                self.assertEqual(said(self.back(plan)), said(whole))
+                flows += len(whole.get("flow", []))
+        self.assertGreater(flows, 60)
+
+    def test_groups_of_makers(self):
+        """Two makers' groups of one number, one of them from two units."""
+        units = "".join(written("unit", {"label": label, "address": address}) + f"name = {{ identity = {address} }}\n"
+                        for address, label in enumerate(("ECU", "OTHER", "THIRD")))
+        groups = "".join(written("group", {"label": label, "pgn": pgn, "priority": 6, "length": 8, "private": True})
+                         for label, pgn in (("ONE", 65300), ("TWO", 65300), ("THREE", 61184)))
+        flows = "".join(written("flow", {"group": group, "from": sender, "to": to}) for group, sender, to in (
+            ("ONE", "ECU", "all"), ("ONE", "THIRD", "all"), ("TWO", "OTHER", "all"), ("THREE", "ECU", "THIRD")))
+        plan = self.write("plan.toml", "version = 3\n" + units + groups + flows)
+        self.assertEqual(said(self.back(plan)), said(tomllib.loads(text_of(plan))))
+
+    def test_random_frames(self):
+        """canmatrix decodes them to the values that the plan's definition of a value gives."""
+        import_canmatrix()
+        import canmatrix.formats
+        chance, values = random.Random(42), 0
+        for _ in range(20):
+            plan = self.write("plan.toml", random_plan(chance))
+            groups = {group["label"]: group for group in tomllib.loads(text_of(plan))["group"]}
+            for frame in canmatrix.formats.loadp_flat(self.made(plan)[0]).frames:
+                group = groups[frame.attributes.get("PlanGroup", frame.name)]
+                data = chance.randbytes(group["length"])
+                decoded = {signal.signal.attributes.get("PlanSignal", name): signal for name, signal in frame.decode(data).items()}
+                for signal in group.get("signal", []):
+                    raw = int.from_bytes(data, "little") >> 8 * (signal["byte"] - 1) + signal["bit"] - 1 & (1 << signal["bits"]) - 1
+                    if signal["kind"] == "signed" and raw >> signal["bits"] - 1:
+                        raw -= 1 << signal["bits"]
+                    value = Fraction(signal.get("offset", 0) + signal.get("step", 1) * raw, signal.get("per", 1))
+                    found = Fraction(str(decoded[signal["label"]].phys_value))
+                    self.assertLessEqual(abs(found - value), abs(value) / 10**24)
+                    values += 1
+        self.assertGreater(values, 200)
+
+
+class Written(WithPlans):
+    def test_a_message(self):
+        plan = self.write("plan.toml", """version = 3
+[[unit]]
+label = "A"  # The "first" one
+address = 5
+name = { identity = 7 }
+[[unit]]
+label = "DISPLAY"
+address = 9
+chooser = "upward"
+window = 16
+name = { identity = 8 }
+[[group]]
+label = "G"
+pgn = 1024
+priority = 3
+length = 8
+[[group.signal]]
+label = "SPN190"  # SPN 190
+byte = 4
+bits = 16
+kind = "measured"
+per = 8
+unit = 'r"p"m'
+[[group]]
+label = "ALONE"
+pgn = 61444
+priority = 6
+length = 8
+[[flow]]
+group = "G"
+from = "A"
+to = "DISPLAY"
+""")
+        dbc, told = self.made(plan)
+        lines = text_of(dbc).splitlines()
+        for line in ("BU_: _A DISPLAY", f"BO_ {0x8C040905} _G: 8 _A",
+                     " SG_ SPN190 : 24|16@1+ (0.125,0) [0|8031.875] \"r'p'm\" DISPLAY", f"BO_ {0x98F004FE} ALONE: 8 Vector__XXX",
+                     "CM_ BU_ _A \"The 'first' one\";", f'CM_ SG_ {0x8C040905} SPN190 "SPN 190";',
+                     'BA_ "NmStationAddress" BU_ _A 5;', 'BA_ "NmJ1939IdentityNumber" BU_ DISPLAY 8;',
+                     f'BA_ "PlanGroup" BO_ {0x8C040905} "G";'):
+            self.assertIn(line, lines)
+        self.assertEqual(told.splitlines(), [
+            "unit DISPLAY: a DBC has no chooser", "unit DISPLAY: a DBC has no window", "2 nodes 2 messages, notes 2"])
+
+    def test_texts_are_noted(self):
+        _, dbc, said = run("plan2dbc.py", example("identification.toml"))
+        self.assertIn("text SPN237 of VI: a DBC has no texts", said)
+        self.assertIn("SG_ SPN965 ", dbc)
+        self.assertNotIn("SPN234", dbc)
+
+    def test_two_messages_of_one_identifier(self):
+        """The second one, which check finds, is left out."""
+        unit = written("unit", {"label": "ECU", "address": 5}) + "name = { identity = 7 }\n"
+        groups = [written("group", {"label": label, "pgn": 61444, "priority": 6, "length": 8}) for label in ("FIRST", "SECOND")]
+        flows = [written("flow", {"group": label, "from": "ECU", "to": "all"}) for label in ("FIRST", "SECOND")]
+        dbc, told = self.made(self.write("plan.toml", "version = 1\n" + unit + "".join(groups + flows)))
+        self.assertEqual(text_of(dbc).count("\nBO_ "), 1)
+        self.assertIn("flow of SECOND from ECU to all: another group's message has its identifier\n", told)
+
+    def test_spellings(self):
+        """A plan of TOML 1.1 gives the same as one behind a byte order mark."""
+        newer, marked = (text_of(self.made(self.write("plan.toml", text))[0]) for text in (NEWER, MARKED))
+        self.assertIn("\nBU_: _A _B\n", newer)
+        self.assertEqual([line for line in newer.splitlines() if not line.startswith("CM_ ")], marked.splitlines())
+
+    def test_plans_that_cannot_be_read(self):
+        status, dbc, told = run("plan2dbc.py", self.write("plan.toml", "version = 9\n"))
+        self.assertEqual((status, dbc, told), (2, "", "plan2dbc: refused Range top key version\n"))
+        missing = self.path("none.toml")
+        self.assertEqual(run("plan2dbc.py", missing), (4, "", f"plan2dbc: {missing}: No such file or directory\n"))

@@ -1,0 +1,156 @@
+"""Pictures of a log: what is drawn, where nothing is, and what is refused."""
+
+import math
+import os
+import random
+import subprocess
+import sys
+import unittest
+import xml.etree.ElementTree as ElementTree
+
+import program
+from candump import Log
+from curves import Held, Timeline, curves_of
+from readings import Choice, Rows
+from reports import Feed, read, tables_of
+from tests.support import TOOLS, InFolder, example, needs, run
+
+PLAN = example("tractor_and_implement.toml")
+
+# Speed and temperature, the temperature absent and then faulty; the sprayer moves, since another unit takes its address away.
+LINES = [
+    "(100.0) can0 18EEFF00#1120C32600000000", "(100.5) can0 0CF00400#F07D8C0019FFFFFF", "(101.0) can0 18FEEE00#7DFFFFFFFFFFFFFF",
+    "(102.0) can0 18FEEE00#FFFFFFFFFFFFFFFF", "(103.0) can0 18FEEE00#FEFFFFFFFFFFFFFF", "(104.0) can0 18FEEE00#7EFFFFFFFFFFFFFF",
+    "(104.5) can0 0CF00403#F07D8C0032FFFFFF", "(105.0) can0 18EEFF80#7856341200000000", "(105.5) can0 18EEFF81#1240A05B00800CA0",
+    "(107.0) can0 18EEFFFE#1240A05B00800CA0", "(110.0) can0 0CF00400#F07D8C0019FFFFFF",
+]
+
+
+class WithLog(InFolder):
+    def setUp(self):
+        super().setUp()
+        self.log = self.write("drive.log", "".join(f"{line}\n" for line in LINES))
+
+
+class Told(WithLog):
+    def told(self, log, *names):
+        """The curves of a log, and who held which address."""
+        tables = tables_of(PLAN)
+        feed = Feed(tables, Log())
+        timeline = Timeline(feed, (unit.address for unit in tables.units))
+        feed.claimed = timeline.claimed
+        with open(log, "rb") as file:
+            curves = curves_of(Rows(Choice(tables, names)).of(timeline.passed(read(PLAN, file, feed))))
+        return {(curve.group, curve.signal, curve.sender): curve for curve in curves}, timeline.held()
+
+    def test_curves_have_gaps(self):
+        """No value where a signal is absent or faulty, and the time of each such state; each sender has its own curve."""
+        curves, _ = self.told(self.log, "SPN110", "SPN190")
+        heat = curves["ET1", "SPN110", "ENGINE"]
+        self.assertEqual(list(heat.times), [101.0, 102.0, 103.0, 104.0])
+        self.assertEqual([None if math.isnan(value) else value for value in heat.values], [85.0, None, None, 86.0])
+        self.assertEqual({state: list(times) for state, times in heat.states.items()}, {"absent": [102.0], "fault": [103.0]})
+        self.assertEqual(list(curves["EEC1", "SPN190", "TRANSMISSION"].values), [1600.0])
+        self.assertEqual(len(curves), 3)
+
+    def test_who_held_which_address(self):
+        _, held = self.told(self.log)
+        self.assertEqual([part for part in held if part.address in (0, 128, 129)], [
+            Held(0, "ENGINE", 100.0, 110.0, True), Held(128, "SPRAYER", 100.0, 105.0, False),
+            Held(128, "0000000012345678", 105.0, 110.0, True), Held(129, "SPRAYER", 105.5, 107.0, True),
+        ])
+        self.assertEqual([part for part in held if part.address == 3], [Held(3, "TRANSMISSION", 100.0, 110.0, False)])
+
+    def test_times_of_other_forms(self):
+        """A time of day counts in seconds; without times the lines count."""
+        clock = self.write("clock.log", "12:00:01.5 can0 18FEEE00#7DFFFFFFFFFFFFFF\n12:01:00.0 can0 18FEEE00#7DFFFFFFFFFFFFFF\n")
+        self.assertEqual(list(self.told(clock, "SPN110")[0]["ET1", "SPN110", "ENGINE"].times), [43201.5, 43260.0])
+        bare = self.write("bare.log", "\n18FEEE00#7DFFFFFFFFFFFFFF\n18FEEE00#7DFFFFFFFFFFFFFF\n")
+        self.assertEqual(list(self.told(bare, "SPN110")[0]["ET1", "SPN110", "ENGINE"].times), [2.0, 3.0])
+
+    def test_what_is_refused(self):
+        for words, status, said in (
+            (["SPN190", "-o", self.path("a.txt")], 2, f"plot: {self.path('a.txt')}: the file's name ends in .png or .svg\n"),
+            (["-o", self.path("a.png")], 2, "plot: nothing to draw: name a signal, or --addresses\n"),
+        ):
+            self.assertEqual(run("plot.py", PLAN, self.log, *words), (status, "", said))
+        self.assertEqual(run("plot.py", PLAN, self.log, "SPN190")[0], 2)
+
+    def test_without_matplotlib(self):
+        ended = subprocess.run([sys.executable, "-S", os.path.join(TOOLS, "plot.py"), PLAN, self.log, "SPN190", "-o", self.path("a.png")],
+                               capture_output=True, text=True, check=False, env={**os.environ, "J39PLAN": program.path(), "PYTHONPATH": ""})
+        self.assertEqual((ended.returncode, ended.stderr), (69, "plot: matplotlib isn't there: apt-get install python3-matplotlib\n"))
+        self.assertFalse(os.path.exists(self.path("a.png")))
+
+
+@needs("matplotlib", "python3-matplotlib")
+class Drawn(WithLog):
+    def drawn(self, name, *words, log=None, plan=PLAN):
+        """The bytes of a picture."""
+        self.assertEqual(run("plot.py", plan, log or self.log, *words, "-o", self.path(name)), (0, "", ""))
+        with open(self.path(name), "rb") as file:
+            return file.read()
+
+    def texts(self, picture):
+        """The texts in an SVG file, in order."""
+        return ["".join(part.itertext()) for part in ElementTree.fromstring(picture).iter("{http://www.w3.org/2000/svg}text")]
+
+    def test_a_png(self):
+        picture = self.drawn("a.png", "SPN190")
+        self.assertEqual(picture[:8], b"\x89PNG\r\n\x1a\n")
+        self.assertGreater(len(picture), 5000)
+        self.assertEqual(picture, self.drawn("b.png", "SPN190"))
+
+    def test_an_svg_has_signals_units_and_states(self):
+        picture = self.drawn("a.svg", "ET1.SPN110", "EEC1.SPN190")
+        texts = self.texts(picture)
+        for text in ("EEC1.SPN190", "rpm", "degC", "ENGINE", "TRANSMISSION", "ENGINE: absent", "ENGINE: fault", "drive.log"):
+            self.assertIn(text, texts)
+        self.assertLess(texts.index("ET1.SPN110"), texts.index("EEC1.SPN190"))
+        self.assertNotIn("address", texts)
+        self.assertEqual(picture, self.drawn("b.svg", "ET1.SPN110", "EEC1.SPN190"))
+
+    def test_an_svg_of_addresses(self):
+        texts = self.texts(self.drawn("a.svg", "--addresses"))
+        for text in ("address", "129", "SPRAYER", "0000000012345678", "ENGINE"):
+            self.assertIn(text, texts)
+
+    def test_what_is_not_in_the_log(self):
+        status, _, said = run("plot.py", PLAN, self.log, "SPN544", "-o", self.path("a.svg"))
+        self.assertEqual((status, said), (0, "plot: EC1.SPN544 isn't in the log\n"))
+        with open(self.path("a.svg"), "rb") as file:
+            self.assertIn("not in the log", self.texts(file.read()))
+
+    def test_an_empty_log_and_an_empty_plan(self):
+        empty = self.write("empty.log", "")
+        self.drawn("a.svg", "--addresses", log=empty)
+        self.drawn("b.svg", "--addresses", plan=self.write("plan.toml", "version = 1\n"))
+
+    def test_what_cannot_be_read_or_written(self):
+        self.assertEqual(run("plot.py", PLAN, self.log, "SPN19", "-o", self.path("a.png"))[0], 2)
+        self.assertEqual(run("plot.py", PLAN, self.folder, "SPN190", "-o", self.path("a.png")),
+                         (4, "", f"plot: {self.folder}: Is a directory\n"))
+        self.assertEqual(run("plot.py", PLAN, self.log, "SPN190", "-o", "/none/a.png")[0], 4)
+        refused = self.write("plan.toml", "version = 9\n")
+        self.assertEqual(run("plot.py", refused, self.log, "SPN190", "-o", self.path("a.png")),
+                         (2, "", "plot: refused Range top key version\n"))
+
+    def test_many_points_keep_their_extremes(self):
+        from picture import thinned
+
+        rng = random.Random(5)
+        times = sorted(rng.uniform(0, 100) for _ in range(20000))
+        values = [math.nan if rng.random() < 0.001 else rng.uniform(-5, 5) for _ in times]
+        kept = thinned(times, values, 1.0)
+        self.assertEqual(kept, sorted(set(kept)))
+        self.assertLessEqual(len(kept), 101 * 5)
+        for column in range(100):
+            there = [value for time, value in zip(times, values) if time // 1.0 == column and not math.isnan(value)]
+            drawn = [values[at] for at in kept if times[at] // 1.0 == column and not math.isnan(values[at])]
+            self.assertEqual((min(there), max(there)), (min(drawn), max(drawn)))
+        gaps = {time // 1.0 for time, value in zip(times, values) if math.isnan(value)}
+        self.assertEqual({times[at] // 1.0 for at in kept if math.isnan(values[at])}, gaps)
+
+
+if __name__ == "__main__":
+    unittest.main()

@@ -1,0 +1,257 @@
+"""The page of a plan: that it is sound HTML, which a browser shows without a word, and that it says what the plan and the program say."""
+
+import os
+import re
+import shutil
+import subprocess
+import unittest
+from html.parser import HTMLParser
+
+import against
+import program
+from plan_tables import Tables
+from tests.support import MARKED, NEWER, TOP, InFolder, example, examples, run, signal, text_of
+from toml_places import places_of
+
+PLAN, FAULTY = example("tractor_and_implement.toml"), example("findings/several.toml")
+CHECKS = os.path.join(TOP, "crates", "examples_check", "data", "checks")
+
+# Elements without an end.
+VOID = ("meta", "br")
+
+
+class Page(HTMLParser):
+    """A page as it is read: its elements close in order, and what they have is kept."""
+
+    def __init__(self, text):
+        super().__init__()
+        self.open, self.tags, self.ids, self.links, self.faults = [], [], [], [], []
+        self.captions = self.tables = 0
+        self.rows, self.cell = [], None
+        self.feed(text)
+        self.close()
+
+    def handle_starttag(self, tag, attrs):
+        words = dict(attrs)
+        self.tags.append(tag)
+        self.ids += [words["id"]] if "id" in words else []
+        self.links += [words["href"]] if "href" in words else []
+        self.faults += [f"{tag} has {word}" for word in words if word.startswith("on") or word in ("src", "style")]
+        if tag == "table":
+            self.tables += 1
+        if tag == "caption":
+            self.captions += 1
+            self.faults += ["a caption that isn't the first of its table"] if self.open[-1:] != ["table"] else []
+        if tag == "th" and words.get("scope") not in ("row", "col"):
+            self.faults.append("a header without a scope")
+        if tag == "tr":
+            self.rows.append([])
+        if tag in ("th", "td"):
+            self.rows[-1].append("")
+        if tag not in VOID:
+            self.open.append(tag)
+
+    def handle_endtag(self, tag):
+        if not self.open or self.open.pop() != tag:
+            self.faults.append(f"{tag} closes nothing")
+
+    def handle_data(self, data):
+        if self.rows and any(tag in self.open for tag in ("th", "td")):
+            self.rows[-1][-1] += data
+
+
+def large_plan(units=128, groups=256):
+    """A plan of the greatest size, without a finding."""
+    lines = ["version = 3"]
+    for number in range(units):
+        lines.append(f'[[unit]]\nlabel = "U{number}"\naddress = {number}\nname = {{ identity = {number} }}')
+    for number in range(groups):
+        pgn = 61440 + number if number < 128 else 65000 + number - 128
+        lines.append(f'[[group]]\nlabel = "G{number}"\npgn = {pgn}\npriority = 6\nlength = 8')
+        for byte in range(1, 9):
+            lines.append(f'[[group.signal]]\nlabel = "S{byte}"\nbyte = {byte}\nbits = 8\nkind = "measured"\nunit = "%"')
+        lines.append(f'[[flow]]\ngroup = "G{number}"\nfrom = "U{number % units}"\nto = "all"')
+    return "\n".join(lines) + "\n"
+
+
+class Report(InFolder):
+    def page(self, plan):
+        """The page of a plan file, which is sound."""
+        status, text, said = run("report.py", plan)
+        self.assertEqual((status, said), (0, ""), plan)
+        read = Page(text)
+        self.assertEqual((read.faults, read.open), ([], []), plan)
+        self.assertEqual(len(read.ids), len(set(read.ids)), plan)
+        self.assertLessEqual({link[1:] for link in read.links}, set(read.ids), plan)
+        self.assertEqual(read.tables, read.captions)
+        self.assertNotIn("script", read.tags)
+        self.assertNotRegex(text, r"https?:|@import|url\(")
+        self.assertIn('<html lang="en">', text)
+        return read
+
+    def test_each_example_has_a_sound_page(self):
+        for plan in examples(".toml"):
+            self.page(plan)
+
+    def test_plans_in_other_words_have_one_page(self):
+        pages = [run("report.py", self.write("plan.toml", text))[1] for text in (NEWER, MARKED)]
+        self.assertEqual(pages[0], pages[1])
+        self.assertIn("Addresses that no unit may choose: 201, 202.", pages[0])
+
+    def test_units_stand_as_addresses_says(self):
+        rows = self.page(example("address_contest.toml")).rows
+        self.assertIn(["A", "128", "stays", "may choose", "lowest", "255"], rows)
+        self.assertIn(["B", "128", "may move", "may choose", "lowest", "255"], rows)
+        self.assertIn("not known: the addresses have findings", [cell for row in self.page(FAULTY).rows for cell in row])
+
+    def test_names_are_those_that_are_claimed(self):
+        for plan in (PLAN, example("service_addresses.toml"), example("three_at_one_address.toml")):
+            claimed = {unit.label: unit for unit in against.planned_units(plan)}
+            for unit in Tables(places_of(plan)).units:
+                self.assertEqual((unit.name, unit.address, unit.may_choose), claimed[unit.label][1:])
+            rows = [row[:2] for row in self.page(plan).rows]
+            for unit in claimed.values():
+                self.assertIn([unit.label, unit.name], rows)
+
+    def test_findings_have_their_lines(self):
+        _, answer, _ = run("where.py", FAULTY)
+        told = [re.match(r"(.*:\d+): (.*?)(?:  \((.*)\))?$", line).groups() for line in answer.splitlines() if ": F" in line]
+        shown = [row[1:4] for row in self.page(FAULTY).rows if row[0].isdigit() and len(row) == 5]
+        self.assertEqual(shown, [list(row) for row in told])
+
+    def test_steps_of_a_run_stand_beside_their_finding(self):
+        rows = self.page(example("findings/f02_same_fixed_address.toml")).rows
+        self.assertTrue(any("give" in row[-1] for row in rows if row[0] == "1"), rows)
+
+    def test_bytes_show_each_bit(self):
+        """A signal's bits from the most significant one, bytes without a signal as one row, and what is outside or has two signals."""
+        rows = self.page(PLAN).rows
+        at = rows.index(["Byte", *(f"bit {bit}" for bit in range(8, 0, -1))])
+        self.assertEqual(rows[at + 1:at + 7],
+                         [["1", "free", "SPN899"], ["2", "SPN512"], ["3", "SPN513"], ["4", "SPN190"], ["5", "SPN190"], ["6 to 8", "free"]])
+        rows = self.page(FAULTY).rows
+        self.assertIn(["9 (outside)", "SPN191"], rows)
+        self.assertTrue(any("SPN513 and SPN190" in row for row in rows))
+
+    def test_each_row_of_bytes_has_eight_bits(self):
+        for plan in (PLAN, FAULTY, os.path.join(CHECKS, "f06_later_kinds.toml")):
+            text = run("report.py", plan)[1]
+            rows = [row for table in re.findall(r'<table class="bytes">(.*?)</table>', text, re.DOTALL)
+                    for row in re.findall(r'<tr><th scope="row">[^<]*</th>(.*)</tr>', table)]
+            self.assertGreater(len(rows), 6)
+            for row in rows:
+                widths = re.findall(r'<td(?: class="free")?(?: colspan="(\d)")?>', row)
+                self.assertEqual(sum(int(width or 1) for width in widths), 8, row)
+
+    def test_texts(self):
+        """Bytes of texts alone are one row, and a signal's bytes name the texts there, too."""
+        rows = self.page(self.write("plan.toml", """version = 3
+[[group]]
+label = "G"
+pgn = 65262
+priority = 6
+length = 8
+[[group.signal]]
+label = "S"
+byte = 1
+bits = 4
+kind = "raw"
+[[group.text]]
+label = "ALL"
+byte = 1
+[[group.text]]
+label = "FAR"
+byte = 6
+bytes = 5
+""")).rows
+        at = rows.index(["Byte", *(f"bit {bit}" for bit in range(8, 0, -1))])
+        self.assertEqual(rows[at + 1:at + 5], [["1", "ALL", "S and ALL"], ["2 to 5", "ALL"], ["6 to 8", "ALL and FAR"], ["9 to 10 (outside)", "FAR"]])
+        for row in (["ALL", "1", "to the end"], ["FAR", "6", "5"]):
+            self.assertIn(row, rows)
+
+    def test_kinds_and_values(self):
+        rows = self.page(self.write("plan.toml", """version = 3
+[[group]]
+label = "G"
+pgn = 65262
+priority = 6
+length = 20
+""" + signal("SPEED", 1, 16, "measured", 'per = 8\nunit = "rpm"\n') + signal("HEAT", 3, 16, "measured", "offset = -8736\nper = 32\n")
+            + signal("GEAR", 5, 4, "states") + signal("TURN", 6, 8, "signed", "step = 10\n") + signal("CODE", 7, 32, "dtc")
+            + signal("KEY", 11, 2, "discrete"))).rows
+        for row in (["SPEED", "1.1", "16", "measured", "raw / 8", "0 to 8031.875", "rpm"],
+                    ["HEAT", "3.1", "16", "measured", "(raw − 8736) / 32", "-273 to 1734.96875", "–"],
+                    ["GEAR", "5.1", "4", "states", "raw", "0 to 13", "–"],
+                    ["TURN", "6.1", "8", "signed", "10 × raw", "-1280 to 1270", "–"],
+                    ["CODE", "7.1", "32", "dtc", "–", "trouble codes", "–"],
+                    ["KEY", "11.1", "2", "discrete", "raw", "0 to 1", "–"]):
+            self.assertIn(row, rows)
+
+    def test_flows_are_a_matrix(self):
+        rows = self.page(PLAN).rows
+        at = next(number for number, row in enumerate(rows) if row[0] == "From")
+        matrix = {(row[0], head): cell for row in rows[at + 1:at + 8] for head, cell in zip(rows[at][1:], row[1:])}
+        self.assertEqual(matrix["SPRAYER", "to TERMINAL"], "ECU_TO_VT")
+        self.assertEqual(matrix["ENGINE", "to all"], "EEC1ET1CCVSEC1")
+        self.assertEqual(matrix["CLUSTER", "to ENGINE"], "–")
+
+    def test_a_plan_of_the_greatest_size(self):
+        plan = self.write("plan.toml", large_plan())
+        rows = self.page(plan).rows
+        self.assertEqual(sum(row[0] == "Byte" for row in rows), 256)
+        self.assertIn(["U127", "127", "stays", "fixed", "–", "255"], rows)
+
+    def test_a_plan_with_nothing_in_it(self):
+        self.page(self.write("plan.toml", "version = 1\n"))
+
+    def test_names_of_files_are_no_part_of_the_page(self):
+        name = self.write("<script>alert(1)</script>&.toml".replace("/", "_"), text_of(FAULTY))
+        self.assertNotIn("<script>", run("report.py", name)[1])
+        self.page(name)
+
+    def test_a_file_is_written_only_where_the_plan_can_be_read(self):
+        name = self.path("page.html")
+        self.assertEqual(run("report.py", PLAN, "-o", name), (0, "", ""))
+        self.assertEqual(text_of(name), run("report.py", PLAN)[1])
+        refused = self.write("plan.toml", "version = 9\n")
+        self.assertEqual(run("report.py", refused, "-o", name), (2, "", "report: refused Range top key version\n"))
+        self.assertEqual(text_of(name), run("report.py", PLAN)[1])
+        self.assertEqual(run("report.py", PLAN, "-o", "/none/page.html")[0], 4)
+
+    @unittest.skipUnless(shutil.which("tidy"), "tidy isn't there: apt-get install tidy")
+    def test_tidy_has_nothing_to_say(self):
+        for plan in (*examples(".toml"), self.write("plan.toml", large_plan(20, 30)), os.path.join(CHECKS, "f06_later_kinds.toml")):
+            page = self.write("page.html", run("report.py", plan)[1])
+            said = subprocess.run(["tidy", "-q", "-e", page], capture_output=True, text=True, check=False)
+            self.assertEqual((said.returncode, said.stderr), (0, ""), plan)
+
+
+@unittest.skipUnless(shutil.which("chromium"), "chromium isn't there: apt-get install chromium")
+class Browser(InFolder):
+    def shown(self, page, *words):
+        """What a browser says of a page: the lines of its console, and what it was asked to write."""
+        command = ["chromium", "--headless", "--no-sandbox", "--disable-gpu", "--disable-dev-shm-usage", "--enable-logging=stderr",
+                   f"--user-data-dir={self.path('user')}", *words, f"file://{page}"]
+        ended = subprocess.run(command, stdin=subprocess.DEVNULL, capture_output=True, text=True, check=True, timeout=120)
+        return [line for line in ended.stderr.splitlines() if "CONSOLE" in line], ended.stdout
+
+    def test_a_browser_shows_pages_without_a_word(self):
+        for plan in (PLAN, FAULTY):
+            page, picture = self.write("page.html", run("report.py", plan)[1]), self.path("page.png")
+            console, _ = self.shown(page, f"--screenshot={picture}", "--window-size=1000,1400")
+            self.assertEqual(console, [], plan)
+            self.assertGreater(os.path.getsize(picture), 20000)
+
+    def test_a_browser_reads_what_was_written(self):
+        """The document that it has is the one that was written: it had to mend nothing."""
+        text = run("report.py", PLAN)[1]
+        _, document = self.shown(self.write("page.html", text), "--dump-dom")
+        self.assertEqual(re.findall(r"<(\w+)", document), re.findall(r"<(\w+)", text))
+
+    def test_a_faulty_page_is_told(self):
+        page = run("report.py", PLAN)[1].replace("</main>", "<script>alert(1)</script></main>")
+        self.assertNotEqual(self.shown(self.write("page.html", page), "--dump-dom")[0], [])
+
+
+if __name__ == "__main__":
+    unittest.main()

@@ -1,0 +1,230 @@
+"""The signals of a log: each where it belongs, and as `read` has it."""
+
+import csv
+import io
+import json
+import os
+import random
+import re
+import subprocess
+import sys
+import unittest
+
+import program
+from reports import route_of
+from tests.support import MARKED, NEWER, TOOLS, InFolder, example, run, signal, text_of
+from tests.test_report import large_plan
+
+PLAN, LOG = example("tractor_and_implement.toml"), example("tractor_and_implement.start.log")
+
+UNITS = """version = 3
+[[unit]]
+label = "ENGINE"
+address = 0
+name = { identity = 1 }
+[[unit]]
+label = "PUMP"
+address = 128
+name = { identity = 2, arbitrary = true }
+"""
+
+
+def group(label, pgn, length, *signals):
+    """The tables of a group."""
+    return f'[[group]]\nlabel = "{label}"\npgn = {pgn}\npriority = 6\nlength = {length}\n' + "".join(signals)
+
+
+LONG, OTHER = group("LONG", 65260, 17, signal("L", 9, 8, "raw")), group("OTHER", 65259, 9, signal("L", 9, 8, "raw"))
+ONE = group("ONE", 61184, 3, signal("S", 1, 8, "measured"))
+KINDS = UNITS + group(
+    "G", 65262, 8, signal("SPEED", 1, 16, "measured", 'unit = "1/8 rpm"\n'), signal("THIRD", 3, 8, "raw", 'unit = "1/3 l"\n'),
+    signal("TURN", 4, 8, "signed", 'per = 4\nunit = "deg/s"\n'), signal("CODE", 5, 32, "dtc"),
+)
+
+
+def random_log(rng, length=70):
+    """A log in which messages of one frame and of several, to all and to one, go on beside one another, break off and are taken back."""
+    addresses = (0, 128, 37)
+    lines = []
+    for number in range(length):
+        source, to = rng.sample(addresses, 2)
+        pgn, size = rng.choice(((65260, 17), (65259, 9), (65260, 9), (65000, 10)))
+        packets = -(-size // 7)
+        announced = f"{size:02X}00{packets:02X}FF{pgn & 255:02X}{pgn >> 8:02X}00"
+        data = rng.randbytes(7).hex()
+        one = rng.choice([f"{to:02X}", "FF"])
+        burst = rng.choice((
+            [f"18EF{to:02X}{source:02X}#{data[:6]}"], [f"18EF{to:02X}{source:02X}#{data[:8]}"], [f"18FEF1{source:02X}#{data}00"],
+            [f"1CECFF{source:02X}#20{announced}"], [f"1CEC{to:02X}{source:02X}#10{announced}"],
+            [f"1CEC{to:02X}{source:02X}#FF01FFFFFF{announced[-6:]}"], [f"1CEB{one}{source:02X}#{rng.randint(1, 3):02X}{data}"],
+            [f"1CECFF{source:02X}#20{announced}", *(f"1CEBFF{source:02X}#0{k}{data}" for k in range(1, packets + 1))],
+            [f"1CEC{to:02X}{source:02X}#10{announced}", *(f"1CEB{to:02X}{source:02X}#0{k}{data}" for k in range(1, packets + 1))],
+            [f"18EF00FF#{data[:6]}"], ["123#00"], [""], ["# no frame"], [f"1AEF{to:02X}{source:02X}#{data[:6]}"],
+        ))
+        lines += [f"({number}.5) can0 {frame}" if "#" in frame and frame[0] != "#" else frame for frame in burst]
+    return lines
+
+
+class Signals(InFolder):
+    def rows(self, plan, log, *words):
+        """The rows of a log, as dictionaries."""
+        status, answer, said = run("signals.py", plan, log, *words)
+        self.assertEqual((status, said), (0, ""))
+        return list(csv.DictReader(io.StringIO(answer)))
+
+    def read(self, plan, log):
+        """What `read` reports: each message by its group and its signals, those from address 255 apart."""
+        parts = re.findall(r"^group (\w+) from (\d+) .*\n((?:  .*\n)*)", program.call(["read", plan, log])[1], re.MULTILINE)
+        return [(group, below) for group, source, below in parts if source != "255"]
+
+    def test_the_example(self):
+        rows = self.rows(PLAN, self.write("start.log", text_of(LOG).replace(" R\n", "\n")))
+        said = [(row["line"], row["from"], row["group"], row["signal"], row["state"], row["value"], row["unit"]) for row in rows]
+        self.assertIn(("1", "ENGINE", "EEC1", "SPN190", "value", "800", "rpm"), said)
+        self.assertIn(("5", "ENGINE", "CCVS", "SPN70", "absent", "", ""), said)
+        self.assertIn(("17", "ENGINE", "EC1", "SPN544", "value", "900", "Nm"), said)
+        self.assertEqual([row["detail"] for row in rows if row["state"] == "fault"], ["65024"])
+        self.assertEqual({row["time"] for row in rows if row["line"] == "5"}, {"1764230400.050000"})
+
+    def test_each_report_has_its_line(self):
+        """The line is the one without which `read` doesn't report it, whatever the log carries beside it."""
+        rng, met = random.Random(7), 0
+        for number, groups in enumerate((LONG + OTHER + ONE, LONG + OTHER, ONE, OTHER, ONE + LONG) * 3):
+            plan = self.write("plan.toml", UNITS + groups)
+            lines = random_log(rng)
+            expected, before = [], 0
+            for end in range(1, len(lines) + 1):
+                reports = self.read(plan, self.write("part.log", "\n".join(lines[:end]) + "\n"))
+                expected += [(str(end), group) for group, _ in reports[before:]]
+                before = len(reports)
+            _, answer, _ = run("signals.py", plan, self.write("whole.log", "\n".join(lines) + "\n"))
+            rows = list(csv.DictReader(io.StringIO(answer)))
+            self.assertEqual([(row["line"], row["group"]) for row in rows], expected, number)
+            said = [line for _, below in self.read(plan, self.path("whole.log")) for line in below.splitlines()]
+            values = [line.split()[-1] for line in said if " value " in line]
+            self.assertEqual([row["value"] for row in rows if row["state"] == "value"], values)
+            met += len(expected)
+        self.assertGreater(met, 80)
+
+    def test_routes_are_those_of_frame(self):
+        rng = random.Random(9)
+        for _ in range(300):
+            identifier = f"{rng.getrandbits(29):08X}"
+            answer = program.call(["frame", f"{identifier}#"])[1]
+            found = re.search(r"pgn (\d+) from (\d+) to (\w+)( other)?", answer)
+            route = route_of(identifier)
+            if found.group(4):
+                self.assertIsNone(route, identifier)
+            else:
+                to = "255" if found.group(3) == "all" else found.group(3)
+                self.assertEqual(tuple(map(str, route)), (found.group(1), found.group(2), to), identifier)
+
+    def test_who_sends_is_who_holds_the_address(self):
+        """A unit that moved is called by its label, and an address that nobody planned by its number."""
+        log = self.write("a.log", "18EFFF80#01FFFF\n18EEFF81#0200000000000080\n18EFFF80#01FFFF\n18EF0081#01FFFF\n18EFFF25#01FFFF\n")
+        rows = self.rows(self.write("plan.toml", UNITS + ONE), log)
+        self.assertEqual([(row["line"], row["from"], row["to"]) for row in rows],
+                         [("1", "PUMP", "all"), ("3", "128", "all"), ("4", "PUMP", "ENGINE"), ("5", "37", "all")])
+
+    def test_private_groups_are_passed_over(self):
+        """As `read` has it, whatever is private; where nothing else is planned there is nothing to tell."""
+        log = self.write("a.log", "18EFFF80#01FFFF\n18FF1400#0102\n18EFFF00#02FFFF\n")
+        maker = '[[group]]\nlabel = "OWN"\npgn = 65300\npriority = 6\nlength = 2\nprivate = true\n'
+        maker += '[[group.signal]]\nlabel = "O"\nbyte = 1\nbits = 8\nkind = "raw"\n'
+        rows = self.rows(self.write("plan.toml", UNITS + maker + ONE), log)
+        self.assertEqual([(row["line"], row["group"], row["value"]) for row in rows], [("1", "ONE", "1"), ("3", "ONE", "2")])
+        self.assertEqual(self.rows(self.write("plan.toml", UNITS + maker), log), [])
+
+    def test_values_are_exact(self):
+        log = self.write("a.log", "18FEEE00#E12E07FF6E000305\n18FEEE00#00FF0780FFFFFFFF\n18FEEE00#00FE078000000000\n")
+        rows = self.rows(self.write("plan.toml", KINDS), log)
+        said = [(row["signal"], row["state"], row["value"], row["unit"], row["detail"]) for row in rows]
+        for row in (("SPEED", "value", "1500.125", "rpm", ""), ("THIRD", "value", "7", "1/3 l", ""),
+                    ("TURN", "value", "-0.25", "deg/s", ""), ("CODE", "dtc", "", "", "spn 110 fmi 3 count 5"),
+                    ("SPEED", "absent", "", "", ""), ("CODE", "absent", "", "", ""),
+                    ("SPEED", "fault", "", "", "65024"), ("CODE", "none", "", "", "")):
+            self.assertIn(row, said)
+
+    def test_texts(self):
+        """Behind the signals, with what isn't printable as `read` has it; each report still has its line."""
+        texts = '[[group.text]]\nlabel = "T"\nbyte = 2\nbytes = 2\n[[group.text]]\nlabel = "REST"\nbyte = 9\n'
+        plan = self.write("plan.toml", UNITS + group("G", 65262, 8, signal("S", 1, 8, "raw"), texts) + ONE)
+        log = self.write("a.log", "18FEEE00#0148690000000000\n18EFFF00#01FFFF\n18FEEE00#02225C0000000000\n")
+        said = [(row["line"], row["signal"], row["state"], row["value"], row["detail"]) for row in self.rows(plan, log)]
+        self.assertEqual(said, [
+            ("1", "S", "value", "1", ""), ("1", "T", "text", "", "Hi"), ("1", "REST", "text", "", ""), ("2", "S", "value", "1", ""),
+            ("3", "S", "value", "2", ""), ("3", "T", "text", "", "\\x22\\x5C"), ("3", "REST", "text", "", ""),
+        ])
+        wide = self.rows(plan, log, "--wide", "T")
+        self.assertEqual([row["G.T"] for row in wide], ["Hi", "\\x22\\x5C"])
+        objects = [json.loads(line) for line in run("signals.py", "--json", plan, log, "G.T")[1].splitlines()]
+        self.assertEqual([(told["state"], told["detail"]) for told in objects], [("text", "Hi"), ("text", "\\x22\\x5C")])
+
+    def test_all_forms_say_the_same(self):
+        plan = self.write("plan.toml", KINDS)
+        log = self.write("a.log", "(1.50) can0 18FEEE00#E12E07FF6E000305\n(2.5) can0 18FEEE80#00FF07800000FFFF\n")
+        rows = self.rows(plan, log)
+        objects = [json.loads(line) for line in run("signals.py", "--json", plan, log)[1].splitlines()]
+        self.assertEqual([{key: str(text) for key, text in found.items() if key not in ("value", "time")} for found in objects],
+                         [{key: text for key, text in row.items() if text and key not in ("value", "time")} for row in rows])
+        self.assertEqual([float(row["value"]) for row in rows if row["value"]], [found["value"] for found in objects if "value" in found])
+        self.assertEqual([found["time"] for found in objects], [1.5] * 4 + [2.5] * 4)
+        first, second = csv.DictReader(io.StringIO(run("signals.py", "--wide", plan, log)[1]))
+        self.assertEqual(first, {"time": "1.50", "line": "1", "from": "ENGINE", "to": "all", "group": "G", "G.SPEED [rpm]": "1500.125",
+                                 "G.THIRD [1/3 l]": "7", "G.TURN [deg/s]": "-0.25", "G.CODE": "dtc spn 110 fmi 3 count 5"})
+        self.assertEqual((second["from"], second["G.SPEED [rpm]"]), ("PUMP", "absent"))
+
+    def test_what_is_chosen(self):
+        log = self.write("start.log", text_of(LOG).replace(" R\n", "\n"))
+        whole = self.rows(PLAN, log)
+        for names in (["SPN190"], ["ET1"], ["EEC1.SPN512", "CCVS"]):
+            wanted = [row for row in whole if {row["signal"], row["group"], f"{row['group']}.{row['signal']}"}.intersection(names)]
+            self.assertEqual(self.rows(PLAN, log, *names), wanted, names)
+        said = "signals: no group or signal is called SPN1900; did you mean SPN190?\n"
+        self.assertEqual(run("signals.py", PLAN, log, "SPN1900"), (2, "", said))
+        self.assertEqual(self.rows(PLAN, log, "VI"), [])
+
+    def test_plans_of_every_form(self):
+        """Also those whose groups have no signals, and one without groups: there is nothing to tell."""
+        log = self.write("a.log", "18FEEE00#0000000000000000\n")
+        for text in (NEWER, MARKED, "version = 1\n"):
+            self.assertEqual(self.rows(self.write("plan.toml", text), log), [])
+
+    def test_a_plan_of_the_greatest_size(self):
+        plan = self.write("plan.toml", large_plan())
+        frames = (f"({number}.0) can0 18F0{number:02X}{number:02X}#{number:02X}FFFFFFFFFFFFFF\n" for number in range(128))
+        log = self.write("a.log", "".join(frames))
+        rows = self.rows(plan, log, "S1")
+        self.assertEqual([(row["line"], row["from"], row["group"], row["value"]) for row in rows],
+                         [(str(number + 1), f"U{number}", f"G{number}", str(number)) for number in range(128)])
+
+    def test_what_is_passed_over_is_said(self):
+        said = run("signals.py", PLAN, LOG)[2]
+        self.assertEqual(said, "signals: 1 lines spell no frame\n")
+        log = self.write("a.log", "(1.0) can0 18FEEE00#7DFFFFFFFFFFFFFF\n(1.0) can1 18FEEE00#7EFFFFFFFFFFFFFF\n")
+        status, answer, said = run("signals.py", PLAN, log, "SPN110")
+        self.assertEqual((status, answer.count("\n")), (0, 2))
+        self.assertEqual(said, "signals: only frames of can0 are read; 1 of other interfaces are passed over\n")
+
+    def test_what_is_refused(self):
+        refused = self.write("plan.toml", "version = 9\n")
+        self.assertEqual(run("signals.py", refused, LOG), (2, "", "signals: refused Range top key version\n"))
+        self.assertEqual(run("signals.py", example("findings/f07_signal_outside.toml"), LOG)[::2],
+                         (1, "signals: " + program.call(["read", example("findings/f07_signal_outside.toml"), "/dev/null"])[1]))
+        self.assertEqual(run("signals.py", PLAN, self.folder), (4, "", f"signals: {self.folder}: Is a directory\n"))
+        self.assertEqual(run("signals.py", PLAN)[0], 2)
+
+    def test_what_comes_from_a_pipe_is_told_at_once(self):
+        with subprocess.Popen([sys.executable, os.path.join(TOOLS, "signals.py"), PLAN, "/dev/stdin", "SPN110"], stdin=subprocess.PIPE,
+                              stdout=subprocess.PIPE, text=True, env={**os.environ, "J39PLAN": program.path()}) as tool:
+            tool.stdout.readline()
+            for value in ("7D", "7E"):
+                tool.stdin.write(f"(1.0) can0 18FEEE00#{value}FFFFFFFFFFFFFF\n")
+                tool.stdin.flush()
+                self.assertEqual(tool.stdout.readline().split(",")[7], str(int(value, 16) - 40))
+            tool.stdin.close()
+            self.assertEqual(tool.stdout.read(), "")
+
+
+if __name__ == "__main__":
+    unittest.main()
