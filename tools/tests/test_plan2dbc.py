@@ -24,12 +24,12 @@ def scale(signal):
 
 
 def said(plan):
-    """What of a plan a DBC can say."""
+    """What of a plan a DBC can say: of a group of several lengths the longest."""
     addresses = {unit["label"]: unit["address"] for unit in plan.get("unit", [])}
     units = {unit["label"]: (unit["address"], {key: part for key, part in unit["name"].items() if part})
              for unit in plan.get("unit", [])}
     groups = {
-        group["label"]: (group["pgn"], group["priority"], group["length"], group.get("private", False), [
+        group["label"]: (group["pgn"], group["priority"], group.get("most", group["length"]), group.get("private", False), [
             (signal["label"], signal["byte"], signal.get("bit", 1), signal["bits"], signal["kind"], scale(signal), signal.get("unit", ""))
             for signal in group.get("signal", [])])
         for group in plan.get("group", [])

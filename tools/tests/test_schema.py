@@ -147,7 +147,7 @@ class Validated(InFolder):
             "version": 3,
             "timing": {"bitrate": 250000, "unplanned": 0},
             "unit": [{"label": "A", "address": 0, "name": {"identity": 1}}],
-            "group": [{"label": "G", "pgn": 65262, "priority": 6, "length": 8,
+            "group": [{"label": "G", "pgn": 65262, "priority": 6, "length": 1,
                        "signal": [{"label": "S", "byte": 1, "bits": 8, "kind": "raw"}], "text": [{"label": "T", "byte": 1}]}],
             "flow": [{"group": "G", "from": "A", "to": "all", "period": 10, "deadline": 10}],
         }
