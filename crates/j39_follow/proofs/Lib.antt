@@ -4,9 +4,11 @@ pub mod FrameTexts
 pub mod Heard
 pub mod HolderLaws
 pub mod Holding
+pub mod Interfaces
 pub mod Knowing
 pub mod Likeliest
 pub mod LinesRead
+pub mod Numbered
 pub mod OneFrame
 pub mod OneText
 pub mod Parted
@@ -17,4 +19,5 @@ pub mod Splitting
 pub mod Tables
 pub mod Tallied
 pub mod Times
+pub mod Untouched
 pub mod Ways

@@ -1,8 +1,8 @@
 -- What is written at a frame is one text.
-use Rattle.std.proofs.Common.{◌≡◌, ◌≢◌, ◌⊎◌, ◌<◌, ℕ, Bool, List, [], ◌∷◌, ◌++◌, codes, length, if◌then◌else◌, Option, Some, None, inl, inr, refl, sym, ap, subst, ◌∙◌}
+use Rattle.std.proofs.Common.{◌≡◌, ◌⊎◌, ℕ, Bool, List, [], ◌∷◌, ◌++◌, codes, length, if◌then◌else◌, Option, Some, None, inl, inr, refl, sym, ap, subst, ◌∙◌}
 use Rattle.std.proofs.Common.{append_assoc}
 use Rattle.std.proofs.lemmas.Bool.{cases_order}
-use Rattle.std.proofs.lemmas.List.{append-nil, same_from_push}
+use Rattle.std.proofs.lemmas.List.{same_from_push}
 use Rattle.j39_id.specs.declared.frame.Frame.{Frame}
 use Rattle.j39_id.specs.declared.ident.Ident.{Ident}
 use Rattle.j39_findings.specs.declared.plan.Plan.{Plan}
@@ -19,7 +19,6 @@ use Rattle.j39_follow.specs.FollowReports.{IsGroupOfMessage, IsGrouped, IsMessag
 use Rattle.j39_follow.specs.FollowText.{HeardSince, IsCarriedReport, IsHeardAs, IsPacketReport, Parts, frames_of, in_frame}
 use Rattle.j39_follow.specs.Who.{unit_of, who_text}
 use Rattle.j39_follow.specs.declared.message.Sort.{Sort}
-use Rattle.j39_follow.specs.declared.message.Sort.TheVariants.{Grouped}
 use Rattle.j39_follow.specs.declared.sending.Aim.{Aim}
 use Rattle.j39_follow.specs.declared.sending.Aim.TheVariants as aims
 use Rattle.j39_follow.specs.declared.sending.Sending.{Sending}

@@ -25,12 +25,12 @@ none_some x e = cc
 pub claim_tells : (f : Frame) (name address : ℕ) → Claims f name address → TellsOf f name
 claim_tells f name address c = record { told = or_left (claims_address f) (cannot_claim f) c.claim; name_is = c.name_is }
 
-place_tells : (f : Frame) (name : ℕ) (place : Option ℕ) → TellsPlace f name place → TellsOf f name
+pub place_tells : (f : Frame) (name : ℕ) (place : Option ℕ) → TellsPlace f name place → TellsOf f name
 place_tells f name (Some a) t = claim_tells f name a t
 place_tells f name None t = t.0
 
 -- a frame claims what it tells alone
-claim_new : (f : Frame) (name : ℕ) (place : Option ℕ) (n a : ℕ) → TellsPlace f name place → Claims f n a → IsNew place name a n
+pub claim_new : (f : Frame) (name : ℕ) (place : Option ℕ) (n a : ℕ) → TellsPlace f name place → Claims f n a → IsNew place name a n
 claim_new f name (Some b) n a t c = (ap Some (sym t.source_is ∙ c.source_is), sym c.name_is ∙ t.name_is)
 claim_new f name None n a t c = absurd (t.1 n a c)
 
@@ -39,7 +39,7 @@ new_claim f name (Some b) n a t is = rw (is.1, sym (some_same b a is.0)) t
 new_claim f name None n a t is = absurd (let e = is.0 in cc)
 
 -- what it takes from others
-takes : (f : Frame) (name : ℕ) (place : Option ℕ) (n a : ℕ) → TellsPlace f name place → n ≢ name → place ≢ Some a → ¬ TakesFrom n a f
+pub takes : (f : Frame) (name : ℕ) (place : Option ℕ) (n a : ℕ) → TellsPlace f name place → n ≢ name → place ≢ Some a → ¬ TakesFrom n a f
 takes f name place n a t other elsewhere (inl tells) = other (sym tells.name_is ∙ (place_tells f name place t).name_is)
 takes f name place n a t other elsewhere (inr claim) = elsewhere (claim_new f name place claim.0 a t claim.1).0
 

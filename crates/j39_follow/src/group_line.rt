@@ -126,7 +126,7 @@ pub(crate) fn write_message(
         × (text.new ≡ text.old ++ piece)) }
 {
     let sent = sending_of(directory, message);
-    let Some(group) = group_of(plan, message.pgn, message.bytes.len(), sent) else {
+    let Some(group) = group_of(plan, catalog, message.pgn, message.bytes.len(), sent) else {
         return Ok(Sort::Other(message.pgn));
     };
     let flow = flow_of(plan, group, sent);

@@ -221,13 +221,14 @@ impl Reading {
             × ReadsShort plan.now past line.now next piece × Recalls plan.now self.new next × (self.new.text ≡ self.old.text ++ piece)) }
         ensures count { OnOk result (IsOneMore self.old self.new) }
     {
-        let read = read_part(line);
-        let named = interface(read);
+        let part = read_part(line);
+        let read = read_frame(part);
+        let named = interface(part, &read);
         if is_elsewhere(&self.interface, named) {
             self.elsewhere += 1;
             return Ok(());
         }
-        match read_frame(read) {
+        match read {
             Ok(frame) => self.read_frame(plan, catalog, time_text(line), named, &frame),
             Err(error) => {
                 self.pass_over(error);

@@ -1,8 +1,10 @@
 //! A message as it was sent, and the flow that it fits.
 ghost use Rattle.std.specs.Prelude.{◌≡◌, ◌<◌, ◌↔◌, IsTrue, length};
+ghost use Rattle.j39_log.specs.inside.Listening.{HasAllOf, IsCatalogOf};
 ghost use Rattle.j39_follow.specs.Fits.{IsGroupOf, MayBeGroup, fits, flow_of as first_flow, has_length, is_unit, reaches as is_reached};
 
 use j39_findings::{FlowPlan, GroupPlan, Plan, To};
+use j39_log::{Catalog, Span};
 
 /// Whom a message went to. Units are given by their places, from 0.
 #[derive(Clone, Copy, Debug, PartialEq, Eq)]
@@ -87,14 +89,32 @@ fn may_be_group(plan: &Plan, place: usize, pgn: u32, bytes: usize, sent: Sending
     flow_of(plan, place, sent).is_some()
 }
 
-/// The group of so many bytes of a number, by its place: the first that isn't private, or that a flow of it fits.
-pub fn group_of(plan: &Plan, pgn: u32, bytes: usize, sent: Sending) -> Option<usize>
+// The first such group, which stands in the span of its number.
+fn group_in(plan: &Plan, span: Span, pgn: u32, bytes: usize, sent: Sending) -> Option<usize>
+    requires { HasAllOf plan.now.groups.items pgn span }
     ensures { IsGroupOf plan.now pgn bytes sent result }
 {
-    for place in 0..plan.groups.len() {
+    for place in span.first..span.end {
         if may_be_group(plan, place, pgn, bytes, sent) {
             return Some(place);
         }
     }
     None
+}
+
+/// The group of so many bytes of a number, by its place: the first that isn't private, or that a flow of it fits.
+pub fn group_of(
+    plan: &Plan,
+    catalog: &Catalog,
+    pgn: u32,
+    bytes: usize,
+    sent: Sending,
+) -> Option<usize>
+    requires { IsCatalogOf plan.now catalog.now }
+    ensures { IsGroupOf plan.now pgn bytes sent result }
+{
+    let Some(span) = catalog.span(pgn) else {
+        return None;
+    };
+    group_in(plan, span, pgn, bytes, sent)
 }

@@ -1,11 +1,11 @@
 //! The words of a line.
 ghost use Rattle.std.specs.Prelude.{◌≡◌, ◌≢◌, ◌-◌, ◌<◌, ◌≤◌, ◌↔◌, ℕ, List, length, slice_index, true, false, IfNone, IfSome, IsTrue};
 ghost use Rattle.std.specs.List.{All, AllPass, AllWithin};
-ghost use Rattle.j39_id.specs.FrameLine.{is_separator as separates};
+ghost use Rattle.j39_id.specs.FrameLine.{Spells, is_separator as separates};
 ghost use Rattle.j39_follow.specs.LogLines.{IsDirection, IsFirstWord, IsOfTime, IsTime};
-ghost use Rattle.j39_follow.specs.inside.Splitting.{IsEnclosed, SplitsLast};
+ghost use Rattle.j39_follow.specs.inside.Splitting.{IsEnclosed, SplitsLast, TellsDirection};
 
-use j39_id::is_separator;
+use j39_id::{Frame, is_separator};
 
 // Where the words of a line end.
 fn words_end(line: &[u8]) -> usize
@@ -88,11 +88,49 @@ pub(crate) fn first_word(line: &[u8]) -> Option<&[u8]>
     Some(&rest[..word_length(rest)])
 }
 
-/// Whether a word tells whether a frame was received or transmitted.
-pub(crate) fn is_direction(word: &[u8]) -> bool
-    ensures { IsTrue result ↔ IsDirection word.now }
+// Whether a word of this letter tells whether a frame was received or transmitted.
+fn is_direction(letter: u8) -> bool
+    ensures { IsTrue result ↔ TellsDirection letter }
 {
-    matches!(word, b"R" | b"T")
+    matches!(letter, b'R' | b'T')
+}
+
+// Whether what stands before a word parts it from others.
+fn is_parted(front: &[u8]) -> bool
+    ensures { IsTrue result ↔ (0 < length front.now → separates (slice_index front.now (length front.now - 1)) ≡ true) }
+{
+    if front.is_empty() {
+        return true;
+    }
+    is_separator(front[front.len() - 1])
+}
+
+/// What stands before the last word of a line, where this tells whether the frame was received or transmitted.
+pub(crate) fn before_direction(line: &[u8]) -> Option<&[u8]>
+    ensures found { IfSome result (λ front. (word : List ℕ) × SplitsLast line.now front.now word × IsDirection word) }
+    ensures none { IfNone result ((front : List ℕ) (word : List ℕ) → SplitsLast line.now front word → ¬ IsDirection word) }
+{
+    let stop = words_end(line);
+    if stop == 0 {
+        return None;
+    }
+    if !is_direction(line[stop - 1]) {
+        return None;
+    }
+    let front = &line[..stop - 1];
+    if !is_parted(front) {
+        return None;
+    }
+    Some(front)
+}
+
+/// What stands before the last word of a line, which spells this frame.
+pub(crate) fn before_frame<'a>(line: &'a [u8], frame: &Frame) -> &'a [u8]
+    requires { Spells line.now frame.now }
+    ensures { (word : List ℕ) × SplitsLast line.now result.now word }
+{
+    let size = 9 + 2 * frame.payload.len();
+    &line[..words_end(line) - size]
 }
 
 // Whether a time has this byte between its parentheses.
@@ -106,7 +144,11 @@ fn is_of_time(byte: u8) -> bool
 fn are_of_time(bytes: &[u8]) -> bool
     ensures { IsTrue result ↔ All IsOfTime bytes.now }
 {
-    bytes.iter().all(|byte| is_of_time(*byte))
+    let mut at = 0;
+    while at < bytes.len() && is_of_time(bytes[at]) {
+        at += 1;
+    }
+    at == bytes.len()
 }
 
 // Whether a word has the size and the parentheses of a time.

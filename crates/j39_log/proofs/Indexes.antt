@@ -1,5 +1,5 @@
 -- The index of groups by their numbers, group after group, and the first group of a number that is found.
-use Rattle.std.proofs.Common.{◌≡◌, ℕ, zero, suc, ◌+◌, ◌<◌, ◌≤◌, ◌⊎◌, ◌==◌, ◌&&◌, Bool, true, false, not, cond, List, [], ◌∷◌, ◌++◌, All}
+use Rattle.std.proofs.Common.{◌≡◌, ℕ, zero, suc, ◌+◌, ◌<◌, ◌==◌, Bool, true, false, not, cond, List, [], ◌∷◌, ◌++◌}
 use Rattle.std.proofs.Common.{get_or, length, nat_eq, eqb, Option, Some, None, refl, sym, ap, ◌∙◌, subst, arith, inl, inr}
 use Rattle.std.specs.HashMap.{HashMap, get}
 use Rattle.std.specs.List.{position, position_from}
@@ -10,8 +10,8 @@ use Rattle.std.proofs.lemmas.List.{get_or_append_left, length-append}
 use Rattle.std.proofs.lemmas.List.Elements.{All-push}
 use Rattle.j39_findings.specs.declared.plan.group_plan.GroupPlan.{GroupPlan}
 use Rattle.j39_log.specs.declared.catalog.Span.{Span}
-use Rattle.j39_log.specs.inside.Listening.{HasAllOf, IsIndex, IsSpanOf, extended}
-use Rattle.j39_log.specs.LogFrames.{is_planned_as, is_shared_as}
+use Rattle.j39_log.specs.inside.Listening.{IsIndex, IsSpanOf, extended, has_number}
+use Rattle.j39_log.specs.LogFrames.{is_planned_as}
 
 -- ---- the first place
 
@@ -47,17 +47,8 @@ no_place p groups none = position_from-zero p groups ∙ none_from p 0 groups no
 
 -- ---- groups of a number
 
-pub unplanned : (pgn bytes : ℕ) (group : GroupPlan) → is_shared_as pgn group ≡ false → is_planned_as pgn bytes group ≡ false
-unplanned pgn bytes group other = rw other refl
-
-hidden : (pgn : ℕ) (group : GroupPlan) → group.private ≡ true → is_shared_as pgn group ≡ false
-hidden pgn group private = ap (λ (b : Bool). not b && group.pgn == pgn) private
-
-of_other : (pgn : ℕ) (group : GroupPlan) → eqb group.pgn pgn ≡ false → is_shared_as pgn group ≡ false
-of_other pgn group other = and_right (not group.private) (group.pgn == pgn) other
-
-own : (pgn : ℕ) (group : GroupPlan) → group.private ≡ false → eqb group.pgn pgn ≡ true → is_shared_as pgn group ≡ true
-own pgn group shared same = ap (λ (b : Bool). not b && group.pgn == pgn) shared ∙ same
+pub unplanned : (pgn bytes : ℕ) (group : GroupPlan) → has_number pgn group ≡ false → is_planned_as pgn bytes group ≡ false
+unplanned pgn bytes group other = rw (and_right (not group.private) (group.pgn == pgn) other) refl
 
 -- ---- the step
 
@@ -76,12 +67,13 @@ module _ (groups : List GroupPlan) (group : GroupPlan) (n : ℕ) (at : length gr
       let here : place ≡ length groups = omega (arith, same, at) in
       ap (λ (k : ℕ). get_or more k d) here ∙ get_or-append_seam groups group [] d
 
-  -- a group of another number, or a private one
-  passed : (pgn : ℕ) (span : Option Span) → is_shared_as pgn group ≡ false → IsSpanOf groups pgn span → IsSpanOf more pgn span
-  passed pgn None other none = All-push (λ (g : GroupPlan). is_shared_as pgn g ≡ false) groups group none other
+  -- a group of another number
+  passed : (pgn : ℕ) (span : Option Span) → has_number pgn group ≡ false → IsSpanOf groups pgn span → IsSpanOf more pgn span
+  passed pgn None other none = All-push (λ (g : GroupPlan). has_number pgn g ≡ false) groups group none other
   passed pgn (Some span) other has = record {
-    in_order = has.in_order;
+    some = has.some;
     inside = omega (arith, has.inside, at, one_more);
+    begins = λ d. rw (old_place span.first d (omega (arith, has.some, has.inside, at))) (has.begins d);
     others = λ place d less out. elim (cases_lt place n) [
       | inl old ↦ rw (old_place place d old) (has.others place d (omega (arith, old, at)) out)
       | inr new ↦ rw (new_place place d (omega (arith, new, less, one_more))) other
@@ -89,32 +81,30 @@ module _ (groups : List GroupPlan) (group : GroupPlan) (n : ℕ) (at : length gr
   }
 
   -- one of the number
-  counted : (pgn : ℕ) (span : Option Span) → IsSpanOf groups pgn span → IsSpanOf more pgn (Some (extended span n))
-  counted pgn None none = record {
-    in_order = omega arith;
+  counted : (pgn : ℕ) (span : Option Span) → has_number pgn group ≡ true → IsSpanOf groups pgn span
+      → IsSpanOf more pgn (Some (extended span n))
+  counted pgn None here none = record {
+    some = omega arith;
     inside = omega (arith, one_more);
+    begins = λ d. rw (new_place n d refl) here;
     others = λ place d less out. elim out [
       | inl old ↦ rw (old_place place d old) (none place d (omega (arith, old, at)))
       | inr past ↦ absurd (omega (arith, past, less, one_more))
     ];
   }
-  counted pgn (Some span) has = record {
-    in_order = omega (arith, has.in_order, has.inside, at);
+  counted pgn (Some span) here has = record {
+    some = omega (arith, has.some, has.inside, at);
     inside = omega (arith, one_more);
+    begins = λ d. rw (old_place span.first d (omega (arith, has.some, has.inside, at))) (has.begins d);
     others = λ place d less out. elim out [
       | inl old ↦
-          let below : place < n = omega (arith, old, has.in_order, has.inside, at) in
+          let below : place < n = omega (arith, old, has.some, has.inside, at) in
           rw (old_place place d below) (has.others place d (omega (arith, below, at)) (inl old))
       | inr past ↦ absurd (omega (arith, past, less, one_more))
     ];
   }
 
--- an index stays behind a private group
-pub passed_over : {S : Type 0} (spans : HashMap ℕ Span S) (groups : List GroupPlan) (group : GroupPlan) (n : ℕ) → length groups ≡ n
-    → group.private ≡ true → IsIndex groups spans → IsIndex (groups ++ group ∷ []) spans
-passed_over spans groups group n at private index pgn = passed groups group n at pgn (get nat_eq spans pgn) (hidden pgn group private) (index pgn)
-
--- and one that has the span of another's number extended has that group too
+-- an index in which the span of a group's number was extended has that group too
 pub put_in : {S : Type 0} (old new : HashMap ℕ Span S) (groups : List GroupPlan) (group : GroupPlan) (n : ℕ) → length groups ≡ n
     → ((pgn : ℕ) → get nat_eq new pgn ≡ cond (nat_eq group.pgn pgn) (Some (extended (get nat_eq old group.pgn) n)) (get nat_eq old pgn))
     → IsIndex groups old → IsIndex (groups ++ group ∷ []) new
@@ -126,11 +116,11 @@ put_in old new groups group n at updates index pgn =
           updates pgn ∙ ap (λ (b : Bool). cond b (Some (extended (get nat_eq old group.pgn) n)) (get nat_eq old pgn)) e in
           let span : get nat_eq old group.pgn ≡ get nat_eq old pgn = ap (get nat_eq old) same in
           subst (IsSpanOf (groups ++ group ∷ []) pgn) (sym (now ∙ ap (λ (o : Option Span). Some (extended o n)) span))
-          (counted groups group n at pgn (get nat_eq old pgn) (index pgn))
+          (counted groups group n at pgn (get nat_eq old pgn) e (index pgn))
       | inr apart ↦
           let e : eqb group.pgn pgn ≡ false = ne_eqb group.pgn pgn apart in
           let now : get nat_eq new pgn ≡ get nat_eq old pgn =
           updates pgn ∙ ap (λ (b : Bool). cond b (Some (extended (get nat_eq old group.pgn) n)) (get nat_eq old pgn)) e in
           subst (IsSpanOf (groups ++ group ∷ []) pgn) (sym now)
-          (passed groups group n at pgn (get nat_eq old pgn) (of_other pgn group e) (index pgn))
+          (passed groups group n at pgn (get nat_eq old pgn) e (index pgn))
     ]

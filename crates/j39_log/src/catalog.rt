@@ -1,7 +1,7 @@
 //! The groups of a plan as a reader of frames finds them.
 ghost use Rattle.std.specs.Prelude.{◌≡◌, ◌<◌, List, [], ◌∷◌, ◌++◌, length, map, All, OnOk, IfOk, IfErr};
 ghost use Rattle.std.specs.List.{HoldsAt, position};
-ghost use Rattle.j39_log.specs.inside.Listening.{extended, HasAllOf, IsBadCatalog, IsCatalogOf, IsIndex};
+ghost use Rattle.j39_log.specs.inside.Listening.{extended, HasAllOf, IsBadCatalog, IsCatalogOf, IsIndex, IsSpanOf};
 ghost use Rattle.j39_log.specs.inside.ValueLines.{items_of};
 ghost use Rattle.j39_log.specs.LogFrames.{is_planned_as};
 ghost use Rattle.j39_findings.specs.PlannedGroups.{IsSendable, layout_of as parts_of};
@@ -22,16 +22,16 @@ pub enum CatalogError {
     Memory,
 }
 
-/// Where the groups of one number stand that aren't private: from the first of them to behind the last. In a plan without findings it is
-/// one group.
+/// Where the groups of one number stand: from the first of them to behind the last. In a plan without findings it is one group, or
+/// they are private.
 #[derive(Clone, Copy)]
-struct Span {
-    first: usize,
-    end: usize,
+pub struct Span {
+    pub first: usize,
+    pub end: usize,
 }
 
-/// The groups of a plan: their layouts by place, what stands around the values of their signals, and by its number where those
-/// stand that aren't private.
+/// The groups of a plan: their layouts by place, what stands around the values of their signals, and by its number where they
+/// stand.
 #[derive(Drop)]
 pub struct Catalog {
     layouts: Vec<Layout>,
@@ -74,7 +74,7 @@ fn extended(span: Option<Span>, place: usize) -> Span
     }
 }
 
-// The place of a group after others, unless it is private.
+// The place of a group after others.
 fn add_place(
     spans: &mut HashMap<u32, Span>,
     group: &GroupPlan,
@@ -84,9 +84,6 @@ fn add_place(
     ensures { OnOk result ((before : List APlannedGroup) → length before ≡ place → IsIndex before spans.old
         → IsIndex (before ++ group.now ∷ []) spans.new) }
 {
-    if group.private {
-        return Ok(());
-    }
     let span = extended(spans.get(&group.pgn).copied(), place);
     match spans.insert(group.pgn, span) {
         Ok(_) => Ok(()),
@@ -94,7 +91,7 @@ fn add_place(
     }
 }
 
-// The span of each number, among groups that aren't private.
+// The span of each number.
 fn spans_of(alloc: Global, groups: &[GroupPlan]) -> Result<HashMap<u32, Span>, AllocError>
     ensures { IfOk result (IsIndex groups.now) }
 {
@@ -144,6 +141,13 @@ impl Catalog {
             lines,
             spans,
         })
+    }
+
+    /// Where the groups of a number stand, if there are any.
+    pub fn span(&self, pgn: u32) -> Option<Span>
+        ensures { (groups : List APlannedGroup) → IsIndex groups self.now.spans → IsSpanOf groups pgn result }
+    {
+        self.spans.get(&pgn).copied()
     }
 
     /// The place of the first of the plan's groups of this number that isn't private and has messages of so many bytes.

@@ -1,10 +1,14 @@
 -- How a line is taken apart.
-use Rattle.std.specs.Prelude.{◌≡◌, ◌-◌, ◌≤◌, ℕ, List, length, slice_index}
+use Rattle.std.specs.Prelude.{◌≡◌, ◌⊎◌, ◌-◌, ◌≤◌, ℕ, List, length, slice_index}
 use Rattle.j39_id.specs.FrameLine.{IsLastWord}
 
 -- the last word of a line, and what stands before it
 abbrev pub SplitsLast : List ℕ → List ℕ → List ℕ → Type 0
 SplitsLast line front word = (last : IsLastWord line word) × (last.front ≡ front)
+
+-- a word of this letter tells the direction
+abbrev pub TellsDirection : ℕ → Type 0
+TellsDirection letter = (letter ≡ 82) ⊎ (letter ≡ 84)
 
 -- 3 to 32 bytes, the first and the last of them parentheses
 pub record IsEnclosed (word : List ℕ) : Type 0 where

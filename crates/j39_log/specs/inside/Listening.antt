@@ -1,5 +1,5 @@
 -- What the reader of a log keeps, and what it stands for.
-use Rattle.std.specs.Prelude.{◌≡◌, ◌==◌, ◌+◌, ◌&&◌, ◌||◌, ◌<◌, ◌≤◌, ◌⊎◌, Bool, false, ℕ, nat_eq, List, [], length, get_or, map, All, Box, Option, Some, None}
+use Rattle.std.specs.Prelude.{◌≡◌, ◌==◌, ◌+◌, ◌&&◌, ◌||◌, ◌<◌, ◌≤◌, ◌⊎◌, Bool, true, false, ℕ, nat_eq, List, [], length, get_or, map, All, Box, Option, Some, None}
 use Rattle.std.specs.declared.alloc.Global.{Global}
 use Rattle.std.specs.declared.vec.Vec.{Vec}
 use Rattle.std.specs.HashMap.{HashMap, get}
@@ -11,7 +11,6 @@ use Rattle.j39_tp.specs.Packets.{InRange}
 use Rattle.j39_tp.specs.Receiver.{Receiving, fresh, hears, is_complete}
 use Rattle.j39_tp.specs.declared.receiving.manner.Manner.TheVariants.{Listening}
 use Rattle.j39_tp.specs.declared.packet.Packet.{Packet}
-use Rattle.j39_log.specs.LogFrames.{is_shared_as}
 use Rattle.j39_log.specs.LogPairs.{Seen, heard}
 use Rattle.j39_findings.specs.PlannedGroups.{IsFirstRefused, layout_of}
 use Rattle.j39_log.specs.declared.catalog.CatalogError.{CatalogError}
@@ -32,16 +31,20 @@ abbrev pub extended : Option Span → ℕ → Span
 extended None place = record { first = place; end = place + 1 }
 extended (Some span) place = record { first = span.first; end = place + 1 }
 
--- outside of the span no group has the number that isn't private
-pub record HasAllOf (groups : List GroupPlan) (pgn : ℕ) (span : Span) : Type 0 where
-  pub in_order : span.first ≤ span.end
-  pub inside : span.end ≤ length groups
-  pub others : (place : ℕ) (d : GroupPlan) → place < length groups → (place < span.first) ⊎ (span.end ≤ place)
-      → is_shared_as pgn (get_or groups place d) ≡ false
+abbrev pub has_number : ℕ → GroupPlan → Bool
+has_number pgn group = group.pgn == pgn
 
--- all groups of the number that aren't private are in the span, or there are none
+-- the span begins with a group of the number, and outside of it there is none
+pub record HasAllOf (groups : List GroupPlan) (pgn : ℕ) (span : Span) : Type 0 where
+  pub some : span.first < span.end
+  pub inside : span.end ≤ length groups
+  pub begins : (d : GroupPlan) → has_number pgn (get_or groups span.first d) ≡ true
+  pub others : (place : ℕ) (d : GroupPlan) → place < length groups → (place < span.first) ⊎ (span.end ≤ place)
+      → has_number pgn (get_or groups place d) ≡ false
+
+-- all groups of the number are in the span, or there are none
 abbrev pub IsSpanOf : List GroupPlan → ℕ → Option Span → Type 0
-IsSpanOf groups pgn None = All (λ group. is_shared_as pgn group ≡ false) groups
+IsSpanOf groups pgn None = All (λ group. has_number pgn group ≡ false) groups
 IsSpanOf groups pgn (Some span) = HasAllOf groups pgn span
 
 -- the index has the span of each number

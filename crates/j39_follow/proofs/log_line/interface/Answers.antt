@@ -1,33 +1,30 @@
-use Rattle.std.proofs.Common.{List, ℕ, refl, sym, subst, ◌∙◌, ◌≡◌, false, true}
+use Rattle.std.proofs.lemmas.Option.{IfSome_then}
 use Rattle.j39_id.proofs.LineLaws.{not_blank}
-use Rattle.j39_id.specs.FrameLine.{IsLastWord}
-use Rattle.j39_follow.specs.LogLines.{IsTime}
-use Rattle.j39_follow.proofs.Splitting.{one_split}
+use Rattle.j39_follow.proofs.Interfaces.{if_none_then, named_before, unnamed_before}
 use Rattle.j39_follow.proofs.log_line.interface.Goals as goal
 
-false_true : false ≡ true → ⊥
-false_true e = cc
+pub returns-in-Ok-clause-named : goal.returns-in-Ok-clause-named
+returns-in-Ok-clause-named c =
+    let front = c.before_frame.result.now in
+    IfSome_then c.interface_in.result c.interface_in.ensures.named
+    (λ interface is. named_before c.args.part.now front c.before_frame.ensures.0 interface.now c.before_frame.ensures.1 is)
 
-pub returns-in_default-clause-none : goal.returns-in_default-clause-none
-returns-in_default-clause-none c = λ interface is. not_blank c.args.part.now is.word is.last c.in_default.ensures.none
+pub returns-in-Ok-clause-none : goal.returns-in-Ok-clause-none
+returns-in-Ok-clause-none c =
+    if_none_then c.interface_in.result
+    (λ none. unnamed_before c.args.part.now c.before_frame.result.now c.before_frame.ensures.0 c.before_frame.ensures.1 none)
+    c.interface_in.ensures.none
 
-pub returns-in_default-split_last-clause-none : goal.returns-in_default-split_last-clause-none
-returns-in_default-split_last-clause-none c = λ interface is.
-    let same = one_split c.args.part.now is.last.front is.word c.in-Some.front.now c.in-Some._word.now (is.last, refl) c.in-Some.ensures.found in
-    not_blank c.in-Some.front.now interface (subst (λ (f : List ℕ). IsLastWord f interface) same.0 is.before) c.in_default-split_last.ensures.none
+pub returns-in-Some-clause-named : goal.returns-in-Some-clause-named
+returns-in-Some-clause-named c =
+    IfSome_then c.interface_in-in-Some.result c.interface_in-in-Some.ensures.named
+    (λ interface is. named_before c.args.part.now c.in-Some.front.now c.in-Some._word.now interface.now c.in-Some.ensures.found is)
 
-pub returns-then-is_time-clause-none : goal.returns-then-is_time-clause-none
-returns-then-is_time-clause-none c = λ interface is.
-    let same = one_split c.args.part.now is.last.front is.word c.in-Some.front.now c.in-Some._word.now (is.last, refl) c.in-Some.ensures.found in
-    let before = subst (λ (f : List ℕ). IsLastWord f interface) same.0 is.before in
-    let word = one_split c.in-Some.front.now before.front interface c.in-Some-split_last._rest.now c.in-Some-split_last.interface.now
-    (before, refl) c.in-Some-split_last.ensures.found in
-    is.other (subst IsTime (sym word.1) (c.is_time.ensures.0 c.if-is_time.true))
+pub returns-in-Some-clause-none : goal.returns-in-Some-clause-none
+returns-in-Some-clause-none c =
+    if_none_then c.interface_in-in-Some.result
+    (λ none. unnamed_before c.args.part.now c.in-Some.front.now c.in-Some._word.now c.in-Some.ensures.found none)
+    c.interface_in-in-Some.ensures.none
 
-pub returns-clause-named : goal.returns-clause-named
-returns-clause-named c = record {
-  word = c.in-Some._word.now;
-  last = c.in-Some.ensures.found.0;
-  before = subst (λ (f : List ℕ). IsLastWord f c.in-Some-split_last.interface.now) (sym c.in-Some.ensures.found.1) c.in-Some-split_last.ensures.found.0;
-  other = λ t. false_true (sym c.if-is_time.false ∙ c.is_time.ensures.1 t);
-}
+pub returns-in-None-clause-none : goal.returns-in-None-clause-none
+returns-in-None-clause-none c = λ interface is. not_blank c.args.part.now is.word is.last c.in-None.ensures.none

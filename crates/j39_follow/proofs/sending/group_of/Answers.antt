@@ -1,29 +1,13 @@
-use Rattle.std.proofs.Common.{◌≡◌, ◌==◌, ℕ, inl, inr, subst, sym, ◌∙◌, false, true, arith, eqb-true}
-use Rattle.std.proofs.lemmas.Bool.{cases_Bool, eqb-false}
-use Rattle.std.proofs.lemmas.Option.{slice_get_within}
-use Rattle.j39_follow.specs.Fits.{MayBeGroup}
+use Rattle.std.proofs.Common.{subst}
+use Rattle.j39_log.specs.inside.Listening.{IsSpanOf}
+use Rattle.j39_follow.proofs.Numbered.{none_numbered}
 use Rattle.j39_follow.proofs.sending.group_of.Goals as goal
 
-false_true : false ≡ true → ⊥
-false_true e = cc
+pub group_in-requires : goal.group_in-requires
+group_in-requires c =
+    subst (IsSpanOf c.args.plan.now.groups.items c.args.pgn) c.in-Some.is (c.span.ensures c.args.plan.now.groups.items c.requires.index)
 
-pub returns-then-may_be_group : goal.returns-then-may_be_group
-returns-then-may_be_group c = (c.may_be_group.ensures.0 c.if-may_be_group.true, c.loop-place.invariant)
-
-pub loop-place-preserved : goal.loop-place-preserved
-loop-place-preserved c = λ earlier less may. elim (cases_Bool (earlier == c.loop-place.place)) [
-  | inl same ↦
-      let is = eqb-true earlier c.loop-place.place same in
-      false_true (sym c.if-may_be_group.false
-      ∙ c.may_be_group.ensures.1 (subst (λ (i : ℕ). MayBeGroup c.args.plan.now c.args.pgn c.args.bytes c.args.sent i) is may))
-  | inr other ↦
-      let apart = eqb-false earlier c.loop-place.place other in
-      c.loop-place.invariant earlier (omega (arith, less, apart)) may
-]
-
-pub returns : goal.returns
-returns c = λ place may.
-    let within = slice_get_within c.args.plan.now.groups.items place may.value may.value_is in
-    let test = c.loop-place-test.false in
-    let count = c.len-place-end.ensures in
-    c.loop-place.invariant place (omega (arith, within, test, count)) may
+pub returns-in_default : goal.returns-in_default
+returns-in_default c =
+    none_numbered c.args.plan.now c.args.pgn c.args.bytes c.args.sent
+    (subst (IsSpanOf c.args.plan.now.groups.items c.args.pgn) c.in_default.is (c.span.ensures c.args.plan.now.groups.items c.requires.index))

@@ -2,11 +2,8 @@ use Rattle.std.proofs.Common.{◌≡◌, Some, cond, nat_eq, Option, ap, ◌∙�
 use Rattle.std.specs.HashMap.{get}
 use Rattle.j39_log.specs.declared.catalog.Span.{Span}
 use Rattle.j39_log.specs.inside.Listening.{extended}
-use Rattle.j39_log.proofs.Indexes.{passed_over, put_in}
+use Rattle.j39_log.proofs.Indexes.{put_in}
 use Rattle.j39_log.proofs.catalog.add_place.Goals as goal
-
-pub returns-then-group : goal.returns-then-group
-returns-then-group c = λ before at index. passed_over c.args.spans.now before c.args.group.now c.args.place at c.if-group.true index
 
 pub returns-in-Ok : goal.returns-in-Ok
 returns-in-Ok c = λ before at index.

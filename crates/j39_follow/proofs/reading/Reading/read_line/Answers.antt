@@ -1,5 +1,9 @@
 use Rattle.std.proofs.Common.{◌≡◌, ◌+◌, ℕ, List, [], Option, false, true, inl, inr, refl, sym, subst, ◌∙◌}
+use Rattle.std.specs.Prelude.{IfErr, IfOk, Result}
 use Rattle.std.specs.Option.{option_copied}
+use Rattle.j39_id.specs.FrameLine.{HasLineFault, Spells}
+use Rattle.j39_id.specs.declared.frame.Frame.{Frame}
+use Rattle.j39_id.specs.declared.line_error.LineError.{LineError}
 use Rattle.std.proofs.lemmas.List.{append-nil}
 use Rattle.std.proofs.lemmas.Result.{IfOk-weaker}
 use Rattle.j39_follow.specs.FollowText.{Past, passed_over}
@@ -12,7 +16,7 @@ false_true e = cc
 
 pub returns-then-is_elsewhere-clause-line : goal.returns-then-is_elsewhere-clause-line
 returns-then-is_elsewhere-clause-line c = λ past recalls.
-    let read = c.read_part-read in
+    let read = c.read_part-part in
     let named = c.interface-named in
     let next : Past = record past { elsewhere = past.elsewhere + 1 } in (
       next,
@@ -35,9 +39,10 @@ returns-then-is_elsewhere-clause-line c = λ past recalls.
 
 pub returns-in-Ok-clause-line : goal.returns-in-Ok-clause-line
 returns-in-Ok-clause-line c =
-    let read = c.read_part-read in
+    let read = c.read_part-part in
     let named = c.interface-named in
-    IfOk-weaker c.read_frame-in-Ok.result _ _
+    let spelled = subst (λ (r : Result Frame LineError). IfOk r (λ f. Spells read.result.now f)) c.in-Ok.is c.read_frame-read.ensures.found in
+    IfOk-weaker c.read_frame.result _ _
     (λ _ followed. λ past recalls.
     let told = followed past recalls in (
       told.0,
@@ -52,17 +57,17 @@ returns-in-Ok-clause-line c =
               false_true (sym c.if-is_elsewhere.false
               ∙ c.is_elsewhere.ensures.1
               (subst (λ (i : Option (List ℕ)). IsElsewhere i (option_copied named.result)) (sym recalls.interface_is) there)),
-          inl (c.in-Ok.frame, c.time_text.result.now, c.in-Ok.ensures.found, c.time_text.ensures, told.2),
+          inl (c.in-Ok.frame, c.time_text.result.now, spelled, c.time_text.ensures, told.2),
         ),
       ),
       told.3,
       told.4,
     ))
-    c.read_frame-in-Ok.ensures.frame
+    c.read_frame.ensures.frame
 
 pub returns-in-Err-clause-line : goal.returns-in-Err-clause-line
 returns-in-Err-clause-line c = λ past recalls.
-    let read = c.read_part-read in
+    let read = c.read_part-part in
     let named = c.interface-named in (
       passed_over c.in-Err.error past,
       [],
@@ -76,7 +81,12 @@ returns-in-Err-clause-line c = λ past recalls.
               false_true (sym c.if-is_elsewhere.false
               ∙ c.is_elsewhere.ensures.1
               (subst (λ (i : Option (List ℕ)). IsElsewhere i (option_copied named.result)) (sym recalls.interface_is) there)),
-          inr (c.in-Err.error, c.in-Err.ensures.refused, refl, refl),
+          inr (
+            c.in-Err.error,
+            subst (λ (r : Result Frame LineError). IfErr r (λ e. HasLineFault read.result.now e)) c.in-Err.is c.read_frame-read.ensures.refused,
+            refl,
+            refl,
+          ),
         ),
       ),
       c.pass_over.ensures.past c.args.plan.now past recalls,
