@@ -48,9 +48,9 @@ const REFUSED_STEP: [&str; 12] = [
 ];
 
 // The first words of lines of check, and of lines of read.
-const CHECK: [&str; 21] = [
+const CHECK: [&str; 22] = [
     "ok", "findings", "F1", "F2", "F3", "F4", "F5", "F6", "F7", "F8", "F9", "F10", "F11", "F12",
-    "F13", "F15", "F16", "F17", "F18", "", "refused",
+    "F13", "F14", "F15", "F16", "F17", "F18", "", "refused",
 ];
 
 // Those of addresses, where it doesn't answer as check does.

@@ -6,7 +6,7 @@ use Rattle.j39_findings.specs.declared.steps.Step.{Step}
 use Rattle.j39_world.specs.Conflict.{LeavesWithoutAddress}
 use Rattle.j39_findings.specs.declared.plan.Plan.{Plan}
 use Rattle.j39_findings.specs.declared.checking.finding.Finding.{Finding}
-use Rattle.j39_findings.specs.declared.checking.finding.Finding.TheVariants.{SameName, SameFixedAddress, TooFewAddresses, BadPgn, SamePgn, SignalWidth, SignalOutside, SignalOverlap, FlowToOne, FlowToSelf, FlowRepeated, KeptAddress, PrivateUnsent, TextOutside}
+use Rattle.j39_findings.specs.declared.checking.finding.Finding.TheVariants.{SameName, SameFixedAddress, TooFewAddresses, BadPgn, SamePgn, SignalWidth, SignalOutside, SignalOverlap, FlowToOne, FlowToSelf, FlowRepeated, KeptAddress, PrivateUnsent, RecordOverlap, TextOutside}
 use Rattle.j39_text.specs.Labels.{group_label, group_pgn, group_text, signal_bits, signal_end, signal_label, text_end, text_label, unit_address, unit_label, units_text}
 use Rattle.j39_text.specs.Texts.{field, place_field}
 use Rattle.j39_schedule.specs.Schedule.{read_as, readings_of}
@@ -32,6 +32,7 @@ finding_text plan (FlowToSelf f) = place_field (codes "F10 FlowToSelf ") f
 finding_text plan (FlowRepeated f h) = place_field (codes "F11 FlowRepeated ") f ++ place_field (codes " ") h
 finding_text plan (KeptAddress i) = codes "F12 KeptAddress " ++ (unit_label plan i ++ field (codes " ") (unit_address plan i))
 finding_text plan (PrivateUnsent g) = group_text (codes "F13 PrivateUnsent ") plan g
+finding_text plan (RecordOverlap g s t) = signal_text (codes "F14 RecordOverlap ") plan g s ++ (codes " " ++ signal_label plan g t)
 finding_text plan (TextOutside g t) =
     group_text (codes "F15 TextOutside ") plan g ++ (codes " " ++ (text_label plan g t ++ field (codes " ") (text_end plan g t)))
 

@@ -1,6 +1,6 @@
 //! The lines of findings.
 ghost use Rattle.std.specs.Prelude.{◌≡◌, ◌++◌, OnOk};
-ghost use Rattle.j39_findings.specs.declared.checking.finding.Finding.TheVariants.{SameFixedAddress, BadPgn, SamePgn, SignalWidth, SignalOutside, SignalOverlap, FlowRepeated, KeptAddress, TextOutside};
+ghost use Rattle.j39_findings.specs.declared.checking.finding.Finding.TheVariants.{SameFixedAddress, BadPgn, SamePgn, SignalWidth, SignalOutside, SignalOverlap, FlowRepeated, KeptAddress, RecordOverlap, TextOutside};
 ghost use Rattle.j39_check.specs.FindingLines.{finding_line, finding_lines, finding_report, finding_text, run_lines, signal_text};
 
 use j39_findings::{Finding, Plan, bad_run};
@@ -126,6 +126,21 @@ fn write_kept_address(text: &mut TextBuffer, plan: &Plan, unit: usize) -> Result
 }
 
 #[tactic(auto, unfolding(crate::specs::FindingLines::finding_text))]
+fn write_record_overlap(
+    text: &mut TextBuffer,
+    plan: &Plan,
+    group: usize,
+    first: usize,
+    second: usize,
+) -> Result<(), AllocError>
+    ensures { OnOk result (text.new ≡ text.old ++ finding_text plan.now (RecordOverlap group first second)) }
+{
+    write_signal(text, "F14 RecordOverlap ", plan, group, first)?;
+    text.word(" ")?;
+    text.word(signal_label(plan, group, second))
+}
+
+#[tactic(auto, unfolding(crate::specs::FindingLines::finding_text))]
 fn write_text_outside(
     text: &mut TextBuffer,
     plan: &Plan,
@@ -158,6 +173,7 @@ fn write_finding(text: &mut TextBuffer, plan: &Plan, finding: Finding) -> Result
         Finding::FlowRepeated(f, h) => write_flow_repeated(text, plan, f, h),
         Finding::KeptAddress(i) => write_kept_address(text, plan, i),
         Finding::PrivateUnsent(g) => write_group(text, "F13 PrivateUnsent ", plan, g),
+        Finding::RecordOverlap(g, s, t) => write_record_overlap(text, plan, g, s, t),
         Finding::TextOutside(g, t) => write_text_outside(text, plan, g, t),
     }
 }

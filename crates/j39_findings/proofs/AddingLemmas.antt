@@ -6,7 +6,7 @@ use Rattle.std.specs.List.{slice_get}
 use Rattle.std.proofs.lemmas.Option.{slice_get-get_or}
 use Rattle.j39_findings.specs.Adding.{Adds}
 use Rattle.j39_findings.specs.ListPlaces.{in_each, each, pairs, found_if}
-use Rattle.j39_findings.specs.Found.{unit_findings, group_findings, signal_findings, flow_findings, kept_findings, unsent_findings, text_findings, found}
+use Rattle.j39_findings.specs.Found.{unit_findings, group_findings, signal_findings, flow_findings, kept_findings, unsent_findings, record_findings, text_findings, found}
 use Rattle.j39_findings.specs.Findings.{Clean}
 use Rattle.j39_findings.specs.declared.plan.Plan.{Plan}
 use Rattle.j39_findings.proofs.FoundLaws.{none_from_clean, rest}
@@ -116,7 +116,14 @@ unsent_some plan some =
     rest_some plan (some_right (flow_findings plan.groups.items plan.flows.items) _
     (some_right (kept_findings plan.keep_free plan.units.items) _ (some_left _ _ some)))
 
+pub records_some : (plan : Plan) → record_findings plan.groups.items ≢ [] → found plan ≢ []
+records_some plan some =
+    rest_some plan (some_right (flow_findings plan.groups.items plan.flows.items) _
+    (some_right (kept_findings plan.keep_free plan.units.items) _
+    (some_right (unsent_findings plan.groups.items plan.flows.items) _ (some_left _ _ some))))
+
 pub texts_some : (plan : Plan) → text_findings plan.groups.items ≢ [] → found plan ≢ []
 texts_some plan some =
     rest_some plan (some_right (flow_findings plan.groups.items plan.flows.items) _
-    (some_right (kept_findings plan.keep_free plan.units.items) _ (some_right (unsent_findings plan.groups.items plan.flows.items) _ some)))
+    (some_right (kept_findings plan.keep_free plan.units.items) _
+    (some_right (unsent_findings plan.groups.items plan.flows.items) _ (some_right (record_findings plan.groups.items) _ some))))

@@ -1,5 +1,5 @@
 -- What 'no finding' says.
-use Rattle.std.proofs.Common.{◌≡◌, ℕ, ◌+◌, ◌*◌, ◌<◌, List, All, AllPairs, get_or, length, Bool, true, Decides, refl, inl, inr, arith}
+use Rattle.std.proofs.Common.{◌≡◌, ℕ, ◌+◌, ◌*◌, ◌<◌, List, All, AllPairs, get_or, length, Bool, true, Decides, inl, inr, arith}
 use Rattle.std.proofs.lemmas.Bool.{cases_Bool, cases_lt}
 use Rattle.std.proofs.lemmas.Bool.Decides.{not_from_Decides}
 use Rattle.std.proofs.lemmas.Option.{slice_get-get_or}
@@ -13,12 +13,14 @@ use Rattle.j39_findings.specs.declared.plan.Plan.{Plan}
 use Rattle.j39_findings.specs.declared.plan.group_plan.GroupPlan.{GroupPlan}
 use Rattle.j39_findings.specs.declared.plan.text_plan.TextPlan.{TextPlan}
 use Rattle.j39_findings.specs.declared.checking.finding.Finding.TheVariants.{SameName, SameFixedAddress, TooFewAddresses, BadPgn, SamePgn, SignalWidth}
-use Rattle.j39_findings.specs.declared.checking.finding.Finding.TheVariants.{SignalOutside, SignalOverlap, FlowToOne, FlowToSelf, FlowRepeated, KeptAddress, PrivateUnsent, TextOutside}
-use Rattle.j39_findings.specs.ListPlaces.{ValueAt, PairAt, SomeMeets}
-use Rattle.j39_findings.specs.Findings.{IsProprietary, HasBadPgn, IsOutside, Sends, Clean}
-use Rattle.j39_findings.specs.CleanParts.{CanBePlanned, HaveOwnPgn, LiesInside, CleanParts}
+use Rattle.j39_findings.specs.declared.checking.finding.Finding.TheVariants.{SignalOutside, SignalOverlap, FlowToOne, FlowToSelf, FlowRepeated, KeptAddress, PrivateUnsent, RecordOverlap, TextOutside}
+use Rattle.j39_findings.specs.ListPlaces.{ValueAt, PairAt}
+use Rattle.j39_findings.specs.Findings.{IsProprietary, HasBadPgn, IsOutside, Clean}
+use Rattle.j39_findings.specs.CleanParts.{CanBePlanned, LiesInside, CleanParts}
 use Rattle.j39_findings.specs.Lengths.{IsLengthOf}
 use Rattle.j39_findings.specs.TextPlaces.{last_byte}
+use Rattle.j39_findings.specs.Records.{signals_in}
+use Rattle.j39_findings.proofs.RecordBits.{IsApart, bits_once, laid_with_records}
 use Rattle.j39_findings.proofs.Deciding.{Decides-is_pgn, Decides-is_proprietary, Decides-sends_some}
 
 none_at : {A : Type 0} (P : A → Type 0) (xs : List A) → ((i : ℕ) → ¬ ValueAt P xs i) → All (λ x. ¬ P x) xs
@@ -94,8 +96,8 @@ lies_inside g t h = record {
 }
 
 -- signals that lay out the shortest messages of a group lay out its longer ones
-pub lays_out_each : (plan : Plan) → Clean plan → All (λ g. (bytes : ℕ) → IsLengthOf g bytes → LaysOut bytes g.signals.items) plan.groups.items
-lays_out_each plan clean g d less bytes of =
+lays_out_longer : (plan : Plan) → Clean plan → All (λ g. (bytes : ℕ) → IsLengthOf g bytes → LaysOut bytes g.signals.items) plan.groups.items
+lays_out_longer plan clean g d less bytes of =
     let group = get_or plan.groups.items g d in
     let short = layout plan clean g d less in
     let most = group.most_range in
@@ -106,6 +108,17 @@ lays_out_each plan clean g d less bytes of =
       inside = λ s e in_group. omega (arith, short.inside s e in_group, of.0);
       apart = short.apart;
     }
+
+apart : (plan : Plan) → Clean plan → All IsApart plan.groups.items
+apart plan clean g d less = record {
+  singles = λ i j at. clean (SignalOverlap g i j) (at_group plan _ g d less at);
+  records = λ i j at. clean (RecordOverlap g i j) (at_group plan _ g d less at);
+}
+
+-- with the signals of their records
+pub lays_out_each : (plan : Plan) → Clean plan → All (λ g. (bytes : ℕ) → IsLengthOf g bytes → LaysOut bytes (signals_in g bytes)) plan.groups.items
+lays_out_each plan clean g d less bytes of =
+    laid_with_records (get_or plan.groups.items g d) bytes (bits_once _ (apart plan clean g d less)) (lays_out_longer plan clean g d less bytes of) of.1
 
 pub parts_of : (plan : Plan) → Clean plan → CleanParts plan
 parts_of plan clean = record {
@@ -132,6 +145,7 @@ parts_of plan clean = record {
   sent = λ g d less private.
       by_test _ _ (Decides-sends_some plan.groups.items plan.flows.items (get_or plan.groups.items g d))
       (λ none. none_at _ plan.groups.items (λ k. clean (PrivateUnsent k)) g d less (private, none));
+  records = λ g d less. bits_once _ (apart plan clean g d less);
   texts = λ g d less t e in_group.
       let group = get_or plan.groups.items g d in
       lies_inside group (get_or group.texts.items t e)

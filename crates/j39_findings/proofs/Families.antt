@@ -1,7 +1,9 @@
 -- What each part of the list of findings has: what holds, in order.
-use Rattle.std.proofs.Common.{◌≡◌, ℕ, ◌<◌, ◌≤◌, nat_lt, List, [], ◌∷◌, ◌++◌, Bool}
+use Rattle.std.proofs.Common.{◌≡◌, ℕ, ◌<◌, ◌≤◌, nat_lt, List, [], ◌∷◌, ◌++◌, Bool, true, false, if◌then◌else◌, Option, None}
 use Rattle.std.proofs.Common.{Some, Contains, Decides, refl, sym, ◌∙◌, ap, subst, inl, inr, arith}
 use Rattle.std.specs.List.{slice_get}
+use Rattle.std.specs.Option.{option_map_or}
+use Rattle.j39_signal.specs.Parts.{SignalParts}
 use Rattle.std.proofs.lemmas.Bool.Decides.{Decides-ltb}
 use Rattle.std.proofs.lemmas.List.Elements.{Contains-append_cases}
 use Rattle.j39_signal.specs.Places.{WidthFits, IsInside, SharesBit, shares_bit}
@@ -9,13 +11,14 @@ use Rattle.j39_findings.specs.declared.plan.Plan.{Plan}
 use Rattle.j39_findings.specs.declared.plan.group_plan.GroupPlan.{GroupPlan}
 use Rattle.j39_findings.specs.declared.checking.finding.Finding.{Finding}
 use Rattle.j39_findings.specs.declared.checking.finding.Finding.TheVariants.{SameName, SameFixedAddress, TooFewAddresses, BadPgn, SamePgn, SignalWidth}
-use Rattle.j39_findings.specs.declared.checking.finding.Finding.TheVariants.{SignalOutside, SignalOverlap, FlowToOne, FlowToSelf, FlowRepeated, KeptAddress, PrivateUnsent, TextOutside}
-use Rattle.j39_findings.specs.ListPlaces.{in_each, each, pairs, ValueAt, PairAt}
+use Rattle.j39_findings.specs.declared.checking.finding.Finding.TheVariants.{SignalOutside, SignalOverlap, FlowToOne, FlowToSelf, FlowRepeated, KeptAddress, PrivateUnsent, RecordOverlap, TextOutside}
+use Rattle.j39_findings.specs.ListPlaces.{found_if, in_each, each, pairs, ValueAt, PairAt}
 use Rattle.j39_claim.specs.AddressSets.{free_count}
 use Rattle.j39_findings.specs.Findings.{HaveSameName, HaveSameFixedAddress, HasBadPgn, HaveSamePgn, CannotGoToOne}
 use Rattle.j39_findings.specs.Findings.{GoesToItsSender, AreOneFlow, Holds, PrefersKept, IsPrivateUnsent, IsOutside, IsBefore, IsBelow, finding_number, places_of}
 use Rattle.j39_findings.specs.Found.{needed_addresses, too_few_addresses, unit_findings, group_findings, has_other_width}
-use Rattle.j39_findings.specs.Found.{ends_outside, lies_outside, overlap_findings, signal_findings, flow_findings, kept_findings, unsent_findings, text_findings}
+use Rattle.j39_findings.specs.Found.{ends_outside, lies_outside, overlap_findings, signal_findings, flow_findings, kept_findings, unsent_findings, overlaps_of, group_overlaps, do_records_meet, record_findings, text_findings}
+use Rattle.j39_findings.proofs.Meeting.{of_signal_made, of_group_overlaps}
 use Rattle.j39_findings.proofs.Members.{of_in_each, of_found_if, of_each, of_pairs}
 use Rattle.j39_findings.proofs.Rising.{Rises, Rises-append, Rises-found_if, Rises-in_each, Rises-each, Rises-pairs}
 use Rattle.j39_findings.proofs.Deciding.{Decides-have_same_name, Decides-have_same_fixed_address, Decides-needs_pool_address, Decides-has_bad_pgn, passing_meet}
@@ -225,6 +228,62 @@ unsent_covered plan =
     let flows = plan.flows.items in
     each_family plan 13 (IsPrivateUnsent groups flows) (Decides-is_private_unsent groups flows) PrivateUnsent groups (λ i h. h)
     (λ i. record { number = refl; places = refl })
+
+-- ---- records
+
+rises_if : (b : Bool) (xs : List Finding) → Rises IsBefore xs → Rises IsBefore (if b then xs else [])
+rises_if true xs rises = rises
+rises_if false xs rises = tt
+
+rises_option : (find : ℕ → List Finding) → ((n : ℕ) → Rises IsBefore (find n)) → (o : Option ℕ) → Rises IsBefore (option_map_or find o [])
+rises_option find rises None = tt
+rises_option find rises (Some n) = rises n
+
+-- a finding of this group that names the place i behind it
+record IsOfSignal (g i : ℕ) (f : Finding) : Type 0 where
+  pub rest : List ℕ
+  pub names : Names 14 (g ∷ i ∷ rest) f
+
+of_signal_at : (every most g : ℕ) (signals : List SignalParts) (i : ℕ) (first : SignalParts) (f : Finding)
+    → Contains (overlaps_of every most g signals i first) f → IsOfSignal g i f
+of_signal_at every most g signals i first f h =
+    let o = of_signal_made every most g signals i first f h in
+    subst (IsOfSignal g i) (sym o.1) (record { rest = o.0 ∷ []; names = record { number = refl; places = refl } })
+
+overlaps_rise : (every most g : ℕ) (signals : List SignalParts) (i : ℕ) (first : SignalParts) → Rises IsBefore (overlaps_of every most g signals i first)
+overlaps_rise every most g signals i first =
+    rises_if first.repeated _ (Rises-in_each IsBefore (λ t other. found_if (do_records_meet every most i t first other) (RecordOverlap g i t))
+    (λ k x. Rises-found_if IsBefore _ _)
+    (λ k l x y f h less in_k in_l.
+    let a = of_found_if (do_records_meet every most i k first x) (RecordOverlap g i k) f in_k in
+    let b = of_found_if (do_records_meet every most i l first y) (RecordOverlap g i l) h in_l in
+    let P : Finding → Type 0 = λ u. IsBefore u h in
+    let Q : Finding → Type 0 = λ v. IsBefore (RecordOverlap g i k) v in
+    subst P (sym a.1) (subst Q (sym b.1) (inr (refl, inr (refl, inr (refl, inl less))))))
+    0 signals)
+
+group_rises : (g : ℕ) (group : GroupPlan) → Rises IsBefore (group_overlaps g group)
+group_rises g group =
+    let signals = group.signals.items in
+    rises_option (λ every. in_each (overlaps_of every group.most g signals) 0 signals)
+    (λ every. Rises-in_each IsBefore (overlaps_of every group.most g signals) (overlaps_rise every group.most g signals)
+    (λ k l x y f h less in_k in_l.
+    let a = of_signal_at every group.most g signals k x f in_k in
+    let b = of_signal_at every group.most g signals l y h in_l in
+    before 14 (g ∷ k ∷ a.rest) (g ∷ l ∷ b.rest) f h a.names b.names (inr (refl, inl less)))
+    0 signals) group.every
+
+pub records_covered : (plan : Plan) → Covers plan 14 14 (record_findings plan.groups.items)
+unfolding record_findings
+records_covered plan =
+    inside_family plan 14 group_overlaps
+    (λ g group f is h.
+    let o = of_group_overlaps g group f h in
+    holds_at plan f (RecordOverlap g o.i o.j) o.made (record { value = group; value_is = is; meets = o.over }))
+    (λ g group f h.
+    let o = of_group_overlaps g group f h in
+    of_group 14 g f (RecordOverlap g o.i o.j) o.made (record { rest = o.i ∷ o.j ∷ []; names = record { number = refl; places = refl } }))
+    group_rises
 
 -- ---- texts
 

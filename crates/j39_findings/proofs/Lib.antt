@@ -6,7 +6,10 @@ pub mod Families
 pub mod FoundLaws
 pub mod LastWrites
 pub mod Lengths
+pub mod Meeting
 pub mod Members
 pub mod PlaceLemmas
 pub mod PrivateGroups
+pub mod RecordBits
+pub mod RecordCounts
 pub mod Rising

@@ -1,16 +1,15 @@
 -- Whose a message is, and plans without private groups.
-use Rattle.std.proofs.Common.{List, ◌≡◌, ℕ, ◌<◌, ◌⊎◌, ◌↔◌, Bool, true, false, All as AllOf, Some, refl, sym, ◌∙◌, subst, inl, inr, arith}
+use Rattle.std.proofs.Common.{List, ◌≡◌, ℕ, ◌<◌, ◌⊎◌, Bool, true, false, All as AllOf, Some, sym, ◌∙◌, inl, inr, arith}
 use Rattle.std.specs.List.{slice_get}
 use Rattle.std.proofs.lemmas.Bool.{false≢true, cases_lt}
-use Rattle.j39_findings.specs.ListPlaces.{ValueAt, PairAt, SomeMeets}
-use Rattle.j39_findings.specs.Findings.{IsForNoPlan, IsProprietary, HasBadPgn, HaveSamePgn, AreSentTogether, DoReceiversMeet, Clean, Holds}
+use Rattle.j39_findings.specs.ListPlaces.{ValueAt, SomeMeets}
+use Rattle.j39_findings.specs.Findings.{IsForNoPlan, IsProprietary, HasBadPgn, AreSentTogether, DoReceiversMeet, Clean}
 use Rattle.j39_findings.specs.PrivateGroups.{Fits, CanBe, OneGroupFits, HasNoPrivate, IsFoundAsBefore}
 use Rattle.j39_findings.specs.declared.plan.Plan.{Plan}
 use Rattle.j39_findings.specs.declared.plan.group_plan.GroupPlan.{GroupPlan}
 use Rattle.j39_findings.specs.declared.plan.flow_plan.FlowPlan.{FlowPlan}
 use Rattle.j39_findings.specs.declared.plan.to.To.{To}
-use Rattle.j39_findings.specs.declared.plan.to.To.TheVariants.{All}
-use Rattle.j39_findings.specs.declared.checking.finding.Finding.TheVariants.{BadPgn, SamePgn, PrivateUnsent}
+use Rattle.j39_findings.specs.declared.checking.finding.Finding.TheVariants.{SamePgn}
 use Rattle.j39_findings.proofs.Members.{all_at}
 
 -- ---- one group fits

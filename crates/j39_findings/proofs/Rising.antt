@@ -23,7 +23,7 @@ Rises-append R (x ∷ xs) ys left right cross = (
   Rises-append R xs ys left.1 right (λ a b in_xs in_ys. cross a b (tail_contains x a xs in_xs) in_ys),
 )
 
-all_by_contains : {B : Type 0} (P : B → Type 0) (xs : List B) → ((y : B) → Contains xs y → P y) → All P xs
+pub all_by_contains : {B : Type 0} (P : B → Type 0) (xs : List B) → ((y : B) → Contains xs y → P y) → All P xs
 all_by_contains P [] h = All-nil P
 all_by_contains P (x ∷ xs) h = All-cons P x xs (h x (0, omega arith, refl)) (all_by_contains P xs (λ y in_xs. h y (tail_contains x y xs in_xs)))
 

@@ -1,11 +1,11 @@
 -- What a clean plan keeps, part by part.
-use Rattle.std.specs.Prelude.{◌≡◌, ◌≢◌, ℕ, true, false, ◌+◌, ◌<◌, ◌≤◌, ◌↔◌, All, AllPairs, Contains}
+use Rattle.std.specs.Prelude.{◌≡◌, ◌≢◌, ℕ, true, false, ◌+◌, ◌*◌, ◌<◌, ◌≤◌, ◌↔◌, ◌⊎◌, unwrap_or, All, AllPairs, Contains}
 use Rattle.std.specs.FinSet.{contains}
 use Rattle.j39_claim.specs.AddressSets.{free_count}
 use Rattle.j39_id.specs.Name.{is_arbitrary}
 use Rattle.j39_id.specs.Pgn.{IsPgn, extended_page}
 use Rattle.j39_id.specs.Services.{service_groups}
-use Rattle.j39_signal.specs.Places.{LaysOut}
+use Rattle.j39_signal.specs.Places.{Covers, LaysOut, further}
 use Rattle.j39_findings.specs.ListPlaces.{ValueAt, SomeMeets, SoManyMeet}
 use Rattle.j39_findings.specs.TextPlaces.{last_byte}
 use Rattle.j39_findings.specs.Findings.{IsFixed, NeedsPoolAddress, IsProprietary, IsToOne, IsOneFrameToAll, AreOneFlow, Sends, AreSentTogether}
@@ -32,6 +32,15 @@ pub record HaveOwnPgn (plan : Plan) (g h : GroupPlan) : Type 0 where
   pub second : h.private ≡ false → g.pgn ≢ h.pgn
   pub apart : g.pgn ≡ h.pgn → ¬ AreSentTogether plan.groups.items plan.flows.items g h
 
+-- the bit belongs to the signal at this place of the group, in the record so many behind the first; a signal that isn't repeated stands once
+abbrev pub HasBit : GroupPlan → ℕ → ℕ → ℕ → Type 0
+HasBit g place behind bit =
+    ValueAt (λ s. Covers (further (unwrap_or g.every 0 * behind) s) bit × ((s.repeated ≡ true) ⊎ (behind ≡ 0))) g.signals.items place
+
+-- each bit of the longest message belongs to one signal at most, and of one that is repeated in one record
+abbrev pub HasBitsOnce : GroupPlan → Type 0
+HasBitsOnce g = (i j k l bit : ℕ) → bit < 8 * g.most → HasBit g i k bit → HasBit g j l bit → (i ≡ j) × (k ≡ l)
+
 -- a text begins inside the shortest message or right behind it, and ends inside the longest
 pub record LiesInside (g : GroupPlan) (t : TextPlan) : Type 0 where
   pub begins : t.byte ≤ g.length + 1
@@ -49,4 +58,5 @@ pub record CleanParts (plan : Plan) : Type 0 where
   pub to_self : All (λ f. f.to ≢ One f.sender) plan.flows.items
   pub flows : AllPairs (λ f h. ¬ AreOneFlow f h) plan.flows.items
   pub sent : All (λ g. g.private ≡ true → SomeMeets (Sends plan.groups.items g) plan.flows.items) plan.groups.items
+  pub records : All HasBitsOnce plan.groups.items
   pub texts : All (λ g. All (LiesInside g) g.texts.items) plan.groups.items

@@ -1,6 +1,6 @@
 -- What can be wrong with a plan: each finding as a plain statement on its units, groups, signals and flows, by their
 -- places from 0 (addresses and NAMEs: SAE J1939-81; groups and their destinations: SAE J1939-21; signals: SAE J1939-71).
-use Rattle.std.specs.Prelude.{◌≡◌, ℕ, ◌+◌, ◌<◌, ◌≤◌, ◌⊎◌, List, [], ◌∷◌}
+use Rattle.std.specs.Prelude.{◌≡◌, ℕ, ◌+◌, ◌*◌, ◌<◌, ◌≤◌, ◌⊎◌, List, [], ◌∷◌, Some}
 use Rattle.std.specs.Prelude.{true, false, Contains, AllPairs}
 use Rattle.std.specs.FinSet.{FinSet, contains}
 use Rattle.std.specs.Ordering.{nat_cmp}
@@ -10,7 +10,9 @@ use Rattle.j39_id.specs.Name.{is_arbitrary}
 use Rattle.j39_id.specs.Pgn.{IsPgn, extended_page, pdu2_first, pf_of}
 use Rattle.j39_id.specs.Proprietary.{proprietary_a, proprietary_a2, proprietary_b_first, proprietary_b_last, proprietary_b2_first, proprietary_b2_last}
 use Rattle.j39_id.specs.Services.{service_groups}
-use Rattle.j39_signal.specs.Places.{WidthFits, IsInside, SharesBit}
+use Rattle.std.specs.List.{slice_get}
+use Rattle.j39_signal.specs.Parts.{SignalParts}
+use Rattle.j39_signal.specs.Places.{Covers, WidthFits, IsInside, SharesBit, further}
 use Rattle.j39_findings.specs.ListPlaces.{ValueAt, PairAt, SomeMeets, SoManyMeet}
 use Rattle.j39_findings.specs.TextPlaces.{last_byte}
 use Rattle.j39_findings.specs.declared.plan.Plan.{Plan}
@@ -21,7 +23,7 @@ use Rattle.j39_findings.specs.declared.plan.text_plan.TextPlan.{TextPlan}
 use Rattle.j39_findings.specs.declared.plan.to.To.TheVariants.{All, One}
 use Rattle.j39_findings.specs.declared.checking.finding.Finding.{Finding}
 use Rattle.j39_findings.specs.declared.checking.finding.Finding.TheVariants.{SameName, SameFixedAddress, TooFewAddresses, BadPgn, SamePgn, SignalWidth}
-use Rattle.j39_findings.specs.declared.checking.finding.Finding.TheVariants.{SignalOutside, SignalOverlap, FlowToOne, FlowToSelf, FlowRepeated, KeptAddress, PrivateUnsent, TextOutside}
+use Rattle.j39_findings.specs.declared.checking.finding.Finding.TheVariants.{SignalOutside, SignalOverlap, FlowToOne, FlowToSelf, FlowRepeated, KeptAddress, PrivateUnsent, RecordOverlap, TextOutside}
 
 -- ---- units
 
@@ -113,6 +115,33 @@ AreOneFlow f h = (f.group ≡ h.group) × (f.sender ≡ h.sender) × (f.to ≡ h
 abbrev pub IsOutside : GroupPlan → TextPlan → Type 0
 IsOutside group text = (group.length + 1 < text.byte) ⊎ (group.most < last_byte text)
 
+-- ---- records
+
+-- a later record of the first signal has a bit that is one of the longest message's and belongs to the second signal too
+pub record ComesOnto (every most : ℕ) (s t : SignalParts) : Type 0 where
+  pub behind : ℕ
+  pub later : 1 ≤ behind
+  pub bit : ℕ
+  pub inside : bit < 8 * most
+  pub of_record : Covers (further (every * behind) s) bit
+  pub of_other : Covers t bit
+
+-- records of the signal at place i come onto that at place j: of two that are repeated this is said once, of whichever comes onto the other
+abbrev pub DoRecordsMeet : ℕ → ℕ → ℕ → ℕ → SignalParts → SignalParts → Type 0
+DoRecordsMeet every most i j s t = (s.repeated ≡ true)
+    × (((t.repeated ≡ false) × ComesOnto every most s t)
+    ⊎ ((t.repeated ≡ true) × ((i ≤ j) × (ComesOnto every most s t ⊎ ComesOnto every most t s))))
+
+-- so it is with those at these places of a group
+pub record HasRecordsOver (group : GroupPlan) (i j : ℕ) : Type 0 where
+  pub every : ℕ
+  pub every_is : group.every ≡ Some every
+  pub first : SignalParts
+  pub first_is : slice_get group.signals.items i ≡ Some first
+  pub second : SignalParts
+  pub second_is : slice_get group.signals.items j ≡ Some second
+  pub meet : DoRecordsMeet every group.most i j first second
+
 -- ---- the findings
 
 -- what a finding says of a plan
@@ -130,6 +159,7 @@ Holds plan (FlowToSelf f) = ValueAt GoesToItsSender plan.flows.items f
 Holds plan (FlowRepeated f h) = PairAt AreOneFlow plan.flows.items f h
 Holds plan (KeptAddress i) = ValueAt (PrefersKept plan.keep_free) plan.units.items i
 Holds plan (PrivateUnsent g) = ValueAt (IsPrivateUnsent plan.groups.items plan.flows.items) plan.groups.items g
+Holds plan (RecordOverlap g s t) = ValueAt (λ group. HasRecordsOver group s t) plan.groups.items g
 Holds plan (TextOutside g t) = ValueAt (λ group. ValueAt (IsOutside group) group.texts.items t) plan.groups.items g
 
 -- nothing is wrong with the plan
@@ -153,6 +183,7 @@ finding_number (FlowToSelf f) = 10
 finding_number (FlowRepeated f h) = 11
 finding_number (KeptAddress i) = 12
 finding_number (PrivateUnsent g) = 13
+finding_number (RecordOverlap g s t) = 14
 finding_number (TextOutside g t) = 15
 
 -- the places that it names
@@ -170,6 +201,7 @@ places_of (FlowToSelf f) = f ∷ []
 places_of (FlowRepeated f h) = f ∷ h ∷ []
 places_of (KeptAddress i) = i ∷ []
 places_of (PrivateUnsent g) = g ∷ []
+places_of (RecordOverlap g s t) = g ∷ s ∷ t ∷ []
 places_of (TextOutside g t) = g ∷ t ∷ []
 
 -- the first place in which two lists differ is smaller in the first list

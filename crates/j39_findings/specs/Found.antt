@@ -1,6 +1,7 @@
 -- The findings of a plan as a list: a test for each statement, and the list of all that pass.
-use Rattle.std.specs.Prelude.{ℕ, ◌+◌, List, ◌++◌, Bool, true, false, not, ◌&&◌, ◌||◌, ◌==◌, nat_le, nat_lt, count_by, Option, Some, None}
+use Rattle.std.specs.Prelude.{ℕ, ◌+◌, ◌-◌, ◌*◌, ◌/◌, max, min, List, [], ◌++◌, Bool, true, false, not, ◌&&◌, ◌||◌, ◌==◌, nat_le, nat_lt, if◌then◌else◌, count_by, Option, Some, None}
 use Rattle.std.specs.List.{slice_get, list_any}
+use Rattle.std.specs.Option.{option_map_or}
 use Rattle.std.specs.Str.{bytes_eq}
 use Rattle.std.specs.FinSet.{FinSet, contains}
 use Rattle.std.specs.Ordering.{nat_cmp}
@@ -12,7 +13,7 @@ use Rattle.j39_id.specs.Pgn.{is_pgn, is_pdu2, extended_page}
 use Rattle.j39_id.specs.Proprietary.{is_proprietary}
 use Rattle.j39_id.specs.Services.{is_service}
 use Rattle.j39_signal.specs.Parts.{SignalParts}
-use Rattle.j39_signal.specs.Places.{width_fits, is_inside, shares_bit}
+use Rattle.j39_signal.specs.Places.{width_fits, is_inside, shares_bit, end_of, further}
 use Rattle.j39_findings.specs.ListPlaces.{found_if, each, pairs, in_each}
 use Rattle.j39_findings.specs.TextPlaces.{last_byte}
 use Rattle.j39_findings.specs.declared.plan.Plan.{Plan}
@@ -24,7 +25,7 @@ use Rattle.j39_findings.specs.declared.plan.to.To.{To}
 use Rattle.j39_findings.specs.declared.plan.to.To.TheVariants.{All, One}
 use Rattle.j39_findings.specs.declared.checking.finding.Finding.{Finding}
 use Rattle.j39_findings.specs.declared.checking.finding.Finding.TheVariants.{SameName, SameFixedAddress, TooFewAddresses, BadPgn, SamePgn, SignalWidth}
-use Rattle.j39_findings.specs.declared.checking.finding.Finding.TheVariants.{SignalOutside, SignalOverlap, FlowToOne, FlowToSelf, FlowRepeated, KeptAddress, PrivateUnsent, TextOutside}
+use Rattle.j39_findings.specs.declared.checking.finding.Finding.TheVariants.{SignalOutside, SignalOverlap, FlowToOne, FlowToSelf, FlowRepeated, KeptAddress, PrivateUnsent, RecordOverlap, TextOutside}
 
 -- ---- units
 
@@ -150,6 +151,38 @@ overlap_findings g group = pairs shares_bit (SignalOverlap g) group.signals.item
 unfoldable pub signal_findings : List GroupPlan → List Finding
 signal_findings groups = in_each width_findings 0 groups ++ (in_each outside_findings 0 groups ++ in_each overlap_findings 0 groups)
 
+-- ---- records
+
+-- the first record behind the first one in which s ends behind the first bit of t
+abbrev pub first_near : ℕ → SignalParts → SignalParts → ℕ
+first_near every s t = (t.start - end_of s) / (8 * every) + 1
+
+-- whether some bit below this place belongs to both
+abbrev pub shares_below : ℕ → SignalParts → SignalParts → Bool
+shares_below place s t = nat_lt (max s.start t.start) (min place (min (end_of s) (end_of t)))
+
+-- a later record comes onto t only where this one does: each further one has left behind what this one hasn't reached
+abbrev pub comes_onto : ℕ → ℕ → SignalParts → SignalParts → Bool
+comes_onto every most s t = shares_below (8 * most) (further (every * first_near every s t) s) t
+
+abbrev pub do_records_meet : ℕ → ℕ → ℕ → ℕ → SignalParts → SignalParts → Bool
+do_records_meet every most i j s t =
+    if t.repeated then nat_le i j && (comes_onto every most s t || comes_onto every most t s) else comes_onto every most s t
+
+-- what is found of the signal at place s of the g-th group, against each of the group's signals
+abbrev pub overlaps_of : ℕ → ℕ → ℕ → List SignalParts → ℕ → SignalParts → List Finding
+overlaps_of every most g signals s signal =
+    if signal.repeated
+    then in_each (λ t other. found_if (do_records_meet every most s t signal other) (RecordOverlap g s t)) 0 signals
+    else []
+
+abbrev pub group_overlaps : ℕ → GroupPlan → List Finding
+group_overlaps g group =
+    option_map_or (λ every. in_each (overlaps_of every group.most g group.signals.items) 0 group.signals.items) group.every []
+
+unfoldable pub record_findings : List GroupPlan → List Finding
+record_findings groups = in_each group_overlaps 0 groups
+
 -- ---- texts
 
 abbrev pub lies_outside : GroupPlan → TextPlan → Bool
@@ -182,4 +215,5 @@ unfoldable pub found : Plan → List Finding
 found plan =
     unit_findings plan.keep_free plan.units.items ++ (group_findings plan.groups.items plan.flows.items ++ (signal_findings plan.groups.items
     ++ (flow_findings plan.groups.items plan.flows.items ++ (kept_findings plan.keep_free plan.units.items
-    ++ (unsent_findings plan.groups.items plan.flows.items ++ text_findings plan.groups.items)))))
+    ++ (unsent_findings plan.groups.items plan.flows.items
+    ++ (record_findings plan.groups.items ++ text_findings plan.groups.items))))))

@@ -8,6 +8,7 @@ pub mod Lengths
 pub mod ListPlaces
 pub mod PlannedGroups
 pub mod PrivateGroups
+pub mod Records
 pub mod Refused
 pub mod SoundSignals
 pub mod TextPlaces

@@ -8,6 +8,7 @@ use Rattle.j39_signal.specs.State.{IsRawOf, state_of, value_of}
 use Rattle.j39_signal.specs.declared.state.State.{State}
 use Rattle.j39_signal.specs.declared.state.State.TheVariants.{Value}
 use Rattle.j39_findings.specs.Lengths.{IsLengthOf}
+use Rattle.j39_findings.specs.Records.{signals_in}
 use Rattle.j39_findings.specs.declared.plan.Plan.{Plan}
 
 -- what a signal reads that was given up or never given: absent, or for a raw one the value of all ones
@@ -37,8 +38,8 @@ pub record ReadsLastGiven (bytes : ℕ) (signals : List SignalParts) : Type 0 wh
   pub never_given : (writes : List Write) (place : ℕ) → Chain signals (blank bytes) writes → LeaveAlone writes place
       → place < length signals → HoldsAt (λ s. state_after bytes writes s ≡ unset_state s) signals place
 
--- so it is in messages of each length that a group has
+-- so it is in messages of each length that a group has, of the signals that aren't repeated and of those of each record
 pub record SoundSignals (plan : Plan) : Type 0 where
-  pub writes : All (λ g. (bytes : ℕ) → IsLengthOf g bytes → KeepsWrites bytes g.signals.items) plan.groups.items
+  pub writes : All (λ g. (bytes : ℕ) → IsLengthOf g bytes → KeepsWrites bytes (signals_in g bytes)) plan.groups.items
   pub read : All (λ g. All ReadsBack g.signals.items) plan.groups.items
-  pub last_given : All (λ g. (bytes : ℕ) → IsLengthOf g bytes → ReadsLastGiven bytes g.signals.items) plan.groups.items
+  pub last_given : All (λ g. (bytes : ℕ) → IsLengthOf g bytes → ReadsLastGiven bytes (signals_in g bytes)) plan.groups.items

@@ -9,6 +9,7 @@ mod flows;
 mod groups;
 mod kept;
 mod private;
+mod records;
 mod refused;
 mod rules;
 mod signals;
@@ -22,6 +23,7 @@ use flows::find_in_flows;
 use groups::find_in_groups;
 use kept::find_kept;
 use private::find_unsent;
+use records::find_in_records;
 pub use refused::{Refused, RefusedCause};
 use signals::find_in_signals;
 use std::alloc::{AllocError, Global};
@@ -43,6 +45,7 @@ pub fn check(alloc: Global, plan: &Plan) -> Result<Findings, AllocError>
     find_in_flows(&mut findings, &plan.groups, &plan.flows)?;
     find_kept(&mut findings, &plan.keep_free, &plan.units)?;
     find_unsent(&mut findings, &plan.groups, &plan.flows)?;
+    find_in_records(&mut findings, &plan.groups)?;
     find_in_texts(&mut findings, &plan.groups)?;
     Ok(findings)
 }

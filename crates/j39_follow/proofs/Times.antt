@@ -1,10 +1,14 @@
 -- What a time has between its parentheses.
-use Rattle.std.proofs.Common.{◌≡◌, ℕ, suc, ◌+◌, ◌-◌, ◌≤◌, List, [], ◌∷◌, ◌++◌, length, take, drop, get_or, slice_range, refl, sym, ap, subst, ◌∙◌, arith}
-use Rattle.std.specs.List.{All}
-use Rattle.std.proofs.lemmas.List.{drop_all, drop_more, get_or-append_right, length-append, length-drop, length-take-le, take-append-drop, take_at}
+use Rattle.std.proofs.Common.{◌≡◌, ℕ, suc, ◌+◌, ◌-◌, ◌<◌, ◌≤◌, ◌==◌, ◌||◌, true, false, inl, inr, eqb-true, slice_index, List, [], ◌∷◌, ◌++◌, length, take, drop, get_or, slice_range, refl, sym, ap, subst, ◌∙◌, arith}
+use Rattle.std.specs.List.{All, AllWithin}
+use Rattle.std.proofs.lemmas.Bool.{false_from_ne_true, or_cases}
+use Rattle.std.proofs.lemmas.List.Elements.{All-append, All-cons, All-nil, All-weaker}
+use Rattle.std.proofs.lemmas.List.{drop_all, get_or-append_right, get_or-drop, get_or-take, length-append, length-drop, length-take-le, take-append-drop, take_at}
 use Rattle.std.proofs.lemmas.List.{drop-drop, drop_more}
-use Rattle.j39_follow.specs.LogLines.{IsOfTime, IsTime}
+use Rattle.j39_id.specs.FrameLine.{is_separator}
+use Rattle.j39_follow.specs.LogLines.{BeginsWithTime, IsOfTime, IsTime}
 use Rattle.j39_follow.specs.inside.Splitting.{IsEnclosed}
+use Rattle.j39_follow.proofs.FirstWords.{first_word_at}
 
 abbrev pub middle : List ℕ → List ℕ
 middle word = slice_range word 1 (length word - 1)
@@ -70,3 +74,55 @@ time_of word e sort =
       room = omega (arith, size, room);
       sort = sort;
     }
+
+-- ---- a time in front of a line
+
+-- no letter of a time parts words
+letter_whole : (c : ℕ) → IsOfTime c → is_separator c ≡ false
+letter_whole c (inr point) = rw point refl
+letter_whole c (inl digit) =
+    let low = digit.0 in
+    false_from_ne_true (is_separator c) (λ yes. elim (or_cases (c == 32) (c == 9 || c == 13) yes) [
+      | inl e ↦ (let is = eqb-true c 32 e in absurd (omega (arith, low, is)))
+      | inr o ↦ elim (or_cases (c == 9) (c == 13) o) [
+        | inl e ↦ (let is = eqb-true c 9 e in absurd (omega (arith, low, is)))
+        | inr e ↦ (let is = eqb-true c 13 e in absurd (omega (arith, low, is)))
+      ]
+    ])
+
+time_whole : (word : List ℕ) → IsTime word → All (λ c. is_separator c ≡ false) word
+time_whole word t =
+    subst (All (λ c. is_separator c ≡ false)) (sym t.row)
+    (All-cons (λ c. is_separator c ≡ false) 40 (t.digits ++ 41 ∷ []) refl
+    (All-append (λ c. is_separator c ≡ false) t.digits (41 ∷ []) (All-weaker IsOfTime (λ c. is_separator c ≡ false) letter_whole t.digits t.sort)
+    (All-cons (λ c. is_separator c ≡ false) 41 [] refl (All-nil (λ c. is_separator c ≡ false)))))
+
+middle_time : (line : List ℕ) (many : ℕ) → many + 2 ≤ length line → AllWithin IsOfTime (drop 1 line) 0 many
+    → All IsOfTime (middle (take (many + 2) line))
+middle_time line many within all k d below =
+    let word : List ℕ = take (many + 2) line in
+    let size : length word ≡ many + 2 = length-take-le (many + 2) line within in
+    let rest : length (drop 1 word) ≡ length word - 1 = length-drop 1 word in
+    let count : length (middle word) ≡ length word - 1 - 1 = length-take-le (length word - 1 - 1) (drop 1 word) (omega (arith, rest, size)) in
+    let inside : k < many = omega (arith, below, count, size) in
+    rw (
+      get_or-take (length word - 1 - 1) (drop 1 word) k d (omega (arith, inside, size)),
+      get_or-drop 1 word k d,
+      get_or-take (many + 2) line (1 + k) d (omega (arith, inside)),
+    )
+    (subst IsOfTime (get_or-drop 1 line k d) (all k d (omega arith) inside))
+
+pub begins_with_time : (line : List ℕ) (many : ℕ) → many + 2 ≤ length line → AllWithin IsOfTime (drop 1 line) 0 many
+    → IsEnclosed (take (many + 2) line) → (many + 2 < length line → is_separator (slice_index line (many + 2)) ≡ true)
+    → BeginsWithTime line (take (many + 2) line)
+begins_with_time line many within all e ended =
+    let word : List ℕ = take (many + 2) line in
+    let t = time_of word e (middle_time line many within all) in
+    let letters = time_whole word t in
+    let size : length word ≡ many + 2 = length-take-le (many + 2) line within in
+    let whole_letters : AllWithin (λ c. is_separator c ≡ false) line 0 (many + 2) =
+    λ k d low high. subst (λ (c : ℕ). is_separator c ≡ false) (get_or-take (many + 2) line k d high) (letters k d (omega (arith, high, size))) in (
+      first_word_at line 0 (many + 2) (omega (arith, within)) (λ k d low high. absurd (omega (arith, high))) (whole_letters 0 0 (omega arith) (omega arith))
+          within whole_letters ended,
+      t,
+    )

@@ -3,7 +3,7 @@ ghost use Rattle.std.specs.Prelude.{◌≡◌, ℕ, List, IfNone, IfOk, IfSome};
 ghost use Rattle.j39_id.specs.FrameLine.{IsLastWord, Spells};
 ghost use Rattle.j39_follow.specs.LogLines.{IsInterface, IsReadPart, IsTime, IsTimeText};
 
-use crate::words::{before_direction, before_frame, first_word, is_time, split_last};
+use crate::words::{before_direction, before_frame, first_word, is_time, leading_time, split_last};
 use j39_id::{Frame, LineError};
 
 /// The part of a line that is read: what stands before a word of direction, else all of it.
@@ -50,6 +50,16 @@ pub(crate) fn interface<'a>(part: &'a [u8], read: &Result<Frame, LineError>) -> 
 
 /// What is printed of the time of a line: its first word, where that is a time.
 pub(crate) fn time_text(line: &[u8]) -> &[u8]
+    ensures { IsTimeText line.now result.now }
+{
+    match leading_time(line) {
+        Some(time) => time,
+        None => first_time(line),
+    }
+}
+
+// The same, by the first word wherever it begins.
+fn first_time(line: &[u8]) -> &[u8]
     ensures { IsTimeText line.now result.now }
 {
     let Some(word) = first_word(line) else {

@@ -131,7 +131,7 @@ impl Reading {
             stamp,
             frame,
         )?;
-        self.tally.count_frame(plan, sort, ended);
+        self.tally.count_frame(plan, catalog, sort, ended);
         Ok(())
     }
 

@@ -4,11 +4,13 @@ ghost use Rattle.std.specs.List.{position};
 ghost use Rattle.std.specs.Option.{option_to_list};
 ghost use Rattle.j39_findings.specs.declared.plan.Plan.{Plan as APlan};
 ghost use Rattle.j39_findings.specs.declared.plan.group_plan.GroupPlan.{GroupPlan as APlannedGroup};
+ghost use Rattle.j39_log.specs.inside.Listening.{IsCatalogOf};
 ghost use Rattle.j39_follow.specs.inside.Tallies.{IsTally, count_at};
 ghost use Rattle.j39_follow.specs.declared.message.Sort.{Sort as ASort};
 
 use crate::message::Sort;
 use j39_findings::Plan;
+use j39_log::Catalog;
 
 // The most flows and groups of a plan.
 const FLOWS: usize = 512;
@@ -30,6 +32,17 @@ fn add_one(counts: &mut [u64], place: usize)
 {
     if place < counts.len() {
         counts[place] = counts[place].saturating_add(1);
+    }
+}
+
+// The first group of a number, by its place, as the catalog has it.
+fn first_in(plan: &Plan, catalog: &Catalog, pgn: u32) -> Option<usize>
+    requires { IsCatalogOf plan.now catalog.now }
+    ensures { result ≡ position (λ (group : APlannedGroup). group.pgn == pgn) plan.now.groups.items }
+{
+    match catalog.span(pgn) {
+        Some(span) => Some(span.first),
+        None => None,
     }
 }
 
@@ -55,19 +68,21 @@ impl Tally {
     }
 
     /// Counts a frame, and the message that it ends.
-    pub fn count_frame(&mut self, plan: &Plan, sort: Sort, ended: Option<Sort>)
+    pub fn count_frame(&mut self, plan: &Plan, catalog: &Catalog, sort: Sort, ended: Option<Sort>)
+        requires { IsCatalogOf plan.now catalog.now }
         ensures { (sent : List ASort) → length sent + 2 < 2 ^ 64 → IsTally plan.now self.old sent
             → IsTally plan.now self.new (sent ++ sort ∷ option_to_list ended) }
     {
-        self.count(plan, sort);
+        self.count(plan, catalog, sort);
         match ended {
-            Some(ended) => self.count(plan, ended),
+            Some(ended) => self.count(plan, catalog, ended),
             None => {}
         }
     }
 
     // Counts a message.
-    fn count(&mut self, plan: &Plan, sort: Sort)
+    fn count(&mut self, plan: &Plan, catalog: &Catalog, sort: Sort)
+        requires { IsCatalogOf plan.now catalog.now }
         ensures { (sent : List ASort) → length sent < 2 ^ 64 - 1 → IsTally plan.now self.old sent
             → IsTally plan.now self.new (sent ++ sort ∷ []) }
     {
@@ -75,7 +90,7 @@ impl Tally {
             Sort::Grouped(_, Some(flow)) => add_one(&mut self.flows, flow),
             Sort::Grouped(group, None) => add_one(&mut self.groups, group),
             Sort::Other(pgn) => {
-                if let Some(first) = first_of(plan, pgn) {
+                if let Some(first) = first_in(plan, catalog, pgn) {
                     add_one(&mut self.others, first);
                 }
             }

@@ -2,7 +2,7 @@
 ghost use Rattle.std.specs.Prelude.{◌≡◌, ◌≢◌, ◌-◌, ◌<◌, ◌≤◌, ◌↔◌, ℕ, List, length, slice_index, true, false, IfNone, IfSome, IsTrue};
 ghost use Rattle.std.specs.List.{All, AllPass, AllWithin};
 ghost use Rattle.j39_id.specs.FrameLine.{Spells, is_separator as separates};
-ghost use Rattle.j39_follow.specs.LogLines.{IsDirection, IsFirstWord, IsOfTime, IsTime};
+ghost use Rattle.j39_follow.specs.LogLines.{BeginsWithTime, IsDirection, IsFirstWord, IsOfTime, IsTime};
 ghost use Rattle.j39_follow.specs.inside.Splitting.{IsEnclosed, SplitsLast, TellsDirection};
 
 use j39_id::{Frame, is_separator};
@@ -138,6 +138,49 @@ fn is_of_time(byte: u8) -> bool
     ensures { IsTrue result ↔ IsOfTime byte }
 {
     matches!(byte, b'0'..=b'9' | b'.')
+}
+
+// How many digits and points these begin with.
+fn time_length(bytes: &[u8]) -> usize
+    ensures within { result ≤ length bytes.now }
+    ensures time { AllWithin IsOfTime bytes.now 0 result }
+{
+    let mut stop = 0;
+    while stop < bytes.len() && is_of_time(bytes[stop]) {
+        stop += 1;
+    }
+    stop
+}
+
+// Whether a word of so many bytes ends there, with which a line begins.
+fn is_ended(line: &[u8], size: usize) -> bool
+    ensures { IsTrue result ↔ (size < length line.now → separates (slice_index line.now size) ≡ true) }
+{
+    if size < line.len() {
+        return is_separator(line[size]);
+    }
+    true
+}
+
+/// The time that a line begins with, found in one pass. Lines that have separators in front are left out.
+pub(crate) fn leading_time(line: &[u8]) -> Option<&[u8]>
+    ensures { IfSome result (λ word. BeginsWithTime line.now word.now) }
+{
+    if line.is_empty() {
+        return None;
+    }
+    let size = time_length(&line[1..]) + 2;
+    if line.len() < size {
+        return None;
+    }
+    let word = &line[..size];
+    if !is_enclosed(word) {
+        return None;
+    }
+    if !is_ended(line, size) {
+        return None;
+    }
+    Some(word)
 }
 
 // Whether a time has these between its parentheses.

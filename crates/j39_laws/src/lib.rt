@@ -10,5 +10,5 @@ pub use laws::{
     claims_die_down, conflict_runs_show_the_conflict, every_transfer_ends, flows_have_one_length,
     kept_addresses_stay_free, planned_addresses_stay, quiet_notes_are_right, reports_are_sound,
     runs_through_are_runs, smaller_names_are_undisturbed, steps_lead_somewhere,
-    unanswered_messages_arrive, who_stays,
+    unanswered_messages_arrive, units_hold_planned_or_pool_addresses, who_stays,
 };

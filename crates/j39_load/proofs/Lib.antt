@@ -1,3 +1,6 @@
 pub mod Before
+pub mod BoundedFlows
+pub mod Different
 pub mod OneLoad
+pub mod Ranks
 pub mod WhoStays

@@ -117,7 +117,7 @@ told_by true P Q is isnt = is refl
 told_by false P Q is isnt = isnt refl
 
 -- a place of a unit has its plan
-placed : (kept : FinSet nat_cmp) (ps : List UnitPlan) (i : ℕ) → i < length (map (planned_unit kept) ps)
+pub placed : (kept : FinSet nat_cmp) (ps : List UnitPlan) (i : ℕ) → i < length (map (planned_unit kept) ps)
     → (p : UnitPlan) × (slice_get ps i ≡ Some p) × (unit_at (map (planned_unit kept) ps) i ≡ planned_unit kept p)
 placed kept [] i inside = absurd (omega arith)
 placed kept (p ∷ ps) zero inside = (p, refl, refl)

@@ -2,6 +2,8 @@ pub mod Delays
 pub mod LoadFindings
 pub mod Loads
 pub mod Places
+pub mod PlannedFrames
+pub mod Ranks
 pub mod SoundLoads
 pub mod Standing
 pub mod inside

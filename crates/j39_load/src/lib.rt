@@ -8,6 +8,7 @@ mod extreme;
 mod faults;
 mod flow_load;
 mod identifiers;
+mod laws;
 mod load_finding;
 mod loads;
 mod standing;
@@ -16,6 +17,9 @@ mod streams;
 pub use delay::Delay;
 pub use faults::{bits_of_second, check_load, load_findings};
 pub use flow_load::FlowLoad;
+pub use laws::{
+    delays_are_bounds, identifiers_lie_between, short_flows_have_different_identifiers,
+};
 pub use load_finding::LoadFinding;
 pub use loads::Loads;
 pub use standing::Standing;

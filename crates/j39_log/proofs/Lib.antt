@@ -7,6 +7,7 @@ pub mod OlderPlans
 pub mod OneText
 pub mod Outcomes
 pub mod PairLists
+pub mod RecordLists
 pub mod SignalLists
 pub mod TextLists
 pub mod ValueLines

@@ -1,20 +1,21 @@
 -- Plans without the keys of version 3.
-use Rattle.std.proofs.Common.{◌≡◌, ℕ, suc, ◌+◌, ◌⊎◌, ℤ, ◌==◌, Bool, false, not, ◌&&◌, cond, nat_le, List, [], ◌∷◌, ◌++◌, codes, Option, Some, All as AllOf, refl, sym, ap, ◌∙◌, inl, inr, arith}
+use Rattle.std.proofs.Common.{◌≡◌, ℕ, suc, ◌+◌, ℤ, ◌==◌, Bool, false, not, ◌&&◌, cond, nat_le, List, [], ◌∷◌, ◌++◌, codes, Option, Some, None, All as AllOf, refl, sym, ap, ◌∙◌, inl, inr, arith}
 use Rattle.std.specs.Fmt.{signed_decimal}
 use Rattle.std.specs.List.{position_from}
 use Rattle.std.proofs.lemmas.Iterator.Adapters.{position_from-zero}
 use Rattle.std.proofs.lemmas.List.{append-nil}
 use Rattle.j39_signal.specs.declared.kind.Kind.{Kind}
+use Rattle.j39_signal.specs.Parts.{SignalParts}
 use Rattle.j39_findings.proofs.Lengths.{same_length}
-use Rattle.j39_findings.specs.PrivateGroups.{HasNoPrivate}
-use Rattle.j39_findings.specs.declared.plan.Plan.{Plan}
+use Rattle.j39_findings.proofs.RecordCounts.{all_single}
+use Rattle.j39_findings.specs.Records.{single_signals}
 use Rattle.j39_findings.specs.declared.plan.group_plan.GroupPlan.{GroupPlan}
 use Rattle.j39_findings.specs.declared.plan.text_plan.TextPlan.{TextPlan}
 use Rattle.j39_text.specs.Decimals.{quotient_text}
 use Rattle.j39_text.specs.Texts.{field_text}
 use Rattle.j39_text.proofs.Quotients.{undivided}
 use Rattle.j39_log.specs.LogFrames.{is_planned_as}
-use Rattle.j39_log.specs.LogReports.{group_line, group_report, reading_lines, scaled_text, signal_lines, signal_state_text, unit_text, value_text}
+use Rattle.j39_log.specs.LogReports.{all_records_lines, group_line, group_report, reading_lines, scaled_text, signal_lines, signal_state_text, unit_text, value_text}
 use Rattle.j39_log.specs.TextLines.{text_lines}
 use Rattle.j39_log.specs.OlderPlans.{GroupsAreFoundByNumber, IsOlderKind, SignalsAlone, ValuesAreShownWhole, has_number}
 
@@ -58,9 +59,15 @@ no_lines : (texts : List TextPlan) (bytes : List ℕ) → texts ≡ [] → text_
 unfolding text_lines
 no_lines texts bytes none = rw none refl
 
+no_records : (group : GroupPlan) (bytes : List ℕ) → group.every ≡ None → all_records_lines group bytes ≡ []
+unfolding all_records_lines
+no_records group bytes none = rw none refl
+
 pub signals_alone : SignalsAlone
 unfolding group_report reading_lines
-signals_alone group i bytes none =
-    let signals = signal_lines group.signals.items bytes in
-    ap (λ (lines : List ℕ). group_line group i bytes ++ (signals ++ lines)) (no_lines group.texts.items bytes none)
+signals_alone group i bytes single none =
+    let signals = signal_lines (single_signals group.signals.items) bytes in
+    ap (λ (lines : List ℕ). group_line group i bytes ++ (signals ++ (lines ++ text_lines group.texts.items bytes))) (no_records group bytes single)
+    ∙ ap (λ (lines : List ℕ). group_line group i bytes ++ (signals ++ lines)) (no_lines group.texts.items bytes none)
     ∙ ap (λ (lines : List ℕ). group_line group i bytes ++ lines) (append-nil signals)
+    ∙ ap (λ (all : List SignalParts). group_line group i bytes ++ signal_lines all bytes) (all_single group.signals.items (group.every_needed single))

@@ -14,7 +14,7 @@ grouped : (front label word number unit end : List ℕ)
     → (front ++ (label ++ word)) ++ (number ++ (unit ++ end)) ≡ front ++ (label ++ (((word ++ number) ++ unit) ++ end))
 grouped front label word number unit end = simp append_assoc refl
 
-scaled : (kind : Kind) (per : ℕ) (unit : List ℕ) (v : ℤ) → kind ≢ Dtc → value_text kind per unit v ≡ scaled_text per unit v
+pub scaled : (kind : Kind) (per : ℕ) (unit : List ℕ) (v : ℤ) → kind ≢ Dtc → value_text kind per unit v ≡ scaled_text per unit v
 unfolding value_text
 scaled Measured per unit v other = refl
 scaled Discrete per unit v other = refl

@@ -1,5 +1,6 @@
--- The lines that report a group: who sent which bytes to whom, and what each signal and each text reads.
-use Rattle.std.specs.Prelude.{ℕ, ◌+◌, ◌*◌, ◌/◌, ◌%◌, ◌^◌, ℤ, unsigned_abs, List, [], ◌∷◌, ◌++◌, ◌==◌, if◌then◌else◌, codes}
+-- The lines that report a group: who sent which bytes to whom, and what each signal, each record and each text reads.
+use Rattle.std.specs.Prelude.{ℕ, zero, suc, ◌+◌, ◌*◌, ◌/◌, ◌%◌, ◌^◌, ℤ, unsigned_abs, List, [], ◌∷◌, ◌++◌, ◌==◌, if◌then◌else◌, length, codes}
+use Rattle.std.specs.Option.{option_map_or}
 use Rattle.hex.specs.Hex.{encode_upper}
 use Rattle.j39_id.specs.declared.ident.Ident.{Ident}
 use Rattle.j39_signal.specs.Bits.{raw_of}
@@ -10,6 +11,7 @@ use Rattle.j39_signal.specs.State.{state_of}
 use Rattle.j39_signal.specs.declared.state.State.{State}
 use Rattle.j39_signal.specs.declared.state.State.TheVariants.{Value, Specific, Reserved, Fault, Absent}
 use Rattle.j39_findings.specs.declared.plan.group_plan.GroupPlan.{GroupPlan}
+use Rattle.j39_findings.specs.Records.{record_count, record_signals, single_signals}
 use Rattle.j39_text.specs.Decimals.{quotient_text}
 use Rattle.j39_text.specs.FrameText.{destination_text}
 use Rattle.j39_text.specs.Texts.{field, field_text}
@@ -70,6 +72,31 @@ unfoldable pub signal_lines : List SignalParts → List ℕ → List ℕ
 signal_lines [] bytes = []
 signal_lines (s ∷ rest) bytes = signal_line s (state_of s (raw_of bytes s)) ++ signal_lines rest bytes
 
+-- ---- records, which are counted from 1
+
+-- a signal that is in this state in the record of this place
+unfoldable pub record_line : ℕ → SignalParts → State → List ℕ
+record_line place s state =
+    codes "  " ++ (s.label.bytes ++ (field (codes "[") place ++ (codes "]" ++ (signal_state_text s state ++ 10 ∷ []))))
+
+-- what the signals of the record of this place read in these bytes
+unfoldable pub record_lines : ℕ → List SignalParts → List ℕ → List ℕ
+record_lines place [] bytes = []
+record_lines place (s ∷ rest) bytes = record_line place s (state_of s (raw_of bytes s)) ++ record_lines place rest bytes
+
+-- what those of so many records read, one record after another
+unfoldable pub records_lines : ℕ → ℕ → List SignalParts → List ℕ → List ℕ
+records_lines every zero signals bytes = []
+records_lines every (suc behind) signals bytes =
+    records_lines every behind signals bytes ++ record_lines (behind + 1) (record_signals (every * behind) signals) bytes
+
+-- what the records of a group read that end inside these bytes
+unfoldable pub all_records_lines : GroupPlan → List ℕ → List ℕ
+all_records_lines group bytes =
+    option_map_or (λ every. records_lines every (record_count group (length bytes)) group.signals.items bytes) group.every []
+
+-- ---- a report
+
 -- from whom to whom
 unfoldable pub way_text : Ident → List ℕ
 way_text i = field (codes " from ") i.sa ++ (codes " to " ++ destination_text i)
@@ -78,9 +105,10 @@ unfoldable pub group_line : GroupPlan → Ident → List ℕ → List ℕ
 group_line group i bytes =
     codes "group " ++ (group.label.bytes ++ (way_text i ++ (codes " bytes " ++ (encode_upper bytes ++ 10 ∷ []))))
 
--- what the signals and the texts of a group read in these bytes
+-- what the signals of a group that aren't repeated, its records and its texts read in these bytes
 unfoldable pub reading_lines : GroupPlan → List ℕ → List ℕ
-reading_lines group bytes = signal_lines group.signals.items bytes ++ text_lines group.texts.items bytes
+reading_lines group bytes =
+    signal_lines (single_signals group.signals.items) bytes ++ (all_records_lines group bytes ++ text_lines group.texts.items bytes)
 
 unfoldable pub group_report : GroupPlan → Ident → List ℕ → List ℕ
 group_report group i bytes = group_line group i bytes ++ reading_lines group bytes

@@ -1,11 +1,13 @@
 //! The lines that report a group.
-ghost use Rattle.std.specs.Prelude.{◌≡◌, ◌≤◌, [], ◌∷◌, ◌++◌, codes, length, map, OnOk};
+ghost use Rattle.std.specs.Prelude.{◌≡◌, ◌≤◌, if◌then◌else◌, [], ◌∷◌, ◌++◌, codes, length, map, OnOk};
 ghost use Rattle.hex.specs.Hex.{encode_upper};
+ghost use Rattle.j39_findings.specs.Records.{single_signals};
 ghost use Rattle.j39_text.specs.Decimals.{quotient_text};
 ghost use Rattle.j39_text.specs.Texts.{field};
-ghost use Rattle.j39_log.specs.LogReports.{group_line, group_report, reading_lines, signal_line, signal_lines, way_text};
+ghost use Rattle.j39_log.specs.LogReports.{all_records_lines, group_line, group_report, reading_lines, signal_line, signal_lines, way_text};
 ghost use Rattle.j39_log.specs.inside.ValueLines.{value_line_of, value_lines_of};
 
+use crate::record_lines::write_records;
 use crate::text_lines::write_texts;
 use crate::trouble_code::write_code_line;
 use crate::value_line::ValueLine;
@@ -84,7 +86,24 @@ fn write_signal(
     }
 }
 
-// The signals of a group, which lay out the first bytes.
+// A signal of a group, unless it is repeated.
+fn write_single(
+    text: &mut TextBuffer,
+    signal: &Signal,
+    line: &ValueLine,
+    state: State,
+) -> Result<(), AllocError>
+    requires { line.now ≡ value_line_of signal.now }
+    ensures { OnOk result (text.new ≡ text.old ++ (if signal.now.repeated then [] else signal_line signal.now state)) }
+{
+    if signal.is_repeated() {
+        Ok(())
+    } else {
+        write_signal(text, signal, line, state)
+    }
+}
+
+// The signals of a group that aren't repeated. All of them lay out the first bytes.
 fn write_signals(
     text: &mut TextBuffer,
     signals: &[Signal],
@@ -95,10 +114,10 @@ fn write_signals(
     requires signals { layout.now.signals ≡ signals.now }
     requires lines { lines.now ≡ map value_line_of signals.now }
     requires bytes { layout.now.length ≤ length bytes.now }
-    ensures { OnOk result (text.new ≡ text.old ++ signal_lines signals.now bytes.now) }
+    ensures { OnOk result (text.new ≡ text.old ++ signal_lines (single_signals signals.now) bytes.now) }
 {
     for (place, signal) in signals.iter().enumerate() {
-        write_signal(text, signal, &lines[place], layout.read(bytes, place))?;
+        write_single(text, signal, &lines[place], layout.read(bytes, place))?;
     }
     Ok(())
 }
@@ -141,7 +160,7 @@ fn write_group_line(
     text.end_line()
 }
 
-/// Writes what the signals and the texts of a group read.
+/// Writes what the signals, the records and the texts of a group read.
 #[tactic(auto, unfolding(crate::specs::LogReports::reading_lines))]
 pub(super) fn write_readings(
     text: &mut TextBuffer,
@@ -156,10 +175,11 @@ pub(super) fn write_readings(
     ensures { OnOk result (text.new ≡ text.old ++ reading_lines group.now bytes.now) }
 {
     write_signals(text, group.signals.as_slice(), lines, layout, bytes)?;
+    write_records(text, group, layout, bytes)?;
     write_texts(text, group.texts.as_slice(), bytes)
 }
 
-/// Writes who sent which bytes of a group to whom, and what each of its signals and texts reads.
+/// Writes who sent which bytes of a group to whom, and what each of its signals, records and texts reads.
 #[tactic(auto, unfolding(crate::specs::LogReports::group_report))]
 pub(super) fn write_report(
     text: &mut TextBuffer,

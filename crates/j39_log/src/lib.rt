@@ -8,6 +8,7 @@ mod listeners;
 mod log_reading;
 mod log_text;
 mod readings;
+mod record_lines;
 mod text_lines;
 mod transport;
 mod trouble_code;

@@ -11,7 +11,7 @@ use j39_findings::Plan;
 use j39_text::TextBuffer;
 use std::alloc::AllocError;
 
-/// Writes what the signals and the texts of the group at a place read in these bytes.
+/// Writes what the signals, the records and the texts of the group at a place read in these bytes.
 pub fn write_group_readings(
     text: &mut TextBuffer,
     plan: &Plan,

@@ -42,8 +42,9 @@ fn write_raw_code(text: &mut TextBuffer, code: u64) -> Result<(), AllocError>
     write_count(text, code)
 }
 
+/// Writes what a trouble code says.
 #[tactic(auto, unfolding(crate::specs::LogReports::code_text))]
-fn write_code(text: &mut TextBuffer, code: u64) -> Result<(), AllocError>
+pub(crate) fn write_code(text: &mut TextBuffer, code: u64) -> Result<(), AllocError>
     ensures { OnOk result (text.new ≡ text.old ++ code_text code) }
 {
     if code == 0 {

@@ -16,9 +16,9 @@ pub struct ValueLine {
     pub after: TextBuffer,
 }
 
-// Writes one space and a unit, where there is one.
+/// Writes one space and a unit, where there is one.
 #[tactic(auto, unfolding(crate::specs::LogReports::unit_text))]
-fn write_unit(text: &mut TextBuffer, unit: &Label) -> Result<(), AllocError>
+pub(crate) fn write_unit(text: &mut TextBuffer, unit: &Label) -> Result<(), AllocError>
     ensures { OnOk result (text.new ≡ text.old ++ unit_text unit.now.bytes) }
 {
     if unit.is_empty() {

@@ -58,6 +58,7 @@ one_signal third d s t a b = record {
   offsets = a.has_offset ∙ sym b.has_offset;
   pers = a.has_per ∙ sym b.has_per;
   units = a.has_unit ∙ sym b.has_unit;
+  repetitions = a.has_repeated ∙ sym b.has_repeated;
 }
 
 one_text : (d : Data) (t u : TextPlan) → IsTextOf d t → IsTextOf d u → AreOneText t u
@@ -75,6 +76,7 @@ one_group third d g h a b = record {
   lengths = a.has_length ∙ sym b.has_length;
   privates = a.has_private ∙ sym b.has_private;
   mosts = a.has_most ∙ sym b.has_most;
+  everys = a.has_every ∙ sym b.has_every;
   signals = one_each (IsSignalOf third) AreOneSignal (one_signal third) (tables_of signal_rule (inside d)) _ _ a.has_signals b.has_signals;
   texts = one_each IsTextOf AreOneText one_text (texts_of third (inside d)) _ _ a.has_texts b.has_texts;
 }

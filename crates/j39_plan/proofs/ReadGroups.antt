@@ -1,11 +1,8 @@
 -- What is true of the signals and the texts of a group that was read.
 use Rattle.std.proofs.Common.{◌≡◌, ◌≢◌, ℕ, suc, Bool, true, false, List, [], ◌∷◌, ◌++◌, ◌||◌, ◌≤◌, All, AllPairs, map, sym, ◌∙◌, arith}
 use Rattle.std.proofs.lemmas.Bool.{or_parts}
-use Rattle.std.proofs.lemmas.Bool.Decides.{not_from_Decides}
 use Rattle.std.proofs.lemmas.List.{length-map, get_or-map}
 use Rattle.std.proofs.lemmas.List.Elements.{All-cons}
-use Rattle.std.proofs.lemmas.Slice.Eq.{bytes_eq-Decides}
-use Rattle.std.specs.Str.{bytes_eq}
 use Rattle.toml.specs.Data.{Data, Items, no_items, item, Members}
 use Rattle.j39_signal.specs.Parts.{SignalParts}
 use Rattle.j39_findings.specs.declared.plan.text_plan.TextPlan.{TextPlan}
@@ -20,27 +17,30 @@ use Rattle.j39_plan.specs.GroupTables.{texts_of}
 use Rattle.j39_plan.proofs.Labelled.{is_among_both}
 use Rattle.j39_plan.proofs.NoFaults.{none_left, none_right, fresh_label, labels_apart, labels_told, apart_from, tables_count}
 
-abbrev pub IsRead : Bool → Data → SignalParts → Type 0
-IsRead third d s = IsSignalOf third d s × IsFit s
+abbrev pub IsRead : Bool → Bool → Data → SignalParts → Type 0
+IsRead third records d s = IsSignalOf third d s × IsFit records s
 
-fresh_signal : (third : Bool) (g i : ℕ) (seen : List (List ℕ)) (d : Data) (s : SignalParts) → IsRead third d s → signal_faults third g i seen d ≡ []
+fresh_signal : (third records : Bool) (g i : ℕ) (seen : List (List ℕ)) (d : Data) (s : SignalParts) → IsRead third records d s
+    → signal_faults third records g i seen d ≡ []
     → is_among seen (signal_label d) ≡ false
 unfolding signal_faults
-fresh_signal third g i seen d s read none =
+fresh_signal third records g i seen d s read none =
     fresh_label (at.Signal g i) texts.Label seen (signal_label d) (rw (← read.0.has_label) read.1.label_form) (none_right _ _ none)
 
-pub signals_apart : (third : Bool) (g : ℕ) (ds : Items) (xs : List SignalParts) → Each (IsRead third) ds xs → each_faults (signal_faults third g) signal_label 0 [] ds ≡ []
-    → AllPairs (λ s t. s.label.bytes ≢ t.label.bytes) xs
-signals_apart third g ds xs each none =
-    labels_apart (IsRead third) (signal_faults third g) signal_label (λ s. s.label.bytes) (λ d s read. read.0.has_label) (fresh_signal third g) ds xs each none
+pub signals_apart : (third records : Bool) (g : ℕ) (ds : Items) (xs : List SignalParts) → Each (IsRead third records) ds xs
+    → each_faults (signal_faults third records g) signal_label 0 [] ds ≡ [] → AllPairs (λ s t. s.label.bytes ≢ t.label.bytes) xs
+signals_apart third records g ds xs each none =
+    labels_apart (IsRead third records) (signal_faults third records g) signal_label (λ s. s.label.bytes) (λ d s read. read.0.has_label)
+    (fresh_signal third records g) ds xs each none
 
 -- the labels of signals
 abbrev pub signal_texts : List SignalParts → List (List ℕ)
 signal_texts = map (λ s. s.label.bytes)
 
 -- those of signals that were read are those of the file
-pub signal_texts_told : (third : Bool) (ds : Items) (xs : List SignalParts) → Each (IsRead third) ds xs → signal_texts xs ≡ labels_of signal_label ds
-signal_texts_told third = labels_told (IsRead third) signal_label (λ s. s.label.bytes) (λ d s read. read.0.has_label)
+pub signal_texts_told : (third records : Bool) (ds : Items) (xs : List SignalParts) → Each (IsRead third records) ds xs
+    → signal_texts xs ≡ labels_of signal_label ds
+signal_texts_told third records = labels_told (IsRead third records) signal_label (λ s. s.label.bytes) (λ d s read. read.0.has_label)
 
 -- ---- texts
 

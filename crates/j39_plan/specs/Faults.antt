@@ -8,7 +8,7 @@ use Rattle.j39_plan.specs.declared.reading.key.Key.TheVariants as key
 use Rattle.j39_plan.specs.declared.reading.place.Table.TheVariants as at
 use Rattle.j39_plan.specs.declared.reading.fault.Fault.{Fault}
 use Rattle.j39_plan.specs.Schema.{Rule, number, addresses, tables, optional_table, number_of, table_of, tables_of}
-use Rattle.j39_plan.specs.TableFaults.{unknown_faults, key_faults, keys_faults}
+use Rattle.j39_plan.specs.TableFaults.{unknown_faults, keys_faults}
 use Rattle.j39_plan.specs.Elements.{each_faults, labels_of}
 use Rattle.j39_plan.specs.UnitTables.{unit_faults, unit_label}
 use Rattle.j39_plan.specs.GroupTables.{group_faults, group_label}

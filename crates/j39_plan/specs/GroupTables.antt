@@ -1,5 +1,6 @@
--- The tables of groups. The third version knows whether a group's number is a maker's own, the length of its longest messages, and texts.
-use Rattle.std.specs.Prelude.{◌≡◌, ℕ, List, [], ◌++◌, ◌∷◌, Bool, true, false, Some, None}
+-- The tables of groups. The third version knows whether a group's number is a maker's own, the length of its longest messages, how far apart
+-- its records stand, and texts.
+use Rattle.std.specs.Prelude.{◌≡◌, ℕ, List, [], ◌++◌, ◌∷◌, Bool, true, false, Option, Some, None, is_some}
 use Rattle.std.specs.Option.{option_map_or}
 use Rattle.toml.specs.Data.{Data, Items, no_items, Members, as_table}
 use Rattle.j39_id.specs.Limits.{message_bytes}
@@ -8,7 +9,7 @@ use Rattle.j39_plan.specs.declared.reading.key.Key.TheVariants as key
 use Rattle.j39_plan.specs.declared.reading.place.Table.TheVariants as at
 use Rattle.j39_plan.specs.declared.reading.fault.Fault.{Fault}
 use Rattle.j39_plan.specs.declared.reading.text_kind.TextKind.TheVariants as texts
-use Rattle.j39_plan.specs.Schema.{Rule, number, flag, text, tables, number_of, flag_of, text_of, tables_of}
+use Rattle.j39_plan.specs.Schema.{Rule, number, optional, flag, text, tables, number_of, given_number, flag_of, text_of, tables_of}
 use Rattle.j39_plan.specs.TableFaults.{table_faults, table_only_faults}
 use Rattle.j39_plan.specs.Elements.{inside, repeated_faults, each_faults, labels_of, Each}
 use Rattle.j39_plan.specs.SignalTables.{IsSignalOf, signal_label, signal_faults}
@@ -33,6 +34,10 @@ private_rule = flag key.Private false
 abbrev pub most_rule : ℕ → Rule
 most_rule length = number key.Most length message_bytes (Some length)
 
+-- without the key the group has no records
+abbrev pub every_rule : Rule
+every_rule = optional key.Every 1 255
+
 abbrev pub signal_rule : Rule
 signal_rule = tables key.Signal 64
 
@@ -41,7 +46,7 @@ text_rule = tables key.Text 64
 
 -- behind the length, in the third version and in another
 abbrev pub later_rules : Bool → ℕ → List Rule
-later_rules true length = private_rule ∷ most_rule length ∷ signal_rule ∷ text_rule ∷ []
+later_rules true length = private_rule ∷ most_rule length ∷ every_rule ∷ signal_rule ∷ text_rule ∷ []
 later_rules false length = signal_rule ∷ []
 
 abbrev pub group_rules : Bool → Members → List Rule
@@ -57,6 +62,14 @@ abbrev pub most_of : Bool → ℕ → Members → ℕ
 most_of true length ms = number_of (most_rule length) ms
 most_of false length ms = length
 
+-- how far apart its records stand: it has none in a version that doesn't know them
+abbrev pub every_of : Bool → Members → Option ℕ
+every_of true ms = given_number every_rule ms
+every_of false ms = None
+
+abbrev pub has_records : Bool → Members → Bool
+has_records third ms = is_some (every_of third ms)
+
 -- the tables of its texts: none in a version that doesn't know them
 abbrev pub texts_of : Bool → Members → Items
 texts_of true ms = tables_of text_rule ms
@@ -70,15 +83,16 @@ pub record TellsGroup (third : Bool) (ms : Members) (g : GroupPlan) : Type 0 whe
   pub has_length : g.length ≡ number_of length_rule ms
   pub has_private : g.private ≡ private_of third ms
   pub has_most : g.most ≡ most_of third (number_of length_rule ms) ms
+  pub has_every : g.every ≡ every_of third ms
   pub has_signals : Each (IsSignalOf third) (tables_of signal_rule ms) g.signals.items
   pub has_texts : Each IsTextOf (texts_of third ms) g.texts.items
 
--- but in the third version a group has these keys, and its messages have one length
+-- but in the third version a group has these keys, and its messages have one length and no records
 abbrev pub OlderRules : Type 0
 OlderRules = (ms : Members) → group_rules false ms ≡ label_rule ∷ pgn_rule ∷ priority_rule ∷ length_rule ∷ signal_rule ∷ []
 
 abbrev pub OlderLengths : Type 0
-OlderLengths = (ms : Members) (g : GroupPlan) → TellsGroup false ms g → g.most ≡ g.length
+OlderLengths = (ms : Members) (g : GroupPlan) → TellsGroup false ms g → (g.most ≡ g.length) × (g.every ≡ None)
 
 abbrev pub IsGroupOf : Bool → Data → GroupPlan → Type 0
 IsGroupOf third d g = TellsGroup third (inside d) g
@@ -87,7 +101,7 @@ abbrev pub group_label : Data → List ℕ
 group_label d = text_of label_rule (inside d)
 
 abbrev pub signals_faults : Bool → ℕ → Members → List Fault
-signals_faults third g ms = each_faults (signal_faults third g) signal_label 0 [] (tables_of signal_rule ms)
+signals_faults third g ms = each_faults (signal_faults third (has_records third ms) g) signal_label 0 [] (tables_of signal_rule ms)
 
 -- of its texts, whose labels none of its signals may have either
 abbrev pub signal_labels : Members → List (List ℕ)

@@ -8,7 +8,7 @@ use Rattle.j39_plan.specs.TableFaults.{table_faults}
 use Rattle.j39_plan.specs.Elements.{inside}
 use Rattle.j39_plan.specs.SignalTables.{signal_faults}
 use Rattle.j39_plan.specs.UnitTables.{unit_faults}
-use Rattle.j39_plan.specs.GroupTables.{group_rules, signal_rule, signal_labels, signals_faults, texts_of, group_faults}
+use Rattle.j39_plan.specs.GroupTables.{group_rules, has_records, signal_rule, signal_labels, signals_faults, texts_of, group_faults}
 use Rattle.j39_plan.specs.TextTables.{text_faults}
 use Rattle.j39_plan.specs.FlowTables.{flow_faults}
 use Rattle.j39_plan.specs.Faults.{top_faults, unit_rule, group_rule, flow_rule, units_faults, groups_faults, group_labels, unit_labels, is_third}
@@ -25,7 +25,7 @@ EachGrows faults Grows (item d ds) = Grows 0 d ⊎ (faults 0 [] d ≡ [])
 -- in a group, whose table has no fault, among its signals, or behind these among its texts
 abbrev pub GroupGrows : Bool → ℕ → Members → Type 0
 GroupGrows third g ms = (table_faults (at.Group g) (group_rules third ms) ms ≡ [])
-    × (EachGrows (signal_faults third g) NeverGrows (tables_of signal_rule ms)
+    × (EachGrows (signal_faults third (has_records third ms) g) NeverGrows (tables_of signal_rule ms)
     ⊎ ((signals_faults third g ms ≡ []) × EachGrows (text_faults (signal_labels ms) g) NeverGrows (texts_of third ms)))
 
 abbrev pub GroupElementGrows : Bool → ℕ → Data → Type 0

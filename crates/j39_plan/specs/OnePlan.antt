@@ -32,6 +32,7 @@ pub record AreOneSignal (s t : SignalParts) : Type 0 where
   pub offsets : s.offset ≡ t.offset
   pub pers : s.per ≡ t.per
   pub units : s.unit.bytes ≡ t.unit.bytes
+  pub repetitions : s.repeated ≡ t.repeated
 
 pub record AreOneText (t u : TextPlan) : Type 0 where
   pub labels : t.label.bytes ≡ u.label.bytes
@@ -45,6 +46,7 @@ pub record AreOneGroup (g h : GroupPlan) : Type 0 where
   pub lengths : g.length ≡ h.length
   pub privates : g.private ≡ h.private
   pub mosts : g.most ≡ h.most
+  pub everys : g.every ≡ h.every
   pub signals : AllZip AreOneSignal g.signals.items h.signals.items
   pub texts : AllZip AreOneText g.texts.items h.texts.items
 

@@ -15,6 +15,7 @@ use Rattle.j39_plan.specs.Words.{word_of}
 pub data Kind : Type 0 where
   integer_in : ℤ → ℤ → Kind
   flag_value : Kind
+  flag_where : Bool → Kind
   text_of_kind : TextKind → Kind
   one_table : Kind
   tables_up_to : ℕ → Kind
@@ -39,6 +40,10 @@ signed k low high default = record { key = k; kind = integer_in low high; defaul
 
 abbrev pub flag : Key → Bool → Rule
 flag k default = record { key = k; kind = flag_value; default = Some (boolean default) }
+
+-- a truth value that may be true only where this says so
+abbrev pub flag_if : Key → Bool → Rule
+flag_if k may = record { key = k; kind = flag_where may; default = Some (boolean false) }
 
 abbrev pub text : Key → TextKind → Option (List ℕ) → Rule
 text k kind default = record { key = k; kind = text_of_kind kind; default = option_map string default }

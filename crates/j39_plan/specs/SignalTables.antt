@@ -1,4 +1,4 @@
--- The tables of signals. The third version knows more kinds than the first two, and what the values are divided by.
+-- The tables of signals. The third version knows more kinds than the first two, what the values are divided by, and signals that are repeated.
 use Rattle.std.specs.Prelude.{◌≡◌, ℕ, ◌+◌, ◌-◌, ◌*◌, pos, negsuc, List, []}
 use Rattle.std.specs.Prelude.{◌∷◌, ◌++◌, Bool, true, false, ◌&&◌, if◌then◌else◌, Some, None, IsTrue, codes}
 use Rattle.std.specs.Str.{bytes_eq}
@@ -14,7 +14,7 @@ use Rattle.j39_plan.specs.declared.reading.place.Table.{Table}
 use Rattle.j39_plan.specs.declared.reading.place.Table.TheVariants as at
 use Rattle.j39_plan.specs.declared.reading.fault.Fault.{Fault}
 use Rattle.j39_plan.specs.declared.reading.text_kind.TextKind.TheVariants as texts
-use Rattle.j39_plan.specs.Schema.{Rule, number, signed, divisor, text, number_of, integer_of, text_of}
+use Rattle.j39_plan.specs.Schema.{Rule, number, signed, divisor, flag_if, text, number_of, integer_of, flag_of, text_of}
 use Rattle.j39_plan.specs.TableFaults.{table_faults, table_only_faults}
 use Rattle.j39_plan.specs.Elements.{inside, repeated_faults}
 
@@ -52,6 +52,10 @@ abbrev pub unit_rule : Bool → Rule
 unit_rule true = text key.Unit texts.Empty (Some [])
 unit_rule false = text key.Unit texts.SignalUnit (Some [])
 
+-- by whether the group has records
+abbrev pub repeated_rule : Bool → Rule
+repeated_rule records = flag_if key.Repeated records
+
 abbrev pub kind_of : List ℕ → Kind
 kind_of t =
     if bytes_eq t (codes "measured") then Measured
@@ -69,22 +73,22 @@ is_dtc _ = false
 unfoldable pub is_code : Bool → Members → Bool
 is_code third ms = third && is_dtc (kind_of (text_of (kind_rule third) ms))
 
--- the rules before those of the scale, and those of the scale by whether the table is that of a trouble code
+-- the rules before those of the scale, and those from the scale on by whether the group has records and the table is that of a trouble code
 abbrev pub place_rules : Bool → List Rule
 place_rules third = label_rule ∷ byte_rule ∷ bit_rule ∷ bits_rule ∷ kind_rule third ∷ []
 
-abbrev pub scale_rules : Bool → Bool → List Rule
-scale_rules true code = step_rule code ∷ per_rule code ∷ offset_rule code ∷ unit_rule code ∷ []
-scale_rules false code = step_rule code ∷ offset_rule code ∷ unit_rule code ∷ []
+abbrev pub scale_rules : Bool → Bool → Bool → List Rule
+scale_rules true records code = step_rule code ∷ per_rule code ∷ offset_rule code ∷ unit_rule code ∷ repeated_rule records ∷ []
+scale_rules false records code = step_rule code ∷ offset_rule code ∷ unit_rule code ∷ []
 
-abbrev pub signal_rules : Bool → Members → List Rule
-signal_rules third ms = place_rules third ++ scale_rules third (is_code third ms)
+abbrev pub signal_rules : Bool → Bool → Members → List Rule
+signal_rules third records ms = place_rules third ++ scale_rules third records (is_code third ms)
 
 -- ---- a law
 
 -- but in the third version, a signal has these keys, with these ranges and kinds
 abbrev pub OlderRules : Type 0
-OlderRules = (ms : Members) → signal_rules false ms
+OlderRules = (records : Bool) (ms : Members) → signal_rules false records ms
     ≡ label_rule ∷ byte_rule ∷ bit_rule ∷ bits_rule ∷ text key.Kind texts.SignalKind None ∷ number key.Step 1 1000000 (Some 1)
     ∷ signed key.Offset (negsuc 999999999999) (pos 1000000000000) (Some (pos 0)) ∷ text key.Unit texts.SignalUnit (Some []) ∷ []
 
@@ -94,6 +98,11 @@ OlderRules = (ms : Members) → signal_rules false ms
 abbrev pub per_of : Bool → Members → ℕ
 per_of true ms = number_of (per_rule false) ms
 per_of false ms = 1
+
+-- whether it is repeated: it isn't in a version that doesn't know it
+abbrev pub repeated_of : Bool → Members → Bool
+repeated_of true ms = flag_of (repeated_rule true) ms
+repeated_of false ms = false
 
 -- the bit, counted from 0, of a byte and a bit in it, which are counted from 1
 abbrev pub start_of : ℕ → ℕ → ℕ
@@ -109,23 +118,25 @@ pub record TellsSignal (third : Bool) (ms : Members) (s : SignalParts) : Type 0 
   pub has_offset : s.offset ≡ integer_of (offset_rule false) ms
   pub has_per : s.per ≡ per_of third ms
   pub has_unit : s.unit.bytes ≡ text_of (unit_rule false) ms
+  pub has_repeated : s.repeated ≡ repeated_of third ms
 
 abbrev pub IsSignalOf : Bool → Data → SignalParts → Type 0
 IsSignalOf third d s = TellsSignal third (inside d) s
 
--- what is true of every signal that is read
-pub record IsFit (s : SignalParts) : Type 0 where
+-- what is true of every signal that is read, in a group with records or without
+pub record IsFit (records : Bool) (s : SignalParts) : Type 0 where
   pub label_form : IsTrue (is_label s.label.bytes)
   pub ranges : IsSignal s.start s.bits s.step s.offset
+  pub single : records ≡ false → s.repeated ≡ false
 
 abbrev pub signal_label : Data → List ℕ
 signal_label d = text_of label_rule (inside d)
 
-unfoldable pub signal_table_faults : Bool → Table → Members → List Fault
-signal_table_faults third at ms = table_faults at (signal_rules third ms) ms
+unfoldable pub signal_table_faults : Bool → Bool → Table → Members → List Fault
+signal_table_faults third records at ms = table_faults at (signal_rules third records ms) ms
 
--- the faults of the i-th signal of the g-th group, behind those with the labels seen
-unfoldable pub signal_faults : Bool → ℕ → ℕ → List (List ℕ) → Data → List Fault
-signal_faults third g i seen d = table_only_faults (at.Signal g i) d
-    ++ option_map_or (signal_table_faults third (at.Signal g i)) (as_table d) []
+-- the faults of the i-th signal of the g-th group, which has records or hasn't, behind those with the labels seen
+unfoldable pub signal_faults : Bool → Bool → ℕ → ℕ → List (List ℕ) → Data → List Fault
+signal_faults third records g i seen d = table_only_faults (at.Signal g i) d
+    ++ option_map_or (signal_table_faults third records (at.Signal g i)) (as_table d) []
     ++ repeated_faults (at.Signal g i) texts.Label seen (signal_label d)

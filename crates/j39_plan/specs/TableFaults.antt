@@ -1,5 +1,5 @@
 -- Every fault of a table by its rules, in order.
-use Rattle.std.specs.Prelude.{ℕ, ℤ, List, [], ◌∷◌, ◌++◌, Bool, true, ◌&&◌, ◌||◌, ◌==◌, if◌then◌else◌, Option, Some, None, map, nat_le, int_lt}
+use Rattle.std.specs.Prelude.{ℕ, ℤ, List, [], ◌∷◌, ◌++◌, Bool, true, not, ◌&&◌, ◌||◌, ◌==◌, if◌then◌else◌, Option, Some, None, map, nat_le, int_lt}
 use Rattle.std.specs.List.{list_any}
 use Rattle.std.specs.Str.{bytes_eq}
 use Rattle.std.specs.FinSet.{FinSet, empty, contains, insert}
@@ -15,7 +15,7 @@ use Rattle.j39_plan.specs.declared.reading.fault.Fault.{Fault}
 use Rattle.j39_signal.specs.Parts.{divides_decimally}
 use Rattle.j39_plan.specs.TextKinds.{takes}
 use Rattle.j39_plan.specs.Words.{word_of}
-use Rattle.j39_plan.specs.Schema.{Kind, integer_in, flag_value, text_of_kind, one_table, tables_up_to}
+use Rattle.j39_plan.specs.Schema.{Kind, integer_in, flag_value, flag_where, text_of_kind, one_table, tables_up_to}
 use Rattle.j39_plan.specs.Schema.{addresses_up_to, divisor_up_to, given_integer_in, given_table, one_of_both, Rule, natural, standing, items_count, number_in}
 
 abbrev pub fault : Cause → Table → Option Key → Fault
@@ -42,6 +42,7 @@ abbrev pub cause_of : Kind → Data → Option Cause
 cause_of (integer_in low high) (integer z) = range_cause low high z
 cause_of (given_integer_in low high) (integer z) = range_cause low high z
 cause_of flag_value (boolean b) = None
+cause_of (flag_where may) (boolean b) = if b && not may then Some Range else None
 cause_of (text_of_kind kind) (string s) = if takes kind s then None else Some Range
 cause_of one_table (table ms) = None
 cause_of given_table (table ms) = None

@@ -1,5 +1,5 @@
 -- The table of the bus itself, which the third version knows.
-use Rattle.std.specs.Prelude.{◌≡◌, ℕ, ◌==◌, Bool, if◌then◌else◌, List, [], ◌∷◌, Option, Some, None}
+use Rattle.std.specs.Prelude.{◌≡◌, ℕ, ◌==◌, if◌then◌else◌, List, [], ◌∷◌, Option, Some, None}
 use Rattle.toml.specs.Data.{Members}
 use Rattle.j39_findings.specs.declared.plan.timing.Bitrate.{Bitrate}
 use Rattle.j39_findings.specs.declared.plan.timing.Bitrate.TheVariants.{Kbit250, Kbit500}

@@ -13,7 +13,7 @@ pub fn a_file_describes_one_plan()
 {}
 
 /// In a plan that isn't of version 3 a group and a flow have the keys that they had before there was one, and groups messages of one
-/// length; and a signal has the keys, the ranges and the kinds.
+/// length without records; and a signal has the keys, the ranges and the kinds.
 pub fn older_versions_know_what_they_knew()
     ensures groups { OlderGroupRules }
     ensures lengths { OlderLengths }

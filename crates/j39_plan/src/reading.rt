@@ -74,7 +74,7 @@ fn read_top(alloc: Global, members: &toml::Table) -> Result<Plan, PlanError>
 
 /// The plan that a file describes: TOML of UTF-8 bytes, at most 128 units, 256 groups of 64 signals and 512 flows. One of
 /// version 2 or 3 may keep up to 120 addresses of 128 to 247 free; one of version 1 keeps none. Version 3 knows groups of several
-/// lengths, more kinds of signals, what their values are divided by, 64 texts of a group, what is known of the bus itself, and how
+/// lengths, with records of signals that are repeated, more kinds of signals, what their values are divided by, 64 texts of a group, what is known of the bus itself, and how
 /// often flows are sent.
 ///
 /// Refuses bytes that are no TOML text, and else the first fault, in the order of the file's tables and keys. Takes no

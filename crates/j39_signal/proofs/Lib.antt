@@ -1,4 +1,5 @@
 pub mod AtPlace
+pub mod Further
 pub mod LaidOut
 pub mod Merging
 pub mod Numbers

@@ -8,7 +8,7 @@ use Rattle.j39_signal.specs.declared.kind.Kind.{Kind}
 abbrev pub divides_decimally : ℕ → Bool
 divides_decimally per = nat_le 1 per && (nat_le per 10000000 && 2 ^ 23 * 5 ^ 10 % per == 0)
 
--- the parts of a signal; of its label and its unit the bytes count
+-- the parts of a signal; of its label and its unit the bytes count; one that is repeated comes again in further records
 pub record SignalParts : Type 0 where
   pub label : ArrayString
   pub start : ℕ
@@ -18,6 +18,7 @@ pub record SignalParts : Type 0 where
   pub offset : ℤ
   pub per : ℕ
   pub unit : ArrayString
+  pub repeated : Bool
 
 -- the ranges that every signal keeps
 pub record IsSignal (start bits step : ℕ) (offset : ℤ) : Type 0 where

@@ -26,6 +26,10 @@ end_of s = s.start + s.bits
 abbrev pub Covers : SignalParts → ℕ → Type 0
 Covers s j = (s.start ≤ j) × (j < end_of s)
 
+-- the signal as it stands so many bytes further on
+abbrev pub further : ℕ → SignalParts → SignalParts
+further bytes s = record s { start = s.start + 8 * bytes }
+
 -- the signal ends within a payload of this length
 abbrev pub IsInside : ℕ → SignalParts → Type 0
 IsInside length s = end_of s ≤ 8 * length

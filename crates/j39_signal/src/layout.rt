@@ -4,7 +4,7 @@ ghost use Rattle.std.specs.List.{HoldsAt};
 ghost use Rattle.j39_id.specs.FirstFault.{first_fault};
 ghost use Rattle.j39_signal.specs.Bits.{Put, raw_of, all_ones};
 ghost use Rattle.j39_signal.specs.Laid.{blank};
-ghost use Rattle.j39_signal.specs.Places.{WidthFits, IsInside, SharesBit, LaysOut};
+ghost use Rattle.j39_signal.specs.Places.{WidthFits, IsInside, SharesBit, LaysOut, further};
 ghost use Rattle.j39_signal.specs.Refusals.{HasLayoutFault, first_sharer as sharer_of, signal_faults};
 ghost use Rattle.j39_signal.specs.State.{state_of, RefusesValue, WritesValue};
 
@@ -142,5 +142,15 @@ impl Layout {
         ensures { HoldsAt (λ s. result ≡ state_of s (raw_of payload.now s)) self.now.signals i }
     {
         self.signal(i).read(payload)
+    }
+
+    /// The state of the signal at place `i` as it stands so many bytes further on, in a payload of any length that has it.
+    #[tactic(auto, using(crate::proofs::AtPlace::at_place))]
+    pub fn read_further(&self, payload: &[u8], i: usize, bytes: usize) -> State
+        requires place { i < length self.now.signals }
+        requires inside { HoldsAt (λ s. IsInside (length payload.now) (further bytes s)) self.now.signals i }
+        ensures { HoldsAt (λ s. result ≡ state_of s (raw_of payload.now (further bytes s))) self.now.signals i }
+    {
+        self.signal(i).read_further(payload, bytes)
     }
 }

@@ -1,7 +1,7 @@
 //! Signals in a payload.
 ghost use Rattle.std.specs.Prelude.{◌≡◌, length, IfErr, OnOk, OnErr};
 ghost use Rattle.j39_signal.specs.Bits.{Put, raw_of, all_ones};
-ghost use Rattle.j39_signal.specs.Places.{WidthFits, IsInside};
+ghost use Rattle.j39_signal.specs.Places.{WidthFits, IsInside, further};
 ghost use Rattle.j39_signal.specs.State.{state_of, RefusesValue, WritesValue};
 
 use crate::bits::{bits_of, set_bits};
@@ -37,5 +37,14 @@ impl Signal {
         ensures { result ≡ state_of self.now (raw_of payload.now self.now) }
     {
         self.state_of(bits_of(payload, self.start(), self.bits()))
+    }
+
+    /// The state that the signal shows so many bytes further on.
+    pub(crate) fn read_further(&self, payload: &[u8], bytes: usize) -> State
+        requires width { WidthFits self.now }
+        requires inside { IsInside (length payload.now) (further bytes self.now) }
+        ensures { result ≡ state_of self.now (raw_of payload.now (further bytes self.now)) }
+    {
+        self.read(&payload[bytes..])
     }
 }

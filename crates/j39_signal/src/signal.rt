@@ -1,5 +1,5 @@
 //! Signals.
-ghost use Rattle.std.specs.Prelude.{◌≡◌, ◌↔◌, IsTrue, IsSome, IfSome, pos};
+ghost use Rattle.std.specs.Prelude.{◌≡◌, ◌↔◌, ◌≤◌, false, IsTrue, IsSome, IfSome, pos};
 ghost use Rattle.j39_signal.specs.Parts.{divides_decimally};
 
 use crate::Kind;
@@ -20,6 +20,7 @@ pub struct Signal {
     offset: i64,
     per: u32,
     unit: Label,
+    repeated: bool,
 }
 
 impl Model for Signal {
@@ -36,6 +37,7 @@ impl Model for Signal {
       offset = s.offset;
       per = s.per;
       unit = s.unit;
+      repeated = s.repeated;
     } };
 
     ghost invariant = { λ s. IsSignal s.start s.bits s.step s.offset × IsDivisor s.per };
@@ -49,6 +51,7 @@ impl Model for Signal {
       offset = s.offset;
       per = s.per;
       unit = s.unit;
+      repeated = s.repeated;
     } };
 }
 
@@ -64,7 +67,8 @@ impl Signal {
     ghost use Rattle.j39_signal.specs.Parts.{HasRanges, CanBeSignal, IsDivisor};
     ghost use Rattle.j39_signal.specs.Places.{width_fits, end_of, IsInside, is_inside, SharesBit, shares_bit};
 
-    /// A signal of `bits` bits from bit `start` of the payload on, both counted from 0. Its values are whole numbers.
+    /// A signal of `bits` bits from bit `start` of the payload on, both counted from 0. Its values are whole numbers, and it
+    /// isn't repeated.
     ///
     /// None unless `bits` is 1..=64, `step` is 1..=1,000,000 and `offset` is within plus or minus 10^12.
     pub fn new(
@@ -85,6 +89,7 @@ impl Signal {
         ensures offset { IfSome result (λ s. s.offset ≡ offset) }
         ensures per { IfSome result (λ s. s.per ≡ 1) }
         ensures unit { IfSome result (λ s. s.unit ≡ unit) }
+        ensures once { IfSome result (λ s. s.repeated ≡ false) }
     {
         let in_range = 1 <= bits
             && bits <= 64
@@ -102,6 +107,7 @@ impl Signal {
                 offset,
                 per: 1,
                 unit,
+                repeated: false,
             })
         } else {
             None
@@ -120,6 +126,13 @@ impl Signal {
         } else {
             None
         }
+    }
+
+    /// The signal as one that is repeated, or as one that isn't.
+    pub fn with_repeated(self, repeated: bool) -> Self
+        ensures { result ≡ record self { repeated = repeated } }
+    {
+        Signal { repeated, ..self }
     }
 
     /// The name of the signal.
@@ -182,6 +195,13 @@ impl Signal {
         &self.unit
     }
 
+    /// Whether the signal comes again in further records, each some bytes behind the one before.
+    pub fn is_repeated(&self) -> bool
+        ensures { result ≡ self.now.repeated }
+    {
+        self.repeated
+    }
+
     /// Whether the width fits the kind: 8, 16 or 32 bits for a measured signal, 2 for a discrete one, 1..=32 for a raw one,
     /// 2..=8 for states, 2..=32 for a signed one, and for a trouble code 32 from the first bit of a byte on.
     pub fn width_fits(&self) -> bool
@@ -197,9 +217,10 @@ impl Signal {
         }
     }
 
-    // The first place after the signal.
-    fn end(&self) -> u32
-        ensures { result ≡ end_of self.now }
+    /// The first place after the signal, in bits from 0.
+    pub fn end(&self) -> u32
+        ensures value { result ≡ end_of self.now }
+        ensures most { result ≤ 65599 }
     {
         u32::from(self.start) + u32::from(self.bits)
     }

@@ -4,10 +4,10 @@ use Rattle.std.proofs.lemmas.Bool.{cases_lt}
 use Rattle.j39_timing.specs.Sums.{total}
 use Rattle.j39_timing.specs.Schedule.{Schedule, IsLegal, IsAnalysed}
 
-abbrev two : Schedule
+abbrev pub two : Schedule
 two = record { count = 2; queued = λ p. 0; start = λ p. p * 160; bits = λ p. 160; ident = λ p. 1 - p; now = 1000 }
 
-two_legal : IsLegal two
+pub two_legal : IsLegal two
 two_legal = record {
   positive = λ p _. omega arith;
   queued_first = λ p _. omega arith;

@@ -4,25 +4,8 @@ use Rattle.std.proofs.lemmas.Bool.{and_parts, and_from, cases_lt, cases_eq, case
 use Rattle.j39_timing.specs.Sums.{total}
 use Rattle.j39_timing.specs.Schedule.{Schedule, IsLegal, AreInTime, demand}
 use Rattle.j39_timing.specs.Streams.{Streams, Origins, AreOfStreams, AreOwnSpaced, IsEnough}
-use Rattle.j39_timing.proofs.Sums.{total-le}
+use Rattle.j39_timing.proofs.Sums.{total-le, total-none, total-two}
 use Rattle.j39_timing.proofs.BusyWindow.{in_time}
-
-total-none : (n : ℕ) (f : ℕ → ℕ) → ((i : ℕ) → i < n → f i ≡ 0) → total n f ≡ 0
-unfolding total
-total-none zero f none = refl
-total-none (suc n) f none =
-    let before : total n f ≡ 0 = total-none n f (λ i inside. none i (omega arith)) in
-    let last : f n ≡ 0 = none n (omega arith) in
-    omega arith
-
--- a sum that is at most the sum of two others, place by place
-total-two : (n : ℕ) (f g h : ℕ → ℕ) → ((i : ℕ) → i < n → f i ≤ g i + h i) → total n f ≤ total n g + total n h
-unfolding total
-total-two zero f g h le = omega arith
-total-two (suc n) f g h le =
-    let before : total n f ≤ total n g + total n h = total-two n f g h (λ i inside. le i (omega arith)) in
-    let last : f n ≤ g n + h n = le n (omega arith) in
-    omega arith
 
 -- the sum over the places that pass, of which there is one at most
 at_most_one : (n : ℕ) (passes : ℕ → Bool) (f : ℕ → ℕ) (most : ℕ) → ((i : ℕ) → i < n → passes i ≡ true → f i ≤ most)
@@ -300,7 +283,7 @@ module _ (s : Schedule) (c : ℕ) (streams : Streams) (of : Origins) (known : Ar
         omega arith
 
     -- all that goes before
-    all_streams : ((j : ℕ) → j < streams.count → span + late j ≤ slots j * streams.period j) → demand s c t span ≤ total streams.count (λ j. streams.frames j * (slots j * streams.bits j))
+    pub all_streams : ((j : ℕ) → j < streams.count → span + late j ≤ slots j * streams.period j) → demand s c t span ≤ total streams.count (λ j. streams.frames j * (slots j * streams.bits j))
     all_streams cover =
         let most = first_streams streams.count cover in
         let less : demand s c t span ≤ total s.count (λ p. cond (of_first streams.count t span p) (s.bits p) 0) =

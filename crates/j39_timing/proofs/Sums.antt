@@ -1,5 +1,5 @@
 -- Sums over the places below a number.
-use Rattle.std.proofs.Common.{ℕ, zero, suc, ◌+◌, ◌<◌, ◌≤◌, subst, arith, inl, inr}
+use Rattle.std.proofs.Common.{◌≡◌, ℕ, zero, suc, ◌+◌, ◌<◌, ◌≤◌, refl, subst, arith, inl, inr}
 use Rattle.std.proofs.lemmas.Bool.{cases_eq}
 use Rattle.j39_timing.specs.Sums.{total}
 
@@ -26,3 +26,21 @@ total-less (suc n) f g u d in_u falls le = elim (cases_eq u n) [
       let before : total n f + d ≤ total n g = total-less n f g u d away falls (λ i inside. le i (omega arith)) in
       omega arith
 ]
+
+-- where no value is above 0
+pub total-none : (n : ℕ) (f : ℕ → ℕ) → ((i : ℕ) → i < n → f i ≡ 0) → total n f ≡ 0
+unfolding total
+total-none zero f none = refl
+total-none (suc n) f none =
+    let before : total n f ≡ 0 = total-none n f (λ i inside. none i (omega arith)) in
+    let last : f n ≡ 0 = none n (omega arith) in
+    omega arith
+
+-- a sum that is at most the sum of two others, place by place
+pub total-two : (n : ℕ) (f g h : ℕ → ℕ) → ((i : ℕ) → i < n → f i ≤ g i + h i) → total n f ≤ total n g + total n h
+unfolding total
+total-two zero f g h le = omega arith
+total-two (suc n) f g h le =
+    let before : total n f ≤ total n g + total n h = total-two n f g h (λ i inside. le i (omega arith)) in
+    let last : f n ≤ g n + h n = le n (omega arith) in
+    omega arith

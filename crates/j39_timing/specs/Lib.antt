@@ -3,3 +3,4 @@ pub mod FrameBits
 pub mod Schedule
 pub mod Streams
 pub mod Waits
+pub mod Traffic

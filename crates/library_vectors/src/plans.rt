@@ -123,6 +123,46 @@ fn is_temperature(rt: &impl Abort, group: &GroupPlan) -> Result<(), Fail> {
     Ok(())
 }
 
+// Trouble codes, as DM1 has them.
+const RECORDS: &[u8] = b"version = 3
+
+[[group]]
+label = \"DM1\"
+pgn = 65226
+priority = 6
+length = 8
+most = 1730
+every = 4
+
+[[group.signal]]
+label = \"DTC\"
+byte = 3
+bits = 32
+kind = \"dtc\"
+repeated = true
+";
+
+#[test]
+fn records_that_end_inside_a_message_are_counted(rt: HostRuntime) -> Result<(), Fail> {
+    let plan = read_plan(rt.alloc(), RECORDS)?;
+    let [group] = plan.groups.as_slice() else {
+        return Err("not one group").map_err(Fail::from);
+    };
+    assert_eq!(rt; group.every, Some(4));
+    for (bytes, count) in [
+        (5, 0),
+        (6, 1),
+        (8, 1),
+        (9, 1),
+        (10, 2),
+        (22, 5),
+        (1730, 432),
+    ] {
+        assert_eq!(rt; group.record_count(bytes), count);
+    }
+    Ok(())
+}
+
 #[test]
 fn a_network_is_read_whole(rt: HostRuntime) -> Result<(), Fail> {
     let plan = read_plan(rt.alloc(), NETWORK)?;

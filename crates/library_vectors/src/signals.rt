@@ -238,6 +238,25 @@ fn a_signal_is_given_up(rt: HostRuntime) -> Result<(), Fail> {
 }
 
 #[test]
+fn a_record_is_read_further_on(rt: HostRuntime) -> Result<(), Fail> {
+    let once = wide(8, 16, Kind::Raw)?;
+    let repeated = once.with_repeated(true);
+    assert_eq!(rt; (once.is_repeated(), once.end()), (false, 24));
+    assert_eq!(rt; (repeated.is_repeated(), repeated.end()), (true, 24));
+    let layout = Layout::new(rt.alloc(), 3, &[repeated])?;
+    let payload = [0, 1, 2, 3, 4, 5];
+    assert_eq!(rt;
+        layout.read_further(&payload, 0, 0),
+        State::Value(2 * 0x0201 - 40)
+    );
+    assert_eq!(rt;
+        layout.read_further(&payload, 0, 3),
+        State::Value(2 * 0x0504 - 40)
+    );
+    Ok(())
+}
+
+#[test]
 fn faults_have_texts(rt: HostRuntime) -> Result<(), Fail> {
     let overlap = format!(in rt.alloc(); "{}", LayoutError::Overlap(1, 2))?;
     assert_eq!(rt; overlap.as_str(), "signals 1 and 2 share a bit");

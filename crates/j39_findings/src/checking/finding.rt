@@ -31,6 +31,9 @@ pub enum Finding {
     KeptAddress(usize),
     /// F13: the private group is sent by no flow.
     PrivateUnsent(usize),
+    /// F14: of a group, the first signal is repeated and comes, in a later record, onto a bit of the second; or both are repeated, and a
+    /// later record of one of them comes onto a bit of the other.
+    RecordOverlap(usize, usize, usize),
     /// F15: of a group, the text begins behind the byte after the last one of the shortest message, or ends behind the last byte of
     /// the longest.
     TextOutside(usize, usize),

@@ -1,5 +1,6 @@
 //! A group of a plan.
-ghost use Rattle.std.specs.Prelude.{◌≢◌, ◌≤◌, IsTrue, length as count, All, AllPairs};
+ghost use Rattle.std.specs.Prelude.{◌≡◌, ◌≢◌, ◌≤◌, false, None, IsTrue, length as count, All, AllPairs};
+ghost use Rattle.std.specs.Option.{ForSome};
 ghost use Rattle.j39_id.specs.Limits.{message_bytes};
 ghost use Rattle.j39_signal.specs.Parts.{IsSignal};
 ghost use Rattle.j39_findings.specs.LabelForm.{is_label};
@@ -24,6 +25,9 @@ pub struct GroupPlan {
     pub private: bool,
     /// The length of the longest payload in bytes, to 1785.
     pub most: u16,
+    /// How many bytes each record of the signals that are repeated stands behind the one before, 1 to 255. No signal is repeated without
+    /// it.
+    pub every: Option<u8>,
     pub signals: Vec<Signal>,
     pub texts: Vec<TextPlan>,
     pub ghost label_form: { IsTrue (is_label label.bytes) },
@@ -32,6 +36,8 @@ pub struct GroupPlan {
     pub ghost length_range: { length ≤ message_bytes },
     pub ghost most_least: { length ≤ most },
     pub ghost most_range: { most ≤ message_bytes },
+    pub ghost every_positive: { ForSome every (λ n. 1 ≤ n) },
+    pub ghost every_needed: { every ≡ None → All (λ s. s.repeated ≡ false) signals.items },
     pub ghost signal_count: { count signals.items ≤ 64 },
     pub ghost signal_forms: { All (λ s. IsTrue (is_label s.label.bytes)) signals.items },
     pub ghost signal_ranges: { All (λ s. IsSignal s.start s.bits s.step s.offset) signals.items },

@@ -1,5 +1,6 @@
 //! Laws on where units stand.
-ghost use Rattle.std.specs.Prelude.{◌≡◌, ◌<◌, ◌≤◌, ℕ, List, length, false};
+ghost use Rattle.std.specs.Prelude.{◌≡◌, ◌<◌, ◌≤◌, ◌⊎◌, ℕ, List, Some, length, false, true};
+ghost use Rattle.j39_id.specs.Addresses.{in_pool};
 ghost use Rattle.j39_id.specs.Name.{is_arbitrary};
 ghost use Rattle.j39_claim.specs.ClaimRule.{PlannedUnit as PlannedUnits};
 ghost use Rattle.j39_findings.specs.Findings.{Holds};
@@ -34,4 +35,12 @@ pub fn planned_addresses_stay()
 pub fn smaller_names_are_undisturbed()
     ensures { (plan : Plans) (limit : ℕ) (steps : List Steps) (w : World) → ArePlannedApartTo limit (units_of plan)
         → Run plan first steps w → (u : ℕ) → (unit_at (units_of plan) u).name ≤ limit → HoldsPlanned (units_of plan) w u }
+{}
+
+/// In every world of every run of each plan, with all lawful choices, the address that a unit holds which is on is its planned one, or one
+/// of 128 to 247 where it isn't a unit that stays.
+pub fn units_hold_planned_or_pool_addresses()
+    ensures { (plan : Plans) (steps : List Steps) (w : World) → Run plan first steps w
+        → (u a : ℕ) → (w.stations u).on ≡ true → (w.stations u).address ≡ Some a
+        → (a ≡ (unit_at (units_of plan) u).preferred) ⊎ ((in_pool a ≡ true) × ¬ Stays (units_of plan) u) }
 {}

@@ -1,12 +1,12 @@
 //! The groups of a plan.
-ghost use Rattle.std.specs.Prelude.{◌≡◌, ◌≤◌, ◌<◌, map, IfOk};
+ghost use Rattle.std.specs.Prelude.{◌≡◌, ◌≤◌, ◌<◌, map, IfOk, IfSome};
 ghost use Rattle.toml.specs.View.{items_view, table_view};
 ghost use Rattle.j39_id.specs.Limits.{message_bytes};
 ghost use Rattle.j39_plan.specs.Schema.{tables_of};
 ghost use Rattle.j39_plan.specs.TableFaults.{keys_faults, unknown_faults};
 ghost use Rattle.j39_plan.specs.Outcome.{Gives, GivesGrowing};
 ghost use Rattle.j39_plan.specs.Growing.{GroupGrows};
-ghost use Rattle.j39_plan.specs.GroupTables.{group_rules, group_table_faults, later_rules, most_of, private_of, signal_rule, texts_of, TellsGroup};
+ghost use Rattle.j39_plan.specs.GroupTables.{every_of, group_rules, group_table_faults, later_rules, most_of, private_of, signal_rule, texts_of, TellsGroup};
 
 use super::elements::{ReadElement, read_each};
 use super::labels::untaken;
@@ -14,7 +14,7 @@ use super::signals::Signals;
 use super::tables::{array, only, table_of};
 use super::text_kind::TextKind;
 use super::texts::Texts;
-use super::values::{flag, number, short_text};
+use super::values::{flag, number, optional_number, short_text};
 use super::{Key, PlanError, Table};
 use j39_findings::GroupPlan;
 use j39_id::limits::MESSAGE_BYTES;
@@ -29,13 +29,14 @@ const FIRST_KEYS: [Key; 5] = [
     Key::Signal,
 ];
 
-const THIRD_KEYS: [Key; 8] = [
+const THIRD_KEYS: [Key; 9] = [
     Key::Label,
     Key::Pgn,
     Key::Priority,
     Key::Length,
     Key::Private,
     Key::Most,
+    Key::Every,
     Key::Signal,
     Key::Text,
 ];
@@ -50,12 +51,13 @@ fn only_known(third: bool, members: &toml::Table, table: Table) -> Result<(), Pl
     }
 }
 
-// What stands behind the length: whether the number is a maker's own, the length of the longest messages, and the tables of signals
-// and of texts.
+// What stands behind the length: whether the number is a maker's own, the length of the longest messages, how far apart records stand,
+// and the tables of signals and of texts.
 #[derive(Clone, Copy)]
 struct LaterKeys<'a> {
     private: bool,
     most: u32,
+    every: Option<u32>,
     signals: &'a [Value],
     texts: &'a [Value],
 }
@@ -70,10 +72,13 @@ fn later_keys(
     requires { length ≤ message_bytes }
     ensures gives { Gives result (keys_faults table (table_view members.now) (later_rules third length))
         (λ later. (later.private ≡ private_of third (table_view members.now)) × (later.most ≡ most_of third length (table_view members.now))
+        × (later.every ≡ every_of third (table_view members.now))
         × (items_view later.signals.now ≡ tables_of signal_rule (table_view members.now))
         × (items_view later.texts.now ≡ texts_of third (table_view members.now))) }
     ensures at_least { IfOk result (λ later. length ≤ later.most) }
     ensures at_most { IfOk result (λ later. later.most ≤ message_bytes) }
+    ensures some { IfOk result (λ later. IfSome later.every (λ n. 1 ≤ n)) }
+    ensures few { IfOk result (λ later. IfSome later.every (λ n. n ≤ 255)) }
 {
     if third {
         let private = flag(members, table, Key::Private, false)?;
@@ -85,11 +90,13 @@ fn later_keys(
             MESSAGE_BYTES as u32,
             Some(length),
         )?;
+        let every = optional_number(members, table, Key::Every, 1, 255, false)?;
         let signals = array(members, table, Key::Signal, 64)?;
         let texts = array(members, table, Key::Text, 64)?;
         Ok(LaterKeys {
             private,
             most,
+            every,
             signals,
             texts,
         })
@@ -98,9 +105,21 @@ fn later_keys(
         Ok(LaterKeys {
             private: false,
             most: length,
+            every: None,
             signals,
             texts: &[],
         })
+    }
+}
+
+// How many bytes each record stands behind the one before, in the type of a plan.
+fn distance(every: Option<u32>) -> Option<u8>
+    requires { IfSome every (λ n. n ≤ 255) }
+    ensures { result ≡ every }
+{
+    match every {
+        Some(bytes) => Some(bytes as u8),
+        None => None,
     }
 }
 
@@ -121,8 +140,11 @@ fn group(
     let priority = number(members, table, Key::Priority, 0, 7, None)?;
     let length = number(members, table, Key::Length, 1, MESSAGE_BYTES as u32, None)?;
     let later = later_keys(third, length, members, table)?;
+    let every = distance(later.every);
+    let records = later.every.is_some();
     let reader = Signals {
         third,
+        records,
         group: index,
     };
     let signals = read_each(alloc, &reader, later.signals)?;
@@ -141,6 +163,7 @@ fn group(
         length: length as u16,
         private: later.private,
         most: later.most as u16,
+        every,
         signals,
         texts,
     })

@@ -3,17 +3,17 @@ ghost use Rattle.std.specs.Prelude.{◌≡◌, ◌≤◌, ◌≤ℤ◌, true, fa
 ghost use Rattle.toml.specs.View.{table_view};
 ghost use Rattle.j39_signal.specs.Parts.{IsSignal, IsDivisor};
 ghost use Rattle.j39_findings.specs.LabelForm.{is_label};
-ghost use Rattle.j39_plan.specs.Schema.{integer_of, number_of, text_of};
+ghost use Rattle.j39_plan.specs.Schema.{flag_of, integer_of, number_of, text_of};
 ghost use Rattle.j39_plan.specs.TableFaults.{key_faults};
 ghost use Rattle.j39_plan.specs.Outcome.{Gives};
 ghost use Rattle.j39_id.specs.Limits.{message_bytes};
-ghost use Rattle.j39_plan.specs.SignalTables.{is_code, is_dtc, kind_of, kind_rule, offset_rule, per_rule, signal_table_faults, start_of, step_rule, unit_rule, TellsSignal};
+ghost use Rattle.j39_plan.specs.SignalTables.{is_code, is_dtc, kind_of, kind_rule, offset_rule, per_rule, repeated_rule, signal_table_faults, start_of, step_rule, unit_rule, TellsSignal};
 
 use super::elements::ReadElement;
 use super::labels::{Labelled, untaken};
 use super::tables::{only, table_of};
 use super::text_kind::TextKind;
-use super::values::{divisor, integer, number, short_text, text};
+use super::values::{divisor, flag_if, integer, number, short_text, text};
 use super::{Key, PlanError, Table};
 use j39_id::Label;
 use j39_id::limits::MESSAGE_BYTES;
@@ -32,7 +32,7 @@ const FIRST_KEYS: [Key; 8] = [
     Key::Unit,
 ];
 
-const THIRD_KEYS: [Key; 9] = [
+const THIRD_KEYS: [Key; 10] = [
     Key::Label,
     Key::Byte,
     Key::Bit,
@@ -42,6 +42,7 @@ const THIRD_KEYS: [Key; 9] = [
     Key::Per,
     Key::Offset,
     Key::Unit,
+    Key::Repeated,
 ];
 
 fn kind_of(word: &str) -> Kind
@@ -141,7 +142,17 @@ fn unit(members: &toml::Table, table: Table, code: bool) -> Result<Label, PlanEr
     }
 }
 
-// A signal whose values are whole numbers.
+// Whether the signal is repeated, which it can't be in a group without records.
+#[tactic(auto, unfolding(crate::specs::Schema::flag_of))]
+fn repeated(members: &toml::Table, table: Table, records: bool) -> Result<bool, PlanError>
+    ensures gives { Gives result (key_faults table (table_view members.now) (repeated_rule records))
+        (λ b. b ≡ flag_of (repeated_rule true) (table_view members.now)) }
+    ensures only { IfOk result (λ b. records ≡ false → b ≡ false) }
+{
+    flag_if(members, table, Key::Repeated, records)
+}
+
+// A signal whose values are whole numbers, and which isn't repeated.
 fn whole_signal(
     label: Label,
     start: u16,
@@ -163,6 +174,7 @@ fn whole_signal(
     ensures offset { result.offset ≡ offset }
     ensures per { result.per ≡ 1 }
     ensures unit { result.unit ≡ unit }
+    ensures once { result.repeated ≡ false }
     ensures ranges { IsSignal result.start result.bits result.step result.offset }
 {
     match Signal::new(
@@ -181,9 +193,10 @@ fn whole_signal(
 
 #[tactic(auto, using(crate::proofs::FirstFaults::faults_after), unfolding(crate::specs::SignalTables::signal_table_faults, crate::specs::SignalTables::is_code))]
 fn first_signal(table: Table, members: &toml::Table) -> Result<Signal, PlanError>
-    ensures gives { Gives result (signal_table_faults false table (table_view members.now)) (TellsSignal false (table_view members.now)) }
+    ensures gives { Gives result (signal_table_faults false false table (table_view members.now)) (TellsSignal false (table_view members.now)) }
     ensures label_form { IfOk result (λ s. IsTrue (is_label s.label.bytes)) }
     ensures ranges { IfOk result (λ s. IsSignal s.start s.bits s.step s.offset) }
+    ensures single { IfOk result (λ s. s.repeated ≡ false) }
 {
     only(members, table, &FIRST_KEYS)?;
     let label = short_text(members, table, Key::Label, TextKind::Label, None)?;
@@ -199,10 +212,11 @@ fn first_signal(table: Table, members: &toml::Table) -> Result<Signal, PlanError
 }
 
 #[tactic(auto, using(crate::proofs::FirstFaults::faults_after), unfolding(crate::specs::SignalTables::signal_table_faults))]
-fn third_signal(table: Table, members: &toml::Table) -> Result<Signal, PlanError>
-    ensures gives { Gives result (signal_table_faults true table (table_view members.now)) (TellsSignal true (table_view members.now)) }
+fn third_signal(records: bool, table: Table, members: &toml::Table) -> Result<Signal, PlanError>
+    ensures gives { Gives result (signal_table_faults true records table (table_view members.now)) (TellsSignal true (table_view members.now)) }
     ensures label_form { IfOk result (λ s. IsTrue (is_label s.label.bytes)) }
     ensures ranges { IfOk result (λ s. IsSignal s.start s.bits s.step s.offset) }
+    ensures single { IfOk result (λ s. records ≡ false → s.repeated ≡ false) }
 {
     only(members, table, &THIRD_KEYS)?;
     let label = short_text(members, table, Key::Label, TextKind::Label, None)?;
@@ -214,29 +228,38 @@ fn third_signal(table: Table, members: &toml::Table) -> Result<Signal, PlanError
     let per = per(members, table, kind.1)?;
     let offset = offset(members, table, kind.1)?;
     let unit = unit(members, table, kind.1)?;
+    let repeated = repeated(members, table, records)?;
     let start = start_of(byte, bit);
     match whole_signal(label, start, bits, kind.0, step, offset, unit).divided_by(per) {
-        Some(signal) => Ok(signal),
+        Some(signal) => Ok(signal.with_repeated(repeated)),
         None => unreachable!(),
     }
 }
 
-fn signal(third: bool, table: Table, members: &toml::Table) -> Result<Signal, PlanError>
-    ensures gives { Gives result (signal_table_faults third table (table_view members.now)) (TellsSignal third (table_view members.now)) }
+#[tactic(auto, unfolding(crate::specs::SignalTables::signal_table_faults))]
+fn signal(
+    third: bool,
+    records: bool,
+    table: Table,
+    members: &toml::Table,
+) -> Result<Signal, PlanError>
+    ensures gives { Gives result (signal_table_faults third records table (table_view members.now)) (TellsSignal third (table_view members.now)) }
     ensures label_form { IfOk result (λ s. IsTrue (is_label s.label.bytes)) }
     ensures ranges { IfOk result (λ s. IsSignal s.start s.bits s.step s.offset) }
+    ensures single { IfOk result (λ s. records ≡ false → s.repeated ≡ false) }
 {
     if third {
-        third_signal(table, members)
+        third_signal(records, table, members)
     } else {
         first_signal(table, members)
     }
 }
 
-/// The reader of the signals of the group at a place, in the third version of a plan or in another.
+/// The reader of the signals of the group at a place, which has records or hasn't, in the third version of a plan or in another.
 #[derive(Clone, Copy)]
 pub struct Signals {
     pub third: bool,
+    pub records: bool,
     pub group: usize,
 }
 
@@ -248,11 +271,11 @@ impl ReadElement<Signal> for Signals {
 
     ghost label_of = { signal_label };
 
-    ghost faults = { λ r. signal_faults r.third r.group };
+    ghost faults = { λ r. signal_faults r.third r.records r.group };
 
     ghost Grows = { λ _. NeverGrows };
 
-    ghost Tells = { λ r d s. IsSignalOf r.third d s × IsFit s };
+    ghost Tells = { λ r d s. IsSignalOf r.third d s × IsFit r.records s };
 
     #[tactic(auto, using(crate::proofs::FirstFaults::faults_after), unfolding(crate::specs::SignalTables::signal_faults))]
     fn read(
@@ -263,7 +286,7 @@ impl ReadElement<Signal> for Signals {
         value: &Value,
     ) -> Result<Signal, PlanError> {
         let table = Table::Signal(self.group, index);
-        let signal = signal(self.third, table, table_of(value, table)?)?;
+        let signal = signal(self.third, self.records, table, table_of(value, table)?)?;
         untaken(seen, signal.label_text(), TextKind::Label, table)?;
         Ok(signal)
     }

@@ -1,5 +1,5 @@
 //! The values of a table's keys.
-ghost use Rattle.std.specs.Prelude.{◌≡◌, ℕ, true, if◌then◌else◌, Some, None, List, option_map, IfSome, IfOk, ◌≤◌, ◌≤ℤ◌, length};
+ghost use Rattle.std.specs.Prelude.{◌≡◌, ℕ, true, false, if◌then◌else◌, Some, None, List, option_map, IfSome, IfOk, ◌≤◌, ◌≤ℤ◌, length};
 ghost use Rattle.std.specs.Option.{option_copied};
 ghost use Rattle.toml.specs.Data.{get_member};
 ghost use Rattle.toml.specs.View.{view, table_view};
@@ -209,6 +209,29 @@ pub fn flag(members: &toml::Table, table: Table, key: Key, default: bool) -> Res
         Some(value) => match value.as_bool() {
             None => Err(refused(Cause::WrongType, table, key)),
             Some(flag) => Ok(flag),
+        },
+    }
+}
+
+/// The truth value at a key, which may be true only where this is so, and false where the key is absent.
+#[tactic(auto, unfolding(crate::specs::TableFaults::key_faults, crate::specs::Schema::flag_of))]
+pub fn flag_if(members: &toml::Table, table: Table, key: Key, may: bool) -> Result<bool, PlanError>
+    ensures gives { let rule = schema.flag_if key may in
+        Gives result (key_faults table (table_view members.now) rule)
+        (λ b. b ≡ schema.flag_of rule (table_view members.now)) }
+    ensures only { IfOk result (λ b. may ≡ false → b ≡ false) }
+{
+    match value_at(members, key) {
+        None => Ok(false),
+        Some(value) => match value.as_bool() {
+            None => Err(refused(Cause::WrongType, table, key)),
+            Some(flag) => {
+                if flag && !may {
+                    Err(refused(Cause::Range, table, key))
+                } else {
+                    Ok(flag)
+                }
+            }
         },
     }
 }

@@ -3,12 +3,12 @@ use Rattle.j39_findings.specs.declared.checking.finding.Finding.{Finding}
 use Rattle.j39_findings.specs.Findings.{AreFindings}
 use Rattle.j39_findings.specs.Found.{found}
 use Rattle.j39_findings.proofs.FoundLaws.{are_findings}
-use Rattle.j39_findings.proofs.AddingLemmas.{WantsMemory, wants_memory, units_some, groups_some, signals_some, flows_some, kept_some, unsent_some, texts_some}
+use Rattle.j39_findings.proofs.AddingLemmas.{WantsMemory, wants_memory, units_some, groups_some, signals_some, flows_some, kept_some, unsent_some, records_some, texts_some}
 use Rattle.j39_findings.proofs.checking.check.Goals as goal
 use Rattle.j39_findings.proofs.checking.check.Goals.{After-drop-findings, After-drop-findings-in_err-find_in_groups}
 use Rattle.j39_findings.proofs.checking.check.Goals.{After-drop-findings-in_err-find_in_signals}
 use Rattle.j39_findings.proofs.checking.check.Goals.{After-drop-findings-in_err-find_in_flows, After-drop-findings-in_err-find_kept}
-use Rattle.j39_findings.proofs.checking.check.Goals.{After-drop-findings-in_err-find_unsent, After-drop-findings-in_err-find_in_texts}
+use Rattle.j39_findings.proofs.checking.check.Goals.{After-drop-findings-in_err-find_unsent, After-drop-findings-in_err-find_in_records, After-drop-findings-in_err-find_in_texts}
 
 units_want : (c : After-drop-findings) → WantsMemory c.args.plan.now c.from_residual.result
 units_want c =
@@ -76,10 +76,21 @@ returns-in_err-find_unsent-clause-memory c = (unsent_want c).0
 pub returns-in_err-find_unsent-clause-clean : goal.returns-in_err-find_unsent-clause-clean
 returns-in_err-find_unsent-clause-clean c = (unsent_want c).1
 
+records_want : (c : After-drop-findings-in_err-find_in_records) → WantsMemory c.args.plan.now c.from_residual-in_err-find_in_records.result
+records_want c =
+    wants_memory c.args.plan.now _ _ c.from_residual-in_err-find_in_records.ensures.1
+    (records_some c.args.plan.now (rw (c.deref-10.ensures.value) at c.in_err-find_in_records.ensures))
+
+pub returns-in_err-find_in_records-clause-memory : goal.returns-in_err-find_in_records-clause-memory
+returns-in_err-find_in_records-clause-memory c = (records_want c).0
+
+pub returns-in_err-find_in_records-clause-clean : goal.returns-in_err-find_in_records-clause-clean
+returns-in_err-find_in_records-clause-clean c = (records_want c).1
+
 texts_want : (c : After-drop-findings-in_err-find_in_texts) → WantsMemory c.args.plan.now c.from_residual-in_err-find_in_texts.result
 texts_want c =
     wants_memory c.args.plan.now _ _ c.from_residual-in_err-find_in_texts.ensures.1
-    (texts_some c.args.plan.now (rw (c.deref-10.ensures.value) at c.in_err-find_in_texts.ensures))
+    (texts_some c.args.plan.now (rw (c.deref-11.ensures.value) at c.in_err-find_in_texts.ensures))
 
 pub returns-in_err-find_in_texts-clause-memory : goal.returns-in_err-find_in_texts-clause-memory
 returns-in_err-find_in_texts-clause-memory c = (texts_want c).0

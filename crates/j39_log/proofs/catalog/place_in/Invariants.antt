@@ -1,4 +1,4 @@
-use Rattle.std.proofs.Common.{◌≡◌, ℕ, ◌<◌, false, get_or, length}
+use Rattle.std.proofs.Common.{◌≡◌, ℕ, ◌<◌, false, get_or}
 use Rattle.j39_findings.specs.declared.plan.group_plan.GroupPlan.{GroupPlan}
 use Rattle.j39_log.specs.LogFrames.{is_planned_as}
 use Rattle.j39_log.proofs.catalog.place_in.Given as goal

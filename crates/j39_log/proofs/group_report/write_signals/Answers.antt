@@ -15,7 +15,7 @@ loop-place-preserved c =
     let reads : c.read.result ≡ state_of s (raw_of c.args.bytes.now s) =
     c.read.ensures s ∙ ap (λ (t : SignalParts). state_of t (raw_of c.args.bytes.now t)) here in
     one_more_line c.args.signals.now c.args.bytes.now _ _ _ c.loop-place.place s _ c.loop-place-test.true c.index-signals-place.is reads
-    c.in_ok-write_signal.ensures c.loop-place.invariant
+    c.in_ok-write_single.ensures c.loop-place.invariant
 
 pub returns : goal.returns
 unfolding signal_lines

@@ -4,4 +4,4 @@ use Rattle.j39_plan.proofs.laws.older_versions_know_what_they_knew.Goals as goal
 
 pub returns-clause-signals : goal.returns-clause-signals
 unfolding is_code
-returns-clause-signals c = λ ms. refl
+returns-clause-signals c = λ records ms. refl

@@ -1,0 +1,5 @@
+use Rattle.j39_findings.proofs.RecordCounts.{without_records}
+use Rattle.j39_findings.proofs.laws.records.plans_without_records.Goals as goal
+
+pub returns : goal.returns
+returns c = without_records

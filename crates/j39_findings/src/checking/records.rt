@@ -1,0 +1,142 @@
+//! Which signals of groups are met by others in later records.
+ghost use Rattle.std.specs.Prelude.{◌≡◌, ◌≤◌, ◌+◌, ◌*◌, ◌/◌};
+ghost use Rattle.j39_findings.specs.Adding.{Adds};
+ghost use Rattle.j39_findings.specs.ListPlaces.{found_if, in_each};
+ghost use Rattle.j39_findings.specs.Found.{comes_onto, do_records_meet, group_overlaps, overlaps_of, record_findings};
+
+use crate::checking::finding::Finding;
+use crate::checking::rules::{Rule, find_each, push_if};
+use crate::plan::GroupPlan;
+use j39_signal::Signal;
+use std::alloc::AllocError;
+
+// The bits to the first record that stands further on than these.
+fn bits_behind(every: u8, bits: u32) -> u32
+    requires some { 1 ≤ every }
+    requires range { bits ≤ 65535 }
+    ensures value { result ≡ 8 * (every * (bits / (8 * every) + 1)) }
+    ensures most { result ≤ bits + 2040 }
+{
+    let record = 8 * u32::from(every);
+    bits - bits % record + record
+}
+
+// Whether a later record of the first signal comes onto the second, inside the longest message.
+fn comes_onto(every: u8, most: u16, signal: &Signal, other: &Signal) -> bool
+    requires { 1 ≤ every }
+    ensures { result ≡ comes_onto every most signal.now other.now }
+{
+    let gap = u32::from(other.start()).saturating_sub(signal.end());
+    let behind = bits_behind(every, gap);
+    let start = u32::from(signal.start()) + behind;
+    let end = (signal.end() + behind).min(other.end());
+    start.max(u32::from(other.start())) < end.min(8 * u32::from(most))
+}
+
+// A signal that is repeated, at its place in its group.
+#[derive(Clone, Copy)]
+struct RepeatedSignal<'a> {
+    every: u8,
+    most: u16,
+    group: usize,
+    place: usize,
+    signal: &'a Signal,
+    ghost every_positive: { 1 ≤ every },
+}
+
+fn do_records_meet(first: &RepeatedSignal, place: usize, second: &Signal) -> bool
+    ensures { result ≡ do_records_meet first.now.every first.now.most first.now.place place first.now.signal.now second.now }
+{
+    let meets = comes_onto(first.every, first.most, first.signal, second);
+    if second.is_repeated() {
+        first.place <= place && (meets || comes_onto(first.every, first.most, second, first.signal))
+    } else {
+        meets
+    }
+}
+
+impl Rule<Signal> for RepeatedSignal<'_> {
+    ghost use Rattle.j39_findings.specs.declared.checking.finding.Finding.TheVariants.{RecordOverlap};
+
+    ghost gives = { λ rule t other.
+        found_if (do_records_meet rule.every rule.most rule.place t rule.signal.now other) (RecordOverlap rule.group rule.place t) };
+
+    fn find(
+        &self,
+        findings: &mut Vec<Finding>,
+        place: usize,
+        other: &Signal,
+    ) -> Result<(), AllocError> {
+        push_if(
+            findings,
+            do_records_meet(self, place, other),
+            Finding::RecordOverlap(self.group, self.place, place),
+        )
+    }
+}
+
+// The signals of a group of records.
+#[derive(Clone, Copy)]
+struct RecordSignals<'a> {
+    every: u8,
+    most: u16,
+    group: usize,
+    signals: &'a [Signal],
+    ghost every_positive: { 1 ≤ every },
+}
+
+impl Rule<Signal> for RecordSignals<'_> {
+    ghost gives = { λ rule s signal. overlaps_of rule.every rule.most rule.group rule.signals.now s signal };
+
+    fn find(
+        &self,
+        findings: &mut Vec<Finding>,
+        place: usize,
+        signal: &Signal,
+    ) -> Result<(), AllocError> {
+        if !signal.is_repeated() {
+            return Ok(());
+        }
+        let rule = RepeatedSignal {
+            every: self.every,
+            most: self.most,
+            group: self.group,
+            place,
+            signal,
+        };
+        find_each(findings, &rule, self.signals)
+    }
+}
+
+#[derive(Clone, Copy)]
+struct Records;
+
+impl Rule<GroupPlan> for Records {
+    ghost gives = { λ _ g group. group_overlaps g group };
+
+    fn find(
+        &self,
+        findings: &mut Vec<Finding>,
+        place: usize,
+        group: &GroupPlan,
+    ) -> Result<(), AllocError> {
+        let Some(every) = group.every else {
+            return Ok(());
+        };
+        let rule = RecordSignals {
+            every,
+            most: group.most,
+            group: place,
+            signals: group.signals.as_slice(),
+        };
+        find_each(findings, &rule, &group.signals)
+    }
+}
+
+/// Adds the signals that later records come onto.
+#[tactic(auto, unfolding(crate::specs::Found::record_findings))]
+pub fn find_in_records(findings: &mut Vec<Finding>, groups: &[GroupPlan]) -> Result<(), AllocError>
+    ensures { Adds result findings.old.items findings.new.items (record_findings groups.now) }
+{
+    find_each(findings, &Records, groups)
+}

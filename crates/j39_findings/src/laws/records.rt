@@ -1,0 +1,13 @@
+//! The laws of records.
+ghost use Rattle.j39_findings.specs.declared.plan.Plan.{Plan};
+ghost use Rattle.j39_findings.specs.Records.{HasNoRecords, IsWithoutRecords, RecordsAreCounted};
+
+/// The records of a message are those that have signals and end inside it.
+pub fn records_are_counted()
+    ensures { RecordsAreCounted }
+{}
+
+/// Of a plan without records F14 says nothing, and each message has the signals of its group.
+pub fn plans_without_records()
+    ensures { (plan : Plan) → HasNoRecords plan → IsWithoutRecords plan }
+{}

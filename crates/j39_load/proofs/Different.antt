@@ -1,0 +1,177 @@
+-- Two flows of a clean plan whose messages go in one frame have two identifiers, while units hold different addresses.
+use Rattle.std.proofs.Common.{◌≡◌, ◌≢◌, ℕ, ◌+◌, ◌*◌, ◌^◌, ◌%◌, ◌<◌, ◌≤◌, Bool, true, false, if◌then◌else◌, inl, inr, Some}
+use Rattle.std.proofs.Common.{refl, sym, ap, ◌∙◌, subst, arith}
+use Rattle.std.proofs.lemmas.Bool.{cases_eq, cases_lt, leb-false, leb-true, true≢false}
+use Rattle.std.proofs.lemmas.Option.{get_or_from_slice_get, slice_get_within}
+use Rattle.std.specs.List.{slice_get}
+use Rattle.j39_id.specs.Ident.{identifier_of}
+use Rattle.j39_id.specs.Pgn.{is_pdu2, pf_of}
+use Rattle.j39_findings.specs.CleanParts.{CanBePlanned}
+use Rattle.j39_findings.specs.Findings.{Clean}
+use Rattle.j39_findings.specs.declared.checking.finding.Finding.TheVariants.{FlowRepeated, FlowToOne}
+use Rattle.j39_findings.specs.declared.plan.Plan.{Plan}
+use Rattle.j39_findings.specs.declared.plan.flow_plan.FlowPlan.{FlowPlan}
+use Rattle.j39_findings.specs.declared.plan.group_plan.GroupPlan.{GroupPlan}
+use Rattle.j39_findings.specs.declared.plan.to.To.{To}
+use Rattle.j39_findings.specs.declared.plan.to.To.TheVariants.{All as ToAll, One}
+use Rattle.j39_findings.proofs.CleanLaws.{parts_of}
+use Rattle.j39_findings.proofs.PrivateGroups.{one_fits}
+use Rattle.j39_load.specs.Ranks.{AreHeldApart, IsShortFlow, destination_held, frame_ident}
+
+-- an identifier tells its group, its source, and in PDU1 its destination
+tells : (p q n m d e s t : ℕ) → n < 131072 → m < 131072 → d < 256 → e < 256 → s < 256 → t < 256 → (pf_of n < 240 → n % 256 ≡ 0)
+    → (pf_of m < 240 → m % 256 ≡ 0) → identifier_of p n d s ≡ identifier_of q m e t → (n ≡ m) × (s ≡ t) × (is_pdu2 n ≡ false → d ≡ e)
+tells p q n m d e s t n_few m_few d_few e_few s_few t_few n_low m_low = go (is_pdu2 n) (is_pdu2 m) refl refl
+  where
+    go : (a b : Bool) → is_pdu2 n ≡ a → is_pdu2 m ≡ b
+        → p * 2 ^ 26 + n * 2 ^ 8 + (if a then 0 else d * 2 ^ 8) + s ≡ q * 2 ^ 26 + m * 2 ^ 8 + (if b then 0 else e * 2 ^ 8) + t
+        → (n ≡ m) × (s ≡ t) × (a ≡ false → d ≡ e)
+    go true true is_n is_m same = (omega arith, omega arith, λ no. absurd (true≢false no))
+    go true false is_n is_m same =
+        let high : 240 ≤ pf_of n = leb-true 240 (pf_of n) is_n in
+        let below : pf_of m < 240 = leb-false 240 (pf_of m) is_m in
+        let low : m % 256 ≡ 0 = m_low below in
+        let whole : n ≡ m + e = omega (arith, same, n_few, m_few, e_few, s_few, t_few) in
+        absurd (omega (arith, high, below, low, whole, e_few))
+    go false true is_n is_m same =
+        let high : 240 ≤ pf_of m = leb-true 240 (pf_of m) is_m in
+        let below : pf_of n < 240 = leb-false 240 (pf_of n) is_n in
+        let low : n % 256 ≡ 0 = n_low below in
+        let whole : m ≡ n + d = omega (arith, same, n_few, m_few, d_few, s_few, t_few) in
+        absurd (omega (arith, high, below, low, whole, d_few))
+    go false false is_n is_m same =
+        let low_n : n % 256 ≡ 0 = n_low (leb-false 240 (pf_of n) is_n) in
+        let low_m : m % 256 ≡ 0 = m_low (leb-false 240 (pf_of m) is_m) in
+        let whole : n + d ≡ m + e = omega (arith, same, n_few, m_few, d_few, e_few, s_few, t_few) in
+        let sources : s ≡ t = omega (arith, same, whole, s_few, t_few) in
+        (omega (arith, low_n, low_m, whole, d_few, e_few), sources, λ _. omega (arith, low_n, low_m, whole, d_few, e_few))
+
+module _ (plan : Plan) (clean : Clean plan) (on : ℕ → Bool) (held : ℕ → ℕ) (apart : AreHeldApart on held) where
+  planned : (g : ℕ) (group : GroupPlan) → slice_get plan.groups.items g ≡ Some group → CanBePlanned group
+  planned g group at = subst CanBePlanned (get_or_from_slice_get plan.groups.items g group group at)
+      ((parts_of plan clean).groups g group (slice_get_within plan.groups.items g group at))
+
+  one_unit : (u v : ℕ) → on u ≡ true → on v ≡ true → held u ≡ held v → u ≡ v
+  one_unit u v on_u on_v same = elim (cases_eq u v) [ inl is ↦ is | inr other ↦ absurd (apart.apart u v other on_u on_v same) ]
+
+  one_receiver : (to other : To) → ((v : ℕ) → to ≡ One v → on v ≡ true) → ((v : ℕ) → other ≡ One v → on v ≡ true)
+      → destination_held held to ≡ destination_held held other → to ≡ other
+  one_receiver ToAll ToAll on_to on_other same = refl
+  one_receiver ToAll (One v) on_to on_other same = absurd (let low = apart.range v (on_other v refl) in omega (arith, low, same))
+  one_receiver (One v) ToAll on_to on_other same = absurd (let low = apart.range v (on_to v refl) in omega (arith, low, same))
+  one_receiver (One u) (One v) on_to on_other same = ap One (one_unit u v (on_to u refl) (on_other v refl) same)
+
+  few : (to : To) → ((v : ℕ) → to ≡ One v → on v ≡ true) → destination_held held to < 256
+  few ToAll known = omega arith
+  few (One v) known = let low = apart.range v (known v refl) in omega (arith, low)
+
+  module _ (f : ℕ) (flow : FlowPlan) (group : GroupPlan) (is : IsShortFlow plan on f flow group) where
+    -- where its frame names no destination it goes to all
+    to_all : is_pdu2 group.pgn ≡ true → (to : To) → flow.to ≡ to → to ≡ ToAll
+    to_all pdu2 ToAll same = refl
+    to_all pdu2 (One v) same = absurd (clean (FlowToOne f) (record {
+      value = flow;
+      value_is = is.its;
+      meets = (
+        (v, same),
+        record {
+          value = group;
+          value_is = is.sent;
+          meets = (leb-true 240 (pf_of group.pgn) pdu2, leb-true group.most 8 is.short);
+        },
+      );
+    }))
+
+  module _ (f h : ℕ) (flow other : FlowPlan) (group second : GroupPlan) (is : IsShortFlow plan on f flow group)
+      (its : IsShortFlow plan on h other second) (same : frame_ident held group flow ≡ frame_ident held second other) where
+    told : (group.pgn ≡ second.pgn) × (held flow.sender ≡ held other.sender)
+        × (is_pdu2 group.pgn ≡ false → destination_held held flow.to ≡ destination_held held other.to)
+    told =
+        let can = planned flow.group group is.sent in
+        let may = planned other.group second its.sent in
+        let low = apart.range flow.sender is.sender in
+        let less = apart.range other.sender its.sender in
+        tells group.priority second.priority group.pgn second.pgn (destination_held held flow.to) (destination_held held other.to) (held flow.sender)
+        (held other.sender) can.page may.page (few flow.to is.receiver) (few other.to its.receiver) (omega (arith, low)) (omega (arith, less))
+        can.group.low may.group.low same
+
+    to_one_place : flow.to ≡ other.to
+    to_one_place = go (is_pdu2 group.pgn) refl
+      where
+        go : (b : Bool) → is_pdu2 group.pgn ≡ b → flow.to ≡ other.to
+        go true pdu2 = to_all f flow group is pdu2 flow.to refl
+            ∙ sym (to_all h other second its (ap is_pdu2 (sym told.0) ∙ pdu2) other.to refl)
+        go false pdu1 = one_receiver flow.to other.to is.receiver its.receiver (told.2 pdu1)
+
+    senders : flow.sender ≡ other.sender
+    senders = one_unit flow.sender other.sender is.sender its.sender told.1
+
+    groups : flow.group ≡ other.group
+    groups = one_fits plan clean group.pgn flow.sender flow.to flow.group other.group
+        (record {
+          value = group;
+          value_is = is.sent;
+          meets = record {
+            number = refl;
+            fits = (
+              f,
+              record {
+                value = flow;
+                value_is = is.its;
+                meets = record {
+                  sends = record { value = group; value_is = is.sent; meets = refl };
+                  from = refl;
+                  reaches = inl refl;
+                };
+              },
+            );
+          };
+        })
+        (record {
+          value = second;
+          value_is = its.sent;
+          meets = record {
+            number = sym told.0;
+            fits = (
+              h,
+              record {
+                value = other;
+                value_is = its.its;
+                meets = record {
+                  sends = record { value = second; value_is = its.sent; meets = refl };
+                  from = sym senders;
+                  reaches = inl (sym to_one_place);
+                };
+              },
+            );
+          };
+        })
+
+  pub different : (f h : ℕ) (flow other : FlowPlan) (group second : GroupPlan) → f ≢ h → IsShortFlow plan on f flow group
+      → IsShortFlow plan on h other second → frame_ident held group flow ≢ frame_ident held second other
+  different f h flow other group second apart is its same = elim (cases_lt f h) [
+    | inl before ↦ clean (FlowRepeated f h) (record {
+      first = flow;
+      second = other;
+      below = before;
+      first_is = is.its;
+      second_is = its.its;
+      related = (
+        groups f h flow other group second is its same,
+        senders f h flow other group second is its same,
+        to_one_place f h flow other group second is its same,
+      );
+    })
+    | inr after ↦ clean (FlowRepeated h f) (record {
+      first = other;
+      second = flow;
+      below = omega (arith, after, apart);
+      first_is = its.its;
+      second_is = is.its;
+      related = (
+        sym (groups f h flow other group second is its same),
+        sym (senders f h flow other group second is its same),
+        sym (to_one_place f h flow other group second is its same),
+      );
+    })
+  ]

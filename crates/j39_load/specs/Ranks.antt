@@ -1,0 +1,57 @@
+-- Between which identifiers the frames of a flow lie, whatever addresses the units of a plan come to hold.
+use Rattle.std.specs.Prelude.{◌≡◌, ◌≢◌, ℕ, ◌<◌, ◌≤◌, ◌⊎◌, Bool, true, false, length, Some}
+use Rattle.std.specs.List.{slice_get}
+use Rattle.j39_id.specs.Addresses.{global_address, in_pool}
+use Rattle.j39_id.specs.Ident.{identifier_of}
+use Rattle.j39_id.specs.Services.{data_transfer, transport_priority}
+use Rattle.j39_findings.specs.declared.plan.Plan.{Plan}
+use Rattle.j39_findings.specs.declared.plan.flow_plan.FlowPlan.{FlowPlan}
+use Rattle.j39_findings.specs.declared.plan.group_plan.GroupPlan.{GroupPlan}
+use Rattle.j39_findings.specs.declared.plan.to.To.{To}
+use Rattle.j39_findings.specs.declared.plan.to.To.TheVariants.{All, One}
+use Rattle.j39_findings.specs.declared.plan.unit_plan.UnitPlan.{UnitPlan}
+use Rattle.j39_load.specs.Loads.{greatest_address, has_short, ident_at, is_short, least_address}
+use Rattle.j39_world.specs.PlannedUnits.{unit_at, units_of}
+use Rattle.j39_world.specs.Staying.{Stays}
+
+-- each unit of the plan holds its planned address, or one of the pool where it doesn't stay
+abbrev pub AreHeldByPlan : Plan → (ℕ → ℕ) → Type 0
+AreHeldByPlan plan held = (u : ℕ) → u < length plan.units.items
+    → (held u ≡ (unit_at (units_of plan) u).preferred) ⊎ ((in_pool (held u) ≡ true) × ¬ Stays (units_of plan) u)
+
+-- the address that a message goes to
+abbrev pub destination_held : (ℕ → ℕ) → To → ℕ
+destination_held held All = global_address
+destination_held held (One v) = held v
+
+-- the identifier of a flow's frames of its group
+abbrev pub frame_ident : (ℕ → ℕ) → GroupPlan → FlowPlan → ℕ
+frame_ident held group flow = identifier_of group.priority group.pgn (destination_held held flow.to) (held flow.sender)
+
+-- the identifier of the packets of a flow's long messages
+abbrev pub data_ident : (ℕ → ℕ) → FlowPlan → ℕ
+data_ident held flow = identifier_of transport_priority data_transfer (destination_held held flow.to) (held flow.sender)
+
+-- the units of a flow are those of the plan
+pub record AreUnitsPlanned (plan : Plan) (flow : FlowPlan) : Type 0 where
+  pub sender : flow.sender < length plan.units.items
+  pub receiver : (v : ℕ) → flow.to ≡ One v → v < length plan.units.items
+
+-- the identifiers of a flow's frames lie between the least and the greatest one of the flow; of a long one none is smaller than the least
+pub record LieBetween (plan : Plan) (stays : UnitPlan → Bool) (held : ℕ → ℕ) (group : GroupPlan) (flow : FlowPlan) : Type 0 where
+  pub least : has_short group ≡ true → ident_at plan.units.items (least_address stays) group flow ≤ frame_ident held group flow
+  pub greatest : is_short group ≡ true → frame_ident held group flow ≤ ident_at plan.units.items (greatest_address stays) group flow
+  pub packets : is_short group ≡ false → ident_at plan.units.items (least_address stays) group flow ≤ data_ident held flow
+
+-- of the units that are on each holds an address, and no two of them one
+pub record AreHeldApart (on : ℕ → Bool) (held : ℕ → ℕ) : Type 0 where
+  pub range : (u : ℕ) → on u ≡ true → held u < global_address
+  pub apart : (u v : ℕ) → u ≢ v → on u ≡ true → on v ≡ true → held u ≢ held v
+
+-- the flow at this place, between units that are on, sends each message of this group in one frame
+pub record IsShortFlow (plan : Plan) (on : ℕ → Bool) (place : ℕ) (flow : FlowPlan) (group : GroupPlan) : Type 0 where
+  pub its : slice_get plan.flows.items place ≡ Some flow
+  pub sent : slice_get plan.groups.items flow.group ≡ Some group
+  pub short : is_short group ≡ true
+  pub sender : on flow.sender ≡ true
+  pub receiver : (v : ℕ) → flow.to ≡ One v → on v ≡ true

@@ -1,0 +1,95 @@
+-- Planned frames among all that are on a bus: of which streams they are, between which identifiers, and what else there is.
+use Rattle.j39_timing.specs.declared.stream.Stream.{Stream}
+use Rattle.std.specs.Prelude.{◌≡◌, ◌≢◌, ℕ, ◌+◌, ◌*◌, ◌<◌, ◌≤◌, ◌⊎◌, Bool, true, false, not, ◌&&◌, cond, nat_eq, nat_lt, nat_le}
+use Rattle.j39_timing.specs.Sums.{total}
+use Rattle.j39_timing.specs.Schedule.{Schedule, Waits}
+use Rattle.j39_timing.specs.Streams.{Origins}
+use Rattle.j39_timing.specs.Waits.{share}
+
+-- streams of planned frames, by their places, with their identifiers, which may change
+pub record Traffic : Type 0 where
+  pub count : ℕ
+  pub stream : ℕ → Stream
+  -- no frame of the stream has a smaller identifier
+  pub least : ℕ → ℕ
+  -- and where it is one of single frames, none has a greater one
+  pub greatest : ℕ → ℕ
+
+-- frames of no stream
+pub record Others : Type 0 where
+  -- none has a smaller identifier
+  pub least : ℕ
+  -- how many of them may go before a frame while it waits
+  pub count : ℕ
+
+-- each message of the stream is one frame, queued with it
+abbrev pub IsSingle : Stream → Type 0
+IsSingle stream = (stream.frames ≡ 1) × (stream.spread ≡ 0)
+
+-- the frame is ready at bit t, and hasn't begun before it
+abbrev pub IsQueuedAt : Schedule → ℕ → ℕ → Type 0
+IsQueuedAt s p t = (s.queued p ≤ t) × (t ≤ s.start p)
+
+-- at each bit behind `from`, up to `to`, some planned frame waits whose identifier is c at most
+abbrev pub PlannedFramesWait : Schedule → (ℕ → Bool) → ℕ → ℕ → ℕ → Type 0
+PlannedFramesWait s planned c from to =
+    (t : ℕ) → from < t → t ≤ to → (p : ℕ) × (p < s.count) × (planned p ≡ true) × (s.ident p ≤ c) × Waits s p t
+
+-- the frame isn't planned, has a smaller identifier than c, and is queued at some bit behind `from`, up to `to`
+abbrev pub is_other_queued : Schedule → (ℕ → Bool) → ℕ → ℕ → ℕ → ℕ → Bool
+is_other_queued s planned c from to p =
+    not (planned p) && (nat_lt (s.ident p) c && (nat_le (s.queued p) to && nat_lt from (s.start p)))
+
+-- how many such frames there are
+abbrev pub others_queued : Schedule → (ℕ → Bool) → ℕ → ℕ → ℕ → ℕ
+others_queued s planned c from to = total s.count (λ p. cond (is_other_queued s planned c from to p) 1 0)
+
+-- the planned frames of a schedule are those of the streams, and what else is in it keeps within what is foreseen of others
+pub record IsPlannedTraffic (s : Schedule) (traffic : Traffic) (others : Others) (longest : ℕ) (planned : ℕ → Bool) (of : Origins) : Type 0 where
+  -- no frame is longer
+  pub longest_at_most : (p : ℕ) → p < s.count → s.bits p ≤ longest
+  -- a planned frame is one of a stream, as long as its frames at most, and has its turn in a message
+  pub known : (p : ℕ) → p < s.count → planned p ≡ true → of.source p < traffic.count
+  pub bits_at_most : (p : ℕ) → p < s.count → planned p ≡ true → s.bits p ≤ (traffic.stream (of.source p)).bits
+  pub turns : (p : ℕ) → p < s.count → planned p ≡ true → of.turn p < (traffic.stream (of.source p)).frames
+  -- it is queued with its message, or so many periods behind it at most
+  pub message_first : (p : ℕ) → p < s.count → planned p ≡ true → of.since p ≤ s.queued p
+  pub spread_at_most : (p : ℕ) → p < s.count → planned p ≡ true
+      → s.queued p ≤ of.since p + (traffic.stream (of.source p)).spread * (traffic.stream (of.source p)).period
+  -- two messages of a stream are a period apart: so are two frames that have one turn in them
+  pub spaced : (p q : ℕ) → p < s.count → q < s.count → p ≢ q → planned p ≡ true → planned q ≡ true → of.source p ≡ of.source q
+      → of.turn p ≡ of.turn q
+      → (of.since p + (traffic.stream (of.source p)).period ≤ of.since q) ⊎ (of.since q + (traffic.stream (of.source p)).period ≤ of.since p)
+  -- its identifier is one of the stream's
+  pub from_least : (p : ℕ) → p < s.count → planned p ≡ true → traffic.least (of.source p) ≤ s.ident p
+  pub to_greatest : (p : ℕ) → p < s.count → planned p ≡ true → IsSingle (traffic.stream (of.source p))
+      → s.ident p ≤ traffic.greatest (of.source p)
+  -- while a single frame is queued, nothing that is queued too has its identifier but frames of its stream
+  pub own_identifier : (p q t : ℕ) → p < s.count → q < s.count → t < s.now → planned p ≡ true → IsSingle (traffic.stream (of.source p))
+      → IsQueuedAt s p t → IsQueuedAt s q t → s.ident p ≡ s.ident q → (planned q ≡ true) × (of.source p ≡ of.source q)
+  -- what isn't planned has no smaller identifier than this
+  pub urgency_of_others : (p : ℕ) → p < s.count → planned p ≡ false → others.least ≤ s.ident p
+  -- and while a single frame waits, together with the time before in which planned frames that may go before it wait without a break, no
+  -- more of what isn't planned are queued than so many that may go before it
+  pub few_others : (p from to : ℕ) → p < s.count → planned p ≡ true → IsSingle (traffic.stream (of.source p)) → to < s.now → Waits s p to
+      → PlannedFramesWait s planned (s.ident p) from to → others_queued s planned (s.ident p) from to ≤ others.count
+
+-- frames of stream j may go before those of stream i, whatever identifiers they have
+abbrev pub may_go_before : Traffic → ℕ → ℕ → Bool
+may_go_before traffic i j = not (nat_eq j i) && nat_lt (traffic.least j) (traffic.greatest i)
+
+-- how many frames of others may go before one of this identifier
+abbrev pub others_before : Others → ℕ → ℕ
+others_before others ident = cond (nat_le others.least ident) others.count 0
+
+-- the wait has room for the frame that has begun before, for others, and for what the streams that may go before can queue in it and in
+-- the bit behind
+abbrev pub HasRoom : Traffic → Others → ℕ → ℕ → ℕ → Type 0
+HasRoom traffic others longest i wait =
+    longest * (1 + others_before others (traffic.greatest i))
+    + total traffic.count (λ j. cond (may_go_before traffic i j) (share (wait + 1) (traffic.stream j)) 0) ≤ wait
+
+-- each frame of the stream begins in time, and so ends in time
+abbrev pub IsStreamInTime : Schedule → (ℕ → Bool) → Origins → ℕ → ℕ → ℕ → Type 0
+IsStreamInTime s planned of i bits wait = (p : ℕ) → p < s.count → planned p ≡ true → of.source p ≡ i → s.queued p + wait < s.now
+    → (s.start p ≤ s.queued p + wait) × (s.start p + s.bits p ≤ s.queued p + (wait + bits))

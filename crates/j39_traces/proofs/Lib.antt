@@ -1,0 +1,4 @@
+pub mod Identifiers
+pub mod Logs
+pub mod Standing
+pub mod Telling
