@@ -1,263 +1,249 @@
 #!/usr/bin/python3
-"""Says where a log isn't as a plan has it: senders, NAMEs and addresses, groups, lengths, priorities, flows.
+"""Says where a log isn't as a plan has it: senders, NAMEs and addresses, groups, lengths, priorities, flows and their periods.
 
-The log is one of candump -L. What a frame is and which NAMEs and addresses the plan's units have is asked of the program. Each
-deviation is told once, at its first line, with how often it was met; services of the network, and proprietary groups that aren't
-planned, are none.
+The log is one of candump -L. Who sent what, and which flow it was, is what `j39plan follow` reports. Each deviation is told once, at
+its first line, with how often it was met; services of the network, and proprietary groups that aren't planned, are none.
 """
 
+import argparse
 import re
-import shlex
-from collections.abc import Iterable, Iterator
-from functools import cache
+from collections.abc import Iterator
 from typing import NamedTuple
 
 import program
-from candump import Line, Log
-from holders import Holders, Unit
-from j1939 import (
-    ADDRESS_CLAIMED, CONNECTION_MANAGEMENT, DATA_TRANSFER, GLOBAL_ADDRESS, NULL_ADDRESS, OTHER_SERVICES, PROPRIETARY, REQUEST,
-    SERVICES,
-)
-from toml_places import Places, places_of
-from transfers import Transfer, Transfers, Way
-
-ROUTE = re.compile(r"priority (\d) pgn (\d+) from (\d+) to (\d+|all)( other)?")
+from j1939 import ADDRESS_CLAIMED, NULL_ADDRESS, OTHER_SERVICES, PROPRIETARY, SERVICES
+from marks import Feed, Mark
+from plan_tables import Flow, Group, Tables
+from reports import Claim, Counts, Message, Report, Request, Who, follow, tables_of
 
 # Groups that nobody plans.
 UNPLANNED = SERVICES | OTHER_SERVICES | PROPRIETARY
 
+# A time in seconds, as a log spells it, and nanoseconds in a second and a millisecond.
+TIME = re.compile(r"\((\d+)(?:\.(\d*))?\)")
+SECOND, MILLISECOND = 10**9, 10**6
 
-class Meaning(NamedTuple):
-    """What a frame says: where to is an address, 255 for all; the NAME is that of a claim, else None."""
-
-    priority: int
-    pgn: int
-    source: int
-    destination: int
-    name: str | None
-
-
-class Message(NamedTuple):
-    """A message that was sent: its group's number, its length in bytes, from where and from whom to whom; the priority of one that
-    came in one frame, else None."""
-
-    pgn: int
-    length: int
-    source: int
-    way: Way
-    priority: int | None
-
-
-class Group(NamedTuple):
-    """A planned group."""
-
-    label: str
-    pgn: int
-    length: int
-    priority: int
-    private: bool
-    most: int
-
-    def has(self, length: int) -> bool:
-        """Whether it has messages of this length."""
-        return self.length <= length <= self.most
-
-    def lengths(self) -> str:
-        """Its lengths as a text."""
-        return str(self.length) if self.length == self.most else f"{self.length} to {self.most}"
-
+# The most bytes of a message that comes in one frame.
+FRAME = 8
 
 # Group, sender and destination.
-Flow = tuple[str, str, str]
+Way = tuple[str, str, str]
 
 
-@cache
-def meant(identifier: str, digits: str = "") -> Meaning | None:
-    """What a frame says of which this is the identifier and, as far as it is wanted, the data; None of one that isn't of J1939."""
-    status, answer = program.call(["frame", f"{identifier}#{digits}"])
-    found = ROUTE.match(answer.split("\n")[1]) if status == 0 else None
-    if found is None or found.group(5):
-        return None
-    name = re.search(r" name ([0-9A-F]{16})$", answer, re.MULTILINE)
-    priority, pgn, source = map(int, found.groups()[:3])
-    destination = GLOBAL_ADDRESS if found.group(4) == "all" else int(found.group(4))
-    return Meaning(priority, pgn, source, destination, name.group(1) if name else None)
+class Begun(NamedTuple):
+    """An announced message: the line and the time of its announcement, and what it is and from whom to whom."""
+
+    line: int
+    time: str
+    text: str
 
 
-def may_be_nobody(said: Meaning, digits: str) -> bool:
-    """Whether a frame may come from a unit without an address: a claim, or a request for claims from 254 (SAE J1939-81)."""
-    if said.pgn == REQUEST and said.source == NULL_ADDRESS:
-        return bytes.fromhex(digits)[:3] == ADDRESS_CLAIMED.to_bytes(3, "little")
-    return said.pgn == ADDRESS_CLAIMED
+class Nearest(NamedTuple):
+    """The least distance of two messages of a flow in nanoseconds, the line of the second one, and how often messages came nearer
+    than they may."""
+
+    distance: int
+    line: int
+    count: int
 
 
-def planned_units(plan: str) -> Iterator[Unit]:
-    """The units of a plan, by what each claims when it is switched on."""
-    labels = program.labels_of(plan)
-    for label, frame in zip(labels, program.run(plan, [f"up {label}" for label in labels])):
-        said = meant(*frame.split("#"))
-        assert said is not None and said.name is not None
-        yield Unit(label, said.name, said.source, int(said.name, 16) >> 63 == 1)
+def nanoseconds(time: str) -> int | None:
+    """A time of a log; None where there is none."""
+    found = TIME.fullmatch(time)
+    return int(found.group(1)) * SECOND + int(f"{found.group(2) or '':0<9.9}") if found else None
 
 
-def planned_groups(places: Places) -> dict[int, list[Group]]:
-    """The groups of a plan by PGN."""
-    groups: dict[int, list[Group]] = {}
-    for place in places.elements(("group",)):
-        pgn, length, priority = (places.integer(place + (key,)) for key in ("pgn", "length", "priority"))
-        private = places.spelled.get(place + ("private",)) == "true"
-        most = places.number(place + ("most",)) or length
-        groups.setdefault(pgn, []).append(Group(places.texts[place + ("label",)], pgn, length, priority, private, most))
-    return groups
+def milliseconds(duration: int) -> str:
+    """A duration in nanoseconds, in ms."""
+    text = f"{duration // MILLISECOND}.{duration % MILLISECOND:06}"
+    return text.rstrip("0").rstrip(".")
 
 
-def planned_flows(places: Places) -> list[Flow]:
-    """The flows of a plan: group, sender and destination."""
-    flows = places.elements(("flow",))
-    return [(places.texts[flow + ("group",)], places.texts[flow + ("from",)], places.texts[flow + ("to",)]) for flow in flows]
+def lengths_of(group: Group) -> str:
+    """The lengths of a group's messages as a text."""
+    return str(group.length) if group.length == group.most else f"{group.length} to {group.most}"
+
+
+class Distances:
+    """How near messages of flows with a period come. What a flow has begun in the order of the log counts; where times go back, from
+    there on."""
+
+    def __init__(self, flows: list[Flow], jitter: int) -> None:
+        self._flows, self._jitter = flows, jitter
+        self._last: dict[int, int] = {}
+        self.nearest: dict[int, Nearest] = {}
+        self.without_time = False
+
+    def sent(self, number: int, line: int, time: str) -> None:
+        """A message of a flow, by when it began."""
+        period = self._flows[number - 1].period
+        if period is None:
+            return
+        at = nanoseconds(time)
+        if at is None:
+            self.without_time = True
+            return
+        last = self._last.get(number)
+        self._last[number] = at
+        if last is None or not 0 <= at - last < period * MILLISECOND - self._jitter:
+            return
+        known = self.nearest.get(number, Nearest(at - last, line, 0))
+        if at - last < known.distance:
+            known = Nearest(at - last, line, known.count)
+        self.nearest[number] = known._replace(count=known.count + 1)
 
 
 class Comparison:
     """What was met in a log that isn't as the plan has it."""
 
-    def __init__(self, places: Places, units: list[Unit]) -> None:
-        self.units = {unit.name: unit for unit in units}
-        self.groups = planned_groups(places)
-        self.planned = planned_flows(places)
-        self.sent = dict.fromkeys(self.planned, 0)
-        self.holders = Holders(units)
-        self.transfers = Transfers()
-        self.judgements: dict[Message, tuple[Flow | None, list[str]]] = {}
+    def __init__(self, tables: Tables, jitter: int = 0) -> None:
+        self.flows = tables.flows
+        self.units = {unit.label: unit for unit in tables.units}
+        self.groups: dict[int, list[Group]] = {}
+        for group in tables.groups:
+            self.groups.setdefault(group.pgn, []).append(group)
+        self.priorities = {group.label: group.priority for group in tables.groups}
+        self.sent: dict[Way, int] = {(flow.group, flow.sender, flow.to): 0 for flow in tables.flows}
+        self.distances = Distances(tables.flows, jitter)
         self.met: dict[str, tuple[int, int]] = {}
+        self._begun: dict[tuple[Who, Who], Begun] = {}
+        self._reported = 0  # the line of the last message that came without an announcement
 
     def tell(self, line: int, text: str) -> None:
         """Notes a deviation, or that it was met again."""
         first, count = self.met.get(text, (line, 0))
         self.met[text] = min(first, line), count + 1
 
-    def unit_at(self, address: int) -> str | None:
-        """The label of the planned unit that holds an address, or None."""
-        name = self.holders.name_at(address)
-        return self.units[name].label if name in self.units else None
-
-    def receiver(self, destination: int) -> str:
-        """Who an address stands for where something is sent to it."""
-        return "all" if destination == GLOBAL_ADDRESS else self.unit_at(destination) or str(destination)
-
-    def claim(self, line: int, name: str, address: int) -> None:
-        """A claim of an address, or that none was found. What goes on at an address that changes hands comes to nothing."""
-        for other in self.holders.claim(name, address):
-            self.end(self.transfers.left(other))
-        unit = self.units.get(name)
+    def claim(self, line: int, who: Who) -> None:
+        """A claim of an address, or that none was found."""
+        claims = "could not claim an address" if who.address is None else f"claims address {who.address}"
+        unit = self.units.get(who.label or "")
         if unit is None:
-            self.tell(line, f"NAME {name} claims address {address}: no unit has it")
-        elif address == NULL_ADDRESS:
-            self.tell(line, f"{unit.label} could not claim an address")
-        elif address != unit.address and not unit.may_choose:
-            self.tell(line, f"{unit.label} claims address {address}, planned is {unit.address}")
+            self.tell(line, f"NAME {who.name} {claims}: no unit has it")
+        elif who.address is None:
+            self.tell(line, f"{unit.label} {claims}")
+        elif who.address != unit.address and not unit.may_choose:
+            self.tell(line, f"{unit.label} {claims}, planned is {unit.address}")
 
-    def group_of(self, pgn: int, length: int, way: Way) -> Group | None:
-        """The group of a message: one of its length rather than others of its PGN, and of these one that a flow sends this way. A
-        private one only where a flow does."""
-        groups = [group for group in self.groups.get(pgn, []) if not group.private or (group.label, *way) in self.sent]
-        groups = [group for group in groups if group.has(length)] or groups[:1]
-        return next((group for group in groups if (group.label, *way) in self.sent), groups[0] if groups else None)
+    def sender(self, line: int, sender: Who) -> None:
+        """Who sent something."""
+        if sender.label is None:
+            self.tell(line, f"address {sender.address} sends: no unit has it")
 
-    def judged(self, message: Message) -> tuple[Flow | None, list[str]]:
-        """The flow that sends a message, and what isn't as planned of it."""
-        pgn, length, source, (who, to), priority = message
-        group = self.group_of(pgn, length, (who, to))
-        if group is None:
-            return None, [] if pgn in UNPLANNED else [f"PGN {pgn} from {who or source}: no group has it"]
-        texts = []
-        if not group.has(length):
-            texts.append(f"{group.label} from {who or source} has {length} bytes, planned are {group.lengths()}")
-        if priority not in (None, group.priority):
-            texts.append(f"{group.label} from {who or source} has priority {priority}, planned is {group.priority}")
-        flow = (group.label, who, to) if who else None
-        if flow and flow not in self.sent:
-            return None, [*texts, f"{group.label} from {who} to {to}: no flow"]
-        return flow, texts
+    def message(self, message: Message) -> None:
+        """A message of a planned group."""
+        line, time, group, sender, to = message[:5]
+        begun = self._begun.pop((sender, to), None) if len(message.data) > 2 * FRAME else None
+        if begun:
+            line, time = begun.line, begun.time
+        else:
+            self._reported = line
+            self.sender(line, sender)
+        if message.priority is not None:
+            planned = self.priorities[group]
+            self.tell(line, f"{group} from {sender.shown} has priority {message.priority}, planned is {planned}")
+        if message.flow:
+            flow = self.flows[message.flow - 1]
+            self.sent[flow.group, flow.sender, flow.to] += 1
+            self.distances.sent(message.flow, line, time)
+        elif sender.label:
+            self.tell(line, f"{group} from {sender.label} to {to.shown}: no flow")
 
-    def message(self, line: int, message: Message) -> None:
-        """A message that was sent, in one frame or carried whole."""
-        if message not in self.judgements:
-            self.judgements[message] = self.judged(message)
-        flow, texts = self.judgements[message]
-        if flow:
-            self.sent[flow] += 1
-        for text in texts:
-            self.tell(line, text)
+    def group_of(self, mark: Mark, sender: Who, to: Who) -> Group | None:
+        """The group of a message: of those of its number one of its length, else the first; a private one only where a flow sends it
+        so."""
+        groups = [group for group in self.groups.get(mark.pgn, [])
+                  if not group.private or (group.label, sender.label, to.shown) in self.sent]
+        return next((group for group in groups if group.length <= mark.length <= group.most), groups[0] if groups else None)
 
-    def end(self, transfers: list[Transfer]) -> None:
-        """Transfers that have ended."""
-        for transfer in transfers:
-            source, (who, to) = transfer.pair[0], transfer.way
-            group = self.group_of(transfer.pgn, transfer.size, transfer.way)
-            if transfer.is_whole:
-                self.message(transfer.line, Message(transfer.pgn, transfer.size, source, transfer.way, None))
-            elif group or transfer.pgn not in UNPLANNED:
-                what = group.label if group else f"PGN {transfer.pgn}"
-                self.tell(transfer.line, f"{what} from {who or source} to {to}: announced, and not carried whole")
-
-    def frame(self, line: int, said: Meaning, digits: str) -> None:
-        """A frame of the log."""
-        if said.name:
-            self.claim(line, said.name, said.source)
+    def marked(self, request: Request, mark: Mark) -> None:
+        """A frame that isn't surely reported, or the announcement of a message; the request says who sent it."""
+        line, time, _, sender, to = request
+        if mark.is_announcement and mark.is_sound:
+            self.end(self._begun.pop((sender, to), None))
+        elif line == self._reported:
             return
-        way = self.unit_at(said.source), self.receiver(said.destination)
-        if way[0] is None and not may_be_nobody(said, digits):
-            self.tell(line, f"address {said.source} sends: no unit has it")
-        if len(digits) == 16 and said.pgn in (CONNECTION_MANAGEMENT, DATA_TRANSFER):
-            pair, packet = (said.source, said.destination), bytes.fromhex(digits)
-            managed = said.pgn == CONNECTION_MANAGEMENT
-            self.end(self.transfers.managed(line, pair, way, packet) if managed else self.transfers.data(pair, packet[0]))
-        self.message(line, Message(said.pgn, len(digits) // 2, said.source, way, said.priority))
+        self.request(request)
+        group = self.group_of(mark, sender, to)
+        if group is None:
+            if mark.pgn not in UNPLANNED:
+                self.tell(line, f"PGN {mark.pgn} from {sender.shown}: no group has it")
+        elif not group.length <= mark.length <= group.most:
+            self.tell(line, f"{group.label} from {sender.shown} has {mark.length} bytes, planned are {lengths_of(group)}")
+            way = group.label, sender.label or "", to.shown
+            if way in self.sent and not mark.is_announcement:
+                self.sent[way] += 1
+        elif mark.is_announcement:
+            begun = Begun(line, time, f"{group.label} from {sender.shown} to {to.shown}")
+            if mark.is_sound:
+                self._begun[sender, to] = begun
+            else:
+                self.end(begun)
+
+    def request(self, request: Request) -> None:
+        """A request: of claims one may be from a unit without an address."""
+        if (request.sender.address, request.pgn) != (NULL_ADDRESS, ADDRESS_CLAIMED):
+            self.sender(request.line, request.sender)
+
+    def end(self, begun: Begun | None) -> None:
+        """A message that comes to nothing, if there is one."""
+        if begun:
+            self.tell(begun.line, f"{begun.text}: announced, and not carried whole")
+
+    def report(self, report: Report, mark: Mark | None) -> None:
+        """A report, of a frame of the log or of a mark."""
+        if isinstance(report, Claim):
+            self.claim(report.line, report.who)
+        elif isinstance(report, Message):
+            self.message(report)
+        elif mark:
+            self.marked(report, mark)
+        else:
+            self.request(report)
 
     def deviations(self) -> Iterator[tuple[int | None, str, int]]:
         """Line, text and count of each deviation, in the order of the lines; a flow that was never met has no line."""
-        for text, (line, count) in sorted(self.met.items(), key=lambda met: met[1][0]):
-            yield line, text, count
-        for number, (group, sender, to) in enumerate(self.planned, 1):
-            if self.sent[group, sender, to] == 0:
-                yield None, f"flow {number}, {group} from {sender} to {to}: never sent", 0
+        for begun in self._begun.values():
+            self.end(begun)
+        found = [(line, text, count) for text, (line, count) in self.met.items()]
+        for number, nearest in self.distances.nearest.items():
+            flow = self.flows[number - 1]
+            text = f"{milliseconds(nearest.distance)} ms behind the one before, its period is {flow.period} ms"
+            found.append((nearest.line, f"flow {number}, {flow.group} from {flow.sender} to {flow.to}: {text}", nearest.count))
+        yield from sorted(found, key=lambda deviation: deviation[0])
+        for number, flow in enumerate(self.flows, 1):
+            if self.sent[flow.group, flow.sender, flow.to] == 0:
+                yield None, f"flow {number}, {flow.group} from {flow.sender} to {flow.to}: never sent", 0
 
 
-def compare(plan: str, frames: Iterable[Line]) -> Comparison:
-    """The comparison of the frames of a log with a plan."""
-    comparison = Comparison(places_of(plan), list(planned_units(plan)))
-    for line, identifier, digits in frames:
-        said = meant(identifier)
-        if said and said.pgn == ADDRESS_CLAIMED:
-            said = meant(identifier, digits)
-        if said:
-            comparison.frame(line, said, digits)
-    comparison.end(comparison.transfers.end())
-    return comparison
-
-
-def say_what_was_passed_over(log: Log, name: str) -> None:
-    """Says on standard error which lines of a log aren't compared, and what to do."""
-    name = shlex.quote(name)
-    if log.bad:
-        mend = f"; words behind the data go by: sed -E 's/ [RT]\\r?$//' {name} > mended.log" if log.marked else ""
-        program.say(f"{log.bad} lines spell no frame{mend}")
-    if log.interface and log.elsewhere:
-        kept = log.interface.decode(errors="replace")
-        program.say(f"only frames of {kept} are compared; {log.elsewhere} of other interfaces are passed over")
+def jitter_of(text: str) -> int:
+    """A duration in ms, as nanoseconds."""
+    found = re.fullmatch(r"(\d{1,9})(?:\.(\d{1,6}))?", text)
+    if found is None:
+        raise argparse.ArgumentTypeError(f"{text} is no time in ms")
+    return int(found.group(1)) * MILLISECOND + int(f"{found.group(2) or '':0<6}")
 
 
 def main(words: list[str] | None = None) -> int:
     """Writes the deviations; 0 where there is none, 1 where there is one."""
     parser = program.parser(__doc__)
+    parser.epilog = "example: %(prog)s --jitter 2.5 plan.toml drive.log"
+    parser.add_argument("--jitter", metavar="MS", type=jitter_of, default=0,
+                        help="by how much messages may come nearer than their flow's period, in ms (0)")
     parser.add_argument("plan", metavar="PLAN", help="the name of a plan file")
     parser.add_argument("log", metavar="LOG", help="the name of a file as candump -L writes it")
     given = parser.parse_args(words)
-    log = Log()
+    counts = Counts()
     with program.copied(given.plan) as plan, open(given.log, "rb") as file:
-        comparison = compare(plan, log.frames(file))
-    say_what_was_passed_over(log, given.log)
+        tables = tables_of(plan)
+        feed, comparison = Feed(tables.groups), Comparison(tables, given.jitter)
+        for report in follow(plan, file, tables, counts, feed.pieces):
+            line, mark = feed.place(report)
+            comparison.report(report._replace(line=line), mark)
+    counts.elsewhere -= feed.unread
+    counts.say()
+    if comparison.distances.without_time:
+        program.say("the log has no times by which the periods of flows could be compared")
     found = list(comparison.deviations())
     for line, text, count in found:
         place = given.plan if line is None else f"{given.log}:{line}"

@@ -7,22 +7,18 @@ from collections.abc import Iterable, Iterator
 from dataclasses import dataclass, field
 from typing import NamedTuple
 
+from plan_tables import Unit
 from readings import Row
-from reports import Feed, Origin, Report
+from reports import Claim, Message, Report, Who
 
-# A time in seconds, and one of a clock, as logs spell them.
-SECONDS = re.compile(r"\d+(?:\.\d+)?")
-CLOCK = re.compile(r"(\d+):(\d\d):(\d\d(?:\.\d+)?)")
+# A time in seconds, as logs spell it.
+SECONDS = re.compile(r"\(?(\d+(?:\.\d+)?)\)?")
 
 
-def seconds(origin: Origin) -> float:
+def seconds(line: int, time: str) -> float:
     """The time of a line in seconds; where it has none, its number."""
-    if SECONDS.fullmatch(origin.time):
-        return float(origin.time)
-    clock = CLOCK.fullmatch(origin.time)
-    if clock:
-        return 3600 * int(clock.group(1)) + 60 * int(clock.group(2)) + float(clock.group(3))
-    return float(origin.line)
+    found = SECONDS.fullmatch(time)
+    return float(found.group(1)) if found else float(line)
 
 
 @dataclass
@@ -45,12 +41,12 @@ class Curve:
 
 
 def curves_of(rows: Iterable[Row]) -> list[Curve]:
-    """The curves of a log, by their first points. A text has none."""
+    """The curves of a log, by their first points. A text has none, nor has a signal of a record."""
     curves: dict[tuple[str, str, str], Curve] = {}
     for origin, group, readings in rows:
-        time = seconds(origin)
+        time = seconds(origin.line, origin.time)
         for label, reading in readings:
-            if reading.state == "text":
+            if reading.state == "text" or "[" in label:
                 continue
             key = group, label, origin.sender
             curve = curves.get(key)
@@ -82,32 +78,31 @@ class Span:
 
 
 class Timeline:
-    """Who holds which address, from the first message or claim of a log to the last."""
+    """Who holds which address, from the first message or claim of a log to the last, as its claims tell: an address is held by whom
+    claimed it last. So far as nobody did, a unit is taken to be at its planned address until a claim of it came; of several the one
+    of the smallest NAME."""
 
-    def __init__(self, feed: Feed, addresses: Iterable[int]) -> None:
-        """Begins with the units at their planned addresses, as far as no other is known."""
-        self._feed = feed
+    def __init__(self, units: Iterable[Unit]) -> None:
+        self._planned: dict[int, list[str]] = {}
+        self._preferred: dict[str, int] = {}  # of the units of which no claim came
+        for unit in sorted(units, key=lambda unit: unit.name):
+            self._planned.setdefault(unit.address, []).append(unit.label)
+            self._preferred[unit.label] = unit.address
         self._messages, self._claims = Span(), Span()
-        self._open = {address: (self._holder(address), -math.inf, False) for address in addresses}
+        self._at: dict[str, int] = {}  # where each holder is that claimed an address
+        self._open: dict[int, tuple[str, float, bool]] = {}
         self._held: list[Held] = []
+        for address in self._planned:
+            self._leave(address, -math.inf)
 
     def passed(self, reports: Iterable[Report]) -> Iterator[Report]:
-        """The reports, of which the times are seen."""
+        """The reports, of which the times are seen, and the claims heard."""
         for report in reports:
-            self._messages.see(seconds(report.origin))
+            if isinstance(report, Claim):
+                self._claim(report.who, seconds(report.line, report.time))
+            elif isinstance(report, Message):
+                self._messages.see(seconds(report.line, report.time))
             yield report
-
-    def claimed(self, origin: Origin, address: int, changed: list[int]) -> None:
-        """Hears that an address was claimed, by which these have other holders. One that was only planned so far is claimed now."""
-        time = seconds(origin)
-        self._claims.see(time)
-        for other in {address, *changed}:
-            holder, was_open = self._holder(other), self._open.get(other)
-            if was_open and other not in changed and was_open[2]:
-                continue
-            self._close(other, time)
-            if holder:
-                self._open[other] = holder, time, other == address
 
     def held(self) -> list[Held]:
         """Who held which address, to the end of the log."""
@@ -120,10 +115,27 @@ class Timeline:
         parts = (part._replace(start=max(part.start, first)) for part in self._held if part.end > first or part.is_claimed)
         return sorted(parts, key=lambda part: (part.address, part.start))
 
-    def _holder(self, address: int) -> str:
-        """The label of who holds an address, or a NAME that no unit has."""
-        name = self._feed.holders.name_at(address) or ""
-        return self._feed.labels.get(name, name)
+    def _claim(self, who: Who, time: float) -> None:
+        """Hears a claim, or that there was no address to claim."""
+        self._claims.see(time)
+        holder = who.label or who.name or ""
+        was_planned, was_at = self._preferred.pop(holder, None), self._at.get(holder)
+        if was_at is not None and was_at == who.address and self._open[was_at][0] == holder:
+            return
+        self._at.pop(holder, None)
+        for left in (was_planned, was_at):
+            if left is not None and left != who.address and self._open.get(left, ("",))[0] == holder:
+                self._leave(left, time)
+        if who.address is not None:
+            self._close(who.address, time)
+            self._open[who.address], self._at[holder] = (holder, time, True), who.address
+
+    def _leave(self, address: int, time: float) -> None:
+        """Nobody that claimed it is at an address any more: the next unit that is planned there may be."""
+        self._close(address, time)
+        label = next((label for label in self._planned.get(address, ()) if label in self._preferred), None)
+        if label:
+            self._open[address] = label, time, False
 
     def _close(self, address: int, time: float) -> None:
         if address in self._open:

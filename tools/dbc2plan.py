@@ -14,6 +14,7 @@ from collections import defaultdict
 from collections.abc import Hashable, Iterable, Iterator
 from decimal import Decimal
 from itertools import count
+from math import gcd
 from typing import TYPE_CHECKING, Any, NamedTuple
 
 import matrix_file
@@ -31,6 +32,9 @@ if TYPE_CHECKING:
 
 # The most of each that a plan has (docs/PLAN.md).
 UNITS, GROUPS, FLOWS = 128, 256, 512
+
+# What the period of a flow may be, in ms (docs/PLAN.md).
+PERIODS = range(1, 65536)
 
 
 def number_of(value: object) -> int | None:
@@ -122,9 +126,10 @@ def called(frame: canmatrix.Frame) -> str:
     return plain(frame.attributes.get(GROUP_ATTRIBUTE) or frame.name or "")
 
 
-def frame_remarks(frame: canmatrix.Frame, label: str) -> list[str]:
-    """What a file says of a frame for which a plan has no key."""
-    return remark(frame.name or "", label, milliseconds(frame.cycle_time), quoted(frame.comment))
+def period_of(frame: canmatrix.Frame) -> int | None:
+    """How far apart the messages of a frame are, in ms: its own cycle time, else what divides those of its signals; None where none is
+    said."""
+    return frame.cycle_time or gcd(*(signal.cycle_time or 0 for signal in frame.signals)) or None
 
 
 class Group(NamedTuple):
@@ -153,6 +158,7 @@ class Plan:
         self.units: dict[str, Table] = {}
         self.groups: list[Group] = []
         self.flows: dict[tuple[str, str, str], Table] = {}
+        self.periods = PERIODS if version >= 3 else range(0)
         self.unit_labels, self.group_labels = Labels({"all"}), Labels()
 
     def tables(self) -> Iterator[Table]:
@@ -184,6 +190,11 @@ class Plan:
         self.units[ecu.name] = Table("unit", {"label": label, "address": address, "name": name},
                                      remark(long_name(ecu), label, quoted(ecu.comment)))
 
+    def frame_remarks(self, frame: canmatrix.Frame, label: str) -> list[str]:
+        """What a file says of a frame for which a plan has no key; a cycle time is none that its flows have as their period."""
+        is_period = frame.cycle_time in self.periods and self.flows_of(frame)
+        return remark(frame.name or "", label, "" if is_period else milliseconds(frame.cycle_time), quoted(frame.comment))
+
     def group_of(self, frame: canmatrix.Frame) -> Group:
         """The frame's group, which another frame of the same number and layout may have made."""
         check_frame(frame, self.version)
@@ -200,7 +211,7 @@ class Plan:
         group = Group(called(frame), Table("group", {
             "label": label, "pgn": pgn, "priority": frame.arbitration_id.j1939_priority, "length": frame.size,
             "private": pgn in PROPRIETARY,
-        }, frame_remarks(frame, label), signals_of(frame, self.notes, self.strict, self.version)),
+        }, self.frame_remarks(frame, label), signals_of(frame, self.notes, self.strict, self.version)),
             layout_of(frame), meaning_of(frame, self.version))
         self.groups.append(group)
         return group
@@ -231,7 +242,7 @@ class Plan:
         if not group.is_as(frame, self.version):
             other = "layout" if layout_of(frame) != group.layout else "meaning of its signals: scale, sign, unit or table of values"
             raise LeftOut(f"{group.label} has the same PGN {frame.arbitration_id.pgn} and another {other}")
-        group.table.remarks.extend(frame_remarks(frame, group.label))
+        group.table.remarks.extend(self.frame_remarks(frame, group.label))
         priority, planned = frame.arbitration_id.j1939_priority, group.table.keys["priority"]
         if priority != planned:
             self.notes.say(f"group {frame.name}", f"its priority is {priority}, that of {group.label} is {planned}")
@@ -255,23 +266,33 @@ class Plan:
 
     def add_flows(self, frame: canmatrix.Frame, group: Group) -> None:
         """Who sends a group to whom, as far as the file names units."""
-        receivers = self.receivers_of(frame)
+        receivers, period = self.receivers_of(frame), period_of(frame)
+        if self.periods and period is not None and period not in self.periods:
+            self.notes.say(f"group {frame.name}", f"its cycle time of {period} ms is no period of 1 to {PERIODS[-1]} ms")
+            period = None
         for sender in frame.transmitters:
             if sender in self.units:
                 for receiver in receivers:
-                    self.add_flow(group.label, self.units[sender].keys["label"], receiver)
+                    self.add_flow(group.label, self.units[sender].keys["label"], receiver, period if self.periods else None)
             elif sender != NOBODY:
                 self.notes.say(f"flow of {group.label} from {sender}", "the unit isn't in the plan")
 
-    def add_flow(self, group: str, sender: str, receiver: str) -> None:
-        """A flow, unless it is there."""
+    def add_flow(self, group: str, sender: str, receiver: str, period: int | None) -> None:
+        """A flow, unless it is there. Of several periods it has the least one."""
+        what = f"flow of {group} from {sender}"
         if sender == receiver:
-            self.notes.say(f"flow of {group} from {sender}", "it goes to the unit itself")
-        elif (group, sender, receiver) not in self.flows:
+            self.notes.say(what, "it goes to the unit itself")
+            return
+        if (group, sender, receiver) not in self.flows:
             if len(self.flows) == FLOWS:
-                self.notes.say(f"flow of {group} from {sender} to {receiver}", f"a plan has at most {FLOWS} flows")
+                self.notes.say(f"{what} to {receiver}", f"a plan has at most {FLOWS} flows")
                 return
             self.flows[group, sender, receiver] = Table("flow", {"group": group, "from": sender, "to": receiver})
+        keys = self.flows[group, sender, receiver].keys
+        known = keys.setdefault("period", period) if period else None
+        if known != period:
+            self.notes.say(f"{what} to {receiver}", f"its cycle times are {known} and {period} ms: the lesser one is its period")
+            keys["period"] = min(known, period)
 
     def add_frames(self, frames: Iterable[canmatrix.Frame]) -> None:
         """The groups of the frames, and their flows."""

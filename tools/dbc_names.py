@@ -17,4 +17,7 @@ ARBITRARY_ATTRIBUTE = "NmJ1939AAC"
 # The labels of units, groups and signals whose names in the DBC are others, and the kind of a signal.
 UNIT_ATTRIBUTE, GROUP_ATTRIBUTE, SIGNAL_ATTRIBUTE, KIND_ATTRIBUTE = "PlanUnit", "PlanGroup", "PlanSignal", "PlanKind"
 
+# How far apart a message's frames are, in ms.
+CYCLE_ATTRIBUTE = "GenMsgCycleTime"
+
 NOBODY = "Vector__XXX"

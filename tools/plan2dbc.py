@@ -16,7 +16,7 @@ from decimal import Decimal, localcontext
 
 import program
 from dbc_names import (
-    ADDRESS_ATTRIBUTE, ARBITRARY_ATTRIBUTE, GROUP_ATTRIBUTE, IDENTITY_ATTRIBUTE, KIND_ATTRIBUTE, NAME_ATTRIBUTES, NOBODY,
+    ADDRESS_ATTRIBUTE, ARBITRARY_ATTRIBUTE, CYCLE_ATTRIBUTE, GROUP_ATTRIBUTE, IDENTITY_ATTRIBUTE, KIND_ATTRIBUTE, NAME_ATTRIBUTES, NOBODY,
     SIGNAL_ATTRIBUTE, UNIT_ATTRIBUTE,
 )
 from j1939 import GLOBAL_ADDRESS, NULL_ADDRESS
@@ -53,7 +53,8 @@ class Names(Labels):
 
 @dataclass
 class Message:
-    """A message of the DBC: its identifier, its group's place and label, its name, who sends it, and whom it goes to."""
+    """A message of the DBC: its identifier, its group's place and label, its name, who sends it, whom it goes to, and how far apart its
+    flows are sent, in ms."""
 
     identifier: int
     group: Place
@@ -61,6 +62,7 @@ class Message:
     name: str
     senders: list[str] = field(default_factory=list)
     receivers: list[str] = field(default_factory=list)
+    periods: set[int] = field(default_factory=set)
 
 
 def decimal(number: int, per: int) -> str:
@@ -95,6 +97,7 @@ class Dbc:
         self.names = {self.label(unit): self.nodes.label(self.label(unit)) for unit in self.units}
         self.addresses = {self.label(unit): self.places.integer(unit + ("address",)) for unit in self.units}
         self.messages: dict[int, Message] = {}
+        self.used: set[Place] = set()  # groups that have a message
         self.add_messages()
 
     def label(self, place: Place) -> str:
@@ -116,13 +119,17 @@ class Dbc:
             label = self.label(group)
             for text in self.places.elements(group + ("text",)):
                 self.notes.say(f"text {self.label(text)} of {label}", "a DBC has no texts")
+            for signal in self.places.elements(group + ("signal",)):
+                if self.is_repeated(signal):
+                    self.notes.say(f"signal {self.label(signal)} of {label}", "a DBC has no signals that are repeated")
             for flow in flows.get(label, []):
-                self.add_flow(group, first[label], self.places.texts[flow + ("from",)], self.places.texts[flow + ("to",)])
+                self.add_flow(group, first[label], flow)
             if label not in flows:
                 self.add(group, first[label], NULL_ADDRESS, GLOBAL_ADDRESS)
 
-    def add_flow(self, group: Place, name: str, sender: str, receiver: str) -> None:
+    def add_flow(self, group: Place, name: str, flow: Place) -> None:
         """The message of a flow."""
+        sender, receiver = (self.places.texts[flow + (key,)] for key in ("from", "to"))
         destination = self.addresses.get(receiver, GLOBAL_ADDRESS)
         message = self.add(group, name, self.addresses[sender], destination)
         if message is None:
@@ -132,6 +139,9 @@ class Dbc:
             message.senders.append(self.names[sender])
         if receiver != "all" and self.names[receiver] not in message.receivers:
             message.receivers.append(self.names[receiver])
+        message.periods.update([self.number(flow, "period", 0)] if flow + ("period",) in self.places.spelled else [])
+        if flow + ("deadline",) in self.places.spelled:
+            self.notes.say(f"flow of {self.label(group)} from {sender} to {receiver}", "a DBC has no deadline")
         if receiver != "all" and message.identifier >> 16 & 0xFF >= 240:
             self.notes.say(f"flow of {self.label(group)} from {sender} to {receiver}", "its identifier names no destination")
 
@@ -142,8 +152,8 @@ class Dbc:
         if pgn >> 8 & 0xFF < 240:
             identifier |= destination << 8
         if identifier not in self.messages:
-            used = any(message.group == group for message in self.messages.values())
-            other = self.taken.label(name) if used else name
+            other = self.taken.label(name) if group in self.used else name
+            self.used.add(group)
             self.messages[identifier] = Message(identifier, group, self.label(group), other)
         message = self.messages[identifier]
         return message if message.group == group else None
@@ -159,10 +169,15 @@ class Dbc:
         return "\n".join([*lines, *self.comments(), *definitions(), *self.unit_attributes(), *self.message_attributes()]) + "\n"
 
     def signals(self, message: Message) -> Iterator[tuple[Place, str]]:
-        """The signals of a message with their names."""
+        """The signals of a message that aren't repeated, with their names."""
         names = Names()
         for signal in self.places.elements(message.group + ("signal",)):
-            yield signal, names.label(self.label(signal))
+            if not self.is_repeated(signal):
+                yield signal, names.label(self.label(signal))
+
+    def is_repeated(self, signal: Place) -> bool:
+        """Whether a signal comes again in further records."""
+        return self.places.spelled.get(signal + ("repeated",)) == "true"
 
     def message_lines(self, message: Message) -> Iterator[str]:
         """A message and its signals."""
@@ -220,13 +235,20 @@ class Dbc:
                 self.notes.say(f"unit {label}", "a DBC has no window")
         if self.places.elements(("keep_free",)):
             self.notes.say("keep_free", "a DBC has no addresses that are kept free")
+        if ("timing",) in self.places.lines:
+            self.notes.say("timing", "a DBC has nothing of the bus for it")
 
     def message_attributes(self) -> Iterator[str]:
-        """Of which groups the messages are, and the kinds of their signals."""
+        """Of which groups the messages are, how far apart they are sent, and the kinds of their signals."""
         for message in self.messages.values():
             identifier = message.identifier | EXTENDED
             if message.name != message.label:
                 yield f'BA_ "{GROUP_ATTRIBUTE}" BO_ {identifier} "{message.label}";'
+            if message.periods:
+                yield f'BA_ "{CYCLE_ATTRIBUTE}" BO_ {identifier} {min(message.periods)};'
+            if len(message.periods) > 1:
+                told = ", ".join(map(str, sorted(message.periods)))
+                self.notes.say(f"message {message.name}", f"its flows have the periods {told} ms: the least one is its cycle time")
             for signal, name in self.signals(message):
                 if name != self.label(signal):
                     yield f'BA_ "{SIGNAL_ATTRIBUTE}" SG_ {identifier} {name} "{self.label(signal)}";'
@@ -238,10 +260,12 @@ def definitions() -> Iterable[str]:
     yield from (f'BA_DEF_ BU_ "{name}" INT 0 {most};' for name, most, _ in UNIT_ATTRIBUTES)
     texts = {UNIT_ATTRIBUTE: "BU_", GROUP_ATTRIBUTE: "BO_", SIGNAL_ATTRIBUTE: "SG_", KIND_ATTRIBUTE: "SG_"}
     yield from (f'BA_DEF_ {table} "{name}" STRING ;' for name, table in texts.items())
+    yield f'BA_DEF_ BO_ "{CYCLE_ATTRIBUTE}" INT 0 65535;'
     yield 'BA_DEF_ BO_ "VFrameFormat" ENUM "StandardCAN","ExtendedCAN","reserved","J1939PG";'
     yield 'BA_DEF_ "ProtocolType" STRING ;'
     yield from (f'BA_DEF_DEF_ "{name}" {default};' for name, _, default in UNIT_ATTRIBUTES)
     yield from (f'BA_DEF_DEF_ "{name}" "";' for name in texts)
+    yield f'BA_DEF_DEF_ "{CYCLE_ATTRIBUTE}" 0;'
     yield 'BA_DEF_DEF_ "VFrameFormat" "J1939PG";'
     yield 'BA_DEF_DEF_ "ProtocolType" "J1939";'
 

@@ -46,6 +46,12 @@ class Signal:
     per: int
     offset: int
     unit: str
+    repeated: bool
+
+    @property
+    def shown(self) -> str:
+        """Its label, as `read` shows it in the first record where it is repeated."""
+        return f"{self.label}[1]" if self.repeated else self.label
 
     @property
     def span(self) -> range:
@@ -81,17 +87,30 @@ class Group:
     length: int
     private: bool
     most: int
+    every: int | None
     signals: list[Signal]
     texts: list[Text]
+
+    def records(self, length: int) -> int:
+        """How many records data of this length has: those of which all signals end inside it."""
+        ends = [signal.span.stop for signal in self.signals if signal.repeated]
+        first = -(-max(ends, default=0) // 8)
+        return 0 if self.every is None or first == 0 or first > length else (length - first) // self.every + 1
+
+    def lines(self, length: int) -> int:
+        """How many lines `read` writes below that of a message of this length."""
+        repeated = sum(signal.repeated for signal in self.signals)
+        return len(self.signals) - repeated + self.records(length) * repeated + len(self.texts)
 
 
 @dataclass(frozen=True)
 class Flow:
-    """Who sends which group to whom."""
+    """Who sends which group to whom, and at least how far apart, in ms; None where that isn't said."""
 
     group: str
     sender: str
     to: str
+    period: int | None
 
 
 class Tables:
@@ -103,7 +122,7 @@ class Tables:
         self.kept = [places.integer(place) for place in places.elements(("keep_free",))]
         self.units = [self._unit(place) for place in places.elements(("unit",))]
         self.groups = [self._group(place) for place in places.elements(("group",))]
-        self.flows = [Flow(*(self._text(place, key) for key in ("group", "from", "to"))) for place in places.elements(("flow",))]
+        self.flows = [self._flow(place) for place in places.elements(("flow",))]
 
     @classmethod
     def of(cls, text: bytes) -> "Tables":
@@ -131,8 +150,13 @@ class Tables:
         signals = [self._signal(other) for other in self._places.elements(place + ("signal",))]
         private = self._places.spelled.get(place + ("private",)) == "true"
         most = self._number(place, "most", length)
+        every = self._places.number(place + ("every",))
         texts = [self._text_of(other) for other in self._places.elements(place + ("text",))]
-        return Group(self._text(place, "label"), pgn, priority, length, private, most, signals, texts)
+        return Group(self._text(place, "label"), pgn, priority, length, private, most, every, signals, texts)
+
+    def _flow(self, place: Place) -> Flow:
+        group, sender, to = (self._text(place, key) for key in ("group", "from", "to"))
+        return Flow(group, sender, to, self._places.number(place + ("period",)))
 
     def _text_of(self, place: Place) -> Text:
         return Text(self._text(place, "label"), self._number(place, "byte"), self._places.number(place + ("bytes",)))
@@ -141,5 +165,5 @@ class Tables:
         return Signal(
             self._text(place, "label"), self._number(place, "byte"), self._number(place, "bit", 1), self._number(place, "bits"),
             self._text(place, "kind"), self._number(place, "step", 1), self._number(place, "per", 1), self._number(place, "offset"),
-            self._text(place, "unit"),
+            self._text(place, "unit"), self._places.spelled.get(place + ("repeated",)) == "true",
         )

@@ -1,7 +1,7 @@
 #!/usr/bin/python3
 """Draws signals of a log over time, below one another, as a PNG or SVG file; with --addresses also who held which address when.
 
-What the frames say is what `j39plan read` reports of them. Where a signal is absent or faulty its line has a gap and a mark.
+What the frames say, and who sent them, is what `j39plan follow` reports of them. Where a signal is absent or faulty its line has a gap and a mark.
 """
 
 import importlib.util
@@ -10,11 +10,10 @@ from collections import defaultdict
 from collections.abc import Iterable
 
 import program
-from candump import Log
 from curves import Curve, Held, Timeline, curves_of
 from plan_tables import Tables
 from readings import Choice, Column, Rows
-from reports import Feed, read, say_what_was_passed_over, tables_of
+from reports import Counts, follow, tables_of
 
 ENDINGS = (".png", ".svg")
 
@@ -24,13 +23,10 @@ MOST = 24
 
 def drawn(given_log: str, plan: str, tables: Tables, choice: Choice) -> tuple[dict[Column, list[Curve]], list[Held]]:
     """The curves of each chosen signal, those of each sender apart, and who held which address."""
-    log = Log()
-    feed = Feed(tables, log)
-    timeline = Timeline(feed, (unit.address for unit in tables.units))
-    feed.claimed = timeline.claimed
+    counts, timeline = Counts(), Timeline(tables.units)
     with open(given_log, "rb") as file:
-        curves = curves_of(Rows(choice).of(timeline.passed(read(plan, file, feed))))
-    say_what_was_passed_over(log)
+        curves = curves_of(Rows(choice).of(timeline.passed(follow(plan, file, tables, counts))))
+    counts.say()
     by_signal = defaultdict(list)
     for curve in curves:
         by_signal[curve.group, curve.signal].append(curve)

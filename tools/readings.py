@@ -4,33 +4,47 @@ import difflib
 import re
 from collections.abc import Iterable, Iterator
 from decimal import Context, Decimal
-from fractions import Fraction
+from functools import lru_cache
 from typing import NamedTuple
 
 import program
 from plan_tables import Tables
-from reports import Origin, Report
+from reports import Message, Report
 
 # A unit of measurement that has the fraction of a value, as `1/8 rpm`.
 PARTS = re.compile(r"1/([1-9]\d{0,11})(?: (.*))?")
 
 EXACT = Context(prec=80)
 
-# How many readings are kept, since signals repeat themselves.
-KEPT = 1 << 16
+# How many readings, and how many lines of all groups, are kept, since signals repeat themselves.
+READINGS, LINES = 1 << 14, 1 << 17
 
 # Group and signal.
 Column = tuple[str, str]
 
 
 class Reading(NamedTuple):
-    """The word of `read` for the state; a value as a decimal number and its unit; and what else is said, as of a fault its number and of
+    """The word of `follow` for the state; a value as a decimal number and its unit; and what else is said, as of a fault its number and of
     a text what it is, without its quotation marks."""
 
     state: str
     value: str
     unit: str
     detail: str
+
+
+class Origin(NamedTuple):
+    """Where a message comes from: the line and its time as it is spelled, and who sent it to whom: labels, else addresses."""
+
+    line: int
+    time: str
+    sender: str
+    to: str
+
+
+def origin_of(message: Message) -> Origin:
+    """Where a message comes from."""
+    return Origin(message.line, message.time.strip("()-"), message.sender.shown, message.to.shown)
 
 
 class Row(NamedTuple):
@@ -64,14 +78,12 @@ def scale_of(unit: str) -> Scale:
 
 def divided(spelled: str, parts: int) -> str:
     """A decimal number divided, exactly."""
-    if parts == 1:
-        return spelled
-    value = Fraction(spelled) / parts
-    return f"{EXACT.divide(Decimal(value.numerator), Decimal(value.denominator)):f}"
+    return spelled if parts == 1 else f"{EXACT.divide(Decimal(spelled), Decimal(parts)):f}"
 
 
+@lru_cache(maxsize=READINGS)
 def reading_of(said: str, scale: Scale) -> Reading:
-    """The reading that `read` tells of a signal."""
+    """The reading that `follow` tells of a signal."""
     state, _, behind = said.partition(" ")
     if state == "text":
         return Reading(state, "", "", behind[1:-1])
@@ -102,37 +114,36 @@ class Choice:
             raise program.Refused(program.UNREADABLE, f"no group or signal is called {name}{hint}")
 
 
+class Known(dict[str, tuple[str, Reading] | None]):
+    """Of a group what a line of `follow` tells: a signal's label and reading, None of a signal that isn't wanted. So many are kept."""
+
+    def __init__(self, group: str, choice: Choice, most: int) -> None:
+        super().__init__()
+        self._group, self._choice, self._most = group, choice, most
+
+    def __missing__(self, line: str) -> tuple[str, Reading] | None:
+        label, _, said = line.strip().partition(" ")
+        column = self._group, label.partition("[")[0]  # of a record its place stands behind the label
+        told = (label, reading_of(said, self._choice.scales[column])) if column in self._choice.columns else None
+        if len(self) >= self._most:
+            self.clear()
+        self[line] = told
+        return told
+
+
 class Rows:
     """The messages of a log with the readings that are wanted."""
 
     def __init__(self, choice: Choice) -> None:
-        self._choice = choice
-        # Of each group what a line of `read` tells, None of a signal that isn't wanted.
-        self._known: dict[str, dict[str, tuple[str, Reading] | None]] = {group: {} for group, _ in choice.columns}
-        self._count = 0
+        groups = {group for group, _ in choice.columns}
+        self._known = {group: Known(group, choice, LINES // len(groups)) for group in groups}
 
     def of(self, reports: Iterable[Report]) -> Iterator[Row]:
-        """The rows of reports; of none that has no signal that is wanted."""
-        for origin, group, signals in reports:
-            known = self._known.get(group)
+        """The rows of messages; of none that has no signal that is wanted."""
+        for report in reports:
+            known = self._known.get(report.group) if isinstance(report, Message) else None
             if known is None:
                 continue
-            readings = []
-            for line in signals:
-                if line not in known:
-                    self._learn(group, line)
-                told = known[line]
-                if told:
-                    readings.append(told)
+            readings = [told for told in map(known.__getitem__, report.signals) if told]
             if readings:
-                yield Row(origin, group, readings)
-
-    def _learn(self, group: str, line: str) -> None:
-        if self._count >= KEPT:
-            for known in self._known.values():
-                known.clear()
-            self._count = 0
-        self._count += 1
-        label, _, said = line.strip().partition(" ")
-        column = group, label
-        self._known[group][line] = (label, reading_of(said, self._choice.scales[column])) if column in self._choice.columns else None
+                yield Row(origin_of(report), report.group, readings)

@@ -1,5 +1,5 @@
 #!/usr/bin/python3
-"""Writes a plan as one HTML page: units and their NAMEs, groups as maps of their bytes, flows as a matrix, and the findings.
+"""Writes a plan as one HTML page: units and their NAMEs, groups as maps of their bytes, flows as a matrix, load, and the findings.
 
 The page has no script and loads nothing. It follows the reader's dark or light screen, can be printed, and every table has a caption
 and headers, so that a screen reader finds its way.
@@ -13,7 +13,7 @@ import program
 import where
 from left_out import plain
 from plan_tables import Tables
-from report_page import Finding, Stand, page
+from report_page import Delay, Finding, Load, Stand, page
 
 
 def findings(plan: where.Plan, answer: str) -> Iterator[Finding]:
@@ -30,6 +30,25 @@ def stands(answer: str) -> dict[str, Stand]:
     return {words[1]: Stand(words[2] == "stays", int(words[-1])) for words in told if words[0] == "unit"}
 
 
+def delay_of(line: str) -> Delay:
+    """What `load` tells of a flow: `flow N G A B within W of L us`, `late of L us` or `frames K`."""
+    _, number, _, _, _, word, *rest = line.split()
+    if word == "frames":
+        return Delay(int(number), None, None, int(rest[0]))
+    return Delay(int(number), int(rest[0]) if word == "within" else None, int(rest[-2]), 1)
+
+
+def load_of(answer: str) -> Load | None:
+    """What `load` tells of a plan; None of one that says nothing of the bus."""
+    lines = answer.splitlines()
+    if lines == ["refused plan NoTiming"]:
+        return None
+    words = lines[-1].split()
+    if words[0] != "load":
+        return Load([], None)
+    return Load([delay_of(line) for line in lines[:-1]], (int(words[1]), int(words[3])))
+
+
 def page_of(plan: str, title: str) -> str:
     """The page of a plan that can be read."""
     status, answer = program.call(["check", "--", plan])
@@ -38,8 +57,9 @@ def page_of(plan: str, title: str) -> str:
     with open(plan, "rb") as file:
         told = where.Plan(file.read().decode(errors="replace"))
     _, addresses = program.call(["addresses", "--", plan])
+    load = load_of(program.call(["load", "--", plan])[1])
     found = list(findings(told, answer))
-    return page(title, Tables(told.places), found, stands(addresses), program.call(["--version"])[1].strip())
+    return page(title, Tables(told.places), found, stands(addresses), load, program.call(["--version"])[1].strip())
 
 
 def main(words: list[str] | None = None) -> int:

@@ -35,6 +35,23 @@ class Stand(NamedTuple):
     address: int
 
 
+class Delay(NamedTuple):
+    """A flow by its number, and by `load` the time within which its frames are on the bus, None where that isn't shown; the time that they
+    have, None of a long message, which gets no bound; and how many frames such a message takes. Times are in us."""
+
+    flow: int
+    within: int | None
+    limit: int | None
+    frames: int
+
+
+class Load(NamedTuple):
+    """The delays of the flows, and of how many bits a second how many are taken; None where the plan has findings before that."""
+
+    delays: list[Delay]
+    taken: tuple[int, int] | None
+
+
 def spaced(key: str) -> str:
     """A key as words."""
     return key.replace("_", " ")
@@ -130,7 +147,7 @@ def byte_rows(group: Group) -> Iterator[str]:
     texts: dict[int, list[str]] = defaultdict(list)
     for signal in group.signals:
         for bit in signal.span:
-            owners[bit].append(escape(signal.label))
+            owners[bit].append(escape(signal.shown))
     for text in group.texts:
         for byte in text.places(group.most):
             texts[byte].append(escape(text.label))
@@ -185,7 +202,7 @@ def formula(signal: Signal) -> str:
 def signal_row(signal: Signal) -> str:
     """A signal by where it lies and what it means."""
     cells = [f"{signal.byte}.{signal.bit}", str(signal.bits), signal.kind, formula(signal), range_of(signal), signal.unit or "–"]
-    return row(escape(signal.label), map(escape, cells))
+    return row(escape(signal.shown), map(escape, cells))
 
 
 def text_row(text: Text) -> str:
@@ -198,7 +215,8 @@ def group_part(number: int, group: Group, sent_by: list[str]) -> str:
     label, who = escape(group.label), escape(", ".join(sent_by)) or "nobody"
     own = ", a maker's own number" if group.private else ""
     bytes_ = f"{group.length}" if group.length == group.most else f"{group.length} to {group.most}"
-    facts = f"PGN {group.pgn} (<code>{group.pgn:04X}</code>){own}, priority {group.priority}, bytes: {bytes_}, sent by {who}."
+    records = f", records {group.every} bytes apart" if group.every else ""
+    facts = f"PGN {group.pgn} (<code>{group.pgn:04X}</code>){own}, priority {group.priority}, bytes: {bytes_}{records}, sent by {who}."
     bits = [f"bit {bit}" for bit in range(8, 0, -1)]
     parts = [f'<h3 id="group-{number}">{label}</h3>', f"<p>{facts}</p>",
              table(f"Bytes of {label}", ("Byte", *bits), byte_rows(group), "bytes")]
@@ -221,11 +239,16 @@ def group_section(tables: Tables) -> str:
     )
 
 
+def links_of(tables: Tables) -> dict[str, str]:
+    """Of each group a link to it."""
+    return {group.label: f'<a href="#group-{number}">{escape(group.label)}</a>' for number, group in enumerate(tables.groups, 1)}
+
+
 def flow_section(tables: Tables) -> str:
     """Who sends what to whom: a row a sender, a column a receiver."""
     if not tables.flows:
         return section("flows", "Flows", ["<p>The plan has no flows.</p>"])
-    links = {group.label: f'<a href="#group-{number}">{escape(group.label)}</a>' for number, group in enumerate(tables.groups, 1)}
+    links = links_of(tables)
     cells: dict[tuple[str, str], list[str]] = defaultdict(list)
     for flow in tables.flows:
         cells[flow.sender, flow.to].append(links[flow.group])
@@ -244,12 +267,48 @@ def flow_section(tables: Tables) -> str:
     return section("flows", "Flows", parts)
 
 
-def page(title: str, tables: Tables, found: list[Finding], stands: dict[str, Stand], version: str) -> str:
-    """The whole page. The title is the name of the plan's file."""
+def in_milliseconds(microseconds: int) -> str:
+    """A time in us as ms."""
+    text = f"{microseconds // 1000}.{microseconds % 1000:03}"
+    return f"{text.rstrip('0').rstrip('.')} ms"
+
+
+def delay_row(delay: Delay, flow: Flow, link: str) -> str:
+    """A flow with its delay, in words where it has none."""
+    if delay.limit is None:
+        cells = [f"no bound: {delay.frames} frames a message", "–", "–"]
+    elif delay.within is None:
+        cells = ["<strong>not shown to be in time</strong>", in_milliseconds(delay.limit), "–"]
+    else:
+        share = f"{100 * delay.within / delay.limit:.1f} %"
+        cells = [in_milliseconds(delay.within), in_milliseconds(delay.limit), share]
+    return row(str(delay.flow), [link, escape(flow.sender), escape(flow.to), f"{flow.period} ms", *cells])
+
+
+def load_section(tables: Tables, load: Load) -> str:
+    """Within which time the frames of each flow are on the bus, and how full it is."""
+    if load.taken is None:
+        return section("load", "Load", ["<p>Not known: the plan has findings that are to be mended first.</p>"])
+    taken, bitrate = load.taken
+    full = " <strong>That is more than the bus carries.</strong>" if taken > bitrate else ""
+    parts = [f"<p>{taken} of {bitrate} bits a second at most, {100 * taken / bitrate:.1f} % of the bitrate.{full}</p>"]
+    links = links_of(tables)
+    rows = [delay_row(delay, flow, links[flow.group]) for delay in load.delays for flow in [tables.flows[delay.flow - 1]]]
+    if rows:
+        parts.append("<p>The times count from when a frame is ready in its controller, and hold where the bus keeps the premises of "
+                     "<code>load</code>.</p>")
+        heads = ("Flow", "Group", "From", "To", "Period", "On the bus within", "Of", "Share")
+        parts.append(table("Delays of the flows", heads, rows))
+    return section("load", "Load", parts)
+
+
+def page(title: str, tables: Tables, found: list[Finding], stands: dict[str, Stand], load: Load | None, version: str) -> str:
+    """The whole page. The title is the name of the plan's file; a plan that says nothing of the bus has no load."""
     title = escape(title)
     counts = f"{len(tables.units)} units, {len(tables.groups)} groups, {len(tables.flows)} flows, findings: {len(found)}"
-    links = "".join(f'<li><a href="#{name}">{name.capitalize()}</a></li>' for name in ("findings", "units", "flows", "groups"))
-    sections = [finding_section(title, found), unit_section(tables, stands), flow_section(tables), group_section(tables)]
+    sections = {"findings": finding_section(title, found), "units": unit_section(tables, stands), "flows": flow_section(tables),
+                **({"load": load_section(tables, load)} if load else {}), "groups": group_section(tables)}
+    links = "".join(f'<li><a href="#{name}">{name.capitalize()}</a></li>' for name in sections)
     return f"""<!DOCTYPE html>
 <html lang="en">
 <head>
@@ -269,7 +328,7 @@ def page(title: str, tables: Tables, found: list[Finding], stands: dict[str, Sta
 <nav aria-label="Sections"><ul>{links}</ul></nav>
 </header>
 <main id="content">
-{chr(10).join(sections)}
+{chr(10).join(sections.values())}
 </main>
 <footer><p>Written by {escape(version)}.</p></footer>
 </body>

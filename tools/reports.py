@@ -1,161 +1,126 @@
-"""What `read` reports of a log, each report with its line and time and with the unit that sent it.
-
-`read` itself tells the bytes, signals and texts of a message, and not the line. So it is given a mark before each frame that may end a
-message: a message of a planned group from address 255, which no unit can have. Reports come in the order of the frames, so a report
-belongs to the frame behind the last mark. Frames of the log from address 255 are left out.
-"""
+"""What `follow` says of a log: who sent what, by the claims of the log itself, each report with its line and time."""
 
 import io
 import os
 import stat
 import subprocess
-from collections import deque
 from collections.abc import Callable, Iterable, Iterator
-from functools import lru_cache
+from functools import cache, lru_cache
+from itertools import islice
 from threading import Thread
 from typing import IO, BinaryIO, NamedTuple
 
-import holders
 import program
-from candump import Line, Log
-from j1939 import ADDRESS_CLAIMED, DATA_TRANSFER, GLOBAL_ADDRESS, PROPRIETARY, SERVICES
-from plan_tables import Group, Tables
-from transfers import BAM, CHUNK
-
-# The address from which marks come.
-MARKING = GLOBAL_ADDRESS
-MARKED = str(MARKING)
-
-# How many bytes are gathered before they are handed over, where nobody waits for them.
-BLOCK = 1 << 16
+from plan_tables import Tables
 
 
-class Route(NamedTuple):
-    """Of which group a frame is, from where, and to where; 255 is all."""
+class Who(NamedTuple):
+    """Somebody on the bus: the label of a planned unit, else None; the NAME where it is told and not planned, as 16 hex digits, else
+    None; and the address, None of `all` and of who holds none."""
 
-    pgn: int
-    source: int
-    destination: int
+    label: str | None
+    name: str | None
+    address: int | None
+
+    @property
+    def shown(self) -> str:
+        """The label, else the address; `all` of all."""
+        return self.label or ("all" if self.address is None else str(self.address))
 
 
-class Origin(NamedTuple):
-    """Where a report comes from: the line, its time as it is spelled, and who sent it to whom: labels, else addresses."""
+class Message(NamedTuple):
+    """A message of a planned group: the line of its last frame and its time; from whom to whom; the number of its flow, 0 where it has
+    none; the priority, where it came in one frame and that isn't the group's; its bytes; and the lines of its signals and texts."""
 
     line: int
     time: str
-    sender: str
-    to: str
-
-
-class Report(NamedTuple):
-    """A message: where it comes from, its group, and the lines in which `read` tells its signals and texts."""
-
-    origin: Origin
     group: str
+    sender: Who
+    to: Who
+    flow: int
+    priority: int | None
+    data: str
     signals: list[str]
 
 
-@lru_cache(maxsize=1 << 16)
-def route_of(identifier: str) -> Route | None:
-    """The route of a frame with this identifier; None where it isn't of J1939."""
-    number = int(identifier, 16)
-    pgn, source = number >> 8 & 0x3FFFF, number & 255
-    if number >> 25 & 1:
-        return None
-    if pgn >> 8 & 255 >= 240:
-        return Route(pgn, source, GLOBAL_ADDRESS)
-    return Route(pgn & 0x3FF00, source, pgn & 255)
+class Claim(NamedTuple):
+    """A claim of an address, or, with the address None, that none could be claimed."""
+
+    line: int
+    time: str
+    who: Who
 
 
-def frame(priority: int, pgn: int, data: bytes) -> str:
-    """A line that is a frame of a mark to all."""
-    specific = pgn if pgn >> 8 & 255 >= 240 else pgn | GLOBAL_ADDRESS
-    return f"{priority << 26 | specific << 8 | MARKING:08X}#{data.hex()}\n"
+class Request(NamedTuple):
+    """That a group was asked for by its number."""
+
+    line: int
+    time: str
+    pgn: int
+    sender: Who
+    to: Who
 
 
-def lines_of(group: Group) -> int:
-    """How many lines `read` writes below that of a message."""
-    return len(group.signals) + len(group.texts)
+Report = Message | Claim | Request
 
 
-def mark_of(groups: list[Group]) -> bytes:
-    """The lines of a message of the planned group that is best for marks: of one that isn't for the network itself or of makers, in
-    few frames and with few lines."""
-    group = min(groups, key=lambda group: (group.pgn in SERVICES, group.pgn in PROPRIETARY, group.length > 8,
-                                           lines_of(group), group.length))
-    if group.length <= 8:
-        return frame(7, group.pgn, bytes(group.length)).encode()
-    packets = -(-group.length // CHUNK)
-    announced = bytes([BAM, *group.length.to_bytes(2, "little"), packets, 255, *group.pgn.to_bytes(3, "little")])
-    lines = [frame(7, 60416, announced)]
-    lines += [frame(7, DATA_TRANSFER, bytes([number, *bytes(CHUNK)])) for number in range(1, packets + 1)]
-    return "".join(lines).encode()
+class Counts:
+    """How many lines of a log weren't read: those that spell no frame, and those of other interfaces than the first one."""
+
+    def __init__(self) -> None:
+        self.bad = self.elsewhere = 0
+
+    def take(self, line: str) -> None:
+        """Takes them from the line with which `follow` ends."""
+        words = line.split()
+        if words[0] == "frames":
+            self.bad, self.elsewhere = int(words[5]), int(words[7])
+
+    def say(self) -> None:
+        """Says on standard error what wasn't read."""
+        if self.bad:
+            program.say(f"{self.bad} lines spell no frame")
+        if self.elsewhere:
+            program.say(f"the first interface is read; {self.elsewhere} lines of others are passed over")
 
 
-class Feed:
-    """The frames of a log as `read` is given them, and where each one that is marked comes from."""
+@lru_cache(maxsize=1 << 12)
+def who_of(spelled: str) -> Who:
+    """Who is meant by `ENGINE@0`, `ENGINE?@0`, `#00000000000000A1@5`, `?@7`, `all`, or by a name alone."""
+    if spelled == "all":
+        return Who(None, None, None)
+    name, _, address = spelled.partition("@")
+    at = int(address) if address else None
+    if name[0] == "#":
+        return Who(None, name[1:], at)
+    return Who(name.rstrip("?") or None, None, at)
 
-    def __init__(self, tables: Tables, log: Log) -> None:
-        self.origins: deque[Origin] = deque()
-        self.fault: BaseException | None = None
-        self.labels = {unit.name: unit.label for unit in tables.units}
-        self.holders = holders.Holders(
-            holders.Unit(unit.label, unit.name, unit.address, unit.may_choose) for unit in tables.units
-        )
-        groups = [group for group in tables.groups if not group.private]  # `read` passes private ones over
-        self.counts = {group.label: lines_of(group) for group in groups}
-        self.claimed: Callable[[Origin, int, list[int]], None] | None = None  # who is told of claims
-        self._log = log
-        self._ending = {group.pgn for group in groups if group.length <= 8}
-        if groups:
-            self._ending.add(DATA_TRANSFER)
-            self._mark = mark_of(groups)
 
-    def holder(self, address: int) -> str:
-        """The label of the unit that holds an address, else the address."""
-        return self.labels.get(self.holders.name_at(address) or "", str(address))
+def message_of(words: list[str], signals: list[str]) -> Message:
+    """The message of a line `N TIME group G from WHO to WHO flow N [priority P] bytes HEX`, or `no flow`."""
+    flow = int(words[9]) if words[8] == "flow" else 0
+    priority = int(words[11]) if words[10] == "priority" else None
+    return Message(int(words[0]), words[1], words[3], who_of(words[5]), who_of(words[7]), flow, priority, words[-1], signals)
 
-    def lines(self, frames: Iterator[Line]) -> Iterator[bytes]:
-        """What `read` is given for each frame."""
-        for number, identifier, digits in frames:
-            route = route_of(identifier)
-            if route is None or route.source == MARKING:
-                continue
-            if route.pgn == ADDRESS_CLAIMED and len(digits) == 16:
-                self._claim(number, route.source, digits)
-            spelled = f"{identifier}#{digits}\n".encode()
-            if route.pgn in self._ending:
-                self.origins.append(self._origin(number, route))
-                spelled = self._mark + spelled
-            yield spelled
 
-    def _origin(self, number: int, route: Route) -> Origin:
-        to = "all" if route.destination == GLOBAL_ADDRESS else self.holder(route.destination)
-        return Origin(number, self._log.time(), self.holder(route.source), to)
+def reports_of(lines: Iterator[str], tables: Tables, counts: Counts) -> Iterator[Report]:
+    """The reports in what `follow` writes, each as soon as its last line is there."""
+    groups = {group.label: group for group in tables.groups}
 
-    def _claim(self, number: int, address: int, digits: str) -> None:
-        name = bytes.fromhex(digits)[::-1].hex().upper()
-        changed = self.holders.claim(name, address)
-        if self.claimed:
-            self.claimed(Origin(number, self._log.time(), self.labels.get(name, name), "all"), address, changed)
+    @cache
+    def lines_of(label: str, length: int) -> int:
+        return groups[label].lines(length)
 
-    def write(self, file: BinaryIO, target: IO[bytes]) -> None:
-        """Hands a whole log over: at once what comes from a pipe, in blocks what is in a file."""
-        block = 0 if is_live(file) else BLOCK
-        gathered = bytearray()
-        try:
-            with target:
-                for lines in self.lines(self._log.frames(file)):
-                    gathered += lines
-                    if len(gathered) > block:
-                        target.write(gathered)
-                        target.flush()
-                        gathered.clear()
-                target.write(gathered)
-        except BrokenPipeError:  # the program has ended, and says why by its status
-            pass
-        except BaseException as fault:  # it is raised where the reports are read
-            self.fault = fault
+    for line in lines:
+        words = line.split()
+        if not line[0].isdigit():
+            counts.take(line)
+        elif words[2] == "group":
+            yield message_of(words, list(islice(lines, lines_of(words[3], len(words[-1]) // 2))))
+        elif words[2] == "request":
+            yield Request(int(words[0]), words[1], int(words[3]), who_of(words[5]), who_of(words[7]))
+        else:
+            yield Claim(int(words[0]), words[1], who_of(words[3]))
 
 
 def is_live(file: BinaryIO) -> bool:
@@ -163,66 +128,78 @@ def is_live(file: BinaryIO) -> bool:
     return not stat.S_ISREG(os.fstat(file.fileno()).st_mode)
 
 
-def reports_of(lines: Iterable[str], feed: Feed) -> Iterator[Report]:
-    """The reports in what `read` writes, each as soon as its last line is there."""
-    report, signals, missing, origin = None, [], 0, None
-    for line in lines:
-        if line[0] == " ":
-            if report is not None:
-                signals.append(line)
-                missing -= 1
-        elif line.startswith("group "):
-            _, group, _, source, _ = line.split(" ", 4)
-            if source == MARKED:
-                report, origin = None, feed.origins.popleft()
-                continue
-            if origin is None:
-                raise program.Refused(program.FAULT, "a report without a mark")
-            signals, missing = [], feed.counts[group]
-            report, origin = Report(origin, group, signals), None
-        if report is not None and missing == 0:
-            yield report
-            report = None
+class Writer(Thread):
+    """Hands `follow` a log while its answer is read, each piece at once or when a block is full, and keeps what goes wrong."""
+
+    def __init__(self, pieces: Iterable[bytes], target: IO[bytes], at_once: bool) -> None:
+        super().__init__(daemon=True)
+        self._pieces, self._target, self._at_once = pieces, target, at_once
+        self.fault: BaseException | None = None
+
+    def run(self) -> None:
+        """Writes the log to its end."""
+        try:
+            with self._target:
+                for piece in self._pieces:
+                    self._target.write(piece)
+                    if self._at_once:
+                        self._target.flush()
+        except BrokenPipeError:  # the program has ended, and says why by its status
+            pass
+        except BaseException as fault:  # it is raised where the reports are read
+            self.fault = fault
+
+    def close(self) -> None:
+        """Waits for the end of the log, and raises what went wrong."""
+        self.join()
+        if self.fault:
+            raise self.fault
 
 
-def read(plan: str, file: BinaryIO, feed: Feed) -> Iterator[Report]:
-    """The reports of a log, as it is read."""
+def as_it_comes(file: BinaryIO) -> Iterator[bytes]:
+    """What comes from a pipe, which can be opened only once, as soon as it is there."""
+    while piece := os.read(file.fileno(), 1 << 16):
+        yield piece
+
+
+def started(plan: str, log: BinaryIO | int) -> subprocess.Popen[bytes]:
+    """The program that follows a log."""
     try:
-        reader = subprocess.Popen([program.path(), "read", "--", plan, "/dev/stdin"], stdin=subprocess.PIPE, stdout=subprocess.PIPE)
+        return subprocess.Popen([program.path(), "follow", "--", plan, "/dev/stdin"], stdin=log, stdout=subprocess.PIPE)
     except OSError as fault:
         raise program.Refused(program.MISSING, f"j39plan can't be run: {program.path()}: {fault.strerror}") from None
-    assert reader.stdin is not None and reader.stdout is not None
-    writer = Thread(target=feed.write, args=(file, reader.stdin), daemon=True)
-    writer.start()
+
+
+def follow(plan: str, file: BinaryIO, tables: Tables, counts: Counts,
+           changed: Callable[[BinaryIO], Iterable[bytes]] | None = None) -> Iterator[Report]:
+    """The reports of a log, as it is read; what is read is what `changed` makes of the log, if it is given."""
+    at_once = changed is None and is_live(file)
+    pieces_of = as_it_comes if at_once else changed
+    reader = started(plan, subprocess.PIPE if pieces_of else file)
+    assert reader.stdout is not None
+    writer = None
+    if pieces_of and reader.stdin:
+        # The writer has a file object of its own: closing one waits for who reads it, and that may be a pipe where nothing comes.
+        writer = Writer(pieces_of(os.fdopen(os.dup(file.fileno()), "rb")), reader.stdin, at_once)
     try:
-        yield from reports_of(io.TextIOWrapper(reader.stdout, "ascii"), feed)
+        if writer:
+            writer.start()
+        yield from reports_of(io.TextIOWrapper(reader.stdout, "ascii"), tables, counts)
         status = reader.wait()
-        writer.join()
     except BaseException:
         reader.kill()
         reader.wait()
         raise
-    if feed.fault:
-        raise feed.fault
+    if writer:
+        writer.close()
     if status != 0:
         raise program.Refused(status)
-    if feed.origins:
-        raise program.Refused(program.FAULT, "a mark without a report")
 
 
 def tables_of(plan: str) -> Tables:
-    """The tables of a plan by which `read` can read logs."""
-    status, answer = program.call(["read", "--", plan, os.devnull])
+    """The tables of a plan by which `follow` can read logs."""
+    status, answer = program.call(["follow", "--", plan, os.devnull])
     if status != 0:
         raise program.Refused(status, answer.strip())
     with open(plan, "rb") as file:
         return Tables.of(file.read())
-
-
-def say_what_was_passed_over(log: Log) -> None:
-    """Says on standard error which lines of a log aren't read."""
-    if log.bad:
-        program.say(f"{log.bad} lines spell no frame")
-    if log.interface and log.elsewhere:
-        kept = log.interface.decode(errors="replace")
-        program.say(f"only frames of {kept} are read; {log.elsewhere} of other interfaces are passed over")

@@ -1,7 +1,7 @@
 #!/usr/bin/python3
 """Writes the signals of a log as a table: time, line, sender, receiver, group, signal, state, value, unit of measurement.
 
-The log is one of candump -L. What the frames say is what `j39plan read` reports of them.
+The log is one of candump -L. What the frames say, and who sent them, is what `j39plan follow` reports of them.
 """
 
 import csv
@@ -12,9 +12,8 @@ from collections.abc import Callable, Iterator
 from typing import TextIO
 
 import program
-from candump import Log
 from readings import Choice, Reading, Row, Rows
-from reports import Feed, is_live, read, say_what_was_passed_over, tables_of
+from reports import Counts, follow, is_live, tables_of
 
 HEADS = ("time", "line", "from", "to", "group", "signal", "state", "value", "unit", "detail")
 
@@ -32,9 +31,8 @@ class Plain:
     def put(self, row: Row) -> None:
         """Writes the signals of a message."""
         line, time, sender, to = row.origin
-        self._writer.writerows(
-            (time, line, sender, to, row.group, label, *reading) for label, reading in row.readings
-        )
+        head = (time, line, sender, to, row.group)
+        self._writer.writerows([(*head, label, *reading) for label, reading in row.readings])
 
 
 class Lines:
@@ -69,7 +67,8 @@ class Wide:
         line, time, sender, to = row.origin
         cells = [""] * len(self._columns)
         for label, reading in row.readings:
-            cells[self._columns[row.group, label]] = cell(reading)
+            at = self._columns[row.group, label.partition("[")[0]]
+            cells[at] = f"{cells[at]}; {cell(reading)}" if cells[at] else cell(reading)  # of a signal of several records
         self._writer.writerow([time, line, sender, to, row.group, *cells])
 
 
@@ -101,14 +100,14 @@ def main(words: list[str] | None = None) -> int:
     forms.add_argument("--wide", dest="form", action="store_const", const=Wide, help="a row a message, a column a signal")
     parser.set_defaults(form=Plain)
     given = parser.parse_intermixed_args(words)
-    log = Log()
+    counts = Counts()
     with program.copied(given.plan) as plan, open(given.log, "rb") as file:
         tables = tables_of(plan)
         choice = Choice(tables, given.names)
         form = given.form(sys.stdout, choice)
-        rows = Rows(choice).of(read(plan, file, Feed(tables, log)))
+        rows = Rows(choice).of(follow(plan, file, tables, counts))
         put_all(rows, form.put, sys.stdout.flush if is_live(file) else None)
-    say_what_was_passed_over(log)
+    counts.say()
     return 0
 
 

@@ -25,8 +25,8 @@ SCHEMA = os.path.join(os.path.dirname(os.path.realpath(__file__)), "plan.schema.
 
 # The keys and the kinds of signals that the first version doesn't know, each with the first that does.
 SINCE: dict[object, int] = {
-    (None, "keep_free"): 2, (None, "timing"): 3, ("group", "private"): 3, ("group", "most"): 3, ("group", "text"): 3,
-    ("signal", "per"): 3, ("flow", "period"): 3, ("flow", "deadline"): 3, "states": 3, "signed": 3, "dtc": 3,
+    (None, "keep_free"): 2, (None, "timing"): 3, ("group", "private"): 3, ("group", "most"): 3, ("group", "every"): 3, ("group", "text"): 3,
+    ("signal", "per"): 3, ("signal", "repeated"): 3, ("flow", "period"): 3, ("flow", "deadline"): 3, "states": 3, "signed": 3, "dtc": 3,
 }
 
 # What the schema can't say of a key.
@@ -255,6 +255,8 @@ def value_fault(plan: Plan, place: Place, key: str, cause: str) -> Told:
         return plan.line(place + (key,) + kept_fault(plan, key)), f"key {key}: {plan.wanted(place, key)}"
     spelled = plan.places.spelled.get(place + (key,), "")
     shown = f"{key} = {spelled}" if 0 < len(spelled) < 50 and "\n" not in spelled else f"key {key}"
+    if key == "repeated" and cause == "Range":
+        return plan.line(place + (key,)), f"{shown}: the group has no key every"
     if key in SCALE and plan.places.texts.get(place + ("kind",)) == "dtc":
         return plan.line(place + (key,)), f"{shown}: a dtc has no {key}"
     return plan.line(place + (key,)), f"{shown}: {plan.wanted(place, key)}{value_hint(plan, place, key, cause)}"
@@ -314,6 +316,11 @@ def of_two(plan: Plan, number: str, words: list[str]) -> Told:
         signals = plan.labelled(("group",), words[0]) + ("signal",)
         first, second = (plan.labelled(signals, label) for label in words[1:])
         return plan.line(second), f"shares a bit with {words[1]} at line {plan.line(first)}"
+    if number == "F14":
+        signals = plan.labelled(("group",), words[0]) + ("signal",)
+        first, second = (plan.labelled(signals, label) for label in words[1:])
+        other = "itself" if first == second else f"{words[2]} at line {plan.line(second)}"
+        return plan.line(first + ("repeated",)), f"key repeated: in a later record {words[1]} and {other} share a bit"
     if number == "F11":
         return plan.line(("flow", int(words[1]))), f"the same as at line {plan.line(('flow', int(words[0])))}"
     kind, key = PAIR_KEYS[number]

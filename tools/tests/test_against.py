@@ -2,12 +2,11 @@
 
 import random
 import re
-import subprocess
 import unittest
 from collections import Counter
 
 import program
-from tests.support import MARKED, NEWER, InFolder, example, run
+from tests.support import MARKED, NEWER, InFolder, example, run, text_of
 
 PLAN = """version = 1
 [[unit]]
@@ -149,7 +148,7 @@ class Against(InFolder):
             found = self.deviations(f"18EEFF00#{name}", "18FEEE00#7DFFFFFFFFFFFFFF")
             told = "".join(reversed(re.findall("..", name)))
             self.assertEqual(found[:2], [f"L:1: NAME {told} claims address 0: no unit has it",
-                                         "L:2: address 0 sends: no unit has it  (6 times)"])
+                                         "L:2: address 0 sends: no unit has it  (3 times)"])
 
     def test_a_claim_of_the_global_address_tells_nothing(self):
         self.assertEqual(self.deviations("18EEFFFF#0100000000000000", *CLAIMS), [])
@@ -197,8 +196,7 @@ class Against(InFolder):
     def test_a_message_of_no_group(self):
         frames = [frame.replace("ECFE00", "EBFE00") for frame in VI]
         self.assertEqual(self.deviations(*frames), ["L:1: PGN 65259 from ENGINE: no group has it"])
-        said = "L:1: PGN 65259 from ENGINE to all: announced, and not carried whole"
-        self.assertEqual(self.deviations(*frames[:2]), [said])
+        self.assertEqual(self.deviations(*frames[:2]), ["L:1: PGN 65259 from ENGINE: no group has it"])
 
     def test_a_message_of_a_proprietary_group_that_is_not_planned(self):
         frames = [frame.replace("ECFE00", "00EF00") for frame in VI]
@@ -213,19 +211,21 @@ class Against(InFolder):
         self.assertEqual(found[0], "L:1: VI from DISPLAY to all: announced, and not carried whole")
         self.assertNotIn("no flow", "".join(found))
 
-    def test_messages_are_carried_whole_where_read_reports_them(self):
-        """In a log of random packets: as many of each length from each address, and of none is the length planned here."""
+    def test_messages_are_carried_whole_where_follow_reports_them(self):
+        """In a log of random packets: what was announced soundly and isn't reported is told, and nothing else is."""
         chance = random.Random(1)
         log = self.write("random.log", "".join(f"{random_packet(chance)}\n" for _ in range(20000)))
-        found = run("against.py", self.write("plan.toml", GROUP % 1785), log)[1]
-        carried = re.findall(r": VI from (\d+) has (\d+) bytes, planned are 1785(?:  \((\d+) times\))?\n", found)
-        counts = Counter({(source, length): int(times or 1) for source, length, times in carried})
         for length in LENGTHS:
-            answer = program.call(["read", self.write("plan.toml", GROUP % length), log])[1]
-            reported = Counter(re.findall(r"^group VI from (\d+) ", answer, re.MULTILINE))
-            self.assertGreater(min(reported.values()), 20)
-            self.assertEqual({source: counts[source, str(length)] for source in reported}, reported)
-        self.assertEqual(len(counts), 2 * len(LENGTHS))
+            plan = self.write("plan.toml", GROUP % length)
+            reports = re.findall(r"^\d+ - group VI from \?@(\d) to (\S+) ", program.call(["follow", plan, log])[1], re.MULTILINE)
+            self.assertGreater(len(reports), 40)
+            announced = re.findall(rf"^1CEC(..)0(.)#(?:10|20){length:02X}00....ECFE00$", text_of(log), re.MULTILINE)
+            whole = Counter((source, "all" if to == "all" else to[-1]) for source, to in reports)
+            begun = Counter((source, "all" if to == "FF" else to[1]) for to, source in announced)
+            found = run("against.py", plan, log)[1]
+            told = re.findall(r": VI from (\d) to (\S+): announced, and not carried whole(?:  \((\d+) times\))?\n", found)
+            self.assertEqual({(source, to): int(times or 1) for source, to, times in told}, begun - whole)
+            self.assertEqual(len(told), 4)
 
     def test_another_priority(self):
         self.assertEqual(self.deviations("0CFEEE00#7DFFFFFFFFFFFFFF"), ["L:1: ET1 from ENGINE has priority 3, planned is 6"])
@@ -237,9 +237,7 @@ class Against(InFolder):
         self.assertEqual(self.compared(plan, [*FLOWS, "18FF1400#00112233"]), [])
         self.assertEqual(self.compared(plan, FLOWS), ["P: flow 4, PROP_B from ENGINE to all: never sent"])
         found = self.compared(plan, [*FLOWS, "1CFF1400#0011", "18FF1480#00112233", "18FF1500#00"])
-        self.assertEqual(found, ["L:7: PROP_B from ENGINE has 2 bytes, planned are 4",
-                                 "L:7: PROP_B from ENGINE has priority 7, planned is 6",
-                                 "L:8: PROP_B from DISPLAY to all: no flow"])
+        self.assertEqual(found, ["L:7: PROP_B from ENGINE has 2 bytes, planned are 4", "L:8: PROP_B from DISPLAY to all: no flow"])
 
     def test_private_groups(self):
         """Each is told by its flow; what another unit sends with its number is another maker's."""
@@ -264,14 +262,13 @@ class Against(InFolder):
             "L:12: SOFT from ENGINE has 1 bytes, planned are 2 to 4", "L:13: SOFT from ENGINE has 5 bytes, planned are 2 to 4"])
 
     def test_two_groups_of_one_number(self):
-        """That of the message's length, and of two that of the flow."""
-        unit = '[[unit]]\nlabel = "%s"\naddress = %d\nname = { identity = %d }\n'
+        """That of the message's length, and of two the first: `check` finds them."""
         group = '[[group]]\nlabel = "%s"\npgn = 65300\npriority = 6\nlength = %d\n'
         flow = '[[flow]]\ngroup = "%s"\nfrom = "%s"\nto = "all"\n'
-        plan = "".join(["version = 1\n", unit % ("A", 0, 1), unit % ("B", 11, 2),
-                        group % ("A_S", 8), group % ("B_S", 8), group % ("SHORT", 2),
-                        flow % ("A_S", "A"), flow % ("B_S", "B"), flow % ("SHORT", "A")])
-        self.assertEqual(self.compared(plan, ["18FF1400#0011223344556677", "18FF140B#0011223344556677", "18FF1400#0011"]), [])
+        plan = "".join([PLAN, group % ("LONG", 8), group % ("SHORT", 2), group % ("AGAIN", 2), flow % ("LONG", "ENGINE"),
+                        flow % ("SHORT", "ENGINE"), flow % ("AGAIN", "DISPLAY")])
+        found = self.compared(plan, [*FLOWS, "18FF1400#0011223344556677", "18FF1400#0011", "18FF1480#0011"])
+        self.assertEqual(found, ["L:9: SHORT from DISPLAY to all: no flow", "P: flow 6, AGAIN from DISPLAY to all: never sent"])
 
     def test_flows_that_are_not_planned(self):
         self.assertEqual(self.deviations("18FEEE80#7DFFFFFFFFFFFFFF"), ["L:1: ET1 from DISPLAY to all: no flow"])
@@ -323,28 +320,68 @@ class Against(InFolder):
         self.assertEqual(run("against.py", plan, log)[2], "against: 6 lines spell no frame\n")
 
     def test_two_interfaces(self):
-        """The first one is compared. A time in the place of an interface is none."""
+        """The first one is compared; what comes on another one isn't counted twice for its mark. A time is no interface."""
         plan = self.write("plan.toml", PLAN)
         other = [f"(2.0) can1 {frame}\n" for frame in ("18FEF105#FFFFFFFFFFFFFFFF", *VI)]
         mine = [f"(1.0) can0 {frame}\n" for frame in FLOWS[:-1]] + [f"(1.5) {FLOWS[-1]}\n"]
         log = self.write("drive.log", "".join(a + b for a, b in zip(mine, other)) + mine[-1])
-        said = "against: only frames of can0 are compared; 5 of other interfaces are passed over\n"
+        said = "against: the first interface is read; 5 lines of others are passed over\n"
         self.assertEqual(run("against.py", plan, log), (0, "deviations 0\n", said))
 
     def test_times_are_no_interfaces(self):
         plan = self.write("plan.toml", PLAN)
-        for form in ("({}.25) {}", "{}.25 {}", "12:00:{}.5 {}", "can0 {1}", "{1}"):
+        for form in ("({}.25) {}", "({}) {}", "can0 {1}", "{1}"):
             log = self.write("drive.log", "".join(form.format(second, frame) + "\n" for second, frame in enumerate(FLOWS)))
             self.assertEqual(run("against.py", plan, log), (0, "deviations 0\n", ""), form)
 
     def test_words_behind_the_data(self):
+        """A direction is passed over, also behind a frame that is marked; what comes so is as long as what comes without."""
         plan = self.write("plan.toml", PLAN)
-        log = self.write("the drive.log", "".join(f"(1.0) can0 {frame} {word}\n" for word in "RT" for frame in FLOWS))
-        status, answer, said = run("against.py", plan, log)
-        self.assertEqual((status, answer.splitlines()[-1]), (1, "deviations 3"))
-        mend = re.fullmatch(r"against: 12 lines spell no frame; words behind the data go by: (sed .*)\n", said).group(1)
-        subprocess.run(["sh", "-c", mend], cwd=self.folder, check=True)
-        self.assertEqual(run("against.py", plan, self.path("mended.log")), (0, "deviations 0\n", ""))
+        frames = [*CLAIMS, *FLOWS, "18FEF100#00", "18FEF100#0011", "18FEEE00#7DFF", "18FEEE00#7DFFFFFFFFFFFFFF"]
+        answers = []
+        for ending in ("", " R", "  T", "\tR\r"):
+            log = self.write("drive.log", "".join(f"(1.0) can0 {frame}{ending}\n" for frame in frames))
+            answers.append(run("against.py", plan, log))
+        self.assertEqual(answers[0][2], "")
+        self.assertIn("deviations 2\n", answers[0][1])
+        self.assertEqual(answers, answers[:1] * 4)
+
+    def periods(self, log, *words, period=10):
+        """What is told of ET1 and VI, which both have a period."""
+        plan = PLAN.replace("version = 1", "version = 3").replace('from = "ENGINE"\n', f'from = "ENGINE"\nperiod = {period}\n')
+        name = self.write("drive.log", "".join(f"({time}) can0 {frame}\n" for time, frame in log))
+        status, answer, said = run("against.py", *words, self.write("plan.toml", plan), name)
+        self.assertEqual((status, said), (int(not answer.startswith("deviations 0")), ""))
+        return [line.replace(name, "L") for line in answer.splitlines() if " behind " in line]
+
+    def test_periods(self):
+        """The least distance of the messages of a flow, with its line; exactly the period is no deviation."""
+        times = ["5.000000", "5.010000", "5.019999", "5.029000", "5.028000", "5.038", "6"]
+        log = [(time, "18FEEE00#7DFFFFFFFFFFFFFF") for time in times]
+        said = "flow 1, ET1 from ENGINE to all: {} ms behind the one before, its period is {} ms"
+        self.assertEqual(self.periods(log), ["L:4: " + said.format("9.001", 10) + "  (2 times)"])
+        self.assertEqual(self.periods(log, "--jitter", "0.999"), [])
+        self.assertEqual(self.periods(log, "--jitter", "0.998999"), ["L:4: " + said.format("9.001", 10)])
+        self.assertEqual(self.periods(log, period=9), [])
+        self.assertEqual(self.periods(log, period=1000), ["L:4: " + said.format("9.001", 1000) + "  (5 times)"])
+
+    def test_periods_of_long_messages(self):
+        """They count from the announcement, also where their last packets are nearer, and only where they were carried whole."""
+        late = [("1.000", VI[0]), ("1.003", VI[1]), ("1.004", VI[2]), ("1.009", VI[3])]
+        soon = [("1.010", VI[0]), ("1.011", VI[1]), ("1.012", VI[2]), ("1.013", VI[3])]
+        self.assertEqual(self.periods(late + soon), [])
+        broken = [("1.012", VI[0]), ("1.013", VI[1])]
+        self.assertEqual(self.periods(late + broken + [(f"1.02{number}", frame) for number, frame in enumerate(VI)]), [])
+        said = "flow 3, VI from ENGINE to all: 10 ms behind the one before, its period is 11 ms"
+        self.assertEqual(self.periods(late + soon, period=11), [f"L:5: {said}"])
+
+    def test_periods_without_times(self):
+        plan = PLAN.replace("version = 1", "version = 3").replace('from = "ENGINE"\n', 'from = "ENGINE"\nperiod = 10\n')
+        log = self.write("drive.log", "".join(f"{frame}\n" for frame in FLOWS))
+        said = "against: the log has no times by which the periods of flows could be compared\n"
+        self.assertEqual(run("against.py", self.write("plan.toml", plan), log), (0, "deviations 0\n", said))
+        for jitter in ("-1", "x", "1e3", ""):
+            self.assertEqual(run("against.py", f"--jitter={jitter}", self.path("plan.toml"), log)[0], 2)
 
     def test_plans_of_toml_1_1(self):
         for text in (NEWER, MARKED):
@@ -354,7 +391,8 @@ class Against(InFolder):
     def test_what_cannot_be_compared(self):
         log = self.write("drive.log", "")
         for plan, status, said in [
-            (example("findings/f01_same_name.toml"), 1, "refused plan SameName BOOM_LEFT BOOM_RIGHT"),
+            (example("findings/f07_signal_outside.toml"), 1,
+             program.call(["follow", example("findings/f07_signal_outside.toml"), log])[1].strip()),
             (self.write("plan.toml", "version = 4\n"), 2, "refused Range top key version"),
         ]:
             self.assertEqual(run("against.py", plan, log), (status, "", f"against: {said}\n"))

@@ -337,12 +337,56 @@ class Signals(WithDbc):
             self.assertEqual([line for line in said if line.startswith("signal ")], told)
 
 
+class Periods(InFolder):
+    """Cycle times of frames as canmatrix hands them out, as periods of flows."""
+
+    def plan(self, *frames, version=3):
+        """The flows with their periods, the remarks of the groups and what is said, of frames of one PGN from one node."""
+        ecu = SimpleNamespace(name="A", attributes={"NmStationAddress": "5", "NmJ1939IdentityNumber": "7"}, comment=None)
+        ecu.attribute = lambda name, _: ecu.attributes.get(name)
+        said = io.StringIO()
+        with contextlib.redirect_stderr(said):
+            plan = dbc2plan.Plan(SimpleNamespace(ecus=[ecu]), Notes(), version=version)
+            plan.add_units([])
+            plan.add_frames([self.frame(*times) for times in frames])
+        return [flow.keys.get("period") for flow in plan.flows.values()], plan.groups[0].table.remarks, said.getvalue().splitlines()
+
+    def frame(self, cycle_time, *signals):
+        """A frame of this cycle time, 0 for none, and of signals with theirs."""
+        ident = SimpleNamespace(extended=True, pgn=61444, j1939_priority=3, j1939_pdu_format=2, j1939_ps=4, j1939_source=5)
+        parts = [field(f"S{number}", 8 * number, 8, False) for number in range(len(signals))]
+        for part, time in zip(parts, signals):
+            part.cycle_time = time
+        return SimpleNamespace(name="EEC1", arbitration_id=ident, size=8, transmitters=["A"], cycle_time=cycle_time, signals=parts,
+                               is_fd=False, attributes={}, comment=None)
+
+    def test_periods(self):
+        """The frame's own, else what divides those of its signals."""
+        for times, period in (((20,), 20), ((0,), None), ((0, 100, 0), 100), ((0, 20, 30), 10), ((50, 10, 20), 50), ((65535,), 65535),
+                              ((1,), 1)):
+            self.assertEqual(self.plan(times), ([period], [], []), times)
+
+    def test_what_is_no_period(self):
+        for time in (65536, -1):
+            self.assertEqual(self.plan((time,)), ([None], [f"{time} ms"], [f"group EEC1: its cycle time of {time} ms is no period of 1 to 65535 ms"]))
+
+    def test_two_frames_of_one_flow(self):
+        said = ["flow of EEC1 from A to all: its cycle times are 50 and 20 ms: the lesser one is its period"]
+        self.assertEqual(self.plan((50,), (20,)), ([20], [], said))
+        self.assertEqual(self.plan((0,), (20,)), ([20], [], []))
+        self.assertEqual(self.plan((20,), (0,)), ([20], [], []))
+
+    def test_the_earlier_version(self):
+        """It has them as remarks."""
+        self.assertEqual(self.plan((20,), version=2), ([None], ["20 ms"], []))
+
+
 def field(name, start, size, is_text=True):
     """A signal as canmatrix hands it out: text of a SYM file, which a DBC file can't say, or a number."""
     return SimpleNamespace(
         name=name, size=size, is_ascii=is_text, is_signed=False, is_float=False, is_little_endian=True, factor=1, offset=0, unit="",
         multiplex=None, mux_val=None, mux_val_grp=[], is_multiplexer=False, values={}, attributes={}, comment=None, cycle_time=0,
-        get_startbit=lambda **_: start)
+        start_bit=start, get_startbit=lambda **_: start)
 
 
 class Texts(InFolder):
@@ -377,7 +421,8 @@ class Remarks(WithDbc):
             f'VAL_ {number} STATE 1 "on" 0 "off" ;\n'))
         for line in (
             'label = "ENGINE"  # "Diesel engine"',
-            'label = "EEC1"  # 20 ms, "Electronic engine controller 1 # \u00fc"',
+            'label = "EEC1"  # "Electronic engine controller 1 # \u00fc"',
+            "period = 20",
             'label = "SPN190"  # SPN 190, 10 ms, "Actual engine speed"',
             'label = "STATE"  # 0 = "off", 1 = "on"',
             'label = "RETARDER"',
@@ -415,7 +460,9 @@ class Remarks(WithDbc):
         text, _ = self.text(data=NODES + message(FROM_0, "EEC1", "ENGINE") + message(FROM_15, "AGAIN", "RETARDER") + (
             f'BA_DEF_ BO_ "GenMsgCycleTime" INT 0 65535;\nBA_ "GenMsgCycleTime" BO_ {FROM_0 | 1 << 31} 20;\n'
             f'BA_ "GenMsgCycleTime" BO_ {FROM_15 | 1 << 31} 50;\n'))
-        self.assertIn('label = "EEC1"  # 20 ms; AGAIN, 50 ms', text.splitlines())
+        self.assertIn('label = "EEC1"  # AGAIN', text.splitlines())
+        flows = [(flow["from"], flow["period"]) for flow in tomllib.loads(text)["flow"]]
+        self.assertEqual(flows, [("ENGINE", 20), ("RETARDER", 50)])
 
 
 @needs("canmatrix", "python3-canmatrix")

@@ -114,17 +114,15 @@ class OtherFiles(InFolder):
 
     def test_as_a_log_of_signals(self):
         for name in self.files:
-            bad = program.call(["read", PLAN, name])[1].split()[-1]
             _, answer, said = run("signals.py", "--json", PLAN, name)
-            self.assertEqual(said.strip(), f"signals: {bad} lines spell no frame" if bad != "0" else "", name)
+            self.assertEqual(said, passed_over("signals", name), name)
             self.assertEqual(answer == "", not name.endswith("log"))
 
     def test_as_a_log(self):
-        """Each line is counted as `read` counts it, and what is put is whole."""
+        """Each line is counted as `follow` counts it, and what is put is whole."""
         for name in self.files:
             status, answer, said = run("against.py", PLAN, name)
-            bad = program.call(["read", PLAN, name])[1].split()[-1]
-            self.assertEqual(said.split("; words")[0].strip(), f"against: {bad} lines spell no frame" if bad != "0" else "", name)
+            self.assertEqual(said, passed_over("against", name), name)
             *found, count = answer.splitlines()
             self.assertEqual((status, count), (1, f"deviations {len(found)}"), name)
 
@@ -138,6 +136,14 @@ class OtherFiles(InFolder):
                 status, answer, said = run(*words, os.path.join(os.fsencode(self.folder), name))
                 self.assertEqual(status, 0, said)
             self.assertEqual(program.call(["run", PLAN, self.write("start.schedule", answer)])[0], 0)
+
+
+def passed_over(tool, log):
+    """What a tool says of the lines of a log that `follow` counts as bad or elsewhere."""
+    *_, bad, _, elsewhere = program.call(["follow", PLAN, log])[1].split()
+    texts = [f"{bad} lines spell no frame"] * (bad != "0")
+    texts += [f"the first interface is read; {elsewhere} lines of others are passed over"] * (elsewhere != "0")
+    return "".join(f"{tool}: {text}\n" for text in texts)
 
 
 class Interrupted(InFolder):

@@ -24,18 +24,21 @@ def scale(signal):
 
 
 def said(plan):
-    """What of a plan a DBC can say: of a group of several lengths the longest."""
+    """What of a plan a DBC can say: of a group of several lengths the longest, and no signal that is repeated."""
     addresses = {unit["label"]: unit["address"] for unit in plan.get("unit", [])}
     units = {unit["label"]: (unit["address"], {key: part for key, part in unit["name"].items() if part})
              for unit in plan.get("unit", [])}
     groups = {
         group["label"]: (group["pgn"], group["priority"], group.get("most", group["length"]), group.get("private", False), [
             (signal["label"], signal["byte"], signal.get("bit", 1), signal["bits"], signal["kind"], scale(signal), signal.get("unit", ""))
-            for signal in group.get("signal", [])])
+            for signal in group.get("signal", []) if not signal.get("repeated")])
         for group in plan.get("group", [])
     }
     to_all = {label for label, group in groups.items() if group[0] >> 8 & 0xFF >= 240}
-    flows = {(flow["group"], flow["from"], "all" if flow["group"] in to_all else flow["to"]) for flow in plan.get("flow", [])}
+    flows = {}
+    for flow in plan.get("flow", []):
+        way = flow["group"], flow["from"], "all" if flow["group"] in to_all else flow["to"]
+        flows[way] = min(filter(None, (flows.get(way), flow.get("period"))), default=None)
     return units, groups, flows, sorted(addresses)
 
 
@@ -57,6 +60,11 @@ def random_scale(chance):
     """What the values of a signal mean."""
     return {"step": chance.choice([1, 1, 3, 25, 1000000]), "per": chance.choice([1, 8, 10, 1000, 2**23, 5**10]),
             "offset": chance.choice([0, -40, 7, -10**12, 10**12]), "unit": chance.choice(UNITS)}
+
+
+def random_period(chance):
+    """How far apart messages of a flow are, if that is said."""
+    return chance.choice([{}, {"period": chance.choice([1, 20, 65535])}])
 
 
 def written(header, keys):
@@ -81,7 +89,7 @@ def random_plan(chance):
         text += "".join(written("group.signal", signal) for signal in random_signals(chance, length))
         for sender in chance.sample(labels, chance.randrange(len(labels) + 1)):
             others = [other for other in labels if other != sender and pgn < 256 * 240] + ["all"]
-            text += "".join(written("flow", {"group": label, "from": sender, "to": to})
+            text += "".join(written("flow", {"group": label, "from": sender, "to": to, **random_period(chance)})
                             for to in chance.sample(others, chance.randrange(1, len(others) + 1)))
     return text
 
@@ -132,6 +140,20 @@ class RoundTrip(WithPlans):
             ("ONE", "ECU", "all"), ("ONE", "THIRD", "all"), ("TWO", "OTHER", "all"), ("THREE", "ECU", "THIRD")))
         plan = self.write("plan.toml", "version = 3\n" + units + groups + flows)
         self.assertEqual(said(self.back(plan)), said(tomllib.loads(text_of(plan))))
+
+    def test_periods(self):
+        """Each flow has its own, also where one group is sent to several; none becomes a remark."""
+        units = "".join(written("unit", {"label": label, "address": address}) + f"name = {{ identity = {address} }}\n"
+                        for address, label in enumerate(("ONE", "TWO", "THREE")))
+        groups = "".join(written("group", {"label": label, "pgn": pgn, "priority": 6, "length": 8})
+                         for label, pgn in (("TSC1", 0), ("EEC1", 61444)))
+        flows = "".join(written("flow", {"group": group, "from": sender, "to": to, "period": period}) for group, sender, to, period in (
+            ("TSC1", "ONE", "TWO", 10), ("TSC1", "ONE", "THREE", 50), ("EEC1", "ONE", "all", 20), ("EEC1", "TWO", "all", 65535)))
+        plan = self.write("plan.toml", "version = 3\n" + units + groups + flows)
+        dbc, told = self.made(plan)
+        self.assertEqual((told, text_of(dbc).count('BA_ "GenMsgCycleTime" BO_ ')), ("3 nodes 4 messages, notes 0\n", 4))
+        self.assertEqual(said(self.back(plan)), said(tomllib.loads(text_of(plan))))
+        self.assertNotIn(" ms", run("dbc2plan.py", dbc)[1])
 
     def test_random_frames(self):
         """canmatrix decodes them to the values that the plan's definition of a value gives."""
@@ -202,11 +224,28 @@ to = "DISPLAY"
         self.assertEqual(told.splitlines(), [
             "unit DISPLAY: a DBC has no chooser", "unit DISPLAY: a DBC has no window", "2 nodes 2 messages, notes 2"])
 
+    def test_what_a_dbc_has_not_of_timing(self):
+        """Of an identifier with several flows the least period is written, and that is said."""
+        text = text_of(example("axle.toml"))
+        dbc, told = self.made(self.write("plan.toml", text + '[[flow]]\ngroup = "ET1"\nfrom = "ENGINE"\nto = "RETARDER"\nperiod = 500\n'))
+        self.assertIn(f'BA_ "GenMsgCycleTime" BO_ {0x98FEEE00} 500;\n', text_of(dbc))
+        self.assertIn(f'BA_ "GenMsgCycleTime" BO_ {0x8CF00400} 10;\n', text_of(dbc))
+        self.assertEqual(told.splitlines(), [
+            "flow of ET1 from ENGINE to all: a DBC has no deadline",
+            "flow of ET1 from ENGINE to RETARDER: its identifier names no destination", "timing: a DBC has nothing of the bus for it",
+            "message ET1: its flows have the periods 500, 1000 ms: the least one is its cycle time", "2 nodes 3 messages, notes 4"])
+
     def test_texts_are_noted(self):
         _, dbc, said = run("plan2dbc.py", example("identification.toml"))
         self.assertIn("text SPN237 of VI: a DBC has no texts", said)
         self.assertIn("SG_ SPN965 ", dbc)
         self.assertNotIn("SPN234", dbc)
+
+    def test_signals_that_are_repeated_are_noted(self):
+        _, dbc, said = run("plan2dbc.py", example("trouble_codes.toml"))
+        self.assertIn("signal DTC of DM1: a DBC has no signals that are repeated", said)
+        self.assertIn("SG_ SPN624 ", dbc)
+        self.assertNotIn("DTC", dbc)
 
     def test_two_messages_of_one_identifier(self):
         """The second one, which check finds, is left out."""

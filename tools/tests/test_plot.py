@@ -3,16 +3,16 @@
 import math
 import os
 import random
+import shutil
 import subprocess
 import sys
 import unittest
 import xml.etree.ElementTree as ElementTree
 
 import program
-from candump import Log
 from curves import Held, Timeline, curves_of
 from readings import Choice, Rows
-from reports import Feed, read, tables_of
+from reports import Counts, follow, tables_of
 from tests.support import TOOLS, InFolder, example, needs, run
 
 PLAN = example("tractor_and_implement.toml")
@@ -36,11 +36,9 @@ class Told(WithLog):
     def told(self, log, *names):
         """The curves of a log, and who held which address."""
         tables = tables_of(PLAN)
-        feed = Feed(tables, Log())
-        timeline = Timeline(feed, (unit.address for unit in tables.units))
-        feed.claimed = timeline.claimed
+        timeline = Timeline(tables.units)
         with open(log, "rb") as file:
-            curves = curves_of(Rows(Choice(tables, names)).of(timeline.passed(read(PLAN, file, feed))))
+            curves = curves_of(Rows(Choice(tables, names)).of(timeline.passed(follow(PLAN, file, tables, Counts()))))
         return {(curve.group, curve.signal, curve.sender): curve for curve in curves}, timeline.held()
 
     def test_curves_have_gaps(self):
@@ -61,10 +59,8 @@ class Told(WithLog):
         ])
         self.assertEqual([part for part in held if part.address == 3], [Held(3, "TRANSMISSION", 100.0, 110.0, False)])
 
-    def test_times_of_other_forms(self):
-        """A time of day counts in seconds; without times the lines count."""
-        clock = self.write("clock.log", "12:00:01.5 can0 18FEEE00#7DFFFFFFFFFFFFFF\n12:01:00.0 can0 18FEEE00#7DFFFFFFFFFFFFFF\n")
-        self.assertEqual(list(self.told(clock, "SPN110")[0]["ET1", "SPN110", "ENGINE"].times), [43201.5, 43260.0])
+    def test_without_times(self):
+        """The lines count."""
         bare = self.write("bare.log", "\n18FEEE00#7DFFFFFFFFFFFFFF\n18FEEE00#7DFFFFFFFFFFFFFF\n")
         self.assertEqual(list(self.told(bare, "SPN110")[0]["ET1", "SPN110", "ENGINE"].times), [2.0, 3.0])
 
@@ -134,6 +130,17 @@ class Drawn(WithLog):
         refused = self.write("plan.toml", "version = 9\n")
         self.assertEqual(run("plot.py", refused, self.log, "SPN190", "-o", self.path("a.png")),
                          (2, "", "plot: refused Range top key version\n"))
+
+    @unittest.skipUnless(shutil.which("chromium"), "chromium isn't there: apt-get install chromium")
+    def test_the_pictures_of_the_pages(self):
+        """They can be made anew, as large as they are."""
+        ended = subprocess.run([sys.executable, os.path.join(TOOLS, "pictures"), self.folder], capture_output=True, text=True, check=False,
+                               env={**os.environ, "J39PLAN": program.path()})
+        self.assertEqual((ended.returncode, ended.stdout, ended.stderr), (0, "", ""))
+        for name, width in (("plot.png", 1000), ("report.png", 1120)):
+            with open(self.path(name), "rb") as file:
+                head = file.read(24)
+            self.assertEqual((head[:8], int.from_bytes(head[16:20], "big")), (b"\x89PNG\r\n\x1a\n", width))
 
     def test_many_points_keep_their_extremes(self):
         from picture import thinned

@@ -7,7 +7,6 @@ import subprocess
 import unittest
 from html.parser import HTMLParser
 
-import against
 import program
 from plan_tables import Tables
 from tests.support import MARKED, NEWER, TOP, InFolder, example, examples, run, signal, text_of
@@ -106,12 +105,13 @@ class Report(InFolder):
 
     def test_names_are_those_that_are_claimed(self):
         for plan in (PLAN, example("service_addresses.toml"), example("three_at_one_address.toml")):
-            claimed = {unit.label: unit for unit in against.planned_units(plan)}
-            for unit in Tables(places_of(plan)).units:
-                self.assertEqual((unit.name, unit.address, unit.may_choose), claimed[unit.label][1:])
+            labels = program.labels_of(plan)
+            frames = program.run(plan, [f"up {label}" for label in labels])[:len(labels)]
+            claimed = {label: (bytes.fromhex(frame[9:])[::-1].hex().upper(), int(frame[6:8], 16)) for label, frame in zip(labels, frames)}
+            self.assertEqual({unit.label: (unit.name, unit.address) for unit in Tables(places_of(plan)).units}, claimed)
             rows = [row[:2] for row in self.page(plan).rows]
-            for unit in claimed.values():
-                self.assertIn([unit.label, unit.name], rows)
+            for label, (name, _) in claimed.items():
+                self.assertIn([label, name], rows)
 
     def test_findings_have_their_lines(self):
         _, answer, _ = run("where.py", FAULTY)
@@ -194,6 +194,32 @@ length = 20
         self.assertEqual(matrix["SPRAYER", "to TERMINAL"], "ECU_TO_VT")
         self.assertEqual(matrix["ENGINE", "to all"], "EEC1ET1CCVSEC1")
         self.assertEqual(matrix["CLUSTER", "to ENGINE"], "–")
+
+    def test_load(self):
+        """The delays and the load are those that `load` prints; a plan that says nothing of the bus has no such section."""
+        for name in ("axle.toml", "findings/f17_overload.toml", "findings/f18_late_flow.toml"):
+            answer = program.call(["load", example(name)])[1]
+            rows = {int(row[0]): row for row in self.page(example(name)).rows if len(row) == 8 and row[0].isdigit()}
+            for number, word, first, last in re.findall(r"^flow (\d+) .* (within|late)(?: (\d+))? of (\d+) us$", answer, re.MULTILINE):
+                shown = rows.pop(int(number))[5:7]
+                self.assertEqual(shown[1], f"{int(last) / 1000:g} ms")
+                self.assertEqual(shown[0], f"{int(first) / 1000:g} ms" if word == "within" else "not shown to be in time")
+            self.assertEqual(rows, {})
+        self.assertIn("32160 of 250000 bits a second at most, 12.9 % of the bitrate.</p>", run("report.py", example("axle.toml"))[1])
+        full = "256000 of 250000 bits a second at most, 102.4 % of the bitrate. <strong>That is more than the bus carries.</strong>"
+        self.assertIn(full, run("report.py", example("findings/f17_overload.toml"))[1])
+        self.assertNotIn('id="load"', run("report.py", PLAN)[1])
+
+    def test_load_of_other_plans(self):
+        """A long message has no bound; findings before that leave the load unknown; a plan without flows takes nothing."""
+        text = text_of(example("axle.toml"))
+        long = self.page(self.write("long.toml", text.replace("pgn = 65262\npriority = 6\nlength = 8", "pgn = 65262\npriority = 6\nlength = 39")))
+        self.assertIn(["3", "ET1", "ENGINE", "all", "1000 ms", "no bound: 7 frames a message", "–", "–"], long.rows)
+        self.page(example("findings/f16_no_period.toml"))
+        self.assertIn("Not known: the plan has findings", run("report.py", example("findings/f16_no_period.toml"))[1])
+        bare = self.write("bare.toml", "version = 3\n[timing]\nbitrate = 500000\nunplanned = 0\n")
+        self.page(bare)
+        self.assertIn("0 of 500000 bits a second at most, 0.0 % of the bitrate.</p>", run("report.py", bare)[1])
 
     def test_a_plan_of_the_greatest_size(self):
         plan = self.write("plan.toml", large_plan())

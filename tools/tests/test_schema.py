@@ -134,6 +134,14 @@ class Validated(InFolder):
                     status, _ = program.call(["check", self.write("plan.toml", plan)])
                     self.assertEqual(self.faults(plan) == [], status != 2, plan)
 
+    def test_it_agrees_with_the_program_on_what_each_version_knows_of_records(self):
+        for version in (1, 2, 3):
+            for every in ("", "every = 0\n", "every = 4\n"):
+                for repeated in ("", "repeated = false\n", "repeated = true\n"):
+                    plan = SIGNAL.format(version, "raw").replace("[[group.signal]]", f"{every}[[group.signal]]") + repeated
+                    status, _ = program.call(["check", self.write("plan.toml", plan)])
+                    self.assertEqual(self.faults(plan) == [], status != 2, plan)
+
     def test_it_agrees_with_the_program_on_what_each_version_knows_of_time(self):
         for version in (1, 2, 3):
             for timing in ("", "timing = {}\n", "timing = { bitrate = 250000, unplanned = 0 }\n", "timing = { bitrate = 125000, unplanned = 0 }\n"):

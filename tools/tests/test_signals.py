@@ -11,8 +11,7 @@ import sys
 import unittest
 
 import program
-from reports import route_of
-from tests.support import MARKED, NEWER, TOOLS, InFolder, example, run, signal, text_of
+from tests.support import MARKED, NEWER, TOOLS, InFolder, example, run, signal
 from tests.test_report import large_plan
 
 PLAN, LOG = example("tractor_and_implement.toml"), example("tractor_and_implement.start.log")
@@ -73,12 +72,11 @@ class Signals(InFolder):
         return list(csv.DictReader(io.StringIO(answer)))
 
     def read(self, plan, log):
-        """What `read` reports: each message by its group and its signals, those from address 255 apart."""
-        parts = re.findall(r"^group (\w+) from (\d+) .*\n((?:  .*\n)*)", program.call(["read", plan, log])[1], re.MULTILINE)
-        return [(group, below) for group, source, below in parts if source != "255"]
+        """What `read` reports: each message by its group and its signals."""
+        return re.findall(r"^group (\w+) from \d+ .*\n((?:  .*\n)*)", program.call(["read", plan, log])[1], re.MULTILINE)
 
     def test_the_example(self):
-        rows = self.rows(PLAN, self.write("start.log", text_of(LOG).replace(" R\n", "\n")))
+        rows = self.rows(PLAN, LOG)
         said = [(row["line"], row["from"], row["group"], row["signal"], row["state"], row["value"], row["unit"]) for row in rows]
         self.assertIn(("1", "ENGINE", "EEC1", "SPN190", "value", "800", "rpm"), said)
         self.assertIn(("5", "ENGINE", "CCVS", "SPN70", "absent", "", ""), said)
@@ -106,19 +104,6 @@ class Signals(InFolder):
             met += len(expected)
         self.assertGreater(met, 80)
 
-    def test_routes_are_those_of_frame(self):
-        rng = random.Random(9)
-        for _ in range(300):
-            identifier = f"{rng.getrandbits(29):08X}"
-            answer = program.call(["frame", f"{identifier}#"])[1]
-            found = re.search(r"pgn (\d+) from (\d+) to (\w+)( other)?", answer)
-            route = route_of(identifier)
-            if found.group(4):
-                self.assertIsNone(route, identifier)
-            else:
-                to = "255" if found.group(3) == "all" else found.group(3)
-                self.assertEqual(tuple(map(str, route)), (found.group(1), found.group(2), to), identifier)
-
     def test_who_sends_is_who_holds_the_address(self):
         """A unit that moved is called by its label, and an address that nobody planned by its number."""
         log = self.write("a.log", "18EFFF80#01FFFF\n18EEFF81#0200000000000080\n18EFFF80#01FFFF\n18EF0081#01FFFF\n18EFFF25#01FFFF\n")
@@ -126,14 +111,13 @@ class Signals(InFolder):
         self.assertEqual([(row["line"], row["from"], row["to"]) for row in rows],
                          [("1", "PUMP", "all"), ("3", "128", "all"), ("4", "PUMP", "ENGINE"), ("5", "37", "all")])
 
-    def test_private_groups_are_passed_over(self):
-        """As `read` has it, whatever is private; where nothing else is planned there is nothing to tell."""
-        log = self.write("a.log", "18EFFF80#01FFFF\n18FF1400#0102\n18EFFF00#02FFFF\n")
+    def test_private_groups_are_told_by_their_flows(self):
+        """As `follow` has it: where a unit sends one by a flow."""
+        log = self.write("a.log", "18EFFF80#01FFFF\n18FF1400#0102\n18FF1480#0304\n18EFFF00#02FFFF\n")
         maker = '[[group]]\nlabel = "OWN"\npgn = 65300\npriority = 6\nlength = 2\nprivate = true\n'
-        maker += '[[group.signal]]\nlabel = "O"\nbyte = 1\nbits = 8\nkind = "raw"\n'
-        rows = self.rows(self.write("plan.toml", UNITS + maker + ONE), log)
-        self.assertEqual([(row["line"], row["group"], row["value"]) for row in rows], [("1", "ONE", "1"), ("3", "ONE", "2")])
-        self.assertEqual(self.rows(self.write("plan.toml", UNITS + maker), log), [])
+        maker += signal("O", 1, 8, "raw") + '[[flow]]\ngroup = "OWN"\nfrom = "PUMP"\nto = "all"\n'
+        rows = self.rows(self.write("plan.toml", UNITS + ONE + maker), log)
+        self.assertEqual([(row["line"], row["group"], row["value"]) for row in rows], [("1", "ONE", "1"), ("3", "OWN", "3"), ("4", "ONE", "2")])
 
     def test_values_are_exact(self):
         log = self.write("a.log", "18FEEE00#E12E07FF6E000305\n18FEEE00#00FF0780FFFFFFFF\n18FEEE00#00FE078000000000\n")
@@ -160,6 +144,17 @@ class Signals(InFolder):
         objects = [json.loads(line) for line in run("signals.py", "--json", plan, log, "G.T")[1].splitlines()]
         self.assertEqual([(told["state"], told["detail"]) for told in objects], [("text", "Hi"), ("text", "\\x22\\x5C")])
 
+    def test_records(self):
+        """Each by its place, as many as a message has; each report still has its line, and a column has all of them."""
+        plan, log = example("trouble_codes.toml"), example("trouble_codes.drive.log")
+        said = [(row["line"], row["signal"], row["state"], row["detail"]) for row in self.rows(plan, log, "DTC")]
+        codes = ["spn 100 fmi 1 count 2", "spn 110 fmi 0 count 3", "spn 190 fmi 8 count 1", "spn 3226 fmi 4 count 126",
+                 "spn 520192 fmi 31 count 1"]
+        several = [("7", f"DTC[{place}]", "dtc", code) for place, code in enumerate(codes, 1)]
+        self.assertEqual(said, [("1", "DTC[1]", "none", ""), ("2", "DTC[1]", "dtc", codes[1]), *several])
+        wide = [row["DM1.DTC"] for row in self.rows(plan, log, "--wide", "DM1.DTC")]
+        self.assertEqual(wide, ["none", f"dtc {codes[1]}", "; ".join(f"dtc {code}" for code in codes)])
+
     def test_all_forms_say_the_same(self):
         plan = self.write("plan.toml", KINDS)
         log = self.write("a.log", "(1.50) can0 18FEEE00#E12E07FF6E000305\n(2.5) can0 18FEEE80#00FF07800000FFFF\n")
@@ -175,7 +170,7 @@ class Signals(InFolder):
         self.assertEqual((second["from"], second["G.SPEED [rpm]"]), ("PUMP", "absent"))
 
     def test_what_is_chosen(self):
-        log = self.write("start.log", text_of(LOG).replace(" R\n", "\n"))
+        log = LOG
         whole = self.rows(PLAN, log)
         for names in (["SPN190"], ["ET1"], ["EEC1.SPN512", "CCVS"]):
             wanted = [row for row in whole if {row["signal"], row["group"], f"{row['group']}.{row['signal']}"}.intersection(names)]
@@ -199,12 +194,11 @@ class Signals(InFolder):
                          [(str(number + 1), f"U{number}", f"G{number}", str(number)) for number in range(128)])
 
     def test_what_is_passed_over_is_said(self):
-        said = run("signals.py", PLAN, LOG)[2]
-        self.assertEqual(said, "signals: 1 lines spell no frame\n")
+        self.assertEqual(run("signals.py", PLAN, self.write("a.log", "1\n(1.0) can0 x\n"))[2], "signals: 2 lines spell no frame\n")
         log = self.write("a.log", "(1.0) can0 18FEEE00#7DFFFFFFFFFFFFFF\n(1.0) can1 18FEEE00#7EFFFFFFFFFFFFFF\n")
         status, answer, said = run("signals.py", PLAN, log, "SPN110")
         self.assertEqual((status, answer.count("\n")), (0, 2))
-        self.assertEqual(said, "signals: only frames of can0 are read; 1 of other interfaces are passed over\n")
+        self.assertEqual(said, "signals: the first interface is read; 1 lines of others are passed over\n")
 
     def test_what_is_refused(self):
         refused = self.write("plan.toml", "version = 9\n")

@@ -219,6 +219,23 @@ class Where(InFolder):
         early = "7: refused UnknownKey group 1  (key most: only from version = 3 on)"
         self.assertEqual(self.answer(plan.replace("version = 3", "version = 2")), (2, [early]))
 
+    def test_records(self):
+        """Which signal comes onto which, which group has no records, and from which version on they are known."""
+        plan = (
+            'version = 3\n[[group]]\nlabel = "G"\npgn = 65226\npriority = 6\nlength = 8\nevery = 3\n'
+            '[[group.signal]]\nlabel = "S"\nbyte = 1\nbits = 32\nkind = "raw"\nrepeated = true\n'
+            '[[group.signal]]\nlabel = "T"\nbyte = 8\nbits = 8\nkind = "raw"\n'
+        )
+        itself = "13: F14 RecordOverlap G S S  (key repeated: in a later record S and itself share a bit)"
+        other = "13: F14 RecordOverlap G S T  (key repeated: in a later record S and T at line 14 share a bit)"
+        self.assertEqual(self.answer(plan), (1, [itself, other, "findings 2"]))
+        alone = "12: refused Range group 1 signal 1 key repeated  (repeated = true: the group has no key every)"
+        self.assertEqual(self.answer(plan.replace("every = 3\n", "")), (2, [alone]))
+        early = "7: refused UnknownKey group 1  (key every: only from version = 3 on)"
+        self.assertEqual(self.answer(plan.replace("version = 3", "version = 2")), (2, [early]))
+        early = "12: refused UnknownKey group 1 signal 1  (key repeated: only from version = 3 on)"
+        self.assertEqual(self.answer(plan.replace("version = 3", "version = 2").replace("every = 3\n", "")), (2, [early]))
+
     def test_each_shown_refusal_has_its_line(self):
         lines = [4, 2, 3, 9, 2, 3, 11, 3, 2, 5, 4, 15, 9, 2, 16]
         shown = shown_refusals()
