@@ -19,6 +19,9 @@ COMMAND = re.compile(r"(?:^|[\n;|] ?)(?:\./j39plan|tools/(?!package)[\w.-]+)(?: 
 # A file that is named and then shown.
 FILE = re.compile(r"`examples/([\w./]+)`[^`]*(?:`(?!examples/)[^`\n]+`[^`]*)*?```(?:toml|text)\n(.*?)```", re.DOTALL)
 
+# A definition, by the head of its line: an abbreviation, a function, a record or a family. Fields and constructors have no such head.
+DEFINITION = re.compile(r"^(?: *(?:abbrev|unfoldable)(?: pub)?| *pub (?:record|data)|record|data) ([^\s({:]+)", re.MULTILINE)
+
 
 def page(name):
     """A page's text."""
@@ -126,6 +129,28 @@ class Names(InFolder):
         there = {(crate, module) for crate, module in there if module not in ("Lib", "inside")}
         self.assertEqual(sorted(there ^ shown), [])
 
+    def test_a_name_of_definitions_has_one_home(self):
+        """No two modules of specs/, specs/inside/ included, have a definition of one name: whoever looks for a rule by its name finds it."""
+        homes = homes_of_definitions(TOP)
+        self.assertGreaterEqual(len(homes), 1200)
+        self.assertEqual({name: files for name, files in sorted(homes.items()) if len(files) > 1}, {})
+
+    def test_each_form_of_a_definition_is_seen(self):
+        for crate, module, text in (
+            ("lower", "One", "abbrev pub shared : ℕ\nshared = 1\n\nunfoldable pub own : ℕ\nown = shared\n"),
+            ("lower", "inside/Two", "module _ {X : Type 0} where\n  abbrev pub shared : X → X\n  shared x = x\n"),
+            ("upper", "Three", "pub record Both : Type 0 where\n  pub shared : ℕ\n  pub own : ℕ\n"),
+            ("upper", "Four", "-- ---- two\npub data Both : Type 0 where\n  One : ℕ → Both\n"),
+            ("upper", "Five", "abbrev local : ℕ\nlocal = 2\n\nrecord Hidden : Type 0 where\n  pub one : ℕ\n"),
+        ):
+            os.makedirs(self.path(f"crates/{crate}/specs/inside"), exist_ok=True)
+            self.write(f"crates/{crate}/specs/{module}.antt", text)
+        homes = {name: [file.split("specs/")[1] for file in files] for name, files in homes_of_definitions(self.folder).items()}
+        self.assertEqual(homes, {
+            "shared": ["One.antt", "inside/Two.antt"], "own": ["One.antt"], "Both": ["Four.antt", "Three.antt"],
+            "local": ["Five.antt"], "Hidden": ["Five.antt"],
+        })
+
     def test_files_to_change_are_there(self):
         """The lists of docs/ARCHITECTURE.md on what is added where name files and folders that are there."""
         names = re.findall(r"`([\w.-]+(?:/[\w.-]*)*)`", page("docs/ARCHITECTURE.md").split("## To add a step")[1])
@@ -148,6 +173,15 @@ class Names(InFolder):
         for high, low in numbers:
             number = re.compile(rf"^(?!\s*(?://|--)).*\b{high}_?{low}\b", re.MULTILINE)
             self.assertEqual(sorted(name for name in files if number.search(files[name])), homes, high + low)
+
+
+def homes_of_definitions(top):
+    """The files of specs/ that define each name."""
+    homes = {}
+    for file in sorted(glob.glob("crates/*/specs/**/*.antt", root_dir=top, recursive=True)):
+        for name in dict.fromkeys(re.findall(DEFINITION, text_of(os.path.join(top, file)))):
+            homes.setdefault(name, []).append(file)
+    return homes
 
 
 def proved_sections():

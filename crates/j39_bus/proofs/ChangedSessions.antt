@@ -7,7 +7,7 @@ use Rattle.j39_tp.specs.declared.sending.stage.Stage.{Stage}
 use Rattle.j39_bus.specs.BusState.{session_at}
 use Rattle.j39_bus.specs.inside.Traffic.{AreSessions, IsSession, at_stage}
 use Rattle.j39_world.specs.Transfers.{Outgoing}
-use Rattle.j39_world.specs.TransferSteps.{session_after, session_hears}
+use Rattle.j39_world.specs.TransferSteps.{session_after, outgoing_hears}
 use Rattle.j39_world.specs.World.{changed}
 
 pub none_some : {X : Type 0} (x : X) → None ≡ Some x → ⊥
@@ -56,7 +56,7 @@ pub sessions_staged : (n : ℕ) (old new : List (Option Outgoing)) (u : ℕ) (st
 sessions_staged n old new u stage is count are = sessions_changed n old new u _ is (staged n stage (session_at old u) (are.each u)) count are
 
 -- what a sender hears changes its stage alone
-pub after_is : (o : Option Outgoing) (v : ℕ) (p : Packet) → session_after o v p ≡ at_stage (λ s. (session_hears s v p).0) o
+pub after_is : (o : Option Outgoing) (v : ℕ) (p : Packet) → session_after o v p ≡ at_stage (λ s. (outgoing_hears s v p).0) o
 after_is None v p = refl
 after_is (Some s) v p = refl
 

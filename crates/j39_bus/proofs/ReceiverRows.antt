@@ -10,16 +10,16 @@ use Rattle.j39_queues.proofs.Tables.{cell_is, row_is, tabled_set, with_cell_at, 
 use Rattle.j39_world.specs.Flows.{window_at}
 use Rattle.j39_world.specs.World.{changed_pair}
 use Rattle.j39_bus.specs.BusState.{Holding, ReceiverTable, closed, holding_at}
-use Rattle.j39_bus.specs.inside.Receivers.{IsAnswering, IsReceivers, Row, Slot, holding_of, holdings_of, slot_at}
+use Rattle.j39_bus.specs.inside.Receivers.{IsAnswering, IsReceivers, ReceiverRow, ReceiverSlot, holding_of, holdings_of, slot_at}
 
-abbrev pub slots : Row → List Slot
+abbrev pub slots : ReceiverRow → List ReceiverSlot
 slots r = r.items
 
-length-holdings : (rows : List Row) → length (holdings_of rows) ≡ length rows
-length-holdings rows = length-map rows (λ (r : Row). map holding_of r.items)
+length-holdings : (rows : List ReceiverRow) → length (holdings_of rows) ≡ length rows
+length-holdings rows = length-map rows (λ (r : ReceiverRow). map holding_of r.items)
 
 -- what is seen of rows is known, and they are a table
-module _ (windows : List ℕ) (rows : List Row) (was : ReceiverTable) (is : record { windows = windows; holdings = holdings_of rows } ≡ was)
+module _ (windows : List ℕ) (rows : List ReceiverRow) (was : ReceiverTable) (is : record { windows = windows; holdings = holdings_of rows } ≡ was)
     (well : IsReceivers windows rows)
     (v u : ℕ) (below_v : v < length was.windows) (below_u : u < length was.windows) where
   pub windows_are : windows ≡ was.windows
@@ -34,21 +34,21 @@ module _ (windows : List ℕ) (rows : List Row) (was : ReceiverTable) (is : reco
   pub in_v : v < length rows
   in_v = omega (arith, in_windows, count)
 
-  module _ (row : Row) (at_v : row ≡ get_or rows v row) where
+  module _ (row : ReceiverRow) (at_v : row ≡ get_or rows v row) where
     row_count : length row.items ≡ length windows
     row_count = sym (length-map row.items holding_of) ∙ sym (ap length (row_is slots holding_of rows v row in_v at_v)) ∙ well.table.columns v in_windows
 
     pub in_u : u < length row.items
     in_u = omega (arith, row_count, below_u, ap length windows_are)
 
-    module _ (slot : Slot) (at_u : slot ≡ get_or row.items u slot) where
+    module _ (slot : ReceiverSlot) (at_u : slot ≡ get_or row.items u slot) where
       pub holding_is : holding_of slot ≡ holding_at was.holdings v u
       holding_is = sym (cell_is slots holding_of rows v u row slot closed in_v at_v in_u at_u) ∙ ap (λ (t : ReceiverTable). holding_at t.holdings v u) is
 
       slot_is : slot_at rows v u ≡ slot
-      slot_is = ap (λ (l : List Slot). get_or l u None) (get_or-map slots rows v row [] in_v ∙ ap slots (sym at_v)) ∙ default row.items u in_u at_u
+      slot_is = ap (λ (l : List ReceiverSlot). get_or l u None) (get_or-map slots rows v row [] in_v ∙ ap slots (sym at_v)) ∙ default row.items u in_u at_u
         where
-          default : (l : List Slot) (k : ℕ) → k < length l → slot ≡ get_or l k slot → get_or l k None ≡ slot
+          default : (l : List ReceiverSlot) (k : ℕ) → k < length l → slot ≡ get_or l k slot → get_or l k None ≡ slot
           default [] k inside at = absurd (omega arith)
           default (x ∷ l) zero inside at = sym at
           default (x ∷ l) (suc k) inside at = default l k (omega arith) at
@@ -57,8 +57,8 @@ module _ (windows : List ℕ) (rows : List Row) (was : ReceiverTable) (is : reco
       answers_here = subst (IsAnswering (window_at windows v)) slot_is (well.answering v u)
 
       -- once it is another one
-      module _ (new : Slot) where
-        abbrev pub after : List Row
+      module _ (new : ReceiverSlot) where
+        abbrev pub after : List ReceiverRow
         after = set rows v (with_item row u new)
 
         tabled : holdings_of after ≡ set (holdings_of rows) v (set (get_or (holdings_of rows) v []) u (holding_of new))
@@ -82,8 +82,8 @@ module _ (windows : List ℕ) (rows : List Row) (was : ReceiverTable) (is : reco
         table_same same =
             (λ i. record {
               windows = windows;
-              holdings = map-set_same (λ (r : Row). map holding_of r.items) rows v (with_item row u new) row
-                  (within ∙ ap (λ (r : Row). map holding_of r.items) at_v) i;
+              holdings = map-set_same (λ (r : ReceiverRow). map holding_of r.items) rows v (with_item row u new) row
+                  (within ∙ ap (λ (r : ReceiverRow). map holding_of r.items) at_v) i;
             }) ∙ is
           where
             within : map holding_of (set row.items u new) ≡ map holding_of row.items
@@ -103,13 +103,13 @@ module _ (windows : List ℕ) (rows : List Row) (was : ReceiverTable) (is : reco
           where
             at : (s t : ℕ) → slot_at after s t ≡ changed_pair (slot_at rows) v u new s t
             at s t =
-                ap (λ (l : List (List Slot)). get_or (get_or l s []) t None) (slots_set rows)
+                ap (λ (l : List (List ReceiverSlot)). get_or (get_or l s []) t None) (slots_set rows)
                 ∙ with_cell_at None (map slots rows) v u new (omega (arith, in_v, length-map rows slots))
                 (omega (arith, in_u, ap length (get_or-map slots rows v row [] in_v ∙ ap slots (sym at_v)))) s t
               where
-                slots_set : (l : List Row) → map slots (set rows v (with_item row u new)) ≡ set (map slots rows) v (set (get_or (map slots rows) v []) u new)
+                slots_set : (l : List ReceiverRow) → map slots (set rows v (with_item row u new)) ≡ set (map slots rows) v (set (get_or (map slots rows) v []) u new)
                 slots_set l = map-set slots rows v (with_item row u new)
-                    ∙ ap (λ (r : List Slot). set (map slots rows) v (set r u new)) (sym (get_or-map slots rows v row [] in_v ∙ ap slots (sym at_v)))
+                    ∙ ap (λ (r : List ReceiverSlot). set (map slots rows) v (set r u new)) (sym (get_or-map slots rows v row [] in_v ∙ ap slots (sym at_v)))
 
             either : (s t : ℕ) → IsAnswering (window_at windows s) (changed_pair (slot_at rows) v u new s t)
             either s t = elim (cases_Bool (eqb s v && eqb t u)) [
@@ -119,18 +119,18 @@ module _ (windows : List ℕ) (rows : List Row) (was : ReceiverTable) (is : reco
 
 -- ---- no receiver yet
 
-abbrev pub none_in : ℕ → List Slot
+abbrev pub none_in : ℕ → List ReceiverSlot
 none_in n = replicate n None
 
 map-replicate : {X Y : Type 0} (f : X → Y) (n : ℕ) (x : X) → map f (replicate n x) ≡ replicate n (f x)
 map-replicate f zero x = refl
 map-replicate f (suc n) x = ap (λ ys. f x ∷ ys) (map-replicate f n x)
 
-pub rows_first : (n : ℕ) (rows : List Row) → map slots rows ≡ replicate n (none_in n) → holdings_of rows ≡ replicate n (replicate n closed)
+pub rows_first : (n : ℕ) (rows : List ReceiverRow) → map slots rows ≡ replicate n (none_in n) → holdings_of rows ≡ replicate n (replicate n closed)
 rows_first n rows are = sym (seen rows) ∙ ap (map (map holding_of)) are ∙ map-replicate (map holding_of) n (none_in n)
     ∙ ap (replicate n) (map-replicate holding_of n None)
   where
-    seen : (rows : List Row) → map (map holding_of) (map slots rows) ≡ holdings_of rows
+    seen : (rows : List ReceiverRow) → map (map holding_of) (map slots rows) ≡ holdings_of rows
     seen [] = refl
     seen (r ∷ rows) = ap (λ (l : List (List Holding)). map holding_of r.items ∷ l) (seen rows)
 
@@ -149,10 +149,10 @@ length_row zero k m x inside = absurd (omega arith)
 length_row (suc n) zero m x inside = length-replicate m x
 length_row (suc n) (suc k) m x inside = length_row n k m x (omega arith)
 
-pub closed_first : (n : ℕ) (rows : List Row) → map slots rows ≡ replicate n (none_in n) → (v u : ℕ) → holding_at (holdings_of rows) v u ≡ closed
+pub closed_first : (n : ℕ) (rows : List ReceiverRow) → map slots rows ≡ replicate n (none_in n) → (v u : ℕ) → holding_at (holdings_of rows) v u ≡ closed
 closed_first n rows are v u = ap (λ (l : List (List Holding)). holding_at l v u) (rows_first n rows are) ∙ get_row n v closed n u
 
-pub receivers_first : (windows : List ℕ) (rows : List Row) → ((v : ℕ) → 0 < window_at windows v)
+pub receivers_first : (windows : List ℕ) (rows : List ReceiverRow) → ((v : ℕ) → 0 < window_at windows v)
     → map slots rows ≡ replicate (length windows) (none_in (length windows)) → IsReceivers windows rows
 receivers_first windows rows positive are =
     let n : ℕ = length windows in
@@ -163,5 +163,5 @@ receivers_first windows rows positive are =
       };
       lets_some = positive;
       answering = λ v u. subst (IsAnswering (window_at windows v))
-          (sym (ap (λ (l : List (List Slot)). get_or (get_or l v []) u None) are ∙ get_row n v None n u)) tt;
+          (sym (ap (λ (l : List (List ReceiverSlot)). get_or (get_or l v []) u None) are ∙ get_row n v None n u)) tt;
     }

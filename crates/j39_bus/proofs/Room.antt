@@ -16,7 +16,7 @@ use Rattle.j39_claim.specs.declared.item.Item.TheVariants.{Told, Request}
 use Rattle.j39_claim.specs.ClaimRule.{PlannedUnit, ClaimState, Answers, holds_address, Moves, GivesUp}
 use Rattle.j39_claim.specs.ClaimerValue.{ClaimerValue, can_note}
 use Rattle.j39_bus.specs.Stations.{absent_unit, station_at}
-use Rattle.j39_bus.specs.inside.Network.{names_of, is_named, IsWellFormed}
+use Rattle.j39_bus.specs.inside.Network.{names_of, has_unit_named, IsWellFormed}
 
 nothing : (o : Option ℕ) → (is_some o ≡ true → ⊥) → o ≡ None
 nothing None h = refl
@@ -52,10 +52,10 @@ length-names [] = refl
 length-names (c ∷ cs) = omega (arith, length-names cs)
 
 -- a unit's NAME is one of the units'
-pub named : (cs : List ClaimerValue) (u : ℕ) → u < length cs → is_named cs (get_or cs u absent_unit).planned.name ≡ true
+pub named : (cs : List ClaimerValue) (u : ℕ) → u < length cs → has_unit_named cs (get_or cs u absent_unit).planned.name ≡ true
 named [] u inside = absurd (omega arith)
-named (c ∷ cs) zero inside = or_left (eqb c.planned.name c.planned.name) (is_named cs c.planned.name) (eq-eqb c.planned.name c.planned.name refl)
-named (c ∷ cs) (suc u) inside = or_right (eqb (get_or cs u absent_unit).planned.name c.planned.name) (is_named cs (get_or cs u absent_unit).planned.name)
+named (c ∷ cs) zero inside = or_left (eqb c.planned.name c.planned.name) (has_unit_named cs c.planned.name) (eq-eqb c.planned.name c.planned.name refl)
+named (c ∷ cs) (suc u) inside = or_right (eqb (get_or cs u absent_unit).planned.name c.planned.name) (has_unit_named cs (get_or cs u absent_unit).planned.name)
     (named cs u (omega arith))
 
 -- what is noted once n is
@@ -110,7 +110,7 @@ noted_then c s n Request says new answers k h = inr (sym (ap (λ (t : ClaimState
 
 -- the NAMEs stay
 pub named-set : (cs : List ClaimerValue) (v : ℕ) (c : ClaimerValue) (k : ℕ) → c.planned ≡ (get_or cs v absent_unit).planned
-    → is_named (set cs v c) k ≡ is_named cs k
+    → has_unit_named (set cs v c) k ≡ has_unit_named cs k
 named-set [] v c k same = refl
-named-set (d ∷ cs) zero c k same = ap (λ (x : PlannedUnit). eqb k x.name || is_named cs k) same
+named-set (d ∷ cs) zero c k same = ap (λ (x : PlannedUnit). eqb k x.name || has_unit_named cs k) same
 named-set (d ∷ cs) (suc v) c k same = ap (λ b. eqb k d.planned.name || b) (named-set cs v c k same)

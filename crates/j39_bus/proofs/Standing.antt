@@ -8,27 +8,27 @@ use Rattle.j39_world.specs.World.{World}
 use Rattle.j39_world.specs.Run.{cause_of, refusal, refusal_among, StepsTo, RunsThrough}
 use Rattle.j39_bus.specs.BusState.{BusState, Histories, histories_of, nowhere}
 use Rattle.j39_bus.specs.Stands.{Stands}
-use Rattle.j39_bus.specs.inside.Network.{state_of, world_in, HasHeld, IsOfPlan, IsAllowed, IsRefusal, KeepsPlan, Steps, refusal_in}
+use Rattle.j39_bus.specs.inside.Network.{bus_state, world_in, HasHeld, IsOfPlan, IsAllowed, IsRefusal, KeepsPlan, Steps, refusal_in}
 use Rattle.j39_bus.proofs.Refused.{IsOwnCause, own_cause, refusal_is}
 use Rattle.j39_bus.proofs.Steady.{plan_kept}
 
 -- a bus stands for each world of its network whose receivers hold what was taken
-pub stands : (net : Network) (plan : Plan) → IsOfPlan plan net → (h : Histories) → HasHeld h net → Stands (state_of net) plan (world_in h net)
+pub stands : (net : Network) (plan : Plan) → IsOfPlan plan net → (h : Histories) → HasHeld h net → Stands (bus_state net) plan (world_in h net)
 stands net plan planned h held = record { planned = planned; world = refl; held = held }
 
-module _ (old : Network) (b : BusState) (is_state : state_of old ≡ b) (step : Step) where
-  here : (plan : Plan) (w : World) → Stands b plan w → Stands (state_of old) plan w
+module _ (old : Network) (b : BusState) (is_state : bus_state old ≡ b) (step : Step) where
+  here : (plan : Plan) (w : World) → Stands b plan w → Stands (bus_state old) plan w
   here plan w s = subst (λ (v : BusState). Stands v plan w) (sym is_state) s
 
-  refused_by : (plan : Plan) (w : World) (s : Stands (state_of old) plan w) → refusal plan w step ≡ refusal_in old (histories_of w) step
+  refused_by : (plan : Plan) (w : World) (s : Stands (bus_state old) plan w) → refusal plan w step ≡ refusal_in old (histories_of w) step
   refused_by plan w s = refusal_is plan old s.planned w step
       ∙ (λ i. refusal_among (length old.claimers.items) old.flows.items (s.world i) step)
 
   -- what a step of the network does, the bus does
   pub step_done : (new : Network) → KeepsPlan old new → IsAllowed old step → Steps old step new → (plan : Plan) (w : World) → Stands b plan w
-      → (refusal plan w step ≡ None) × ((after : World) × StepsTo plan w step after × Stands (state_of new) plan after)
+      → (refusal plan w step ≡ None) × ((after : World) × StepsTo plan w step after × Stands (bus_state new) plan after)
   step_done new keeps allowed done plan w s =
-      let s' : Stands (state_of old) plan w = here plan w s in
+      let s' : Stands (bus_state old) plan w = here plan w s in
       let (after, steps, held) = done.of_plan plan s'.planned (histories_of w) s'.held in (
         refused_by plan w s' ∙ allowed.refusal.is (histories_of w),
         (

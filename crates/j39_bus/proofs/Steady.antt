@@ -12,7 +12,7 @@ use Rattle.j39_bus.proofs.Wires.{as_table}
 use Rattle.j39_bus.specs.BusState.{Histories, ReceiverTable, world_of}
 use Rattle.j39_bus.specs.Reports.{reported_of}
 use Rattle.j39_bus.specs.Stands.{HoldTaken}
-use Rattle.j39_bus.specs.inside.Network.{HasHeld, HasStepped, IsOfPlan, IsSameNetwork, KeepsPlan, planned_units, state_of, world_in}
+use Rattle.j39_bus.specs.inside.Network.{HasHeld, HasStepped, IsOfPlan, IsSameNetwork, KeepsPlan, planned_units, bus_state, world_in}
 use Rattle.j39_bus.specs.inside.Traffic.{IsTraffic}
 use Rattle.j39_world.specs.Sent.{sent_of}
 use Rattle.j39_world.specs.World.{World}
@@ -32,7 +32,7 @@ plan_kept old new plan keeps of = record {
 
 -- ---- a network of which nothing that is seen has changed
 module _ (old new : Network) (same : IsSameNetwork old new) where
-  pub state_is : state_of new ≡ state_of old
+  pub state_is : bus_state new ≡ bus_state old
   state_is = λ i. record {
     units = same.claimers i;
     claims = same.claims i;

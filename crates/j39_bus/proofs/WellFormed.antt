@@ -12,7 +12,7 @@ use Rattle.j39_claim.specs.ClaimRule.{ClaimState}
 use Rattle.j39_claim.specs.ClaimerValue.{ClaimerValue}
 use Rattle.j39_bus.specs.Stations.{absent_unit, station_at}
 use Rattle.j39_world.specs.World.{changed, is_other_on}
-use Rattle.j39_bus.specs.inside.Network.{is_named, IsWellFormed, HasAnswered}
+use Rattle.j39_bus.specs.inside.Network.{has_unit_named, IsWellFormed, HasAnswered}
 use Rattle.j39_queues.specs.Queued.{IsTable}
 use Rattle.j39_bus.proofs.Room.{named-set, noted_then}
 use Rattle.std.proofs.lemmas.List.{get_or_past}
@@ -21,7 +21,7 @@ use Rattle.j39_bus.proofs.Worlds.{any_default, station_set}
 -- a unit that has noted only units' NAMEs takes the place of another
 well_set : (cs : List ClaimerValue) (lists : List (List (List Item))) → IsWellFormed cs lists → (v : ℕ) → v < length cs → (c : ClaimerValue)
     → c.planned ≡ (get_or cs v absent_unit).planned
-    → ((n : ℕ) → is_some (get c.state.notes n) ≡ true → is_named cs n ≡ true)
+    → ((n : ℕ) → is_some (get c.state.notes n) ≡ true → has_unit_named cs n ≡ true)
     → (left : List (List (List Item))) → IsTable (length cs) left → IsWellFormed (set cs v c) left
 well_set cs lists well v inside c same notes left table = record {
   few = omega (arith, length-set cs v c, well.few);
@@ -29,7 +29,7 @@ well_set cs lists well v inside c same notes left table = record {
   notes = λ x n h. named-set cs v c n same ∙ old x n (sym (ap (λ (s : ClaimState). is_some (get s.notes n)) (station_set cs v c x inside)) ∙ h);
 }
   where
-    old : (x n : ℕ) → is_some (get (changed (station_at cs) v c.state x).notes n) ≡ true → is_named cs n ≡ true
+    old : (x n : ℕ) → is_some (get (changed (station_at cs) v c.state x).notes n) ≡ true → has_unit_named cs n ≡ true
     old x n h = elim (cases_eq x v) [
       | inl is ↦ notes n (sym (ap (λ (s : ClaimState). is_some (get s.notes n)) (cond-true (eqb x v) c.state (station_at cs x) (eq-eqb x v is))) ∙ h)
       | inr other ↦ well.notes x n (sym (ap (λ (s : ClaimState). is_some (get s.notes n)) (cond-false (eqb x v) c.state (station_at cs x) (ne_eqb x v other)))
@@ -52,7 +52,7 @@ well_on cs lists well u inside c same none left table =
 
 -- a unit has heard an item under one of the NAMEs
 pub well_heard : (cs : List ClaimerValue) (lists : List (List (List Item))) → IsWellFormed cs lists → (v : ℕ) → v < length cs → (name : ℕ)
-    → is_named cs name ≡ true
+    → has_unit_named cs name ≡ true
     → (item : Item) (says : Option Say) (new : List ClaimerValue) → HasAnswered cs v name item says new
     → (left : List (List (List Item))) → IsTable (length lists) left → IsWellFormed new left
 well_heard cs lists well v inside name is_one item says new (s, is, answers) left table =

@@ -34,9 +34,9 @@ impl Model for Bus {
 
     ghost coded = { Prim.hlevel (codes, coded_claimer) };
 
-    ghost use Rattle.j39_bus.specs.inside.Network.{state_of, IsBus};
+    ghost use Rattle.j39_bus.specs.inside.Network.{bus_state, IsBus};
 
-    ghost view = { λ b. state_of b.network };
+    ghost view = { λ b. bus_state b.network };
 
     ghost invariant = { λ b. IsBus b.network (length b.choosers.items) };
 }

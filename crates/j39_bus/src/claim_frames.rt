@@ -2,7 +2,6 @@
 ghost use Rattle.std.specs.Prelude.{◌≡◌, ◌≤◌, length};
 ghost use Rattle.j39_id.specs.Ident.{bits};
 ghost use Rattle.j39_claim.specs.ClaimRule.{say_of};
-ghost use Rattle.j39_tp.specs.Packets.{pgn_bytes};
 ghost use Rattle.j39_world.specs.Sent.{source_of, sent_of, frame_of, to_all, claimed_by};
 
 use arrayvec::ArrayVec;
@@ -16,14 +15,6 @@ fn to_all(pgn: Pgn, source: u8) -> Ident
     ensures { bits result ≡ to_all pgn source }
 {
     Ident::new(CLAIM_PRIORITY, pgn, GLOBAL_ADDRESS, source)
-}
-
-// The three bytes of a PGN, the least significant first.
-fn bytes_of(pgn: Pgn) -> [u8; 3]
-    ensures { result ≡ pgn_bytes pgn }
-{
-    let [low, middle, high, _] = pgn.number().to_le_bytes();
-    [low, middle, high]
 }
 
 pub(crate) fn source_of(held: Option<Address>) -> u8
@@ -66,7 +57,7 @@ pub(crate) fn frame_of(name: Name, held: Option<Address>, item: &Item) -> Frame
         },
         Item::Request => Frame {
             ident: to_all(REQUEST, source_of(held)),
-            payload: payload_of(&bytes_of(ADDRESS_CLAIMED)),
+            payload: payload_of(&ADDRESS_CLAIMED.to_bytes()),
         },
     }
 }

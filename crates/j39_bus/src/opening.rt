@@ -6,7 +6,7 @@ ghost use Rattle.j39_world.specs.Opening.{HaveOneName, AreNamesDistinct, IsFirst
 ghost use Rattle.j39_bus.specs.BusState.{histories_of};
 ghost use Rattle.j39_bus.specs.Stands.{Stands};
 ghost use Rattle.j39_bus.specs.inside.Network.{HasHeld, IsNetwork, IsOfPlan, world_in};
-ghost use Rattle.j39_world.specs.World.{first};
+ghost use Rattle.j39_world.specs.World.{all_off};
 ghost use Rattle.j39_bus.specs.inside.SendableGroups.{HasBadGroup};
 ghost use Rattle.j39_findings.specs.PlannedGroups.{IsSendable};
 
@@ -89,8 +89,8 @@ fn network_of(alloc: Global, plan: &Plan) -> Result<Network, AllocError>
     requires { All IsSendable plan.now.groups.items }
     ensures network { IfOk result (λ net. IsNetwork net) }
     ensures planned { IfOk result (λ net. IsOfPlan plan.now net) }
-    ensures world { IfOk result (λ net. world_in (histories_of first) net ≡ first) }
-    ensures held { IfOk result (λ net. HasHeld (histories_of first) net) }
+    ensures world { IfOk result (λ net. world_in (histories_of all_off) net ≡ all_off) }
+    ensures held { IfOk result (λ net. HasHeld (histories_of all_off) net) }
 {
     let units = plan.units.as_slice();
     let claimers = claimers_of(alloc, &plan.keep_free, units)?;
@@ -116,7 +116,7 @@ impl Bus {
     /// On an error the choosers are dropped.
     pub fn new(alloc: Global, plan: &Plan, choosers: Vec<Box<dyn Choose>>) -> Result<Self, BusError>
         ensures ok { OnOk result (CanOpen (length choosers.items) plan.now) }
-        ensures stands { IfOk result (λ bus. Stands bus plan.now first) }
+        ensures stands { IfOk result (λ bus. Stands bus plan.now all_off) }
         ensures units { IfOk result (λ bus. length bus.units ≡ length plan.now.units.items) }
         ensures refused { IfErr result (IsNotOpened (length choosers.items) plan.now) }
     {

@@ -4,7 +4,7 @@ ghost use Rattle.j39_id.specs.Limits.{message_bytes};
 ghost use Rattle.j39_tp.specs.Sender.{data_next, after_packet, timeout_packet, after_timeout, outcome_of, phase_of};
 ghost use Rattle.j39_world.specs.Flows.{dest_of};
 ghost use Rattle.j39_bus.specs.inside.Content.{GoesTo, bytes_in, group_in, stage_in};
-ghost use Rattle.j39_world.specs.TransferSteps.{begun_stage, first_item, session_hears};
+ghost use Rattle.j39_world.specs.TransferSteps.{begun_stage, first_item, outgoing_hears};
 ghost use Rattle.j39_world.specs.Transfers.{is_among};
 
 use j39_findings::To;
@@ -156,8 +156,8 @@ impl Session {
 
     /// What the sender does with a packet of a unit: it hears the one alone that its message goes to, and of a message to all nobody.
     pub(crate) fn hear(&mut self, from: usize, packet: &Packet) -> Reaction
-        ensures reaction { result ≡ (session_hears self.old from packet.now).1 }
-        ensures after { self.new ≡ record self.old { stage = (session_hears self.old from packet.now).0 } }
+        ensures reaction { result ≡ (outgoing_hears self.old from packet.now).1 }
+        ensures after { self.new ≡ record self.old { stage = (outgoing_hears self.old from packet.now).0 } }
     {
         let hears = match self.to {
             To::One(_) => is_among(self.targets.as_slice(), from),

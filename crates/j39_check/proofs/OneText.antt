@@ -20,7 +20,7 @@ use Rattle.j39_load.specs.declared.load_finding.LoadFinding.{LoadFinding}
 use Rattle.j39_load.specs.LoadFindings.{AreLoadFindings, load_findings}
 use Rattle.j39_load.specs.Loads.{loads_of, total_load}
 use Rattle.j39_load.proofs.OneLoad.{one_asked, told_once}
-use Rattle.j39_check.specs.AddressesText.{HasOneAddressesReport, stays_text, stays_word, unit_line, unit_lines}
+use Rattle.j39_check.specs.AddressesText.{HasOneAddressesReport, stays_text, stays_word, staying_line, staying_lines}
 use Rattle.j39_check.specs.PlanText.{Describes, IsRefusalLine, fault_line}
 use Rattle.j39_stream.specs.declared.verdict.Verdict.TheVariants.{Done, Findings, Refused, Unreadable}
 use Rattle.j39_text.specs.Texts.{field}
@@ -89,16 +89,16 @@ module _ (stays other : UnitPlan → Bool) where
   abbrev TellSame : List UnitPlan → Type 0
   TellSame units = (u : ℕ) (unit : UnitPlan) → slice_get units u ≡ Some unit → stays unit ≡ other unit
 
-  line_same : (unit : UnitPlan) → stays unit ≡ other unit → unit_line stays unit ≡ unit_line other unit
-  unfolding unit_line
+  line_same : (unit : UnitPlan) → stays unit ≡ other unit → staying_line stays unit ≡ staying_line other unit
+  unfolding staying_line
   line_same unit same = ap (λ b. codes "unit " ++ (unit.label.bytes ++ (field (stays_word b) unit.address ++ 10 ∷ []))) same
 
-  lines_same : (units : List UnitPlan) → TellSame units → unit_lines stays units ≡ unit_lines other units
-  unfolding unit_lines
+  lines_same : (units : List UnitPlan) → TellSame units → staying_lines stays units ≡ staying_lines other units
+  unfolding staying_lines
   lines_same [] same = refl
   lines_same (unit ∷ units) same =
-      ap (λ line. line ++ unit_lines stays units) (line_same unit (same zero unit refl))
-      ∙ ap (λ lines. unit_line other unit ++ lines) (lines_same units (λ u. same (suc u)))
+      ap (λ line. line ++ staying_lines stays units) (line_same unit (same zero unit refl))
+      ∙ ap (λ lines. staying_line other unit ++ lines) (lines_same units (λ u. same (suc u)))
 
   count_same : (units : List UnitPlan) → TellSame units → count_by stays units ≡ count_by other units
   count_same [] same = refl
@@ -112,7 +112,7 @@ module _ (stays other : UnitPlan → Bool) where
   unfolding stays_text
   text_same units same =
       ap (λ lines. lines ++ (field (codes "stay ") (count_by stays units) ++ (field (codes " of ") (length units) ++ 10 ∷ []))) (lines_same units same)
-      ∙ ap (λ n. unit_lines other units ++ (field (codes "stay ") n ++ (field (codes " of ") (length units) ++ 10 ∷ []))) (count_same units same)
+      ∙ ap (λ n. staying_lines other units ++ (field (codes "stay ") n ++ (field (codes " of ") (length units) ++ 10 ∷ []))) (count_same units same)
 
 pub one_addresses_report : (plan : Plan) → HasOneAddressesReport plan
 one_addresses_report plan text other Done Done is another =

@@ -2,12 +2,12 @@
 use Rattle.std.proofs.Common.{◌≡◌, ℕ, ◌+◌, ◌<◌, Bool, List, ◌++◌, length, drop, get_or, sym, ap}
 use Rattle.std.proofs.lemmas.List.{drop_more}
 use Rattle.j39_findings.specs.declared.plan.unit_plan.UnitPlan.{UnitPlan}
-use Rattle.j39_check.specs.AddressesText.{unit_line, unit_lines}
+use Rattle.j39_check.specs.AddressesText.{staying_line, staying_lines}
 
 -- the lines from a unit on are its own and those of the units behind it
 pub lines_from : (stays : UnitPlan → Bool) (units : List UnitPlan) (i : ℕ) (unit : UnitPlan) → unit ≡ get_or units i unit → i < length units
-    → unit_lines stays (drop i units) ≡ unit_line stays unit ++ unit_lines stays (drop (i + 1) units)
-unfolding unit_lines
+    → staying_lines stays (drop i units) ≡ staying_line stays unit ++ staying_lines stays (drop (i + 1) units)
+unfolding staying_lines
 lines_from stays units i unit is more =
     let next = drop_more units i unit more in
-    rw next (ap (λ u. unit_line stays u ++ unit_lines stays (drop (i + 1) units)) (sym is))
+    rw next (ap (λ u. staying_line stays u ++ staying_lines stays (drop (i + 1) units)) (sym is))

@@ -33,18 +33,18 @@ abbrev pub stays_word : Bool → List ℕ
 stays_word true = codes " stays "
 stays_word false = codes " may move from "
 
-unfoldable pub unit_line : (UnitPlan → Bool) → UnitPlan → List ℕ
-unit_line stays unit =
+unfoldable pub staying_line : (UnitPlan → Bool) → UnitPlan → List ℕ
+staying_line stays unit =
     codes "unit " ++ (unit.label.bytes ++ (field (stays_word (stays unit)) unit.address ++ 10 ∷ []))
 
-unfoldable pub unit_lines : (UnitPlan → Bool) → List UnitPlan → List ℕ
-unit_lines stays [] = []
-unit_lines stays (unit ∷ units) = unit_line stays unit ++ unit_lines stays units
+unfoldable pub staying_lines : (UnitPlan → Bool) → List UnitPlan → List ℕ
+staying_lines stays [] = []
+staying_lines stays (unit ∷ units) = staying_line stays unit ++ staying_lines stays units
 
 -- a line for each unit, and how many of them stay
 unfoldable pub stays_text : (UnitPlan → Bool) → List UnitPlan → List ℕ
 stays_text stays units =
-    unit_lines stays units ++ (field (codes "stay ") (count_by stays units) ++ (field (codes " of ") (length units) ++ 10 ∷ []))
+    staying_lines stays units ++ (field (codes "stay ") (count_by stays units) ++ (field (codes " of ") (length units) ++ 10 ∷ []))
 
 -- ---- what is written
 

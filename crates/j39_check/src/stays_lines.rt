@@ -1,6 +1,6 @@
 //! The lines that say which units of a plan stay.
 ghost use Rattle.std.specs.Prelude.{◌≡◌, ◌++◌, OnOk};
-ghost use Rattle.j39_check.specs.AddressesText.{stays_text, stays_word, unit_line, unit_lines};
+ghost use Rattle.j39_check.specs.AddressesText.{stays_text, stays_word, staying_line, staying_lines};
 ghost use Rattle.j39_load.specs.Standing.{stays_by};
 
 use j39_findings::UnitPlan;
@@ -14,9 +14,9 @@ fn word_of(stays: bool) -> &'static str
     if stays { " stays " } else { " may move from " }
 }
 
-#[tactic(auto, unfolding(crate::specs::AddressesText::unit_line))]
+#[tactic(auto, unfolding(crate::specs::AddressesText::staying_line))]
 fn write_unit(text: &mut TextBuffer, standing: &Standing, unit: &UnitPlan) -> Result<(), AllocError>
-    ensures { OnOk result (text.new ≡ text.old ++ unit_line (stays_by standing.now.firsts standing.now.mover) unit.now) }
+    ensures { OnOk result (text.new ≡ text.old ++ staying_line (stays_by standing.now.firsts standing.now.mover) unit.now) }
 {
     text.word("unit ")?;
     text.word(unit.label.as_str())?;
@@ -29,7 +29,7 @@ fn write_units(
     standing: &Standing,
     units: &[UnitPlan],
 ) -> Result<(), AllocError>
-    ensures { OnOk result (text.new ≡ text.old ++ unit_lines (stays_by standing.now.firsts standing.now.mover) units.now) }
+    ensures { OnOk result (text.new ≡ text.old ++ staying_lines (stays_by standing.now.firsts standing.now.mover) units.now) }
 {
     for unit in units {
         write_unit(text, standing, unit)?;

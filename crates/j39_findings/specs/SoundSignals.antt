@@ -21,8 +21,8 @@ pub record ReadsBack (s : SignalParts) : Type 0 where
   pub given_up : state_of s (all_ones s) ≡ unset_state s
 
 -- what a signal reads from a payload of this length in which these writes followed one another, from a blank payload on
-abbrev pub state_after : ℕ → List Write → SignalParts → State
-state_after bytes writes s = state_of s (raw_of (last_payload (blank bytes) writes) s)
+abbrev pub state_after_writes : ℕ → List Write → SignalParts → State
+state_after_writes bytes writes s = state_of s (raw_of (last_payload (blank bytes) writes) s)
 
 -- none of the writes is for the signal at this place
 abbrev pub LeaveAlone : List Write → ℕ → Type 0
@@ -32,11 +32,11 @@ LeaveAlone writes place = All (λ w. w.place ≢ place) writes
 -- whose last write gave it up, or that no write was for, reads as unset.
 pub record ReadsLastGiven (bytes : ℕ) (signals : List SignalParts) : Type 0 where
   pub given : (before after : List Write) (w : Write) → Chain signals (blank bytes) (before ++ w ∷ after) → LeaveAlone after w.place
-      → (value : ℤ) → HoldsAt (λ s. IsRawOf s value w.raw → state_after bytes (before ++ w ∷ after) s ≡ Value value) signals w.place
+      → (value : ℤ) → HoldsAt (λ s. IsRawOf s value w.raw → state_after_writes bytes (before ++ w ∷ after) s ≡ Value value) signals w.place
   pub given_up : (before after : List Write) (w : Write) → Chain signals (blank bytes) (before ++ w ∷ after) → LeaveAlone after w.place
-      → HoldsAt (λ s. w.raw ≡ all_ones s → state_after bytes (before ++ w ∷ after) s ≡ unset_state s) signals w.place
+      → HoldsAt (λ s. w.raw ≡ all_ones s → state_after_writes bytes (before ++ w ∷ after) s ≡ unset_state s) signals w.place
   pub never_given : (writes : List Write) (place : ℕ) → Chain signals (blank bytes) writes → LeaveAlone writes place
-      → place < length signals → HoldsAt (λ s. state_after bytes writes s ≡ unset_state s) signals place
+      → place < length signals → HoldsAt (λ s. state_after_writes bytes writes s ≡ unset_state s) signals place
 
 -- so it is in messages of each length that a group has, of the signals that aren't repeated and of those of each record
 pub record SoundSignals (plan : Plan) : Type 0 where

@@ -7,24 +7,24 @@ use Rattle.j39_findings.specs.declared.plan.Plan.{Plan}
 use Rattle.j39_findings.specs.declared.plan.flow_plan.FlowPlan.{FlowPlan}
 use Rattle.j39_findings.specs.declared.plan.group_plan.GroupPlan.{GroupPlan}
 use Rattle.j39_findings.specs.declared.plan.unit_plan.UnitPlan.{UnitPlan}
-use Rattle.j39_follow.specs.FollowText.{AreUnitLines, IsUnitLine, flow_line, flow_lines, group_end, group_ends, is_of_flow, is_without_flow, others_of, rest_line, sent_line}
+use Rattle.j39_follow.specs.FollowText.{AreUnitLines, IsUnitLine, flow_end, flow_ends, group_end, group_ends, is_of_flow, is_without_flow, others_of_number, rest_line, flow_sent_line}
 use Rattle.j39_follow.specs.declared.message.Sort.{Sort}
 
 flows_from : (plan : Plan) (sent : List Sort) (flows : List FlowPlan) (k : ℕ) (d : FlowPlan) → k < length flows
-    → flow_lines plan sent k (drop k flows) ≡ flow_line plan sent k (get_or flows k d) ++ flow_lines plan sent (k + 1) (drop (k + 1) flows)
-unfolding flow_lines
+    → flow_ends plan sent k (drop k flows) ≡ flow_end plan sent k (get_or flows k d) ++ flow_ends plan sent (k + 1) (drop (k + 1) flows)
+unfolding flow_ends
 flows_from plan sent flows k d more = let next = drop_more flows k d more in rw next refl
 
 -- one flow more is written
 pub one_more_flow : (plan : Plan) (sent : List Sort) (flows : List FlowPlan) (old new all : List ℕ) (k times : ℕ) (flow : FlowPlan)
-    → k < length flows → flow ≡ get_or flows k flow → times ≡ count_by (is_of_flow k) sent → new ≡ old ++ sent_line plan k flow times
-    → old ++ flow_lines plan sent k (drop k flows) ≡ all → new ++ flow_lines plan sent (k + 1) (drop (k + 1) flows) ≡ all
+    → k < length flows → flow ≡ get_or flows k flow → times ≡ count_by (is_of_flow k) sent → new ≡ old ++ flow_sent_line plan k flow times
+    → old ++ flow_ends plan sent k (drop k flows) ≡ all → new ++ flow_ends plan sent (k + 1) (drop (k + 1) flows) ≡ all
 one_more_flow plan sent flows old new all k times flow more here count written before =
-    let rest : List ℕ = flow_lines plan sent (k + 1) (drop (k + 1) flows) in
-    let next : flow_lines plan sent k (drop k flows) ≡ flow_line plan sent k flow ++ rest =
-    flows_from plan sent flows k flow more ∙ ap (λ (f : FlowPlan). flow_line plan sent k f ++ rest) (sym here) in
-    ap (λ (t : List ℕ). t ++ rest) (written ∙ ap (λ (n : ℕ). old ++ sent_line plan k flow n) count)
-    ∙ append_assoc old (flow_line plan sent k flow) rest ∙ sym (ap (λ (t : List ℕ). old ++ t) next) ∙ before
+    let rest : List ℕ = flow_ends plan sent (k + 1) (drop (k + 1) flows) in
+    let next : flow_ends plan sent k (drop k flows) ≡ flow_end plan sent k flow ++ rest =
+    flows_from plan sent flows k flow more ∙ ap (λ (f : FlowPlan). flow_end plan sent k f ++ rest) (sym here) in
+    ap (λ (t : List ℕ). t ++ rest) (written ∙ ap (λ (n : ℕ). old ++ flow_sent_line plan k flow n) count)
+    ∙ append_assoc old (flow_end plan sent k flow) rest ∙ sym (ap (λ (t : List ℕ). old ++ t) next) ∙ before
 
 groups_from : (plan : Plan) (sent : List Sort) (groups : List GroupPlan) (k : ℕ) (d : GroupPlan) → k < length groups
     → group_ends plan sent k (drop k groups) ≡ group_end plan sent k (get_or groups k d) ++ group_ends plan sent (k + 1) (drop (k + 1) groups)
@@ -32,7 +32,7 @@ unfolding group_ends
 groups_from plan sent groups k d more = let next = drop_more groups k d more in rw next refl
 
 pub one_more_group : (plan : Plan) (sent : List Sort) (groups : List GroupPlan) (old new all : List ℕ) (k unplanned others : ℕ) (group : GroupPlan)
-    → k < length groups → group ≡ get_or groups k group → unplanned ≡ count_by (is_without_flow k) sent → others ≡ others_of plan sent k group
+    → k < length groups → group ≡ get_or groups k group → unplanned ≡ count_by (is_without_flow k) sent → others ≡ others_of_number plan sent k group
     → new ≡ old ++ rest_line group unplanned others
     → old ++ group_ends plan sent k (drop k groups) ≡ all → new ++ group_ends plan sent (k + 1) (drop (k + 1) groups) ≡ all
 one_more_group plan sent groups old new all k unplanned others group more here first second written before =
@@ -43,8 +43,8 @@ one_more_group plan sent groups old new all k unplanned others group more here f
     ∙ ap (λ (n : ℕ). old ++ rest_line group (count_by (is_without_flow k) sent) n) second)
     ∙ append_assoc old (group_end plan sent k group) rest ∙ sym (ap (λ (t : List ℕ). old ++ t) next) ∙ before
 
-pub no_flows : (plan : Plan) (sent : List Sort) (k : ℕ) (text : List ℕ) → text ++ flow_lines plan sent k [] ≡ text
-unfolding flow_lines
+pub no_flows : (plan : Plan) (sent : List Sort) (k : ℕ) (text : List ℕ) → text ++ flow_ends plan sent k [] ≡ text
+unfolding flow_ends
 no_flows plan sent k text = append-nil text
 
 pub no_groups : (plan : Plan) (sent : List Sort) (k : ℕ) (text : List ℕ) → text ++ group_ends plan sent k [] ≡ text

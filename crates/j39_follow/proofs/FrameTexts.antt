@@ -2,8 +2,8 @@
 use Rattle.std.proofs.Common.{◌≡◌, ◌++◌, ℕ, true, false, List, length, Option, Some, None, sym, ap, ◌∙◌, append_assoc}
 use Rattle.j39_id.specs.declared.frame.Frame.{Frame}
 use Rattle.j39_findings.specs.declared.plan.Plan.{Plan}
-use Rattle.j39_follow.specs.Fits.{IsGroupOf}
-use Rattle.j39_follow.specs.FollowReports.{IsGroupOfMessage, IsGrouped, IsSending, Message}
+use Rattle.j39_follow.specs.Fits.{IsSentGroup}
+use Rattle.j39_follow.specs.FollowReports.{IsGroupOfMessage, IsGrouped, IsSendingOf, Message}
 use Rattle.j39_follow.specs.declared.message.Sort.{Sort}
 use Rattle.j39_follow.specs.declared.sending.Sending.{Sending}
 use Rattle.j39_follow.specs.inside.Reporting.{is_grouped}
@@ -13,14 +13,14 @@ false_true e = cc
 
 -- what counts as of a group is one
 pub is_a_group : (plan : Plan) (frames : List Frame) (front : List ℕ) (m : Message) (sort : Sort) (text : List ℕ) (sent : Sending) (group : Option ℕ)
-    → IsSending plan frames m sent → IsGroupOf plan m.pgn (length m.bytes) sent group → IsGrouped plan frames front m sent group sort text
+    → IsSendingOf plan frames m sent → IsSentGroup plan m.pgn (length m.bytes) sent group → IsGrouped plan frames front m sent group sort text
     → is_grouped sort ≡ true → (g : ℕ) × IsGroupOfMessage plan frames m (Some g)
 is_a_group plan frames front m sort text sent (Some g) sending of grouped e = (g, (sent, sending, of))
 is_a_group plan frames front m sort text sent None sending of grouped e = absurd (false_true (sym (ap is_grouped grouped.0) ∙ e))
 
 -- and what doesn't is none
 pub is_no_group : (plan : Plan) (frames : List Frame) (front : List ℕ) (m : Message) (sort : Sort) (text : List ℕ) (sent : Sending) (group : Option ℕ)
-    → IsSending plan frames m sent → IsGroupOf plan m.pgn (length m.bytes) sent group → IsGrouped plan frames front m sent group sort text
+    → IsSendingOf plan frames m sent → IsSentGroup plan m.pgn (length m.bytes) sent group → IsGrouped plan frames front m sent group sort text
     → is_grouped sort ≡ false → IsGroupOfMessage plan frames m None
 is_no_group plan frames front m sort text sent (Some g) sending of grouped e = absurd (false_true (sym e ∙ ap is_grouped grouped.0))
 is_no_group plan frames front m sort text sent None sending of grouped e = (sent, sending, of)

@@ -8,14 +8,14 @@ use Rattle.j39_id.specs.declared.frame.Frame.{Frame}
 use Rattle.j39_findings.specs.declared.plan.Plan.{Plan}
 use Rattle.j39_log.specs.LogPairs.{Seen, heard, heard_of, is_heard_by}
 use Rattle.j39_log.specs.declared.listeners.Listeners.{Listeners}
-use Rattle.j39_log.specs.inside.Listening.{AreAllInRange, IsInRange, Row, after_all, listener_of_pair}
+use Rattle.j39_log.specs.inside.Listening.{AreAllInRange, IsInRange, ListenerRow, after_all, listener_of_pair}
 use Rattle.j39_log.proofs.PairLists.{heard_in_range, heard_more, one_turn}
 use Rattle.j39_tp.specs.Packets.{InRange}
 use Rattle.j39_tp.specs.Receiver.{Receiving, fresh, receives}
 use Rattle.j39_tp.specs.declared.receiving.manner.Manner.TheVariants.{Listening}
 use Rattle.j39_tp.specs.declared.packet.Packet.{Packet}
-use Rattle.j39_follow.specs.FollowText.{HeardSince, Parts, frames_of}
-use Rattle.j39_follow.specs.inside.Hearing.{HaveHeardOneMore, HaveHeardSince, differs_at, is_parted, is_same_number, is_same_party, listener_at}
+use Rattle.j39_follow.specs.FollowText.{HeardSince, Parts, frames_seen}
+use Rattle.j39_follow.specs.inside.Hearing.{HaveHeardOneMore, HaveHeardSince, differs_at, is_parted, is_same_number, is_same_party, listener_between}
 use Rattle.j39_follow.specs.Who.{ChangesHands, IsSameParty, stranger_of, unit_of}
 use Rattle.j39_follow.specs.declared.who.Who.{Who}
 use Rattle.j39_follow.specs.inside.Recounting.{ArePartiesOf, party_at}
@@ -40,7 +40,7 @@ nothing_since plan s d = record {
 
 pub nothing_heard_since : (plan : Plan) (listeners : Listeners) → listeners.rows.items ≡ [] → HaveHeardSince plan listeners []
 nothing_heard_since plan listeners empty s d ls ld =
-    ([], nothing_since plan s d, ap (λ (rows : List Row). listener_of_pair rows s d) empty)
+    ([], nothing_since plan s d, ap (λ (rows : List ListenerRow). listener_of_pair rows s d) empty)
 
 -- at a frame at which neither address changes hands the list goes on
 pub goes_on : (plan : Plan) (seen : List Seen) (x : Seen) (s d : ℕ) (h : List Packet) → HeardSince plan seen s d h → ¬ Parts plan seen x s d
@@ -86,7 +86,7 @@ since_in_range plan seen s d h of ranges =
 
 -- ---- change of hands
 
-pub frames_more : (seen : List Seen) (x : Seen) → frames_of (seen ++ x ∷ []) ≡ frames_of seen ++ x.frame ∷ []
+pub frames_more : (seen : List Seen) (x : Seen) → frames_seen (seen ++ x ∷ []) ≡ frames_seen seen ++ x.frame ∷ []
 frames_more [] x = refl
 frames_more (y ∷ seen) x = ap (λ (t : List Frame). y.frame ∷ t) (frames_more seen x)
 
@@ -153,20 +153,20 @@ none_of : (a b : Bool) → (a || b) ≡ false → (a ≡ false) × (b ≡ false)
 none_of true b e = cc
 none_of false b e = (refl, e)
 
-parts_at : (plan : Plan) (seen : List Seen) (x : Seen) (olds news : List Who) (s d : ℕ) → ArePartiesOf plan (frames_of seen) olds
-    → ArePartiesOf plan (frames_of seen ++ x.frame ∷ []) news → s < 256 → d < 256 → is_parted olds news s d ≡ true → Parts plan seen x s d
+parts_at : (plan : Plan) (seen : List Seen) (x : Seen) (olds news : List Who) (s d : ℕ) → ArePartiesOf plan (frames_seen seen) olds
+    → ArePartiesOf plan (frames_seen seen ++ x.frame ∷ []) news → s < 256 → d < 256 → is_parted olds news s d ≡ true → Parts plan seen x s d
 parts_at plan seen x olds news s d before after ls ld parted = elim (one_of (differs_at olds news s) (differs_at olds news d) parted) [
-  | inl source ↦ inl (changes plan (frames_of seen) x.frame olds news s before after ls source)
-  | inr destination ↦ inr (changes plan (frames_of seen) x.frame olds news d before after ld destination)
+  | inl source ↦ inl (changes plan (frames_seen seen) x.frame olds news s before after ls source)
+  | inr destination ↦ inr (changes plan (frames_seen seen) x.frame olds news d before after ld destination)
 ]
 
-stays_at : (plan : Plan) (seen : List Seen) (x : Seen) (olds news : List Who) (s d : ℕ) → ArePartiesOf plan (frames_of seen) olds
-    → ArePartiesOf plan (frames_of seen ++ x.frame ∷ []) news → s < 256 → d < 256 → is_parted olds news s d ≡ false → ¬ Parts plan seen x s d
+stays_at : (plan : Plan) (seen : List Seen) (x : Seen) (olds news : List Who) (s d : ℕ) → ArePartiesOf plan (frames_seen seen) olds
+    → ArePartiesOf plan (frames_seen seen ++ x.frame ∷ []) news → s < 256 → d < 256 → is_parted olds news s d ≡ false → ¬ Parts plan seen x s d
 stays_at plan seen x olds news s d before after ls ld together parts =
     let same = none_of (differs_at olds news s) (differs_at olds news d) together in
     elim parts [
-      | inl source ↦ stays plan (frames_of seen) x.frame olds news s before after ls same.0 source
-      | inr destination ↦ stays plan (frames_of seen) x.frame olds news d before after ld same.1 destination
+      | inl source ↦ stays plan (frames_seen seen) x.frame olds news s before after ls same.0 source
+      | inr destination ↦ stays plan (frames_seen seen) x.frame olds news d before after ld same.1 destination
     ]
 
 if_true : (b : Bool) (x y : Receiving) → b ≡ true → (if b then x else y) ≡ x
@@ -179,21 +179,21 @@ if_false false x y e = refl
 
 -- once the pairs that are parted have begun anew
 pub heard_anew : (plan : Plan) (seen : List Seen) (x : Seen) (olds news : List Who) (mid new : Listeners)
-    → ArePartiesOf plan (frames_of seen) olds → ArePartiesOf plan (frames_of seen ++ x.frame ∷ []) news
+    → ArePartiesOf plan (frames_seen seen) olds → ArePartiesOf plan (frames_seen seen ++ x.frame ∷ []) news
     → ((s d : ℕ) → s < 256 → d < 256
-    → listener_at new s d ≡ (if is_parted olds news s d then fresh Listening else listener_at mid s d))
+    → listener_between new s d ≡ (if is_parted olds news s d then fresh Listening else listener_between mid s d))
     → HaveHeardOneMore plan mid seen x → HaveHeardSince plan new (seen ++ x ∷ [])
 heard_anew plan seen x olds news mid new before after part more s d ls ld = elim (cases_Bool (is_parted olds news s d)) [
   | inl parted ↦ (
     [],
     begins_anew plan seen x s d (parts_at plan seen x olds news s d before after ls ld parted),
-    part s d ls ld ∙ if_true (is_parted olds news s d) (fresh Listening) (listener_at mid s d) parted,
+    part s d ls ld ∙ if_true (is_parted olds news s d) (fresh Listening) (listener_between mid s d) parted,
   )
   | inr together ↦
       let one = more s d ls ld in (
         one.0 ++ heard_of s d x.frame.ident x.packet,
         goes_on plan seen x s d one.0 one.1 (stays_at plan seen x olds news s d before after ls ld together),
-        part s d ls ld ∙ if_false (is_parted olds news s d) (fresh Listening) (listener_at mid s d) together ∙ one.2,
+        part s d ls ld ∙ if_false (is_parted olds news s d) (fresh Listening) (listener_between mid s d) together ∙ one.2,
       )
 ]
 
@@ -207,11 +207,11 @@ unparted parties s d =
 
 -- where all parties stay
 pub heard_on : (plan : Plan) (seen : List Seen) (x : Seen) (parties : List Who) (listeners : Listeners)
-    → ArePartiesOf plan (frames_of seen) parties → ArePartiesOf plan (frames_of seen ++ x.frame ∷ []) parties
+    → ArePartiesOf plan (frames_seen seen) parties → ArePartiesOf plan (frames_seen seen ++ x.frame ∷ []) parties
     → HaveHeardOneMore plan listeners seen x → HaveHeardSince plan listeners (seen ++ x ∷ [])
 heard_on plan seen x parties listeners before after more =
     heard_anew plan seen x parties parties listeners listeners before after
-    (λ s d ls ld. sym (if_false (is_parted parties parties s d) (fresh Listening) (listener_at listeners s d) (unparted parties s d))) more
+    (λ s d ls ld. sym (if_false (is_parted parties parties s d) (fresh Listening) (listener_between listeners s d) (unparted parties s d))) more
 
 -- ---- a frame
 
@@ -224,8 +224,8 @@ unheard_more plan listeners seen f have s d ls ld =
 -- of which a packet is heard
 pub heard_packet : (plan : Plan) (old new : Listeners) (seen : List Seen) (f : Frame) (p : Packet)
     → ((s d : ℕ) → s < 256 → d < 256
-    → listener_at new s d ≡ (if is_heard_by s d f.ident p then receives (listener_at old s d) p else listener_at old s d))
+    → listener_between new s d ≡ (if is_heard_by s d f.ident p then receives (listener_between old s d) p else listener_between old s d))
     → HaveHeardSince plan old seen → HaveHeardOneMore plan new seen (record { frame = f; packet = Some p })
 heard_packet plan old new seen f p turn have s d ls ld =
     let one = have s d ls ld in
-    (one.0, one.1, turn s d ls ld ∙ one_turn (is_heard_by s d f.ident p) (listener_at old s d) one.0 p one.2)
+    (one.0, one.1, turn s d ls ld ∙ one_turn (is_heard_by s d f.ident p) (listener_between old s d) one.0 p one.2)

@@ -4,7 +4,7 @@ use Rattle.std.specs.List.{Contains}
 use Rattle.std.proofs.lemmas.List.Elements.{All-contains, Contains-append_right}
 use Rattle.j39_id.specs.declared.frame.Frame.{Frame}
 use Rattle.j39_text.specs.FrameText.{name_in}
-use Rattle.j39_follow.specs.Holders.{Holds, HoldsOneAddress, HasOneHolder, TakesFrom}
+use Rattle.j39_follow.specs.Holders.{HoldsByFrames, HoldsOneAddress, HasOneHolder, TakesFrom}
 use Rattle.j39_follow.proofs.Recounts.{claim_tells}
 
 tails : {A : Type 0} (x y : A) (xs ys : List A) → x ∷ xs ≡ y ∷ ys → xs ≡ ys
@@ -28,7 +28,7 @@ two_places {A} (z ∷ b) x t [] y u e =
     inr (inr (subst (λ (l : List A). Contains l x) rest (Contains-append_right b (x ∷ t) x (first_there x t))))
 two_places (z ∷ b) x t (w ∷ c) y u e = two_places b x t c y u (tails z w (b ++ x ∷ t) (c ++ y ∷ u) e)
 
-pub same_name : (frames : List Frame) (a n m : ℕ) → Holds frames n a → Holds frames m a → n ≡ m
+pub same_name : (frames : List Frame) (a n m : ℕ) → HoldsByFrames frames n a → HoldsByFrames frames m a → n ≡ m
 same_name frames a n m h k = elim (two_places h.before h.claim h.behind k.before k.claim k.behind (sym h.row ∙ k.row)) [
   | inl same ↦ sym h.claims.name_is ∙ ap name_in same ∙ k.claims.name_is
   | inr (inl later) ↦ absurd (All-contains (λ (f : Frame). ¬ TakesFrom n a f) h.behind k.claim h.kept later (inr (m, k.claims)))

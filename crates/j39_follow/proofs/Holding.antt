@@ -3,7 +3,7 @@ use Rattle.std.proofs.Common.{◌≡◌, ◌⊎◌, ℕ, List, [], ◌∷◌, �
 use Rattle.std.proofs.lemmas.List.{same_from_push}
 use Rattle.std.proofs.lemmas.List.Elements.{All-nil, All-cons, All-head, All-tail, All-push}
 use Rattle.j39_id.specs.declared.frame.Frame.{Frame}
-use Rattle.j39_follow.specs.Holders.{Claims, Holds, IsTold, TakesFrom, TellsOf}
+use Rattle.j39_follow.specs.Holders.{Claims, HoldsByFrames, IsTold, TakesFrom, TellsOf}
 
 -- a list is empty or has a last element
 pub ending : {A : Type 0} (xs : List A) → (xs ≡ []) ⊎ ((front : List A) × (last : A) × (xs ≡ front ++ last ∷ []))
@@ -35,7 +35,7 @@ one_more {A} xs y before x behind row = elim (ending behind) [
 
 -- ---- holders
 
-pub holds_new : (frames : List Frame) (f : Frame) (name address : ℕ) → Claims f name address → Holds (frames ++ f ∷ []) name address
+pub holds_new : (frames : List Frame) (f : Frame) (name address : ℕ) → Claims f name address → HoldsByFrames (frames ++ f ∷ []) name address
 holds_new frames f name address claims = record {
   before = frames;
   claim = f;
@@ -45,8 +45,8 @@ holds_new frames f name address claims = record {
   kept = All-nil (λ (g : Frame). ¬ TakesFrom name address g);
 }
 
-pub holds_on : (frames : List Frame) (f : Frame) (name address : ℕ) → Holds frames name address → ¬ TakesFrom name address f
-    → Holds (frames ++ f ∷ []) name address
+pub holds_on : (frames : List Frame) (f : Frame) (name address : ℕ) → HoldsByFrames frames name address → ¬ TakesFrom name address f
+    → HoldsByFrames (frames ++ f ∷ []) name address
 holds_on frames f name address h stays = record {
   before = h.before;
   claim = h.claim;
@@ -56,8 +56,8 @@ holds_on frames f name address h stays = record {
   kept = All-push (λ (g : Frame). ¬ TakesFrom name address g) h.behind f h.kept stays;
 }
 
-pub held_by : (frames : List Frame) (f : Frame) (name address : ℕ) → Holds (frames ++ f ∷ []) name address
-    → Claims f name address ⊎ (Holds frames name address × ¬ TakesFrom name address f)
+pub held_by : (frames : List Frame) (f : Frame) (name address : ℕ) → HoldsByFrames (frames ++ f ∷ []) name address
+    → Claims f name address ⊎ (HoldsByFrames frames name address × ¬ TakesFrom name address f)
 held_by frames f name address h = elim (one_more frames f h.before h.claim h.behind h.row) [
   | inl last ↦ inl (subst (λ (g : Frame). Claims g name address) last.0 h.claims)
   | inr earlier ↦

@@ -9,7 +9,7 @@ use Rattle.j39_findings.specs.declared.plan.Plan.{Plan}
 use Rattle.j39_findings.specs.declared.plan.unit_plan.UnitPlan.{UnitPlan}
 use Rattle.j39_findings.specs.ListPlaces.{ValueAt}
 use Rattle.j39_follow.specs.Who.{IsLikeliest, MayHold}
-use Rattle.j39_follow.specs.inside.Likeliest.{IsBelow, IsBestOf, IsNotBelow}
+use Rattle.j39_follow.specs.inside.Likeliest.{IsBelowBest, IsBestOf, IsNotBelow}
 
 unit_same : (a b : UnitPlan) → Some a ≡ Some b → a ≡ b
 unit_same a b e = cc
@@ -78,7 +78,7 @@ behind plan i frames address unit (Some u) at not_below of = (
 
 -- it is the best
 least_of_earlier : (plan : Plan) (i : ℕ) (frames : List Frame) (address : ℕ) (unit : UnitPlan) (best : Option ℕ)
-    → IsBelow plan unit.name best
+    → IsBelowBest plan unit.name best
     → IsBestOf plan i frames address best → (v : ℕ) (other : UnitPlan) → v < i → slice_get plan.units.items v ≡ Some other
     → MayHold frames address other → unit.name < other.name
 least_of_earlier plan i frames address unit None below of v other less there may = absurd (of v other less there may)
@@ -89,7 +89,7 @@ least_of_earlier plan i frames address unit (Some u) below of v other less there
 
 pub better : (plan : Plan) (i : ℕ) (frames : List Frame) (address : ℕ) (unit : UnitPlan) (best : Option ℕ)
     → slice_get plan.units.items i ≡ Some unit
-    → MayHold frames address unit → IsBelow plan unit.name best → IsBestOf plan i frames address best
+    → MayHold frames address unit → IsBelowBest plan unit.name best → IsBestOf plan i frames address best
     → IsBestOf plan (i + 1) frames address (Some i)
 better plan i frames address unit best at may below of = (
   omega arith,

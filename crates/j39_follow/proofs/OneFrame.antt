@@ -14,9 +14,9 @@ use Rattle.j39_text.specs.FrameText.{cannot_claim, claims_address, requested_gro
 use Rattle.j39_text.specs.Texts.{field}
 use Rattle.j39_tp.proofs.Tracking.{one_message, one_pgn}
 use Rattle.j39_tp.specs.declared.packet.Packet.{Packet}
-use Rattle.j39_follow.specs.Fits.{IsGroupOf, flow_of}
-use Rattle.j39_follow.specs.FollowReports.{IsGroupOfMessage, IsGrouped, IsMessageReport, IsNotice, IsSending, IsWay, Message, aim_at, cannot_line, claim_line, group_line, is_to_all}
-use Rattle.j39_follow.specs.FollowText.{HeardSince, IsCarriedReport, IsHeardAs, IsPacketReport, Parts, frames_of, in_frame}
+use Rattle.j39_follow.specs.Fits.{IsSentGroup, fitting_flow}
+use Rattle.j39_follow.specs.FollowReports.{IsGroupOfMessage, IsGrouped, IsMessageReport, IsNotice, IsSendingOf, IsWay, Message, aim_at, cannot_line, claim_line, message_line, is_to_all}
+use Rattle.j39_follow.specs.FollowText.{HeardSince, IsCarriedReport, IsFollowedAs, IsPacketReport, Parts, frames_seen, in_frame}
 use Rattle.j39_follow.specs.Who.{unit_of, who_text}
 use Rattle.j39_follow.specs.declared.message.Sort.{Sort}
 use Rattle.j39_follow.specs.declared.sending.Aim.{Aim}
@@ -64,7 +64,7 @@ same_sending a b first second third =
     ap (λ (x : Aim). record { sender = b.sender; aim = x; unaddressed = a.unaddressed }) second in
     one ∙ two ∙ ap (λ (x : Bool). record b { unaddressed = x }) third
 
-one_sending : (plan : Plan) (frames : List Frame) (m : Message) (s t : Sending) → IsSending plan frames m s → IsSending plan frames m t → s ≡ t
+one_sending : (plan : Plan) (frames : List Frame) (m : Message) (s t : Sending) → IsSendingOf plan frames m s → IsSendingOf plan frames m t → s ≡ t
 one_sending plan frames m s t a b =
     let sender = one_who plan frames m.ident.sa a.sender b.sender a.sender_is b.sender_is in
     let receiver = one_who plan frames m.ident.ps a.receiver b.receiver a.receiver_is b.receiver_is in
@@ -72,7 +72,7 @@ one_sending plan frames m s t a b =
     (a.aim_is ∙ ap (λ (w : Who). if is_to_all m.ident then aims.All else aim_at (unit_of w)) receiver ∙ sym b.aim_is)
     (a.unaddressed_is ∙ sym b.unaddressed_is)
 
-one_group : (plan : Plan) (pgn bytes : ℕ) (sent : Sending) (a b : Option ℕ) → IsGroupOf plan pgn bytes sent a → IsGroupOf plan pgn bytes sent b → a ≡ b
+one_group : (plan : Plan) (pgn bytes : ℕ) (sent : Sending) (a b : Option ℕ) → IsSentGroup plan pgn bytes sent a → IsSentGroup plan pgn bytes sent b → a ≡ b
 one_group plan pgn bytes sent (Some g) (Some h) x y = elim (cases_order g h) [
   | inl same ↦ ap Some same
   | inr (inl less) ↦ absurd (y.1 g less x.0)
@@ -86,7 +86,7 @@ one_group_of_message : (plan : Plan) (frames : List Frame) (m : Message) (a b : 
     → IsGroupOfMessage plan frames m b → a ≡ b
 one_group_of_message plan frames m a b x y =
     let same = one_sending plan frames m x.0 y.0 x.1 y.1 in
-    one_group plan m.pgn (length m.bytes) y.0 a b (subst (λ (s : Sending). IsGroupOf plan m.pgn (length m.bytes) s a) same x.2) y.2
+    one_group plan m.pgn (length m.bytes) y.0 a b (subst (λ (s : Sending). IsSentGroup plan m.pgn (length m.bytes) s a) same x.2) y.2
 
 one_grouped : (plan : Plan) (frames : List Frame) (front : List ℕ) (m : Message) (sent : Sending) (group : Option ℕ) (s z : Sort) (t u : List ℕ)
     → IsGrouped plan frames front m sent group s t → IsGrouped plan frames front m sent group z u → (s ≡ z) × (t ≡ u)
@@ -96,8 +96,8 @@ one_grouped plan frames front m sent (Some g) s z t u a b =
     let group = some_same a.3.value b.3.value (sym a.3.value_is ∙ b.3.value_is) in (
       a.0 ∙ sym b.0,
       a.3.meets
-          ∙ ap (λ (w : List ℕ). group_line a.3.value front w (flow_of plan g sent) m ++ reading_lines a.3.value m.bytes) way
-          ∙ ap (λ (x : GroupPlan). group_line x front b.1 (flow_of plan g sent) m ++ reading_lines x m.bytes) group
+          ∙ ap (λ (w : List ℕ). message_line a.3.value front w (fitting_flow plan g sent) m ++ reading_lines a.3.value m.bytes) way
+          ∙ ap (λ (x : GroupPlan). message_line x front b.1 (fitting_flow plan g sent) m ++ reading_lines x m.bytes) group
           ∙ sym b.3.meets,
     )
 
@@ -105,13 +105,13 @@ pub one_message_report : (plan : Plan) (frames : List Frame) (front : List ℕ) 
     → IsMessageReport plan frames front m s t → IsMessageReport plan frames front m z u → (s ≡ z) × (t ≡ u)
 one_message_report plan frames front m s z t u a b =
     let sent = one_sending plan frames m a.0 b.0 a.2 b.2 in
-    let of = subst (λ (x : Sending). IsGroupOf plan m.pgn (length m.bytes) x a.1) sent a.3 in
+    let of = subst (λ (x : Sending). IsSentGroup plan m.pgn (length m.bytes) x a.1) sent a.3 in
     let group = one_group plan m.pgn (length m.bytes) b.0 a.1 b.1 of b.3 in
     one_grouped plan frames front m b.0 b.1 s z t u
     (subst (λ (g : Option ℕ). IsGrouped plan frames front m b.0 g s t) group
     (subst (λ (x : Sending). IsGrouped plan frames front m x a.1 s t) sent a.4)) b.4
 
-pub one_heard_as : (plan : Plan) (frames : List Frame) (f : Frame) (p q : Option Packet) → IsHeardAs plan frames f p → IsHeardAs plan frames f q → p ≡ q
+pub one_heard_as : (plan : Plan) (frames : List Frame) (f : Frame) (p q : Option Packet) → IsFollowedAs plan frames f p → IsFollowedAs plan frames f q → p ≡ q
 one_heard_as plan frames f (Some p) (Some q) a b = ap Some (one_packet f p q a.1 b.1)
 one_heard_as plan frames f (Some p) None a (inl none) = absurd (none p a.1)
 one_heard_as plan frames f (Some p) None a (inr group) =
@@ -189,5 +189,5 @@ pub one_packet_report : (plan : Plan) (before : List Seen) (front : List ℕ) (f
 one_packet_report plan before front f None s z t u a b = (a.0 ∙ sym b.0, a.1 ∙ sym b.1)
 one_packet_report plan before front f (Some p) s z t u a b =
     let same = one_since plan before f.ident.sa f.ident.ps a.0 b.0 a.1 b.1 in
-    one_carried plan (frames_of before ++ f ∷ []) front (b.0 ++ p ∷ []) (length b.0) f s z t u
-    (subst (λ (h : List Packet). IsCarriedReport plan (frames_of before ++ f ∷ []) front (h ++ p ∷ []) (length h) f s t) same a.2) b.2
+    one_carried plan (frames_seen before ++ f ∷ []) front (b.0 ++ p ∷ []) (length b.0) f s z t u
+    (subst (λ (h : List Packet). IsCarriedReport plan (frames_seen before ++ f ∷ []) front (h ++ p ∷ []) (length h) f s t) same a.2) b.2

@@ -14,11 +14,11 @@ use Rattle.j39_stream.specs.declared.verdict.Verdict.TheVariants.{Done, Findings
 use Rattle.j39_text.specs.Texts.{field}
 use Rattle.j39_tp.specs.declared.packet.Packet.{Packet}
 use Rattle.j39_follow.specs.FollowReports.{stamp}
-use Rattle.j39_follow.specs.FollowText.{AreUnitLines, IsFollowText, IsLogText, IsPacketReport, IsUnitLine, Past, ReadsFrame, ReadsLine, ReadsLines, ReadsPart, ReadsShort, frames_of, in_frame, nothing_yet, one_line_more, passed_over, unit_line}
-use Rattle.j39_follow.specs.Holders.{Holds, IsTold}
+use Rattle.j39_follow.specs.FollowText.{AreUnitLines, IsFollowText, IsFollowedLog, IsPacketReport, IsUnitLine, FollowedPast, FollowsFrame, FollowsLine, FollowsLines, FollowsPart, FollowsShort, frames_seen, in_frame, nothing_followed, one_line_more, line_passed_over, unit_end_line}
+use Rattle.j39_follow.specs.Holders.{HoldsByFrames, IsTold}
 use Rattle.j39_follow.specs.LogLines.{IsElsewhere, IsReadPart, IsTimeText, NamesInterface, interface_behind}
 use Rattle.j39_follow.specs.declared.message.Sort.{Sort}
-use Rattle.j39_follow.specs.inside.Recalling.{end_text}
+use Rattle.j39_follow.specs.inside.Recalling.{behind_reports}
 use Rattle.j39_follow.proofs.FirstWords.{one_first_word}
 use Rattle.j39_follow.proofs.HolderLaws.{one_address}
 use Rattle.j39_follow.proofs.OneFrame.{one_heard_as, one_message_report, one_notice, one_packet_report}
@@ -51,17 +51,17 @@ one_time line t u (inr a) (inl b) = absurd (a.0 u b)
 one_time line t u (inr a) (inr b) = a.1 ∙ sym b.1
 
 -- what came so far, with a frame
-abbrev with_frame : Past → Option (List ℕ) → Frame → Option Packet → Sort → List Sort → Past
+abbrev with_frame : FollowedPast → Option (List ℕ) → Frame → Option Packet → Sort → List Sort → FollowedPast
 with_frame past named f packet sort sorts = record past {
   seen = past.seen ++ record { frame = f; packet = packet } ∷ [];
   interface = interface_behind past.interface named;
   sent = past.sent ++ sort ∷ sorts;
 }
 
-one_frame_read : (plan : Plan) (past : Past) (front : List ℕ) (named : Option (List ℕ)) (f : Frame) (next other : Past) (t u : List ℕ)
-    → ReadsFrame plan past front named f next t → ReadsFrame plan past front named f other u → (next ≡ other) × (t ≡ u)
+one_frame_read : (plan : Plan) (past : FollowedPast) (front : List ℕ) (named : Option (List ℕ)) (f : Frame) (next other : FollowedPast) (t u : List ℕ)
+    → FollowsFrame plan past front named f next t → FollowsFrame plan past front named f other u → (next ≡ other) × (t ≡ u)
 one_frame_read plan past front named f next other t u a b =
-    let frames : List Frame = frames_of past.seen ++ f ∷ [] in
+    let frames : List Frame = frames_seen past.seen ++ f ∷ [] in
     let packet = one_heard_as plan frames f a.packet b.packet a.heard_as b.heard_as in
     let notice = one_notice plan frames front f a.notice b.notice a.notice_is b.notice_is in
     let report = one_message_report plan frames front (in_frame f) a.sort b.sort a.report b.report a.report_is b.report_is in
@@ -79,25 +79,25 @@ one_frame_read plan past front named f next other t u a b =
           ∙ sym b.text_is,
     )
 
-one_part_read : (plan : Plan) (past : Past) (line part : List ℕ) (named : Option (List ℕ)) (next other : Past) (t u : List ℕ)
-    → ReadsPart plan past line part named next t → ReadsPart plan past line part named other u → (next ≡ other) × (t ≡ u)
+one_part_read : (plan : Plan) (past : FollowedPast) (line part : List ℕ) (named : Option (List ℕ)) (next other : FollowedPast) (t u : List ℕ)
+    → FollowsPart plan past line part named next t → FollowsPart plan past line part named other u → (next ≡ other) × (t ≡ u)
 one_part_read plan past line part named next other t u (inl a) (inl b) =
     let frame = one_spelled part a.0 b.0 a.2 b.2 in
     let time = one_time line a.1 b.1 a.3 b.3 in
     one_frame_read plan past (stamp past.number b.1) named b.0 next other t u
-    (subst (λ (x : List ℕ). ReadsFrame plan past (stamp past.number x) named b.0 next t) time
-    (subst (λ (f : Frame). ReadsFrame plan past (stamp past.number a.1) named f next t) frame a.4)) b.4
+    (subst (λ (x : List ℕ). FollowsFrame plan past (stamp past.number x) named b.0 next t) time
+    (subst (λ (f : Frame). FollowsFrame plan past (stamp past.number a.1) named f next t) frame a.4)) b.4
 one_part_read plan past line part named next other t u (inl a) (inr b) = absurd (not_both part a.0 b.0 a.2 b.1)
 one_part_read plan past line part named next other t u (inr a) (inl b) = absurd (not_both part b.0 a.0 b.2 a.1)
 one_part_read plan past line part named next other t u (inr a) (inr b) =
     let same = one_fault part a.0 b.0 a.1 b.1 in
-    (a.2 ∙ ap (λ (e : LineError). passed_over e past) same ∙ sym b.2, a.3 ∙ sym b.3)
+    (a.2 ∙ ap (λ (e : LineError). line_passed_over e past) same ∙ sym b.2, a.3 ∙ sym b.3)
 
-one_rest_read : (plan : Plan) (past : Past) (line part : List ℕ) (named : Option (List ℕ)) (next other : Past) (t u : List ℕ)
+one_rest_read : (plan : Plan) (past : FollowedPast) (line part : List ℕ) (named : Option (List ℕ)) (next other : FollowedPast) (t u : List ℕ)
     → ((IsElsewhere past.interface named × (next ≡ record past { elsewhere = past.elsewhere + 1 }) × (t ≡ []))
-    ⊎ ((¬ IsElsewhere past.interface named) × ReadsPart plan past line part named next t))
+    ⊎ ((¬ IsElsewhere past.interface named) × FollowsPart plan past line part named next t))
     → ((IsElsewhere past.interface named × (other ≡ record past { elsewhere = past.elsewhere + 1 }) × (u ≡ []))
-    ⊎ ((¬ IsElsewhere past.interface named) × ReadsPart plan past line part named other u))
+    ⊎ ((¬ IsElsewhere past.interface named) × FollowsPart plan past line part named other u))
     → (next ≡ other) × (t ≡ u)
 one_rest_read plan past line part named next other t u (inl a) (inl b) = (a.1 ∙ sym b.1, a.2 ∙ sym b.2)
 one_rest_read plan past line part named next other t u (inl a) (inr b) = absurd (b.0 a.0)
@@ -105,13 +105,13 @@ one_rest_read plan past line part named next other t u (inr a) (inl b) = absurd 
 one_rest_read plan past line part named next other t u (inr a) (inr b) = one_part_read plan past line part named next other t u a.1 b.1
 
 -- what is left once the part and the interface of a line are known
-abbrev ReadsRest : Plan → Past → List ℕ → List ℕ → Option (List ℕ) → Past → List ℕ → Type 0
+abbrev ReadsRest : Plan → FollowedPast → List ℕ → List ℕ → Option (List ℕ) → FollowedPast → List ℕ → Type 0
 ReadsRest plan past line part named next t =
     (IsElsewhere past.interface named × (next ≡ record past { elsewhere = past.elsewhere + 1 }) × (t ≡ []))
-    ⊎ ((¬ IsElsewhere past.interface named) × ReadsPart plan past line part named next t)
+    ⊎ ((¬ IsElsewhere past.interface named) × FollowsPart plan past line part named next t)
 
-one_short_read : (plan : Plan) (past : Past) (line : List ℕ) (next other : Past) (t u : List ℕ)
-    → ReadsShort plan past line next t → ReadsShort plan past line other u → (next ≡ other) × (t ≡ u)
+one_short_read : (plan : Plan) (past : FollowedPast) (line : List ℕ) (next other : FollowedPast) (t u : List ℕ)
+    → FollowsShort plan past line next t → FollowsShort plan past line other u → (next ≡ other) × (t ≡ u)
 one_short_read plan past line next other t u a b =
     let part = one_part line a.0 b.0 a.2 b.2 in
     let there = subst (λ (p : List ℕ). NamesInterface p a.1) part a.3 in
@@ -120,17 +120,17 @@ one_short_read plan past line next other t u a b =
     (subst (λ (i : Option (List ℕ)). ReadsRest plan past line b.0 i next t) named
     (subst (λ (p : List ℕ). ReadsRest plan past line p a.1 next t) part a.4)) b.4
 
-one_line_read : (plan : Plan) (past : Past) (line : Line) (next other : Past) (t u : List ℕ)
-    → ReadsLine plan past line next t → ReadsLine plan past line other u → (next ≡ other) × (t ≡ u)
+one_line_read : (plan : Plan) (past : FollowedPast) (line : Line) (next other : FollowedPast) (t u : List ℕ)
+    → FollowsLine plan past line next t → FollowsLine plan past line other u → (next ≡ other) × (t ≡ u)
 one_line_read plan past Long next other t u a b = (a.0 ∙ sym b.0, a.1 ∙ sym b.1)
 one_line_read plan past (Short line) next other t u a b = one_short_read plan (one_line_more past) line next other t u a b
 
-one_lines_read : (plan : Plan) (past : Past) (all : List Line) (end other : Past) (t u : List ℕ)
-    → ReadsLines plan past all end t → ReadsLines plan past all other u → (end ≡ other) × (t ≡ u)
+one_lines_read : (plan : Plan) (past : FollowedPast) (all : List Line) (end other : FollowedPast) (t u : List ℕ)
+    → FollowsLines plan past all end t → FollowsLines plan past all other u → (end ≡ other) × (t ≡ u)
 one_lines_read plan past [] end other t u a b = (a.0 ∙ sym b.0, a.1 ∙ sym b.1)
 one_lines_read plan past (line ∷ all) end other t u a b =
     let here = one_line_read plan past line a.0 b.0 a.1 b.1 a.3 b.3 in
-    let rest : ReadsLines plan b.0 all end a.2 = subst (λ (p : Past). ReadsLines plan p all end a.2) here.0 a.4 in
+    let rest : FollowsLines plan b.0 all end a.2 = subst (λ (p : FollowedPast). FollowsLines plan p all end a.2) here.0 a.4 in
     let behind = one_lines_read plan b.0 all end other a.2 b.2 rest b.4 in (
       behind.0,
       a.5 ∙ ap (λ (x : List ℕ). x ++ a.2) here.1 ∙ ap (λ (x : List ℕ). b.1 ++ x) behind.1 ∙ sym b.5,
@@ -139,13 +139,13 @@ one_lines_read plan past (line ∷ all) end other t u a b =
 -- ---- where units stand
 
 -- who holds an address claimed it
-holder_is_told : (frames : List Frame) (name address : ℕ) → Holds frames name address → IsTold frames name
+holder_is_told : (frames : List Frame) (name address : ℕ) → HoldsByFrames frames name address → IsTold frames name
 holder_is_told frames name address h =
     record { before = h.before; frame = h.claim; behind = h.behind; row = h.row; tells = claim_tells h.claim name address h.claims }
 
 one_unit_line : (frames : List Frame) (unit : UnitPlan) (t u : List ℕ) → IsUnitLine frames unit t → IsUnitLine frames unit u → t ≡ u
 one_unit_line frames unit t u (inl a) (inl b) =
-    a.2 ∙ ap (λ (n : ℕ). unit_line unit (field (codes " address ") n)) (one_address frames unit.name a.0 b.0 a.1 b.1) ∙ sym b.2
+    a.2 ∙ ap (λ (n : ℕ). unit_end_line unit (field (codes " address ") n)) (one_address frames unit.name a.0 b.0 a.1 b.1) ∙ sym b.2
 one_unit_line frames unit t u (inl a) (inr (inl b)) = absurd (b.1 a.0 a.1)
 one_unit_line frames unit t u (inl a) (inr (inr b)) = absurd (b.0 (holder_is_told frames unit.name a.0 a.1))
 one_unit_line frames unit t u (inr (inl a)) (inl b) = absurd (a.1 b.0 b.1)
@@ -163,13 +163,13 @@ one_unit_lines frames (unit ∷ units) t u a b =
 
 -- ---- a log
 
-one_log_text : (plan : Plan) (log t u : List ℕ) → IsLogText plan log t → IsLogText plan log u → t ≡ u
+one_log_text : (plan : Plan) (log t u : List ℕ) → IsFollowedLog plan log t → IsFollowedLog plan log u → t ≡ u
 one_log_text plan log t u a b =
-    let same = one_lines_read plan nothing_yet (lines log) a.past b.past a.reports b.reports a.read b.read in
-    let there = subst (λ (p : Past). AreUnitLines (frames_of p.seen) plan.units.items a.units) same.0 a.units_are in
-    let units = one_unit_lines (frames_of b.past.seen) plan.units.items a.units b.units there b.units_are in
-    a.text_is ∙ ap (λ (x : List ℕ). x ++ end_text plan a.past a.units) same.1
-    ∙ ap (λ (p : Past). b.reports ++ end_text plan p a.units) same.0 ∙ ap (λ (x : List ℕ). b.reports ++ end_text plan b.past x) units
+    let same = one_lines_read plan nothing_followed (lines log) a.past b.past a.reports b.reports a.read b.read in
+    let there = subst (λ (p : FollowedPast). AreUnitLines (frames_seen p.seen) plan.units.items a.units) same.0 a.units_are in
+    let units = one_unit_lines (frames_seen b.past.seen) plan.units.items a.units b.units there b.units_are in
+    a.text_is ∙ ap (λ (x : List ℕ). x ++ behind_reports plan a.past a.units) same.1
+    ∙ ap (λ (p : FollowedPast). b.reports ++ behind_reports plan p a.units) same.0 ∙ ap (λ (x : List ℕ). b.reports ++ behind_reports plan b.past x) units
     ∙ sym b.text_is
 
 pub one_text : (plan : Plan) (log t u : List ℕ) (v w : Verdict) → IsFollowText plan log t v → IsFollowText plan log u w → (t ≡ u) × (v ≡ w)

@@ -7,7 +7,7 @@ use Rattle.j39_findings.specs.ListPlaces.{ValueAt}
 use Rattle.j39_findings.specs.declared.plan.Plan.{Plan}
 use Rattle.j39_findings.specs.declared.plan.unit_plan.UnitPlan.{UnitPlan}
 use Rattle.j39_follow.specs.Holders.{IsHolder}
-use Rattle.j39_follow.specs.Who.{IsLikeliest, IsWho, MayHold, unit_named}
+use Rattle.j39_follow.specs.Who.{IsLikeliest, IsWho, MayHold, unit_of_name}
 use Rattle.j39_follow.specs.declared.holders.Holders.{Holders}
 use Rattle.j39_follow.specs.declared.who.Who.{Who}
 use Rattle.j39_follow.specs.declared.who.Who.TheVariants.{Holder, Stranger, Likely, Unknown}
@@ -48,15 +48,15 @@ likely_there plan frames address u l = record { value = l.unit; value_is = l.uni
 pub one_who : (plan : Plan) (frames : List Frame) (address : ℕ) (a b : Who) → IsWho plan frames address a → IsWho plan frames address b → a ≡ b
 one_who plan frames address (Holder u) (Holder v) x y =
     let named = same_name frames address x.0 y.0 x.1 y.1 in
-    ap Holder (place_same u v (sym x.2 ∙ ap (unit_named plan) named ∙ y.2))
+    ap Holder (place_same u v (sym x.2 ∙ ap (unit_of_name plan) named ∙ y.2))
 one_who plan frames address (Holder u) (Stranger m) x y =
     let named = same_name frames address x.0 m x.1 y.0 in
-    absurd (none_some u (sym y.1 ∙ sym (ap (unit_named plan) named) ∙ x.2))
+    absurd (none_some u (sym y.1 ∙ sym (ap (unit_of_name plan) named) ∙ x.2))
 one_who plan frames address (Holder u) (Likely v) x y = absurd (y.0 x.0 x.1)
 one_who plan frames address (Holder u) Unknown x y = absurd (y.0 x.0 x.1)
 one_who plan frames address (Stranger n) (Holder v) x y =
     let named = same_name frames address n y.0 x.0 y.1 in
-    absurd (none_some v (sym x.1 ∙ ap (unit_named plan) named ∙ y.2))
+    absurd (none_some v (sym x.1 ∙ ap (unit_of_name plan) named ∙ y.2))
 one_who plan frames address (Stranger n) (Stranger m) x y = ap Stranger (same_name frames address n m x.0 y.0)
 one_who plan frames address (Stranger n) (Likely v) x y = absurd (y.0 n x.0)
 one_who plan frames address (Stranger n) Unknown x y = absurd (y.0 n x.0)

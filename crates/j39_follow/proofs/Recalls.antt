@@ -3,10 +3,10 @@ use Rattle.std.proofs.Common.{◌+◌, ◌≤◌, ℕ, List, Option, Some, None,
 use Rattle.std.specs.Prelude.{IfNone, IfSome}
 use Rattle.std.specs.Option.{option_copied}
 use Rattle.j39_findings.specs.declared.plan.Plan.{Plan}
-use Rattle.j39_follow.specs.FollowText.{Past, one_line_more, with_bad}
+use Rattle.j39_follow.specs.FollowText.{FollowedPast, one_line_more, with_bad_line}
 use Rattle.j39_follow.specs.LogLines.{IsInterface, NamesInterface}
 use Rattle.j39_follow.specs.declared.reading.Reading.{Reading}
-use Rattle.j39_follow.specs.inside.Recalling.{CountsWithin, Recalls}
+use Rattle.j39_follow.specs.inside.Recalling.{CountsWithin, RecallsPast}
 
 pub within_more : (reading : Reading) (m n : ℕ) → m ≤ n → CountsWithin reading m → CountsWithin reading n
 within_more reading m n more within =
@@ -34,8 +34,8 @@ within_put reading text most within = record {
 }
 
 -- a line more has begun
-pub numbered : (plan : Plan) (reading : Reading) (past : Past) → Recalls plan reading past
-    → Recalls plan (record reading { number = reading.number + 1 }) (one_line_more past)
+pub numbered : (plan : Plan) (reading : Reading) (past : FollowedPast) → RecallsPast plan reading past
+    → RecallsPast plan (record reading { number = reading.number + 1 }) (one_line_more past)
 numbered plan reading past r =
     let m = r.remembers in
     record {
@@ -49,8 +49,8 @@ numbered plan reading past r =
     }
 
 -- a line was bad
-pub one_more_bad : (plan : Plan) (reading : Reading) (past : Past) → Recalls plan reading past
-    → Recalls plan (record reading { bad = reading.bad + 1 }) (with_bad past)
+pub one_more_bad : (plan : Plan) (reading : Reading) (past : FollowedPast) → RecallsPast plan reading past
+    → RecallsPast plan (record reading { bad = reading.bad + 1 }) (with_bad_line past)
 one_more_bad plan reading past r =
     let m = r.remembers in
     record {
@@ -64,8 +64,8 @@ one_more_bad plan reading past r =
     }
 
 -- a line was skipped
-pub one_more_skipped : (plan : Plan) (reading : Reading) (past : Past) → Recalls plan reading past
-    → Recalls plan (record reading { skipped = reading.skipped + 1 }) (record past { skipped = past.skipped + 1 })
+pub one_more_skipped : (plan : Plan) (reading : Reading) (past : FollowedPast) → RecallsPast plan reading past
+    → RecallsPast plan (record reading { skipped = reading.skipped + 1 }) (record past { skipped = past.skipped + 1 })
 one_more_skipped plan reading past r =
     let m = r.remembers in
     record {
@@ -79,8 +79,8 @@ one_more_skipped plan reading past r =
     }
 
 -- a line was elsewhere
-pub one_more_elsewhere : (plan : Plan) (reading : Reading) (past : Past) → Recalls plan reading past
-    → Recalls plan (record reading { elsewhere = reading.elsewhere + 1 }) (record past { elsewhere = past.elsewhere + 1 })
+pub one_more_elsewhere : (plan : Plan) (reading : Reading) (past : FollowedPast) → RecallsPast plan reading past
+    → RecallsPast plan (record reading { elsewhere = reading.elsewhere + 1 }) (record past { elsewhere = past.elsewhere + 1 })
 one_more_elsewhere plan reading past r =
     let m = r.remembers in
     record {

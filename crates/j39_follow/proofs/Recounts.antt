@@ -5,7 +5,7 @@ use Rattle.std.proofs.Common.{eqb-true}
 use Rattle.std.proofs.lemmas.Bool.{eqb-false}
 use Rattle.j39_id.specs.declared.frame.Frame.{Frame}
 use Rattle.j39_text.specs.FrameText.{cannot_claim, claims_address, name_in}
-use Rattle.j39_follow.specs.Holders.{Claims, Holds, IsTold, TakesFrom, TellsOf}
+use Rattle.j39_follow.specs.Holders.{Claims, HoldsByFrames, IsTold, TakesFrom, TellsOf}
 use Rattle.j39_follow.specs.declared.holders.Holders.{Holders}
 use Rattle.j39_findings.specs.declared.plan.Plan.{Plan}
 use Rattle.j39_follow.specs.inside.Recounting.{IsMoved, IsNew, Recounts, TellsPlace, is_marked}
@@ -89,7 +89,7 @@ takes_nothing : (f : Frame) (n a : ℕ) → TellsNothing f → ¬ TakesFrom n a 
 takes_nothing f n a silent (inl tells) = silent n tells
 takes_nothing f n a silent (inr claim) = silent claim.0 (claim_tells f claim.0 a claim.1)
 
-held_before : (frames : List Frame) (f : Frame) (n a : ℕ) → TellsNothing f → Holds (frames ++ f ∷ []) n a → Holds frames n a
+held_before : (frames : List Frame) (f : Frame) (n a : ℕ) → TellsNothing f → HoldsByFrames (frames ++ f ∷ []) n a → HoldsByFrames frames n a
 held_before frames f n a silent h = elim (held_by frames f n a h) [
   | inl claim ↦ absurd (silent n (claim_tells f n a claim))
   | inr kept ↦ kept.0

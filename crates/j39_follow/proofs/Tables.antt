@@ -11,7 +11,7 @@ use Rattle.j39_follow.specs.Holders.{IsHolder}
 use Rattle.j39_follow.specs.declared.holders.Holders.{Holders}
 use Rattle.j39_findings.specs.declared.plan.Plan.{Plan}
 use Rattle.j39_findings.specs.declared.plan.unit_plan.UnitPlan.{UnitPlan}
-use Rattle.j39_follow.specs.inside.Recounting.{IsAt, IsLeft, IsMarked, IsMoved, Recounts, is_marked}
+use Rattle.j39_follow.specs.inside.Recounting.{HasNameAt, IsLeft, IsMarked, IsMoved, Recounts, is_marked}
 
 get_set_same : {A : Type 0} (xs : List A) (i : ℕ) (y : A) → i < length xs → slice_get (slice_set xs i y) i ≡ Some y
 get_set_same [] i y less = absurd (omega arith)
@@ -79,7 +79,7 @@ false_true e = cc
 
 -- ---- a table without anything
 
-pub empty_recounts : (plan : Plan) (h : Holders) → ((a n : ℕ) → ¬ IsAt h a n) → ((u : ℕ) → is_marked h u ≡ false) → Recounts plan h []
+pub empty_recounts : (plan : Plan) (h : Holders) → ((a n : ℕ) → ¬ HasNameAt h a n) → ((u : ℕ) → is_marked h u ≡ false) → Recounts plan h []
 empty_recounts plan h vacant unmarked = record {
   held = λ a n at. absurd (vacant a n at);
   holds = λ a n h. absurd (no_row h.before h.claim h.behind h.row);
@@ -157,7 +157,7 @@ put plan old left new name address of room names marked = record {
         ap (λ (xs : List (Option ℕ)). slice_get xs address) names ∙ get_set_same left.names address (Some name) room in
         inl (ap Some (eqb-true address a same), there_same n name (sym spot ∙ is))
     | inr other ↦
-        let before : IsAt left a n =
+        let before : HasNameAt left a n =
         sym (ap (λ (xs : List (Option ℕ)). slice_get xs a) names ∙ get_set_other left.names address a (Some name)
         (eqb-false address a other)) ∙ at in
         inr ((of.left a n before).0, (λ e. eqb-false address a other (some_same address a e)), (of.left a n before).1)
@@ -180,7 +180,7 @@ pub put_nowhere : (plan : Plan) (old left new : Holders) (name : ℕ) → IsLeft
     → IsMarked plan old new name → IsMoved plan old new name None
 put_nowhere plan old left new name of names marked = record {
   held = λ a n at.
-      let before : IsAt left a n = ap (λ (xs : List (Option ℕ)). slice_get xs a) (sym names) ∙ at in
+      let before : HasNameAt left a n = ap (λ (xs : List (Option ℕ)). slice_get xs a) (sym names) ∙ at in
       inr ((of.left a n before).0, (λ e. none_some a e), (of.left a n before).1);
   holds = λ a n there. elim there [
     | inl is ↦ some_none a is.0
@@ -240,8 +240,8 @@ vacant zero a n e = none_some (Some n) e
 vacant (suc k) zero n e = empty_there n e
 vacant (suc k) (suc a) n e = vacant k a n e
 
-pub found : (plan : Plan) (h : Holders) (frames : List Frame) (address : ℕ) (r : Option ℕ) → Recounts plan h frames → IfSome r (λ n. IsAt h address n)
-    → ((n : ℕ) → IsAt h address n → r ≡ Some n) → IsHolder frames address r
+pub found : (plan : Plan) (h : Holders) (frames : List Frame) (address : ℕ) (r : Option ℕ) → Recounts plan h frames → IfSome r (λ n. HasNameAt h address n)
+    → ((n : ℕ) → HasNameAt h address n → r ≡ Some n) → IsHolder frames address r
 found plan h frames address (Some n) of some only = of.held address n some
 found plan h frames address None of some only = λ name holds. none_some name (only name (of.holds address name holds))
 

@@ -14,9 +14,9 @@ use Rattle.j39_follow.specs.FollowText.{is_first_of, is_of_flow, is_other, is_wi
 use Rattle.j39_follow.specs.declared.message.Sort.{Sort}
 use Rattle.j39_follow.specs.declared.message.Sort.TheVariants.{Other}
 use Rattle.j39_follow.specs.declared.tally.Tally.{Tally}
-use Rattle.j39_follow.specs.inside.Tallies.{IsTally, count_at}
+use Rattle.j39_follow.specs.inside.Tallies.{IsTally, tally_at}
 
-pub none_counted : (k n : ℕ) → count_at (replicate k 0) n ≡ 0
+pub none_counted : (k n : ℕ) → tally_at (replicate k 0) n ≡ 0
 none_counted zero n = refl
 none_counted (suc k) zero = refl
 none_counted (suc k) (suc n) = none_counted k n
@@ -68,15 +68,15 @@ first_or_not plan pgn first g group found at leads = elim (cases_Bool (pgn == gr
 pub other_counted : (plan : Plan) (old new : Tally) (sent : List Sort) (pgn first : ℕ) → length sent < 2 ^ 64 - 1
     → position (λ (h : GroupPlan). h.pgn == pgn) plan.groups.items ≡ Some first → length old.others ≡ 256
     → new.flows ≡ old.flows → new.groups ≡ old.groups
-    → ((k : ℕ) → k < length old.others → count_at new.others k
-    ≡ (if first == k then min (count_at old.others k + 1) (2 ^ 64 - 1) else count_at old.others k))
+    → ((k : ℕ) → k < length old.others → tally_at new.others k
+    ≡ (if first == k then min (tally_at old.others k + 1) (2 ^ 64 - 1) else tally_at old.others k))
     → IsTally plan old sent → IsTally plan new (sent ++ Other pgn ∷ [])
 other_counted plan old new sent pgn first few found room flows groups adds of = record {
-  flows = λ n less. ap (λ (xs : List ℕ). count_at xs n) flows ∙ of.flows n less ∙ sym (count_failed (is_of_flow n) sent (Other pgn) refl);
-  groups = λ g less. ap (λ (xs : List ℕ). count_at xs g) groups ∙ of.groups g less ∙ sym (count_failed (is_without_flow g) sent (Other pgn) refl);
+  flows = λ n less. ap (λ (xs : List ℕ). tally_at xs n) flows ∙ of.flows n less ∙ sym (count_failed (is_of_flow n) sent (Other pgn) refl);
+  groups = λ g less. ap (λ (xs : List ℕ). tally_at xs g) groups ∙ of.groups g less ∙ sym (count_failed (is_without_flow g) sent (Other pgn) refl);
   others = λ g group at leads.
       let within = slice_get_within plan.groups.items g group at in
       let most = plan.group_count in
-      counted (is_other group.pgn) sent (Other pgn) (count_at old.others g) (count_at new.others g) (first == g) few
+      counted (is_other group.pgn) sent (Other pgn) (tally_at old.others g) (tally_at new.others g) (first == g) few
       (of.others g group at leads) (first_or_not plan pgn first g group found at leads) (adds g (omega (arith, within, most, room)));
 }

@@ -4,7 +4,7 @@ use Rattle.std.specs.List.{slice_get}
 use Rattle.j39_id.specs.declared.frame.Frame.{Frame}
 use Rattle.j39_findings.specs.declared.plan.Plan.{Plan}
 use Rattle.j39_findings.specs.declared.plan.unit_plan.UnitPlan.{UnitPlan}
-use Rattle.j39_follow.specs.Holders.{Holds, IsHolder}
+use Rattle.j39_follow.specs.Holders.{HoldsByFrames, IsHolder}
 use Rattle.j39_follow.specs.Who.{IsWho, MayHold}
 use Rattle.j39_follow.specs.declared.holders.Holders.{Holders}
 use Rattle.j39_follow.specs.declared.who.Who.{Who}
@@ -18,10 +18,10 @@ module _ (plan : Plan) (h : Holders) (frames : List Frame) (f : Frame) (name : �
   abbrev more : List Frame
   more = frames ++ f ∷ []
 
-  held_still : (n : ℕ) → Holds frames n address → Holds more n address
+  held_still : (n : ℕ) → HoldsByFrames frames n address → HoldsByFrames more n address
   held_still n holds =
       holds_on frames f n address holds
-      (takes f name place n address tells (λ same. still.held (of.holds address name (subst (λ (m : ℕ). Holds frames m address) same holds))) still.claimed)
+      (takes f name place n address tells (λ same. still.held (of.holds address name (subst (λ (m : ℕ). HoldsByFrames frames m address) same holds))) still.claimed)
 
   free_still : IsHolder frames address None → IsHolder more address None
   free_still none n holds = elim (held_by frames f n address holds) [

@@ -28,24 +28,24 @@ abbrev pub fits : ℕ → Sending → FlowPlan → Bool
 fits group sent flow = flow.group == group && (is_unit sent.sender flow.sender && reaches flow.to sent.aim sent.unaddressed)
 
 -- the first flow of the group that fits
-abbrev pub flow_of : Plan → ℕ → Sending → Option ℕ
-flow_of plan group sent = position (fits group sent) plan.flows.items
+abbrev pub fitting_flow : Plan → ℕ → Sending → Option ℕ
+fitting_flow plan group sent = position (fits group sent) plan.flows.items
 
 -- messages of the group may have so many bytes
-abbrev pub has_length : GroupPlan → ℕ → Bool
-has_length group bytes = nat_le group.length bytes && nat_le bytes group.most
+abbrev pub may_have_bytes : GroupPlan → ℕ → Bool
+may_have_bytes group bytes = nat_le group.length bytes && nat_le bytes group.most
 
 -- the group at this place has the number and so many bytes, and isn't private, or a flow of it fits
 pub record IsPlannedAs (plan : Plan) (pgn bytes : ℕ) (sent : Sending) (place : ℕ) (group : GroupPlan) : Type 0 where
   pub number : group.pgn ≡ pgn
-  pub length : has_length group bytes ≡ true
-  pub own : (group.private ≡ false) ⊎ (flow_of plan place sent ≢ None)
+  pub length : may_have_bytes group bytes ≡ true
+  pub own : (group.private ≡ false) ⊎ (fitting_flow plan place sent ≢ None)
 
 abbrev pub MayBeGroup : Plan → ℕ → ℕ → Sending → ℕ → Type 0
 MayBeGroup plan pgn bytes sent place = ValueAt (IsPlannedAs plan pgn bytes sent place) plan.groups.items place
 
 -- the group of so many bytes of this number: the first that it may be
-abbrev pub IsGroupOf : Plan → ℕ → ℕ → Sending → Option ℕ → Type 0
-IsGroupOf plan pgn bytes sent (Some place) =
+abbrev pub IsSentGroup : Plan → ℕ → ℕ → Sending → Option ℕ → Type 0
+IsSentGroup plan pgn bytes sent (Some place) =
     MayBeGroup plan pgn bytes sent place × ((earlier : ℕ) → earlier < place → ¬ MayBeGroup plan pgn bytes sent earlier)
-IsGroupOf plan pgn bytes sent None = (place : ℕ) → ¬ MayBeGroup plan pgn bytes sent place
+IsSentGroup plan pgn bytes sent None = (place : ℕ) → ¬ MayBeGroup plan pgn bytes sent place

@@ -15,8 +15,8 @@ use Rattle.j39_log.specs.LogReports.{reading_lines}
 use Rattle.j39_text.specs.FrameText.{cannot_claim, claims_address, name_in, requested_group, requests_group}
 use Rattle.j39_text.specs.Labels.{unit_label}
 use Rattle.j39_text.specs.Texts.{field, place_field}
-use Rattle.j39_follow.specs.Fits.{IsGroupOf, flow_of}
-use Rattle.j39_follow.specs.Who.{IsWho, name_text, unit_named, unit_of, who_text}
+use Rattle.j39_follow.specs.Fits.{IsSentGroup, fitting_flow}
+use Rattle.j39_follow.specs.Who.{IsWho, name_text, unit_of_name, unit_of, who_text}
 use Rattle.j39_follow.specs.declared.message.Sort.{Sort}
 use Rattle.j39_follow.specs.declared.message.Sort.TheVariants.{Grouped, Other}
 use Rattle.j39_follow.specs.declared.sending.Aim.{Aim}
@@ -32,7 +32,7 @@ stamp number time = decimal number ++ (codes " " ++ (time ++ codes " "))
 
 -- a unit by its NAME
 unfoldable pub named_text : Plan → ℕ → List ℕ
-named_text plan name = option_map_or (unit_label plan) (unit_named plan name) (name_text name)
+named_text plan name = option_map_or (unit_label plan) (unit_of_name plan name) (name_text name)
 
 unfoldable pub claim_text : Plan → List ℕ → ℕ → ℕ → List ℕ
 claim_text plan front name address =
@@ -83,7 +83,7 @@ aim_at (Some u) = aims.One u
 aim_at None = aims.Neither
 
 -- who sent it to whom, by what these frames tell
-pub record IsSending (plan : Plan) (frames : List Frame) (m : Message) (sent : Sending) : Type 0 where
+pub record IsSendingOf (plan : Plan) (frames : List Frame) (m : Message) (sent : Sending) : Type 0 where
   pub sender : Who
   pub receiver : Who
   pub sender_is : IsWho plan frames m.ident.sa sender
@@ -105,23 +105,23 @@ unfoldable pub sent_text : GroupPlan → Option ℕ → Message → List ℕ
 sent_text group flow m =
     flow_word flow ++ (priority_text group.priority m.framed ++ (codes " bytes " ++ (encode_upper m.bytes ++ 10 ∷ [])))
 
-unfoldable pub group_line : GroupPlan → List ℕ → List ℕ → Option ℕ → Message → List ℕ
-group_line group front way flow m = front ++ (codes "group " ++ (group.label.bytes ++ (way ++ sent_text group flow m)))
+unfoldable pub message_line : GroupPlan → List ℕ → List ℕ → Option ℕ → Message → List ℕ
+message_line group front way flow m = front ++ (codes "group " ++ (group.label.bytes ++ (way ++ sent_text group flow m)))
 
 -- the message is reported so, and counts as this
 abbrev pub IsGrouped : Plan → List Frame → List ℕ → Message → Sending → Option ℕ → Sort → List ℕ → Type 0
 IsGrouped plan frames front m sent (Some g) sort text =
-    (sort ≡ Grouped g (flow_of plan g sent)) × (way : List ℕ) × IsWay plan frames m.ident way
-    × ValueAt (λ (group : GroupPlan). text ≡ group_line group front way (flow_of plan g sent) m ++ reading_lines group m.bytes)
+    (sort ≡ Grouped g (fitting_flow plan g sent)) × (way : List ℕ) × IsWay plan frames m.ident way
+    × ValueAt (λ (group : GroupPlan). text ≡ message_line group front way (fitting_flow plan g sent) m ++ reading_lines group m.bytes)
     plan.groups.items g
 IsGrouped plan frames front m sent None sort text = (sort ≡ Other m.pgn) × (text ≡ [])
 
 -- the group of a message, as what was sent tells it
 abbrev pub IsGroupOfMessage : Plan → List Frame → Message → Option ℕ → Type 0
 IsGroupOfMessage plan frames m group =
-    (sent : Sending) × IsSending plan frames m sent × IsGroupOf plan m.pgn (length m.bytes) sent group
+    (sent : Sending) × IsSendingOf plan frames m sent × IsSentGroup plan m.pgn (length m.bytes) sent group
 
 abbrev pub IsMessageReport : Plan → List Frame → List ℕ → Message → Sort → List ℕ → Type 0
 IsMessageReport plan frames front m sort text =
-    (sent : Sending) × (group : Option ℕ) × IsSending plan frames m sent × IsGroupOf plan m.pgn (length m.bytes) sent group
+    (sent : Sending) × (group : Option ℕ) × IsSendingOf plan frames m sent × IsSentGroup plan m.pgn (length m.bytes) sent group
     × IsGrouped plan frames front m sent group sort text

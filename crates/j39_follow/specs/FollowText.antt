@@ -28,19 +28,19 @@ use Rattle.j39_stream.specs.declared.verdict.Verdict.TheVariants.{Done, Findings
 use Rattle.j39_follow.specs.FollowReports.{IsGroupOfMessage, IsMessageReport, IsNotice, Message, stamp}
 use Rattle.j39_follow.specs.declared.message.Sort.{Sort}
 use Rattle.j39_follow.specs.declared.message.Sort.TheVariants.{Grouped, Other}
-use Rattle.j39_follow.specs.Holders.{Holds, IsTold}
+use Rattle.j39_follow.specs.Holders.{HoldsByFrames, IsTold}
 use Rattle.j39_follow.specs.LogLines.{IsElsewhere, IsReadPart, IsTimeText, NamesInterface, interface_behind}
 use Rattle.j39_follow.specs.Who.{ChangesHands}
 
 -- ---- what each two addresses heard
 
-abbrev pub frames_of : List Seen → List Frame
-frames_of seen = map (λ (s : Seen). s.frame) seen
+abbrev pub frames_seen : List Seen → List Frame
+frames_seen seen = map (λ (s : Seen). s.frame) seen
 
 -- at this frame, after those, one of the two addresses changes hands
 abbrev pub Parts : Plan → List Seen → Seen → ℕ → ℕ → Type 0
 Parts plan before x source destination =
-    ChangesHands plan (frames_of before) x.frame source ⊎ ChangesHands plan (frames_of before) x.frame destination
+    ChangesHands plan (frames_seen before) x.frame source ⊎ ChangesHands plan (frames_seen before) x.frame destination
 
 -- the last of these frames is one at which it does
 abbrev pub EndsInParting : Plan → List Seen → ℕ → ℕ → Type 0
@@ -64,9 +64,9 @@ abbrev pub in_frame : Frame → Message
 in_frame f = record { pgn = pgn_of f.ident; bytes = f.payload.items; ident = f.ident; framed = Some f.ident.priority }
 
 -- the transport packet that is heard of a frame, these being the frames up to it; of a frame that is a group none is
-abbrev pub IsHeardAs : Plan → List Frame → Frame → Option Packet → Type 0
-IsHeardAs plan frames f (Some p) = IsGroupOfMessage plan frames (in_frame f) None × IsPacket f p
-IsHeardAs plan frames f None = ((p : Packet) → ¬ IsPacket f p) ⊎ ((g : ℕ) × IsGroupOfMessage plan frames (in_frame f) (Some g))
+abbrev pub IsFollowedAs : Plan → List Frame → Frame → Option Packet → Type 0
+IsFollowedAs plan frames f (Some p) = IsGroupOfMessage plan frames (in_frame f) None × IsPacket f p
+IsFollowedAs plan frames f None = ((p : Packet) → ¬ IsPacket f p) ⊎ ((g : ℕ) × IsGroupOfMessage plan frames (in_frame f) (Some g))
 
 -- what is written where a packet ends a message, and what that counts as
 abbrev pub IsCarriedReport : Plan → List Frame → List ℕ → List Packet → ℕ → Frame → List Sort → List ℕ → Type 0
@@ -80,12 +80,12 @@ abbrev pub IsPacketReport : Plan → List Seen → List ℕ → Frame → Option
 IsPacketReport plan before front f None sorts text = (sorts ≡ []) × (text ≡ [])
 IsPacketReport plan before front f (Some p) sorts text =
     (h : List Packet) × HeardSince plan before f.ident.sa f.ident.ps h
-    × IsCarriedReport plan (frames_of before ++ f ∷ []) front (h ++ p ∷ []) (length h) f sorts text
+    × IsCarriedReport plan (frames_seen before ++ f ∷ []) front (h ++ p ∷ []) (length h) f sorts text
 
 -- ---- a log
 
 -- what came so far: how many lines, the frames, the interface of the log, what was sent, and how many lines were passed over
-pub record Past : Type 0 where
+pub record FollowedPast : Type 0 where
   pub number : ℕ
   pub seen : List Seen
   pub interface : Option (List ℕ)
@@ -94,30 +94,30 @@ pub record Past : Type 0 where
   pub bad : ℕ
   pub elsewhere : ℕ
 
-abbrev pub nothing_yet : Past
-nothing_yet = record { number = 0; seen = []; interface = None; sent = []; skipped = 0; bad = 0; elsewhere = 0 }
+abbrev pub nothing_followed : FollowedPast
+nothing_followed = record { number = 0; seen = []; interface = None; sent = []; skipped = 0; bad = 0; elsewhere = 0 }
 
-abbrev pub with_bad : Past → Past
-with_bad past = record past { bad = past.bad + 1 }
+abbrev pub with_bad_line : FollowedPast → FollowedPast
+with_bad_line past = record past { bad = past.bad + 1 }
 
 -- a line without a word isn't counted, and one of an 11-bit identifier is skipped
-abbrev pub passed_over : LineError → Past → Past
-passed_over Empty past = past
-passed_over ShortIdent past = record past { skipped = past.skipped + 1 }
-passed_over _ past = with_bad past
+abbrev pub line_passed_over : LineError → FollowedPast → FollowedPast
+line_passed_over Empty past = past
+line_passed_over ShortIdent past = record past { skipped = past.skipped + 1 }
+line_passed_over _ past = with_bad_line past
 
 -- from what came so far a frame leads to this, and this is written at it: what it tells, what it is, and what it ends
-pub record ReadsFrame (plan : Plan) (past : Past) (front : List ℕ) (named : Option (List ℕ)) (f : Frame)
-    (next : Past) (text : List ℕ) : Type 0 where
+pub record FollowsFrame (plan : Plan) (past : FollowedPast) (front : List ℕ) (named : Option (List ℕ)) (f : Frame)
+    (next : FollowedPast) (text : List ℕ) : Type 0 where
   pub packet : Option Packet
   pub sort : Sort
   pub sorts : List Sort
   pub notice : List ℕ
   pub report : List ℕ
   pub carried : List ℕ
-  pub heard_as : IsHeardAs plan (frames_of past.seen ++ f ∷ []) f packet
-  pub notice_is : IsNotice plan (frames_of past.seen ++ f ∷ []) front f notice
-  pub report_is : IsMessageReport plan (frames_of past.seen ++ f ∷ []) front (in_frame f) sort report
+  pub heard_as : IsFollowedAs plan (frames_seen past.seen ++ f ∷ []) f packet
+  pub notice_is : IsNotice plan (frames_seen past.seen ++ f ∷ []) front f notice
+  pub report_is : IsMessageReport plan (frames_seen past.seen ++ f ∷ []) front (in_frame f) sort report
   pub carried_is : IsPacketReport plan past.seen front f packet sorts carried
   pub text_is : text ≡ notice ++ (report ++ carried)
   pub next_is : next ≡ record past {
@@ -127,32 +127,32 @@ pub record ReadsFrame (plan : Plan) (past : Past) (front : List ℕ) (named : Op
   }
 
 -- a line that isn't elsewhere is read: as the frame that its part spells, or it is passed over
-abbrev pub ReadsPart : Plan → Past → List ℕ → List ℕ → Option (List ℕ) → Past → List ℕ → Type 0
-ReadsPart plan past line part named next text =
+abbrev pub FollowsPart : Plan → FollowedPast → List ℕ → List ℕ → Option (List ℕ) → FollowedPast → List ℕ → Type 0
+FollowsPart plan past line part named next text =
     ((f : Frame) × (time : List ℕ) × Spells part f × IsTimeText line time
-    × ReadsFrame plan past (stamp past.number time) named f next text)
-    ⊎ ((e : LineError) × HasLineFault part e × (next ≡ passed_over e past) × (text ≡ []))
+    × FollowsFrame plan past (stamp past.number time) named f next text)
+    ⊎ ((e : LineError) × HasLineFault part e × (next ≡ line_passed_over e past) × (text ≡ []))
 
-abbrev pub ReadsShort : Plan → Past → List ℕ → Past → List ℕ → Type 0
-ReadsShort plan past line next text =
+abbrev pub FollowsShort : Plan → FollowedPast → List ℕ → FollowedPast → List ℕ → Type 0
+FollowsShort plan past line next text =
     (part : List ℕ) × (named : Option (List ℕ)) × IsReadPart line part × NamesInterface part named
     × ((IsElsewhere past.interface named × (next ≡ record past { elsewhere = past.elsewhere + 1 }) × (text ≡ []))
-    ⊎ ((¬ IsElsewhere past.interface named) × ReadsPart plan past line part named next text))
+    ⊎ ((¬ IsElsewhere past.interface named) × FollowsPart plan past line part named next text))
 
 -- the past, once a line more has begun
-abbrev pub one_line_more : Past → Past
+abbrev pub one_line_more : FollowedPast → FollowedPast
 one_line_more past = record past { number = past.number + 1 }
 
-abbrev pub ReadsLine : Plan → Past → Line → Past → List ℕ → Type 0
-ReadsLine plan past (Short line) next text = ReadsShort plan (one_line_more past) line next text
-ReadsLine plan past Long next text = (next ≡ with_bad (one_line_more past)) × (text ≡ [])
+abbrev pub FollowsLine : Plan → FollowedPast → Line → FollowedPast → List ℕ → Type 0
+FollowsLine plan past (Short line) next text = FollowsShort plan (one_line_more past) line next text
+FollowsLine plan past Long next text = (next ≡ with_bad_line (one_line_more past)) × (text ≡ [])
 
 -- so do all lines, one after another
-abbrev pub ReadsLines : Plan → Past → List Line → Past → List ℕ → Type 0
-ReadsLines plan past [] end text = (end ≡ past) × (text ≡ [])
-ReadsLines plan past (line ∷ rest) end text =
-    (next : Past) × (front : List ℕ) × (back : List ℕ) × ReadsLine plan past line next front
-    × ReadsLines plan next rest end back × (text ≡ front ++ back)
+abbrev pub FollowsLines : Plan → FollowedPast → List Line → FollowedPast → List ℕ → Type 0
+FollowsLines plan past [] end text = (end ≡ past) × (text ≡ [])
+FollowsLines plan past (line ∷ rest) end text =
+    (next : FollowedPast) × (front : List ℕ) × (back : List ℕ) × FollowsLine plan past line next front
+    × FollowsLines plan next rest end back × (text ≡ front ++ back)
 
 -- ---- the end of a log
 
@@ -176,17 +176,17 @@ unfoldable pub ends_text : Plan → FlowPlan → List ℕ
 ends_text plan flow = codes " from " ++ (unit_label plan flow.sender ++ (codes " to " ++ to_text plan flow.to))
 
 -- a flow that was sent so often
-unfoldable pub sent_line : Plan → ℕ → FlowPlan → ℕ → List ℕ
-sent_line plan n flow times =
+unfoldable pub flow_sent_line : Plan → ℕ → FlowPlan → ℕ → List ℕ
+flow_sent_line plan n flow times =
     place_field (codes "flow ") n ++ (codes " " ++ (group_label plan flow.group ++ (ends_text plan flow ++ (field (codes " sent ") times ++ 10 ∷ []))))
 
 -- of each flow how often it was sent
-abbrev pub flow_line : Plan → List Sort → ℕ → FlowPlan → List ℕ
-flow_line plan sent n flow = sent_line plan n flow (count_by (is_of_flow n) sent)
+abbrev pub flow_end : Plan → List Sort → ℕ → FlowPlan → List ℕ
+flow_end plan sent n flow = flow_sent_line plan n flow (count_by (is_of_flow n) sent)
 
-unfoldable pub flow_lines : Plan → List Sort → ℕ → List FlowPlan → List ℕ
-flow_lines plan sent n [] = []
-flow_lines plan sent n (flow ∷ flows) = flow_line plan sent n flow ++ flow_lines plan sent (n + 1) flows
+unfoldable pub flow_ends : Plan → List Sort → ℕ → List FlowPlan → List ℕ
+flow_ends plan sent n [] = []
+flow_ends plan sent n (flow ∷ flows) = flow_end plan sent n flow ++ flow_ends plan sent (n + 1) flows
 
 -- the group at this place is the first of its number
 abbrev pub is_first_of : Plan → ℕ → GroupPlan → Bool
@@ -198,50 +198,50 @@ rest_line group unplanned others =
     codes "group " ++ (group.label.bytes ++ (field (codes " no_flow ") unplanned ++ (field (codes " other ") others ++ 10 ∷ [])))
 
 -- what else there was of the number of a group, told at the first group that has it
-abbrev pub others_of : Plan → List Sort → ℕ → GroupPlan → ℕ
-others_of plan sent g group = if is_first_of plan g group then count_by (is_other group.pgn) sent else 0
+abbrev pub others_of_number : Plan → List Sort → ℕ → GroupPlan → ℕ
+others_of_number plan sent g group = if is_first_of plan g group then count_by (is_other group.pgn) sent else 0
 
 -- of each group how often it was sent without a flow, and at the first of a number what else there was of that number
 abbrev pub group_end : Plan → List Sort → ℕ → GroupPlan → List ℕ
-group_end plan sent g group = rest_line group (count_by (is_without_flow g) sent) (others_of plan sent g group)
+group_end plan sent g group = rest_line group (count_by (is_without_flow g) sent) (others_of_number plan sent g group)
 
 unfoldable pub group_ends : Plan → List Sort → ℕ → List GroupPlan → List ℕ
 group_ends plan sent g [] = []
 group_ends plan sent g (group ∷ groups) = group_end plan sent g group ++ group_ends plan sent (g + 1) groups
 
-unfoldable pub unit_line : UnitPlan → List ℕ → List ℕ
-unit_line unit words = codes "unit " ++ (unit.label.bytes ++ (words ++ 10 ∷ []))
+unfoldable pub unit_end_line : UnitPlan → List ℕ → List ℕ
+unit_end_line unit words = codes "unit " ++ (unit.label.bytes ++ (words ++ 10 ∷ []))
 
 -- where a unit stands: at the address that its NAME holds, at none, or nothing was told of it
 abbrev pub IsUnitLine : List Frame → UnitPlan → List ℕ → Type 0
 IsUnitLine frames unit text =
-    ((address : ℕ) × Holds frames unit.name address × (text ≡ unit_line unit (field (codes " address ") address)))
-    ⊎ (IsTold frames unit.name × ((address : ℕ) → ¬ Holds frames unit.name address) × (text ≡ unit_line unit (codes " none")))
-    ⊎ ((¬ IsTold frames unit.name) × (text ≡ unit_line unit (codes " unheard")))
+    ((address : ℕ) × HoldsByFrames frames unit.name address × (text ≡ unit_end_line unit (field (codes " address ") address)))
+    ⊎ (IsTold frames unit.name × ((address : ℕ) → ¬ HoldsByFrames frames unit.name address) × (text ≡ unit_end_line unit (codes " none")))
+    ⊎ ((¬ IsTold frames unit.name) × (text ≡ unit_end_line unit (codes " unheard")))
 
 abbrev pub AreUnitLines : List Frame → List UnitPlan → List ℕ → Type 0
 AreUnitLines frames [] text = text ≡ []
 AreUnitLines frames (unit ∷ units) text =
     (front : List ℕ) × (back : List ℕ) × IsUnitLine frames unit front × AreUnitLines frames units back × (text ≡ front ++ back)
 
-unfoldable pub counts_line : ℕ → ℕ → ℕ → ℕ → List ℕ
-counts_line frames skipped bad elsewhere =
+unfoldable pub follow_counts_line : ℕ → ℕ → ℕ → ℕ → List ℕ
+follow_counts_line frames skipped bad elsewhere =
     field (codes "frames ") frames ++ (field (codes " skipped ") skipped ++ (field (codes " bad ") bad
     ++ (field (codes " elsewhere ") elsewhere ++ 10 ∷ [])))
 
 -- what is written of a log: what its lines report, then what was sent of each flow and group, where each unit stands, and the counts
-pub record IsLogText (plan : Plan) (log text : List ℕ) : Type 0 where
-  pub past : Past
+pub record IsFollowedLog (plan : Plan) (log text : List ℕ) : Type 0 where
+  pub past : FollowedPast
   pub reports : List ℕ
   pub units : List ℕ
-  pub read : ReadsLines plan nothing_yet (lines log) past reports
-  pub units_are : AreUnitLines (frames_of past.seen) plan.units.items units
-  pub text_is : text ≡ reports ++ (flow_lines plan past.sent 0 plan.flows.items ++ (group_ends plan past.sent 0 plan.groups.items
-      ++ (units ++ counts_line (length past.seen) past.skipped past.bad past.elsewhere)))
+  pub read : FollowsLines plan nothing_followed (lines log) past reports
+  pub units_are : AreUnitLines (frames_seen past.seen) plan.units.items units
+  pub text_is : text ≡ reports ++ (flow_ends plan past.sent 0 plan.flows.items ++ (group_ends plan past.sent 0 plan.groups.items
+      ++ (units ++ follow_counts_line (length past.seen) past.skipped past.bad past.elsewhere)))
 
 -- what is written for a plan and a log, with the verdict; of the log of a refused plan nothing is read
 abbrev pub IsFollowText : Plan → List ℕ → List ℕ → Verdict → Type 0
-IsFollowText plan log text Done = All IsSendable plan.groups.items × IsLogText plan log text
+IsFollowText plan log text Done = All IsSendable plan.groups.items × IsFollowedLog plan log text
 IsFollowText plan log text Refused = (g : ℕ) × IsFirstRefused plan.groups.items g × (text ≡ refused_plan_line plan g) × (log ≡ [])
 IsFollowText plan log text Findings = ⊥
 IsFollowText plan log text Unreadable = ⊥

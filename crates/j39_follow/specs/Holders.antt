@@ -20,7 +20,7 @@ abbrev pub TakesFrom : ℕ → ℕ → Frame → Type 0
 TakesFrom name address f = TellsOf f name ⊎ ((other : ℕ) × Claims f other address)
 
 -- a claim of the address by the NAME, and behind it nothing that takes the address from it
-pub record Holds (frames : List Frame) (name address : ℕ) : Type 0 where
+pub record HoldsByFrames (frames : List Frame) (name address : ℕ) : Type 0 where
   pub before : List Frame
   pub claim : Frame
   pub behind : List Frame
@@ -38,8 +38,8 @@ pub record IsTold (frames : List Frame) (name : ℕ) : Type 0 where
 
 -- the NAME that holds the address, or that none does
 abbrev pub IsHolder : List Frame → ℕ → Option ℕ → Type 0
-IsHolder frames address (Some name) = Holds frames name address
-IsHolder frames address None = (name : ℕ) → ¬ Holds frames name address
+IsHolder frames address (Some name) = HoldsByFrames frames name address
+IsHolder frames address None = (name : ℕ) → ¬ HoldsByFrames frames name address
 
 -- ---- laws
 
@@ -49,4 +49,4 @@ HasOneHolder = (frames : List Frame) (address : ℕ) (a b : Option ℕ) → IsHo
 
 -- a NAME holds one address
 abbrev pub HoldsOneAddress : Type 0
-HoldsOneAddress = (frames : List Frame) (name a b : ℕ) → Holds frames name a → Holds frames name b → a ≡ b
+HoldsOneAddress = (frames : List Frame) (name a b : ℕ) → HoldsByFrames frames name a → HoldsByFrames frames name b → a ≡ b

@@ -9,13 +9,13 @@ use Rattle.j39_findings.specs.declared.plan.unit_plan.UnitPlan.{UnitPlan}
 use Rattle.j39_findings.specs.ListPlaces.{ValueAt}
 use Rattle.j39_text.specs.Labels.{unit_label}
 use Rattle.j39_text.specs.Texts.{field}
-use Rattle.j39_follow.specs.Holders.{Holds, IsHolder, IsTold}
+use Rattle.j39_follow.specs.Holders.{HoldsByFrames, IsHolder, IsTold}
 use Rattle.j39_follow.specs.declared.who.Who.{Who}
 use Rattle.j39_follow.specs.declared.who.Who.TheVariants.{Holder, Stranger, Likely, Unknown}
 
 -- the first unit of this NAME
-abbrev pub unit_named : Plan → ℕ → Option ℕ
-unit_named plan name = position (λ (unit : UnitPlan). unit.name == name) plan.units.items
+abbrev pub unit_of_name : Plan → ℕ → Option ℕ
+unit_of_name plan name = position (λ (unit : UnitPlan). unit.name == name) plan.units.items
 
 -- a unit that prefers the address and of which nothing was told
 pub record MayHold (frames : List Frame) (address : ℕ) (unit : UnitPlan) : Type 0 where
@@ -35,8 +35,8 @@ pub record IsLikeliest (plan : Plan) (frames : List Frame) (address u : ℕ) : T
 -- who stands behind an address after these frames;
 -- before anything is told of it the unit that would claim it first (a log may begin in mid-drive)
 abbrev pub IsWho : Plan → List Frame → ℕ → Who → Type 0
-IsWho plan frames address (Holder u) = (name : ℕ) × Holds frames name address × (unit_named plan name ≡ Some u)
-IsWho plan frames address (Stranger name) = Holds frames name address × (unit_named plan name ≡ None)
+IsWho plan frames address (Holder u) = (name : ℕ) × HoldsByFrames frames name address × (unit_of_name plan name ≡ Some u)
+IsWho plan frames address (Stranger name) = HoldsByFrames frames name address × (unit_of_name plan name ≡ None)
 IsWho plan frames address (Likely u) = IsHolder frames address None × IsLikeliest plan frames address u
 IsWho plan frames address Unknown = IsHolder frames address None × ((u : ℕ) → ¬ ValueAt (MayHold frames address) plan.units.items u)
 

@@ -3,7 +3,7 @@ ghost use Rattle.std.specs.Prelude.{◌≡◌, ◌≢◌, ◌<◌, [], ◌∷◌
 ghost use Rattle.j39_id.specs.declared.frame.Frame.{Frame as AFrame};
 ghost use Rattle.j39_findings.specs.declared.plan.Plan.{Plan as APlan};
 ghost use Rattle.j39_follow.specs.Who.{IsWho};
-ghost use Rattle.j39_follow.specs.inside.Recounting.{ArePartiesOf, IsAt, IsUntouched, Knows, PrefersElsewhere, Recounts, StandsStill, is_touched};
+ghost use Rattle.j39_follow.specs.inside.Recounting.{ArePartiesOf, HasNameAt, IsUntouched, Knows, PrefersElsewhere, Recounts, StandsStill, is_touched};
 
 use crate::holders::{Holders, cannot_claim, carried_name, claims_address};
 use crate::who::{Who, who_at};
@@ -41,7 +41,7 @@ fn touch(touched: &mut [bool; ADDRESSES], address: u8)
 // Marks the address that the NAME holds.
 fn touch_held(touched: &mut [bool; ADDRESSES], holders: &Holders, name: u64)
     ensures { (plan : APlan) (frames : List AFrame) → Recounts plan holders.now frames → (a : ℕ) → is_touched touched.new a ≡ false
-        → (is_touched touched.old a ≡ false) × (¬ IsAt holders.now a name) }
+        → (is_touched touched.old a ≡ false) × (¬ HasNameAt holders.now a name) }
 {
     if let Some(held) = holders.address(name) {
         touch(touched, held);

@@ -3,7 +3,7 @@ ghost use Rattle.std.specs.Prelude.{◌≡◌, ◌<◌, ◌++◌, ℕ, List, Som
 ghost use Rattle.std.specs.List.{slice_get};
 ghost use Rattle.j39_id.specs.Limits.{unit_limit};
 ghost use Rattle.j39_id.specs.declared.frame.Frame.{Frame as AFrame};
-ghost use Rattle.j39_follow.specs.FollowText.{AreUnitLines, IsUnitLine, flow_lines, group_ends, ends_text, is_first_of as comes_first, others_of as others, rest_line, sent_line, to_text, unit_line};
+ghost use Rattle.j39_follow.specs.FollowText.{AreUnitLines, IsUnitLine, flow_ends, group_ends, ends_text, is_first_of as comes_first, others_of_number as others, rest_line, flow_sent_line, to_text, unit_end_line};
 ghost use Rattle.j39_text.specs.Texts.{field};
 ghost use Rattle.j39_follow.specs.declared.message.Sort.{Sort as ASort};
 ghost use Rattle.j39_follow.specs.inside.Recounting.{Recounts};
@@ -35,7 +35,7 @@ fn write_ends(text: &mut TextBuffer, plan: &Plan, flow: &FlowPlan) -> Result<(),
     write_to(text, plan, flow.to)
 }
 
-#[tactic(auto, unfolding(crate::specs::FollowText::sent_line))]
+#[tactic(auto, unfolding(crate::specs::FollowText::flow_sent_line))]
 fn write_flow(
     text: &mut TextBuffer,
     plan: &Plan,
@@ -43,7 +43,7 @@ fn write_flow(
     flow: &FlowPlan,
     times: u64,
 ) -> Result<(), AllocError>
-    ensures { OnOk result (text.new ≡ text.old ++ sent_line plan.now place flow.now times) }
+    ensures { OnOk result (text.new ≡ text.old ++ flow_sent_line plan.now place flow.now times) }
 {
     text.place("flow ", place)?;
     text.word(" ")?;
@@ -56,7 +56,7 @@ fn write_flow(
 // Writes how often each flow was sent.
 fn write_flows(text: &mut TextBuffer, plan: &Plan, tally: &Tally) -> Result<(), AllocError>
     ensures { OnOk result ((sent : List ASort) → IsTally plan.now tally.now sent
-        → text.new ≡ text.old ++ flow_lines plan.now sent 0 plan.now.flows.items) }
+        → text.new ≡ text.old ++ flow_ends plan.now sent 0 plan.now.flows.items) }
 {
     for place in 0..plan.flows.len() {
         write_flow(text, plan, place, &plan.flows[place], tally.of_flow(place))?;
@@ -116,9 +116,9 @@ fn write_groups(text: &mut TextBuffer, plan: &Plan, tally: &Tally) -> Result<(),
     Ok(())
 }
 
-#[tactic(auto, unfolding(crate::specs::FollowText::unit_line))]
+#[tactic(auto, unfolding(crate::specs::FollowText::unit_end_line))]
 fn write_standing(text: &mut TextBuffer, unit: &UnitPlan, address: u8) -> Result<(), AllocError>
-    ensures { OnOk result (text.new ≡ text.old ++ unit_line unit.now (field (codes " address ") address)) }
+    ensures { OnOk result (text.new ≡ text.old ++ unit_end_line unit.now (field (codes " address ") address)) }
 {
     text.word("unit ")?;
     text.word(unit.label.as_str())?;
@@ -126,9 +126,9 @@ fn write_standing(text: &mut TextBuffer, unit: &UnitPlan, address: u8) -> Result
     text.end_line()
 }
 
-#[tactic(auto, unfolding(crate::specs::FollowText::unit_line))]
+#[tactic(auto, unfolding(crate::specs::FollowText::unit_end_line))]
 fn write_nowhere(text: &mut TextBuffer, unit: &UnitPlan, words: &str) -> Result<(), AllocError>
-    ensures { OnOk result (text.new ≡ text.old ++ unit_line unit.now words.now) }
+    ensures { OnOk result (text.new ≡ text.old ++ unit_end_line unit.now words.now) }
 {
     text.word("unit ")?;
     text.word(unit.label.as_str())?;
@@ -179,7 +179,7 @@ pub(crate) fn write_endings(
 ) -> Result<(), AllocError>
     ensures { OnOk result ((sent : List ASort) (frames : List AFrame) → IsTally plan.now tally.now sent → Recounts plan.now holders.now frames
         → (units : List ℕ) × AreUnitLines frames plan.now.units.items units
-        × (text.new ≡ text.old ++ (flow_lines plan.now sent 0 plan.now.flows.items
+        × (text.new ≡ text.old ++ (flow_ends plan.now sent 0 plan.now.flows.items
         ++ (group_ends plan.now sent 0 plan.now.groups.items ++ units)))) }
 {
     write_flows(text, plan, tally)?;

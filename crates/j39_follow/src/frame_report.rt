@@ -8,10 +8,10 @@ ghost use Rattle.j39_tp.specs.Packets.{InRange};
 ghost use Rattle.j39_tp.specs.declared.receiving.progress.Progress.TheVariants.{Complete};
 ghost use Rattle.j39_follow.specs.FollowReports.{IsMessageReport};
 ghost use Rattle.j39_follow.specs.FollowText.{IsPacketReport, in_frame as message_in_frame};
-ghost use Rattle.j39_follow.specs.inside.FrameWriting.{IsCompleted, IsFrameWritten, with_frame};
-ghost use Rattle.j39_follow.specs.inside.Hearing.{HaveHeardOneMore, HaveHeardSince, listener_at};
+ghost use Rattle.j39_follow.specs.inside.FrameWriting.{IsCompleted, IsFrameWritten, frames_with};
+ghost use Rattle.j39_follow.specs.inside.Hearing.{HaveHeardOneMore, HaveHeardSince, listener_between};
 ghost use Rattle.j39_follow.specs.inside.Recounting.{Knows};
-ghost use Rattle.j39_follow.specs.inside.Reporting.{front_of, message_of};
+ghost use Rattle.j39_follow.specs.inside.Reporting.{front_of, arrived_message};
 
 use crate::directory::Directory;
 use crate::group_line::write_message;
@@ -27,7 +27,7 @@ use std::alloc::AllocError;
 
 // The message that came in a frame.
 fn in_frame(frame: &Frame) -> Arrival<'_>
-    ensures { message_of result ≡ message_in_frame frame.now }
+    ensures { arrived_message result ≡ message_in_frame frame.now }
 {
     Arrival {
         pgn: frame.ident.pgn().number(),
@@ -48,9 +48,9 @@ fn write_completed(
     ident: Ident,
 ) -> Result<Option<Sort>, AllocError>
     requires catalog { IsCatalogOf plan.now catalog.now }
-    requires complete { (pgn : ℕ) × ((listener_at listeners.now ident.sa ident.ps).progress ≡ Complete pgn) }
+    requires complete { (pgn : ℕ) × ((listener_between listeners.now ident.sa ident.ps).progress ≡ Complete pgn) }
     ensures { IfOk result (λ counted. (frames : List AFrame) → Knows plan.now directory.now frames
-        → IsCompleted plan.now frames (front_of stamp.entry) (listener_at listeners.now ident.sa ident.ps) ident counted text.old text.new) }
+        → IsCompleted plan.now frames (front_of stamp.entry) (listener_between listeners.now ident.sa ident.ps) ident counted text.old text.new) }
 {
     let Some(listener) = listeners.listener(ident.sa, ident.ps) else {
         return Ok(None);
@@ -85,7 +85,7 @@ fn write_packet(
     requires range { InRange packet.now }
     ensures heard { OnOk result ((seen : List Seen) → HaveHeardSince plan.now listeners.old seen
         → HaveHeardOneMore plan.now listeners.new seen (record { frame = frame.now; packet = Some packet.now })) }
-    ensures carried { IfOk result (λ ended. (seen : List Seen) → Knows plan.now directory.now (with_frame seen frame.now)
+    ensures carried { IfOk result (λ ended. (seen : List Seen) → Knows plan.now directory.now (frames_with seen frame.now)
         → HaveHeardSince plan.now listeners.old seen → AreAllInRange seen
         → (piece : List ℕ) × IsPacketReport plan.now seen (front_of stamp.entry) frame.now (Some packet.now) (option_to_list ended) piece
         × (text.new ≡ text.old ++ piece)) }
@@ -117,7 +117,7 @@ pub(crate) fn write_frame(
     frame: &Frame,
 ) -> Result<(Sort, Option<Sort>), AllocError>
     requires { IsCatalogOf plan.now catalog.now }
-    ensures { IfOk result (λ sorts. (seen : List Seen) → Knows plan.now directory.now (with_frame seen frame.now)
+    ensures { IfOk result (λ sorts. (seen : List Seen) → Knows plan.now directory.now (frames_with seen frame.now)
         → HaveHeardSince plan.now listeners.old seen → AreAllInRange seen
         → IsFrameWritten plan.now listeners.new seen (front_of stamp.entry) frame.now sorts.0 sorts.1 text.old text.new) }
 {

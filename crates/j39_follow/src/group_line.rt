@@ -3,12 +3,12 @@ ghost use Rattle.std.specs.Prelude.{◌≡◌, ◌++◌, ℕ, List, if◌then◌
 ghost use Rattle.j39_id.specs.declared.frame.Frame.{Frame as AFrame};
 ghost use Rattle.j39_findings.specs.declared.plan.Plan.{Plan as APlan};
 ghost use Rattle.j39_log.specs.inside.Listening.{IsCatalogOf};
-ghost use Rattle.j39_follow.specs.FollowReports.{IsMessageReport, IsSending, IsWay, aim_at, flow_word, group_line, is_to_all as goes_to_all, priority_text, sent_text};
+ghost use Rattle.j39_follow.specs.FollowReports.{IsMessageReport, IsSendingOf, IsWay, aim_at, flow_word, message_line, is_to_all as goes_to_all, priority_text, sent_text};
 ghost use Rattle.j39_follow.specs.Who.{IsWho, unit_of};
 ghost use Rattle.j39_follow.specs.declared.sending.Aim.TheVariants as aims;
 ghost use Rattle.j39_follow.specs.declared.who.Who.{Who as AWho};
 ghost use Rattle.j39_follow.specs.inside.Recounting.{Knows};
-ghost use Rattle.j39_follow.specs.inside.Reporting.{front_of, message_of};
+ghost use Rattle.j39_follow.specs.inside.Reporting.{front_of, arrived_message};
 
 use crate::directory::Directory;
 use crate::message::{Arrival, Sort};
@@ -38,7 +38,7 @@ fn aim_of(directory: &Directory, message: Arrival<'_>) -> Aim
 
 // Who sent a message, to whom.
 fn sending_of(directory: &Directory, message: Arrival<'_>) -> Sending
-    ensures { (plan : APlan) (frames : List AFrame) → Knows plan directory.now frames → IsSending plan frames (message_of message.entry) result }
+    ensures { (plan : APlan) (frames : List AFrame) → Knows plan directory.now frames → IsSendingOf plan frames (arrived_message message.entry) result }
 {
     Sending {
         sender: directory.party(message.ident.sa).unit(),
@@ -81,7 +81,7 @@ fn write_sent(
     flow: Option<usize>,
     message: Arrival<'_>,
 ) -> Result<(), AllocError>
-    ensures { OnOk result (text.new ≡ text.old ++ sent_text group.now flow (message_of message.entry)) }
+    ensures { OnOk result (text.new ≡ text.old ++ sent_text group.now flow (arrived_message message.entry)) }
 {
     write_flow(text, flow)?;
     write_priority(text, group.priority, message.framed)?;
@@ -90,7 +90,7 @@ fn write_sent(
     text.end_line()
 }
 
-#[tactic(auto, unfolding(crate::specs::FollowReports::group_line))]
+#[tactic(auto, unfolding(crate::specs::FollowReports::message_line))]
 fn write_group_line(
     text: &mut TextBuffer,
     plan: &Plan,
@@ -102,7 +102,7 @@ fn write_group_line(
 ) -> Result<(), AllocError>
     ensures { OnOk result ((frames : List AFrame) → Knows plan.now directory.now frames
         → (way : List ℕ) × IsWay plan.now frames message.entry.ident way
-        × (text.new ≡ text.old ++ group_line group.now (front_of stamp.entry) way flow (message_of message.entry))) }
+        × (text.new ≡ text.old ++ message_line group.now (front_of stamp.entry) way flow (arrived_message message.entry))) }
 {
     write_stamp(text, stamp)?;
     text.word("group ")?;
@@ -122,7 +122,7 @@ pub(crate) fn write_message(
 ) -> Result<Sort, AllocError>
     requires { IsCatalogOf plan.now catalog.now }
     ensures { IfOk result (λ sort. (frames : List AFrame) → Knows plan.now directory.now frames
-        → (piece : List ℕ) × IsMessageReport plan.now frames (front_of stamp.entry) (message_of message.entry) sort piece
+        → (piece : List ℕ) × IsMessageReport plan.now frames (front_of stamp.entry) (arrived_message message.entry) sort piece
         × (text.new ≡ text.old ++ piece)) }
 {
     let sent = sending_of(directory, message);

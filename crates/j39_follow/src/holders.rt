@@ -9,7 +9,7 @@ ghost use Rattle.j39_findings.specs.declared.plan.Plan.{Plan as APlan};
 ghost use Rattle.j39_findings.specs.declared.plan.unit_plan.UnitPlan.{UnitPlan as AUnitPlan};
 ghost use Rattle.j39_text.specs.FrameText.{cannot_claim, carries_name, claims_address, name_in};
 ghost use Rattle.j39_follow.specs.Holders.{IsHolder, IsTold, TellsOf};
-ghost use Rattle.j39_follow.specs.inside.Recounting.{IsAt, IsLeft, IsMarked, IsMoved, Recounts, is_marked};
+ghost use Rattle.j39_follow.specs.inside.Recounting.{HasNameAt, IsLeft, IsMarked, IsMoved, Recounts, is_marked};
 
 use j39_findings::Plan;
 use j39_id::addresses::NULL_ADDRESS;
@@ -77,8 +77,8 @@ impl Holders {
 
     // The NAME at this place of the table.
     fn holder_at(&self, address: usize) -> Option<u64>
-        ensures some { IfSome result (λ name. IsAt self.now address name) }
-        ensures only { (name : ℕ) → IsAt self.now address name → result ≡ Some name }
+        ensures some { IfSome result (λ name. HasNameAt self.now address name) }
+        ensures only { (name : ℕ) → HasNameAt self.now address name → result ≡ Some name }
     {
         if address < ADDRESSES {
             self.names[address]
@@ -143,8 +143,8 @@ impl Holders {
 
     /// The address that the NAME holds.
     pub fn address(&self, name: u64) -> Option<u8>
-        ensures some { IfSome result (λ address. IsAt self.now address name) }
-        ensures none { IfNone result ((address : ℕ) → ¬ IsAt self.now address name) }
+        ensures some { IfSome result (λ address. HasNameAt self.now address name) }
+        ensures none { IfNone result ((address : ℕ) → ¬ HasNameAt self.now address name) }
     {
         for address in 0..ADDRESSES {
             if self.names[address] == Some(name) {

@@ -3,9 +3,9 @@ ghost use Rattle.std.specs.Prelude.{◌≡◌, ◌⊎◌, ◌+◌, ◌<◌, ◌�
 ghost use Rattle.std.specs.Io.KnownBytes.{Appends, Consumes, IsAtEnd};
 ghost use Rattle.j39_id.specs.Lines.{Line, behind_all, told, told_at_end};
 ghost use Rattle.j39_stream.specs.Streams.{AppendsPart, HasFailed, KeepsLimits, PassesLimits, log_limits};
-ghost use Rattle.j39_follow.specs.FollowText.{IsFollowText, IsLogText};
+ghost use Rattle.j39_follow.specs.FollowText.{IsFollowText, IsFollowedLog};
 ghost use Rattle.j39_log.specs.inside.Listening.{IsCatalogOf};
-ghost use Rattle.j39_follow.specs.inside.Recalling.{CountsWithin, HasReadLines, HasWritten};
+ghost use Rattle.j39_follow.specs.inside.Recalling.{CountsWithin, HasFollowedLines, HasFollowedToEnd};
 
 use crate::reading::Reading;
 use j39_findings::Plan;
@@ -26,8 +26,8 @@ fn read_piece(
     requires catalog { IsCatalogOf plan.now catalog.now }
     requires room { (most : ℕ) × CountsWithin reading.old most × (most + length piece.now ≤ 2 ^ 62) }
     ensures pending { OnOk result (cutter.new.pending ≡ behind_all cutter.old.pending piece.now) }
-    ensures lines { OnOk result ((before : List Line) (written : List ℕ) → HasReadLines plan.now before reading.old written
-        → HasReadLines plan.now (before ++ told cutter.old.pending piece.now) reading.new written) }
+    ensures lines { OnOk result ((before : List Line) (written : List ℕ) → HasFollowedLines plan.now before reading.old written
+        → HasFollowedLines plan.now (before ++ told cutter.old.pending piece.now) reading.new written) }
     ensures count { OnOk result ((most : ℕ) → CountsWithin reading.old most → CountsWithin reading.new (most + length piece.now)) }
 {
     let mut rest = piece;
@@ -49,8 +49,8 @@ fn close(
 ) -> Result<(), AllocError>
     requires catalog { IsCatalogOf plan.now catalog.now }
     requires room { CountsWithin reading.old (2 ^ 62) }
-    ensures { OnOk result ((before : List Line) (written : List ℕ) → HasReadLines plan.now before reading.old written
-        → HasWritten plan.now (before ++ told_at_end cutter.old.pending) (written ++ reading.new.text)) }
+    ensures { OnOk result ((before : List Line) (written : List ℕ) → HasFollowedLines plan.now before reading.old written
+        → HasFollowedToEnd plan.now (before ++ told_at_end cutter.old.pending) (written ++ reading.new.text)) }
 {
     let cut = cutter.end();
     reading.read_cut(plan, catalog, cut, cutter.line())?;
@@ -67,9 +67,9 @@ fn read_log<S: Source, W: Sink>(
 ) -> Result<(), Fault>
     requires { IsCatalogOf plan.now catalog.now }
     ensures ok { OnOk result ((log : List ℕ) × (text : List ℕ) × Consumes (S.left source.old) (S.left source.new) log × IsAtEnd (S.left source.new)
-        × IsLogText plan.now log text × Appends (W.taken sink.old) (W.taken sink.new) text) }
+        × IsFollowedLog plan.now log text × Appends (W.taken sink.old) (W.taken sink.new) text) }
     ensures cut { OnErr result ((log : List ℕ) × (rest : List ℕ) × (text : List ℕ) × Consumes (S.left source.old) (S.left source.new) (log ++ rest)
-        × IsLogText plan.now log text × AppendsPart (W.taken sink.old) (W.taken sink.new) text) }
+        × IsFollowedLog plan.now log text × AppendsPart (W.taken sink.old) (W.taken sink.new) text) }
     ensures limits { OnOk result (KeepsLimits log_limits (S.left source.old) (S.left source.new) (S.pulls source.old) (S.pulls source.new)) }
     ensures long { IsErrOf result Fault.TooLong → PassesLimits log_limits (S.left source.old) (S.left source.new) (S.pulls source.old) (S.pulls source.new) }
     ensures device { IsErrOf result Fault.Device → HasFailed (S.failures source.old) (S.failures source.new)

@@ -5,11 +5,11 @@ ghost use Rattle.j39_id.specs.Lines.{tells};
 ghost use Rattle.j39_findings.specs.declared.plan.Plan.{Plan as APlan};
 ghost use Rattle.j39_log.specs.inside.Listening.{AreAllInRange, IsCatalogOf};
 ghost use Rattle.j39_follow.specs.FollowReports.{stamp};
-ghost use Rattle.j39_follow.specs.FollowText.{AreUnitLines, Past, ReadsFrame, ReadsLines, ReadsShort, counts_line, frames_of, nothing_yet, passed_over};
+ghost use Rattle.j39_follow.specs.FollowText.{AreUnitLines, FollowedPast, FollowsFrame, FollowsLines, FollowsShort, follow_counts_line, frames_seen, nothing_followed, line_passed_over};
 ghost use Rattle.j39_follow.specs.LogLines.{IsElsewhere, interface_behind};
-ghost use Rattle.j39_follow.specs.inside.FrameWriting.{with_frame};
+ghost use Rattle.j39_follow.specs.inside.FrameWriting.{frames_with};
 ghost use Rattle.j39_follow.specs.inside.Hearing.{HaveHeardSince};
-ghost use Rattle.j39_follow.specs.inside.Recalling.{CountsWithin, IsFollowed, IsOneMore, IsReported, IsSameCounts, Recalls, Remembers, end_text, interface_of};
+ghost use Rattle.j39_follow.specs.inside.Recalling.{CountsWithin, IsFollowed, IsOneMore, IsReported, IsSameCounts, RecallsPast, Remembers, behind_reports, interface_of};
 ghost use Rattle.j39_follow.specs.inside.Recounting.{Knows};
 ghost use Rattle.j39_follow.specs.inside.Tallies.{IsTally};
 
@@ -85,7 +85,7 @@ fn is_elsewhere(log: &Option<Vec<u8>>, named: Option<&[u8]>) -> bool
 impl Reading {
     pub fn new(alloc: Global, plan: &Plan) -> Self
         ensures text { result.text ≡ [] }
-        ensures past { Recalls plan.now result nothing_yet }
+        ensures past { RecallsPast plan.now result nothing_followed }
         ensures count { CountsWithin result 0 }
     {
         Reading {
@@ -114,7 +114,7 @@ impl Reading {
         requires { IsCatalogOf plan.now catalog.now }
         ensures directory { self.new.directory ≡ self.old.directory }
         ensures counts { IsSameCounts self.old self.new }
-        ensures reported { OnOk result ((past : Past) → Knows plan.now self.old.directory (with_frame past.seen frame.now)
+        ensures reported { OnOk result ((past : FollowedPast) → Knows plan.now self.old.directory (frames_with past.seen frame.now)
             → HaveHeardSince plan.now self.old.listeners past.seen → AreAllInRange past.seen → IsTally plan.now self.old.tally past.sent
             → length past.sent + 2 < 2 ^ 64 → IsReported plan.now self.old self.new past (stamp self.old.number time.now) frame.now) }
     {
@@ -145,7 +145,7 @@ impl Reading {
     ) -> Result<(), AllocError>
         requires { IsCatalogOf plan.now catalog.now }
         ensures counts { IsSameCounts self.old self.new }
-        ensures followed { OnOk result ((past : Past) → Remembers plan.now self.old past → length past.seen ≤ 2 ^ 62 + 1
+        ensures followed { OnOk result ((past : FollowedPast) → Remembers plan.now self.old past → length past.seen ≤ 2 ^ 62 + 1
             → IsFollowed plan.now self.old self.new past (stamp self.old.number time.now) frame.now) }
     {
         let before = self.directory.parties();
@@ -166,7 +166,7 @@ impl Reading {
     ) -> Result<(), AllocError>
         requires { IsCatalogOf plan.now catalog.now }
         ensures counts { IsSameCounts self.old self.new }
-        ensures followed { OnOk result ((past : Past) → Remembers plan.now self.old past → length past.seen ≤ 2 ^ 62 + 1
+        ensures followed { OnOk result ((past : FollowedPast) → Remembers plan.now self.old past → length past.seen ≤ 2 ^ 62 + 1
             → IsFollowed plan.now self.old self.new past (stamp self.old.number time.now) frame.now) }
     {
         if claims_address(frame) {
@@ -188,9 +188,9 @@ impl Reading {
     ) -> Result<(), AllocError>
         requires catalog { IsCatalogOf plan.now catalog.now }
         requires room { CountsWithin self.old (2 ^ 62 + 1) }
-        ensures frame { OnOk result ((past : Past) → Recalls plan.now self.old past → (next : Past) × (piece : List ℕ)
-            × ReadsFrame plan.now past (stamp past.number time.now) (option_copied named.entry) frame.now next piece
-            × Recalls plan.now self.new next × (self.new.text ≡ self.old.text ++ piece)) }
+        ensures frame { OnOk result ((past : FollowedPast) → RecallsPast plan.now self.old past → (next : FollowedPast) × (piece : List ℕ)
+            × FollowsFrame plan.now past (stamp past.number time.now) (option_copied named.entry) frame.now next piece
+            × RecallsPast plan.now self.new next × (self.new.text ≡ self.old.text ++ piece)) }
         ensures count { OnOk result (IsOneMore self.old self.new) }
     {
         self.follow(plan, catalog, time, frame)?;
@@ -202,7 +202,7 @@ impl Reading {
     // Counts a line that spells no frame: one of an 11-bit identifier as skipped, and one without a word not at all.
     fn pass_over(&mut self, error: LineError)
         requires { CountsWithin self.old (2 ^ 62 + 1) }
-        ensures past { (plan : APlan) (past : Past) → Recalls plan self.old past → Recalls plan self.new (passed_over error past) }
+        ensures past { (plan : APlan) (past : FollowedPast) → RecallsPast plan self.old past → RecallsPast plan self.new (line_passed_over error past) }
         ensures text { self.new.text ≡ self.old.text }
         ensures count { IsOneMore self.old self.new }
     {
@@ -217,8 +217,8 @@ impl Reading {
     fn read_line(&mut self, plan: &Plan, catalog: &Catalog, line: &[u8]) -> Result<(), AllocError>
         requires catalog { IsCatalogOf plan.now catalog.now }
         requires room { CountsWithin self.old (2 ^ 62 + 1) }
-        ensures line { OnOk result ((past : Past) → Recalls plan.now self.old past → (next : Past) × (piece : List ℕ)
-            × ReadsShort plan.now past line.now next piece × Recalls plan.now self.new next × (self.new.text ≡ self.old.text ++ piece)) }
+        ensures line { OnOk result ((past : FollowedPast) → RecallsPast plan.now self.old past → (next : FollowedPast) × (piece : List ℕ)
+            × FollowsShort plan.now past line.now next piece × RecallsPast plan.now self.new next × (self.new.text ≡ self.old.text ++ piece)) }
         ensures count { OnOk result (IsOneMore self.old self.new) }
     {
         let part = read_part(line);
@@ -247,8 +247,8 @@ impl Reading {
     ) -> Result<(), AllocError>
         requires catalog { IsCatalogOf plan.now catalog.now }
         requires room { CountsWithin self.old (2 ^ 62) }
-        ensures lines { OnOk result ((past : Past) → Recalls plan.now self.old past → (next : Past) × (piece : List ℕ)
-            × ReadsLines plan.now past (tells cut line.now) next piece × Recalls plan.now self.new next
+        ensures lines { OnOk result ((past : FollowedPast) → RecallsPast plan.now self.old past → (next : FollowedPast) × (piece : List ℕ)
+            × FollowsLines plan.now past (tells cut line.now) next piece × RecallsPast plan.now self.new next
             × (self.new.text ≡ self.old.text ++ piece)) }
         ensures count { OnOk result ((most : ℕ) → CountsWithin self.old most → CountsWithin self.new (most + 1)) }
     {
@@ -266,10 +266,10 @@ impl Reading {
         }
     }
 
-    #[tactic(auto, unfolding(crate::specs::FollowText::counts_line))]
+    #[tactic(auto, unfolding(crate::specs::FollowText::follow_counts_line))]
     fn write_counts(&mut self) -> Result<(), AllocError>
         ensures { OnOk result (self.new.text ≡ self.old.text
-            ++ counts_line self.old.frames self.old.skipped self.old.bad self.old.elsewhere) }
+            ++ follow_counts_line self.old.frames self.old.skipped self.old.bad self.old.elsewhere) }
     {
         self.text.field("frames ", self.frames)?;
         self.text.field(" skipped ", self.skipped)?;
@@ -280,8 +280,8 @@ impl Reading {
 
     /// Writes what was sent, where each unit stands, and how many lines there were of each sort.
     pub fn finish(&mut self, plan: &Plan) -> Result<(), AllocError>
-        ensures { OnOk result ((past : Past) → Recalls plan.now self.old past → (units : List ℕ)
-            × AreUnitLines (frames_of past.seen) plan.now.units.items units × (self.new.text ≡ self.old.text ++ end_text plan.now past units)) }
+        ensures { OnOk result ((past : FollowedPast) → RecallsPast plan.now self.old past → (units : List ℕ)
+            × AreUnitLines (frames_seen past.seen) plan.now.units.items units × (self.new.text ≡ self.old.text ++ behind_reports plan.now past units)) }
     {
         write_endings(&mut self.text, plan, &self.tally, self.directory.holders())?;
         self.write_counts()

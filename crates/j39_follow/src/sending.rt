@@ -1,7 +1,7 @@
 //! A message as it was sent, and the flow that it fits.
 ghost use Rattle.std.specs.Prelude.{◌≡◌, ◌<◌, ◌↔◌, IsTrue, length};
 ghost use Rattle.j39_log.specs.inside.Listening.{HasAllOf, IsCatalogOf};
-ghost use Rattle.j39_follow.specs.Fits.{IsGroupOf, MayBeGroup, fits, flow_of as first_flow, has_length, is_unit, reaches as is_reached};
+ghost use Rattle.j39_follow.specs.Fits.{IsSentGroup, MayBeGroup, fits, fitting_flow as first_flow, may_have_bytes, is_unit, reaches as is_reached};
 
 use j39_findings::{FlowPlan, GroupPlan, Plan, To};
 use j39_log::{Catalog, Span};
@@ -66,7 +66,7 @@ pub fn flow_of(plan: &Plan, group: usize, sent: Sending) -> Option<usize>
 
 // Whether messages of a group may have so many bytes.
 fn has_length(group: &GroupPlan, bytes: usize) -> bool
-    ensures { result ≡ has_length group.now bytes }
+    ensures { result ≡ may_have_bytes group.now bytes }
 {
     usize::from(group.length) <= bytes && bytes <= usize::from(group.most)
 }
@@ -92,7 +92,7 @@ fn may_be_group(plan: &Plan, place: usize, pgn: u32, bytes: usize, sent: Sending
 // The first such group, which stands in the span of its number.
 fn group_in(plan: &Plan, span: Span, pgn: u32, bytes: usize, sent: Sending) -> Option<usize>
     requires { HasAllOf plan.now.groups.items pgn span }
-    ensures { IsGroupOf plan.now pgn bytes sent result }
+    ensures { IsSentGroup plan.now pgn bytes sent result }
 {
     for place in span.first..span.end {
         if may_be_group(plan, place, pgn, bytes, sent) {
@@ -111,7 +111,7 @@ pub fn group_of(
     sent: Sending,
 ) -> Option<usize>
     requires { IsCatalogOf plan.now catalog.now }
-    ensures { IsGroupOf plan.now pgn bytes sent result }
+    ensures { IsSentGroup plan.now pgn bytes sent result }
 {
     let Some(span) = catalog.span(pgn) else {
         return None;

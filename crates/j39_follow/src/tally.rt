@@ -5,7 +5,7 @@ ghost use Rattle.std.specs.Option.{option_to_list};
 ghost use Rattle.j39_findings.specs.declared.plan.Plan.{Plan as APlan};
 ghost use Rattle.j39_findings.specs.declared.plan.group_plan.GroupPlan.{GroupPlan as APlannedGroup};
 ghost use Rattle.j39_log.specs.inside.Listening.{IsCatalogOf};
-ghost use Rattle.j39_follow.specs.inside.Tallies.{IsTally, count_at};
+ghost use Rattle.j39_follow.specs.inside.Tallies.{IsTally, tally_at};
 ghost use Rattle.j39_follow.specs.declared.message.Sort.{Sort as ASort};
 
 use crate::message::Sort;
@@ -27,8 +27,8 @@ pub(crate) struct Tally {
 
 // One more at a place.
 fn add_one(counts: &mut [u64], place: usize)
-    ensures { (k : ℕ) → k < length counts.old → count_at counts.new k
-        ≡ (if place == k then min (count_at counts.old k + 1) (2 ^ 64 - 1) else count_at counts.old k) }
+    ensures { (k : ℕ) → k < length counts.old → tally_at counts.new k
+        ≡ (if place == k then min (tally_at counts.old k + 1) (2 ^ 64 - 1) else tally_at counts.old k) }
 {
     if place < counts.len() {
         counts[place] = counts[place].saturating_add(1);
@@ -100,7 +100,7 @@ impl Tally {
     /// How often a flow was sent.
     pub fn of_flow(&self, flow: usize) -> u64
         requires { flow < 512 }
-        ensures { result ≡ count_at self.now.flows flow }
+        ensures { result ≡ tally_at self.now.flows flow }
     {
         self.flows[flow]
     }
@@ -108,7 +108,7 @@ impl Tally {
     /// How often a group was sent without a flow.
     pub fn of_group(&self, group: usize) -> u64
         requires { group < 256 }
-        ensures { result ≡ count_at self.now.groups group }
+        ensures { result ≡ tally_at self.now.groups group }
     {
         self.groups[group]
     }
@@ -116,7 +116,7 @@ impl Tally {
     /// How much else there was of the number of a group, at the first group that has it.
     pub fn of_others(&self, group: usize) -> u64
         requires { group < 256 }
-        ensures { result ≡ count_at self.now.others group }
+        ensures { result ≡ tally_at self.now.others group }
     {
         self.others[group]
     }

@@ -3,8 +3,8 @@ ghost use Rattle.std.specs.Prelude.{◌≡◌, ◌<◌, ◌+◌, ℕ, List, leng
 ghost use Rattle.j39_id.specs.declared.frame.Frame.{Frame as AFrame};
 ghost use Rattle.std.specs.List.{slice_get};
 ghost use Rattle.j39_findings.specs.declared.plan.unit_plan.UnitPlan.{UnitPlan as AUnitPlan};
-ghost use Rattle.j39_follow.specs.Who.{IsWho, MayHold, unit_named as first_named};
-ghost use Rattle.j39_follow.specs.inside.Likeliest.{IsBelow, IsBestOf, IsNotBelow};
+ghost use Rattle.j39_follow.specs.Who.{IsWho, MayHold, unit_of_name as first_named};
+ghost use Rattle.j39_follow.specs.inside.Likeliest.{IsBelowBest, IsBestOf, IsNotBelow};
 ghost use Rattle.j39_follow.specs.inside.Recounting.{Recounts};
 
 use crate::holders::Holders;
@@ -67,7 +67,7 @@ fn may_hold(plan: &Plan, holders: &Holders, address: u8, place: usize) -> bool
 // Whether the NAME is below that of the best unit so far.
 fn is_below(plan: &Plan, name: Name, best: Option<usize>) -> bool
     requires { IfSome best (λ b. b < length plan.now.units.items) }
-    ensures below { result ≡ true → IsBelow plan.now name best }
+    ensures below { result ≡ true → IsBelowBest plan.now name best }
     ensures not_below { result ≡ false → IsNotBelow plan.now name best }
 {
     match best {

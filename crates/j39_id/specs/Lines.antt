@@ -64,9 +64,9 @@ abbrev pub answer_to_end : Pending → Cut
 answer_to_end p = if not p.told_long && nat_lt 0 (length p.held) then cuts.Line else cuts.More
 
 -- the line that a cutter gives once it answered so
-abbrev pub given : Cut → Pending → List ℕ
-given cuts.Line p = p.held
-given _ p = []
+abbrev pub cutter_line : Cut → Pending → List ℕ
+cutter_line cuts.Line p = p.held
+cutter_line _ p = []
 
 -- ---- its answers to a text
 

@@ -26,25 +26,25 @@ layout SystemInstance = (56, 4)
 layout Industry = (60, 3)
 layout Arbitrary = (63, 1)
 
-abbrev pub value_of : NameFields → NameField → ℕ
-value_of f Identity = f.identity
-value_of f Manufacturer = f.manufacturer
-value_of f Ecu = f.ecu
-value_of f FunctionInstance = f.function_instance
-value_of f Function = f.function
-value_of f Reserved = f.reserved
-value_of f System = f.system
-value_of f SystemInstance = f.system_instance
-value_of f Industry = f.industry
-value_of f Arbitrary = f.arbitrary
+abbrev pub field_value : NameFields → NameField → ℕ
+field_value f Identity = f.identity
+field_value f Manufacturer = f.manufacturer
+field_value f Ecu = f.ecu
+field_value f FunctionInstance = f.function_instance
+field_value f Function = f.function
+field_value f Reserved = f.reserved
+field_value f System = f.system
+field_value f SystemInstance = f.system_instance
+field_value f Industry = f.industry
+field_value f Arbitrary = f.arbitrary
 
 -- the number of the fields: the sum of each times 2 to its first bit
 abbrev pub name_number : NameFields → ℕ
-name_number f = sum_by (λ field. value_of f field * 2 ^ (layout field).0) all_fields
+name_number f = sum_by (λ field. field_value f field * 2 ^ (layout field).0) all_fields
 
 -- the fields, each with whether its value does not fit its bits
 abbrev pub range_faults : NameFields → List (NameField × Bool)
-range_faults f = map (λ field. (field, nat_le (2 ^ (layout field).1) (value_of f field))) all_fields
+range_faults f = map (λ field. (field, nat_le (2 ^ (layout field).1) (field_value f field))) all_fields
 
 -- the first field whose value does not fit its bits
 abbrev pub first_out : NameFields → Option NameField
@@ -73,12 +73,20 @@ fields_of n = record {
 abbrev pub is_arbitrary : ℕ → Bool
 is_arbitrary name = nat_eq (field_in name Arbitrary) 1
 
+-- the eight bytes in which a NAME is sent, the least significant first
+abbrev pub name_bytes : ℕ → List ℕ
+name_bytes name = to_le_bytes w64 name
+
+-- the NAME that eight bytes are
+abbrev pub name_of_bytes : List ℕ → ℕ
+name_of_bytes bytes = from_le_bytes w64 bytes
+
 -- ---- laws
 
 -- the NAME of the bytes of a NAME is that NAME
 abbrev pub NamesReadBack : Type 0
-NamesReadBack = (name : ℕ) → name < 2 ^ 64 → from_le_bytes w64 (to_le_bytes w64 name) ≡ name
+NamesReadBack = (name : ℕ) → name < 2 ^ 64 → name_of_bytes (name_bytes name) ≡ name
 
 -- the bytes of the NAME of eight bytes are those bytes
 abbrev pub NameBytesReadBack : Type 0
-NameBytesReadBack = (bytes : List ℕ) → length bytes ≡ 8 → IsBytes bytes → to_le_bytes w64 (from_le_bytes w64 bytes) ≡ bytes
+NameBytesReadBack = (bytes : List ℕ) → length bytes ≡ 8 → IsBytes bytes → name_bytes (name_of_bytes bytes) ≡ bytes

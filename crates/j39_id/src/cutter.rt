@@ -1,7 +1,7 @@
 //! Cutting a byte stream into lines.
 ghost use Rattle.std.specs.Prelude.{◌≡◌, ◌≤◌, ◌<◌, ◌≢◌, [], false, length, take, All, slice_index, IsTrue, IfSome, unwrap_or};
 ghost use Rattle.std.specs.Option.{option_copied};
-ghost use Rattle.j39_id.specs.Lines.{is_line_feed, at_start, answer_to, behind, answer_to_end, given, tells, told, behind_all};
+ghost use Rattle.j39_id.specs.Lines.{is_line_feed, at_start, answer_to, behind, answer_to_end, cutter_line, tells, told, behind_all};
 ghost use Rattle.j39_id.specs.inside.Cutting.{pending_of, line_in, phase_after};
 
 use crate::{Advance, Cut};
@@ -106,7 +106,7 @@ impl Cutter {
     pub fn feed(&mut self, byte: u8) -> Cut
         ensures answer { result ≡ answer_to self.old.pending byte }
         ensures pending { self.new.pending ≡ behind self.old.pending byte }
-        ensures line { self.new.line ≡ given result self.old.pending }
+        ensures line { self.new.line ≡ cutter_line result self.old.pending }
     {
         match self.phase {
             Phase::Inside => {}
@@ -200,7 +200,7 @@ impl Cutter {
     pub fn end(&mut self) -> Cut
         ensures answer { result ≡ answer_to_end self.old.pending }
         ensures pending { self.new.pending ≡ at_start }
-        ensures line { self.new.line ≡ given result self.old.pending }
+        ensures line { self.new.line ≡ cutter_line result self.old.pending }
     {
         if self.phase != Phase::Inside || self.bytes.is_empty() {
             self.start_anew();

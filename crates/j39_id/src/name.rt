@@ -1,6 +1,5 @@
 //! The 64-bit NAME of a unit.
 ghost use Rattle.std.specs.Prelude.{◌≡◌, ℕ, ◌^◌, ◌<◌, ◌↔◌, IsTrue, IfOk, IfErr};
-ghost use Rattle.std.specs.Int.{w64, to_le_bytes, from_le_bytes};
 
 use crate::name_fields::first_out_of_range;
 use crate::{NameError, NameField, NameFields};
@@ -25,7 +24,7 @@ impl Model for Name {
 }
 
 impl Name {
-    ghost use Rattle.j39_id.specs.Name.{name_number, first_out, field_in, fields_of};
+    ghost use Rattle.j39_id.specs.Name.{name_number, first_out, field_in, fields_of, name_bytes, name_of_bytes};
     ghost use Rattle.j39_id.specs.declared.name_fields.NameField.TheVariants.{Arbitrary};
     ghost use Rattle.j39_id.specs.declared.name_fields.NameError.TheVariants.{FieldRange};
 
@@ -90,14 +89,14 @@ impl Name {
 
     /// The eight bytes that are sent, the least significant first.
     pub fn to_bytes(self) -> [u8; 8]
-        ensures { result ≡ to_le_bytes w64 self }
+        ensures { result ≡ name_bytes self }
     {
         self.to_bits().to_le_bytes()
     }
 
     /// The NAME that was sent in eight bytes, the least significant first.
     pub fn from_bytes(bytes: [u8; 8]) -> Self
-        ensures { result ≡ from_le_bytes w64 bytes }
+        ensures { result ≡ name_of_bytes bytes }
     {
         Name {
             number: u64::from_le_bytes(bytes),

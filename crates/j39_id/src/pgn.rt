@@ -43,7 +43,7 @@ pub fn pf_of(number: u32) -> u8
 }
 
 impl Pgn {
-    ghost use Rattle.j39_id.specs.Pgn.{IsPgn};
+    ghost use Rattle.j39_id.specs.Pgn.{IsPgn, number_of_bytes, pgn_bytes};
 
     /// The group number, or `None` from 2^18 on and for a PDU1 number whose low byte is not 0.
     pub fn new(number: u32) -> Option<Self>
@@ -63,6 +63,23 @@ impl Pgn {
         ensures range { IsPgn self }
     {
         self.number
+    }
+
+    /// The three bytes that are sent, the least significant first.
+    pub fn to_bytes(self) -> [u8; 3]
+        ensures { result ≡ pgn_bytes self }
+    {
+        let [low, middle, high, _] = self.number().to_le_bytes();
+        [low, middle, high]
+    }
+
+    /// The group number that was sent in three bytes, the least significant first, or `None` as `new` says.
+    pub fn from_bytes(bytes: [u8; 3]) -> Option<Self>
+        ensures valid { IsSome result ↔ IsPgn (number_of_bytes bytes) }
+        ensures value { IfSome result (λ p. p ≡ number_of_bytes bytes) }
+    {
+        let [low, middle, high] = bytes;
+        Pgn::new(u32::from_le_bytes([low, middle, high, 0]))
     }
 
     /// Whether the group's frames name a destination.

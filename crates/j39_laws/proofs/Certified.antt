@@ -8,7 +8,7 @@ use Rattle.j39_findings.specs.Findings.{Clean}
 use Rattle.j39_findings.specs.SoundSignals.{SoundSignals}
 use Rattle.j39_findings.specs.declared.plan.Plan.{Plan}
 use Rattle.j39_findings.specs.declared.steps.Step.{Step}
-use Rattle.j39_world.specs.World.{World, Undelivered, first}
+use Rattle.j39_world.specs.World.{World, Undelivered, all_off}
 use Rattle.j39_world.specs.Run.{Run}
 use Rattle.j39_world.specs.PlannedUnits.{units_of}
 use Rattle.j39_world.specs.Opening.{AreNamesDistinct}
@@ -31,18 +31,18 @@ quiet_where_empty claims empty u v = (
 )
 
 pub sound_by_laws : (plan : Plan) → Clean plan
-    → ((p : Plan) (steps : List Step) (w : World) → Clean p → Run p first steps w → AreAddressesSound p w)
-    → ((p : Plan) (steps : List Step) (w : World) → Clean p → Run p first steps w → IsQuiet w.claims → AreAddressesDifferent w)
-    → ((p : Plan) (steps : List Step) (w : World) → ArePlannedApart (units_of p) → Run p first steps w → (u : ℕ) → HoldsPlanned (units_of p) w u)
-    → ((p : Plan) (steps : List Step) (w : World) → AreNamesDistinct (units_of p) → Run p first steps w → IsQuiet w.claims → AreNotesRight p w)
-    → ((p : Plan) (steps : List Step) (w : World) → Clean p → Run p first steps w → AreKeptFree p w)
-    → ((p : Plan) (steps : List Step) (w : World) → AreNamesDistinct (units_of p) → Run p first steps w → Settles p w)
+    → ((p : Plan) (steps : List Step) (w : World) → Clean p → Run p all_off steps w → AreAddressesSound p w)
+    → ((p : Plan) (steps : List Step) (w : World) → Clean p → Run p all_off steps w → IsQuiet w.claims → AreAddressesDifferent w)
+    → ((p : Plan) (steps : List Step) (w : World) → ArePlannedApart (units_of p) → Run p all_off steps w → (u : ℕ) → HoldsPlanned (units_of p) w u)
+    → ((p : Plan) (steps : List Step) (w : World) → AreNamesDistinct (units_of p) → Run p all_off steps w → IsQuiet w.claims → AreNotesRight p w)
+    → ((p : Plan) (steps : List Step) (w : World) → Clean p → Run p all_off steps w → AreKeptFree p w)
+    → ((p : Plan) (steps : List Step) (w : World) → AreNamesDistinct (units_of p) → Run p all_off steps w → Settles p w)
     → ((p : Plan) → Clean p → SoundSignals p)
-    → ((p : Plan) (steps : List Step) (w : World) → Run p first steps w → AreReportsSound w)
-    → ((p : Plan) (steps : List Step) (w : World) → Run p first steps w → IsAcknowledgedReported w)
-    → ((p : Plan) (steps : List Step) (w : World) → Run p first steps w → TransfersEnd p w)
-    → ((p : Plan) (steps : List Step) (w : World) → Run p first steps w → ArrivesUnanswered p w)
-    → ((p : Plan) (steps : List Step) (w : World) → Run p first steps w → ArrivesAnswered p w)
+    → ((p : Plan) (steps : List Step) (w : World) → Run p all_off steps w → AreReportsSound w)
+    → ((p : Plan) (steps : List Step) (w : World) → Run p all_off steps w → IsAcknowledgedReported w)
+    → ((p : Plan) (steps : List Step) (w : World) → Run p all_off steps w → TransfersEnd p w)
+    → ((p : Plan) (steps : List Step) (w : World) → Run p all_off steps w → ArrivesUnanswered p w)
+    → ((p : Plan) (steps : List Step) (w : World) → Run p all_off steps w → ArrivesAnswered p w)
     → IsSound plan
 sound_by_laws plan clean addresses different planned notes kept settles signals reports acknowledged ends arrives arrives_answered = record {
   addresses = λ steps w run. addresses plan steps w clean run;

@@ -3,7 +3,7 @@ ghost use Rattle.std.specs.Prelude.{List};
 ghost use Rattle.j39_findings.specs.Findings.{Clean};
 ghost use Rattle.j39_findings.specs.declared.plan.Plan.{Plan as Plans};
 ghost use Rattle.j39_findings.specs.declared.steps.Step.{Step as Steps};
-ghost use Rattle.j39_world.specs.World.{World, first};
+ghost use Rattle.j39_world.specs.World.{World, all_off};
 ghost use Rattle.j39_findings.specs.ConflictRuns.{IsConflictRun};
 ghost use Rattle.j39_findings.specs.declared.checking.finding.Finding.{Finding as Findings};
 ghost use Rattle.j39_world.specs.PlannedUnits.{units_of};
@@ -29,32 +29,32 @@ pub use transfers::{every_transfer_ends, steps_lead_somewhere};
 /// In every world of every run of a plan without findings, with all lawful choices, addresses are sound: each unit that is on holds
 /// one, a fixed unit its own, and where no claim is undelivered they are pairwise different.
 pub fn addresses_are_sound()
-    ensures sound { (plan : Plans) (steps : List Steps) (w : World) → Clean plan → Run plan first steps w → AreAddressesSound plan w }
-    ensures different { (plan : Plans) (steps : List Steps) (w : World) → Clean plan → Run plan first steps w → IsQuiet w.claims → AreAddressesDifferent w }
+    ensures sound { (plan : Plans) (steps : List Steps) (w : World) → Clean plan → Run plan all_off steps w → AreAddressesSound plan w }
+    ensures different { (plan : Plans) (steps : List Steps) (w : World) → Clean plan → Run plan all_off steps w → IsQuiet w.claims → AreAddressesDifferent w }
 {}
 
 /// In every world of every run of a plan without findings, with all lawful choices, no arbitrary unit that is on holds an address
 /// that the plan keeps free.
 pub fn kept_addresses_stay_free()
-    ensures { (plan : Plans) (steps : List Steps) (w : World) → Clean plan → Run plan first steps w → AreKeptFree plan w }
+    ensures { (plan : Plans) (steps : List Steps) (w : World) → Clean plan → Run plan all_off steps w → AreKeptFree plan w }
 {}
 
 /// In every world of every run, with all lawful choices and whatever is lost, reports are sound: what a unit reported of another is a
 /// subsequence of what that one began for it, and while a message is sent no claim and no request is undelivered.
 pub fn reports_are_sound()
-    ensures { (plan : Plans) (steps : List Steps) (w : World) → Run plan first steps w → AreReportsSound w }
+    ensures { (plan : Plans) (steps : List Steps) (w : World) → Run plan all_off steps w → AreReportsSound w }
 {}
 
 /// In every world of every run, a sender that rests acknowledged sends to one unit, and what this unit reported of it last is the message.
 pub fn acknowledged_messages_were_reported()
-    ensures { (plan : Plans) (steps : List Steps) (w : World) → Run plan first steps w → IsAcknowledgedReported w }
+    ensures { (plan : Plans) (steps : List Steps) (w : World) → Run plan all_off steps w → IsAcknowledgedReported w }
 {}
 
 /// From each world of each run of a plan whose NAMEs differ, whoever goes on delivering what units have told each other comes to
 /// an end, in whatever order and with whatever lawful choices: no more Gives than a given number run through, and where none does,
 /// nothing is undelivered. It says nothing of time.
 pub fn claims_die_down()
-    ensures { (plan : Plans) (steps : List Steps) (w : World) → AreNamesDistinct (units_of plan) → Run plan first steps w → Settles plan w }
+    ensures { (plan : Plans) (steps : List Steps) (w : World) → AreNamesDistinct (units_of plan) → Run plan all_off steps w → Settles plan w }
 {}
 
 /// The steps that show a conflict of two fixed units can be run from the first world, and whoever runs them meets no refusal and
@@ -71,6 +71,6 @@ pub fn runs_through_are_runs()
 /// In every world of every run of a plan whose NAMEs differ, with all lawful choices, where no claim is undelivered, what a unit has
 /// noted of another one, both being on, is the address that this one holds.
 pub fn quiet_notes_are_right()
-    ensures { (plan : Plans) (steps : List Steps) (w : World) → AreNamesDistinct (units_of plan) → Run plan first steps w
+    ensures { (plan : Plans) (steps : List Steps) (w : World) → AreNamesDistinct (units_of plan) → Run plan all_off steps w
         → IsQuiet w.claims → AreNotesRight plan w }
 {}

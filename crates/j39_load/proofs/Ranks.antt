@@ -14,7 +14,7 @@ use Rattle.j39_findings.specs.declared.plan.group_plan.GroupPlan.{GroupPlan}
 use Rattle.j39_findings.specs.declared.plan.to.To.{To}
 use Rattle.j39_findings.specs.declared.plan.to.To.TheVariants.{All as ToAll, One}
 use Rattle.j39_findings.specs.declared.plan.unit_plan.UnitPlan.{UnitPlan}
-use Rattle.j39_load.specs.Loads.{destination_at, greatest_address, group_ident, has_short, is_short, least_address, of_unit, packet_ident}
+use Rattle.j39_load.specs.Loads.{destination_at, greatest_address, group_ident, has_short, is_always_short, least_address, of_unit, packet_ident}
 use Rattle.j39_load.specs.Ranks.{AreHeldByPlan, AreUnitsPlanned, LieBetween, destination_held}
 use Rattle.j39_load.specs.Standing.{TellsWhoStays}
 use Rattle.j39_load.proofs.WhoStays.{placed}
@@ -81,9 +81,9 @@ module _ (plan : Plan) (stays : UnitPlan → Bool) (tells : TellsWhoStays plan s
         let own = between group.priority group.pgn in
         let packets = between transport_priority data_transfer in
         record {
-          least = λ some. least_of (is_short group) (has_short group) some (group_ident plan.units.items (least_address stays) group flow) (packet_ident plan.units.items (least_address stays) flow) _ own.0;
+          least = λ some. least_of (is_always_short group) (has_short group) some (group_ident plan.units.items (least_address stays) group flow) (packet_ident plan.units.items (least_address stays) flow) _ own.0;
           greatest = λ short. rw (short) own.1;
-          packets = λ long. least_of_packets (is_short group) (has_short group) long (group_ident plan.units.items (least_address stays) group flow) (packet_ident plan.units.items (least_address stays) flow) _ packets.0;
+          packets = λ long. least_of_packets (is_always_short group) (has_short group) long (group_ident plan.units.items (least_address stays) group flow) (packet_ident plan.units.items (least_address stays) flow) _ packets.0;
         }
       where
         least_of : (short has : Bool) → has ≡ true → (x y n : ℕ) → x ≤ n

@@ -38,12 +38,12 @@ bits_of_ms timing ms = ms * bits_per_ms timing.bitrate
 -- ---- frames
 
 -- each message of the group goes in one frame
-abbrev pub is_short : GroupPlan → Bool
-is_short group = nat_le group.most frame_bytes
+abbrev pub is_always_short : GroupPlan → Bool
+is_always_short group = nat_le group.most frame_bytes
 
 -- the most bytes of a frame
 abbrev pub most_bytes : GroupPlan → ℕ
-most_bytes group = if is_short group then group.most else frame_bytes
+most_bytes group = if is_always_short group then group.most else frame_bytes
 
 -- what is read of the unit at a place
 abbrev pub of_unit : List UnitPlan → (UnitPlan → ℕ) → ℕ → ℕ
@@ -56,7 +56,7 @@ long_frames units packets All = 1 + packets
 long_frames units packets (One v) = 2 + packets + div_ceil packets (of_unit units (λ unit. unit.window) v)
 
 abbrev pub frames_of : List UnitPlan → GroupPlan → To → ℕ
-frames_of units group to = if is_short group then 1 else long_frames units (packets_of group.most) to
+frames_of units group to = if is_always_short group then 1 else long_frames units (packets_of group.most) to
 
 -- the frames of a flow; those of a long message are queued while it lasts
 abbrev pub stream_of : Timing → List UnitPlan → GroupPlan → To → ℕ → Stream
@@ -64,7 +64,7 @@ stream_of timing units group to period = record {
   frames = frames_of units group to;
   period = bits_of_ms timing period;
   bits = longest_frame (most_bytes group);
-  spread = if is_short group then 0 else 1;
+  spread = if is_always_short group then 0 else 1;
 }
 
 -- ---- identifiers: the smaller one goes first
@@ -96,15 +96,15 @@ packet_ident units address flow =
 -- packets, that of these; where its messages go either way the smaller one
 abbrev pub ident_at : List UnitPlan → (UnitPlan → ℕ) → GroupPlan → FlowPlan → ℕ
 ident_at units address group flow =
-    if is_short group then group_ident units address group flow
+    if is_always_short group then group_ident units address group flow
     else if has_short group then min (group_ident units address group flow) (packet_ident units address flow)
     else packet_ident units address flow
 
 -- ---- flows
 
 -- within so many bits each frame of the flow has to be on the bus; never later than the next message is queued
-abbrev pub limit_of : Timing → Pace → ℕ
-limit_of timing pace = bits_of_ms timing (min pace.deadline pace.period)
+abbrev pub time_limit : Timing → Pace → ℕ
+time_limit timing pace = bits_of_ms timing (min pace.deadline pace.period)
 
 -- the bits that a flow takes in a second at most
 abbrev pub load_of : Stream → ℕ → ℕ
@@ -113,10 +113,10 @@ load_of stream period = div_ceil (1000 * (stream.frames * stream.bits)) period
 abbrev pub flow_load : Timing → List UnitPlan → (UnitPlan → Bool) → FlowPlan → Pace → GroupPlan → FlowLoad
 flow_load timing units stays flow pace group = record {
   stream = stream_of timing units group flow.to pace.period;
-  is_short = is_short group;
+  is_short = is_always_short group;
   least_ident = ident_at units (least_address stays) group flow;
   greatest_ident = ident_at units (greatest_address stays) group flow;
-  limit = limit_of timing pace;
+  limit = time_limit timing pace;
   bits_per_second = load_of (stream_of timing units group flow.to pace.period) pace.period;
 }
 

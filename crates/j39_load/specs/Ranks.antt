@@ -10,7 +10,7 @@ use Rattle.j39_findings.specs.declared.plan.group_plan.GroupPlan.{GroupPlan}
 use Rattle.j39_findings.specs.declared.plan.to.To.{To}
 use Rattle.j39_findings.specs.declared.plan.to.To.TheVariants.{All, One}
 use Rattle.j39_findings.specs.declared.plan.unit_plan.UnitPlan.{UnitPlan}
-use Rattle.j39_load.specs.Loads.{greatest_address, has_short, ident_at, is_short, least_address}
+use Rattle.j39_load.specs.Loads.{greatest_address, has_short, ident_at, is_always_short, least_address}
 use Rattle.j39_world.specs.PlannedUnits.{unit_at, units_of}
 use Rattle.j39_world.specs.Staying.{Stays}
 
@@ -40,8 +40,8 @@ pub record AreUnitsPlanned (plan : Plan) (flow : FlowPlan) : Type 0 where
 -- the identifiers of a flow's frames lie between the least and the greatest one of the flow; of a long one none is smaller than the least
 pub record LieBetween (plan : Plan) (stays : UnitPlan → Bool) (held : ℕ → ℕ) (group : GroupPlan) (flow : FlowPlan) : Type 0 where
   pub least : has_short group ≡ true → ident_at plan.units.items (least_address stays) group flow ≤ frame_ident held group flow
-  pub greatest : is_short group ≡ true → frame_ident held group flow ≤ ident_at plan.units.items (greatest_address stays) group flow
-  pub packets : is_short group ≡ false → ident_at plan.units.items (least_address stays) group flow ≤ data_ident held flow
+  pub greatest : is_always_short group ≡ true → frame_ident held group flow ≤ ident_at plan.units.items (greatest_address stays) group flow
+  pub packets : is_always_short group ≡ false → ident_at plan.units.items (least_address stays) group flow ≤ data_ident held flow
 
 -- of the units that are on each holds an address, and no two of them one
 pub record AreHeldApart (on : ℕ → Bool) (held : ℕ → ℕ) : Type 0 where
@@ -52,6 +52,6 @@ pub record AreHeldApart (on : ℕ → Bool) (held : ℕ → ℕ) : Type 0 where
 pub record IsShortFlow (plan : Plan) (on : ℕ → Bool) (place : ℕ) (flow : FlowPlan) (group : GroupPlan) : Type 0 where
   pub its : slice_get plan.flows.items place ≡ Some flow
   pub sent : slice_get plan.groups.items flow.group ≡ Some group
-  pub short : is_short group ≡ true
+  pub short : is_always_short group ≡ true
   pub sender : on flow.sender ≡ true
   pub receiver : (v : ℕ) → flow.to ≡ One v → on v ≡ true

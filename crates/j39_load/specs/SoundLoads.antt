@@ -7,5 +7,5 @@ pub record IsSoundLoad (load : FlowLoad) : Type 0 where
   pub stream : IsStream load.stream
   pub limit : load.limit < 2 ^ 31
 
-abbrev pub IsSound : Option FlowLoad → Type 0
-IsSound load = IfSome load IsSoundLoad
+abbrev pub IsSoundIfKnown : Option FlowLoad → Type 0
+IsSoundIfKnown load = IfSome load IsSoundLoad

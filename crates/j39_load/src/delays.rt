@@ -1,7 +1,7 @@
 //! How long the frames of the flows of a plan wait.
 ghost use Rattle.std.specs.Prelude.{◌≡◌, ◌≤◌, true, [], ◌∷◌, All, length, IfOk, IfSome, IfNone};
 ghost use Rattle.j39_load.specs.Delays.{IsDelay, blocking, going_before, streams_before};
-ghost use Rattle.j39_load.specs.SoundLoads.{IsSound, IsSoundLoad};
+ghost use Rattle.j39_load.specs.SoundLoads.{IsSoundIfKnown, IsSoundLoad};
 ghost use Rattle.j39_timing.specs.Waits.{IsStream};
 
 use crate::delay::Delay;
@@ -27,7 +27,7 @@ fn blocking(timing: Timing, ident: u64) -> u32
 
 // The stream of the flow at this place, where it is another flow and a frame of it may go before one of this identifier.
 fn stream_before(load: &Option<FlowLoad>, place: usize, flow: usize, ident: u64) -> Option<Stream>
-    requires { IsSound load.now }
+    requires { IsSoundIfKnown load.now }
     ensures some { IfSome result (λ stream. (going_before flow ident place load.now ≡ stream ∷ []) × IsStream stream) }
     ensures none { IfNone result (going_before flow ident place load.now ≡ []) }
 {
@@ -45,7 +45,7 @@ fn streams_before(
     flow: usize,
     ident: u64,
 ) -> Result<Vec<Stream>, AllocError>
-    requires { All IsSound loads.now }
+    requires { All IsSoundIfKnown loads.now }
     ensures streams { IfOk result (λ streams. streams.items ≡ streams_before flow ident loads.now) }
     ensures fit { IfOk result (λ streams. All IsStream streams.items) }
     ensures few { IfOk result (λ streams. length streams.items ≤ length loads.now) }
@@ -67,7 +67,7 @@ fn short_delay(
     flow: usize,
     load: &FlowLoad,
 ) -> Result<Delay, AllocError>
-    requires sound { All IsSound loads.now }
+    requires sound { All IsSoundIfKnown loads.now }
     requires few { length loads.now ≤ 512 }
     requires load { IsSoundLoad load.now }
     requires short { load.now.is_short ≡ true }
@@ -93,7 +93,7 @@ pub(crate) fn delay_of(
     flow: usize,
     load: &FlowLoad,
 ) -> Result<Delay, AllocError>
-    requires sound { All IsSound loads.now }
+    requires sound { All IsSoundIfKnown loads.now }
     requires few { length loads.now ≤ 512 }
     requires load { IsSoundLoad load.now }
     ensures { IfOk result (IsDelay timing loads.now flow load.now) }

@@ -3,11 +3,11 @@ ghost use Rattle.std.specs.Prelude.{◌≡◌, ◌^◌, ◌<◌, ◌≤◌, ℕ,
 ghost use Rattle.j39_findings.specs.declared.plan.to.To.TheVariants.{One};
 ghost use Rattle.j39_findings.specs.declared.plan.unit_plan.UnitPlan.{UnitPlan as APlannedUnit};
 ghost use Rattle.j39_load.specs.Delays.{HasDelay, TellDelays};
-ghost use Rattle.j39_load.specs.Loads.{flow_load, limit_of, load_of_flow, loads_of, total_load};
+ghost use Rattle.j39_load.specs.Loads.{flow_load, time_limit, load_of_flow, loads_of, total_load};
 ghost use Rattle.j39_load.specs.Standing.{TellsWhoStays, stays_by};
 ghost use Rattle.std.proofs.Props.{props};
 ghost use Rattle.std.specs.Option.{option_map_or};
-ghost use Rattle.j39_load.specs.SoundLoads.{IsSound, IsSoundLoad};
+ghost use Rattle.j39_load.specs.SoundLoads.{IsSoundIfKnown, IsSoundLoad};
 
 use crate::delay::Delay;
 use crate::delays::delay_of;
@@ -22,7 +22,7 @@ use std::alloc::{AllocError, Global};
 
 // Within how many bits each frame of a flow of this pace has to be on the bus.
 fn limit(timing: Timing, pace: Pace) -> u32
-    ensures limit { result ≡ limit_of timing pace }
+    ensures limit { result ≡ time_limit timing pace }
     ensures few { result < 2 ^ 31 }
 {
     bits_of_ms(timing, pace.deadline.min(pace.period))
@@ -63,7 +63,7 @@ fn load_of_flow(
     requires sender { flow.now.sender < length plan.now.units.items }
     requires receiver { (v : ℕ) → flow.now.to ≡ One v → v < length plan.now.units.items }
     ensures load { result ≡ load_of_flow timing plan.now (stays_by standing.now.firsts standing.now.mover) flow.now }
-    ensures sound { IsSound result }
+    ensures sound { IsSoundIfKnown result }
 {
     match flow.pace {
         Some(pace) => {
@@ -84,7 +84,7 @@ fn loads_of(
 ) -> Result<Vec<Option<FlowLoad>>, AllocError>
     ensures loads { IfOk result (λ loads. loads.items ≡ loads_of timing plan.now (stays_by standing.now.firsts standing.now.mover)) }
     ensures count { IfOk result (λ loads. length loads.items ≡ length plan.now.flows.items) }
-    ensures sound { IfOk result (λ loads. All IsSound loads.items) }
+    ensures sound { IfOk result (λ loads. All IsSoundIfKnown loads.items) }
 {
     let mut loads = Vec::with_capacity(alloc, plan.flows.len())?;
     for place in 0..plan.flows.len() {
@@ -110,7 +110,7 @@ pub struct Loads {
     pub timing: Timing,
     pub flows: Vec<Option<FlowLoad>>,
     pub ghost count: { length flows.items ≤ 512 },
-    pub ghost sound: { All IsSound flows.items } by { Prim.hlevel props },
+    pub ghost sound: { All IsSoundIfKnown flows.items } by { Prim.hlevel props },
 }
 
 impl Loads {

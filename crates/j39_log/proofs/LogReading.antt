@@ -2,7 +2,7 @@
 use Rattle.std.proofs.Common.{◌≡◌, ℕ, List, [], ◌∷◌, ◌++◌, length, Option, refl, sym, ap, ◌∙◌, subst, append_assoc}
 use Rattle.std.specs.Io.KnownBytes.{Appends, Consumes}
 use Rattle.std.proofs.lemmas.List.{append-nil}
-use Rattle.j39_id.specs.Lines.{Line, Pending, answer_to_end, at_start, behind_all, given, tells, told, told_at_end}
+use Rattle.j39_id.specs.Lines.{Line, Pending, answer_to_end, at_start, behind_all, cutter_line, tells, told, told_at_end}
 use Rattle.j39_id.specs.declared.cut.Cut.{Cut}
 use Rattle.j39_id.specs.declared.cut.Cut.TheVariants as cuts
 use Rattle.j39_id.proofs.CutLines.{tells_lines, told-append}
@@ -61,7 +61,7 @@ read_part plan first old new p q used part cut line at is so_far step before wri
     subst (λ (all : List Line). HasReadLines plan all new written) whole
     (read_next plan (before ++ told p used) (tells cut line) old new written step (so_far before written start))
 
-tells_given : (cut : Cut) (p : Pending) → tells cut (given cut p) ≡ tells cut p.held
+tells_given : (cut : Cut) (p : Pending) → tells cut (cutter_line cut p) ≡ tells cut p.held
 tells_given cuts.More p = refl
 tells_given cuts.Line p = refl
 tells_given cuts.Long p = refl
@@ -75,7 +75,7 @@ more_seen plan seen part p reading written at before =
     subst (λ (all : List Line). HasReadLines plan all reading written) whole before
 
 -- what a cutter tells at the end
-pub tells_end : (cut : Cut) (p : Pending) (line : List ℕ) → cut ≡ answer_to_end p → line ≡ given cut p → tells cut line ≡ told_at_end p
+pub tells_end : (cut : Cut) (p : Pending) (line : List ℕ) → cut ≡ answer_to_end p → line ≡ cutter_line cut p → tells cut line ≡ told_at_end p
 tells_end cut p line answered gave = ap (tells cut) gave ∙ tells_given cut p ∙ ap (λ (k : Cut). tells k p.held) answered
 
 -- what is to be written is written

@@ -15,11 +15,11 @@ use Rattle.j39_text.specs.Decimals.{quotient_text}
 use Rattle.j39_text.specs.Texts.{field_text}
 use Rattle.j39_text.proofs.Quotients.{undivided}
 use Rattle.j39_log.specs.LogFrames.{is_planned_as}
-use Rattle.j39_log.specs.LogReports.{all_records_lines, group_line, group_report, reading_lines, scaled_text, signal_lines, signal_state_text, unit_text, value_text}
+use Rattle.j39_log.specs.LogReports.{all_records_lines, group_line, group_report, reading_lines, scaled_text, signal_lines, signal_state_text, signal_unit_text, value_text}
 use Rattle.j39_log.specs.TextLines.{text_lines}
-use Rattle.j39_log.specs.OlderPlans.{GroupsAreFoundByNumber, IsOlderKind, SignalsAlone, ValuesAreShownWhole, has_number}
+use Rattle.j39_log.specs.OlderPlans.{GroupsAreFoundByNumber, IsOlderKind, SignalsAlone, ValuesAreShownWhole, has_number_and_length}
 
-shared : (group : GroupPlan) (pgn bytes : ℕ) → group.private ≡ false → group.most ≡ group.length → is_planned_as pgn bytes group ≡ has_number pgn bytes group
+shared : (group : GroupPlan) (pgn bytes : ℕ) → group.private ≡ false → group.most ≡ group.length → is_planned_as pgn bytes group ≡ has_number_and_length pgn bytes group
 shared group pgn bytes own one =
     ap (λ (b : Bool). (not b && group.pgn == pgn) && (nat_le group.length bytes && nat_le bytes group.most)) own
     ∙ ap (λ (n : ℕ). group.pgn == pgn && (nat_le group.length bytes && nat_le bytes n)) one
@@ -27,17 +27,17 @@ shared group pgn bytes own one =
 
 found_from : (pgn bytes i : ℕ) (groups : List GroupPlan) → AllOf (λ (group : GroupPlan). group.private ≡ false) groups
     → AllOf (λ (group : GroupPlan). group.most ≡ group.length) groups
-    → position_from (is_planned_as pgn bytes) i groups ≡ position_from (has_number pgn bytes) i groups
+    → position_from (is_planned_as pgn bytes) i groups ≡ position_from (has_number_and_length pgn bytes) i groups
 found_from pgn bytes i [] none one = refl
 found_from pgn bytes i (group ∷ groups) none one =
     ap (λ (b : Bool). cond b (Some i) (position_from (is_planned_as pgn bytes) (i + 1) groups)) (shared group pgn bytes (none 0 group (omega arith)) (one 0 group (omega arith)))
-    ∙ ap (λ (o : Option ℕ). cond (has_number pgn bytes group) (Some i) o) (found_from pgn bytes (i + 1) groups
+    ∙ ap (λ (o : Option ℕ). cond (has_number_and_length pgn bytes group) (Some i) o) (found_from pgn bytes (i + 1) groups
     (λ k d less. none (suc k) d (omega (arith, less))) (λ k d less. one (suc k) d (omega (arith, less))))
 
 pub by_number : GroupsAreFoundByNumber
 by_number plan pgn bytes none one =
     position_from-zero (is_planned_as pgn bytes) plan.groups.items ∙ found_from pgn bytes 0 plan.groups.items none one
-    ∙ sym (position_from-zero (has_number pgn bytes) plan.groups.items)
+    ∙ sym (position_from-zero (has_number_and_length pgn bytes) plan.groups.items)
 
 scaled : (kind : Kind) (per : ℕ) (unit : List ℕ) (v : ℤ) → IsOlderKind kind → value_text kind per unit v ≡ scaled_text per unit v
 unfolding value_text
@@ -45,11 +45,11 @@ scaled kind per unit v (inl measured) = rw measured refl
 scaled kind per unit v (inr (inl discrete)) = rw discrete refl
 scaled kind per unit v (inr (inr raw)) = rw raw refl
 
-whole : (per : ℕ) (unit : List ℕ) (v : ℤ) → per ≡ 1 → scaled_text per unit v ≡ field_text (codes " value ") (signed_decimal v) ++ unit_text unit
+whole : (per : ℕ) (unit : List ℕ) (v : ℤ) → per ≡ 1 → scaled_text per unit v ≡ field_text (codes " value ") (signed_decimal v) ++ signal_unit_text unit
 unfolding scaled_text
 whole per unit v one =
-    ap (λ (n : ℕ). field_text (codes " value ") (quotient_text n v) ++ unit_text unit) one
-    ∙ ap (λ (digits : List ℕ). field_text (codes " value ") digits ++ unit_text unit) (undivided v)
+    ap (λ (n : ℕ). field_text (codes " value ") (quotient_text n v) ++ signal_unit_text unit) one
+    ∙ ap (λ (digits : List ℕ). field_text (codes " value ") digits ++ signal_unit_text unit) (undivided v)
 
 pub shown_whole : ValuesAreShownWhole
 unfolding signal_state_text

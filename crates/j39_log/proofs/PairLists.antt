@@ -11,7 +11,7 @@ use Rattle.j39_tp.specs.Carried.{listened, AreInRange}
 use Rattle.j39_tp.specs.Packets.{InRange}
 use Rattle.j39_tp.specs.Receiver.{Receiving, receives}
 use Rattle.j39_tp.specs.declared.packet.Packet.{Packet}
-use Rattle.j39_log.specs.inside.Listening.{HaveHeard, AreAllInRange, IsInRange, Row, listener_of_pair, after_all}
+use Rattle.j39_log.specs.inside.Listening.{HaveHeard, AreAllInRange, IsInRange, ListenerRow, listener_of_pair, after_all}
 use Rattle.j39_log.specs.LogPairs.{Seen, heard, heard_of, is_abort, is_heard_by}
 
 -- ---- one more packet
@@ -59,7 +59,7 @@ one_turn true r h p e = ap (λ (s : Receiving). receives s p) e ∙ sym (after_a
 one_turn false r h p e = e ∙ sym (ap after_all (append-nil h))
 
 -- a packet that reaches the listeners of the pairs that hear it
-pub turned : (old new : List Row) (seen : List Seen) (f : Frame) (p : Packet)
+pub turned : (old new : List ListenerRow) (seen : List Seen) (f : Frame) (p : Packet)
     → ((s d : ℕ) → s < 256 → d < 256
     → listener_of_pair new s d ≡ (if is_heard_by s d f.ident p then receives (listener_of_pair old s d) p else listener_of_pair old s d))
     → HaveHeard old seen → HaveHeard new (seen ++ record { frame = f; packet = Some p } ∷ [])
@@ -68,15 +68,15 @@ turned old new seen f p turn have s d ls ld =
     ∙ sym (ap after_all (heard_more s d seen (record { frame = f; packet = Some p })))
 
 -- a frame that no pair hears
-pub unheard : (rows : List Row) (seen : List Seen) (f : Frame)
+pub unheard : (rows : List ListenerRow) (seen : List Seen) (f : Frame)
     → HaveHeard rows seen → HaveHeard rows (seen ++ record { frame = f; packet = None } ∷ [])
 unheard rows seen f have s d ls ld =
     have s d ls ld ∙ sym (ap after_all (heard_more s d seen (record { frame = f; packet = None }) ∙ append-nil (heard s d seen)))
 
 -- before the first frame
-pub nothing_heard : (rows : List Row) → rows ≡ [] → HaveHeard rows []
+pub nothing_heard : (rows : List ListenerRow) → rows ≡ [] → HaveHeard rows []
 unfolding heard
-nothing_heard rows empty s d ls ld = ap (λ (t : List Row). listener_of_pair t s d) empty
+nothing_heard rows empty s d ls ld = ap (λ (t : List ListenerRow). listener_of_pair t s d) empty
 
 -- ---- ranges
 
@@ -119,7 +119,7 @@ if_true : (b : Bool) (x y : Receiving) → b ≡ true → (if b then x else y) �
 if_true true x y e = refl
 if_true false x y e = cc
 
-pub heard_itself : (old new : List Row) (i : Ident) (p : Packet)
+pub heard_itself : (old new : List ListenerRow) (i : Ident) (p : Packet)
     → ((s d : ℕ) → s < 256 → d < 256
     → listener_of_pair new s d ≡ (if is_heard_by s d i p then receives (listener_of_pair old s d) p else listener_of_pair old s d))
     → listener_of_pair new i.sa i.ps ≡ receives (listener_of_pair old i.sa i.ps) p

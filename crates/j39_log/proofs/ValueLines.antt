@@ -7,7 +7,7 @@ use Rattle.j39_text.specs.Decimals.{quotient_text}
 use Rattle.j39_signal.specs.Parts.{SignalParts}
 use Rattle.j39_signal.specs.declared.state.State.TheVariants.{Value}
 use Rattle.j39_text.specs.Texts.{field_text}
-use Rattle.j39_log.specs.LogReports.{code_text, scaled_text, signal_line, signal_state_text, unit_text, value_text}
+use Rattle.j39_log.specs.LogReports.{code_text, scaled_text, signal_line, signal_state_text, signal_unit_text, value_text}
 use Rattle.j39_log.specs.inside.ValueLines.{value_line_of}
 
 grouped : (front label word number unit end : List ℕ)
@@ -27,7 +27,7 @@ pub line_of_value : (s : SignalParts) (v : ℤ) → s.kind ≢ Dtc
     → (value_line_of s).before ++ (quotient_text s.per v ++ (value_line_of s).after) ≡ signal_line s (Value v)
 unfolding signal_line signal_state_text scaled_text field_text
 line_of_value s v other =
-    grouped (codes "  ") s.label.bytes (codes " value ") (quotient_text s.per v) (unit_text s.unit.bytes) (10 ∷ [])
+    grouped (codes "  ") s.label.bytes (codes " value ") (quotient_text s.per v) (signal_unit_text s.unit.bytes) (10 ∷ [])
     ∙ ap (λ (text : List ℕ). codes "  " ++ (s.label.bytes ++ (text ++ 10 ∷ []))) (sym (scaled s.kind s.per s.unit.bytes v other))
 
 pub line_of_code : (s : SignalParts) (v : ℤ) → s.kind ≡ Dtc

@@ -18,9 +18,9 @@ use Rattle.j39_text.specs.Texts.{field, field_text}
 use Rattle.j39_log.specs.TextLines.{text_lines}
 
 -- one space and the unit, where there is one
-unfoldable pub unit_text : List ℕ → List ℕ
-unit_text [] = []
-unit_text (b ∷ unit) = codes " " ++ (b ∷ unit)
+unfoldable pub signal_unit_text : List ℕ → List ℕ
+signal_unit_text [] = []
+signal_unit_text (b ∷ unit) = codes " " ++ (b ∷ unit)
 
 -- ---- a diagnostic trouble code (SAE J1939-73, version 4 of the conversion method): the suspect parameter in bits 0 to 15 and 21 to 23,
 -- the failure mode in bits 16 to 20, how often it occurred in bits 24 to 30, and in bit 31 whether it is spelled so
@@ -50,7 +50,7 @@ code_text code = if code == 0 then codes " none" else if code / 2 ^ 31 % 2 == 0 
 -- ---- a value: that of a trouble code is its raw number
 
 unfoldable pub scaled_text : ℕ → List ℕ → ℤ → List ℕ
-scaled_text per unit v = field_text (codes " value ") (quotient_text per v) ++ unit_text unit
+scaled_text per unit v = field_text (codes " value ") (quotient_text per v) ++ signal_unit_text unit
 
 unfoldable pub value_text : Kind → ℕ → List ℕ → ℤ → List ℕ
 value_text Dtc per unit v = code_text (unsigned_abs v)

@@ -12,17 +12,17 @@ use Rattle.j39_findings.specs.PrivateGroups.{HasNoPrivate}
 use Rattle.j39_findings.specs.declared.plan.Plan.{Plan}
 use Rattle.j39_findings.specs.declared.plan.group_plan.GroupPlan.{GroupPlan}
 use Rattle.j39_log.specs.LogFrames.{planned}
-use Rattle.j39_log.specs.LogReports.{group_line, group_report, signal_lines, signal_state_text, unit_text}
+use Rattle.j39_log.specs.LogReports.{group_line, group_report, signal_lines, signal_state_text, signal_unit_text}
 use Rattle.j39_text.specs.Texts.{field_text}
 
 -- the group has this number and so many bytes
-abbrev pub has_number : ℕ → ℕ → GroupPlan → Bool
-has_number pgn bytes group = group.pgn == pgn && group.length == bytes
+abbrev pub has_number_and_length : ℕ → ℕ → GroupPlan → Bool
+has_number_and_length pgn bytes group = group.pgn == pgn && group.length == bytes
 
 -- where no group is private and each has one length, that of a frame or message is the first of its number and length
 abbrev pub GroupsAreFoundByNumber : Type 0
 GroupsAreFoundByNumber = (plan : Plan) (pgn bytes : ℕ) → HasNoPrivate plan → HasOneLengthEach plan
-    → planned plan pgn bytes ≡ position (has_number pgn bytes) plan.groups.items
+    → planned plan pgn bytes ≡ position (has_number_and_length pgn bytes) plan.groups.items
 
 abbrev pub IsOlderKind : Kind → Type 0
 IsOlderKind kind = (kind ≡ Measured) ⊎ (kind ≡ Discrete) ⊎ (kind ≡ Raw)
@@ -30,7 +30,7 @@ IsOlderKind kind = (kind ≡ Measured) ⊎ (kind ≡ Discrete) ⊎ (kind ≡ Raw
 -- a value of an older kind that isn't divided is shown as a whole number, with its unit
 abbrev pub ValuesAreShownWhole : Type 0
 ValuesAreShownWhole = (s : SignalParts) (v : ℤ) → IsOlderKind s.kind → s.per ≡ 1
-    → signal_state_text s (Value v) ≡ field_text (codes " value ") (signed_decimal v) ++ unit_text s.unit.bytes
+    → signal_state_text s (Value v) ≡ field_text (codes " value ") (signed_decimal v) ++ signal_unit_text s.unit.bytes
 
 -- a group without records and texts is reported by its signals alone
 abbrev pub SignalsAlone : Type 0

@@ -1,6 +1,6 @@
 //! What stands around the value in the line of a signal, which is the same in each report of it.
 ghost use Rattle.std.specs.Prelude.{◌≡◌, ◌++◌, map, IfOk, OnOk};
-ghost use Rattle.j39_log.specs.LogReports.{unit_text};
+ghost use Rattle.j39_log.specs.LogReports.{signal_unit_text};
 ghost use Rattle.j39_log.specs.inside.ValueLines.{items_of, value_line_of, value_lines_of};
 
 use j39_findings::GroupPlan;
@@ -17,9 +17,9 @@ pub struct ValueLine {
 }
 
 /// Writes one space and a unit, where there is one.
-#[tactic(auto, unfolding(crate::specs::LogReports::unit_text))]
+#[tactic(auto, unfolding(crate::specs::LogReports::signal_unit_text))]
 pub(crate) fn write_unit(text: &mut TextBuffer, unit: &Label) -> Result<(), AllocError>
-    ensures { OnOk result (text.new ≡ text.old ++ unit_text unit.now.bytes) }
+    ensures { OnOk result (text.new ≡ text.old ++ signal_unit_text unit.now.bytes) }
 {
     if unit.is_empty() {
         return Ok(());

@@ -15,7 +15,7 @@ use Rattle.j39_plan.specs.declared.reading.place.Table.{Table}
 use Rattle.j39_plan.specs.declared.reading.text_kind.TextKind.{TextKind}
 use Rattle.j39_plan.specs.TextKinds.{takes}
 use Rattle.j39_plan.specs.Schema.{tables, tables_of, items_count}
-use Rattle.j39_plan.specs.Elements.{each_faults, Each, labels_of, is_among, repeated_faults}
+use Rattle.j39_plan.specs.Elements.{each_faults, Each, labels_of, is_label_among, repeated_faults}
 
 pub none_left : (xs ys : List Fault) → xs ++ ys ≡ [] → xs ≡ []
 none_left [] ys e = refl
@@ -78,10 +78,10 @@ AreApart = AllPairs (λ l m. l ≢ m)
 nothing_apart : AreApart []
 nothing_apart i j d before below = absurd (omega arith)
 
-pub apart_from : (seen : List (List ℕ)) (label : List ℕ) → is_among seen label ≡ false → All (λ l. l ≢ label) seen
+pub apart_from : (seen : List (List ℕ)) (label : List ℕ) → is_label_among seen label ≡ false → All (λ l. l ≢ label) seen
 apart_from [] label none = λ k d below. absurd (omega arith)
 apart_from (l ∷ seen) label none =
-    let parts = or_parts (bytes_eq l label) (is_among seen label) none in
+    let parts = or_parts (bytes_eq l label) (is_label_among seen label) none in
     All-cons (λ m. m ≢ label) l seen (not_from_Decides (bytes_eq l label) (bytes_eq-Decides l label) parts.0) (apart_from seen label parts.1)
 
 repeated : (taken is_old : Bool) (f : Fault) → taken ≡ true → (if taken && is_old then f ∷ [] else []) ≡ [] → is_old ≡ false
@@ -91,12 +91,12 @@ repeated false is_old f e none = cc
 
 -- a label that is no fault is none of those before it
 pub fresh_label : (at : Table) (kind : TextKind) (seen : List (List ℕ)) (label : List ℕ) → takes kind label ≡ true
-    → repeated_faults at kind seen label ≡ [] → is_among seen label ≡ false
+    → repeated_faults at kind seen label ≡ [] → is_label_among seen label ≡ false
 unfolding repeated_faults
-fresh_label at kind seen label taken none = repeated (takes kind label) (is_among seen label) _ taken none
+fresh_label at kind seen label taken none = repeated (takes kind label) (is_label_among seen label) _ taken none
 
 apart_behind : {T : Type 0} (Is : Data → T → Type 0) (faults : ℕ → List (List ℕ) → Data → List Fault) (label_of : Data → List ℕ)
-    (fresh : (i : ℕ) (seen : List (List ℕ)) (d : Data) (x : T) → Is d x → faults i seen d ≡ [] → is_among seen (label_of d) ≡ false)
+    (fresh : (i : ℕ) (seen : List (List ℕ)) (d : Data) (x : T) → Is d x → faults i seen d ≡ [] → is_label_among seen (label_of d) ≡ false)
     → (i : ℕ) (seen : List (List ℕ)) (ds : Items) (xs : List T) → Each Is ds xs → each_faults faults label_of i seen ds ≡ [] → AreApart seen
     → AreApart (seen ++ labels_of label_of ds)
 unfolding Each each_faults labels_of
@@ -119,7 +119,7 @@ apart_from_map label_bytes xs apart i j d before below =
 pub labels_apart : {T : Type 0} (Is : Data → T → Type 0) (faults : ℕ → List (List ℕ) → Data → List Fault) (label_of : Data → List ℕ)
     (label_bytes : T → List ℕ)
     (same : (d : Data) (x : T) → Is d x → label_bytes x ≡ label_of d)
-    (fresh : (i : ℕ) (seen : List (List ℕ)) (d : Data) (x : T) → Is d x → faults i seen d ≡ [] → is_among seen (label_of d) ≡ false)
+    (fresh : (i : ℕ) (seen : List (List ℕ)) (d : Data) (x : T) → Is d x → faults i seen d ≡ [] → is_label_among seen (label_of d) ≡ false)
     → (ds : Items) (xs : List T) → Each Is ds xs → each_faults faults label_of 0 [] ds ≡ [] → AllPairs (λ x y. label_bytes x ≢ label_bytes y) xs
 labels_apart Is faults label_of label_bytes same fresh ds xs each none =
     apart_from_map label_bytes xs

@@ -20,11 +20,11 @@ use Rattle.j39_plan.specs.Outcome.{first}
 use Rattle.j39_plan.specs.UnitTables.{IsUnitOf}
 use Rattle.j39_plan.specs.SignalTables.{IsSignalOf}
 use Rattle.j39_plan.specs.TextTables.{IsTextOf}
-use Rattle.j39_plan.specs.GroupTables.{IsGroupOf, signal_rule, texts_of}
+use Rattle.j39_plan.specs.GroupTables.{IsGroupOf, signal_rule, text_tables_of}
 use Rattle.j39_plan.specs.FlowTables.{IsFlowOf, TellsPace, deadline_rule}
 use Rattle.j39_plan.specs.TimingTables.{TellsTiming}
 use Rattle.j39_plan.specs.Schema.{tables_of, given_number}
-use Rattle.j39_plan.specs.Faults.{faults, unit_rule, group_rule, flow_rule, timing_table, unit_labels, group_labels, is_third}
+use Rattle.j39_plan.specs.Faults.{faults, units_rule, groups_rule, flows_rule, timing_table, unit_labels, group_labels, is_third}
 use Rattle.j39_plan.specs.Described.{TellsPlan, Described, Reads}
 use Rattle.j39_plan.specs.OnePlan.{AreOneUnit, AreOneSignal, AreOneText, AreOneGroup, AreOneTiming, AreOnePace, AreOneFlowPlan, AreOnePlan, AreOneAnswer}
 
@@ -78,7 +78,7 @@ one_group third d g h a b = record {
   mosts = a.has_most ∙ sym b.has_most;
   everys = a.has_every ∙ sym b.has_every;
   signals = one_each (IsSignalOf third) AreOneSignal (one_signal third) (tables_of signal_rule (inside d)) _ _ a.has_signals b.has_signals;
-  texts = one_each IsTextOf AreOneText one_text (texts_of third (inside d)) _ _ a.has_texts b.has_texts;
+  texts = one_each IsTextOf AreOneText one_text (text_tables_of third (inside d)) _ _ a.has_texts b.has_texts;
 }
 
 one_timing : (tree : Option Members) (t u : Option Timing) → TellsTiming tree t → TellsTiming tree u → AreOneTiming t u
@@ -111,9 +111,9 @@ one_plan : (tree : Members) (p q : Plan) → TellsPlan tree p → TellsPlan tree
 one_plan tree p q a b = record {
   keep_free = a.has_keep_free ∙ sym b.has_keep_free;
   timing = one_timing (timing_table tree) p.timing q.timing a.has_timing b.has_timing;
-  units = one_each IsUnitOf AreOneUnit one_unit (tables_of unit_rule tree) _ _ a.has_units b.has_units;
-  groups = one_each (IsGroupOf (is_third tree)) AreOneGroup (one_group (is_third tree)) (tables_of group_rule tree) _ _ a.has_groups b.has_groups;
-  flows = one_each (IsFlowOf (is_third tree) (group_labels tree) (unit_labels tree)) AreOneFlowPlan (one_flow (is_third tree) (group_labels tree) (unit_labels tree)) (tables_of flow_rule tree) _ _
+  units = one_each IsUnitOf AreOneUnit one_unit (tables_of units_rule tree) _ _ a.has_units b.has_units;
+  groups = one_each (IsGroupOf (is_third tree)) AreOneGroup (one_group (is_third tree)) (tables_of groups_rule tree) _ _ a.has_groups b.has_groups;
+  flows = one_each (IsFlowOf (is_third tree) (group_labels tree) (unit_labels tree)) AreOneFlowPlan (one_flow (is_third tree) (group_labels tree) (unit_labels tree)) (tables_of flows_rule tree) _ _
       a.has_flows b.has_flows;
 }
 

@@ -10,10 +10,10 @@ use Rattle.j39_plan.specs.declared.reading.place.Table.TheVariants as at
 use Rattle.j39_plan.specs.declared.reading.text_kind.TextKind.TheVariants as texts
 use Rattle.j39_plan.specs.declared.reading.key.Key.TheVariants as key
 use Rattle.j39_plan.specs.Schema.{items_count}
-use Rattle.j39_plan.specs.Elements.{each_faults, Each, is_among, labels_of}
-use Rattle.j39_plan.specs.SignalTables.{IsSignalOf, IsFit, signal_label, signal_faults}
-use Rattle.j39_plan.specs.TextTables.{IsTextOf, text_label, text_faults}
-use Rattle.j39_plan.specs.GroupTables.{texts_of}
+use Rattle.j39_plan.specs.Elements.{each_faults, Each, is_label_among, labels_of, label_in}
+use Rattle.j39_plan.specs.SignalTables.{IsSignalOf, IsFit, signal_faults}
+use Rattle.j39_plan.specs.TextTables.{IsTextOf, text_faults}
+use Rattle.j39_plan.specs.GroupTables.{text_tables_of}
 use Rattle.j39_plan.proofs.Labelled.{is_among_both}
 use Rattle.j39_plan.proofs.NoFaults.{none_left, none_right, fresh_label, labels_apart, labels_told, apart_from, tables_count}
 
@@ -22,15 +22,15 @@ IsRead third records d s = IsSignalOf third d s × IsFit records s
 
 fresh_signal : (third records : Bool) (g i : ℕ) (seen : List (List ℕ)) (d : Data) (s : SignalParts) → IsRead third records d s
     → signal_faults third records g i seen d ≡ []
-    → is_among seen (signal_label d) ≡ false
+    → is_label_among seen (label_in d) ≡ false
 unfolding signal_faults
 fresh_signal third records g i seen d s read none =
-    fresh_label (at.Signal g i) texts.Label seen (signal_label d) (rw (← read.0.has_label) read.1.label_form) (none_right _ _ none)
+    fresh_label (at.Signal g i) texts.Label seen (label_in d) (rw (← read.0.has_label) read.1.label_form) (none_right _ _ none)
 
 pub signals_apart : (third records : Bool) (g : ℕ) (ds : Items) (xs : List SignalParts) → Each (IsRead third records) ds xs
-    → each_faults (signal_faults third records g) signal_label 0 [] ds ≡ [] → AllPairs (λ s t. s.label.bytes ≢ t.label.bytes) xs
+    → each_faults (signal_faults third records g) label_in 0 [] ds ≡ [] → AllPairs (λ s t. s.label.bytes ≢ t.label.bytes) xs
 signals_apart third records g ds xs each none =
-    labels_apart (IsRead third records) (signal_faults third records g) signal_label (λ s. s.label.bytes) (λ d s read. read.0.has_label)
+    labels_apart (IsRead third records) (signal_faults third records g) label_in (λ s. s.label.bytes) (λ d s read. read.0.has_label)
     (fresh_signal third records g) ds xs each none
 
 -- the labels of signals
@@ -39,27 +39,27 @@ signal_texts = map (λ s. s.label.bytes)
 
 -- those of signals that were read are those of the file
 pub signal_texts_told : (third records : Bool) (ds : Items) (xs : List SignalParts) → Each (IsRead third records) ds xs
-    → signal_texts xs ≡ labels_of signal_label ds
-signal_texts_told third records = labels_told (IsRead third records) signal_label (λ s. s.label.bytes) (λ d s read. read.0.has_label)
+    → signal_texts xs ≡ labels_of label_in ds
+signal_texts_told third records = labels_told (IsRead third records) label_in (λ s. s.label.bytes) (λ d s read. read.0.has_label)
 
 -- ---- texts
 
-pub texts_count : (third : Bool) (ms : Members) → items_count (texts_of third ms) ≤ 64
+pub texts_count : (third : Bool) (ms : Members) → items_count (text_tables_of third ms) ≤ 64
 texts_count true ms = tables_count key.Text 64 ms
 texts_count false ms = omega arith
 
 -- a text without a fault has a label that neither a signal nor a text before it has
 fresh_text : (taken : List (List ℕ)) (g i : ℕ) (seen : List (List ℕ)) (d : Data) (t : TextPlan) → IsTextOf d t → text_faults taken g i seen d ≡ []
-    → (is_among taken (text_label d) || is_among seen (text_label d)) ≡ false
+    → (is_label_among taken (label_in d) || is_label_among seen (label_in d)) ≡ false
 unfolding text_faults
 fresh_text taken g i seen d t is none =
-    sym (is_among_both taken seen (text_label d))
-    ∙ fresh_label (at.Text g i) texts.Label (taken ++ seen) (text_label d) (rw (← is.has_label) t.label_form) (none_right _ _ none)
+    sym (is_among_both taken seen (label_in d))
+    ∙ fresh_label (at.Text g i) texts.Label (taken ++ seen) (label_in d) (rw (← is.has_label) t.label_form) (none_right _ _ none)
 
 pub texts_apart : (taken : List (List ℕ)) (g : ℕ) (ds : Items) (xs : List TextPlan) → Each IsTextOf ds xs
-    → each_faults (text_faults taken g) text_label 0 [] ds ≡ [] → AllPairs (λ s t. s.label.bytes ≢ t.label.bytes) xs
+    → each_faults (text_faults taken g) label_in 0 [] ds ≡ [] → AllPairs (λ s t. s.label.bytes ≢ t.label.bytes) xs
 texts_apart taken g ds xs each none =
-    labels_apart IsTextOf (text_faults taken g) text_label (λ t. t.label.bytes) (λ d t is. is.has_label)
+    labels_apart IsTextOf (text_faults taken g) label_in (λ t. t.label.bytes) (λ d t is. is.has_label)
     (λ i seen d t is here. (or_parts _ _ (fresh_text taken g i seen d t is here)).1) ds xs each none
 
 apart_signals : (label : List ℕ) (signals : List SignalParts) → All (λ l. l ≢ label) (signal_texts signals)
@@ -70,7 +70,7 @@ apart_signals label signals apart k d below =
 
 -- texts without faults have labels that no signal has
 pub texts_beside : (signals : List SignalParts) (g i : ℕ) (seen : List (List ℕ)) (ds : Items) (xs : List TextPlan) → Each IsTextOf ds xs
-    → each_faults (text_faults (signal_texts signals) g) text_label i seen ds ≡ []
+    → each_faults (text_faults (signal_texts signals) g) label_in i seen ds ≡ []
     → All (λ t. All (λ s. s.label.bytes ≢ t.label.bytes) signals) xs
 unfolding Each each_faults
 texts_beside signals g i seen no_items [] each none = λ k d below. absurd (omega arith)
@@ -79,6 +79,6 @@ texts_beside signals g i seen (item d ds) [] each none = absurd each
 texts_beside signals g i seen (item d ds) (x ∷ xs) each none =
     let taken = signal_texts signals in
     let fresh = (or_parts _ _ (fresh_text taken g i seen d x each.0 (none_left _ _ none))).0 in
-    let here = apart_signals (text_label d) signals (apart_from taken (text_label d) fresh) in
+    let here = apart_signals (label_in d) signals (apart_from taken (label_in d) fresh) in
     All-cons (λ t. All (λ s. s.label.bytes ≢ t.label.bytes) signals) x xs (rw (each.0.has_label) here)
-    (texts_beside signals g (suc i) (seen ++ text_label d ∷ []) ds xs each.1 (none_right _ _ none))
+    (texts_beside signals g (suc i) (seen ++ label_in d ∷ []) ds xs each.1 (none_right _ _ none))

@@ -12,34 +12,34 @@ use Rattle.j39_findings.specs.declared.plan.unit_plan.UnitPlan.{UnitPlan}
 use Rattle.j39_findings.specs.declared.plan.group_plan.GroupPlan.{GroupPlan}
 use Rattle.j39_plan.specs.declared.reading.place.Table.TheVariants as at
 use Rattle.j39_plan.specs.declared.reading.text_kind.TextKind.TheVariants as texts
-use Rattle.j39_plan.specs.Elements.{each_faults, Each, is_among, labels_of}
-use Rattle.j39_plan.specs.UnitTables.{IsUnitOf, unit_label, unit_faults}
-use Rattle.j39_plan.specs.GroupTables.{IsGroupOf, group_label, group_faults}
+use Rattle.j39_plan.specs.Elements.{each_faults, Each, is_label_among, labels_of, label_in}
+use Rattle.j39_plan.specs.UnitTables.{IsUnitOf, unit_label_in, unit_faults}
+use Rattle.j39_plan.specs.GroupTables.{IsGroupOf, group_faults}
 use Rattle.j39_findings.specs.declared.plan.flow_plan.FlowPlan.{FlowPlan}
 use Rattle.j39_plan.specs.FlowTables.{place_of, receivers, IsFlowOf}
 use Rattle.j39_plan.proofs.NoFaults.{none_right, All-from_Each, fresh_label, labels_apart, labels_told}
 
 fresh_unit : (i : ℕ) (seen : List (List ℕ)) (d : Data) (u : UnitPlan) → IsUnitOf d u → unit_faults i seen d ≡ []
-    → is_among seen (unit_label d) ≡ false
+    → is_label_among seen (unit_label_in d) ≡ false
 unfolding unit_faults
 fresh_unit i seen d u is none =
-    fresh_label (at.Unit i) texts.UnitLabel seen (unit_label d) (rw (← is.has_label) u.label_form) (none_right _ _ none)
+    fresh_label (at.Unit i) texts.UnitLabel seen (unit_label_in d) (rw (← is.has_label) u.label_form) (none_right _ _ none)
 
-pub units_apart : (ds : Items) (xs : List UnitPlan) → Each IsUnitOf ds xs → each_faults unit_faults unit_label 0 [] ds ≡ []
+pub units_apart : (ds : Items) (xs : List UnitPlan) → Each IsUnitOf ds xs → each_faults unit_faults unit_label_in 0 [] ds ≡ []
     → AllPairs (λ u w. u.label.bytes ≢ w.label.bytes) xs
 units_apart ds xs each none =
-    labels_apart IsUnitOf unit_faults unit_label (λ u. u.label.bytes) (λ d u is. is.has_label) fresh_unit ds xs each none
+    labels_apart IsUnitOf unit_faults unit_label_in (λ u. u.label.bytes) (λ d u is. is.has_label) fresh_unit ds xs each none
 
 fresh_group : (third : Bool) (i : ℕ) (seen : List (List ℕ)) (d : Data) (g : GroupPlan) → IsGroupOf third d g → group_faults third i seen d ≡ []
-    → is_among seen (group_label d) ≡ false
+    → is_label_among seen (label_in d) ≡ false
 unfolding group_faults
 fresh_group third i seen d g is none =
-    fresh_label (at.Group i) texts.Label seen (group_label d) (rw (← is.has_label) g.label_form) (none_right _ _ none)
+    fresh_label (at.Group i) texts.Label seen (label_in d) (rw (← is.has_label) g.label_form) (none_right _ _ none)
 
-pub groups_apart : (third : Bool) (ds : Items) (xs : List GroupPlan) → Each (IsGroupOf third) ds xs → each_faults (group_faults third) group_label 0 [] ds ≡ []
+pub groups_apart : (third : Bool) (ds : Items) (xs : List GroupPlan) → Each (IsGroupOf third) ds xs → each_faults (group_faults third) label_in 0 [] ds ≡ []
     → AllPairs (λ g h. g.label.bytes ≢ h.label.bytes) xs
 groups_apart third ds xs each none =
-    labels_apart (IsGroupOf third) (group_faults third) group_label (λ g. g.label.bytes) (λ d g is. is.has_label) (fresh_group third) ds xs each none
+    labels_apart (IsGroupOf third) (group_faults third) label_in (λ g. g.label.bytes) (λ d g is. is.has_label) (fresh_group third) ds xs each none
 
 place_below : (labels : List (List ℕ)) (label : List ℕ) (p : ℕ) → place_of labels label ≡ Some p → p < length labels
 unfolding place_of
@@ -73,11 +73,11 @@ abbrev pub group_texts : List GroupPlan → List (List ℕ)
 group_texts = map (λ g. g.label.bytes)
 
 -- those of units and of groups that were read are those of the file
-pub unit_texts_told : (ds : Items) (us : List UnitPlan) → Each IsUnitOf ds us → unit_texts us ≡ labels_of unit_label ds
-unit_texts_told = labels_told IsUnitOf unit_label (λ u. u.label.bytes) (λ d u is. is.has_label)
+pub unit_texts_told : (ds : Items) (us : List UnitPlan) → Each IsUnitOf ds us → unit_texts us ≡ labels_of unit_label_in ds
+unit_texts_told = labels_told IsUnitOf unit_label_in (λ u. u.label.bytes) (λ d u is. is.has_label)
 
-pub group_texts_told : (third : Bool) (ds : Items) (gs : List GroupPlan) → Each (IsGroupOf third) ds gs → group_texts gs ≡ labels_of group_label ds
-group_texts_told third = labels_told (IsGroupOf third) group_label (λ g. g.label.bytes) (λ d g is. is.has_label)
+pub group_texts_told : (third : Bool) (ds : Items) (gs : List GroupPlan) → Each (IsGroupOf third) ds gs → group_texts gs ≡ labels_of label_in ds
+group_texts_told third = labels_told (IsGroupOf third) label_in (λ g. g.label.bytes) (λ d g is. is.has_label)
 
 -- what a table tells is a flow between these units of one of these groups
 abbrev pub IsBetween : Bool → List GroupPlan → List UnitPlan → Data → FlowPlan → Type 0

@@ -6,13 +6,13 @@ use Rattle.toml.specs.declared.value.Value.{Value}
 use Rattle.toml.specs.View.{items_view, members_view}
 use Rattle.j39_plan.specs.declared.reading.key.Key.{Key}
 use Rattle.j39_plan.specs.Schema.{items_count}
-use Rattle.j39_plan.specs.TableFaults.{is_named, has_only}
+use Rattle.j39_plan.specs.TableFaults.{is_key_word, has_only}
 
 pub items_count_view : (vs : List Value) → items_count (items_view vs) ≡ length vs
 items_count_view [] = refl
 items_count_view (v ∷ vs) = ap suc (items_count_view vs)
 
 pub has_only_view : (keys : List Key) (es : List (String Global × Value))
-    → has_only keys (members_view es) ≡ list_all (λ k. is_named keys (string_bytes k)) (keys_of es)
+    → has_only keys (members_view es) ≡ list_all (λ k. is_key_word keys (string_bytes k)) (keys_of es)
 has_only_view keys [] = refl
 has_only_view keys (e ∷ es) = rw (has_only_view keys es)

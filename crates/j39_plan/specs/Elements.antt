@@ -1,5 +1,5 @@
 -- The elements of an array of tables: their faults, what they tell, and their labels.
-use Rattle.std.specs.Prelude.{ℕ, suc, List, [], ◌∷◌, ◌++◌, Bool, ◌&&◌, if◌then◌else◌, Some, unwrap_or}
+use Rattle.std.specs.Prelude.{ℕ, suc, List, [], ◌∷◌, ◌++◌, Bool, ◌&&◌, if◌then◌else◌, Some, None, unwrap_or}
 use Rattle.std.specs.List.{list_any}
 use Rattle.std.specs.Str.{bytes_eq}
 use Rattle.toml.specs.Data.{Data, Items, no_items, item, Members, no_members, as_table}
@@ -8,12 +8,21 @@ use Rattle.j39_plan.specs.declared.reading.key.Key.TheVariants as key
 use Rattle.j39_plan.specs.declared.reading.place.Table.{Table}
 use Rattle.j39_plan.specs.declared.reading.fault.Fault.{Fault}
 use Rattle.j39_plan.specs.declared.reading.text_kind.TextKind.{TextKind}
+use Rattle.j39_plan.specs.declared.reading.text_kind.TextKind.TheVariants as texts
+use Rattle.j39_plan.specs.Schema.{Rule, text, text_of}
 use Rattle.j39_plan.specs.TextKinds.{takes}
 use Rattle.j39_plan.specs.TableFaults.{fault}
 
 -- the members of a table, and none of another value
 abbrev pub inside : Data → Members
 inside d = unwrap_or (as_table d) no_members
+
+-- the label of a group, a signal or a text
+abbrev pub label_rule : Rule
+label_rule = text key.Label texts.Label None
+
+abbrev pub label_in : Data → List ℕ
+label_in d = text_of label_rule (inside d)
 
 -- the faults of the elements from the i-th on, behind the labels of those before
 unfoldable pub each_faults : (ℕ → List (List ℕ) → Data → List Fault) → (Data → List ℕ) → ℕ → List (List ℕ) → Items → List Fault
@@ -31,9 +40,9 @@ unfoldable pub labels_of : (Data → List ℕ) → Items → List (List ℕ)
 labels_of label no_items = []
 labels_of label (item d ds) = label d ∷ labels_of label ds
 
-abbrev pub is_among : List (List ℕ) → List ℕ → Bool
-is_among labels label = list_any (λ l. bytes_eq l label) labels
+abbrev pub is_label_among : List (List ℕ) → List ℕ → Bool
+is_label_among labels label = list_any (λ l. bytes_eq l label) labels
 
 -- a label, which is one of its kind, that an earlier element has
 unfoldable pub repeated_faults : Table → TextKind → List (List ℕ) → List ℕ → List Fault
-repeated_faults at kind seen label = if takes kind label && is_among seen label then fault Repeated at (Some key.Label) ∷ [] else []
+repeated_faults at kind seen label = if takes kind label && is_label_among seen label then fault Repeated at (Some key.Label) ∷ [] else []

@@ -9,9 +9,9 @@ use Rattle.j39_plan.specs.declared.reading.place.Table.TheVariants as at
 use Rattle.j39_plan.specs.declared.reading.fault.Fault.{Fault}
 use Rattle.j39_plan.specs.Schema.{Rule, number, addresses, tables, optional_table, number_of, table_of, tables_of}
 use Rattle.j39_plan.specs.TableFaults.{unknown_faults, keys_faults}
-use Rattle.j39_plan.specs.Elements.{each_faults, labels_of}
-use Rattle.j39_plan.specs.UnitTables.{unit_faults, unit_label}
-use Rattle.j39_plan.specs.GroupTables.{group_faults, group_label}
+use Rattle.j39_plan.specs.Elements.{each_faults, labels_of, label_in}
+use Rattle.j39_plan.specs.UnitTables.{unit_faults, unit_label_in}
+use Rattle.j39_plan.specs.GroupTables.{group_faults}
 use Rattle.j39_plan.specs.FlowTables.{flow_faults}
 use Rattle.j39_plan.specs.TimingTables.{timing_table_faults}
 
@@ -34,50 +34,50 @@ keep_free_rule = addresses key.KeepFree pool_size
 abbrev pub timing_rule : Rule
 timing_rule = optional_table key.Timing
 
-abbrev pub unit_rule : Rule
-unit_rule = tables key.Unit unit_limit
+abbrev pub units_rule : Rule
+units_rule = tables key.Unit unit_limit
 
-abbrev pub group_rule : Rule
-group_rule = tables key.Group 256
+abbrev pub groups_rule : Rule
+groups_rule = tables key.Group 256
 
-abbrev pub flow_rule : Rule
-flow_rule = tables key.Flow 512
+abbrev pub flows_rule : Rule
+flows_rule = tables key.Flow 512
 
 -- the first keys of tables: a plan of the first version keeps no address free
 abbrev pub head_rules : Members → List Rule
 head_rules tree = if may_keep tree then version_rule ∷ keep_free_rule ∷ [] else version_rule ∷ []
 
 abbrev pub array_rules : List Rule
-array_rules = unit_rule ∷ group_rule ∷ flow_rule ∷ []
+array_rules = units_rule ∷ groups_rule ∷ flows_rule ∷ []
 
-abbrev pub timing_rules : Members → List Rule
-timing_rules tree = if is_third tree then timing_rule ∷ [] else []
+abbrev pub timing_head_rules : Members → List Rule
+timing_head_rules tree = if is_third tree then timing_rule ∷ [] else []
 
 abbrev pub top_rules : Members → List Rule
-top_rules tree = head_rules tree ++ (timing_rules tree ++ array_rules)
+top_rules tree = head_rules tree ++ (timing_head_rules tree ++ array_rules)
 
 -- the table of the bus itself: none in a version that doesn't know it
 abbrev pub timing_table : Members → Option Members
 timing_table tree = if is_third tree then table_of timing_rule tree else None
 
 abbrev pub unit_labels : Members → List (List ℕ)
-unit_labels tree = labels_of unit_label (tables_of unit_rule tree)
+unit_labels tree = labels_of unit_label_in (tables_of units_rule tree)
 
 abbrev pub group_labels : Members → List (List ℕ)
-group_labels tree = labels_of group_label (tables_of group_rule tree)
+group_labels tree = labels_of label_in (tables_of groups_rule tree)
 
 -- a flow has no label that another may not repeat
 abbrev pub no_label : Data → List ℕ
 no_label d = []
 
 abbrev pub units_faults : Members → List Fault
-units_faults tree = each_faults unit_faults unit_label 0 [] (tables_of unit_rule tree)
+units_faults tree = each_faults unit_faults unit_label_in 0 [] (tables_of units_rule tree)
 
 abbrev pub groups_faults : Members → List Fault
-groups_faults tree = each_faults (group_faults (is_third tree)) group_label 0 [] (tables_of group_rule tree)
+groups_faults tree = each_faults (group_faults (is_third tree)) label_in 0 [] (tables_of groups_rule tree)
 
 abbrev pub flows_faults : Members → List Fault
-flows_faults tree = each_faults (λ i seen. flow_faults (is_third tree) (group_labels tree) (unit_labels tree) i) no_label 0 [] (tables_of flow_rule tree)
+flows_faults tree = each_faults (λ i seen. flow_faults (is_third tree) (group_labels tree) (unit_labels tree) i) no_label 0 [] (tables_of flows_rule tree)
 
 -- a key that no rule names, and what stands at the version and at the addresses to keep free
 abbrev pub head_faults : Members → List Fault
@@ -85,7 +85,7 @@ head_faults tree = unknown_faults at.Top (map (λ r. r.key) (top_rules tree)) tr
 
 -- what stands at the key of the bus itself, and then the faults of its table
 abbrev pub timing_faults : Members → List Fault
-timing_faults tree = keys_faults at.Top tree (timing_rules tree) ++ option_map_or timing_table_faults (timing_table tree) []
+timing_faults tree = keys_faults at.Top tree (timing_head_rules tree) ++ option_map_or timing_table_faults (timing_table tree) []
 
 abbrev pub top_faults : Members → List Fault
 top_faults tree = head_faults tree ++ (timing_faults tree ++ keys_faults at.Top tree array_rules)

@@ -52,8 +52,8 @@ abbrev pub flow_rules : Bool → Members → List Rule
 flow_rules third ms = group_rule ∷ from_rule ∷ to_rule ∷ pace_rules third ms
 
 -- but in the third version, a flow has these keys
-abbrev pub OlderRules : Type 0
-OlderRules = (ms : Members) → flow_rules false ms ≡ group_rule ∷ from_rule ∷ to_rule ∷ []
+abbrev pub OlderFlowRules : Type 0
+OlderFlowRules = (ms : Members) → flow_rules false ms ≡ group_rule ∷ from_rule ∷ to_rule ∷ []
 
 -- the place of a label among others
 unfoldable pub place_of : List (List ℕ) → List ℕ → Option ℕ

@@ -9,14 +9,11 @@ use Rattle.j39_plan.specs.declared.reading.key.Key.TheVariants as key
 use Rattle.j39_plan.specs.declared.reading.place.Table.TheVariants as at
 use Rattle.j39_plan.specs.declared.reading.fault.Fault.{Fault}
 use Rattle.j39_plan.specs.declared.reading.text_kind.TextKind.TheVariants as texts
-use Rattle.j39_plan.specs.Schema.{Rule, number, optional, flag, text, tables, number_of, given_number, flag_of, text_of, tables_of}
+use Rattle.j39_plan.specs.Schema.{Rule, number, optional, flag, tables, number_of, given_number, flag_of, text_of, tables_of}
 use Rattle.j39_plan.specs.TableFaults.{table_faults, table_only_faults}
-use Rattle.j39_plan.specs.Elements.{inside, repeated_faults, each_faults, labels_of, Each}
-use Rattle.j39_plan.specs.SignalTables.{IsSignalOf, signal_label, signal_faults}
-use Rattle.j39_plan.specs.TextTables.{IsTextOf, text_label, text_faults}
-
-abbrev pub label_rule : Rule
-label_rule = text key.Label texts.Label None
+use Rattle.j39_plan.specs.Elements.{inside, repeated_faults, each_faults, labels_of, Each, label_in, label_rule}
+use Rattle.j39_plan.specs.SignalTables.{IsSignalOf, signal_faults}
+use Rattle.j39_plan.specs.TextTables.{IsTextOf, text_faults}
 
 abbrev pub pgn_rule : Rule
 pgn_rule = number key.Pgn 0 16777215 None
@@ -71,9 +68,9 @@ abbrev pub has_records : Bool → Members → Bool
 has_records third ms = is_some (every_of third ms)
 
 -- the tables of its texts: none in a version that doesn't know them
-abbrev pub texts_of : Bool → Members → Items
-texts_of true ms = tables_of text_rule ms
-texts_of false ms = no_items
+abbrev pub text_tables_of : Bool → Members → Items
+text_tables_of true ms = tables_of text_rule ms
+text_tables_of false ms = no_items
 
 -- the group that a table tells
 pub record TellsGroup (third : Bool) (ms : Members) (g : GroupPlan) : Type 0 where
@@ -85,11 +82,11 @@ pub record TellsGroup (third : Bool) (ms : Members) (g : GroupPlan) : Type 0 whe
   pub has_most : g.most ≡ most_of third (number_of length_rule ms) ms
   pub has_every : g.every ≡ every_of third ms
   pub has_signals : Each (IsSignalOf third) (tables_of signal_rule ms) g.signals.items
-  pub has_texts : Each IsTextOf (texts_of third ms) g.texts.items
+  pub has_texts : Each IsTextOf (text_tables_of third ms) g.texts.items
 
 -- but in the third version a group has these keys, and its messages have one length and no records
-abbrev pub OlderRules : Type 0
-OlderRules = (ms : Members) → group_rules false ms ≡ label_rule ∷ pgn_rule ∷ priority_rule ∷ length_rule ∷ signal_rule ∷ []
+abbrev pub OlderGroupRules : Type 0
+OlderGroupRules = (ms : Members) → group_rules false ms ≡ label_rule ∷ pgn_rule ∷ priority_rule ∷ length_rule ∷ signal_rule ∷ []
 
 abbrev pub OlderLengths : Type 0
 OlderLengths = (ms : Members) (g : GroupPlan) → TellsGroup false ms g → (g.most ≡ g.length) × (g.every ≡ None)
@@ -97,18 +94,15 @@ OlderLengths = (ms : Members) (g : GroupPlan) → TellsGroup false ms g → (g.m
 abbrev pub IsGroupOf : Bool → Data → GroupPlan → Type 0
 IsGroupOf third d g = TellsGroup third (inside d) g
 
-abbrev pub group_label : Data → List ℕ
-group_label d = text_of label_rule (inside d)
-
 abbrev pub signals_faults : Bool → ℕ → Members → List Fault
-signals_faults third g ms = each_faults (signal_faults third (has_records third ms) g) signal_label 0 [] (tables_of signal_rule ms)
+signals_faults third g ms = each_faults (signal_faults third (has_records third ms) g) label_in 0 [] (tables_of signal_rule ms)
 
 -- of its texts, whose labels none of its signals may have either
 abbrev pub signal_labels : Members → List (List ℕ)
-signal_labels ms = labels_of signal_label (tables_of signal_rule ms)
+signal_labels ms = labels_of label_in (tables_of signal_rule ms)
 
 abbrev pub texts_faults : Bool → ℕ → Members → List Fault
-texts_faults third g ms = each_faults (text_faults (signal_labels ms) g) text_label 0 [] (texts_of third ms)
+texts_faults third g ms = each_faults (text_faults (signal_labels ms) g) label_in 0 [] (text_tables_of third ms)
 
 unfoldable pub group_table_faults : Bool → ℕ → Members → List Fault
 group_table_faults third g ms =
@@ -118,4 +112,4 @@ group_table_faults third g ms =
 unfoldable pub group_faults : Bool → ℕ → List (List ℕ) → Data → List Fault
 group_faults third g seen d = table_only_faults (at.Group g) d
     ++ option_map_or (group_table_faults third g) (as_table d) []
-    ++ repeated_faults (at.Group g) texts.Label seen (group_label d)
+    ++ repeated_faults (at.Group g) texts.Label seen (label_in d)

@@ -8,10 +8,10 @@ use Rattle.j39_plan.specs.TableFaults.{table_faults}
 use Rattle.j39_plan.specs.Elements.{inside}
 use Rattle.j39_plan.specs.SignalTables.{signal_faults}
 use Rattle.j39_plan.specs.UnitTables.{unit_faults}
-use Rattle.j39_plan.specs.GroupTables.{group_rules, has_records, signal_rule, signal_labels, signals_faults, texts_of, group_faults}
+use Rattle.j39_plan.specs.GroupTables.{group_rules, has_records, signal_rule, signal_labels, signals_faults, text_tables_of, group_faults}
 use Rattle.j39_plan.specs.TextTables.{text_faults}
 use Rattle.j39_plan.specs.FlowTables.{flow_faults}
-use Rattle.j39_plan.specs.Faults.{top_faults, unit_rule, group_rule, flow_rule, units_faults, groups_faults, group_labels, unit_labels, is_third}
+use Rattle.j39_plan.specs.Faults.{top_faults, units_rule, groups_rule, flows_rule, units_faults, groups_faults, group_labels, unit_labels, is_third}
 
 -- the reader of an element asks for none
 abbrev pub NeverGrows : ℕ → Data → Type 0
@@ -26,7 +26,7 @@ EachGrows faults Grows (item d ds) = Grows 0 d ⊎ (faults 0 [] d ≡ [])
 abbrev pub GroupGrows : Bool → ℕ → Members → Type 0
 GroupGrows third g ms = (table_faults (at.Group g) (group_rules third ms) ms ≡ [])
     × (EachGrows (signal_faults third (has_records third ms) g) NeverGrows (tables_of signal_rule ms)
-    ⊎ ((signals_faults third g ms ≡ []) × EachGrows (text_faults (signal_labels ms) g) NeverGrows (texts_of third ms)))
+    ⊎ ((signals_faults third g ms ≡ []) × EachGrows (text_faults (signal_labels ms) g) NeverGrows (text_tables_of third ms)))
 
 abbrev pub GroupElementGrows : Bool → ℕ → Data → Type 0
 GroupElementGrows third g d = GroupGrows third g (inside d)
@@ -34,6 +34,6 @@ GroupElementGrows third g d = GroupGrows third g (inside d)
 -- in a plan, whose top table has no fault, among its units, behind these among its groups, or behind these among its flows
 abbrev pub PlanGrows : Members → Type 0
 PlanGrows tree = (top_faults tree ≡ [])
-    × (EachGrows unit_faults NeverGrows (tables_of unit_rule tree)
-    ⊎ ((units_faults tree ≡ []) × (EachGrows (group_faults (is_third tree)) (GroupElementGrows (is_third tree)) (tables_of group_rule tree)
-    ⊎ ((groups_faults tree ≡ []) × EachGrows (λ i seen. flow_faults (is_third tree) (group_labels tree) (unit_labels tree) i) NeverGrows (tables_of flow_rule tree)))))
+    × (EachGrows unit_faults NeverGrows (tables_of units_rule tree)
+    ⊎ ((units_faults tree ≡ []) × (EachGrows (group_faults (is_third tree)) (GroupElementGrows (is_third tree)) (tables_of groups_rule tree)
+    ⊎ ((groups_faults tree ≡ []) × EachGrows (λ i seen. flow_faults (is_third tree) (group_labels tree) (unit_labels tree) i) NeverGrows (tables_of flows_rule tree)))))

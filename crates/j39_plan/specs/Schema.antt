@@ -56,8 +56,8 @@ abbrev pub optional_table : Key → Rule
 optional_table k = record { key = k; kind = given_table; default = None }
 
 -- one of two numbers
-abbrev pub either : Key → ℕ → ℕ → Rule
-either k one other = record { key = k; kind = one_of_both one other; default = None }
+abbrev pub either_number : Key → ℕ → ℕ → Rule
+either_number k one other = record { key = k; kind = one_of_both one other; default = None }
 
 abbrev pub tables : Key → ℕ → Rule
 tables k limit = record { key = k; kind = tables_up_to limit; default = Some (array no_items) }

@@ -16,10 +16,7 @@ use Rattle.j39_plan.specs.declared.reading.fault.Fault.{Fault}
 use Rattle.j39_plan.specs.declared.reading.text_kind.TextKind.TheVariants as texts
 use Rattle.j39_plan.specs.Schema.{Rule, number, signed, divisor, flag_if, text, number_of, integer_of, flag_of, text_of}
 use Rattle.j39_plan.specs.TableFaults.{table_faults, table_only_faults}
-use Rattle.j39_plan.specs.Elements.{inside, repeated_faults}
-
-abbrev pub label_rule : Rule
-label_rule = text key.Label texts.Label None
+use Rattle.j39_plan.specs.Elements.{inside, label_in, label_rule, repeated_faults}
 
 abbrev pub byte_rule : Rule
 byte_rule = number key.Byte 1 message_bytes None
@@ -87,8 +84,8 @@ signal_rules third records ms = place_rules third ++ scale_rules third records (
 -- ---- a law
 
 -- but in the third version, a signal has these keys, with these ranges and kinds
-abbrev pub OlderRules : Type 0
-OlderRules = (records : Bool) (ms : Members) → signal_rules false records ms
+abbrev pub OlderSignalRules : Type 0
+OlderSignalRules = (records : Bool) (ms : Members) → signal_rules false records ms
     ≡ label_rule ∷ byte_rule ∷ bit_rule ∷ bits_rule ∷ text key.Kind texts.SignalKind None ∷ number key.Step 1 1000000 (Some 1)
     ∷ signed key.Offset (negsuc 999999999999) (pos 1000000000000) (Some (pos 0)) ∷ text key.Unit texts.SignalUnit (Some []) ∷ []
 
@@ -129,9 +126,6 @@ pub record IsFit (records : Bool) (s : SignalParts) : Type 0 where
   pub ranges : IsSignal s.start s.bits s.step s.offset
   pub single : records ≡ false → s.repeated ≡ false
 
-abbrev pub signal_label : Data → List ℕ
-signal_label d = text_of label_rule (inside d)
-
 unfoldable pub signal_table_faults : Bool → Bool → Table → Members → List Fault
 signal_table_faults third records at ms = table_faults at (signal_rules third records ms) ms
 
@@ -139,4 +133,4 @@ signal_table_faults third records at ms = table_faults at (signal_rules third re
 unfoldable pub signal_faults : Bool → Bool → ℕ → ℕ → List (List ℕ) → Data → List Fault
 signal_faults third records g i seen d = table_only_faults (at.Signal g i) d
     ++ option_map_or (signal_table_faults third records (at.Signal g i)) (as_table d) []
-    ++ repeated_faults (at.Signal g i) texts.Label seen (signal_label d)
+    ++ repeated_faults (at.Signal g i) texts.Label seen (label_in d)

@@ -38,43 +38,43 @@ abbrev pub range_cause : ℤ → ℤ → ℤ → Option Cause
 range_cause low high z = if int_lt z low || int_lt high z then Some Range else None
 
 -- the first cause for which a value is refused
-abbrev pub cause_of : Kind → Data → Option Cause
-cause_of (integer_in low high) (integer z) = range_cause low high z
-cause_of (given_integer_in low high) (integer z) = range_cause low high z
-cause_of flag_value (boolean b) = None
-cause_of (flag_where may) (boolean b) = if b && not may then Some Range else None
-cause_of (text_of_kind kind) (string s) = if takes kind s then None else Some Range
-cause_of one_table (table ms) = None
-cause_of given_table (table ms) = None
-cause_of (one_of_both one other) (integer z) = if natural z == one || natural z == other then None else Some Range
-cause_of (tables_up_to limit) (array ds) = if nat_le (items_count ds) limit then None else Some TooMany
-cause_of (addresses_up_to limit) (array ds) = if nat_le (items_count ds) limit then addresses_cause empty ds else Some TooMany
-cause_of (divisor_up_to limit) (integer z) =
+abbrev pub value_cause : Kind → Data → Option Cause
+value_cause (integer_in low high) (integer z) = range_cause low high z
+value_cause (given_integer_in low high) (integer z) = range_cause low high z
+value_cause flag_value (boolean b) = None
+value_cause (flag_where may) (boolean b) = if b && not may then Some Range else None
+value_cause (text_of_kind kind) (string s) = if takes kind s then None else Some Range
+value_cause one_table (table ms) = None
+value_cause given_table (table ms) = None
+value_cause (one_of_both one other) (integer z) = if natural z == one || natural z == other then None else Some Range
+value_cause (tables_up_to limit) (array ds) = if nat_le (items_count ds) limit then None else Some TooMany
+value_cause (addresses_up_to limit) (array ds) = if nat_le (items_count ds) limit then addresses_cause empty ds else Some TooMany
+value_cause (divisor_up_to limit) (integer z) =
     if divides_decimally (natural z) && nat_le (natural z) limit then None else Some Range
-cause_of _ _ = Some WrongType
+value_cause _ _ = Some WrongType
 
 -- the cause for which what stands at a key is refused
-abbrev pub refusal : Kind → Option Data → Option Cause
-refusal (given_integer_in low high) None = None
-refusal given_table None = None
-refusal kind None = Some Missing
-refusal kind (Some d) = cause_of kind d
+abbrev pub standing_cause : Kind → Option Data → Option Cause
+standing_cause (given_integer_in low high) None = None
+standing_cause given_table None = None
+standing_cause kind None = Some Missing
+standing_cause kind (Some d) = value_cause kind d
 
 unfoldable pub key_faults : Table → Members → Rule → List Fault
-key_faults at ms r = option_map_or (λ cause. fault cause at (Some r.key) ∷ []) (refusal r.kind (standing r ms)) []
+key_faults at ms r = option_map_or (λ cause. fault cause at (Some r.key) ∷ []) (standing_cause r.kind (standing r ms)) []
 
 abbrev pub keys_faults : Table → Members → List Rule → List Fault
 keys_faults at ms [] = []
 keys_faults at ms (r ∷ rules) = key_faults at ms r ++ keys_faults at ms rules
 
 -- one of the keys is spelled so
-abbrev pub is_named : List Key → List ℕ → Bool
-is_named keys name = list_any (λ key. bytes_eq (word_of key) name) keys
+abbrev pub is_key_word : List Key → List ℕ → Bool
+is_key_word keys name = list_any (λ key. bytes_eq (word_of key) name) keys
 
 -- each key of the table is one of these
 abbrev pub has_only : List Key → Members → Bool
 has_only keys no_members = true
-has_only keys (member k d ms) = is_named keys k && has_only keys ms
+has_only keys (member k d ms) = is_key_word keys k && has_only keys ms
 
 unfoldable pub unknown_faults : Table → List Key → Members → List Fault
 unknown_faults at keys ms = if has_only keys ms then [] else fault UnknownKey at None ∷ []

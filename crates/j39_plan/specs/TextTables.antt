@@ -1,5 +1,5 @@
 -- The tables of texts, which the third version alone knows.
-use Rattle.std.specs.Prelude.{◌≡◌, ℕ, List, ◌∷◌, ◌++◌, [], None}
+use Rattle.std.specs.Prelude.{◌≡◌, ℕ, List, ◌∷◌, ◌++◌, []}
 use Rattle.std.specs.Option.{option_map_or}
 use Rattle.toml.specs.Data.{Data, Members, as_table}
 use Rattle.j39_id.specs.Limits.{message_bytes}
@@ -9,15 +9,10 @@ use Rattle.j39_plan.specs.declared.reading.place.Table.{Table}
 use Rattle.j39_plan.specs.declared.reading.place.Table.TheVariants as at
 use Rattle.j39_plan.specs.declared.reading.fault.Fault.{Fault}
 use Rattle.j39_plan.specs.declared.reading.text_kind.TextKind.TheVariants as texts
-use Rattle.j39_plan.specs.Schema.{Rule, number, optional, text, number_of, given_number, text_of}
+use Rattle.j39_plan.specs.Schema.{Rule, optional, number_of, given_number, text_of}
 use Rattle.j39_plan.specs.TableFaults.{table_faults, table_only_faults}
-use Rattle.j39_plan.specs.Elements.{inside, repeated_faults}
-
-abbrev pub label_rule : Rule
-label_rule = text key.Label texts.Label None
-
-abbrev pub byte_rule : Rule
-byte_rule = number key.Byte 1 message_bytes None
+use Rattle.j39_plan.specs.Elements.{inside, label_in, label_rule, repeated_faults}
+use Rattle.j39_plan.specs.SignalTables.{byte_rule}
 
 abbrev pub bytes_rule : Rule
 bytes_rule = optional key.Bytes 1 message_bytes
@@ -34,9 +29,6 @@ pub record TellsText (ms : Members) (t : TextPlan) : Type 0 where
 abbrev pub IsTextOf : Data → TextPlan → Type 0
 IsTextOf d t = TellsText (inside d) t
 
-abbrev pub text_label : Data → List ℕ
-text_label d = text_of label_rule (inside d)
-
 unfoldable pub text_table_faults : Table → Members → List Fault
 text_table_faults at ms = table_faults at text_rules ms
 
@@ -44,4 +36,4 @@ text_table_faults at ms = table_faults at text_rules ms
 unfoldable pub text_faults : List (List ℕ) → ℕ → ℕ → List (List ℕ) → Data → List Fault
 text_faults taken g i seen d = table_only_faults (at.Text g i) d
     ++ option_map_or (text_table_faults (at.Text g i)) (as_table d) []
-    ++ repeated_faults (at.Text g i) texts.Label (taken ++ seen) (text_label d)
+    ++ repeated_faults (at.Text g i) texts.Label (taken ++ seen) (label_in d)

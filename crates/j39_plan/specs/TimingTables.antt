@@ -7,11 +7,11 @@ use Rattle.j39_findings.specs.declared.plan.timing.Timing.{Timing}
 use Rattle.j39_plan.specs.declared.reading.key.Key.TheVariants as key
 use Rattle.j39_plan.specs.declared.reading.place.Table.TheVariants as at
 use Rattle.j39_plan.specs.declared.reading.fault.Fault.{Fault}
-use Rattle.j39_plan.specs.Schema.{Rule, number, either, number_of}
+use Rattle.j39_plan.specs.Schema.{Rule, number, either_number, number_of}
 use Rattle.j39_plan.specs.TableFaults.{table_faults}
 
 abbrev pub bitrate_rule : Rule
-bitrate_rule = either key.Bitrate 250000 500000
+bitrate_rule = either_number key.Bitrate 250000 500000
 
 abbrev pub unplanned_rule : Rule
 unplanned_rule = number key.Unplanned 0 1000 None

@@ -50,8 +50,8 @@ name_rules = identity_rule ∷ manufacturer_rule ∷ ecu_rule ∷ function_insta
     ∷ system_rule ∷ system_instance_rule ∷ industry_rule ∷ arbitrary_rule ∷ []
 
 -- the fields that a table tells; the reserved bit of a planned NAME is 0
-unfoldable pub fields_of : Members → NameFields
-fields_of ms = record {
+unfoldable pub name_fields_of : Members → NameFields
+name_fields_of ms = record {
   identity = number_of identity_rule ms;
   manufacturer = number_of manufacturer_rule ms;
   ecu = number_of ecu_rule ms;
@@ -69,8 +69,8 @@ name_faults i = table_faults (at.UnitName i) name_rules
 
 -- ---- the unit
 
-abbrev pub label_rule : Rule
-label_rule = text key.Label texts.UnitLabel None
+abbrev pub unit_label_rule : Rule
+unit_label_rule = text key.Label texts.UnitLabel None
 
 abbrev pub address_rule : Rule
 address_rule = number key.Address 0 253 None
@@ -85,24 +85,24 @@ abbrev pub name_rule : Rule
 name_rule = inner_table key.Name
 
 abbrev pub unit_rules : List Rule
-unit_rules = label_rule ∷ address_rule ∷ chooser_rule ∷ window_rule ∷ name_rule ∷ []
+unit_rules = unit_label_rule ∷ address_rule ∷ chooser_rule ∷ window_rule ∷ name_rule ∷ []
 
 abbrev pub way_of : List ℕ → Way
 way_of t = if bytes_eq t (codes "upward") then Upward else Lowest
 
 -- the unit that a table tells
 pub record TellsUnit (ms : Members) (u : UnitPlan) : Type 0 where
-  pub has_label : u.label.bytes ≡ text_of label_rule ms
+  pub has_label : u.label.bytes ≡ text_of unit_label_rule ms
   pub has_address : u.address ≡ number_of address_rule ms
   pub has_way : u.way ≡ way_of (text_of chooser_rule ms)
   pub has_window : u.window ≡ number_of window_rule ms
-  pub has_name : u.name ≡ name_number (fields_of (unwrap_or (table_of name_rule ms) no_members))
+  pub has_name : u.name ≡ name_number (name_fields_of (unwrap_or (table_of name_rule ms) no_members))
 
 abbrev pub IsUnitOf : Data → UnitPlan → Type 0
 IsUnitOf d u = TellsUnit (inside d) u
 
-abbrev pub unit_label : Data → List ℕ
-unit_label d = text_of label_rule (inside d)
+abbrev pub unit_label_in : Data → List ℕ
+unit_label_in d = text_of unit_label_rule (inside d)
 
 unfoldable pub unit_table_faults : ℕ → Members → List Fault
 unit_table_faults i ms = table_faults (at.Unit i) unit_rules ms ++ option_map_or (name_faults i) (table_of name_rule ms) []
@@ -111,4 +111,4 @@ unit_table_faults i ms = table_faults (at.Unit i) unit_rules ms ++ option_map_or
 unfoldable pub unit_faults : ℕ → List (List ℕ) → Data → List Fault
 unit_faults i seen d = table_only_faults (at.Unit i) d
     ++ option_map_or (unit_table_faults i) (as_table d) []
-    ++ repeated_faults (at.Unit i) texts.UnitLabel seen (unit_label d)
+    ++ repeated_faults (at.Unit i) texts.UnitLabel seen (unit_label_in d)

@@ -1,9 +1,9 @@
 //! The laws of what a plan file describes.
 ghost use Rattle.std.specs.Prelude.{ℕ, List};
 ghost use Rattle.j39_plan.specs.OnePlan.{HasOneAnswer};
-ghost use Rattle.j39_plan.specs.GroupTables.{OlderLengths, OlderRules as OlderGroupRules};
-ghost use Rattle.j39_plan.specs.SignalTables.{OlderRules};
-ghost use Rattle.j39_plan.specs.FlowTables.{OlderRules as OlderFlowRules};
+ghost use Rattle.j39_plan.specs.GroupTables.{OlderLengths, OlderGroupRules};
+ghost use Rattle.j39_plan.specs.SignalTables.{OlderSignalRules};
+ghost use Rattle.j39_plan.specs.FlowTables.{OlderFlowRules};
 
 /// But for want of memory, the definition allows one answer for a file: it describes one plan, or it has one first fault, or it
 /// is no TOML text, and never two of these. Two plans are one where they keep the same addresses free and have the same
@@ -17,6 +17,6 @@ pub fn a_file_describes_one_plan()
 pub fn older_versions_know_what_they_knew()
     ensures groups { OlderGroupRules }
     ensures lengths { OlderLengths }
-    ensures signals { OlderRules }
+    ensures signals { OlderSignalRules }
     ensures flows { OlderFlowRules }
 {}

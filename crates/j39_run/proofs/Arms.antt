@@ -7,7 +7,7 @@ use Rattle.j39_findings.specs.declared.plan.Plan.{Plan}
 use Rattle.j39_findings.specs.declared.steps.Step.{Step}
 use Rattle.j39_world.specs.declared.step_error.StepError.{StepError}
 use Rattle.j39_world.specs.Run.{cause_of, refusal}
-use Rattle.j39_world.specs.World.{World, first as first_world}
+use Rattle.j39_world.specs.World.{World, all_off as first_world}
 use Rattle.j39_bus.specs.BusState.{BusState}
 use Rattle.j39_bus.specs.Stands.{Stands}
 use Rattle.j39_schedule.specs.declared.line_fault.LineFault.{LineFault}

@@ -15,7 +15,7 @@ use Rattle.j39_world.specs.Run.{StepsTo, RunsThrough, refusal}
 use Rattle.j39_world.specs.Sent.{sent_of}
 use Rattle.j39_world.specs.Sound.{IsQuiet}
 use Rattle.j39_bus.specs.Stands.{Stands}
-use Rattle.j39_world.specs.World.{Stations, World, first}
+use Rattle.j39_world.specs.World.{Stations, World, all_off}
 use Rattle.j39_schedule.specs.Schedule.{Reading, line_order, read_as, readings_of}
 use Rattle.j39_schedule.specs.declared.line_fault.LineFault.{LineFault}
 use Rattle.j39_stream.specs.Streams.{AppendsPart}
@@ -24,7 +24,7 @@ use Rattle.j39_run.specs.RunText.{EndsAt, IsBusText, closing_text, end_text, sen
 use Rattle.j39_run.specs.Views.{Shows, View, unit_state}
 use Rattle.j39_run.specs.declared.halt.Halt.{Halt}
 use Rattle.j39_run.specs.declared.halt.Halt.TheVariants.{End, Step as AtStep, Line as AtLine}
-use Rattle.j39_run.specs.inside.Doing.{HasDone, HasStepped}
+use Rattle.j39_run.specs.inside.Doing.{HasDone, HasShown}
 use Rattle.j39_run.proofs.Frames.{lines_grow}
 use Rattle.j39_run.proofs.Quiet.{quiet_test}
 
@@ -40,13 +40,13 @@ runs-append : (plan : Plan) (w : World) (done : List Step) (mid : World) (more :
 runs-append plan w [] mid more after ran runs = subst (λ (v : World). RunsThrough plan v more after) ran runs
 runs-append plan w (s ∷ done) mid more after (next, may, goes, ran) runs = (next, may, goes, runs-append plan next done mid more after ran runs)
 
-pub nothing_done : (plan : Plan) (b : BusState) → Stands b plan first → HasDone plan b [] 0 [] []
+pub nothing_done : (plan : Plan) (b : BusState) → Stands b plan all_off → HasDone plan b [] 0 [] []
 unfolding sent_lines
 nothing_done plan b s = record {
   orders = [];
   read = refl;
   count = refl;
-  world = first;
+  world = all_off;
   ran = refl;
   stands = s;
   shown = ap (λ (v : World). sent_lines v.frames) s.world;
@@ -64,8 +64,8 @@ one_more plan old new ls l order place written text more after h is runs s shown
       ∙ sym (map-append read_as h.orders (order ∷ []));
   count = length-append h.orders (order ∷ []) ∙ ap (λ (n : ℕ). n + 1) h.count;
   world = after;
-  ran = subst (λ (steps : List Step). RunsThrough plan first steps after) (sym (steps-append h.orders (order ∷ [])))
-      (runs-append plan first (steps_of h.orders) h.world (steps_of (order ∷ [])) after h.ran runs);
+  ran = subst (λ (steps : List Step). RunsThrough plan all_off steps after) (sym (steps-append h.orders (order ∷ [])))
+      (runs-append plan all_off (steps_of h.orders) h.world (steps_of (order ∷ [])) after h.ran runs);
   stands = s;
   shown = shown;
 }
@@ -75,7 +75,7 @@ pub blank_done : (plan : Plan) (b : BusState) (ls : List Line) (l : Line) (place
 blank_done plan b ls l place written text h is = one_more plan b b ls l None place written text text h.world h is refl h.stands h.shown
 
 pub step_done : (plan : Plan) (old new : BusState) (ls : List Line) (l : Line) (step : Step) (place : ℕ) (written text more : List ℕ)
-    → HasDone plan old ls place written text → line_order plan l ≡ read_as (Some step) → HasStepped step old new text more
+    → HasDone plan old ls place written text → line_order plan l ≡ read_as (Some step) → HasShown step old new text more
     → HasDone plan new (ls ++ l ∷ []) (place + 1) written more
 step_done plan old new ls l step place written text more h is done =
     let (allowed, (after, leads, s)) = done.leads plan h.world h.stands in
@@ -86,7 +86,7 @@ step_done plan old new ls l step place written text more h is done =
 pub has_stepped : (step : Step) (old new : BusState) (text more : List ℕ) (before now : List Frame) (place : ℕ)
     → ((p : Plan) (w : World) → Stands old p w → (refusal p w step ≡ None) × ((after : World) × StepsTo p w step after × Stands new p after))
     → map sent_of before ≡ old.frames → map sent_of now ≡ new.frames → place ≡ length before → more ≡ text ++ sent_lines (map sent_of (drop place now))
-    → HasStepped step old new text more
+    → HasShown step old new text more
 has_stepped step old new text more before now place leads had has at more_is = record {
   leads = leads;
   shown = λ plan w stands written so_far.

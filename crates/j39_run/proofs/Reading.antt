@@ -6,7 +6,7 @@ use Rattle.std.proofs.Math.Seq.{take-add}
 use Rattle.std.specs.Prelude.{unwrap_or}
 use Rattle.std.specs.Option.{option_copied}
 use Rattle.std.specs.Io.KnownBytes.{Consumes, IsAtEnd}
-use Rattle.j39_id.specs.Lines.{Line, Pending, answer_to, answer_to_end, at_start, behind, behind_all, given, lines, tells, told, told_at_end}
+use Rattle.j39_id.specs.Lines.{Line, Pending, answer_to, answer_to_end, at_start, behind, behind_all, cutter_line, lines, tells, told, told_at_end}
 use Rattle.j39_id.specs.declared.cut.Cut.{Cut}
 use Rattle.j39_id.specs.declared.cut.Cut.TheVariants as cuts
 use Rattle.j39_id.proofs.CutLines.{tells_lines, told-append, behind_all-append}
@@ -17,7 +17,7 @@ use Rattle.j39_stream.specs.declared.limits.Limits.{Limits}
 use Rattle.j39_stream.proofs.Parts.{front_of, none_read}
 use Rattle.j39_run.specs.declared.next.Next.{Next}
 use Rattle.j39_run.specs.declared.next.Next.TheVariants.{Wait, More, Blank, Step as AStep, Refused, End}
-use Rattle.j39_run.specs.inside.Feeding.{Comes, Feeding, GoesOn, HasEnded, IsBegin, IsEnding, IsFed, IsFedSo, IsNext, IsReading, MeetsBegin, unfed}
+use Rattle.j39_run.specs.inside.Feeding.{Comes, Feeding, TellsFurther, HasEnded, IsBegin, IsEnding, IsFed, IsFedSo, IsReadNext, IsReading, MeetsBegin, unfed}
 
 -- ---- a piece
 
@@ -60,7 +60,7 @@ passes first a b p q r old seen ls going long fed =
 
 -- ---- what is told
 
-tells_given : (cut : Cut) (p : Pending) → tells cut (given cut p) ≡ tells cut p.held
+tells_given : (cut : Cut) (p : Pending) → tells cut (cutter_line cut p) ≡ tells cut p.held
 tells_given cuts.More p = refl
 tells_given cuts.Line p = refl
 tells_given cuts.Long p = refl
@@ -72,7 +72,7 @@ ended_all p seen ls (inl (told_is, at)) = ap (λ (l : List Line). l ++ told_at_e
 ended_all p seen ls (inr (told_is, at)) = ap (λ (r : Pending). ls ++ told_at_end r) at ∙ append-nil ls ∙ told_is
 
 pub goes_on : (plan : Plan) (next : Next) (first now : Option (List ℕ)) (p q : ℕ) (f : Feeding) (seen : List ℕ) (ls : List Line) (more : List Line)
-    → IsNext plan next more → GoesOn plan next first now p q f seen ls → Comes plan next first now p q f seen ls
+    → IsReadNext plan next more → TellsFurther plan next first now p q f seen ls → Comes plan next first now p q f seen ls
 goes_on plan Wait first now p q f seen ls more is goes = absurd is
 goes_on plan More first now p q f seen ls more is goes = goes
 goes_on plan Blank first now p q f seen ls more is goes = goes
@@ -98,7 +98,7 @@ last_told first now p q old new seen ls more over still start is fed =
 
 pub last_line : (plan : Plan) (next : Next) (first now : Option (List ℕ)) (p q : ℕ) (old new : Feeding) (seen : List ℕ) (ls more : List Line)
     → old.ended ≡ true → new.ended ≡ true
-    → new.pending ≡ at_start → more ≡ told_at_end old.pending → IsNext plan next more → IsFed first now p q old seen ls
+    → new.pending ≡ at_start → more ≡ told_at_end old.pending → IsReadNext plan next more → IsFed first now p q old seen ls
     → Comes plan next first now p q new seen ls
 last_line plan next first now p q old new seen ls more over still start is told_next fed =
     goes_on plan next first now p q new seen ls more told_next
@@ -144,7 +144,7 @@ part_told first now p q old new seen part ls more going still same row at told_i
 pub next_part : (plan : Plan) (next : Next) (first now : Option (List ℕ)) (p q : ℕ) (old new : Feeding) (seen part : List ℕ) (ls more : List Line)
     → old.ended ≡ false → new.ended ≡ false
     → new.counts ≡ old.counts → old.unread ≡ part ++ new.unread → new.pending ≡ behind_all old.pending part → told old.pending part ≡ more
-    → IsNext plan next more
+    → IsReadNext plan next more
     → IsFed first now p q old seen ls → Comes plan next first now p q new seen ls
 next_part plan next first now p q old new seen part ls more going still same row at told_is told_next fed =
     goes_on plan next first now p q new seen ls more told_next
@@ -298,5 +298,5 @@ line_given None line = refl
 line_given (Some w) line = refl
 
 -- what a cutter tells at the end
-pub tells_end : (cut : Cut) (p : Pending) (line : List ℕ) → cut ≡ answer_to_end p → line ≡ given cut p → tells cut line ≡ told_at_end p
+pub tells_end : (cut : Cut) (p : Pending) (line : List ℕ) → cut ≡ answer_to_end p → line ≡ cutter_line cut p → tells cut line ≡ told_at_end p
 tells_end cut p line answered gave = ap (tells cut) gave ∙ tells_given cut p ∙ ap (λ (k : Cut). tells k p.held) answered

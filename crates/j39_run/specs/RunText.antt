@@ -13,7 +13,7 @@ use Rattle.j39_world.specs.Opening.{CanOpen, IsNotOpened}
 use Rattle.j39_world.specs.Run.{refusal, RunsThrough}
 use Rattle.j39_world.specs.Sent.{Sent}
 use Rattle.j39_world.specs.Transfers.{Reported}
-use Rattle.j39_world.specs.World.{World, first}
+use Rattle.j39_world.specs.World.{World, all_off}
 use Rattle.j39_text.specs.Labels.{group_text, unit_label, units_text}
 use Rattle.j39_id.specs.Lines.{at_start, is_line_feed, told}
 use Rattle.j39_schedule.specs.Schedule.{Reading, read_as, readings_of}
@@ -52,13 +52,13 @@ steps_of (Some step ∷ orders) = step ∷ steps_of orders
 -- them, at a step that is refused, or at a line that can't be read
 abbrev pub EndsAt : Plan → List Reading → World → Halt → Type 0
 EndsAt plan readings w End =
-    (orders : List (Option Step)) × (readings ≡ map read_as orders) × RunsThrough plan first (steps_of orders) w
+    (orders : List (Option Step)) × (readings ≡ map read_as orders) × RunsThrough plan all_off (steps_of orders) w
 EndsAt plan readings w (AtStep place cause) =
     (orders : List (Option Step)) × (step : Step) × (more : List Reading) × (readings ≡ map read_as orders ++ read_as (Some step) ∷ more)
-    × (length orders ≡ place) × RunsThrough plan first (steps_of orders) w × (refusal plan w step ≡ Some cause)
+    × (length orders ≡ place) × RunsThrough plan all_off (steps_of orders) w × (refusal plan w step ≡ Some cause)
 EndsAt plan readings w (AtLine place fault) =
     (orders : List (Option Step)) × (more : List Reading) × (readings ≡ map read_as orders ++ Err fault ∷ more)
-    × (length orders ≡ place) × RunsThrough plan first (steps_of orders) w
+    × (length orders ≡ place) × RunsThrough plan all_off (steps_of orders) w
 
 abbrev pub verdict_of : Halt → Verdict
 verdict_of End = Done
@@ -153,14 +153,14 @@ IsBusText plan bytes halt text =
     (w : World) × (view : View) × EndsAt plan (readings_of plan bytes) w halt × Shows plan w view × (text ≡ end_text plan view halt)
 
 -- the text of a run of the schedule that ends so
-abbrev pub IsTextOf : Plan → ℕ → List ℕ → Halt → List ℕ → Type 0
-IsTextOf plan choosers bytes halt text = CanOpen choosers plan × IsBusText plan bytes halt text
+abbrev pub IsTextOfRun : Plan → ℕ → List ℕ → Halt → List ℕ → Type 0
+IsTextOfRun plan choosers bytes halt text = CanOpen choosers plan × IsBusText plan bytes halt text
 
 -- what is written for a plan with this many choosers and the bytes of a schedule, with the verdict
 abbrev pub IsRunText : Plan → ℕ → List ℕ → List ℕ → Verdict → Type 0
 IsRunText plan choosers bytes text verdict =
     (IsRefusedPlan plan choosers text × (verdict ≡ Refused))
-    ⊎ ((halt : Halt) × IsTextOf plan choosers bytes halt text × (verdict ≡ verdict_of halt))
+    ⊎ ((halt : Halt) × IsTextOfRun plan choosers bytes halt text × (verdict ≡ verdict_of halt))
 
 -- ---- what stands behind a refused line
 
@@ -174,10 +174,10 @@ IsWithin n (AtLine place fault) = place < n
 abbrev pub IsSameForContinuations : Type 0
 IsSameForContinuations =
     (plan : Plan) (choosers : ℕ) (front more other : List ℕ) (halt : Halt) (text : List ℕ) → IsWithin (length (slice_split is_line_feed front)) halt
-    → IsTextOf plan choosers (front ++ 10 ∷ more) halt text → IsTextOf plan choosers (front ++ 10 ∷ other) halt text
+    → IsTextOfRun plan choosers (front ++ 10 ∷ more) halt text → IsTextOfRun plan choosers (front ++ 10 ∷ other) halt text
 
 -- so it is where a line is refused that a cutter tells of what came, be it ended or too long before it has ended
 abbrev pub IsSameOnceTold : Type 0
 IsSameOnceTold =
     (plan : Plan) (choosers : ℕ) (front more other : List ℕ) (halt : Halt) (text : List ℕ) → IsWithin (length (told at_start front)) halt
-    → IsTextOf plan choosers (front ++ more) halt text → IsTextOf plan choosers (front ++ other) halt text
+    → IsTextOfRun plan choosers (front ++ more) halt text → IsTextOfRun plan choosers (front ++ other) halt text

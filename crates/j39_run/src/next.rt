@@ -2,7 +2,7 @@
 ghost use Rattle.std.specs.Prelude.{IfOk, OnErr};
 ghost use Rattle.j39_id.specs.Lines.{tells};
 ghost use Rattle.j39_schedule.specs.UnitIndexes.{IsIndexOf};
-ghost use Rattle.j39_run.specs.inside.Feeding.{IsBegin, IsNext};
+ghost use Rattle.j39_run.specs.inside.Feeding.{IsBegin, IsReadNext};
 
 use j39_findings::{Plan, Step};
 use j39_id::Cut;
@@ -29,7 +29,7 @@ pub enum Next {
 /// What a line orders.
 fn next_line(alloc: Global, index: &UnitIndex, plan: &Plan, line: &[u8]) -> Result<Next, AllocError>
     requires { IsIndexOf plan.now index.now }
-    ensures is { IfOk result (λ next. IsNext plan.now next (tells Cut.Line line.now)) }
+    ensures is { IfOk result (λ next. IsReadNext plan.now next (tells Cut.Line line.now)) }
     ensures memory { OnErr result (IsBegin plan.now (tells Cut.Line line.now)) }
 {
     match read_line(alloc, index, plan, line) {
@@ -49,7 +49,7 @@ pub fn next_of(
     line: &[u8],
 ) -> Result<Next, AllocError>
     requires { IsIndexOf plan.now index.now }
-    ensures is { IfOk result (λ next. IsNext plan.now next (tells cut line.now)) }
+    ensures is { IfOk result (λ next. IsReadNext plan.now next (tells cut line.now)) }
     ensures memory { OnErr result (IsBegin plan.now (tells cut line.now)) }
 {
     match cut {

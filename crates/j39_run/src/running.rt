@@ -2,7 +2,7 @@
 ghost use Rattle.std.specs.Prelude.{◌≡◌, ◌⊎◌, IfErr, IfOk, OnOk, IsErrOf, Some, None};
 ghost use Rattle.j39_bus.specs.Stands.{Stands};
 ghost use Rattle.j39_world.specs.Run.{cause_of};
-ghost use Rattle.j39_world.specs.World.{first};
+ghost use Rattle.j39_world.specs.World.{all_off};
 ghost use Rattle.j39_schedule.specs.UnitIndexes.{IsIndexOf};
 ghost use Rattle.j39_run.specs.inside.Ending.{HasEndedSo};
 ghost use Rattle.j39_stream.specs.Streams.{HasFailed, PassesLimits, plan_limits};
@@ -42,7 +42,7 @@ pub fn run_bus<S: Source, W: Sink>(
     sink: &mut W,
 ) -> Result<Verdict, Fault>
     requires indexed { IsIndexOf plan.now index.now }
-    requires stands { Stands bus plan.now first }
+    requires stands { Stands bus plan.now all_off }
     ensures ends { HasEndedSo plan.now (S.left source.old) (S.left source.new) (S.pulls source.old) (S.pulls source.new)
         (W.taken sink.old) (W.taken sink.new) result }
     ensures long { IsErrOf result Fault.TooLong → PassesLimits plan_limits (S.left source.old) (S.left source.new) (S.pulls source.old) (S.pulls source.new) }

@@ -11,7 +11,7 @@ use Rattle.std.specs.Prelude.{decimal}
 use Rattle.hex.specs.Hex.{encode_upper, is_hex_digit, upper_digits, IsBytes}
 use Rattle.hex.proofs.HexLemmas.{decode_of-encode_upper, decode_of-ok, length-encode_with}
 use Rattle.j39_findings.specs.declared.plan.Plan.{Plan}
-use Rattle.j39_schedule.specs.Schedule.{flow_place, is_number, number_of}
+use Rattle.j39_schedule.specs.Schedule.{flow_place, is_number, spelled_number}
 use Rattle.j39_schedule.proofs.Numbers.{same_test}
 use Rattle.j39_schedule.proofs.TextWords.{IsWord}
 
@@ -34,8 +34,8 @@ number_word n few =
       length-decimal-le 3 n (omega arith) (omega arith) fits,
     )
 
-pub number_is : (n : ℕ) → n < 1000 → number_of (decimal n) ≡ Some n
-unfolding number_of is_number
+pub number_is : (n : ℕ) → n < 1000 → spelled_number (decimal n) ≡ Some n
+unfolding spelled_number is_number
 number_is n few =
     let fits : n < 2 ^ 64 = omega arith in
     let some = lt-ltb 0 (length (decimal n)) (decimal_nonempty n fits) in

@@ -10,7 +10,7 @@ use Rattle.j39_id.specs.FirstFault.{first_fault}
 use Rattle.j39_id.specs.Lines.{Long, Short}
 use Rattle.j39_findings.specs.declared.plan.Plan.{Plan}
 use Rattle.j39_findings.specs.declared.steps.Step.{Step}
-use Rattle.j39_schedule.specs.Schedule.{does, Order, of_unit, of_units, of_unit_or_units, of_message, Reading, begins_comment, flow_place, line_order, number_of, order_named, order_of, unit_named, with_bytes, words_of, words_order}
+use Rattle.j39_schedule.specs.Schedule.{does, Order, of_unit, of_units, of_unit_or_units, of_message, Reading, begins_comment, flow_place, line_order, spelled_number, order_named, order_of, unit_named, with_bytes, words_of, words_order}
 use Rattle.j39_schedule.specs.LineFaults.{TellsFirstFault, order_faults, values_faults, words_faults}
 use Rattle.j39_schedule.specs.declared.line_fault.LineFault.TheVariants.{UnknownWord, UnknownLabel, BadNumber, BadHex}
 
@@ -64,7 +64,7 @@ values_first plan (of_unit_or_units one two) (a ∷ b ∷ []) = of_two (unit_nam
 values_first plan (of_unit_or_units one two) (a ∷ b ∷ c ∷ more) = let many = neither (length more) in rw many refl
 values_first plan of_message [] = refl
 values_first plan of_message (a ∷ []) = refl
-values_first plan of_message (n ∷ hex ∷ []) = of_a_message plan (number_of n) (decode_of hex) _ refl
+values_first plan of_message (n ∷ hex ∷ []) = of_a_message plan (spelled_number n) (decode_of hex) _ refl
 values_first plan of_message (a ∷ b ∷ c ∷ more) = let many = not_two (length more) in rw many refl
 
 order_first : (plan : Plan) (order : Option Order) (values : List (List ℕ))

@@ -6,7 +6,7 @@ use Rattle.hex.specs.Hex.{decode_of, is_hex_digit}
 use Rattle.hex.specs.declared.error.FromHexError.{FromHexError}
 use Rattle.hex.proofs.HexLemmas.{decode_of-digits, decode_of-ok}
 use Rattle.j39_findings.specs.declared.plan.Plan.{Plan}
-use Rattle.j39_schedule.specs.Schedule.{flow_place, number_of, with_bytes, with_flow}
+use Rattle.j39_schedule.specs.Schedule.{flow_place, spelled_number, with_bytes, with_flow}
 use Rattle.j39_schedule.specs.Scheduling.{OrdersBegin}
 
 decodes_if : (text : List ℕ) (all : Bool) (r : Result (List ℕ) FromHexError) → length text % 2 ≡ 0 → list_all is_hex_digit text ≡ all
@@ -27,6 +27,6 @@ begun_with flow (Ok bytes) is = (flow, bytes, refl)
 begun_with flow (Err e) is = cc is
 
 -- a number and pairs of digits order a Begin
-pub begun : (plan : Plan) (number digits : List ℕ) (n : ℕ) → Some n ≡ number_of number → is_ok (decode_of digits) ≡ true
+pub begun : (plan : Plan) (number digits : List ℕ) (n : ℕ) → Some n ≡ spelled_number number → is_ok (decode_of digits) ≡ true
     → OrdersBegin (with_flow plan number digits)
 begun plan number digits n is spelled = rw (← is) (begun_with (flow_place plan n) (decode_of digits) spelled)

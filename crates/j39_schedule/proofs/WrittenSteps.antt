@@ -15,7 +15,7 @@ use Rattle.j39_findings.specs.declared.steps.Step.TheVariants.{Up, Down, Give, A
 use Rattle.j39_text.specs.Labels.{unit_label, units_text}
 use Rattle.j39_text.specs.Texts.{field_text, place_field}
 use Rattle.j39_schedule.specs.Schedule.{Reading, as_ordered, begins, does, line_order, order_named, read_as, readings_of, with_unit, with_units, words_of, words_order}
-use Rattle.j39_schedule.specs.StepLines.{IsStepOf, IsUnit, step_line, step_lines, step_text, unit_text}
+use Rattle.j39_schedule.specs.StepLines.{IsStepOf, IsUnit, step_line, step_lines, step_text, step_unit_text}
 use Rattle.j39_schedule.proofs.BegunFlows.{bytes_word, number_is, number_word, place_is}
 use Rattle.j39_schedule.proofs.Splits.{lines-append}
 use Rattle.j39_schedule.proofs.TextWords.{IsVisible, IsWord, after_spaces, first_word, is_spelled, one_line, only_word, visible, visible_parted}
@@ -56,8 +56,8 @@ abbrev BeginsUnits : Plan → List ℕ → (ℕ → ℕ → Step) → Type 0
 BeginsUnits plan word step = (a b : List ℕ) → words_order plan (word ∷ a ∷ b ∷ []) ≡ with_units plan a b step
 
 unit_step : (plan : Plan) (word : List ℕ) (step : ℕ → Step) (u : ℕ) → IsUnit plan u → IsWord word → length word ≤ 5
-    → BeginsUnit plan word step → as_ordered (step u) ≡ does (step u) → Spells plan (unit_text (word ++ 32 ∷ []) plan u) (step u)
-unfolding unit_text
+    → BeginsUnit plan word step → as_ordered (step u) ≡ does (step u) → Spells plan (step_unit_text (word ++ 32 ∷ []) plan u) (step u)
+unfolding step_unit_text
 unit_step plan word step u inside is few begun other =
     let unit = is_named plan u inside in
     let names = unit.names in

@@ -6,25 +6,25 @@ use Rattle.hex.specs.Hex.{decode_of}
 use Rattle.j39_id.specs.FirstFault.{first_fault}
 use Rattle.j39_id.specs.Lines.{Line, Long, Short}
 use Rattle.j39_findings.specs.declared.plan.Plan.{Plan}
-use Rattle.j39_schedule.specs.Schedule.{Order, of_unit, of_units, of_unit_or_units, of_message, begins_comment, line_order, number_of, order_named, unit_named, words_of}
+use Rattle.j39_schedule.specs.Schedule.{Order, of_unit, of_units, of_unit_or_units, of_message, begins_comment, line_order, spelled_number, order_named, unit_named, words_of}
 use Rattle.j39_schedule.specs.declared.line_fault.LineFault.{LineFault}
 use Rattle.j39_schedule.specs.declared.line_fault.LineFault.TheVariants.{LongLine, UnknownWord, WordCount, UnknownLabel, BadNumber, BadHex}
 
 -- how many values an order takes
-abbrev pub takes : Order → ℕ → Bool
-takes (of_unit step) count = count == 1
-takes (of_units step) count = count == 2
-takes (of_unit_or_units one two) count = count == 1 || count == 2
-takes of_message count = count == 2
+abbrev pub takes_values : Order → ℕ → Bool
+takes_values (of_unit step) count = count == 1
+takes_values (of_units step) count = count == 2
+takes_values (of_unit_or_units one two) count = count == 1 || count == 2
+takes_values of_message count = count == 2
 
 -- which of them are labels, which a number, and which hex digits
 abbrev pub labels_in : Order → List (List ℕ) → List (List ℕ)
 labels_in of_message values = []
 labels_in order values = values
 
-abbrev pub numbers_in : Order → List (List ℕ) → List (List ℕ)
-numbers_in of_message values = take 1 values
-numbers_in order values = []
+abbrev pub numerals_in : Order → List (List ℕ) → List (List ℕ)
+numerals_in of_message values = take 1 values
+numerals_in order values = []
 
 abbrev pub digits_in : Order → List (List ℕ) → List (List ℕ)
 digits_in of_message values = drop 1 values
@@ -33,9 +33,9 @@ digits_in order values = []
 -- the faults of an order's values, in the order in which they are looked for, each with whether it holds
 abbrev pub values_faults : Plan → Order → List (List ℕ) → List (LineFault × Bool)
 values_faults plan order values =
-    (WordCount, not (takes order (length values)))
+    (WordCount, not (takes_values order (length values)))
     ∷ (UnknownLabel, list_any (λ label. is_none (unit_named plan label)) (labels_in order values))
-    ∷ (BadNumber, list_any (λ number. is_none (number_of number)) (numbers_in order values))
+    ∷ (BadNumber, list_any (λ number. is_none (spelled_number number)) (numerals_in order values))
     ∷ (BadHex, list_any (λ digits. is_err (decode_of digits)) (digits_in order values))
     ∷ []
 

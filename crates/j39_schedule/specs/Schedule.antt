@@ -60,8 +60,8 @@ with_units plan a b step = option_map_or (λ u. with_unit plan b (step u)) (unit
 unfoldable pub is_number : List ℕ → Bool
 is_number text = nat_lt 0 (length text) && (nat_lt (length text) 10 && list_all is_ascii_digit text)
 
-unfoldable pub number_of : List ℕ → Option ℕ
-number_of text = if is_number text then Some (digits_value 10 text) else None
+unfoldable pub spelled_number : List ℕ → Option ℕ
+spelled_number text = if is_number text then Some (digits_value 10 text) else None
 
 -- the place of the flow of a number, counted from 1. There is no flow 0: it gets the place behind the last flow, where there is
 -- none either, so a bus refuses it as it does each flow that isn't planned
@@ -74,7 +74,7 @@ with_bytes f (Ok bytes) = Ok (Some (begins f bytes))
 with_bytes f (Err e) = Err BadHex
 
 abbrev pub with_flow : Plan → List ℕ → List ℕ → Reading
-with_flow plan number hex = option_map_or (λ n. with_bytes (flow_place plan n) (decode_of hex)) (number_of number) (Err BadNumber)
+with_flow plan number hex = option_map_or (λ n. with_bytes (flow_place plan n) (decode_of hex)) (spelled_number number) (Err BadNumber)
 
 -- what stands behind the word of an order, and what is ordered then
 pub data Order : Type 0 where

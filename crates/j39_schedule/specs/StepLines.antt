@@ -11,22 +11,22 @@ use Rattle.j39_text.specs.Texts.{place_field}
 use Rattle.j39_schedule.specs.Schedule.{line_order, read_as, readings_of}
 
 -- a word, and a unit
-unfoldable pub unit_text : List ℕ → Plan → ℕ → List ℕ
-unit_text word plan u = word ++ unit_label plan u
+unfoldable pub step_unit_text : List ℕ → Plan → ℕ → List ℕ
+step_unit_text word plan u = word ++ unit_label plan u
 
 -- the words of a step; bytes are spelled by capital hex digits
 unfoldable pub step_text : Plan → Step → List ℕ
-step_text plan (Up u) = unit_text (codes "up ") plan u
-step_text plan (Down u) = unit_text (codes "down ") plan u
+step_text plan (Up u) = step_unit_text (codes "up ") plan u
+step_text plan (Down u) = step_unit_text (codes "down ") plan u
 step_text plan (Give u v) = units_text (codes "give ") plan u v
-step_text plan (Ask u) = unit_text (codes "ask ") plan u
+step_text plan (Ask u) = step_unit_text (codes "ask ") plan u
 step_text plan (Begin f bytes) = place_field (codes "begin ") f ++ (codes " " ++ encode_upper bytes.items)
-step_text plan (Emit u) = unit_text (codes "emit ") plan u
+step_text plan (Emit u) = step_unit_text (codes "emit ") plan u
 step_text plan (Take u v) = units_text (codes "take ") plan u v
 step_text plan (Lose u v) = units_text (codes "lose ") plan u v
-step_text plan (LateSender u) = unit_text (codes "late ") plan u
+step_text plan (LateSender u) = step_unit_text (codes "late ") plan u
 step_text plan (LateReceiver u v) = units_text (codes "late ") plan u v
-step_text plan (Rest u) = unit_text (codes "rest ") plan u
+step_text plan (Rest u) = step_unit_text (codes "rest ") plan u
 
 -- the line of a step, after two spaces
 unfoldable pub step_line : Plan → Step → List ℕ

@@ -3,7 +3,7 @@ ghost use Rattle.std.specs.Prelude.{◌≡◌, is_ok};
 ghost use Rattle.std.specs.Char.{is_ascii_digit};
 ghost use Rattle.std.specs.List.{list_all};
 ghost use Rattle.hex.specs.Hex.{decode_of, is_hex_digit};
-ghost use Rattle.j39_schedule.specs.Schedule.{flow_place, is_number, number_of, with_flow};
+ghost use Rattle.j39_schedule.specs.Schedule.{flow_place, is_number, spelled_number, with_flow};
 ghost use Rattle.j39_schedule.specs.Scheduling.{IsReadAs};
 
 use crate::line_fault::LineFault;
@@ -35,9 +35,9 @@ fn is_number(text: &[u8]) -> bool
 }
 
 /// The number of 1 to 9 decimal digits.
-#[tactic(auto, unfolding(crate::specs::Schedule::number_of))]
+#[tactic(auto, unfolding(crate::specs::Schedule::spelled_number))]
 fn number_of(text: &[u8]) -> Option<usize>
-    ensures { result ≡ number_of text.now }
+    ensures { result ≡ spelled_number text.now }
 {
     if !is_number(text) {
         return None;

@@ -1,15 +1,15 @@
 //! Writing the steps of a plan as lines of a schedule.
 ghost use Rattle.std.specs.Prelude.{◌≡◌, ◌++◌, OnOk};
 ghost use Rattle.j39_findings.specs.declared.steps.Step.TheVariants.{Begin};
-ghost use Rattle.j39_schedule.specs.StepLines.{step_line, step_lines, step_text, unit_text};
+ghost use Rattle.j39_schedule.specs.StepLines.{step_line, step_lines, step_text, step_unit_text};
 
 use j39_findings::{Plan, Step};
 use j39_text::{TextBuffer, unit_label, write_units};
 use std::alloc::AllocError;
 
-#[tactic(auto, unfolding(crate::specs::StepLines::unit_text))]
+#[tactic(auto, unfolding(crate::specs::StepLines::step_unit_text))]
 fn write_unit(text: &mut TextBuffer, word: &str, plan: &Plan, unit: usize) -> Result<(), AllocError>
-    ensures { OnOk result (text.new ≡ text.old ++ unit_text word.now plan.now unit) }
+    ensures { OnOk result (text.new ≡ text.old ++ step_unit_text word.now plan.now unit) }
 {
     text.word(word)?;
     text.word(unit_label(plan, unit))

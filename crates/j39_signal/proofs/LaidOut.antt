@@ -12,7 +12,7 @@ use Rattle.j39_id.specs.FirstFault.{first_fault}
 use Rattle.j39_id.specs.Limits.{message_bytes}
 use Rattle.j39_signal.specs.Parts.{SignalParts}
 use Rattle.j39_signal.specs.Places.{WidthFits, IsInside, SharesBit, LaysOut, shares_bit}
-use Rattle.j39_signal.specs.Refusals.{HasLayoutFault, faults_behind, first_sharer, layout_faults, signal_faults}
+use Rattle.j39_signal.specs.Refusals.{HasLayoutFault, faults_behind, first_sharer, layout_faults, placement_faults}
 use Rattle.j39_signal.specs.declared.layout_error.LayoutError.{LayoutError}
 use Rattle.j39_signal.specs.declared.layout_error.LayoutError.TheVariants.{Length, Width, Outside, Overlap, Memory}
 use Rattle.j39_signal.proofs.Sharing.{shared_by_true}
@@ -57,20 +57,20 @@ laid_out_more bytes signals i s h is laid fits =
 -- the faults from a signal on are its own and those behind it
 faults_from : (bytes : ℕ) (signals : List SignalParts) (i : ℕ) (s : SignalParts) → i < length signals → s ≡ get_or signals i s
     → faults_behind bytes (take i signals) (drop i signals)
-    ≡ signal_faults bytes (take i signals) s ++ faults_behind bytes (take (i + 1) signals) (drop (i + 1) signals)
+    ≡ placement_faults bytes (take i signals) s ++ faults_behind bytes (take (i + 1) signals) (drop (i + 1) signals)
 faults_from bytes signals i s h is =
     let here : drop i signals ≡ s ∷ drop (i + 1) signals = drop_more signals i s h ∙ ap (λ x. x ∷ drop (i + 1) signals) (sym is) in
     ap (faults_behind bytes (take i signals)) here
-    ∙ sym (ap (λ (before : List SignalParts). signal_faults bytes (take i signals) s ++ faults_behind bytes before (drop (i + 1) signals))
+    ∙ sym (ap (λ (before : List SignalParts). placement_faults bytes (take i signals) s ++ faults_behind bytes before (drop (i + 1) signals))
     (front signals i s h is))
 
 -- a signal without a fault is passed over
 pub fault_behind : (bytes : ℕ) (signals : List SignalParts) (i : ℕ) (s : SignalParts) (first : Option LayoutError) → i < length signals → s ≡ get_or signals i s
-    → first ≡ first_fault (faults_behind bytes (take i signals) (drop i signals)) → first_fault (signal_faults bytes (take i signals) s) ≡ None
+    → first ≡ first_fault (faults_behind bytes (take i signals) (drop i signals)) → first_fault (placement_faults bytes (take i signals) s) ≡ None
     → first ≡ first_fault (faults_behind bytes (take (i + 1) signals) (drop (i + 1) signals))
 fault_behind bytes signals i s first h is before none =
     before ∙ ap first_fault (faults_from bytes signals i s h is)
-    ∙ none_first (signal_faults bytes (take i signals) s) (faults_behind bytes (take (i + 1) signals) (drop (i + 1) signals)) none
+    ∙ none_first (placement_faults bytes (take i signals) s) (faults_behind bytes (take (i + 1) signals) (drop (i + 1) signals)) none
 
 -- the first fault is the layout's
 as_fault : (bytes : ℕ) (signals : List SignalParts) (fault : LayoutError) → fault ≢ Memory → first_fault (layout_faults bytes signals) ≡ Some fault
@@ -83,11 +83,11 @@ as_fault bytes signals Memory other is = absurd (other refl)
 
 pub fault_at : (bytes : ℕ) (signals : List SignalParts) (i : ℕ) (s : SignalParts) (fault : LayoutError) → i < length signals → s ≡ get_or signals i s
     → LaysOut bytes (take i signals) → first_fault (faults_behind bytes [] signals) ≡ first_fault (faults_behind bytes (take i signals) (drop i signals))
-    → fault ≢ Memory → first_fault (signal_faults bytes (take i signals) s) ≡ Some fault → HasLayoutFault bytes signals fault
+    → fault ≢ Memory → first_fault (placement_faults bytes (take i signals) s) ≡ Some fault → HasLayoutFault bytes signals fault
 fault_at bytes signals i s fault h is laid before other found =
     as_fault bytes signals fault other
     (in_range bytes signals laid.some_bytes laid.most_bytes ∙ before ∙ ap first_fault (faults_from bytes signals i s h is)
-    ∙ some_first (signal_faults bytes (take i signals) s) (faults_behind bytes (take (i + 1) signals) (drop (i + 1) signals)) fault found)
+    ∙ some_first (placement_faults bytes (take i signals) s) (faults_behind bytes (take (i + 1) signals) (drop (i + 1) signals)) fault found)
 
 -- ---- signals that lay out a payload have no fault
 
@@ -122,9 +122,9 @@ faultless bytes before (s ∷ rest) widths inside apart =
     apart_by_test (get_or before k s) s
     (subst (λ (t : SignalParts). ¬ SharesBit (get_or before k s) t) here
     (subst (λ (t : SignalParts). ¬ SharesBit t (get_or all n s)) left (apart k n s below less)))) in
-    let free : first_fault (signal_faults bytes before s) ≡ None = rw (fits, within, none) refl in
+    let free : first_fault (placement_faults bytes before s) ≡ None = rw (fits, within, none) refl in
     let whole : (before ++ s ∷ []) ++ rest ≡ all = append_assoc before (s ∷ []) rest in
-    none_first (signal_faults bytes before s) (faults_behind bytes (before ++ s ∷ []) rest) free
+    none_first (placement_faults bytes before s) (faults_behind bytes (before ++ s ∷ []) rest) free
     ∙ faultless bytes (before ++ s ∷ []) rest (subst (All WidthFits) (sym whole) widths) (subst (All (IsInside bytes)) (sym whole) inside)
     (subst (AllPairs (λ s t. ¬ SharesBit s t)) (sym whole) apart)
 

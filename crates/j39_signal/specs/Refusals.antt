@@ -13,8 +13,8 @@ abbrev pub first_sharer : SignalParts → List SignalParts → Option ℕ
 first_sharer s before = position (λ t. shares_bit t s) before
 
 -- the faults of a signal behind others in the order in which they are looked for, each with whether it holds
-abbrev pub signal_faults : ℕ → List SignalParts → SignalParts → List (LayoutError × Bool)
-signal_faults bytes before s =
+abbrev pub placement_faults : ℕ → List SignalParts → SignalParts → List (LayoutError × Bool)
+placement_faults bytes before s =
     (Width (length before), not (width_fits s.kind s.start s.bits))
     ∷ (Outside (length before), not (is_inside bytes s))
     ∷ (Overlap (unwrap_or (first_sharer s before) 0) (length before), is_some (first_sharer s before))
@@ -23,7 +23,7 @@ signal_faults bytes before s =
 -- those of all signals behind others
 abbrev pub faults_behind : ℕ → List SignalParts → List SignalParts → List (LayoutError × Bool)
 faults_behind bytes before [] = []
-faults_behind bytes before (s ∷ rest) = signal_faults bytes before s ++ faults_behind bytes (before ++ s ∷ []) rest
+faults_behind bytes before (s ∷ rest) = placement_faults bytes before s ++ faults_behind bytes (before ++ s ∷ []) rest
 
 -- those of the length and of all signals
 abbrev pub layout_faults : ℕ → List SignalParts → List (LayoutError × Bool)

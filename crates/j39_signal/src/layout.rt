@@ -5,7 +5,7 @@ ghost use Rattle.j39_id.specs.FirstFault.{first_fault};
 ghost use Rattle.j39_signal.specs.Bits.{Put, raw_of, all_ones};
 ghost use Rattle.j39_signal.specs.Laid.{blank};
 ghost use Rattle.j39_signal.specs.Places.{WidthFits, IsInside, SharesBit, LaysOut, further};
-ghost use Rattle.j39_signal.specs.Refusals.{HasLayoutFault, first_sharer as sharer_of, signal_faults};
+ghost use Rattle.j39_signal.specs.Refusals.{HasLayoutFault, first_sharer as sharer_of, placement_faults};
 ghost use Rattle.j39_signal.specs.State.{state_of, RefusesValue, WritesValue};
 
 use crate::{LayoutError, Signal, State, WriteError};
@@ -42,7 +42,7 @@ fn first_sharer(before: &[Signal], signal: &Signal) -> Option<usize>
 // Why a signal has no place after these.
 fn fault_after(before: &[Signal], signal: &Signal, length: u16) -> Option<LayoutError>
     ensures none { IfNone result (WidthFits signal.now × IsInside length signal.now × All (λ t. ¬ SharesBit t signal.now) before.now) }
-    ensures fault { result ≡ first_fault (signal_faults length before.now signal.now) }
+    ensures fault { result ≡ first_fault (placement_faults length before.now signal.now) }
     ensures lasting { IfSome result (λ fault. fault ≢ LayoutError.Memory) }
 {
     if !signal.width_fits() {

@@ -60,12 +60,12 @@ tape_after_pull t buffer =
     else record t { left = drop (pull_count t buffer) t.left; calls = next_call t }
 
 -- the room that the put of this number finds
-abbrev pub room_at : Tape → ℕ → ℕ
-room_at t call = if takes_none_at t.stop call then 0 else t.room - length t.taken
+abbrev pub room_for_put : Tape → ℕ → ℕ
+room_for_put t call = if takes_none_at t.stop call then 0 else t.room - length t.taken
 
 -- how many of these bytes a put takes
 abbrev pub put_count : Tape → List ℕ → ℕ
-put_count t bytes = min (min (length bytes) t.piece) (room_at t (next_call t))
+put_count t bytes = min (min (length bytes) t.piece) (room_for_put t (next_call t))
 
 -- a put that takes none of some bytes is counted as failed
 abbrev pub failures_after : ℕ → List ℕ → ℕ → ℕ

@@ -42,7 +42,7 @@ impl Model for Pieces {
 }
 
 impl Pieces {
-    ghost use Rattle.j39_stream.specs.Tape.{failures_after, new_tape, next_call, room_at};
+    ghost use Rattle.j39_stream.specs.Tape.{failures_after, new_tape, next_call, room_for_put};
     ghost use Rattle.j39_stream.specs.Streams.{one_more};
 
     /// A source of the input and a sink with room for `room` bytes, at most `piece` bytes a call.
@@ -102,7 +102,7 @@ impl Pieces {
 
     // The room that the put of this number finds.
     fn room_at(&self, call: u64) -> usize
-        ensures { result ≡ room_at self.now call }
+        ensures { result ≡ room_for_put self.now call }
     {
         if self.stop.takes_none_at(call) {
             0

@@ -8,7 +8,7 @@ use Rattle.std.proofs.lemmas.List.Sums.{AllPass-from_list_all}
 use Rattle.std.proofs.lemmas.Option.{same_Some}
 use Rattle.hex.specs.Hex.{encode_with, encode_upper, upper_digits, hex_digit_value}
 use Rattle.hex.proofs.HexLemmas.{IsDigits-upper_digits}
-use Rattle.j39_text.specs.Quotations.{is_plain, spelled_byte, spelled, quotation, IsInside, TellsItsBytes}
+use Rattle.j39_text.specs.Quotations.{is_plain, spelled_byte, spelled, quotation, IsBetweenMarks, TellsItsBytes}
 
 -- what is spelled from a byte on is this byte and those behind it
 pub spelled_from : (bytes : List ℕ) (i d : ℕ) → i < length bytes
@@ -26,7 +26,7 @@ low b = slice_index upper_digits (b % 16)
 
 -- a byte that stands for itself is none of the two that don't
 record IsPlain (b : ℕ) : Type 0 where
-  pub inside : IsInside b
+  pub inside : IsBetweenMarks b
   pub other : b ≢ 92
   pub spelled_is : spelled_byte b ≡ b ∷ []
 
@@ -57,30 +57,30 @@ spelling b = elim (cases_Bool (is_plain b)) [ inl is ↦ inl (plain b is) | inr 
 abbrev inside_test : ℕ → Bool
 inside_test c = nat_le 32 c && (nat_le c 126 && not (c == 34))
 
-passes_inside : (c : ℕ) → inside_test c ≡ true → IsInside c
+passes_inside : (c : ℕ) → inside_test c ≡ true → IsBetweenMarks c
 passes_inside c is =
     let parts = and_parts (nat_le 32 c) (nat_le c 126 && not (c == 34)) is in
     let more = and_parts (nat_le c 126) (not (c == 34)) parts.1 in
     (leb-true 32 c parts.0, leb-true c 126 more.0, eqb-false c 34 (not-true (c == 34) more.1))
 
-digit_inside : (d : ℕ) → d < 16 → IsInside (slice_index upper_digits d)
+digit_inside : (d : ℕ) → d < 16 → IsBetweenMarks (slice_index upper_digits d)
 digit_inside d small = passes_inside _ (AllPass-from_list_all inside_test upper_digits refl d 0 small)
 
-byte_inside : (b : ℕ) → b < 256 → All IsInside (spelled_byte b)
+byte_inside : (b : ℕ) → b < 256 → All IsBetweenMarks (spelled_byte b)
 byte_inside b small = elim (spelling b) [
-  | inl is ↦ rw is.spelled_is (All-cons IsInside b [] is.inside (All-nil IsInside))
+  | inl is ↦ rw is.spelled_is (All-cons IsBetweenMarks b [] is.inside (All-nil IsBetweenMarks))
   | inr is ↦
-      let last : All IsInside (low b ∷ []) = All-cons IsInside (low b) [] (digit_inside (b % 16) (omega arith)) (All-nil IsInside) in
-      let both : All IsInside (high b ∷ low b ∷ []) = All-cons IsInside (high b) (low b ∷ []) (digit_inside (b / 16) (omega arith)) last in
-      let behind : All IsInside (120 ∷ high b ∷ low b ∷ []) = All-cons IsInside 120 (high b ∷ low b ∷ []) (passes_inside 120 refl) both in
-      rw is (All-cons IsInside 92 (120 ∷ high b ∷ low b ∷ []) (passes_inside 92 refl) behind)
+      let last : All IsBetweenMarks (low b ∷ []) = All-cons IsBetweenMarks (low b) [] (digit_inside (b % 16) (omega arith)) (All-nil IsBetweenMarks) in
+      let both : All IsBetweenMarks (high b ∷ low b ∷ []) = All-cons IsBetweenMarks (high b) (low b ∷ []) (digit_inside (b / 16) (omega arith)) last in
+      let behind : All IsBetweenMarks (120 ∷ high b ∷ low b ∷ []) = All-cons IsBetweenMarks 120 (high b ∷ low b ∷ []) (passes_inside 120 refl) both in
+      rw is (All-cons IsBetweenMarks 92 (120 ∷ high b ∷ low b ∷ []) (passes_inside 92 refl) behind)
 ]
 
-all_inside : (bytes : List ℕ) → All (λ b. b < 256) bytes → All IsInside (spelled bytes)
+all_inside : (bytes : List ℕ) → All (λ b. b < 256) bytes → All IsBetweenMarks (spelled bytes)
 unfolding spelled
-all_inside [] small = All-nil IsInside
+all_inside [] small = All-nil IsBetweenMarks
 all_inside (b ∷ bytes) small =
-    All-append IsInside (spelled_byte b) (spelled bytes) (byte_inside b (All-head (λ x. x < 256) b bytes small))
+    All-append IsBetweenMarks (spelled_byte b) (spelled bytes) (byte_inside b (All-head (λ x. x < 256) b bytes small))
     (all_inside bytes (All-tail (λ x. x < 256) b bytes small))
 
 -- ---- alone

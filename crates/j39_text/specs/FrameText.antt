@@ -1,11 +1,11 @@
 -- The text that the frame command writes for a line.
-use Rattle.std.specs.Prelude.{◌≡◌, ℕ, Bool, ◌==◌, ◌||◌, ◌&&◌, ◌+◌, ◌*◌, length, slice_index, if◌then◌else◌, List, [], ◌∷◌, ◌++◌, codes, decimal}
-use Rattle.std.specs.Int.{w64, to_be_bytes, from_le_bytes}
+use Rattle.std.specs.Prelude.{◌≡◌, ℕ, Bool, ◌==◌, ◌||◌, ◌&&◌, length, if◌then◌else◌, List, [], ◌∷◌, ◌++◌, codes, decimal}
+use Rattle.std.specs.Int.{w64, to_be_bytes}
 use Rattle.hex.specs.Hex.{encode_upper}
 use Rattle.j39_id.specs.Addresses.{global_address, is_address, null_address}
 use Rattle.j39_id.specs.Ident.{pgn_of}
-use Rattle.j39_id.specs.Name.{fields_of}
-use Rattle.j39_id.specs.Pgn.{is_pdu2}
+use Rattle.j39_id.specs.Name.{fields_of, name_of_bytes}
+use Rattle.j39_id.specs.Pgn.{is_pdu2, number_of_bytes}
 use Rattle.j39_id.specs.Services.{address_claimed, request}
 use Rattle.j39_id.specs.FrameLine.{Spells, HasLineFault, canon}
 use Rattle.j39_id.specs.declared.name_fields.NameFields.{NameFields}
@@ -75,11 +75,11 @@ name_lines n = encode_upper (to_be_bytes w64 n) ++ (10 ∷ [] ++ fields_line (fi
 
 -- the NAME that a payload carries, least significant byte first
 abbrev pub name_in : Frame → ℕ
-name_in f = from_le_bytes w64 f.payload.items
+name_in f = name_of_bytes f.payload.items
 
 -- the group that a payload requests, least significant byte first
 abbrev pub requested_group : Frame → ℕ
-requested_group f = slice_index f.payload.items 0 + 256 * slice_index f.payload.items 1 + 65536 * slice_index f.payload.items 2
+requested_group f = number_of_bytes f.payload.items
 
 unfoldable pub claim_lines : Frame → List ℕ
 claim_lines f = field (codes "claim ") f.ident.sa ++ (codes " name " ++ name_lines (name_in f))

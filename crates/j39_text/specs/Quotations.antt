@@ -26,12 +26,12 @@ quotation bytes = quotation_mark ∷ [] ++ (spelled bytes ++ quotation_mark ∷ 
 -- ---- a law
 
 -- a character that stands between the marks is visible or a space, and no mark
-abbrev pub IsInside : ℕ → Type 0
-IsInside c = (32 ≤ c) × (c ≤ 126) × (c ≢ quotation_mark)
+abbrev pub IsBetweenMarks : ℕ → Type 0
+IsBetweenMarks c = (32 ≤ c) × (c ≤ 126) × (c ≢ quotation_mark)
 
 -- what stands between the marks ends where the second stands, and no other bytes are spelled so
 pub record TellsItsBytes (bytes : List ℕ) : Type 0 where
-  pub inside : All IsInside (spelled bytes)
+  pub inside : All IsBetweenMarks (spelled bytes)
   pub alone : (other : List ℕ) → All (λ b. b < 256) other → quotation other ≡ quotation bytes → other ≡ bytes
 
 abbrev pub QuotationsTellTheirBytes : Type 0

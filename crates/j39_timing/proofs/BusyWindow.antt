@@ -2,7 +2,7 @@
 use Rattle.std.proofs.Common.{◌≡◌, ◌≢◌, ℕ, zero, suc, ◌+◌, ◌-◌, ◌<◌, ◌≤◌, ◌⊎◌, Bool, true, false, cond, ◌&&◌, ltb, leb, refl, subst, arith, inl, inr}
 use Rattle.std.proofs.lemmas.Bool.{and_parts, and_from, cases_lt, cases_eq, cases_Bool, le-leb, lt-ltb, ltb-true, both_ways}
 use Rattle.j39_timing.specs.Sums.{total}
-use Rattle.j39_timing.specs.Schedule.{Schedule, IsLegal, IsAnalysed, AreInTime, Covers, demand}
+use Rattle.j39_timing.specs.Schedule.{Schedule, IsLegal, IsAnalysed, AreInTime, IsOnBusAt, demand}
 use Rattle.j39_timing.proofs.Overlaps.{covers, covered}
 use Rattle.j39_timing.proofs.Searching.{any_below, any-found, any-none, last_false}
 
@@ -40,7 +40,7 @@ module _ (s : Schedule) (c longest wait : ℕ) (legal : IsLegal s) (short : (p :
     module _ (begin : ℕ) (before : begin ≤ s.queued x) (none : any_pending begin ≡ false)
         (some : (t : ℕ) → begin < t → t ≤ s.queued x → any_pending t ≡ true) where
       -- something waits, or is on the bus, at each bit of the window
-      busy : (t : ℕ) → begin < t → t ≤ begin + wait → (q : ℕ) × (q < s.count) × Covers s q t
+      busy : (t : ℕ) → begin < t → t ≤ begin + wait → (q : ℕ) × (q < s.count) × IsOnBusAt s q t
       unfolding any_pending
       busy t after within = elim (cases_lt (s.queued x) t) [
         | inl x_waits ↦ legal.never_idle x t in_x (omega arith) (x_waits, omega arith)

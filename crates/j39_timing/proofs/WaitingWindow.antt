@@ -3,7 +3,7 @@
 use Rattle.std.proofs.Common.{◌≡◌, ◌≢◌, ℕ, zero, suc, ◌+◌, ◌*◌, ◌-◌, ◌<◌, ◌≤◌, Bool, true, false, cond, ◌&&◌, ◌||◌, ltb, leb, refl, subst, arith, inl, inr}
 use Rattle.std.proofs.lemmas.Bool.{and_parts, and_from, cases_lt, cases_eq, cases_Bool, le-leb, lt-ltb, leb-true, ltb-true, both_ways}
 use Rattle.j39_timing.specs.Sums.{total}
-use Rattle.j39_timing.specs.Schedule.{Schedule, IsLegal, Covers}
+use Rattle.j39_timing.specs.Schedule.{Schedule, IsLegal, IsOnBusAt}
 use Rattle.j39_timing.specs.Traffic.{PlannedFramesWait, is_other_queued, others_queued}
 use Rattle.j39_timing.proofs.Overlaps.{covers, covered}
 use Rattle.j39_timing.proofs.Searching.{any_below, any-found, any-none, last_false}
@@ -91,7 +91,7 @@ module _ (s : Schedule) (planned : ℕ → Bool) (longest wait : ℕ) (legal : I
       ]
 
       -- so something is on the bus
-      on_bus : (t : ℕ) → begin < t → t ≤ s.queued x + wait → (q : ℕ) × (q < s.count) × Covers s q t
+      on_bus : (t : ℕ) → begin < t → t ≤ s.queued x + wait → (q : ℕ) × (q < s.count) × IsOnBusAt s q t
       on_bus t after within =
           let (h, in_h, _, _, waits) = stretch t after within in
           legal.never_idle h t in_h (omega arith) waits

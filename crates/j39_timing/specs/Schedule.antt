@@ -17,8 +17,8 @@ pub record Schedule : Type 0 where
   pub now : ℕ
 
 -- bit t of the bus is one of the frame's
-abbrev pub Covers : Schedule → ℕ → ℕ → Type 0
-Covers s p t = (s.start p ≤ t) × (t < s.start p + s.bits p)
+abbrev pub IsOnBusAt : Schedule → ℕ → ℕ → Type 0
+IsOnBusAt s p t = (s.start p ≤ t) × (t < s.start p + s.bits p)
 
 -- the frame was ready before bit t, and hasn't begun before it
 abbrev pub Waits : Schedule → ℕ → ℕ → Type 0
@@ -28,9 +28,9 @@ pub record IsLegal (s : Schedule) : Type 0 where
   pub positive : (p : ℕ) → p < s.count → 1 ≤ s.bits p
   pub queued_first : (p : ℕ) → p < s.count → s.queued p ≤ s.start p
   -- one frame at a time
-  pub alone : (p q t : ℕ) → p < s.count → q < s.count → t < s.now → Covers s p t → Covers s q t → p ≡ q
+  pub alone : (p q t : ℕ) → p < s.count → q < s.count → t < s.now → IsOnBusAt s p t → IsOnBusAt s q t → p ≡ q
   -- while a frame waits the bus isn't idle
-  pub never_idle : (p t : ℕ) → p < s.count → t < s.now → Waits s p t → (q : ℕ) × (q < s.count) × Covers s q t
+  pub never_idle : (p t : ℕ) → p < s.count → t < s.now → Waits s p t → (q : ℕ) × (q < s.count) × IsOnBusAt s q t
   -- a frame that begins has no larger identifier than one that waits. One that is queued in that very bit may take part or not
   pub in_order : (p q : ℕ) → p < s.count → q < s.count → s.start q < s.now → Waits s p (s.start q) → s.ident q ≤ s.ident p
 

@@ -116,14 +116,14 @@ completed_told window Directed r = tt
 takes_next_told : (window : ℕ) (r : Reception) → IsTold (receiver.takes_next (Answering window) r)
 takes_next_told window r =
     cond_both (r.held + 1 == packets_of r.size) _ _ IsTold (λ _. inr (completed_told window r.kind r, refl))
-    (λ _. cond_both (r.held + 1 == r.granted) _ _ IsTold (λ _. inl (going_on_told window r.kind (receiver.one_more r))) (λ _. inl tt))
+    (λ _. cond_both (r.held + 1 == r.granted) _ _ IsTold (λ _. inl (going_on_told window r.kind (receiver.one_more_held r))) (λ _. inl tt))
 
 takes_later_told : (window : ℕ) (kind : Kind) (r : Reception) (number : ℕ) → IsTold (receiver.takes_later (Answering window) kind r number)
 takes_later_told window Broadcast r number = inl tt
 takes_later_told window Directed r number =
     cond_both (number == r.granted) _ _ IsTold (λ _. inl (asks_aside window asked_too_often r)) (λ _. inl tt)
 
-takes_told : (window : ℕ) (r : Reception) (number : ℕ) → IsTold (receiver.takes (Answering window) r number)
+takes_told : (window : ℕ) (r : Reception) (number : ℕ) → IsTold (receiver.takes_data (Answering window) r number)
 takes_told window r number =
     cond_both (number == r.held + 1) _ _ IsTold (λ _. takes_next_told window r)
     (λ _. cond_both (nat_le number r.held) _ _ IsTold (λ _. inl tt) (λ _. takes_later_told window r.kind r number))
@@ -195,7 +195,7 @@ ended_aside outcome (Sending next last) = tt
 ended_aside outcome Waiting = tt
 ended_aside outcome (Resting was) = tt
 
-pub sender_aside : (dest : Dest) (own size : ℕ) (stage : Stage) (p : Packet) → RepliesAside (sender.hears dest own size stage p).1
+pub sender_aside : (dest : Dest) (own size : ℕ) (stage : Stage) (p : Packet) → RepliesAside (sender.stage_hears dest own size stage p).1
 sender_aside All own size stage p = tt
 sender_aside One own size stage (Cts count first pgn) =
     cond_both (pgn == own) _ _ ReactsAside (λ _. cleared_aside own (packets_of size) count first stage) (λ _. tt)
@@ -223,7 +223,7 @@ aborted_acked reason pgn (Sending next last) = λ e. absurd (cc e)
 aborted_acked reason pgn Waiting = λ e. absurd (cc e)
 aborted_acked reason pgn (Resting was) = λ e. inl e
 
-pub sender_acked : (dest : Dest) (own size : ℕ) (stage : Stage) (p : Packet) → IsAckedBy dest stage p (sender.hears dest own size stage p)
+pub sender_acked : (dest : Dest) (own size : ℕ) (stage : Stage) (p : Packet) → IsAckedBy dest stage p (sender.stage_hears dest own size stage p)
 sender_acked All own size stage p = λ e. inl e
 sender_acked One own size stage (Cts count first pgn) =
     cond_both (pgn == own) _ _ (IsAckedBy One stage (Cts count first pgn))

@@ -7,8 +7,8 @@ use Rattle.std.proofs.lemmas.Bool.{cases_order, eqb-false, leb-true}
 use Rattle.std.proofs.lemmas.Option.{slice_get_within}
 use Rattle.j39_tp.specs.Chunks.{IsSize, packets_of}
 use Rattle.j39_tp.specs.Packets.{InRange}
-use Rattle.j39_tp.specs.Receiver.{Receiving, hears, receives, gives_up, timed_out, times_out, grown, bytes_at, message_of, opened, one_more, asks, completed}
-use Rattle.j39_tp.specs.Receiver.{going_on, takes, takes_next, takes_later, is_complete, is_directed}
+use Rattle.j39_tp.specs.Receiver.{Receiving, hears, receives, gives_up, timed_out, times_out, grown, bytes_at, message_of, opened, one_more_held, asks, completed}
+use Rattle.j39_tp.specs.Receiver.{going_on, takes_data, takes_next, takes_later, is_complete, is_directed}
 use Rattle.j39_tp.specs.Carried.{Announces, MayPass, Awaits, Leaves, IsUndisturbed, Carried}
 use Rattle.j39_tp.specs.Gathered.{Reaches, Gathered, Gathers, HoldsCarried}
 use Rattle.j39_tp.specs.declared.receiving.heard.Heard.{Heard}
@@ -173,7 +173,7 @@ next_reached h r bytes chunk g =
     )
 
 gathered_more : (h : List Packet) (r : Reception) (bytes chunk : List ℕ) → Gathered h r bytes
-    → Gathered (h ++ Dt (suc r.held) chunk ∷ []) (one_more r) (take r.size (bytes ++ chunk))
+    → Gathered (h ++ Dt (suc r.held) chunk ∷ []) (one_more_held r) (take r.size (bytes ++ chunk))
 gathered_more h r bytes chunk g =
     let p = Dt (suc r.held) chunk in
     record {
@@ -228,7 +228,7 @@ next_gathers h m r bytes chunk g =
     let P : Progress → Type 0 = λ p. Gathers (h ++ Dt (suc r.held) chunk ∷ []) p (take r.size (bytes ++ chunk)) in
     let more = gathered_more h r bytes chunk g in
     if_case P (r.held + 1 == packets_of r.size) _ _ (λ _. tt)
-    (λ _. if_case P (r.held + 1 == r.granted) _ _ (λ _. going_gathers _ m r.kind (one_more r) _ more) (λ _. more))
+    (λ _. if_case P (r.held + 1 == r.granted) _ _ (λ _. going_gathers _ m r.kind (one_more_held r) _ more) (λ _. more))
 
 -- a number that isn't the next
 later_gathers : (h : List Packet) (m : Manner) (k : Kind) (r : Reception) (number : ℕ) (bytes chunk : List ℕ) → r.kind ≡ k
@@ -246,7 +246,7 @@ held_passes Directed k number less = λ e. absurd (omega arith)
 held_passes Broadcast k number less = less
 
 data_gathers : (h : List Packet) (m : Manner) (r : Reception) (number : ℕ) (bytes chunk : List ℕ) → Gathered h r bytes
-    → Gathers (h ++ Dt number chunk ∷ []) (takes m r number).0 (grown (Open r) (Dt number chunk) bytes)
+    → Gathers (h ++ Dt number chunk ∷ []) (takes_data m r number).0 (grown (Open r) (Dt number chunk) bytes)
 data_gathers h m r number bytes chunk g =
     let P : Progress → List ℕ → Type 0 = λ p u. Gathers (h ++ Dt number chunk ∷ []) p u in
     if_cases P (number == r.held + 1) _ _ (take r.size (bytes ++ chunk)) bytes
@@ -347,7 +347,7 @@ next_told m r number chunk e told =
       last = sym (add-one r.held) ∙ eqb-true (r.held + 1) (packets_of r.size) last;
     })
     (λ _ other. if_told (IsLast (Open r) (Dt number chunk)) (r.held + 1 == r.granted) _ _ other
-    (λ _ f. absurd (going_untold m r.kind (one_more r) f)) (λ _ f. cc f))
+    (λ _ f. absurd (going_untold m r.kind (one_more_held r) f)) (λ _ f. cc f))
 
 told_last : (m : Manner) (p : Packet) (pr : Progress) → Tells (hears m pr p).1 → IsLast pr p
 told_last m (Bam size pgn) pr told = absurd (going_untold m Broadcast (opened Broadcast pgn size 255) told)

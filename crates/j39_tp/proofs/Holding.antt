@@ -6,7 +6,7 @@ use Rattle.std.proofs.lemmas.Bool.{eqb-false, ltb-true}
 use Rattle.std.specs.Prelude.{nat_lt, nat_le}
 use Rattle.j39_tp.specs.Chunks.{packets_of}
 use Rattle.j39_tp.specs.Packets.{InRange}
-use Rattle.j39_tp.specs.Receiver.{Receiving, hears, grown, bytes_at, opened, one_more, is_directed, going_on, takes, takes_next, takes_later}
+use Rattle.j39_tp.specs.Receiver.{Receiving, hears, grown, bytes_at, opened, one_more_held, is_directed, going_on, takes_data, takes_next, takes_later}
 use Rattle.j39_tp.specs.inside.Held.{is_within, is_held_at}
 use Rattle.j39_tp.specs.declared.receiving.heard.Heard.{Heard}
 use Rattle.j39_tp.specs.declared.receiving.heard.Heard.TheVariants as heard
@@ -63,9 +63,9 @@ later_holds (Answering window) Directed r number =
     holds_if (number == r.granted) _ _ r.held (asks_if (nat_lt r.asked 2) _ _ r.held refl tt) refl
 
 -- a packet after those that are held, which isn't the last
-next_holds : (m : Manner) (r : Reception) → Holds (if r.held + 1 == r.granted then going_on m r.kind (one_more r) else (Open (one_more r), heard.Nothing)).0
+next_holds : (m : Manner) (r : Reception) → Holds (if r.held + 1 == r.granted then going_on m r.kind (one_more_held r) else (Open (one_more_held r), heard.Nothing)).0
     (r.held + 1)
-next_holds m r = holds_if (r.held + 1 == r.granted) _ _ (r.held + 1) (going_holds m r.kind (one_more r)) refl
+next_holds m r = holds_if (r.held + 1 == r.granted) _ _ (r.held + 1) (going_holds m r.kind (one_more_held r)) refl
 
 -- bytes of one more packet
 more_bytes : (bytes chunk : List ℕ) (size held : ℕ) → length bytes ≡ 7 * held → length chunk ≡ 7 → 7 * (held + 1) ≤ size
@@ -84,7 +84,7 @@ next_fits m r bytes chunk within l c =
     (more_bytes bytes chunk r.size r.held l c (room r.size r.held within (eqb-false (r.held + 1) (packets_of r.size) other))))
 
 takes_fits : (m : Manner) (r : Reception) (number : ℕ) (bytes chunk : List ℕ) → r.held < packets_of r.size → length bytes ≡ 7 * r.held → length chunk ≡ 7
-    → Fit (takes m r number).0 (grown (Open r) (Dt number chunk) bytes)
+    → Fit (takes_data m r number).0 (grown (Open r) (Dt number chunk) bytes)
 takes_fits m r number bytes chunk within l c =
     fits_both (number == r.held + 1) _ _ (take r.size (bytes ++ chunk)) bytes
     (λ _. next_fits m r bytes chunk within l c)

@@ -5,7 +5,7 @@ use Rattle.std.proofs.lemmas.Grind.{common_steps}
 use Rattle.std.specs.Prelude.{nat_le}
 use Rattle.j39_tp.specs.Chunks.{packets_of}
 use Rattle.j39_tp.specs.Packets.{InRange}
-use Rattle.j39_tp.specs.Receiver.{bytes_at, completed, going_on, grown, hears, is_directed, one_more, opened, size_told, takes, takes_later}
+use Rattle.j39_tp.specs.Receiver.{bytes_at, completed, going_on, grown, hears, is_directed, one_more_held, opened, size_told, takes_data, takes_later}
 use Rattle.j39_tp.specs.inside.Held.{is_held_at, last_size}
 use Rattle.j39_tp.specs.declared.receiving.heard.Heard.{Heard}
 use Rattle.j39_tp.specs.declared.receiving.manner.Manner.{Manner}
@@ -58,12 +58,12 @@ whole bytes chunk size held l c last =
 
 data_told : (m : Manner) (r : Reception) (number : ℕ) (bytes chunk : List ℕ) → length bytes ≡ 7 * r.held → length chunk ≡ 7 → (next last : Bool)
     → (number == r.held + 1) ≡ next → (r.held + 1 == packets_of r.size) ≡ last
-    → last_size (Open r) (Dt number chunk) ≡ size_told (takes m r number).1 (bytes_at (takes m r number).0 (grown (Open r) (Dt number chunk) bytes))
+    → last_size (Open r) (Dt number chunk) ≡ size_told (takes_data m r number).1 (bytes_at (takes_data m r number).0 (grown (Open r) (Dt number chunk) bytes))
 data_told m r number bytes chunk l c true true next_is last_is =
     let all : length (take r.size (bytes ++ chunk)) ≡ r.size = whole bytes chunk r.size r.held l c (eqb-true (r.held + 1) (packets_of r.size) last_is) in
     rw (next_is, last_is) (ap Some (sym all) ∙ sym (complete_told m r.kind r (take r.size (bytes ++ chunk))))
 data_told m r number bytes chunk l c true false next_is last_is =
-    rw (next_is, last_is) (sym (quiet_if (r.held + 1 == r.granted) _ _ _ (going_quiet m r.kind (one_more r) _) refl))
+    rw (next_is, last_is) (sym (quiet_if (r.held + 1 == r.granted) _ _ _ (going_quiet m r.kind (one_more_held r) _) refl))
 data_told m r number bytes chunk l c false last next_is last_is =
     rw next_is (sym (quiet_if (nat_le number r.held) _ _ _ refl (later_quiet m r.kind r number _)))
 

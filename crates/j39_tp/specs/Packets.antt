@@ -7,6 +7,7 @@ use Rattle.j39_tp.specs.declared.packet.Packet.{Packet}
 use Rattle.j39_tp.specs.declared.packet.Packet.TheVariants.{Rts, Cts, EndAck, Bam, Abort, Dt}
 use Rattle.j39_tp.specs.declared.packet.packet_error.PacketError.{PacketError}
 use Rattle.j39_tp.specs.declared.packet.packet_error.PacketError.TheVariants.{Length, Control, Size, Count, Number, Group}
+use Rattle.j39_id.specs.Pgn.{pgn_bytes}
 
 -- ---- what is sent
 
@@ -33,10 +34,6 @@ no_limit = 255
 -- the size of a message, least significant byte first, and its number of packets
 abbrev pub size_bytes : ℕ → List ℕ → List ℕ
 size_bytes size rest = size % 256 ∷ size / 256 ∷ packets_of size ∷ rest
-
--- a PGN, least significant byte first
-abbrev pub pgn_bytes : ℕ → List ℕ
-pgn_bytes pgn = pgn % 256 ∷ pgn / 256 % 256 ∷ pgn / 65536 ∷ []
 
 -- the bytes of a packet
 abbrev pub data_of : Packet → List ℕ

@@ -62,14 +62,14 @@ completed (Answering window) Broadcast r = heard.Complete
 completed Listening kind r = heard.Complete
 
 -- the packet after those that are held
-abbrev pub one_more : Reception → Reception
-one_more r = record r { held = r.held + 1 }
+abbrev pub one_more_held : Reception → Reception
+one_more_held r = record r { held = r.held + 1 }
 
 abbrev pub takes_next : Manner → Reception → Progress × Heard
 takes_next manner r =
     if r.held + 1 == packets_of r.size then (Complete r.pgn, completed manner r.kind r)
-    else if r.held + 1 == r.granted then going_on manner r.kind (one_more r)
-    else (Open (one_more r), heard.Nothing)
+    else if r.held + 1 == r.granted then going_on manner r.kind (one_more_held r)
+    else (Open (one_more_held r), heard.Nothing)
 
 -- asks again at once where the last packet that was granted came, and an earlier one didn't
 abbrev pub asks_after : ℕ → Reception → ℕ → Progress × Heard
@@ -85,8 +85,8 @@ takes_later Listening Directed r number = (Open r, heard.Nothing)
 takes_later (Answering window) Directed r number = asks_after window r number
 
 -- a data packet: the next one is taken, one that is held already passed over
-abbrev pub takes : Manner → Reception → ℕ → Progress × Heard
-takes manner r number =
+abbrev pub takes_data : Manner → Reception → ℕ → Progress × Heard
+takes_data manner r number =
     if number == r.held + 1 then takes_next manner r
     else if nat_le number r.held then (Open r, heard.Nothing)
     else takes_later manner r.kind r number
@@ -104,7 +104,7 @@ aborts r pgn = if is_directed r.kind && pgn == r.pgn then (Closed, heard.Closed)
 abbrev pub hears : Manner → Progress → Packet → Progress × Heard
 hears manner progress (Bam size pgn) = going_on manner Broadcast (opened Broadcast pgn size no_limit)
 hears manner progress (Rts size limit pgn) = going_on manner Directed (opened Directed pgn size limit)
-hears manner (Open r) (Dt number chunk) = takes manner r number
+hears manner (Open r) (Dt number chunk) = takes_data manner r number
 hears manner (Open r) (Abort reason pgn) = aborts r pgn
 hears manner progress (Dt number chunk) = (progress, heard.Nothing)
 hears manner progress (Abort reason pgn) = (progress, heard.Nothing)

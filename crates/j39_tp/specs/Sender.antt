@@ -68,14 +68,14 @@ ended outcome _ = (Resting outcome, Ended)
 
 -- where a session stands once it heard a packet, and what it does: one to all hears nothing, and one to one hears CTS,
 -- EndOfMsgACK and Abort of its PGN
-abbrev pub hears : Dest → ℕ → ℕ → Stage → Packet → Stage × Reaction
-hears All pgn size stage packet = (stage, Nothing)
-hears One pgn size stage (Cts count first named) = if named == pgn then cleared pgn (packets_of size) count first stage else (stage, Nothing)
-hears One pgn size stage (EndAck received named) = if named == pgn && received == size then ended Acked stage else (stage, Nothing)
-hears One pgn size stage (Abort reason named) = if named == pgn then ended (Aborted reason) stage else (stage, Nothing)
-hears One pgn size stage (Rts announced limit named) = (stage, Nothing)
-hears One pgn size stage (Bam announced named) = (stage, Nothing)
-hears One pgn size stage (Dt number chunk) = (stage, Nothing)
+abbrev pub stage_hears : Dest → ℕ → ℕ → Stage → Packet → Stage × Reaction
+stage_hears All pgn size stage packet = (stage, Nothing)
+stage_hears One pgn size stage (Cts count first named) = if named == pgn then cleared pgn (packets_of size) count first stage else (stage, Nothing)
+stage_hears One pgn size stage (EndAck received named) = if named == pgn && received == size then ended Acked stage else (stage, Nothing)
+stage_hears One pgn size stage (Abort reason named) = if named == pgn then ended (Aborted reason) stage else (stage, Nothing)
+stage_hears One pgn size stage (Rts announced limit named) = (stage, Nothing)
+stage_hears One pgn size stage (Bam announced named) = (stage, Nothing)
+stage_hears One pgn size stage (Dt number chunk) = (stage, Nothing)
 
 -- where a session stands once nothing was heard in time, and what it sends
 abbrev pub after_timeout : Stage → Stage
@@ -114,7 +114,7 @@ data_next bytes _ = None
 
 -- where it stands once it heard a packet, and what it does
 abbrev pub transfer_hears : TransferParts → Packet → Stage × Reaction
-transfer_hears t packet = hears t.dest t.message.pgn (length t.message.bytes) t.stage packet
+transfer_hears t packet = stage_hears t.dest t.message.pgn (length t.message.bytes) t.stage packet
 
 -- ---- a sender: no message, or one that is being sent
 

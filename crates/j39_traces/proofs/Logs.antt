@@ -15,7 +15,7 @@ use Rattle.j39_claim.specs.declared.item.Item.TheVariants.{Told, Request}
 use Rattle.j39_claim.specs.declared.item.Say.TheVariants.{Claim, Cannot}
 use Rattle.j39_text.specs.FrameText.{carries_name, name_in}
 use Rattle.j39_world.specs.Sent.{Sent, frame_of, sent_of, source_of}
-use Rattle.j39_follow.specs.Holders.{Claims, Holds, TakesFrom, TellsOf}
+use Rattle.j39_follow.specs.Holders.{Claims, HoldsByFrames, TakesFrom, TellsOf}
 use Rattle.j39_follow.proofs.Holding.{holds_new, holds_on}
 use Rattle.j39_traces.proofs.Identifiers.{carries_none, claim_ident, pgn_there}
 
@@ -51,10 +51,10 @@ takes_nothing f name a nothing (inl tells) = nothing name tells
 takes_nothing f name a nothing (inr claim) = nothing claim.0 (claim_told f claim.0 a claim.1)
 
 -- they take no address
-pub silent_keep : (log more : List Frame) (name a : ℕ) → AllByRecursion TellsNothing more → Holds log name a → Holds (log ++ more) name a
-silent_keep log [] name a all holds = subst (λ (l : List Frame). Holds l name a) (sym (append-nil log)) holds
+pub silent_keep : (log more : List Frame) (name a : ℕ) → AllByRecursion TellsNothing more → HoldsByFrames log name a → HoldsByFrames (log ++ more) name a
+silent_keep log [] name a all holds = subst (λ (l : List Frame). HoldsByFrames l name a) (sym (append-nil log)) holds
 silent_keep log (f ∷ more) name a all holds =
-    subst (λ (l : List Frame). Holds l name a) (append_assoc log (f ∷ []) more)
+    subst (λ (l : List Frame). HoldsByFrames l name a) (append_assoc log (f ∷ []) more)
     (silent_keep (log ++ f ∷ []) more name a all.1 (holds_on log f name a holds (takes_nothing f name a all.0)))
 
 -- ---- what one item tells
@@ -116,8 +116,8 @@ module _ (name : ℕ) (range : name < 2 ^ 64) (held : Option ℕ) (source : sour
   same_claim Request a = inr (λ e. cc)
 
   pub others : (log more : List Frame) (items : List Item) (other a : ℕ) → other ≢ name → AllByRecursion IsItemInRange items
-      → map sent_of more ≡ map (frame_of name held) items → Holds log other a → Holds (log ++ more) other a ⊎ Contains items (Told (Claim a))
-  others log [] [] other a apart all e holds = inl (subst (λ (l : List Frame). Holds l other a) (sym (append-nil log)) holds)
+      → map sent_of more ≡ map (frame_of name held) items → HoldsByFrames log other a → HoldsByFrames (log ++ more) other a ⊎ Contains items (Told (Claim a))
+  others log [] [] other a apart all e holds = inl (subst (λ (l : List Frame). HoldsByFrames l other a) (sym (append-nil log)) holds)
   others log [] (item ∷ items) other a apart all e holds = absurd (cc e)
   others log (f ∷ more) [] other a apart all e holds = absurd (cc e)
   others log (f ∷ more) (item ∷ items) other a apart all e holds =
@@ -128,14 +128,14 @@ module _ (name : ℕ) (range : name < 2 ^ 64) (held : Option ℕ) (source : sour
         | inr unlike ↦
             elim (others (log ++ f ∷ []) more items other a apart all.1 tail
             (holds_on log f other a holds (keeps f item other a all.0 apart unlike head))) [
-              | inl kept ↦ inl (subst (λ (l : List Frame). Holds l other a) (append_assoc log (f ∷ []) more) kept)
+              | inl kept ↦ inl (subst (λ (l : List Frame). HoldsByFrames l other a) (append_assoc log (f ∷ []) more) kept)
               | inr (k, inside, is) ↦ inr (suc k, omega (arith, inside), is)
             ]
       ]
 
   -- the unit itself holds what it claims last
   pub claimed : (log more : List Frame) (a : ℕ) → a < null_address → map sent_of more ≡ frame_of name held (Told (Claim a)) ∷ []
-      → Holds (log ++ more) name a
+      → HoldsByFrames (log ++ more) name a
   claimed log [] a less e = absurd (cc e)
   claimed log (f ∷ []) a less e =
       let head : sent_of f ≡ frame_of name held (Told (Claim a)) = cc in
@@ -143,8 +143,8 @@ module _ (name : ℕ) (range : name < 2 ^ 64) (held : Option ℕ) (source : sour
   claimed log (f ∷ g ∷ more) a less e = absurd (cc e)
 
   pub asked : (log more : List Frame) (item : Item) (a : ℕ) → a < null_address
-      → map sent_of more ≡ frame_of name held item ∷ frame_of name held (Told (Claim a)) ∷ [] → Holds (log ++ more) name a
+      → map sent_of more ≡ frame_of name held item ∷ frame_of name held (Told (Claim a)) ∷ [] → HoldsByFrames (log ++ more) name a
   asked log [] item a less e = absurd (cc e)
   asked log (f ∷ more) item a less e =
       let tail : map sent_of more ≡ frame_of name held (Told (Claim a)) ∷ [] = cc in
-      subst (λ (l : List Frame). Holds l name a) (append_assoc log (f ∷ []) more) (claimed (log ++ f ∷ []) more a less tail)
+      subst (λ (l : List Frame). HoldsByFrames l name a) (append_assoc log (f ∷ []) more) (claimed (log ++ f ∷ []) more a less tail)

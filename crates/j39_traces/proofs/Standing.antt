@@ -10,7 +10,7 @@ use Rattle.j39_claim.specs.ClaimRule.{Answers, ClaimState, PlannedUnit, claim_of
 use Rattle.j39_findings.specs.declared.plan.Plan.{Plan}
 use Rattle.j39_world.specs.PlannedUnits.{unit_at, units_of}
 use Rattle.j39_world.specs.Sent.{source_of}
-use Rattle.j39_world.specs.World.{Stations, Undelivered, first}
+use Rattle.j39_world.specs.World.{Stations, Undelivered, all_off}
 use Rattle.j39_laws.proofs.Addresses.CleanUnits.{placed}
 use Rattle.j39_laws.proofs.Addresses.Notes.{claim_cases}
 use Rattle.j39_laws.proofs.Runs.Changed.{changed_each}
@@ -81,7 +81,7 @@ HoldsAddress s = (a : ℕ) → s.address ≡ Some a → a < null_address
 abbrev pub AreStanding : Plan → Stations → Undelivered → Type 0
 AreStanding plan stations claims = AreUnitsOn plan stations × ((u : ℕ) → HoldsAddress (stations u))
 
-pub at_first : (plan : Plan) → AreStanding plan first.stations first.claims
+pub at_first : (plan : Plan) → AreStanding plan all_off.stations all_off.claims
 at_first plan = ((λ u on. absurd (true≢false (sym on))), λ u a e. some_none a e)
 
 in_pool_below : (a : ℕ) → in_pool a ≡ true → a < null_address

@@ -28,7 +28,7 @@ use Rattle.j39_findings.specs.declared.steps.Step.TheVariants.{Up, Down, Give, A
 use Rattle.j39_world.specs.declared.flow.Flow.{Flow}
 use Rattle.j39_world.specs.declared.wired.Wired.{Wired}
 use Rattle.j39_world.specs.declared.wired.Wired.TheVariants as wired
-use Rattle.j39_world.specs.ClaimSteps.{GivenFrom, answer_items, asked as asks, given, switched_off, switched_on, told_to_others, without_lists_to}
+use Rattle.j39_world.specs.ClaimSteps.{GivenFrom, answer_items, asked as asks, heard_and_answered, switched_off, switched_on, told_to_others, without_lists_to}
 use Rattle.j39_world.specs.Flows.{dest_of, flow_of, flows_of, is_short, windows_of}
 use Rattle.j39_world.specs.Opening.{AreNamesDistinct}
 use Rattle.j39_world.specs.PlannedUnits.{unit_at, units_of}
@@ -38,7 +38,7 @@ use Rattle.j39_world.specs.SentTransfers.{address_of, destination_of, group_of, 
 use Rattle.j39_world.specs.Sound.{IsQuiet}
 use Rattle.j39_world.specs.SoundPlan.{Always, IsSending}
 use Rattle.j39_world.specs.TransferSteps.{BeginsAt, LostFrom, TakenFrom, first_frame}
-use Rattle.j39_world.specs.World.{Stations, Undelivered, World, changed, changed_pair, first}
+use Rattle.j39_world.specs.World.{Stations, Undelivered, World, changed, changed_pair, all_off}
 use Rattle.j39_laws.proofs.Addresses.CleanUnits.{names_in_range}
 use Rattle.j39_laws.proofs.Addresses.Telling.{still, told}
 use Rattle.j39_laws.proofs.Reports.SoundReports.{reports_sound}
@@ -47,7 +47,7 @@ use Rattle.j39_laws.proofs.Runs.Changed.{changed_elsewhere, changed_here, pair_e
 use Rattle.j39_laws.proofs.Runs.ClaimInvariants.{claim_steps_keep}
 use Rattle.j39_laws.proofs.Runs.Conditions.{is_unit, none_refuses, units_known}
 use Rattle.j39_laws.proofs.Runs.Units.{in_units, names_differ}
-use Rattle.j39_follow.specs.Holders.{Holds}
+use Rattle.j39_follow.specs.Holders.{HoldsByFrames}
 use Rattle.j39_traces.specs.Telling.{EachIsTold, FramesTellHolders, HaveOwnNumbers, IsStillToHear}
 use Rattle.j39_traces.proofs.Identifiers.{IsOther, carries_none, planned_other}
 use Rattle.j39_traces.proofs.Logs.{IsItemInRange, TellsNothing, asked, claimed, others, silent_keep, split, tells_nothing}
@@ -147,11 +147,11 @@ module _ (plan : Plan) (distinct : AreNamesDistinct (units_of plan)) (own : Have
   -- a step that tells nothing of addresses
   silent_step : (more : List Sent) (new : List Sent) → new ≡ w.frames ++ more → ((tail : List Frame) → map sent_of tail ≡ more → AllByRecursion TellsNothing tail)
       → (log : List Frame) → map sent_of log ≡ new → (u a : ℕ) → (w.stations u).on ≡ true → (w.stations u).address ≡ Some a
-      → Holds log (name u) a ⊎ IsStillToHear w.claims u a
+      → HoldsByFrames log (name u) a ⊎ IsStillToHear w.claims u a
   silent_step more new is silent log e u a on address =
       let s = split sent_of log w.frames more (e ∙ is) in
       elim (inv.tells s.0 s.3 u a on address) [
-        | inl holds ↦ inl (subst (λ (l : List Frame). Holds l (name u) a) (sym s.2) (silent_keep s.0 s.1 (name u) a (silent s.1 s.4) holds))
+        | inl holds ↦ inl (subst (λ (l : List Frame). HoldsByFrames l (name u) a) (sym s.2) (silent_keep s.0 s.1 (name u) a (silent s.1 s.4) holds))
         | inr hears ↦ inr hears
       ]
 
@@ -161,7 +161,7 @@ module _ (plan : Plan) (distinct : AreNamesDistinct (units_of plan)) (own : Have
     other_unit : (log : List Frame) → map sent_of log ≡ w.frames ++ map (frame_of (name v) held) items → (x a : ℕ) → x ≢ v
         → (stations x).on ≡ true → (w.stations x).on ≡ true → (w.stations x).address ≡ Some a
         → ((y : ℕ) → Contains (w.claims y x) (Told (Claim a)) → Contains (mid y x) (Told (Claim a)))
-        → Holds log (name x) a ⊎ IsStillToHear (told_to_others stations mid v items) x a
+        → HoldsByFrames log (name x) a ⊎ IsStillToHear (told_to_others stations mid v items) x a
     other_unit log e x a other on was_on address kept =
         let s = split sent_of log w.frames (map (frame_of (name v) held) items) e in
         let unit_x = inv.standing.0 x was_on in
@@ -169,7 +169,7 @@ module _ (plan : Plan) (distinct : AreNamesDistinct (units_of plan)) (own : Have
         elim (inv.tells s.0 s.3 x a was_on address) [
           | inl holds ↦
               elim (others (name v) (range v unit_v) held source s.0 s.1 items (name x) a apart all s.4 holds) [
-                | inl keeps ↦ inl (subst (λ (l : List Frame). Holds l (name x) a) (sym s.2) keeps)
+                | inl keeps ↦ inl (subst (λ (l : List Frame). HoldsByFrames l (name x) a) (sym s.2) keeps)
                 | inr claim ↦ inr (v, told stations mid v items x (Told (Claim a)) on other claim)
               ]
           | inr (y, claim) ↦ inr (y, still stations mid v items y x (Told (Claim a)) (kept y claim))
@@ -194,9 +194,9 @@ module _ (plan : Plan) (distinct : AreNamesDistinct (units_of plan)) (own : Have
             ap (λ (k : ℕ). (now k).address) same ∙ ap (λ (s : ClaimState). s.address) (changed_here w.stations u (start u)) in
             let is : (unit_at units u).preferred ≡ a = some_same (unit_at units u).preferred a (sym here ∙ address) in
             let s = split sent_of log w.frames (map (frame_of (name u) held) items) e in
-            inl (subst (λ (k : ℕ). Holds log (name k) a) (sym same)
-            (subst (λ (k : ℕ). Holds log (name u) k) is
-            (subst (λ (l : List Frame). Holds l (name u) (unit_at units u).preferred) (sym s.2)
+            inl (subst (λ (k : ℕ). HoldsByFrames log (name k) a) (sym same)
+            (subst (λ (k : ℕ). HoldsByFrames log (name u) k) is
+            (subst (λ (l : List Frame). HoldsByFrames l (name u) (unit_at units u).preferred) (sym s.2)
             (claimed (name u) (range u unit) held source s.0 s.1 (unit_at units u).preferred less s.4))))
         | inr other ↦
             let before : now x ≡ w.stations x = changed_elsewhere w.stations u (start u) x other in
@@ -237,8 +237,8 @@ module _ (plan : Plan) (distinct : AreNamesDistinct (units_of plan)) (own : Have
             let s = split sent_of log w.frames (map (frame_of (name u) held) items) e in
             let frames : map sent_of s.1 ≡ frame_of (name u) held Request ∷ frame_of (name u) held (Told (Claim a)) ∷ [] =
             s.4 ∙ ap (λ (o : Option ℕ). frame_of (name u) held Request ∷ frame_of (name u) held (Told (claim_of o)) ∷ []) here in
-            inl (subst (λ (k : ℕ). Holds log (name k) a) (sym same)
-            (subst (λ (l : List Frame). Holds l (name u) a) (sym s.2)
+            inl (subst (λ (k : ℕ). HoldsByFrames log (name k) a) (sym same)
+            (subst (λ (l : List Frame). HoldsByFrames l (name u) a) (sym s.2)
             (asked (name u) (range u unit) held source s.0 s.1 Request a (below a here) frames)))
         | inr other ↦
             other_unit u unit held source w.stations w.claims items (tt, (item_below held below, tt)) log e x a other on on address (λ y claim. claim)
@@ -280,7 +280,7 @@ module _ (plan : Plan) (distinct : AreNamesDistinct (units_of plan)) (own : Have
 
     -- the unit that heard
     itself : (log : List Frame) → map sent_of log ≡ w.frames ++ map (frame_of (name v) held) items → (a : ℕ) → new.address ≡ Some a
-        → Holds log (name v) a ⊎ IsStillToHear (told_to_others now mid v items) v a
+        → HoldsByFrames log (name v) a ⊎ IsStillToHear (told_to_others now mid v items) v a
     itself log e a address = elim (turn (unit_at units v) (w.stations v) (name u) item says new answers) [
       | inl silent ↦
           let none : map sent_of log ≡ w.frames =
@@ -295,15 +295,15 @@ module _ (plan : Plan) (distinct : AreNamesDistinct (units_of plan)) (own : Have
           let s = split sent_of log w.frames (map (frame_of (name v) held) items) e in
           let frames : map sent_of s.1 ≡ frame_of (name v) held (Told (Claim a)) ∷ [] =
           s.4 ∙ ap (λ (o : Option Say). map (frame_of (name v) held) (answer_items o)) says_it in
-          inl (subst (λ (l : List Frame). Holds l (name v) a) (sym s.2)
+          inl (subst (λ (l : List Frame). HoldsByFrames l (name v) a) (sym s.2)
           (claimed (name v) (range v unit_v) held source s.0 s.1 a (below a address) frames))
     ]
 
-    give_tells : FramesTellHolders plan (given units w u v rest says new)
+    give_tells : FramesTellHolders plan (heard_and_answered units w u v rest says new)
     give_tells log e x a on address = elim (cases_eq x v) [
       | inl same ↦
           let here : new.address ≡ Some a = sym held_is ∙ ap (λ (k : ℕ). (now k).address) (sym same) ∙ address in
-          subst (λ (k : ℕ). Holds log (name k) a ⊎ IsStillToHear (told_to_others now mid v items) k a) (sym same) (itself log e a here)
+          subst (λ (k : ℕ). HoldsByFrames log (name k) a ⊎ IsStillToHear (told_to_others now mid v items) k a) (sym same) (itself log e a here)
       | inr other ↦
           let before : now x ≡ w.stations x = changed_elsewhere w.stations v new x other in
           other_unit v unit_v held source now mid items items_below log e x a other on

@@ -11,7 +11,7 @@ use Rattle.j39_findings.specs.declared.plan.group_plan.GroupPlan.{GroupPlan}
 use Rattle.j39_world.specs.PlannedUnits.{units_of, unit_at}
 use Rattle.j39_world.specs.Sent.{sent_of}
 use Rattle.j39_world.specs.World.{World, Undelivered}
-use Rattle.j39_follow.specs.Holders.{Holds}
+use Rattle.j39_follow.specs.Holders.{HoldsByFrames}
 
 -- each planned number is a group's, and none of those by which the network itself runs
 abbrev pub HaveOwnNumbers : Plan → Type 0
@@ -29,10 +29,10 @@ IsStillToHear claims u a = (v : ℕ) × Contains (claims v u) (Told (Claim a))
 abbrev pub FramesTellHolders : Plan → World → Type 0
 FramesTellHolders plan w =
     (log : List Frame) → IsLogOf w log → (u a : ℕ) → (w.stations u).on ≡ true → (w.stations u).address ≡ Some a
-    → Holds log (unit_at (units_of plan) u).name a ⊎ IsStillToHear w.claims u a
+    → HoldsByFrames log (unit_at (units_of plan) u).name a ⊎ IsStillToHear w.claims u a
 
 -- they tell it of each
 abbrev pub EachIsTold : Plan → World → Type 0
 EachIsTold plan w =
     (log : List Frame) → IsLogOf w log → (u a : ℕ) → (w.stations u).on ≡ true → (w.stations u).address ≡ Some a
-    → Holds log (unit_at (units_of plan) u).name a
+    → HoldsByFrames log (unit_at (units_of plan) u).name a

@@ -1,7 +1,7 @@
 //! A bus that is stepped from outside its crate.
 ghost use Rattle.std.specs.Prelude.{take, IfOk};
 ghost use Rattle.j39_world.specs.Run.{RunsThrough};
-ghost use Rattle.j39_world.specs.World.{World, first};
+ghost use Rattle.j39_world.specs.World.{World, all_off};
 
 use j39_bus::{Bus, BusError};
 use j39_claim::Choose;
@@ -15,7 +15,7 @@ pub fn steps_done(
     choosers: Vec<Box<dyn Choose>>,
     steps: &[Step],
 ) -> Result<usize, BusError>
-    ensures { IfOk result (λ done. (w : World) × RunsThrough plan.now first (take done steps.now) w) }
+    ensures { IfOk result (λ done. (w : World) × RunsThrough plan.now all_off (take done steps.now) w) }
 {
     let mut bus = Bus::new(alloc, plan, choosers)?;
     for (place, step) in steps.iter().enumerate() {

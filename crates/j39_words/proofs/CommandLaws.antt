@@ -7,7 +7,7 @@ use Rattle.clap.specs.declared.error.Error.{Error}
 use Rattle.clap.specs.declared.error.kind.ErrorKind.{ErrorKind}
 use Rattle.clap.specs.declared.error.kind.ErrorKind.TheVariants.{OutOfMemory}
 use Rattle.j39_words.specs.Commands.{commands}
-use Rattle.j39_words.specs.Orders.{AreRefused, AsksHelp, faults, is_request}
+use Rattle.j39_words.specs.Orders.{AreRefused, AsksHelp, faults_of_words, asks_for_text}
 
 -- the command is one of which `clap` gives the matches
 pub is_simple_commands : is_simple commands ≡ true
@@ -28,17 +28,17 @@ added program wanted (Ok c) (Err e) is adds = absurd adds
 added program wanted (Err e) sub is adds = tt
 
 -- what is told of words is a fault of theirs, or want of memory
-pub has_fault : (a : App) (words : List Text) (e : Error) → a ≡ commands → HasKind (fault_of a words) e → HasKind (faults words) e
-unfolding faults
+pub has_fault : (a : App) (words : List Text) (e : Error) → a ≡ commands → HasKind (fault_of a words) e → HasKind (faults_of_words words) e
+unfolding faults_of_words
 has_fault a words e is has = subst (λ (b : App). HasKind (fault_of b words) e) is has
 
 -- a request that is told is one of the words
-pub asks : (words : List Text) (k : ErrorKind) → (k ≡ OutOfMemory) ⊎ IsAmong k (faults words) → is_request k ≡ true → AsksHelp words
-asks words k (inl memory) is = absurd (true≢false (sym is ∙ ap is_request memory))
+pub asks : (words : List Text) (k : ErrorKind) → (k ≡ OutOfMemory) ⊎ IsAmong k (faults_of_words words) → asks_for_text k ≡ true → AsksHelp words
+asks words k (inl memory) is = absurd (true≢false (sym is ∙ ap asks_for_text memory))
 asks words k (inr among) is = (k, among, is)
 
 -- another fault that is told is one of the words, unless memory was wanted
-pub refuses : (words : List Text) (k : ErrorKind) → (k ≡ OutOfMemory) ⊎ IsAmong k (faults words) → is_request k ≡ false
+pub refuses : (words : List Text) (k : ErrorKind) → (k ≡ OutOfMemory) ⊎ IsAmong k (faults_of_words words) → asks_for_text k ≡ false
     → (k ≡ OutOfMemory → ⊥) → AreRefused words
 refuses words k (inl memory) is other = absurd (other memory)
 refuses words k (inr among) is other = inl (k, among, is)

@@ -8,21 +8,21 @@ use Rattle.j39_words.specs.declared.orders.Order.{Order}
 use Rattle.j39_words.specs.declared.orders.Order.TheVariants.{Input, Frame, Check, Addresses, Load, Run, Read, Follow, Help}
 
 -- the subcommand that was met has this name, and the value by this name is the text
-abbrev pub Gives : Option (Text × List Row) → Text → Text → Text → Type 0
-Gives met name value text = (rows : List Row) × (met ≡ Some (name, rows)) × (first_of value rows ≡ Some text)
+abbrev pub HasValue : Option (Text × List Row) → Text → Text → Text → Type 0
+HasValue met name value text = (rows : List Row) × (met ≡ Some (name, rows)) × (first_of value rows ≡ Some text)
 
 -- the order is the subcommand that was met, with its values, or the words ask for a text of help
 abbrev pub Orders : Option (Text × List Row) → Order → Type 0
-Orders met (Frame line) = Gives met (codes "frame") (codes "LINE") (string_bytes line)
-Orders met (Check plan) = Gives met (codes "check") (codes "PLAN") (string_bytes plan)
-Orders met (Addresses plan) = Gives met (codes "addresses") (codes "PLAN") (string_bytes plan)
-Orders met (Load plan) = Gives met (codes "load") (codes "PLAN") (string_bytes plan)
+Orders met (Frame line) = HasValue met (codes "frame") (codes "LINE") (string_bytes line)
+Orders met (Check plan) = HasValue met (codes "check") (codes "PLAN") (string_bytes plan)
+Orders met (Addresses plan) = HasValue met (codes "addresses") (codes "PLAN") (string_bytes plan)
+Orders met (Load plan) = HasValue met (codes "load") (codes "PLAN") (string_bytes plan)
 Orders met (Run plan schedule) =
-    Gives met (codes "run") (codes "PLAN") (string_bytes plan) × Gives met (codes "run") (codes "SCHEDULE") (string_bytes schedule)
+    HasValue met (codes "run") (codes "PLAN") (string_bytes plan) × HasValue met (codes "run") (codes "SCHEDULE") (string_bytes schedule)
 Orders met (Read plan log) =
-    Gives met (codes "read") (codes "PLAN") (string_bytes plan) × Gives met (codes "read") (codes "LOG") (string_bytes log)
+    HasValue met (codes "read") (codes "PLAN") (string_bytes plan) × HasValue met (codes "read") (codes "LOG") (string_bytes log)
 Orders met (Follow plan log) =
-    Gives met (codes "follow") (codes "PLAN") (string_bytes plan) × Gives met (codes "follow") (codes "LOG") (string_bytes log)
+    HasValue met (codes "follow") (codes "PLAN") (string_bytes plan) × HasValue met (codes "follow") (codes "LOG") (string_bytes log)
 Orders met Input = ⊥
 Orders met (Help text) = Unit {0}
 
@@ -38,28 +38,28 @@ IsHelp (Read plan log) = ⊥
 IsHelp (Follow plan log) = ⊥
 
 -- what the words order: the input where there are none, and else what they name
-abbrev pub Answers : List Text → Order → Type 0
-Answers [] order = order ≡ Input
-Answers (word ∷ words) order = Orders (subcommand_of commands (word ∷ words)) order
+abbrev pub IsOrdered : List Text → Order → Type 0
+IsOrdered [] order = order ≡ Input
+IsOrdered (word ∷ words) order = Orders (subcommand_of commands (word ∷ words)) order
 
 -- nothing is ordered, but a text of help may be asked for
 abbrev pub OrdersNothing : Option (Text × List Row) → Type 0
 OrdersNothing met = (order : Order) → Orders met order → IsHelp order
 
 -- a call for the help or the version, which clap tells as it tells a fault
-abbrev pub is_request : ErrorKind → Bool
-is_request kind.DisplayHelp = true
-is_request kind.DisplayVersion = true
-is_request _ = false
+abbrev pub asks_for_text : ErrorKind → Bool
+asks_for_text kind.DisplayHelp = true
+asks_for_text kind.DisplayVersion = true
+asks_for_text _ = false
 
 -- the faults of the words, of which one is told
-unfoldable pub faults : List Text → Kinds
-faults words = fault_of commands words
+unfoldable pub faults_of_words : List Text → Kinds
+faults_of_words words = fault_of commands words
 
 -- the words ask for a text of help
 abbrev pub AsksHelp : List Text → Type 0
-AsksHelp words = (k : ErrorKind) × IsAmong k (faults words) × (is_request k ≡ true)
+AsksHelp words = (k : ErrorKind) × IsAmong k (faults_of_words words) × (asks_for_text k ≡ true)
 
 -- the words are no command with its values: they have a fault, or nothing is ordered by them
 abbrev pub AreRefused : List Text → Type 0
-AreRefused words = ((k : ErrorKind) × IsAmong k (faults words) × (is_request k ≡ false)) ⊎ OrdersNothing (subcommand_of commands words)
+AreRefused words = ((k : ErrorKind) × IsAmong k (faults_of_words words) × (asks_for_text k ≡ false)) ⊎ OrdersNothing (subcommand_of commands words)

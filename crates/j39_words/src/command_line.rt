@@ -2,7 +2,7 @@
 ghost use Rattle.std.specs.Prelude.{◌≡◌, Err, None, true, false, [], IfOk, Some, map, string_bytes};
 ghost use Rattle.clap.specs.Words.{first_of, found_of, kind_of, rows_of, subcommand_of, subcommand_rows_of};
 ghost use Rattle.j39_words.specs.Commands.{commands};
-ghost use Rattle.j39_words.specs.Orders.{Answers, AreRefused, AsksHelp, IsHelp, Orders, OrdersNothing, is_request};
+ghost use Rattle.j39_words.specs.Orders.{IsOrdered, AreRefused, AsksHelp, IsHelp, Orders, OrdersNothing, asks_for_text};
 ghost use Rattle.j39_words.specs.declared.orders.WordsFault.TheVariants.{Bad};
 ghost use Rattle.clap.specs.declared.error.kind.ErrorKind.TheVariants.{OutOfMemory};
 
@@ -58,8 +58,8 @@ fn met(alloc: Global, matches: &ArgMatches) -> Result<Order, WordsFault>
 // What is ordered by words that give no matches.
 fn unmet(alloc: Global, error: &Error) -> Result<Order, WordsFault>
     ensures helped { IfOk result IsHelp }
-    ensures request { IfOk result (λ _. is_request (kind_of error.now) ≡ true) }
-    ensures fault { result ≡ Err Bad → is_request (kind_of error.now) ≡ false }
+    ensures request { IfOk result (λ _. asks_for_text (kind_of error.now) ≡ true) }
+    ensures fault { result ≡ Err Bad → asks_for_text (kind_of error.now) ≡ false }
     ensures memory { kind_of error.now ≡ OutOfMemory → result ≡ Err Bad → ⊥ }
 {
     match error.kind() {
@@ -85,7 +85,7 @@ fn parsed(alloc: Global, words: &[String]) -> Result<Order, WordsFault>
 /// What the words after the program's name ask for.
 pub fn order(alloc: Global, words: Vec<String>) -> Result<Order, WordsFault>
     ensures input { words.items ≡ [] → result ≡ Ok Order.Input }
-    ensures ordered { IfOk result (Answers (map string_bytes words.items)) }
+    ensures ordered { IfOk result (IsOrdered (map string_bytes words.items)) }
     ensures helped { IfOk result (λ o. IsHelp o → AsksHelp (map string_bytes words.items)) }
     ensures refused { result ≡ Err Bad → AreRefused (map string_bytes words.items) }
 {

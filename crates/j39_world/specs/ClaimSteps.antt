@@ -56,8 +56,8 @@ answer_items None = []
 answer_items (Some say) = Told say ∷ []
 
 -- v has heard the oldest item of u, is what it then is, and tells its answer; the rest is still undelivered
-abbrev pub given : List PlannedUnit → World → ℕ → ℕ → List Item → Option Say → ClaimState → World
-given units w u v rest says new =
+abbrev pub heard_and_answered : List PlannedUnit → World → ℕ → ℕ → List Item → Option Say → ClaimState → World
+heard_and_answered units w u v rest says new =
     tell units
     (record w { stations = changed w.stations v new; claims = changed_pair w.claims u v rest })
     v (answer_items says)
@@ -67,4 +67,4 @@ abbrev pub GivenFrom : List PlannedUnit → World → ℕ → ℕ → List Item 
 GivenFrom units w u v [] new = ⊥
 GivenFrom units w u v (item ∷ rest) new =
     (says : Option Say) × (s : ClaimState) × Answers (unit_at units v) (w.stations v) (unit_at units u).name item says s
-    × (new ≡ given units w u v rest says s)
+    × (new ≡ heard_and_answered units w u v rest says s)

@@ -2,7 +2,7 @@
 use Rattle.std.specs.Prelude.{◌≡◌, ℕ, true, List, None}
 use Rattle.j39_findings.specs.declared.plan.Plan.{Plan}
 use Rattle.j39_findings.specs.declared.steps.Step.{Step}
-use Rattle.j39_world.specs.World.{World, first}
+use Rattle.j39_world.specs.World.{World, all_off}
 use Rattle.j39_world.specs.Run.{Run, RunsThrough}
 use Rattle.j39_world.specs.Sound.{IsQuiet}
 
@@ -14,5 +14,5 @@ pub record IsLeftWithoutAddress (unit : ℕ) (w : World) : Type 0 where
 
 -- the steps can be run from the first world, and whoever runs them meets no refusal and leaves the unit without an address
 pub record LeavesWithoutAddress (plan : Plan) (steps : List Step) (unit : ℕ) : Type 0 where
-  pub possible : (w : World) × Run plan first steps w
-  pub shown : (w : World) → Run plan first steps w → RunsThrough plan first steps w × IsLeftWithoutAddress unit w
+  pub possible : (w : World) × Run plan all_off steps w
+  pub shown : (w : World) → Run plan all_off steps w → RunsThrough plan all_off steps w × IsLeftWithoutAddress unit w

@@ -1,12 +1,12 @@
 -- The frames that tell of addresses: those of SAE J1939-81, address claimed and cannot claim address, and the request
 -- for them. All go to the global address with one priority; the identifier's layout is that of SAE J1939-21.
 use Rattle.std.specs.Prelude.{ℕ, List, Option, Some, None}
-use Rattle.std.specs.Int.{w64, to_le_bytes}
 use Rattle.j39_id.specs.Addresses.{null_address, global_address}
 use Rattle.j39_id.specs.Ident.{bits, identifier_of}
+use Rattle.j39_id.specs.Name.{name_bytes}
 use Rattle.j39_id.specs.Services.{request, address_claimed, claim_priority}
 use Rattle.j39_id.specs.declared.frame.Frame.{Frame}
-use Rattle.j39_tp.specs.Packets.{pgn_bytes}
+use Rattle.j39_id.specs.Pgn.{pgn_bytes}
 use Rattle.j39_claim.specs.declared.item.Say.{Say}
 use Rattle.j39_claim.specs.declared.item.Say.TheVariants.{Claim, Cannot}
 use Rattle.j39_claim.specs.declared.item.Item.{Item}
@@ -34,7 +34,7 @@ to_all pgn source = identifier_of claim_priority pgn global_address source
 -- the frame of an item that a unit of this NAME tells which holds this address. A claim carries the NAME, a request the
 -- PGN that is asked for, each with its least significant byte first
 abbrev pub frame_of : ℕ → Option ℕ → Item → Sent
-frame_of name held (Told say) = record { identifier = to_all address_claimed (source_of (claimed_by say)); payload = to_le_bytes w64 name }
+frame_of name held (Told say) = record { identifier = to_all address_claimed (source_of (claimed_by say)); payload = name_bytes name }
 frame_of name held Request = record { identifier = to_all request (source_of held); payload = pgn_bytes address_claimed }
 
 -- a frame of the program, as it is on the bus

@@ -6,7 +6,7 @@ use Rattle.j39_findings.specs.SoundSignals.{SoundSignals}
 use Rattle.j39_findings.specs.declared.plan.Plan.{Plan}
 use Rattle.j39_findings.specs.declared.steps.Step.{Step}
 use Rattle.j39_world.specs.Transfers.{Outgoing}
-use Rattle.j39_world.specs.World.{World, first}
+use Rattle.j39_world.specs.World.{World, all_off}
 use Rattle.j39_world.specs.Run.{Run}
 use Rattle.j39_world.specs.PlannedUnits.{units_of}
 use Rattle.j39_world.specs.Settling.{Settles}
@@ -17,7 +17,7 @@ use Rattle.j39_world.specs.Staying.{ArePlannedApart, HoldsPlanned}
 
 -- it holds in every world of every run of the plan, with all lawful choices and whatever is lost
 abbrev pub Always : Plan → (World → Type 0) → Type 0
-Always plan Holds = (steps : List Step) (w : World) → Run plan first steps w → Holds w
+Always plan Holds = (steps : List Step) (w : World) → Run plan all_off steps w → Holds w
 
 -- a unit is between the beginning of a message and its rest
 abbrev pub IsSending : World → Type 0

@@ -113,17 +113,17 @@ rested w u = record w { sessions = changed w.sessions u None }
 -- ---- a packet is taken
 
 -- a sender hears its receivers alone
-abbrev pub session_hears : Outgoing → ℕ → Packet → Stage × Reaction
-session_hears s u p =
-    if is_among s.targets u then sender.hears (dest_of s.to) s.pgn (length s.bytes) s.stage p else (s.stage, reactions.Nothing)
+abbrev pub outgoing_hears : Outgoing → ℕ → Packet → Stage × Reaction
+outgoing_hears s u p =
+    if is_among s.targets u then sender.stage_hears (dest_of s.to) s.pgn (length s.bytes) s.stage p else (s.stage, reactions.Nothing)
 
 abbrev pub session_after : Option Outgoing → ℕ → Packet → Option Outgoing
 session_after None u p = None
-session_after (Some s) u p = Some (record s { stage = (session_hears s u p).0 })
+session_after (Some s) u p = Some (record s { stage = (outgoing_hears s u p).0 })
 
 abbrev pub reaction_of : Option Outgoing → ℕ → Packet → Reaction
 reaction_of None u p = reactions.Nothing
-reaction_of (Some s) u p = (session_hears s u p).1
+reaction_of (Some s) u p = (outgoing_hears s u p).1
 
 -- what a receiver answers, and what a sender does; no packet is answered by both
 abbrev pub receiver_replies : Heard → List Packet

@@ -32,8 +32,8 @@ pub record World : Type 0 where
   pub frames : List Sent
 
 -- at first all are off, and nothing was sent
-abbrev pub first : World
-first = record {
+abbrev pub all_off : World
+all_off = record {
   stations = λ u. off;
   claims = λ u v. [];
   sessions = λ u. None;

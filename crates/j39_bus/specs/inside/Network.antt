@@ -37,8 +37,8 @@ has_begun h f flow targets bytes = record h { begun = added h.begun flow.sender 
 abbrev pub has_taken : Histories → ℕ → ℕ → Packet → Histories
 has_taken h v u p = record h { taken = changed_pair h.taken v u (h.taken v u ++ p ∷ []) }
 
-abbrev pub state_of : Network → BusState
-state_of net = record {
+abbrev pub bus_state : Network → BusState
+bus_state net = record {
   units = net.claimers.items;
   claims = net.claims.lists;
   flows = net.flows.items;
@@ -50,7 +50,7 @@ state_of net = record {
 }
 
 abbrev pub world_in : Histories → Network → World
-world_in h net = world_of h (state_of net)
+world_in h net = world_of h (bus_state net)
 
 abbrev pub HasHeld : Histories → Network → Type 0
 HasHeld h net = HoldTaken h.taken net.receivers
@@ -59,8 +59,8 @@ abbrev pub names_of : List ClaimerValue → List ℕ
 names_of cs = map (λ c. c.planned.name) cs
 
 -- one of the units has this NAME
-abbrev pub is_named : List ClaimerValue → ℕ → Bool
-is_named cs n = list_any (λ m. nat_eq n m) (names_of cs)
+abbrev pub has_unit_named : List ClaimerValue → ℕ → Bool
+has_unit_named cs n = list_any (λ m. nat_eq n m) (names_of cs)
 
 pub record IsWellFormed (cs : List ClaimerValue) (lists : List (List (List Item))) : Type 0 where
   -- few enough units for a note of each
@@ -68,7 +68,7 @@ pub record IsWellFormed (cs : List ClaimerValue) (lists : List (List (List Item)
   -- there is a list from each unit to each
   pub table : IsTable (length cs) lists
   -- each unit has noted only NAMEs of these units
-  pub notes : (v n : ℕ) → is_some (get (station_at cs v).notes n) ≡ true → is_named cs n ≡ true
+  pub notes : (v n : ℕ) → is_some (get (station_at cs v).notes n) ≡ true → has_unit_named cs n ≡ true
 
 pub record IsNetwork (net : Network) : Type 0 where
   pub claims : IsWellFormed net.claimers.items net.claims.lists
@@ -76,7 +76,7 @@ pub record IsNetwork (net : Network) : Type 0 where
 
 -- the network has the units of the plan, its flows and its windows
 abbrev pub IsOfPlan : Plan → Network → Type 0
-IsOfPlan plan net = IsPlannedBy plan (state_of net)
+IsOfPlan plan net = IsPlannedBy plan (bus_state net)
 
 -- the units, the flows and the windows stay
 pub record KeepsPlan (old new : Network) : Type 0 where

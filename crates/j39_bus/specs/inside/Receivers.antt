@@ -13,30 +13,30 @@ use Rattle.j39_tp.specs.declared.receiving.progress.Progress.TheVariants.{Open}
 use Rattle.j39_world.specs.Flows.{window_at}
 use Rattle.j39_bus.specs.BusState.{Holding, ReceiverTable, closed, holding_at}
 
-abbrev pub Slot : Type 0
-Slot = Option (Box Receiving Global)
+abbrev pub ReceiverSlot : Type 0
+ReceiverSlot = Option (Box Receiving Global)
 
-abbrev pub Row : Type 0
-Row = Vec Slot Global
+abbrev pub ReceiverRow : Type 0
+ReceiverRow = Vec ReceiverSlot Global
 
 -- where no receiver stands, it is closed
-abbrev pub holding_of : Slot → Holding
+abbrev pub holding_of : ReceiverSlot → Holding
 holding_of None = closed
 holding_of (Some b) = record { progress = b.value.progress; bytes = b.value.bytes }
 
-abbrev pub holdings_of : List Row → List (List Holding)
-holdings_of rows = map (λ (r : Row). map holding_of r.items) rows
+abbrev pub holdings_of : List ReceiverRow → List (List Holding)
+holdings_of rows = map (λ (r : ReceiverRow). map holding_of r.items) rows
 
 -- a receiver answers with this window
-abbrev pub IsAnswering : ℕ → Slot → Type 0
+abbrev pub IsAnswering : ℕ → ReceiverSlot → Type 0
 IsAnswering window None = Unit {0}
 IsAnswering window (Some b) = b.value.manner ≡ Answering window
 
-abbrev pub slot_at : List Row → ℕ → ℕ → Slot
-slot_at rows v u = slice_index_or (slice_index_or (map (λ (r : Row). r.items) rows) v []) u None
+abbrev pub slot_at : List ReceiverRow → ℕ → ℕ → ReceiverSlot
+slot_at rows v u = slice_index_or (slice_index_or (map (λ (r : ReceiverRow). r.items) rows) v []) u None
 
 -- a place for each two of as many units as there are windows; each receiver answers with its unit's window
-pub record IsReceivers (windows : List ℕ) (rows : List Row) : Type 0 where
+pub record IsReceivers (windows : List ℕ) (rows : List ReceiverRow) : Type 0 where
   pub table : IsTable (length windows) (holdings_of rows)
   pub lets_some : (v : ℕ) → 0 < window_at windows v
   pub answering : (v u : ℕ) → IsAnswering (window_at windows v) (slot_at rows v u)
@@ -62,7 +62,7 @@ abbrev pub receiver_at : ReceiverTable → ℕ → ℕ → Receiving
 receiver_at t v u = answering (window_at t.windows v) (holding_at t.holdings v u)
 
 -- an announcement finds a receiver in the table
-abbrev pub IsReady : Packet → Slot → Type 0
+abbrev pub IsReady : Packet → ReceiverSlot → Type 0
 IsReady packet slot = is_announcement packet ≡ true → slot ≡ None → ⊥
 
 -- there is room for the message that a packet completes

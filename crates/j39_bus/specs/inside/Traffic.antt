@@ -17,14 +17,14 @@ use Rattle.j39_world.specs.TransferSteps.{hearing, session_after}
 use Rattle.j39_world.specs.World.{World, changed, changed_pair}
 
 -- where a message goes there is a unit
-abbrev pub IsInside : ℕ → To → Type 0
-IsInside n ToAll = Unit {0}
-IsInside n (ToOne v) = v < n
+abbrev pub GoesToUnits : ℕ → To → Type 0
+GoesToUnits n ToAll = Unit {0}
+GoesToUnits n (ToOne v) = v < n
 
 -- the units of a flow are units, and its group can be sent
 pub record IsFlow (n : ℕ) (f : Flow) : Type 0 where
   pub sender : f.sender < n
-  pub receiver : IsInside n f.to
+  pub receiver : GoesToUnits n f.to
   pub length : f.most ≤ message_bytes
   pub priority : f.priority ≤ 7
 
@@ -35,7 +35,7 @@ AreUnits n (v ∷ vs) = (v < n) × (is_among vs v ≡ false) × AreUnits n vs
 
 -- a message goes to units
 pub record IsSession (n : ℕ) (s : Outgoing) : Type 0 where
-  pub to : IsInside n s.to
+  pub to : GoesToUnits n s.to
   pub targets : AreUnits n s.targets
 
 pub record AreSessions (n : ℕ) (sessions : List (Option Outgoing)) : Type 0 where

@@ -11,13 +11,13 @@ use Rattle.j39_tp.specs.Receiver.{Receiving}
 use Rattle.j39_tp.specs.declared.packet.Packet.{Packet}
 use Rattle.j39_tp.specs.declared.receiving.progress.Progress.TheVariants.{Complete}
 use Rattle.j39_follow.specs.FollowReports.{IsMessageReport, IsNotice}
-use Rattle.j39_follow.specs.FollowText.{IsHeardAs, IsPacketReport, frames_of, in_frame}
+use Rattle.j39_follow.specs.FollowText.{IsFollowedAs, IsPacketReport, frames_seen, in_frame}
 use Rattle.j39_follow.specs.declared.message.Sort.{Sort}
 use Rattle.j39_follow.specs.inside.Hearing.{HaveHeardOneMore}
 
 -- the frame, behind those before it
-abbrev pub with_frame : List Seen → Frame → List Frame
-with_frame seen f = frames_of seen ++ f ∷ []
+abbrev pub frames_with : List Seen → Frame → List Frame
+frames_with seen f = frames_seen seen ++ f ∷ []
 
 -- the report of the message that a listener holds, and what it counts as
 pub record IsCompleted (plan : Plan) (frames : List Frame) (front : List ℕ) (listener : Receiving) (i : Ident) (counted : Option Sort)
@@ -39,10 +39,10 @@ pub record IsFrameWritten (plan : Plan) (listeners : Listeners) (seen : List See
   pub notice : List ℕ
   pub report : List ℕ
   pub carried : List ℕ
-  pub heard_as : IsHeardAs plan (with_frame seen f) f packet
+  pub heard_as : IsFollowedAs plan (frames_with seen f) f packet
   pub range : IsInRange packet
-  pub notice_is : IsNotice plan (with_frame seen f) front f notice
-  pub report_is : IsMessageReport plan (with_frame seen f) front (in_frame f) sort report
+  pub notice_is : IsNotice plan (frames_with seen f) front f notice
+  pub report_is : IsMessageReport plan (frames_with seen f) front (in_frame f) sort report
   pub carried_is : IsPacketReport plan seen front f packet (option_to_list ended) carried
   pub heard : HaveHeardOneMore plan listeners seen (record { frame = f; packet = packet })
   pub text_is : new ≡ old ++ (notice ++ (report ++ carried))

@@ -13,19 +13,19 @@ use Rattle.j39_follow.specs.Who.{stranger_of, unit_of}
 use Rattle.j39_follow.specs.declared.who.Who.{Who}
 use Rattle.j39_follow.specs.inside.Recounting.{party_at}
 
-abbrev pub listener_at : Listeners → ℕ → ℕ → Receiving
-listener_at listeners source destination = listener_of_pair listeners.rows.items source destination
+abbrev pub listener_between : Listeners → ℕ → ℕ → Receiving
+listener_between listeners source destination = listener_of_pair listeners.rows.items source destination
 
 -- each listener heard what its pair heard since
 abbrev pub HaveHeardSince : Plan → Listeners → List Seen → Type 0
 HaveHeardSince plan listeners seen = (source destination : ℕ) → source < 256 → destination < 256
-    → (h : List Packet) × HeardSince plan seen source destination h × (listener_at listeners source destination ≡ after_all h)
+    → (h : List Packet) × HeardSince plan seen source destination h × (listener_between listeners source destination ≡ after_all h)
 
 -- each heard one frame more, and what its pair had heard since before that
 abbrev pub HaveHeardOneMore : Plan → Listeners → List Seen → Seen → Type 0
 HaveHeardOneMore plan listeners seen x = (source destination : ℕ) → source < 256 → destination < 256
     → (h : List Packet) × HeardSince plan seen source destination h
-    × (listener_at listeners source destination ≡ after_all (h ++ heard_of source destination x.frame.ident x.packet))
+    × (listener_between listeners source destination ≡ after_all (h ++ heard_of source destination x.frame.ident x.packet))
 
 -- ---- change of hands
 

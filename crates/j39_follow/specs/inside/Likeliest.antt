@@ -22,8 +22,8 @@ IsBestOf plan many frames address None =
     (v : ℕ) (other : UnitPlan) → v < many → slice_get plan.units.items v ≡ Some other → ¬ MayHold frames address other
 
 -- the NAME is below that of the best unit, if there is one
-abbrev pub IsBelow : Plan → ℕ → Option ℕ → Type 0
-IsBelow plan name best = (b : ℕ) (other : UnitPlan) → best ≡ Some b → slice_get plan.units.items b ≡ Some other → name < other.name
+abbrev pub IsBelowBest : Plan → ℕ → Option ℕ → Type 0
+IsBelowBest plan name best = (b : ℕ) (other : UnitPlan) → best ≡ Some b → slice_get plan.units.items b ≡ Some other → name < other.name
 
 -- there is one, whose NAME isn't above this one
 pub record IsNotBelow (plan : Plan) (name : ℕ) (best : Option ℕ) : Type 0 where

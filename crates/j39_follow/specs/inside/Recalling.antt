@@ -9,10 +9,10 @@ use Rattle.j39_findings.specs.declared.plan.Plan.{Plan}
 use Rattle.j39_log.specs.inside.Listening.{AreAllInRange, IsInRange}
 use Rattle.j39_tp.specs.declared.packet.Packet.{Packet}
 use Rattle.j39_follow.specs.FollowReports.{IsMessageReport, IsNotice}
-use Rattle.j39_follow.specs.FollowText.{AreUnitLines, IsHeardAs, IsPacketReport, Past, ReadsLines, counts_line, flow_lines, frames_of, group_ends, in_frame, nothing_yet}
+use Rattle.j39_follow.specs.FollowText.{AreUnitLines, IsFollowedAs, IsPacketReport, FollowedPast, FollowsLines, follow_counts_line, flow_ends, frames_seen, group_ends, in_frame, nothing_followed}
 use Rattle.j39_follow.specs.declared.message.Sort.{Sort}
 use Rattle.j39_follow.specs.declared.reading.Reading.{Reading}
-use Rattle.j39_follow.specs.inside.FrameWriting.{IsFrameWritten, with_frame}
+use Rattle.j39_follow.specs.inside.FrameWriting.{IsFrameWritten, frames_with}
 use Rattle.j39_follow.specs.inside.Hearing.{HaveHeardSince}
 use Rattle.j39_follow.specs.inside.Recounting.{Knows}
 use Rattle.j39_follow.specs.inside.Tallies.{IsTally}
@@ -23,15 +23,15 @@ interface_of None = None
 interface_of (Some name) = Some name.items
 
 -- who holds what, what each pair heard and what was sent is as these tell
-pub record Remembers (plan : Plan) (reading : Reading) (past : Past) : Type 0 where
-  pub knows : Knows plan reading.directory (frames_of past.seen)
+pub record Remembers (plan : Plan) (reading : Reading) (past : FollowedPast) : Type 0 where
+  pub knows : Knows plan reading.directory (frames_seen past.seen)
   pub heard : HaveHeardSince plan reading.listeners past.seen
   pub ranges : AreAllInRange past.seen
   pub tally : IsTally plan reading.tally past.sent
   pub few : length past.sent ≤ 2 * length past.seen
 
 -- what was read so far is this
-pub record Recalls (plan : Plan) (reading : Reading) (past : Past) : Type 0 where
+pub record RecallsPast (plan : Plan) (reading : Reading) (past : FollowedPast) : Type 0 where
   pub remembers : Remembers plan reading past
   pub interface_is : interface_of reading.interface ≡ past.interface
   pub number_is : reading.number ≡ past.number
@@ -66,49 +66,49 @@ pub record IsOneMore (old new : Reading) : Type 0 where
   pub elsewhere : new.elsewhere ≤ old.elsewhere + 1
 
 -- the frame was written, and what was sent was counted
-pub record IsReported (plan : Plan) (old new : Reading) (past : Past) (front : List ℕ) (f : Frame) : Type 0 where
+pub record IsReported (plan : Plan) (old new : Reading) (past : FollowedPast) (front : List ℕ) (f : Frame) : Type 0 where
   pub sort : Sort
   pub ended : Option Sort
   pub written : IsFrameWritten plan new.listeners past.seen front f sort ended old.text new.text
   pub tally : IsTally plan new.tally (past.sent ++ sort ∷ option_to_list ended)
 
 -- the frame was written and counted, and what it tells was noted
-pub record IsFollowed (plan : Plan) (old new : Reading) (past : Past) (front : List ℕ) (f : Frame) : Type 0 where
+pub record IsFollowed (plan : Plan) (old new : Reading) (past : FollowedPast) (front : List ℕ) (f : Frame) : Type 0 where
   pub sort : Sort
   pub ended : Option Sort
   pub packet : Option Packet
   pub notice : List ℕ
   pub report : List ℕ
   pub carried : List ℕ
-  pub heard_as : IsHeardAs plan (with_frame past.seen f) f packet
+  pub heard_as : IsFollowedAs plan (frames_with past.seen f) f packet
   pub range : IsInRange packet
-  pub notice_is : IsNotice plan (with_frame past.seen f) front f notice
-  pub report_is : IsMessageReport plan (with_frame past.seen f) front (in_frame f) sort report
+  pub notice_is : IsNotice plan (frames_with past.seen f) front f notice
+  pub report_is : IsMessageReport plan (frames_with past.seen f) front (in_frame f) sort report
   pub carried_is : IsPacketReport plan past.seen front f packet (option_to_list ended) carried
   pub text_is : new.text ≡ old.text ++ (notice ++ (report ++ carried))
-  pub knows : Knows plan new.directory (with_frame past.seen f)
+  pub knows : Knows plan new.directory (frames_with past.seen f)
   pub heard : HaveHeardSince plan new.listeners (past.seen ++ record { frame = f; packet = packet } ∷ [])
   pub tally : IsTally plan new.tally (past.sent ++ sort ∷ option_to_list ended)
 
 -- these lines were read, and of what is to be written of them this much was written
-pub record HasReadLines (plan : Plan) (told : List Line) (reading : Reading) (written : List ℕ) : Type 0 where
-  pub past : Past
+pub record HasFollowedLines (plan : Plan) (told : List Line) (reading : Reading) (written : List ℕ) : Type 0 where
+  pub past : FollowedPast
   pub reports : List ℕ
-  pub read : ReadsLines plan nothing_yet told past reports
-  pub recalls : Recalls plan reading past
+  pub read : FollowsLines plan nothing_followed told past reports
+  pub recalls : RecallsPast plan reading past
   pub text_is : reports ≡ written ++ reading.text
 
 -- what is written behind the reports
-abbrev pub end_text : Plan → Past → List ℕ → List ℕ
-end_text plan past units =
-    flow_lines plan past.sent 0 plan.flows.items ++ (group_ends plan past.sent 0 plan.groups.items
-    ++ (units ++ counts_line (length past.seen) past.skipped past.bad past.elsewhere))
+abbrev pub behind_reports : Plan → FollowedPast → List ℕ → List ℕ
+behind_reports plan past units =
+    flow_ends plan past.sent 0 plan.flows.items ++ (group_ends plan past.sent 0 plan.groups.items
+    ++ (units ++ follow_counts_line (length past.seen) past.skipped past.bad past.elsewhere))
 
 -- the text of these lines, with what is written at the end
-pub record HasWritten (plan : Plan) (told : List Line) (text : List ℕ) : Type 0 where
-  pub past : Past
+pub record HasFollowedToEnd (plan : Plan) (told : List Line) (text : List ℕ) : Type 0 where
+  pub past : FollowedPast
   pub reports : List ℕ
   pub units : List ℕ
-  pub read : ReadsLines plan nothing_yet told past reports
-  pub units_are : AreUnitLines (frames_of past.seen) plan.units.items units
-  pub text_is : text ≡ reports ++ end_text plan past units
+  pub read : FollowsLines plan nothing_followed told past reports
+  pub units_are : AreUnitLines (frames_seen past.seen) plan.units.items units
+  pub text_is : text ≡ reports ++ behind_reports plan past units

@@ -5,7 +5,7 @@ use Rattle.std.specs.List.{slice_get}
 use Rattle.j39_id.specs.declared.frame.Frame.{Frame}
 use Rattle.j39_findings.specs.declared.plan.Plan.{Plan}
 use Rattle.j39_findings.specs.declared.plan.unit_plan.UnitPlan.{UnitPlan}
-use Rattle.j39_follow.specs.Holders.{Claims, Holds, IsTold, TellsOf}
+use Rattle.j39_follow.specs.Holders.{Claims, HoldsByFrames, IsTold, TellsOf}
 use Rattle.j39_follow.specs.Who.{IsWho}
 use Rattle.j39_follow.specs.declared.directory.Directory.{Directory}
 use Rattle.j39_follow.specs.declared.holders.Holders.{Holders}
@@ -17,13 +17,13 @@ abbrev pub is_marked : Holders → ℕ → Bool
 is_marked holders u = slice_index_or holders.told u false
 
 -- the table has this NAME at this address
-abbrev pub IsAt : Holders → ℕ → ℕ → Type 0
-IsAt holders address name = slice_get holders.names address ≡ Some (Some name)
+abbrev pub HasNameAt : Holders → ℕ → ℕ → Type 0
+HasNameAt holders address name = slice_get holders.names address ≡ Some (Some name)
 
 -- the holders are those behind these frames
 pub record Recounts (plan : Plan) (holders : Holders) (frames : List Frame) : Type 0 where
-  pub held : (address name : ℕ) → IsAt holders address name → Holds frames name address
-  pub holds : (address name : ℕ) → Holds frames name address → IsAt holders address name
+  pub held : (address name : ℕ) → HasNameAt holders address name → HoldsByFrames frames name address
+  pub holds : (address name : ℕ) → HoldsByFrames frames name address → HasNameAt holders address name
   pub told : (u : ℕ) (unit : UnitPlan) → slice_get plan.units.items u ≡ Some unit → is_marked holders u ≡ true → IsTold frames unit.name
   pub untold : (u : ℕ) (unit : UnitPlan) → slice_get plan.units.items u ≡ Some unit → is_marked holders u ≡ false
       → ¬ IsTold frames unit.name
@@ -35,12 +35,12 @@ TellsPlace f name None = TellsOf f name × ((other address : ℕ) → ¬ Claims 
 
 -- a table from which the NAME was taken
 pub record IsLeft (old new : Holders) (name : ℕ) : Type 0 where
-  pub left : (a n : ℕ) → IsAt new a n → (n ≢ name) × IsAt old a n
-  pub stays : (a n : ℕ) → (n ≢ name) × IsAt old a n → IsAt new a n
+  pub left : (a n : ℕ) → HasNameAt new a n → (n ≢ name) × HasNameAt old a n
+  pub stays : (a n : ℕ) → (n ≢ name) × HasNameAt old a n → HasNameAt new a n
 
 -- what of a table stays where this NAME is told to stand elsewhere, and where it stands then
-abbrev pub Stays : Holders → Option ℕ → ℕ → ℕ → ℕ → Type 0
-Stays old place name a n = (n ≢ name) × (place ≢ Some a) × IsAt old a n
+abbrev pub KeepsNameAt : Holders → Option ℕ → ℕ → ℕ → ℕ → Type 0
+KeepsNameAt old place name a n = (n ≢ name) × (place ≢ Some a) × HasNameAt old a n
 
 abbrev pub IsNew : Option ℕ → ℕ → ℕ → ℕ → Type 0
 IsNew place name a n = (place ≡ Some a) × (n ≡ name)
@@ -52,8 +52,8 @@ IsMarked plan old new name = (u : ℕ) (unit : UnitPlan) → slice_get plan.unit
 
 -- a table in which the NAME was told to stand there
 pub record IsMoved (plan : Plan) (old new : Holders) (name : ℕ) (place : Option ℕ) : Type 0 where
-  pub held : (a n : ℕ) → IsAt new a n → IsNew place name a n ⊎ Stays old place name a n
-  pub holds : (a n : ℕ) → IsNew place name a n ⊎ Stays old place name a n → IsAt new a n
+  pub held : (a n : ℕ) → HasNameAt new a n → IsNew place name a n ⊎ KeepsNameAt old place name a n
+  pub holds : (a n : ℕ) → IsNew place name a n ⊎ KeepsNameAt old place name a n → HasNameAt new a n
   pub marked : IsMarked plan old new name
 
 -- ---- who stands behind each address
@@ -84,7 +84,7 @@ PrefersElsewhere plan name address = (u : ℕ) (unit : UnitPlan) → slice_get p
 
 -- the NAME neither held the address nor is told to stand there, and no unit of it prefers it
 pub record IsUntouched (plan : Plan) (holders : Holders) (name : ℕ) (place : Option ℕ) (address : ℕ) : Type 0 where
-  pub held : ¬ IsAt holders address name
+  pub held : ¬ HasNameAt holders address name
   pub claimed : place ≢ Some address
   pub preferred : PrefersElsewhere plan name address
 

@@ -7,8 +7,8 @@ use Rattle.j39_follow.specs.declared.message.Sort.TheVariants.{Grouped, Other}
 use Rattle.j39_follow.specs.declared.stamp.Stamp.{Stamp}
 
 -- the message that came
-abbrev pub message_of : Arrival → Message
-message_of a = record { pgn = a.pgn; bytes = a.bytes.now; ident = a.ident; framed = a.framed }
+abbrev pub arrived_message : Arrival → Message
+arrived_message a = record { pgn = a.pgn; bytes = a.bytes.now; ident = a.ident; framed = a.framed }
 
 -- what stands before a report
 abbrev pub front_of : Stamp → List ℕ

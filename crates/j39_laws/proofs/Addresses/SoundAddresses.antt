@@ -15,7 +15,7 @@ use Rattle.j39_findings.specs.declared.plan.unit_plan.UnitPlan.{UnitPlan}
 use Rattle.j39_world.specs.PlannedUnits.{planned_unit, units_of, unit_at}
 use Rattle.j39_world.specs.Sound.{AreAddressesSound, AreAddressesDifferent, AreKeptFree, IsQuiet}
 use Rattle.j39_world.specs.SoundPlan.{Always}
-use Rattle.j39_world.specs.World.{World, Stations, Undelivered, first}
+use Rattle.j39_world.specs.World.{World, Stations, Undelivered, all_off}
 use Rattle.j39_laws.proofs.Addresses.AddressInvariant.{AddressInvariant, IsOwn, IsSaid}
 use Rattle.j39_laws.proofs.Addresses.AddressSteps.{up_keeps, down_keeps, ask_keeps, give_keeps}
 use Rattle.j39_laws.proofs.Addresses.CleanUnits.{IsClean}
@@ -24,7 +24,7 @@ use Rattle.j39_laws.proofs.Runs.Always.{always}
 use Rattle.j39_laws.proofs.Runs.ClaimInvariants.{IsKeptByClaimSteps, stations_given, claims_given, claim_steps_keep}
 use Rattle.j39_laws.proofs.Runs.Units.{in_units}
 
-at_first : (units : List PlannedUnit) → AddressInvariant units first.stations first.claims
+at_first : (units : List PlannedUnit) → AddressInvariant units all_off.stations all_off.claims
 at_first units = record {
   holds = λ u on. absurd (true≢false (sym on));
   apart = λ u v a other on_u on_v. absurd (true≢false (sym on_u));

@@ -14,7 +14,7 @@ use Rattle.j39_world.specs.PlannedUnits.{units_of, unit_at}
 use Rattle.j39_world.specs.ClaimSteps.{without_lists_to, answer_items}
 use Rattle.j39_world.specs.SoundPlan.{Always}
 use Rattle.j39_world.specs.Staying.{HoldsPlanned, EachSmaller, IsFirstThere, Stays, StaysByOthers}
-use Rattle.j39_world.specs.World.{Stations, Undelivered, first, changed}
+use Rattle.j39_world.specs.World.{Stations, Undelivered, all_off, changed}
 use Rattle.j39_laws.proofs.Addresses.Notes.{claim_cases}
 use Rattle.j39_laws.proofs.Addresses.Telling.{AllSaid, said_more, said_without, said_rest}
 use Rattle.j39_laws.proofs.Runs.Always.{always}
@@ -35,8 +35,8 @@ module _ (units : List PlannedUnit) where
   by_others u stays = (stays.first, elim (stays.unmoved) [ inl outside ↦ inl outside | inr unmoved ↦ inr (none_moves u unmoved) ])
 
   pub from_others : (u : ℕ) → StaysByOthers units u → Stays units u
-  from_others u (first, inl outside) = record { first = first; unmoved = inl outside }
-  from_others u (first, inr smaller) = record { first = first; unmoved = inr (λ v in_v below arbitrary. (smaller v in_v below arbitrary).first) }
+  from_others u (all_off, inl outside) = record { first = all_off; unmoved = inl outside }
+  from_others u (all_off, inr smaller) = record { first = all_off; unmoved = inr (λ v in_v below arbitrary. (smaller v in_v below arbitrary).first) }
 
   -- ---- what units say, and hold
 
@@ -145,7 +145,7 @@ claim_steps plan =
       given = λ stations claims inv u v unit_u unit_v. give_keeps units stations claims inv u v (in_units plan u unit_u);
     }
 
-at_first : (units : List PlannedUnit) → AreSaid units first.stations first.claims
+at_first : (units : List PlannedUnit) → AreSaid units all_off.stations all_off.claims
 at_first units = record { held = λ u on. absurd (true≢false (sym on)); said = λ u v. tt }
 
 pub stay : (plan : Plan) → Always plan (λ w. (u : ℕ) → Stays (units_of plan) u → HoldsPlanned (units_of plan) w u)

@@ -22,10 +22,10 @@ use Rattle.j39_findings.specs.declared.checking.finding.Finding.{Finding}
 use Rattle.j39_findings.specs.declared.steps.Step.{Step}
 use Rattle.j39_findings.specs.declared.steps.Step.TheVariants.{Up, Give}
 use Rattle.j39_world.specs.PlannedUnits.{planned_unit, units_of, unit_at}
-use Rattle.j39_world.specs.ClaimSteps.{GivenFrom, switched_on, given, told_to_others, without_lists_to, answer_items}
+use Rattle.j39_world.specs.ClaimSteps.{GivenFrom, switched_on, heard_and_answered, told_to_others, without_lists_to, answer_items}
 use Rattle.j39_world.specs.Conflict.{IsLeftWithoutAddress, LeavesWithoutAddress}
 use Rattle.j39_world.specs.Run.{count_of, is_on, is_no_transfer_open, refusal, Run, RunsThrough}
-use Rattle.j39_world.specs.World.{World, Stations, Undelivered, first, changed, changed_pair, is_other_on}
+use Rattle.j39_world.specs.World.{World, Stations, Undelivered, all_off, changed, changed_pair, is_other_on}
 use Rattle.j39_laws.proofs.Certified.{quiet_where_empty}
 use Rattle.j39_laws.proofs.Settling.SettlingRuns.{answered}
 use Rattle.j39_laws.proofs.Runs.Changed.{IsElsewhere, changed_here, changed_elsewhere, pair_here_or_elsewhere, pair_here, pair_elsewhere}
@@ -124,19 +124,19 @@ module _ (plan : Plan) (l s : ℕ) (unit_l : is_unit plan l ≡ true) (unit_s : 
   nothing true xs is = refl
   nothing false xs is = is
 
-  up_l : refusal plan first (Up l) ≡ None
-  up_l = not_refused plan first (Up l) (not_from_true _ unit_l, (refl, (not_from_true _ (none_open (count_of plan) first (λ u. refl)), tt)))
+  up_l : refusal plan all_off (Up l) ≡ None
+  up_l = not_refused plan all_off (Up l) (not_from_true _ unit_l, (refl, (not_from_true _ (none_open (count_of plan) all_off (λ u. refl)), tt)))
 
-  one_on : IsOneOn (switched_on (units_of plan) first l)
+  one_on : IsOneOn (switched_on (units_of plan) all_off l)
   one_on =
-      let new : Stations = changed first.stations l (started loser) in
+      let new : Stations = changed all_off.stations l (started loser) in
       let off : (t : ℕ) → t ≢ l → (new t).on ≡ false =
-      λ t other. ap (λ (x : ClaimState). x.on) (changed_elsewhere first.stations l (started loser) t other) in
+      λ t other. ap (λ (x : ClaimState). x.on) (changed_elsewhere all_off.stations l (started loser) t other) in
       record {
         silent = λ u. refl;
-        one = changed_here first.stations l (started loser);
+        one = changed_here all_off.stations l (started loser);
         off = off;
-        told = λ x y. nobody_told new (without_lists_to l first.claims) l (Told (Claim loser.preferred) ∷ []) off x y
+        told = λ x y. nobody_told new (without_lists_to l all_off.claims) l (Told (Claim loser.preferred) ∷ []) off x y
             ∙ nothing (eqb y l) [] refl;
       }
 
@@ -238,25 +238,25 @@ module _ (plan : Plan) (l s : ℕ) (unit_l : is_unit plan l ≡ true) (unit_s : 
   give_l : (w : World) → IsYielding w → refusal plan w (Give l s) ≡ None
   give_l w is = gives w (Told Cannot) l s is.two unit_l unit_s is.two.on_s
 
-  possible : (w : World) × Run plan first (conflict_steps l s) w
+  possible : (w : World) × Run plan all_off (conflict_steps l s) w
   possible =
-      let w1 : World = switched_on (units_of plan) first l in
+      let w1 : World = switched_on (units_of plan) all_off l in
       let w2 : World = switched_on (units_of plan) w1 s in
       let is2 = two_on w1 one_on in
       let claim : Item = Told (Claim winner.preferred) in
       let (says3, st3, answers3) = answered loser (w2.stations l) winner.name claim in
-      let w3 : World = given (units_of plan) w2 s l [] says3 st3 in
+      let w3 : World = heard_and_answered (units_of plan) w2 s l [] says3 st3 in
       let leads3 : GivenFrom (units_of plan) w2 s l (w2.claims s l) w3 =
       subst (λ (xs : List Item). GivenFrom (units_of plan) w2 s l xs w3) (sym is2.list) (says3, st3, answers3, refl) in
       let is3 = yielding w2 is2 (still_one w1 one_on) w3 leads3 in
       let (says4, st4, answers4) = answered winner (w3.stations s) loser.name (Told Cannot) in
-      let w4 : World = given (units_of plan) w3 l s [] says4 st4 in
+      let w4 : World = heard_and_answered (units_of plan) w3 l s [] says4 st4 in
       let leads4 : GivenFrom (units_of plan) w3 l s (w3.claims l s) w4 =
       subst (λ (xs : List Item). GivenFrom (units_of plan) w3 l s xs w4) (sym is3.two.list) (says4, st4, answers4, refl) in (
         w4,
         (
           w1,
-          leads_to_follows plan first (Up l) up_l w1 refl,
+          leads_to_follows plan all_off (Up l) up_l w1 refl,
           (
             w2,
             leads_to_follows plan w1 (Up s) (up_s w1 one_on) w2 refl,
@@ -265,9 +265,9 @@ module _ (plan : Plan) (l s : ℕ) (unit_l : is_unit plan l ≡ true) (unit_s : 
         ),
       )
 
-  shown : (w : World) → Run plan first (conflict_steps l s) w → RunsThrough plan first (conflict_steps l s) w × IsLeftWithoutAddress l w
+  shown : (w : World) → Run plan all_off (conflict_steps l s) w → RunsThrough plan all_off (conflict_steps l s) w × IsLeftWithoutAddress l w
   shown w (m1, f1, (m2, f2, (m3, f3, (m4, f4, e)))) =
-      let l1 : m1 ≡ switched_on (units_of plan) first l = follows_to_leads plan first (Up l) up_l m1 f1 in
+      let l1 : m1 ≡ switched_on (units_of plan) all_off l = follows_to_leads plan all_off (Up l) up_l m1 f1 in
       let is1 : IsOneOn m1 = subst IsOneOn (sym l1) one_on in
       let l2 : m2 ≡ switched_on (units_of plan) m1 s = follows_to_leads plan m1 (Up s) (up_s m1 is1) m2 f2 in
       let is2 : AreTwoOn (Told (Claim winner.preferred)) s l m2 =

@@ -20,7 +20,7 @@ use Rattle.j39_findings.specs.declared.plan.to.To.{To}
 use Rattle.j39_findings.specs.declared.plan.to.To.TheVariants as tos
 use Rattle.j39_world.specs.Flows.{dest_of}
 use Rattle.j39_world.specs.Transfers.{Outgoing, is_among, closed_if_complete}
-use Rattle.j39_world.specs.TransferSteps.{session_hears, reaction_of, receiver_replies, sender_replies, packets_in}
+use Rattle.j39_world.specs.TransferSteps.{outgoing_hears, reaction_of, receiver_replies, sender_replies, packets_in}
 
 -- ---- a receiver
 
@@ -57,14 +57,14 @@ replies_of reaction.Go aside = tt
 replies_of reaction.Ended aside = tt
 replies_of (reaction.Reply p) aside = (aside, tt)
 
-session_aside : (s : Outgoing) (u : ℕ) (p : Packet) → RepliesAside (session_hears s u p).1
+session_aside : (s : Outgoing) (u : ℕ) (p : Packet) → RepliesAside (outgoing_hears s u p).1
 session_aside s u p =
     cond_both (is_among s.targets u) _ _ (λ (x : Stage × Reaction). RepliesAside x.1)
     (λ _. sender_aside (dest_of s.to) s.pgn (length s.bytes) s.stage p) (λ _. tt)
 
 pub reaction_aside : (o : Option Outgoing) (u : ℕ) (p : Packet) → AllByRecursion IsAside (sender_replies (reaction_of o u p))
 reaction_aside None u p = tt
-reaction_aside (Some s) u p = replies_of (session_hears s u p).1 (session_aside s u p)
+reaction_aside (Some s) u p = replies_of (outgoing_hears s u p).1 (session_aside s u p)
 
 -- one of its receivers acknowledges the message by the packet
 pub record IsAckedOf (s : Outgoing) (u : ℕ) (p : Packet) : Type 0 where
@@ -79,7 +79,7 @@ if_acked s u p x by true among e =
     elim (by e) [ inl was ↦ inl was | inr now ↦ inr (record { acknowledges = now.0; among = among; directed = now.1 }) ]
 if_acked s u p x by false among e = inl e
 
-pub session_acked : (s : Outgoing) (u : ℕ) (p : Packet) → (session_hears s u p).0 ≡ Resting Acked
+pub session_acked : (s : Outgoing) (u : ℕ) (p : Packet) → (outgoing_hears s u p).0 ≡ Resting Acked
     → (s.stage ≡ Resting Acked) ⊎ IsAckedOf s u p
 session_acked s u p e = if_acked s u p _ (sender_acked (dest_of s.to) s.pgn (length s.bytes) s.stage p) (is_among s.targets u) refl e
 

@@ -16,7 +16,7 @@ use Rattle.j39_world.specs.Run.{count_of, is_no_transfer_open}
 use Rattle.j39_world.specs.Sound.{AreReportsSound, IsAcknowledgedReported, reported}
 use Rattle.j39_world.specs.SoundPlan.{Always}
 use Rattle.j39_world.specs.Transfers.{Outgoing}
-use Rattle.j39_world.specs.World.{World, Stations, Undelivered, first, changed, changed_pair}
+use Rattle.j39_world.specs.World.{World, Stations, Undelivered, all_off, changed, changed_pair}
 use Rattle.j39_laws.proofs.Reports.Exchanges.{Pair, pair_of, message_to, Exchange}
 use Rattle.j39_laws.proofs.Reports.ExchangeSteps.{is_part, dropped_keeps}
 use Rattle.j39_laws.proofs.Reports.Orderly.{DeliveredBefore, IsOrderly, none_sends, none_sends_while, claims_keep, less_between}
@@ -28,7 +28,7 @@ use Rattle.j39_laws.proofs.Runs.Always.{IsPreserved, always}
 use Rattle.j39_laws.proofs.Runs.Conditions.{is_unit, none_refuses, units_known}
 use Rattle.j39_laws.proofs.Runs.Units.{AreUnitsOn, AreBetweenUnits, units_all, units_on, without_lists_empty, told_between}
 
-pub at_first : (plan : Plan) → TransferInvariant plan first
+pub at_first : (plan : Plan) → TransferInvariant plan all_off
 at_first plan = record {
   order = record {
     units = λ u on. absurd (true≢false (sym on));

@@ -5,7 +5,7 @@ use Rattle.std.specs.Option.{is_some}
 use Rattle.j39_findings.specs.declared.plan.Plan.{Plan}
 use Rattle.j39_findings.specs.declared.steps.Step.{Step}
 use Rattle.j39_world.specs.declared.step_error.StepError.{StepError}
-use Rattle.j39_world.specs.World.{World, first}
+use Rattle.j39_world.specs.World.{World, all_off}
 use Rattle.j39_world.specs.Run.{refusal, StepsTo, Follows, Run, RunsThrough}
 use Rattle.j39_world.specs.SoundPlan.{Always}
 
@@ -27,8 +27,8 @@ module _ (plan : Plan) (Holds : World → Type 0) (keeps : IsPreserved plan Hold
   holds_behind (step ∷ steps) w new here (mid, follows, more) = holds_behind steps mid new (holds_next w here step mid follows) more
 
 -- what the first world has and each step keeps
-pub always : (plan : Plan) (Holds : World → Type 0) → Holds first → IsPreserved plan Holds → Always plan Holds
-always plan Holds at_first keeps steps w run = holds_behind plan Holds keeps steps first w at_first run
+pub always : (plan : Plan) (Holds : World → Type 0) → Holds all_off → IsPreserved plan Holds → Always plan Holds
+always plan Holds at_first keeps steps w run = holds_behind plan Holds keeps steps all_off w at_first run
 
 -- ---- steps that are not refused
 

@@ -17,7 +17,7 @@ use Rattle.j39_world.specs.Opening.{AreNamesDistinct}
 use Rattle.j39_world.specs.Sent.{claimed_by}
 use Rattle.j39_world.specs.Sound.{AreNotesRight, IsQuiet}
 use Rattle.j39_world.specs.SoundPlan.{Always}
-use Rattle.j39_world.specs.World.{Stations, Undelivered, first, changed, changed_pair, is_other_on}
+use Rattle.j39_world.specs.World.{Stations, Undelivered, all_off, changed, changed_pair, is_other_on}
 use Rattle.j39_laws.proofs.Runs.Always.{always}
 use Rattle.j39_laws.proofs.Runs.Changed.{changed_here, changed_elsewhere, pair_here, pair_elsewhere}
 use Rattle.j39_laws.proofs.Runs.ClaimInvariants.{IsKeptByClaimSteps, stations_given, claims_given, claim_steps_keep}
@@ -231,7 +231,7 @@ known_steps plan distinct = record {
 known : (plan : Plan) → AreNamesDistinct (units_of plan) → Always plan (λ w. AreKnown plan w.stations w.claims)
 known plan distinct = always plan (λ w. AreKnown plan w.stations w.claims)
     (record {
-      old = deliverable plan distinct [] first refl;
+      old = deliverable plan distinct [] all_off refl;
       row = λ x y apart on_x. absurd (true≢false (sym on_x));
     })
     (claim_steps_keep plan (AreKnown plan) (known_steps plan distinct))

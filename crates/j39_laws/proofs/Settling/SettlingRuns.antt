@@ -16,7 +16,7 @@ use Rattle.j39_findings.specs.declared.plan.Plan.{Plan}
 use Rattle.j39_findings.specs.declared.steps.Step.{Step}
 use Rattle.j39_findings.specs.declared.steps.Step.TheVariants.{Up, Down, Give, Ask, Begin, Emit, Take, Lose, LateSender, LateReceiver, Rest}
 use Rattle.j39_world.specs.PlannedUnits.{units_of, unit_at}
-use Rattle.j39_world.specs.ClaimSteps.{GivenFrom, given}
+use Rattle.j39_world.specs.ClaimSteps.{GivenFrom, heard_and_answered}
 use Rattle.j39_world.specs.Opening.{AreNamesDistinct}
 use Rattle.j39_world.specs.Run.{both, is_on, refusal, StepsTo, RunsThrough}
 use Rattle.j39_world.specs.Settling.{IsGive, Settles}
@@ -70,7 +70,7 @@ module _ (plan : Plan) (distinct : AreNamesDistinct (units_of plan)) (w : World)
       let some_items : 0 < length (w.claims u v) = rw is (omega arith) in
       let long : ltb 0 (length (w.claims u v)) ≡ true = lt-ltb 0 (length (w.claims u v)) some_items in
       let (says, s, answers) = answered (unit_at (units_of plan) v) (w.stations v) (unit_at (units_of plan) u).name item in
-      let after : World = given (units_of plan) w u v rest says s in
+      let after : World = heard_and_answered (units_of plan) w u v rest says s in
       let leads : GivenFrom (units_of plan) w u v (item ∷ rest) after = (says, s, answers, refl) in
       let parts = and_parts (is_unit plan u) (is_unit plan v) units in
       let allowed = not_refused plan w (Give u v) (none_unknown plan u v parts.0 parts.1, (not_from_true _ on, (not_from_true _ long, tt))) in

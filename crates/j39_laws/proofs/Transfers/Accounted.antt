@@ -139,7 +139,7 @@ ended_of_sender outcome (Sending next last) = tt
 ended_of_sender outcome Waiting = tt
 ended_of_sender outcome (Resting was) = tt
 
-hears_of_sender : (dest : Dest) (own size : ℕ) (stage : Stage) (p : Packet) → IsOfSender (sender.hears dest own size stage p)
+hears_of_sender : (dest : Dest) (own size : ℕ) (stage : Stage) (p : Packet) → IsOfSender (sender.stage_hears dest own size stage p)
 hears_of_sender dests.All own size stage p = tt
 hears_of_sender dests.One own size stage (Cts count first pgn) =
     cond_both (eqb pgn own) _ _ IsOfSender (λ _. cleared_of_sender own (packets_of size) count first stage) (λ _. tt)
@@ -164,7 +164,7 @@ pub reacted_accounted : (sessions : Sessions) (v u : ℕ) (o : Option Outgoing) 
 reacted_accounted sessions v u None p more = tt
 reacted_accounted sessions v u (Some s) p more =
     cond_both (is_among s.targets u) _ _ (λ (x : Stage × Reaction). AllByRecursion (IsAccounted sessions v u) (map wired.Packet (sender_replies x.1)))
-    (λ among. replies_accounted sessions v u (more u among) (sender.hears (dest_of s.to) s.pgn (length s.bytes) s.stage p).1
+    (λ among. replies_accounted sessions v u (more u among) (sender.stage_hears (dest_of s.to) s.pgn (length s.bytes) s.stage p).1
     (hears_of_sender (dest_of s.to) s.pgn (length s.bytes) s.stage p))
     (λ _. tt)
 

@@ -23,7 +23,7 @@ use Rattle.j39_world.specs.Arriving.{SendsOther}
 use Rattle.j39_world.specs.Flows.{window_at}
 use Rattle.j39_world.specs.Sound.{reported}
 use Rattle.j39_world.specs.Transfers.{Outgoing, Begun, Reported, Wire, is_among, closed_if_complete}
-use Rattle.j39_world.specs.TransferSteps.{session_hears, session_after, reaction_of}
+use Rattle.j39_world.specs.TransferSteps.{outgoing_hears, session_after, reaction_of}
 use Rattle.j39_world.specs.TransferSteps.{receiver_replies, sender_replies, flow_in, report, hearing, Reports, packet_taken, TakenFrom}
 use Rattle.j39_world.specs.World.{World, changed, changed_pair}
 use Rattle.j39_laws.proofs.Reports.Reporting.{reported_elsewhere}
@@ -116,7 +116,7 @@ module _ (plan : Plan) (u v : ℕ) (o : Outgoing) (before : List Begun) (apart :
       heard_elsewhere : then.sessions u ≡ Some (session_at now.stage)
       heard_elsewhere = elim (cases_eq u y) [
         | inl same ↦
-            let passed : session_hears (session_at now.stage) x p ≡ (now.stage, reactions.Nothing) =
+            let passed : outgoing_hears (session_at now.stage) x p ≡ (now.stage, reactions.Nothing) =
             cond-false (is_among o.targets x) _ _ (answered.among_elsewhere plan u v o before apart one alone x (λ is_v. elsewhere_back is_v (sym same))) in
             let hears : session_after (w.sessions y) x p ≡ Some (session_at now.stage) =
             ap (λ (z : Option Outgoing). session_after z x p) (ap w.sessions (sym same) ∙ now.session)
@@ -241,7 +241,7 @@ module _ (plan : Plan) (u v : ℕ) (o : Outgoing) (before : List Begun) (apart :
     module _ (windows : List ℕ) (p : Packet) (rest : List Wired) (is : w.wire v u ≡ wired.Packet p ∷ rest) (rs : List Reported)
         (told : Reports w v u p (hearing windows w v u p).1 rs) where
       abbrev answer : Stage × Reaction
-      answer = sender.hears dests.One o.pgn (length o.bytes) now.stage p
+      answer = sender.stage_hears dests.One o.pgn (length o.bytes) now.stage p
 
       abbrev back_then : World
       back_then = packet_taken windows w v u rest p rs
@@ -252,10 +252,10 @@ module _ (plan : Plan) (u v : ℕ) (o : Outgoing) (before : List Begun) (apart :
       abbrev back_reacted : List Packet
       back_reacted = sender_replies (reaction_of (w.sessions u) v p)
 
-      hears_is : session_hears (session_at now.stage) v p ≡ answer
+      hears_is : outgoing_hears (session_at now.stage) v p ≡ answer
       hears_is =
           cond-true (is_among o.targets v) _ _ among_here
-          ∙ ap (λ (d : Dest). sender.hears d o.pgn (length o.bytes) now.stage p) (answered.directed plan u v o before apart one alone)
+          ∙ ap (λ (d : Dest). sender.stage_hears d o.pgn (length o.bytes) now.stage p) (answered.directed plan u v o before apart one alone)
 
       reacted_is : back_reacted ≡ sender_replies answer.1
       reacted_is = ap (λ (z : Option Outgoing). sender_replies (reaction_of z v p)) now.session ∙ ap (λ (x : Stage × Reaction). sender_replies x.1) hears_is

@@ -65,14 +65,14 @@ module _ (o : Outgoing) (before : List Begun) where
 
   -- the packet after those that are held: it is the last one, or the last that was granted, or another one
   next_directed : (window : ℕ) (r : Reception) (number : ℕ) → r.kind ≡ Directed → number ≡ suc r.held
-      → ((receiver.takes (Answering window) r number ≡ (Complete r.pgn, heards.CompleteReply (EndAck r.size r.pgn))) × (suc r.held ≡ packets_of r.size))
-      ⊎ (((receiver.takes (Answering window) r number
-      ≡ (Open (receiver.granted_to window (receiver.one_more r)), heards.Reply (receiver.clear_packet window (receiver.one_more r))))
+      → ((receiver.takes_data (Answering window) r number ≡ (Complete r.pgn, heards.CompleteReply (EndAck r.size r.pgn))) × (suc r.held ≡ packets_of r.size))
+      ⊎ (((receiver.takes_data (Answering window) r number
+      ≡ (Open (receiver.granted_to window (receiver.one_more_held r)), heards.Reply (receiver.clear_packet window (receiver.one_more_held r))))
       × (suc r.held ≢ packets_of r.size) × (suc r.held ≡ r.granted))
-      ⊎ ((receiver.takes (Answering window) r number ≡ (Open (receiver.one_more r), heards.Nothing)) × (suc r.held ≢ r.granted)))
+      ⊎ ((receiver.takes_data (Answering window) r number ≡ (Open (receiver.one_more_held r), heards.Nothing)) × (suc r.held ≢ r.granted)))
   next_directed window r number kind is =
       let first : (number == r.held + 1) ≡ true = eq-eqb number (r.held + 1) (omega (arith, is)) in
-      let next : receiver.takes (Answering window) r number ≡ receiver.takes_next (Answering window) r = cond-true (number == r.held + 1) _ _ first in
+      let next : receiver.takes_data (Answering window) r number ≡ receiver.takes_next (Answering window) r = cond-true (number == r.held + 1) _ _ first in
       elim (cases_Bool (r.held + 1 == packets_of r.size)) [
         | inl last ↦ inl (
           next ∙ (cond-true (r.held + 1 == packets_of r.size) _ _ last ∙ ap (λ (k : Kind). (Complete r.pgn, receiver.completed (Answering window) k r)) kind),
@@ -81,7 +81,7 @@ module _ (o : Outgoing) (before : List Begun) where
         | inr more ↦ inr (elim (cases_Bool (r.held + 1 == r.granted)) [
           | inl granted ↦ inl (
             next ∙ (cond-false (r.held + 1 == packets_of r.size) _ _ more ∙ (cond-true (r.held + 1 == r.granted) _ _ granted
-                ∙ ap (λ (k : Kind). receiver.going_on (Answering window) k (receiver.one_more r)) kind)),
+                ∙ ap (λ (k : Kind). receiver.going_on (Answering window) k (receiver.one_more_held r)) kind)),
             (λ e. eqb-false (r.held + 1) (packets_of r.size) more (omega (arith, e))),
             (let e = eqb-true (r.held + 1) r.granted granted in omega (arith, e)),
           )
@@ -156,10 +156,10 @@ module _ (o : Outgoing) (before : List Begun) where
         )
 
     granted_heard : suc r.held ≢ packets_of r.size → suc r.held ≡ r.granted
-        → HearsNext (Open (receiver.granted_to window (receiver.one_more r)), heards.Reply (receiver.clear_packet window (receiver.one_more r)))
+        → HearsNext (Open (receiver.granted_to window (receiver.one_more_held r)), heards.Reply (receiver.clear_packet window (receiver.one_more_held r)))
     granted_heard other last =
         let over = none_left last in
-        let then : Reception = receiver.one_more r in
+        let then : Reception = receiver.one_more_held r in
         let less : then.held < packets_of then.size = (let most = received.most in let under = received.less in omega (arith, other, most, under, count)) in
         let clears : receiver.clear_packet window then ≡ Cts (receiver.grant window then) (then.held + 1) o.pgn =
         ap (λ k. Cts (receiver.grant window then) (then.held + 1) k) received.pgn in
@@ -179,13 +179,13 @@ module _ (o : Outgoing) (before : List Begun) where
           })),
         )
 
-    more_heard : suc r.held ≢ r.granted → HearsNext (Open (receiver.one_more r), heards.Nothing)
+    more_heard : suc r.held ≢ r.granted → HearsNext (Open (receiver.one_more_held r), heards.Nothing)
     more_heard other =
         let under = received.less in
         inl (
           tt,
           inr (inr (inl (record {
-            reception = receiver.one_more r;
+            reception = receiver.one_more_held r;
             opened = refl;
             received = record { kind = received.kind; pgn = received.pgn; size = received.size; less = omega (arith, under, other); most = received.most };
             count = left;
@@ -198,7 +198,7 @@ module _ (o : Outgoing) (before : List Begun) where
 
     pub data_heard : (number : ℕ) (seven : List ℕ) → number ≡ suc r.held → HearsNext (receiver.hears (Answering window) pr (Dt number seven))
     data_heard number seven is =
-        let opens : receiver.hears (Answering window) pr (Dt number seven) ≡ receiver.takes (Answering window) r number =
+        let opens : receiver.hears (Answering window) pr (Dt number seven) ≡ receiver.takes_data (Answering window) r number =
         ap (λ (x : Progress). receiver.hears (Answering window) x (Dt number seven)) opened in
         elim (next_directed window r number received.kind is) [
           | inl (heard, last) ↦ subst HearsNext (sym (opens ∙ heard)) (last_heard last)
@@ -275,7 +275,7 @@ module _ (o : Outgoing) (before : List Begun) where
   -- ---- the sender takes an answer
 
   cts_heard : (size count start last : ℕ) → 0 < count → 0 < start → start + count ≡ suc last → last ≤ packets_of size
-      → sender.hears dests.One o.pgn size Waiting (Cts count start o.pgn) ≡ (Sending start last, reactions.Go)
+      → sender.stage_hears dests.One o.pgn size Waiting (Cts count start o.pgn) ≡ (Sending start last, reactions.Go)
   cts_heard size count start last some positive is most =
       let own : (o.pgn == o.pgn) ≡ true = eq-eqb o.pgn o.pgn refl in
       let grants : (count == 0) ≡ false = ne_eqb count 0 (λ e. omega (arith, e, some)) in
@@ -288,8 +288,8 @@ module _ (o : Outgoing) (before : List Begun) where
   -- the oldest answer, as it is taken
   pub own_answered : (stage : Stage) (p : Packet) (coming answering : List Wired) (pr : Progress) (reports : List Begun)
       → IsAt o before stage coming (wired.Packet p ∷ answering) pr reports
-      → IsAt o before (sender.hears dests.One o.pgn (length o.bytes) stage p).0 coming answering pr reports
-      × (sender_replies (sender.hears dests.One o.pgn (length o.bytes) stage p).1 ≡ [])
+      → IsAt o before (sender.stage_hears dests.One o.pgn (length o.bytes) stage p).0 coming answering pr reports
+      × (sender_replies (sender.stage_hears dests.One o.pgn (length o.bytes) stage p).1 ≡ [])
   own_answered stage p coming answering pr reports (inl a) = absurd (let answers = a.answers in cc answers)
   own_answered stage p coming answering pr reports (inr (inr (inl s))) = absurd (let answers = s.answers in cc answers)
   own_answered stage p coming answering pr reports (inr (inr (inr (inr e)))) = absurd (let answers = e.answers in cc answers)
@@ -300,8 +300,8 @@ module _ (o : Outgoing) (before : List Begun) where
       let granted = c.granted in
       let is : p ≡ Cts c.count (r.held + 1) o.pgn = cc answers in
       let none : answering ≡ [] = cc answers in
-      let heard : sender.hears dests.One o.pgn (length o.bytes) stage p ≡ (Sending (r.held + 1) r.granted, reactions.Go) =
-      (λ i. sender.hears dests.One o.pgn (length o.bytes) (c.waits i) (is i))
+      let heard : sender.stage_hears dests.One o.pgn (length o.bytes) stage p ≡ (Sending (r.held + 1) r.granted, reactions.Go) =
+      (λ i. sender.stage_hears dests.One o.pgn (length o.bytes) (c.waits i) (is i))
       ∙ cts_heard (length o.bytes) c.count (r.held + 1) r.granted (omega (arith, less, granted)) (omega arith) (omega (arith, granted)) c.received.most in
       subst (λ (x : Stage × Reaction). IsAt o before x.0 coming answering pr reports × (sender_replies x.1 ≡ [])) (sym heard) (
         inr (inr (inl (record {
@@ -322,9 +322,9 @@ module _ (o : Outgoing) (before : List Begun) where
       let none : answering ≡ [] = cc answers in
       let own : (o.pgn == o.pgn) ≡ true = eq-eqb o.pgn o.pgn refl in
       let all : (length o.bytes == length o.bytes) ≡ true = eq-eqb (length o.bytes) (length o.bytes) refl in
-      let ends : sender.hears dests.One o.pgn (length o.bytes) Waiting (EndAck (length o.bytes) o.pgn) ≡ (Resting Acked, reactions.Ended) = rw (own, all) refl in
-      let heard : sender.hears dests.One o.pgn (length o.bytes) stage p ≡ (Resting Acked, reactions.Ended) =
-      (λ i. sender.hears dests.One o.pgn (length o.bytes) (r.waits i) (is i)) ∙ ends in
+      let ends : sender.stage_hears dests.One o.pgn (length o.bytes) Waiting (EndAck (length o.bytes) o.pgn) ≡ (Resting Acked, reactions.Ended) = rw (own, all) refl in
+      let heard : sender.stage_hears dests.One o.pgn (length o.bytes) stage p ≡ (Resting Acked, reactions.Ended) =
+      (λ i. sender.stage_hears dests.One o.pgn (length o.bytes) (r.waits i) (is i)) ∙ ends in
       subst (λ (x : Stage × Reaction). IsAt o before x.0 coming answering pr reports × (sender_replies x.1 ≡ [])) (sym heard) (
         inr (inr (inr (inr (record { rests = refl; wire = r.wire; answers = none; closed = r.closed; one = r.one })))),
         refl,
@@ -332,7 +332,7 @@ module _ (o : Outgoing) (before : List Begun) where
 
   -- what is no answer to it
   pub beside_answered : (size : ℕ) (stage : Stage) (p : Packet) → IsBesideBack o.pgn (wired.Packet p)
-      → sender.hears dests.One o.pgn size stage p ≡ (stage, reactions.Nothing)
+      → sender.stage_hears dests.One o.pgn size stage p ≡ (stage, reactions.Nothing)
   beside_answered size stage (Rts announced limit pgn) is = refl
   beside_answered size stage (Bam announced pgn) is = refl
   beside_answered size stage (Dt number seven) is = refl

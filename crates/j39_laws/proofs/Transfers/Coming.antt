@@ -30,7 +30,7 @@ use Rattle.j39_world.specs.Flows.{window_at, dest_of}
 use Rattle.j39_world.specs.Run.{count_of, begin_refusal, begin_refusals}
 use Rattle.j39_world.specs.Sound.{reported}
 use Rattle.j39_world.specs.Transfers.{Outgoing, Begun, Reported, Sessions, Wire, is_among, added}
-use Rattle.j39_world.specs.TransferSteps.{outgoing, first_item, begins, BeginsAt, sent_to_receivers, session_hears}
+use Rattle.j39_world.specs.TransferSteps.{outgoing, first_item, begins, BeginsAt, sent_to_receivers, outgoing_hears}
 use Rattle.j39_world.specs.TransferSteps.{flow_in, hearing, ReportsOne, Reports}
 use Rattle.j39_world.specs.TransferSteps.{Emits, SenderTimesOut, rested}
 use Rattle.j39_world.specs.World.{World, changed, changed_pair}
@@ -120,7 +120,7 @@ added_elsewhere wire s targets item x y other =
 
 -- ---- a sender that rests hears nothing
 
-resting_hears : (dest : Dest) (own size : ℕ) (outcome : Outcome) (p : Packet) → (sender.hears dest own size (Resting outcome) p).0 ≡ Resting outcome
+resting_hears : (dest : Dest) (own size : ℕ) (outcome : Outcome) (p : Packet) → (sender.stage_hears dest own size (Resting outcome) p).0 ≡ Resting outcome
 resting_hears dests.All own size outcome p = refl
 resting_hears dests.One own size outcome (Cts count first pgn) = cond_both (eqb pgn own) _ _ (λ (x : Stage × Reaction). x.0 ≡ Resting outcome) (λ _. refl) (λ _. refl)
 resting_hears dests.One own size outcome (EndAck received pgn) =
@@ -150,14 +150,14 @@ module _ (plan : Plan) (u : ℕ) (o : Outgoing) (before : ℕ → List Begun) (u
   to_all long = elim unanswered [ inl all ↦ all | inr whole ↦ absurd (true≢false (sym whole ∙ long)) ]
 
   -- what it hears changes nothing of it
-  pub stage_kept : (stage : Stage) (sent x : ℕ) (p : Packet) → HasSent o stage sent → (session_hears (at_stage stage) x p).0 ≡ stage
+  pub stage_kept : (stage : Stage) (sent x : ℕ) (p : Packet) → HasSent o stage sent → (outgoing_hears (at_stage stage) x p).0 ≡ stage
   stage_kept stage sent x p sends =
       cond_both (is_among o.targets x) _ _ (λ (z : Stage × Reaction). z.0 ≡ stage) (λ _. hears_nothing stage sends) (λ _. refl)
     where
-      long_hears : (st : Stage) → is_whole o ≡ false → (sender.hears (dest_of o.to) o.pgn (length o.bytes) st p).0 ≡ st
-      long_hears st long = subst (λ (to : To). (sender.hears (dest_of to) o.pgn (length o.bytes) st p).0 ≡ st) (sym (to_all long)) refl
+      long_hears : (st : Stage) → is_whole o ≡ false → (sender.stage_hears (dest_of o.to) o.pgn (length o.bytes) st p).0 ≡ st
+      long_hears st long = subst (λ (to : To). (sender.stage_hears (dest_of to) o.pgn (length o.bytes) st p).0 ≡ st) (sym (to_all long)) refl
 
-      hears_nothing : (st : Stage) → HasSent o st sent → (sender.hears (dest_of o.to) o.pgn (length o.bytes) st p).0 ≡ st
+      hears_nothing : (st : Stage) → HasSent o st sent → (sender.stage_hears (dest_of o.to) o.pgn (length o.bytes) st p).0 ≡ st
       hears_nothing (Sending next last) is = long_hears (Sending next last) is.0
       hears_nothing Waiting is = absurd is
       hears_nothing (Resting outcome) is = resting_hears (dest_of o.to) o.pgn (length o.bytes) outcome p

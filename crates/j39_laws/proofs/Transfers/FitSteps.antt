@@ -23,7 +23,7 @@ use Rattle.j39_world.specs.declared.flow.Flow.{Flow}
 use Rattle.j39_world.specs.declared.wired.Wired.{Wired}
 use Rattle.j39_world.specs.declared.wired.Wired.TheVariants as wired
 use Rattle.j39_claim.specs.declared.item.Item.{Item}
-use Rattle.j39_world.specs.ClaimSteps.{GivenFrom, given, without_lists_to, switched_on, switched_off, asked}
+use Rattle.j39_world.specs.ClaimSteps.{GivenFrom, heard_and_answered, without_lists_to, switched_on, switched_off, asked}
 use Rattle.j39_world.specs.Flows.{flows_of, flow_of, windows_of, window_at, dest_of, is_short}
 use Rattle.j39_world.specs.PlannedUnits.{units_of}
 use Rattle.j39_world.specs.Run.{count_of, begin_refusal, begin_refusals}
@@ -31,7 +31,7 @@ use Rattle.j39_world.specs.SoundPlan.{Always}
 use Rattle.j39_world.specs.Transfers.{Outgoing, Reported, Sessions, Wire, Receivers, is_among, added, closed_if_complete}
 use Rattle.j39_world.specs.TransferSteps.{outgoing, first_item, BeginsAt, session_after, reaction_of, receiver_replies, sender_replies, hearing}
 use Rattle.j39_world.specs.TransferSteps.{packet_taken, TakenFrom, LostFrom, packets_in, receiver_timed_out, sent_to_receivers}
-use Rattle.j39_world.specs.World.{World, first, changed, changed_pair}
+use Rattle.j39_world.specs.World.{World, all_off, changed, changed_pair}
 use Rattle.j39_laws.proofs.Runs.Always.{IsPreserved, always}
 use Rattle.j39_laws.proofs.Runs.Changed.{changed_each, pair_here, pair_elsewhere, pair_here_or_elsewhere, pair_each}
 use Rattle.j39_laws.proofs.Runs.Elements.{all-append, all_map}
@@ -57,7 +57,7 @@ pub record IsWorldFit (w : World) : Type 0 where
   pub within : (v u : ℕ) → IsWithin (w.receivers v u)
   pub gathered : (v u : ℕ) → HasGathered (w.taken v u) (w.receivers v u)
 
-at_first : IsWorldFit first
+at_first : IsWorldFit all_off
 at_first = record { wire = λ s t. tt; messages = λ u. tt; within = λ v u. tt; gathered = λ v u. ([], tt) }
 
 -- ---- what a flow sends
@@ -215,7 +215,7 @@ module _ (plan : Plan) (w : World) (inv : IsWorldFit w) where
 
   give_fits : (u v : ℕ) (list : List Item) (new : World) → GivenFrom (units_of plan) w u v list new → IsWorldFit new
   give_fits u v [] new never = absurd never
-  give_fits u v (item ∷ rest) new (says, s, answers, e) = subst IsWorldFit (sym e) (told_fits (given (units_of plan) w u v rest says s) refl refl refl refl)
+  give_fits u v (item ∷ rest) new (says, s, answers, e) = subst IsWorldFit (sym e) (told_fits (heard_and_answered (units_of plan) w u v rest says s) refl refl refl refl)
 
 pub steps_fit : (plan : Plan) → IsPreserved plan IsWorldFit
 steps_fit plan w inv (Up u) allowed new e = subst IsWorldFit (sym e) (switched_fits plan w inv u (switched_on (units_of plan) w u) refl refl refl refl)

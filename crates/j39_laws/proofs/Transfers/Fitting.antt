@@ -89,7 +89,7 @@ next_within : (window : ℕ) (r : Reception) → r.held < packets_of r.size → 
 next_within window r less =
     cond_both (r.held + 1 == packets_of r.size) _ _ WithinAt (λ _. tt)
     (λ other. let more : r.held + 1 < packets_of r.size = (let n = eqb-false (r.held + 1) (packets_of r.size) other in omega (arith, less, n)) in
-    cond_both (r.held + 1 == r.granted) _ _ WithinAt (λ _. going_within window r.kind (receiver.one_more r) more) (λ _. more))
+    cond_both (r.held + 1 == r.granted) _ _ WithinAt (λ _. going_within window r.kind (receiver.one_more_held r) more) (λ _. more))
 
 later_within : (window : ℕ) (kind : Kind) (r : Reception) (number : ℕ) → r.held < packets_of r.size
     → WithinAt (receiver.takes_later (Answering window) kind r number)
@@ -97,7 +97,7 @@ later_within window Broadcast r number less = tt
 later_within window Directed r number less =
     cond_both (number == r.granted) _ _ WithinAt (λ _. asks_within window 5 r less) (λ _. less)
 
-takes_within : (window : ℕ) (r : Reception) (number : ℕ) → r.held < packets_of r.size → WithinAt (receiver.takes (Answering window) r number)
+takes_within : (window : ℕ) (r : Reception) (number : ℕ) → r.held < packets_of r.size → WithinAt (receiver.takes_data (Answering window) r number)
 takes_within window r number less =
     cond_both (number == r.held + 1) _ _ WithinAt (λ _. next_within window r less)
     (λ _. cond_both (nat_le number r.held) _ _ WithinAt (λ _. less) (λ _. later_within window r.kind r number less))

@@ -179,11 +179,11 @@ answer_heard window o pr taken reports before p answers (inr (inl partly)) =
 
 -- the packet that comes next is held, or completes the message
 pub next_heard : (window : ℕ) (r : Reception) (number : ℕ) → r.kind ≡ Broadcast → number ≡ suc r.held
-    → ((receiver.takes (Answering window) r number ≡ (Open (receiver.one_more r), heards.Nothing)) × (suc r.held ≢ packets_of r.size))
-    ⊎ ((receiver.takes (Answering window) r number ≡ (Complete r.pgn, heards.Complete)) × (suc r.held ≡ packets_of r.size))
+    → ((receiver.takes_data (Answering window) r number ≡ (Open (receiver.one_more_held r), heards.Nothing)) × (suc r.held ≢ packets_of r.size))
+    ⊎ ((receiver.takes_data (Answering window) r number ≡ (Complete r.pgn, heards.Complete)) × (suc r.held ≡ packets_of r.size))
 next_heard window r number kind is =
     let first : (number == r.held + 1) ≡ true = eq-eqb number (r.held + 1) (omega (arith, is)) in
-    let next : receiver.takes (Answering window) r number ≡ receiver.takes_next (Answering window) r = cond-true (number == r.held + 1) _ _ first in
+    let next : receiver.takes_data (Answering window) r number ≡ receiver.takes_next (Answering window) r = cond-true (number == r.held + 1) _ _ first in
     elim (cases_Bool (r.held + 1 == packets_of r.size)) [
       | inl last ↦ inr (
         next ∙ (cond-true (r.held + 1 == packets_of r.size) _ _ last ∙ ap (λ (k : Kind). (Complete r.pgn, receiver.completed (Answering window) k r)) kind),
@@ -195,11 +195,11 @@ next_heard window r number kind is =
       )
     ]
   where
-    going : receiver.going_on (Answering window) r.kind (receiver.one_more r) ≡ (Open (receiver.one_more r), heards.Nothing)
-    going = ap (λ (k : Kind). receiver.going_on (Answering window) k (receiver.one_more r)) kind
+    going : receiver.going_on (Answering window) r.kind (receiver.one_more_held r) ≡ (Open (receiver.one_more_held r), heards.Nothing)
+    going = ap (λ (k : Kind). receiver.going_on (Answering window) k (receiver.one_more_held r)) kind
 
-    held : (b : Bool) → cond b (receiver.going_on (Answering window) r.kind (receiver.one_more r)) (Open (receiver.one_more r), heards.Nothing)
-        ≡ (Open (receiver.one_more r), heards.Nothing)
+    held : (b : Bool) → cond b (receiver.going_on (Answering window) r.kind (receiver.one_more_held r)) (Open (receiver.one_more_held r), heards.Nothing)
+        ≡ (Open (receiver.one_more_held r), heards.Nothing)
     held true = going
     held false = refl
 
@@ -267,7 +267,7 @@ data_heard window o rest k sent seven pr reports before most flight (inr (inr wh
     absurd (omega (arith, most, whole.all, flight_most o rest (suc (suc k)) sent flight))
 data_heard window o rest k sent seven pr reports before most flight (inr (inl partly)) =
     let r : Reception = partly.reception in
-    let opens : receiver.hears (Answering window) pr (Dt (suc k) seven) ≡ receiver.takes (Answering window) r (suc k) =
+    let opens : receiver.hears (Answering window) pr (Dt (suc k) seven) ≡ receiver.takes_data (Answering window) r (suc k) =
     ap (λ (x : Progress). receiver.hears (Answering window) x (Dt (suc k) seven)) partly.open_is in
     let count : packets_of r.size ≡ packet_count o = ap packets_of partly.size in
     elim (next_heard window r (suc k) partly.kind partly.some) [
@@ -277,7 +277,7 @@ data_heard window o rest k sent seven pr reports before most flight (inr (inl pa
         told = inl (
           tt,
           inr (inl (record {
-            reception = receiver.one_more r;
+            reception = receiver.one_more_held r;
             open_is = refl;
             kind = partly.kind;
             size = partly.size;

@@ -19,7 +19,7 @@ use Rattle.j39_findings.specs.declared.steps.Step.TheVariants.{Up, Down, Give, A
 use Rattle.j39_world.specs.declared.flow.Flow.{Flow}
 use Rattle.j39_world.specs.declared.wired.Wired.{Wired}
 use Rattle.j39_world.specs.declared.wired.Wired.TheVariants as wired
-use Rattle.j39_world.specs.ClaimSteps.{GivenFrom, given}
+use Rattle.j39_world.specs.ClaimSteps.{GivenFrom, heard_and_answered}
 use Rattle.j39_world.specs.Leading.{LeadsOn}
 use Rattle.j39_world.specs.Flows.{flows_of, windows_of, window_at}
 use Rattle.j39_world.specs.PlannedUnits.{units_of, unit_at}
@@ -50,7 +50,7 @@ module _ (plan : Plan) (w : World) (inv : IsWorldFit w) where
   gives u v [] some = absurd (cc some)
   gives u v (item ∷ rest) some =
       let (says, s, answers) = answered (unit_at (units_of plan) v) (w.stations v) (unit_at (units_of plan) u).name item in
-      (given (units_of plan) w u v rest says s, (says, s, answers, refl))
+      (heard_and_answered (units_of plan) w u v rest says s, (says, s, answers, refl))
 
   begun : (f : ℕ) (o : Option Flow) (bytes : List ℕ) → begin_refusal (count_of plan) w o bytes ≡ None
       → (new : World) × BeginsAt (count_of plan) w f o bytes new

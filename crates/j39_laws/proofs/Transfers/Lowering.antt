@@ -23,7 +23,7 @@ use Rattle.j39_world.specs.Flows.{windows_of, window_at, dest_of}
 use Rattle.j39_world.specs.Resting.{is_over_with}
 use Rattle.j39_world.specs.Run.{count_of, refusal, StepsTo}
 use Rattle.j39_world.specs.Transfers.{Outgoing, Reported, Sessions, Wire, Receivers, is_among, added, closed_if_complete, outcome_in}
-use Rattle.j39_world.specs.TransferSteps.{sent_to_receivers, session_hears, session_after, reaction_of, receiver_replies, sender_replies, hearing, packet_taken}
+use Rattle.j39_world.specs.TransferSteps.{sent_to_receivers, outgoing_hears, session_after, reaction_of, receiver_replies, sender_replies, hearing, packet_taken}
 use Rattle.j39_world.specs.TransferSteps.{TakenFrom, LostFrom, packets_in, receiver_timed_out, rested}
 use Rattle.j39_world.specs.World.{World, changed, changed_pair}
 use Rattle.j39_laws.proofs.Runs.Conditions.{is_unit, none_refuses, units_known}
@@ -57,7 +57,7 @@ some_weight n (wired.Packet p) = omega arith
 -- ---- what a sender hears
 
 module _ (n : ℕ) where
-  heard_weight : (s : Outgoing) (u : ℕ) (p : Packet) → IsMessageFit (Some s) → ReactsUpTo n (stage_weight n s.stage + clearing n p) (session_hears s u p)
+  heard_weight : (s : Outgoing) (u : ℕ) (p : Packet) → IsMessageFit (Some s) → ReactsUpTo n (stage_weight n s.stage + clearing n p) (outgoing_hears s u p)
   heard_weight s u p fit =
       cond_both (is_among s.targets u) _ _ (ReactsUpTo n (stage_weight n s.stage + clearing n p))
       (λ _. reacts_weight n (dest_of s.to) s.pgn (length s.bytes) s.stage p (few_packets (length s.bytes) fit)) (λ _. omega arith)

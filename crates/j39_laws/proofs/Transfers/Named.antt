@@ -35,7 +35,7 @@ use Rattle.j39_world.specs.SoundPlan.{Always}
 use Rattle.j39_world.specs.Transfers.{Outgoing, Reported, Sessions, Wire, is_among, added, closed_if_complete}
 use Rattle.j39_world.specs.TransferSteps.{begun_stage, outgoing, first_item, BeginsAt, sent_to_receivers, session_after, reaction_of}
 use Rattle.j39_world.specs.TransferSteps.{receiver_replies, sender_replies, hearing, packet_taken, TakenFrom, LostFrom, packets_in, receiver_timed_out, rested}
-use Rattle.j39_world.specs.World.{World, first, changed, changed_pair}
+use Rattle.j39_world.specs.World.{World, all_off, changed, changed_pair}
 use Rattle.j39_laws.proofs.Reports.Orderly.{IsPlanned, PlannedAt}
 use Rattle.j39_laws.proofs.Reports.SenderSteps.{no_session, begin_keeps}
 use Rattle.j39_laws.proofs.Reports.TransferInvariant.{TransferInvariant}
@@ -141,7 +141,7 @@ heard_waits None u p was = tt
 heard_waits (Some s) u p was =
     cond_both (is_among s.targets u) _ _ (λ (x : Stage × Reaction). WaitsAt s.to x.0) (λ _. of s.to was) (λ _. was)
   where
-    of : (to : To) → WaitsAt to s.stage → WaitsAt to (sender.hears (dest_of to) s.pgn (length s.bytes) s.stage p).0
+    of : (to : To) → WaitsAt to s.stage → WaitsAt to (sender.stage_hears (dest_of to) s.pgn (length s.bytes) s.stage p).0
     of tos.All here = here
     of (tos.One x) here = λ _. (x, refl)
 
@@ -390,6 +390,6 @@ keeps_named plan w old step allowed new leads = record {
 
 pub all_named : (plan : Plan) → Always plan (IsKeptNamed plan)
 all_named plan = always plan (IsKeptNamed plan) (record {
-  kept = all_kept plan [] first refl;
+  kept = all_kept plan [] all_off refl;
   named = record { wire = λ s t. tt; receivers = λ t s pgn never. absurd never; waits = λ u. tt };
 }) (keeps_named plan)

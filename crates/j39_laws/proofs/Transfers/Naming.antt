@@ -69,7 +69,7 @@ asks_answers window reason r kind =
 next_answers : (window : ℕ) (r : Reception) → RepliesAt (Open r) (receiver.takes_next (Answering window) r)
 next_answers window r =
     cond_both (r.held + 1 == packets_of r.size) _ _ (RepliesAt (Open r)) (λ _. completed_answers (Open r) window r.kind r)
-    (λ _. cond_both (r.held + 1 == r.granted) _ _ (RepliesAt (Open r)) (λ _. going_answers (Open r) window r.kind (receiver.one_more r)) (λ _. tt))
+    (λ _. cond_both (r.held + 1 == r.granted) _ _ (RepliesAt (Open r)) (λ _. going_answers (Open r) window r.kind (receiver.one_more_held r)) (λ _. tt))
 
 later_answers : (window : ℕ) (kind : Kind) (r : Reception) (number : ℕ) → r.kind ≡ kind
     → RepliesAt (Open r) (receiver.takes_later (Answering window) kind r number)
@@ -77,7 +77,7 @@ later_answers window Broadcast r number is = tt
 later_answers window Directed r number is =
     cond_both (number == r.granted) _ _ (RepliesAt (Open r)) (λ _. (asks_answers window 5 r is, tt)) (λ _. tt)
 
-takes_answers : (window : ℕ) (r : Reception) (number : ℕ) → RepliesAt (Open r) (receiver.takes (Answering window) r number)
+takes_answers : (window : ℕ) (r : Reception) (number : ℕ) → RepliesAt (Open r) (receiver.takes_data (Answering window) r number)
 takes_answers window r number =
     cond_both (number == r.held + 1) _ _ (RepliesAt (Open r)) (λ _. next_answers window r)
     (λ _. cond_both (nat_le number r.held) _ _ (RepliesAt (Open r)) (λ _. tt) (λ _. later_answers window r.kind r number refl))
@@ -130,14 +130,14 @@ OpensAt pr x = OpensFor pr x.0
 next_open : (window : ℕ) (r : Reception) → OpensAt (Open r) (receiver.takes_next (Answering window) r)
 next_open window r =
     cond_both (r.held + 1 == packets_of r.size) _ _ (OpensAt (Open r)) (λ _ pgn never. absurd never)
-    (λ _. cond_both (r.held + 1 == r.granted) _ _ (OpensAt (Open r)) (λ _. going_open window r.kind (receiver.one_more r)) (λ _ pgn is. is))
+    (λ _. cond_both (r.held + 1 == r.granted) _ _ (OpensAt (Open r)) (λ _. going_open window r.kind (receiver.one_more_held r)) (λ _ pgn is. is))
 
 later_open : (window : ℕ) (kind : Kind) (r : Reception) (number : ℕ) → OpensAt (Open r) (receiver.takes_later (Answering window) kind r number)
 later_open window Broadcast r number = λ pgn never. absurd never
 later_open window Directed r number =
     cond_both (number == r.granted) _ _ (OpensAt (Open r)) (λ _. asks_open window 5 r) (λ _ pgn is. is)
 
-takes_open : (window : ℕ) (r : Reception) (number : ℕ) → OpensAt (Open r) (receiver.takes (Answering window) r number)
+takes_open : (window : ℕ) (r : Reception) (number : ℕ) → OpensAt (Open r) (receiver.takes_data (Answering window) r number)
 takes_open window r number =
     cond_both (number == r.held + 1) _ _ (OpensAt (Open r)) (λ _. next_open window r)
     (λ _. cond_both (nat_le number r.held) _ _ (OpensAt (Open r)) (λ _ pgn is. is) (λ _. later_open window r.kind r number))
@@ -247,7 +247,7 @@ ended_aborts own outcome (Sending next last) = tt
 ended_aborts own outcome Waiting = tt
 ended_aborts own outcome (Resting was) = tt
 
-hears_aborts : (dest : Dest) (own size : ℕ) (stage : Stage) (p : Packet) → IsOwnAbort dest own (sender.hears dest own size stage p).1
+hears_aborts : (dest : Dest) (own size : ℕ) (stage : Stage) (p : Packet) → IsOwnAbort dest own (sender.stage_hears dest own size stage p).1
 hears_aborts dests.All own size stage p = tt
 hears_aborts dests.One own size stage (Cts count first pgn) =
     cond_both (eqb pgn own) _ _ (AbortsAt own) (λ _. cleared_aborts own (packets_of size) count first stage) (λ _. tt)
@@ -266,7 +266,7 @@ pub says_replies : (plan : Plan) (u : ℕ) (o : Option Outgoing) → PlannedAt p
 says_replies plan u None planned t p = tt
 says_replies plan u (Some s) planned t p =
     cond_both (is_among s.targets t) _ _ (λ (x : Stage × Reaction). RepliesTo s t x.1)
-    (λ among. replies among (sender.hears (dest_of s.to) s.pgn (length s.bytes) s.stage p).1
+    (λ among. replies among (sender.stage_hears (dest_of s.to) s.pgn (length s.bytes) s.stage p).1
     (hears_aborts (dest_of s.to) s.pgn (length s.bytes) s.stage p)) (λ _. tt)
   where
     replies : is_among s.targets t ≡ true → (r : Reaction) → IsOwnAbort (dest_of s.to) s.pgn r → RepliesTo s t r

@@ -119,7 +119,7 @@ module _ (n : ℕ) where
   going_weight window Directed r = omega (arith, asking_is)
   going_weight window Broadcast r = omega arith
 
-  one_more_less : (r : Reception) → r.held < packets_of r.size → budget (receiver.one_more r) + 1 ≤ budget r
+  one_more_less : (r : Reception) → r.held < packets_of r.size → budget (receiver.one_more_held r) + 1 ≤ budget r
   one_more_less r less = omega (arith, less)
 
   completed_weight : (window : ℕ) (kind : Kind) (r : Reception) (done most : ℕ) → 1 ≤ most → WeighsUpTo most (Complete done, receiver.completed (Answering window) kind r)
@@ -128,11 +128,11 @@ module _ (n : ℕ) where
 
   next_weight : (window : ℕ) (r : Reception) → r.held < packets_of r.size → WeighsUpTo (2 + budget r * asking n) (receiver.takes_next (Answering window) r)
   next_weight window r less =
-      let paid = asked_for (budget (receiver.one_more r)) (budget r) (one_more_less r less) in
+      let paid = asked_for (budget (receiver.one_more_held r)) (budget r) (one_more_less r less) in
       cond_both (r.held + 1 == packets_of r.size) _ _ (WeighsUpTo (2 + budget r * asking n))
       (λ _. completed_weight window r.kind r r.pgn (2 + budget r * asking n) (omega arith))
       (λ _. cond_both (r.held + 1 == r.granted) _ _ (WeighsUpTo (2 + budget r * asking n))
-      (λ _. omega (arith, paid, going_weight window r.kind (receiver.one_more r))) (λ _. omega (arith, paid)))
+      (λ _. omega (arith, paid, going_weight window r.kind (receiver.one_more_held r))) (λ _. omega (arith, paid)))
 
   asking_less : (r : Reception) → nat_lt r.asked receiver.ask_limit ≡ true → budget (receiver.asking r) + 1 ≤ budget r
   asking_less r may = let less : r.asked < 2 = ltb-true r.asked 2 may in omega (arith, less)
@@ -152,7 +152,7 @@ module _ (n : ℕ) where
       cond_both (number == r.granted) _ _ (WeighsUpTo (2 + budget r * asking n)) (λ _. omega (arith, asks_weight window 5 r)) (λ _. omega arith)
 
   takes_weight : (window : ℕ) (r : Reception) (number : ℕ) → r.held < packets_of r.size
-      → WeighsUpTo (2 + budget r * asking n) (receiver.takes (Answering window) r number)
+      → WeighsUpTo (2 + budget r * asking n) (receiver.takes_data (Answering window) r number)
   takes_weight window r number less =
       cond_both (number == r.held + 1) _ _ (WeighsUpTo (2 + budget r * asking n)) (λ _. next_weight window r less)
       (λ _. cond_both (nat_le number r.held) _ _ (WeighsUpTo (2 + budget r * asking n)) (λ _. omega arith) (λ _. later_weight window r.kind r number))
@@ -219,7 +219,7 @@ module _ (n : ℕ) where
   ended_weight outcome (Resting was) = omega arith
 
   pub reacts_weight : (dest : Dest) (own size : ℕ) (stage : Stage) (p : Packet) → packets_of size ≤ 255
-      → ReactsUpTo (stage_weight n stage + clearing n p) (sender.hears dest own size stage p)
+      → ReactsUpTo (stage_weight n stage + clearing n p) (sender.stage_hears dest own size stage p)
   reacts_weight dests.All own size stage p most = omega arith
   reacts_weight dests.One own size stage (Cts count first pgn) most =
       cond_both (pgn == own) _ _ (ReactsUpTo (stage_weight n stage + burst n)) (λ _. cleared_weight own (packets_of size) count first stage most) (λ _. omega arith)

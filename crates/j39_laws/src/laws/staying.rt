@@ -10,12 +10,12 @@ ghost use Rattle.j39_findings.specs.declared.steps.Step.{Step as Steps};
 ghost use Rattle.j39_world.specs.PlannedUnits.{units_of, unit_at};
 ghost use Rattle.j39_world.specs.Run.{Run};
 ghost use Rattle.j39_world.specs.Staying.{ArePlannedApart, ArePlannedApartTo, HoldsPlanned, Stays, StaysByOthers};
-ghost use Rattle.j39_world.specs.World.{World, first};
+ghost use Rattle.j39_world.specs.World.{World, all_off};
 
 /// In every world of every run of each plan, with all lawful choices, a unit that stays holds its planned address while it is on. Whether
 /// it stays is told, in rising order of NAME, by those of smaller NAME; a fixed unit stays where no two fixed units have one address.
 pub fn who_stays()
-    ensures held { (plan : Plans) (steps : List Steps) (w : World) → Run plan first steps w
+    ensures held { (plan : Plans) (steps : List Steps) (w : World) → Run plan all_off steps w
         → (u : ℕ) → Stays (units_of plan) u → HoldsPlanned (units_of plan) w u }
     ensures by_others { (units : List PlannedUnits) (u : ℕ) → Stays units u → StaysByOthers units u }
     ensures from_others { (units : List PlannedUnits) (u : ℕ) → StaysByOthers units u → Stays units u }
@@ -26,7 +26,7 @@ pub fn who_stays()
 /// Where no two units are planned with one address no unit ever moves: in every world of every run, with all lawful choices, each unit
 /// that is on holds its planned address.
 pub fn planned_addresses_stay()
-    ensures { (plan : Plans) (steps : List Steps) (w : World) → ArePlannedApart (units_of plan) → Run plan first steps w
+    ensures { (plan : Plans) (steps : List Steps) (w : World) → ArePlannedApart (units_of plan) → Run plan all_off steps w
         → (u : ℕ) → HoldsPlanned (units_of plan) w u }
 {}
 
@@ -34,13 +34,13 @@ pub fn planned_addresses_stay()
 /// of larger NAMEs do: in every world of every run, with all lawful choices, each of them that is on holds its planned address.
 pub fn smaller_names_are_undisturbed()
     ensures { (plan : Plans) (limit : ℕ) (steps : List Steps) (w : World) → ArePlannedApartTo limit (units_of plan)
-        → Run plan first steps w → (u : ℕ) → (unit_at (units_of plan) u).name ≤ limit → HoldsPlanned (units_of plan) w u }
+        → Run plan all_off steps w → (u : ℕ) → (unit_at (units_of plan) u).name ≤ limit → HoldsPlanned (units_of plan) w u }
 {}
 
 /// In every world of every run of each plan, with all lawful choices, the address that a unit holds which is on is its planned one, or one
 /// of 128 to 247 where it isn't a unit that stays.
 pub fn units_hold_planned_or_pool_addresses()
-    ensures { (plan : Plans) (steps : List Steps) (w : World) → Run plan first steps w
+    ensures { (plan : Plans) (steps : List Steps) (w : World) → Run plan all_off steps w
         → (u a : ℕ) → (w.stations u).on ≡ true → (w.stations u).address ≡ Some a
         → (a ≡ (unit_at (units_of plan) u).preferred) ⊎ ((in_pool a ≡ true) × ¬ Stays (units_of plan) u) }
 {}

@@ -5,17 +5,17 @@ ghost use Rattle.j39_findings.specs.declared.steps.Step.{Step as Steps};
 ghost use Rattle.j39_world.specs.Ending.{TransfersEnd};
 ghost use Rattle.j39_world.specs.Leading.{LeadsOn};
 ghost use Rattle.j39_world.specs.Run.{Run};
-ghost use Rattle.j39_world.specs.World.{World, first};
+ghost use Rattle.j39_world.specs.World.{World, all_off};
 
 /// In every world of every run of every plan, each step that isn't refused leads to some world: so what is said of all worlds that
 /// follow a step is said of at least one.
 pub fn steps_lead_somewhere()
-    ensures { (plan : Plans) (steps : List Steps) (w : World) → Run plan first steps w → LeadsOn plan w }
+    ensures { (plan : Plans) (steps : List Steps) (w : World) → Run plan all_off steps w → LeadsOn plan w }
 {}
 
 /// From each world of each run of every plan, whoever goes on with the messages that were begun comes to an end, in whatever order,
 /// whatever is lost and whoever hears nothing in time: no more such steps than a given number run through, and while a unit is
 /// between its Begin and its Rest, one of them does. It says nothing of time.
 pub fn every_transfer_ends()
-    ensures { (plan : Plans) (steps : List Steps) (w : World) → Run plan first steps w → TransfersEnd plan w }
+    ensures { (plan : Plans) (steps : List Steps) (w : World) → Run plan all_off steps w → TransfersEnd plan w }
 {}

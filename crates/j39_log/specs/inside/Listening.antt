@@ -69,38 +69,38 @@ abbrev pub completes : Receiving → Packet → Bool
 completes s p = is_complete (hears s.manner s.progress p).1
 
 -- a place for the listener of a pair, and the places of one source
-abbrev pub Slot : Type 0
-Slot = Option (Box Receiving Global)
+abbrev pub ListenerSlot : Type 0
+ListenerSlot = Option (Box Receiving Global)
 
-abbrev pub Row : Type 0
-Row = Vec Slot Global
+abbrev pub ListenerRow : Type 0
+ListenerRow = Vec ListenerSlot Global
 
 -- the listener in a slot: in an empty one, a listener that opened nothing
-abbrev pub listener_in : Slot → Receiving
+abbrev pub listener_in : ListenerSlot → Receiving
 listener_in None = fresh Listening
 listener_in (Some b) = b.value
 
-abbrev pub listener_of : Option Slot → Receiving
+abbrev pub listener_of : Option ListenerSlot → Receiving
 listener_of None = fresh Listening
 listener_of (Some slot) = listener_in slot
 
-abbrev pub listener_at : List Slot → ℕ → Receiving
+abbrev pub listener_at : List ListenerSlot → ℕ → Receiving
 listener_at slots destination = listener_of (slice_get slots destination)
 
-abbrev pub slots_of : Option Row → List Slot
+abbrev pub slots_of : Option ListenerRow → List ListenerSlot
 slots_of None = []
 slots_of (Some row) = row.items
 
 -- the places of a source: none behind the last row
-abbrev pub slots_at : List Row → ℕ → List Slot
+abbrev pub slots_at : List ListenerRow → ℕ → List ListenerSlot
 slots_at rows source = slots_of (slice_get rows source)
 
 -- the listener of a pair
-abbrev pub listener_of_pair : List Row → ℕ → ℕ → Receiving
+abbrev pub listener_of_pair : List ListenerRow → ℕ → ℕ → Receiving
 listener_of_pair rows source destination = listener_at (slots_at rows source) destination
 
 -- there is a listener at this place
-abbrev pub HasListener : List Slot → ℕ → Type 0
+abbrev pub HasListener : List ListenerSlot → ℕ → Type 0
 HasListener slots destination = (b : Box Receiving Global) × (slice_get slots destination ≡ Some (Some b))
 
 -- these are the two addresses of the pair
@@ -116,7 +116,7 @@ abbrev pub after_all : List Packet → Receiving
 after_all h = listened h (length h)
 
 -- each listener heard what its pair heard
-abbrev pub HaveHeard : List Row → List Seen → Type 0
+abbrev pub HaveHeard : List ListenerRow → List Seen → Type 0
 HaveHeard rows seen =
     (source destination : ℕ) → source < 256 → destination < 256
     → listener_of_pair rows source destination ≡ after_all (heard source destination seen)

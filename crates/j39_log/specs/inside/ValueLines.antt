@@ -4,13 +4,13 @@ use Rattle.std.specs.declared.alloc.Global.{Global}
 use Rattle.std.specs.declared.vec.Vec.{Vec}
 use Rattle.j39_findings.specs.declared.plan.group_plan.GroupPlan.{GroupPlan}
 use Rattle.j39_signal.specs.Parts.{SignalParts}
-use Rattle.j39_log.specs.LogReports.{unit_text}
+use Rattle.j39_log.specs.LogReports.{signal_unit_text}
 use Rattle.j39_log.specs.declared.value_line.ValueLine.{ValueLine}
 
 abbrev pub value_line_of : SignalParts → ValueLine
 value_line_of s = record {
   before = codes "  " ++ (s.label.bytes ++ codes " value ");
-  after = unit_text s.unit.bytes ++ 10 ∷ [];
+  after = signal_unit_text s.unit.bytes ++ 10 ∷ [];
 }
 
 abbrev pub value_lines_of : GroupPlan → List ValueLine

@@ -6,7 +6,7 @@ ghost use Rattle.j39_plan.specs.Schema.{tables_of};
 ghost use Rattle.j39_plan.specs.TableFaults.{keys_faults, unknown_faults};
 ghost use Rattle.j39_plan.specs.Outcome.{Gives, GivesGrowing};
 ghost use Rattle.j39_plan.specs.Growing.{GroupGrows};
-ghost use Rattle.j39_plan.specs.GroupTables.{every_of, group_rules, group_table_faults, later_rules, most_of, private_of, signal_rule, texts_of, TellsGroup};
+ghost use Rattle.j39_plan.specs.GroupTables.{every_of, group_rules, group_table_faults, later_rules, most_of, private_of, signal_rule, text_tables_of, TellsGroup};
 
 use super::elements::{ReadElement, read_each};
 use super::labels::untaken;
@@ -74,7 +74,7 @@ fn later_keys(
         (λ later. (later.private ≡ private_of third (table_view members.now)) × (later.most ≡ most_of third length (table_view members.now))
         × (later.every ≡ every_of third (table_view members.now))
         × (items_view later.signals.now ≡ tables_of signal_rule (table_view members.now))
-        × (items_view later.texts.now ≡ texts_of third (table_view members.now))) }
+        × (items_view later.texts.now ≡ text_tables_of third (table_view members.now))) }
     ensures at_least { IfOk result (λ later. length ≤ later.most) }
     ensures at_most { IfOk result (λ later. later.most ≤ message_bytes) }
     ensures some { IfOk result (λ later. IfSome later.every (λ n. 1 ≤ n)) }
@@ -177,11 +177,12 @@ pub struct Groups {
 
 impl ReadElement<GroupPlan> for Groups {
     ghost use Rattle.j39_plan.specs.Growing.{GroupElementGrows};
-    ghost use Rattle.j39_plan.specs.GroupTables.{group_faults, group_label, IsGroupOf};
+    ghost use Rattle.j39_plan.specs.GroupTables.{group_faults, IsGroupOf};
+    ghost use Rattle.j39_plan.specs.Elements.{label_in};
 
     ghost label_bytes = { λ g. g.label.bytes };
 
-    ghost label_of = { group_label };
+    ghost label_of = { label_in };
 
     ghost faults = { λ r. group_faults r.third };
 

@@ -3,7 +3,7 @@ ghost use Rattle.std.specs.Prelude.{◌≡◌, ◌<◌, ◌^◌, IfOk};
 ghost use Rattle.toml.specs.View.{table_view};
 ghost use Rattle.j39_id.specs.Name.{name_number, first_out};
 ghost use Rattle.j39_plan.specs.Outcome.{Gives};
-ghost use Rattle.j39_plan.specs.UnitTables.{name_faults, fields_of};
+ghost use Rattle.j39_plan.specs.UnitTables.{name_faults, name_fields_of};
 
 use super::tables::only;
 use super::values::{flag, number};
@@ -22,9 +22,9 @@ const NAME_KEYS: [Key; 9] = [
     Key::Arbitrary,
 ];
 
-#[tactic(auto, using(crate::proofs::FirstFaults::faults_after), unfolding(crate::specs::UnitTables::name_faults, crate::specs::UnitTables::fields_of))]
+#[tactic(auto, using(crate::proofs::FirstFaults::faults_after), unfolding(crate::specs::UnitTables::name_faults, crate::specs::UnitTables::name_fields_of))]
 fn name_fields(index: usize, members: &toml::Table) -> Result<NameFields, PlanError>
-    ensures gives { Gives result (name_faults index (table_view members.now)) (λ f. f ≡ fields_of (table_view members.now)) }
+    ensures gives { Gives result (name_faults index (table_view members.now)) (λ f. f ≡ name_fields_of (table_view members.now)) }
     ensures in_range { IfOk result (λ f. first_out f ≡ None) }
 {
     let table = Table::UnitName(index);
@@ -54,7 +54,7 @@ fn name_fields(index: usize, members: &toml::Table) -> Result<NameFields, PlanEr
 
 /// The NAME that a table tells.
 pub fn name(index: usize, members: &toml::Table) -> Result<Name, PlanError>
-    ensures gives { Gives result (name_faults index (table_view members.now)) (λ n. n ≡ name_number (fields_of (table_view members.now))) }
+    ensures gives { Gives result (name_faults index (table_view members.now)) (λ n. n ≡ name_number (name_fields_of (table_view members.now))) }
     ensures range { IfOk result (λ n. n < 2 ^ 64) }
 {
     let fields = name_fields(index, members)?;

@@ -265,11 +265,12 @@ pub struct Signals {
 
 impl ReadElement<Signal> for Signals {
     ghost use Rattle.j39_plan.specs.Growing.{NeverGrows};
-    ghost use Rattle.j39_plan.specs.SignalTables.{signal_faults, signal_label, IsSignalOf, IsFit};
+    ghost use Rattle.j39_plan.specs.SignalTables.{signal_faults, IsSignalOf, IsFit};
+    ghost use Rattle.j39_plan.specs.Elements.{label_in};
 
     ghost label_bytes = { λ s. s.label.bytes };
 
-    ghost label_of = { signal_label };
+    ghost label_of = { label_in };
 
     ghost faults = { λ r. signal_faults r.third r.records r.group };
 

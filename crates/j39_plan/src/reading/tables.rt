@@ -5,7 +5,7 @@ ghost use Rattle.std.specs.Map.{keys_of};
 ghost use Rattle.toml.specs.Data.{as_table};
 ghost use Rattle.toml.specs.View.{view, table_view, items_view};
 ghost use Rattle.j39_plan.specs.Schema as schema;
-ghost use Rattle.j39_plan.specs.TableFaults.{is_named, key_faults, table_only_faults, unknown_faults};
+ghost use Rattle.j39_plan.specs.TableFaults.{is_key_word, key_faults, table_only_faults, unknown_faults};
 ghost use Rattle.j39_plan.specs.Outcome.{Gives};
 
 use super::values::{refused, value_at};
@@ -80,13 +80,13 @@ pub fn array<'a>(
 }
 
 fn is_named(name: &str, keys: &[Key]) -> bool
-    ensures { result ≡ is_named keys.now name.now }
+    ensures { result ≡ is_key_word keys.now name.now }
 {
     keys.iter().any(|key| key.word() == name)
 }
 
 fn has_only(members: &toml::Table, keys: &[Key]) -> bool
-    ensures { result ≡ list_all (λ name. is_named keys.now (string_bytes name)) (keys_of members.now.entries) }
+    ensures { result ≡ list_all (λ name. is_key_word keys.now (string_bytes name)) (keys_of members.now.entries) }
 {
     members.keys().all(|name| is_named(name.as_str(), keys))
 }

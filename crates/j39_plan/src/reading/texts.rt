@@ -45,11 +45,12 @@ pub struct Texts<'a> {
 impl ReadElement<TextPlan> for Texts<'_> {
     ghost use Rattle.std.specs.Prelude.{map};
     ghost use Rattle.j39_plan.specs.Growing.{NeverGrows};
-    ghost use Rattle.j39_plan.specs.TextTables.{text_faults, text_label, IsTextOf};
+    ghost use Rattle.j39_plan.specs.TextTables.{text_faults, IsTextOf};
+    ghost use Rattle.j39_plan.specs.Elements.{label_in};
 
     ghost label_bytes = { λ t. t.label.bytes };
 
-    ghost label_of = { text_label };
+    ghost label_of = { label_in };
 
     ghost faults = { λ r. text_faults (map (λ s. s.label.bytes) r.signals.now) r.group };
 

@@ -90,11 +90,11 @@ pub struct Units;
 
 impl ReadElement<UnitPlan> for Units {
     ghost use Rattle.j39_plan.specs.Growing.{NeverGrows};
-    ghost use Rattle.j39_plan.specs.UnitTables.{unit_faults, unit_label, IsUnitOf};
+    ghost use Rattle.j39_plan.specs.UnitTables.{unit_faults, unit_label_in, IsUnitOf};
 
     ghost label_bytes = { λ u. u.label.bytes };
 
-    ghost label_of = { unit_label };
+    ghost label_of = { unit_label_in };
 
     ghost faults = { λ _. unit_faults };
 

@@ -154,7 +154,7 @@ pub fn either(
     other: u32,
 ) -> Result<u32, PlanError>
     requires positive { (1 ≤ one) × (1 ≤ other) }
-    ensures gives { let rule = schema.either key one other in
+    ensures gives { let rule = schema.either_number key one other in
         Gives result (key_faults table (table_view members.now) rule)
         (λ n. n ≡ schema.number_of rule (table_view members.now)) }
 {

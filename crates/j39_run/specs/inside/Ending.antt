@@ -20,7 +20,7 @@ use Rattle.j39_run.specs.declared.due.Due.{Due}
 use Rattle.j39_run.specs.declared.due.Due.TheVariants.{Step as ToStep, Halt as ToHalt}
 use Rattle.j39_run.specs.declared.halt.Halt.{Halt}
 use Rattle.j39_run.specs.declared.halt.Halt.TheVariants.{Step as AtStep}
-use Rattle.j39_run.specs.inside.Doing.{HasDone, HasStepped}
+use Rattle.j39_run.specs.inside.Doing.{HasDone, HasShown}
 use Rattle.j39_run.specs.inside.Feeding.{Feeding, IsFed, MeetsBegin}
 
 -- what was written is some first bytes of the text of a schedule that begins like this one
@@ -68,7 +68,7 @@ Of plan place text f left pulls taken Holds =
 -- the line at this place orders the step: once it is done the run has come so much further, and where it is refused the run ends
 pub record IsDue (plan : Plan) (b : BusState) (place : ℕ) (text : List ℕ) (f : Feeding) (old new : Option (List ℕ)) (old_pulls new_pulls : ℕ)
     (taken_old taken_new : Option (List ℕ)) (step : Step) : Type 0 where
-  pub done : (after : BusState) (more : List ℕ) → HasStepped step b after text more
+  pub done : (after : BusState) (more : List ℕ) → HasShown step b after text more
       → IsRunning plan after (place + 1) more f old new old_pulls new_pulls taken_old taken_new
   pub refused : (cause : StepError) → ((w : World) → Stands b plan w → refusal plan w step ≡ Some cause)
       → HasHalted plan b text old new old_pulls new_pulls taken_old taken_new (AtStep place cause)

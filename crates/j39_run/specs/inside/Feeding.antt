@@ -51,25 +51,25 @@ IsFed first now first_pulls pulls f seen ls = IsFedSo f.ended first now first_pu
 -- ---- what comes next
 
 -- what is told next is read so
-abbrev pub IsNext : Plan → Next → List Line → Type 0
-IsNext plan Wait ls = ⊥
-IsNext plan More ls = ls ≡ []
-IsNext plan Blank ls = (l : Line) × (ls ≡ l ∷ []) × (line_order plan l ≡ read_as None)
-IsNext plan (AStep step) ls = (l : Line) × (ls ≡ l ∷ []) × (line_order plan l ≡ read_as (Some step))
-IsNext plan (Refused fault) ls = (l : Line) × (ls ≡ l ∷ []) × (line_order plan l ≡ Err fault)
-IsNext plan End ls = ⊥
+abbrev pub IsReadNext : Plan → Next → List Line → Type 0
+IsReadNext plan Wait ls = ⊥
+IsReadNext plan More ls = ls ≡ []
+IsReadNext plan Blank ls = (l : Line) × (ls ≡ l ∷ []) × (line_order plan l ≡ read_as None)
+IsReadNext plan (AStep step) ls = (l : Line) × (ls ≡ l ∷ []) × (line_order plan l ≡ read_as (Some step))
+IsReadNext plan (Refused fault) ls = (l : Line) × (ls ≡ l ∷ []) × (line_order plan l ≡ Err fault)
+IsReadNext plan End ls = ⊥
 
 -- what is told next is a line that orders a Begin, the one order whose reading takes memory
 abbrev pub IsBegin : Plan → List Line → Type 0
 IsBegin plan ls = (l : Line) × (ls ≡ l ∷ []) × OrdersBegin (line_order plan l)
 
 -- with what comes next the schedule is told so much further
-pub record GoesOn (plan : Plan) (next : Next) (first now : Option (List ℕ)) (first_pulls pulls : ℕ) (f : Feeding) (seen : List ℕ)
+pub record TellsFurther (plan : Plan) (next : Next) (first now : Option (List ℕ)) (first_pulls pulls : ℕ) (f : Feeding) (seen : List ℕ)
     (ls : List Line) : Type 0 where
   pub used : List ℕ
   pub more : List Line
   pub fed : IsFed first now first_pulls pulls f (seen ++ used) (ls ++ more)
-  pub is : IsNext plan next more
+  pub is : IsReadNext plan next more
 
 -- the line behind these ones orders a Begin; with some more of what came it would be told
 pub record MeetsBegin (plan : Plan) (first now : Option (List ℕ)) (first_pulls pulls : ℕ) (seen : List ℕ) (ls : List Line) : Type 0 where
@@ -83,7 +83,7 @@ pub record MeetsBegin (plan : Plan) (first now : Option (List ℕ)) (first_pulls
 abbrev pub Comes : Plan → Next → Option (List ℕ) → Option (List ℕ) → ℕ → ℕ → Feeding → List ℕ → List Line → Type 0
 Comes plan Wait first now first_pulls pulls f seen ls = IsFed first now first_pulls pulls f seen ls
 Comes plan End first now first_pulls pulls f seen ls = HasEnded first now first_pulls pulls f seen ls × (ls ≡ lines seen)
-Comes plan next first now first_pulls pulls f seen ls = GoesOn plan next first now first_pulls pulls f seen ls
+Comes plan next first now first_pulls pulls f seen ls = TellsFurther plan next first now first_pulls pulls f seen ls
 
 -- ---- how much is still to be done, at most
 

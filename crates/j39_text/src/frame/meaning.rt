@@ -1,6 +1,6 @@
 //! What a frame says besides its route.
 ghost use Rattle.std.specs.Prelude.{◌≡◌, ◌++◌, length, OnOk};
-ghost use Rattle.std.specs.Int.{w64, from_le_bytes};
+ghost use Rattle.j39_id.specs.Name.{name_of_bytes};
 ghost use Rattle.j39_text.specs.FrameText.{cannot_claim_lines, carries_name, claim_lines, meaning_lines, request_line, requested_group, requests_group};
 
 use super::name::write_name;
@@ -27,7 +27,7 @@ fn requests_group(frame: &Frame) -> bool
 // The NAME that eight bytes carry.
 fn carried_name(payload: &[u8]) -> Name
     requires { length payload.now ≡ 8 }
-    ensures { result ≡ from_le_bytes w64 payload.now }
+    ensures { result ≡ name_of_bytes payload.now }
 {
     let mut bytes = [0; 8];
     bytes.copy_from_slice(payload);

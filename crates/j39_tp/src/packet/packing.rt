@@ -1,6 +1,7 @@
 //! Packing packets into bytes.
 ghost use Rattle.std.specs.Prelude.{◌≡◌, ◌∷◌, ◌++◌};
-ghost use Rattle.j39_tp.specs.Packets.{data_of, pgn_bytes, size_bytes};
+ghost use Rattle.j39_tp.specs.Packets.{data_of, size_bytes};
+ghost use Rattle.j39_id.specs.Pgn.{pgn_bytes};
 
 use super::UNUSED;
 use super::control::{ABORT, BAM, CTS, END_ACK, RTS};
@@ -12,7 +13,7 @@ fn managed(fields: [u8; 5], pgn: Pgn) -> [u8; 8]
     ensures { result ≡ fields ++ pgn_bytes pgn }
 {
     let [control, second, third, fourth, fifth] = fields;
-    let [low, middle, high, _] = pgn.number().to_le_bytes();
+    let [low, middle, high] = pgn.to_bytes();
     [control, second, third, fourth, fifth, low, middle, high]
 }
 

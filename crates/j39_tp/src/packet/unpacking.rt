@@ -29,7 +29,7 @@ fn size_of(low: u8, high: u8, packets: u8) -> Result<Size, PacketError>
 fn pgn_of(low: u8, middle: u8, high: u8) -> Result<Pgn, PacketError>
     ensures { result ≡ (if is_pgn (low + 256 * middle + 65536 * high) then Ok (low + 256 * middle + 65536 * high) else Err PacketError.Group) }
 {
-    let Some(pgn) = Pgn::new(u32::from_le_bytes([low, middle, high, 0])) else {
+    let Some(pgn) = Pgn::from_bytes([low, middle, high]) else {
         return Err(PacketError::Group);
     };
     Ok(pgn)

@@ -1,7 +1,7 @@
 //! Where a receiver stands.
 ghost use Rattle.std.specs.Prelude.{◌≡◌, ◌<◌, true};
 ghost use Rattle.j39_tp.specs.Chunks.{packets_of};
-ghost use Rattle.j39_tp.specs.Receiver.{going_on, takes_next, takes_later, takes, asks, hears, timed_out, pgn_at};
+ghost use Rattle.j39_tp.specs.Receiver.{going_on, takes_next, takes_later, takes_data, asks, hears, timed_out, pgn_at};
 ghost use Rattle.j39_tp.specs.inside.Held.{is_within, last_size};
 
 use super::manner::Manner;
@@ -108,7 +108,7 @@ fn take_later(manner: Manner, reception: Reception, number: u8) -> (Progress, He
 // Hears a data packet in an open session.
 fn take(manner: Manner, reception: Reception, number: u8) -> (Progress, Heard)
     requires { reception.held < packets_of reception.size }
-    ensures result { result ≡ takes manner reception number }
+    ensures result { result ≡ takes_data manner reception number }
     ensures within { is_within result.0 ≡ true }
 {
     if number <= reception.held {

@@ -16,7 +16,7 @@ pub enum Stage {
 
 impl Stage {
     ghost use Rattle.std.specs.Prelude.{◌≡◌};
-    ghost use Rattle.j39_tp.specs.Sender.{begun, after_packet, cleared, ended, hears, after_timeout, timeout_packet, phase_of, outcome_of};
+    ghost use Rattle.j39_tp.specs.Sender.{begun, after_packet, cleared, ended, stage_hears, after_timeout, timeout_packet, phase_of, outcome_of};
 
     /// Where a session stands once its message was announced.
     pub(crate) fn begin(dest: Dest, size: Size) -> Self
@@ -83,7 +83,7 @@ impl Stage {
 
     /// Where a session stands once it heard a packet, and what it does.
     pub(crate) fn hear(self, dest: Dest, pgn: Pgn, size: Size, packet: &Packet) -> (Self, Reaction)
-        ensures { result ≡ hears dest pgn size self packet.now }
+        ensures { result ≡ stage_hears dest pgn size self packet.now }
     {
         if dest == Dest::All {
             return (self, Reaction::Nothing);

@@ -5,11 +5,11 @@ use Rattle.j39_findings.specs.declared.plan.to.To.{To}
 use Rattle.j39_findings.specs.declared.plan.to.To.TheVariants.{All as ToAll, One}
 use Rattle.j39_world.specs.Flows.{flow_of}
 use Rattle.j39_world.specs.declared.flow.Flow.{Flow}
-use Rattle.j39_bus.specs.inside.Traffic.{IsInside, IsFlow}
+use Rattle.j39_bus.specs.inside.Traffic.{GoesToUnits, IsFlow}
 use Rattle.j39_bus.proofs.Opened.{mapped_more}
 use Rattle.j39_bus.proofs.flows.flows_of.Goals as goal
 
-inside_by : (n : ℕ) (to : To) → ((v : ℕ) → to ≡ One v → v < n) → IsInside n to
+inside_by : (n : ℕ) (to : To) → ((v : ℕ) → to ≡ One v → v < n) → GoesToUnits n to
 inside_by n ToAll is = tt
 inside_by n (One v) is = is v refl
 
@@ -29,7 +29,7 @@ loop-flow-preserved c =
     let to : c.flow_of.result.to ≡ (get_or plan.flows.items k d).to = ap (λ (f : Flow). f.to) flow ∙ ap (λ (f : FlowPlan). f.to) at in
     let fits : IsFlow n c.flow_of.result = record {
       sender = subst (λ s. s < n) (sym sender) (plan.flow_senders k d planned);
-      receiver = subst (IsInside n) (sym to) (inside_by n (get_or plan.flows.items k d).to (plan.flow_receivers k d planned));
+      receiver = subst (GoesToUnits n) (sym to) (inside_by n (get_or plan.flows.items k d).to (plan.flow_receivers k d planned));
       length = c.flow_of.ensures.length;
       priority = c.flow_of.ensures.priority;
     } in

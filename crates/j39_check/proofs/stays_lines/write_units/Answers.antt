@@ -1,6 +1,6 @@
 use Rattle.std.proofs.Common.{append_assoc}
 use Rattle.std.proofs.lemmas.List.{append-nil, drop_all}
-use Rattle.j39_check.specs.AddressesText.{unit_lines}
+use Rattle.j39_check.specs.AddressesText.{staying_lines}
 use Rattle.j39_load.specs.Standing.{stays_by}
 use Rattle.j39_check.proofs.UnitLists.{lines_from}
 use Rattle.j39_check.proofs.stays_lines.write_units.Goals as goal
@@ -12,7 +12,7 @@ loop-unit-preserved c =
     rw (c.in_ok-write_unit.ensures, append_assoc) (rw next at c.loop-unit.invariant)
 
 pub returns : goal.returns
-unfolding unit_lines
+unfolding staying_lines
 returns c =
     let done = drop_all c.loop-unit.unit-index c.args.units.now c.loop-unit-test.false in
     rw (done, append-nil) at c.loop-unit.invariant

@@ -1,7 +1,7 @@
 use Rattle.std.proofs.Common.{sym, ◌∙◌, arith, ap, ◌++◌, List}
 use Rattle.std.proofs.lemmas.List.{drop_all}
 use Rattle.j39_findings.specs.declared.plan.flow_plan.FlowPlan.{FlowPlan}
-use Rattle.j39_follow.specs.FollowText.{flow_lines}
+use Rattle.j39_follow.specs.FollowText.{flow_ends}
 use Rattle.j39_follow.proofs.EndLines.{no_flows, one_more_flow}
 use Rattle.j39_follow.proofs.endings.write_flows.Goals as goal
 
@@ -21,5 +21,5 @@ returns c = λ sent of.
     let test = c.loop-place-test.false in
     let count = c.len-place-end.ensures in
     let done = drop_all k plan.flows.items (omega (arith, test, count)) in
-    sym (ap (λ (flows : List FlowPlan). c.loop-place.text ++ flow_lines plan sent k flows) done ∙ no_flows plan sent k c.loop-place.text)
+    sym (ap (λ (flows : List FlowPlan). c.loop-place.text ++ flow_ends plan sent k flows) done ∙ no_flows plan sent k c.loop-place.text)
     ∙ c.loop-place.invariant sent of

@@ -1,6 +1,6 @@
 use Rattle.std.proofs.Common.{inl, inr, refl, sym, subst, ◌∙◌}
 use Rattle.std.proofs.lemmas.Result.{IfOk-weaker}
-use Rattle.j39_follow.specs.inside.Recounting.{IsAt}
+use Rattle.j39_follow.specs.inside.Recounting.{HasNameAt}
 use Rattle.j39_follow.proofs.endings.write_unit.Goals as goal
 
 pub returns-in-Some : goal.returns-in-Some
@@ -11,7 +11,7 @@ returns-in-Some c =
       inl (
         c.in-Some.address,
         of.held c.in-Some.address c.args.unit.now.name
-            (subst (IsAt c.args.holders.now c.in-Some.address) c.to_bits.ensures.value c.in-Some.ensures.some),
+            (subst (HasNameAt c.args.holders.now c.in-Some.address) c.to_bits.ensures.value c.in-Some.ensures.some),
         refl,
       ),
       written,
@@ -27,7 +27,7 @@ returns-then-is_told c =
         of.told c.args.place c.args.unit.now c.requires.there (sym c.is_told.ensures ∙ c.if-is_told.true),
         λ address holds.
             c.in_default.ensures.none address
-            (subst (IsAt c.args.holders.now address) (sym c.to_bits.ensures.value) (of.holds address c.args.unit.now.name holds)),
+            (subst (HasNameAt c.args.holders.now address) (sym c.to_bits.ensures.value) (of.holds address c.args.unit.now.name holds)),
         refl,
       )),
       written,

@@ -2,7 +2,7 @@ use Rattle.std.proofs.Common.{[], sym, subst, ◌∙◌, inl, inr, refl, Some, N
 use Rattle.std.proofs.lemmas.List.{append-nil}
 use Rattle.j39_follow.specs.FollowReports.{IsMessageReport, Message}
 use Rattle.j39_follow.specs.FollowText.{in_frame}
-use Rattle.j39_follow.specs.inside.FrameWriting.{with_frame}
+use Rattle.j39_follow.specs.inside.FrameWriting.{frames_with}
 use Rattle.j39_follow.specs.inside.Reporting.{front_of}
 use Rattle.j39_follow.proofs.FrameTexts.{is_a_group, is_no_group, three_texts}
 use Rattle.j39_follow.proofs.Heard.{unheard_more}
@@ -12,7 +12,7 @@ pub returns-then-is_grouped : goal.returns-then-is_grouped
 returns-then-is_grouped c = λ seen knows have ranges.
     let plan = c.args.plan.now in
     let f = c.args.frame.now in
-    let frames = with_frame seen f in
+    let frames = frames_with seen f in
     let front = front_of c.args.stamp in
     let sort = c.in_ok-sort.sort in
     let notice = c.in_ok-write_notice.ensures frames knows in
@@ -37,7 +37,7 @@ pub returns-in_default : goal.returns-in_default
 returns-in_default c = λ seen knows have ranges.
     let plan = c.args.plan.now in
     let f = c.args.frame.now in
-    let frames = with_frame seen f in
+    let frames = frames_with seen f in
     let front = front_of c.args.stamp in
     let sort = c.in_ok-sort.sort in
     let notice = c.in_ok-write_notice.ensures frames knows in
@@ -61,7 +61,7 @@ pub returns : goal.returns
 returns c = λ seen knows have ranges.
     let plan = c.args.plan.now in
     let f = c.args.frame.now in
-    let frames = with_frame seen f in
+    let frames = frames_with seen f in
     let front = front_of c.args.stamp in
     let sort = c.in_ok-sort.sort in
     let notice = c.in_ok-write_notice.ensures frames knows in

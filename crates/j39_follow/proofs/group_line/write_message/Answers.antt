@@ -4,16 +4,16 @@ use Rattle.std.proofs.lemmas.Bool.{and_parts}
 use Rattle.std.proofs.lemmas.Option.{get_or_from_slice_get}
 use Rattle.j39_findings.specs.declared.plan.group_plan.GroupPlan.{GroupPlan}
 use Rattle.j39_log.specs.LogReports.{reading_lines}
-use Rattle.j39_follow.specs.Fits.{IsGroupOf}
-use Rattle.j39_follow.specs.FollowReports.{group_line}
+use Rattle.j39_follow.specs.Fits.{IsSentGroup}
+use Rattle.j39_follow.specs.FollowReports.{message_line}
 use Rattle.j39_follow.specs.declared.message.Sort.TheVariants.{Grouped}
-use Rattle.j39_follow.specs.inside.Reporting.{front_of, message_of}
+use Rattle.j39_follow.specs.inside.Reporting.{front_of, arrived_message}
 use Rattle.j39_follow.proofs.group_line.write_message.Goals as goal
 
 pub write_group_readings-requires-clause-length : goal.write_group_readings-requires-clause-length
 write_group_readings-requires-clause-length c =
-    let m = message_of c.args.message in
-    let found = subst (IsGroupOf c.args.plan.now m.pgn _ c.sending_of-sent.result) c.in-Some.is c.group_of.ensures in
+    let m = arrived_message c.args.message in
+    let found = subst (IsSentGroup c.args.plan.now m.pgn _ c.sending_of-sent.result) c.in-Some.is c.group_of.ensures in
     let group : GroupPlan = found.0.value in
     record {
       value = group;
@@ -25,7 +25,7 @@ pub returns : goal.returns
 returns c = λ frames knows.
     let plan = c.args.plan.now in
     let front = front_of c.args.stamp in
-    let m = message_of c.args.message in
+    let m = arrived_message c.args.message in
     let sent = c.sending_of-sent.result in
     let flow = c.flow_of-flow in
     let line = c.in_ok-write_group_line.ensures frames knows in
@@ -33,14 +33,14 @@ returns c = λ frames knows.
     let group : GroupPlan = reads.value in
     let same : c.index.result.now ≡ group =
     c.index.ensures ∙ get_or_from_slice_get plan.groups.items c.in-Some.group group c.index.result.now reads.value_is in
-    let head : List ℕ = group_line group front line.0 flow.result m in
+    let head : List ℕ = message_line group front line.0 flow.result m in
     let body : List ℕ = reading_lines group m.bytes in (
       head ++ body,
       (
         sent,
         Some c.in-Some.group,
         c.sending_of-sent.ensures plan frames knows,
-        subst (IsGroupOf plan m.pgn _ sent) c.in-Some.is c.group_of.ensures,
+        subst (IsSentGroup plan m.pgn _ sent) c.in-Some.is c.group_of.ensures,
         (
           ap (Grouped c.in-Some.group) flow.ensures,
           line.0,
@@ -48,11 +48,11 @@ returns c = λ frames knows.
           record {
             value = group;
             value_is = reads.value_is;
-            meets = ap (λ (o : Option ℕ). group_line group front line.0 o m ++ body) flow.ensures;
+            meets = ap (λ (o : Option ℕ). message_line group front line.0 o m ++ body) flow.ensures;
           },
         ),
       ),
       reads.meets
-          ∙ ap (λ (t : List ℕ). t ++ body) (line.2 ∙ ap (λ (g : GroupPlan). c.args.text.now ++ group_line g front line.0 flow.result m) same)
+          ∙ ap (λ (t : List ℕ). t ++ body) (line.2 ∙ ap (λ (g : GroupPlan). c.args.text.now ++ message_line g front line.0 flow.result m) same)
           ∙ append_assoc c.args.text.now head body,
     )

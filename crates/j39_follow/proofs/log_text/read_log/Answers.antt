@@ -10,7 +10,7 @@ use Rattle.j39_stream.specs.Intakes.{Counts}
 use Rattle.j39_stream.specs.Streams.{log_limits}
 use Rattle.j39_stream.specs.declared.limits.Limits.{Limits}
 use Rattle.j39_stream.specs.declared.fault.Fault.TheVariants.{Device, TooLong}
-use Rattle.j39_follow.specs.inside.Recalling.{CountsWithin, HasWritten}
+use Rattle.j39_follow.specs.inside.Recalling.{CountsWithin, HasFollowedToEnd}
 use Rattle.j39_stream.proofs.Parts.{none_read, none_taken, part_after}
 use Rattle.j39_follow.proofs.LinesRead.{begun, end_of, finished, more_seen, partly, put}
 use Rattle.j39_follow.proofs.Recalls.{within_more, within_put}
@@ -153,7 +153,7 @@ returns-clause-ok g c =
     let before = c.loop-reading.invariant in
     let last = c.in_ok-count.ensures.last log_limits (g.S.Source.left c.args.source.now) (g.S.Source.pulls c.args.source.now) before.0 before.2 c.if-count-eq0.true in
     let all : List ℕ = c.close.new.reading.text in
-    let whole = subst (λ p. HasWritten c.args.plan.now (told at_start before.0 ++ told_at_end p) (before.1 ++ all)) before.3
+    let whole = subst (λ p. HasFollowedToEnd c.args.plan.now (told at_start before.0 ++ told_at_end p) (before.1 ++ all)) before.3
     (c.in_ok-close.ensures (told at_start before.0) before.1 before.4) in
     IfOk-weaker c.put_text-2.result _ _
     (λ _ taken. (
@@ -173,7 +173,7 @@ returns-clause-cut g c =
     let y = g.S.Source.left c.pull.new.source in
     let last = c.in_ok-count.ensures.last log_limits x (g.S.Source.pulls c.args.source.now) before.0 before.2 c.if-count-eq0.true in
     let all : List ℕ = c.close.new.reading.text in
-    let whole = subst (λ p. HasWritten c.args.plan.now (told at_start before.0 ++ told_at_end p) (before.1 ++ all)) before.3
+    let whole = subst (λ p. HasFollowedToEnd c.args.plan.now (told at_start before.0 ++ told_at_end p) (before.1 ++ all)) before.3
     (c.in_ok-close.ensures (told at_start before.0) before.1 before.4) in
     IfErr-weaker c.put_text-2.result _ _
     (λ _ cut. (

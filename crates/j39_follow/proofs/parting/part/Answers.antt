@@ -2,7 +2,7 @@ use Rattle.std.proofs.Common.{◌≡◌, ◌+◌, if◌then◌else◌, not, sym,
 use Rattle.j39_log.specs.declared.listeners.Listeners.{Listeners}
 use Rattle.j39_tp.specs.Receiver.{fresh}
 use Rattle.j39_tp.specs.declared.receiving.manner.Manner.TheVariants.{Listening}
-use Rattle.j39_follow.specs.inside.Hearing.{listener_at}
+use Rattle.j39_follow.specs.inside.Hearing.{listener_between}
 use Rattle.j39_follow.proofs.Parted.{is_parted_below, parted_all, parted_here, parted_not}
 use Rattle.j39_follow.proofs.parting.part.Goals as goal
 use Rattle.j39_follow.proofs.parting.part.Goals.{then-not-is_same_party, else-not-is_same_party}
@@ -13,17 +13,17 @@ loop-address-preserved c = λ s d first second.
     let new = c.args.new.now in
     let k = c.loop-address.address in
     let before = c.loop-address.invariant s d first second in
-    let was = listener_at c.args.listeners.now s d in
+    let was = listener_between c.args.listeners.now s d in
     elim c.if-not-is_same_party.branch [
       | then-not-is_same_party w ↦
           subst
-          (λ (l : Listeners). listener_at l s d ≡ (if is_parted_below old new (k + 1) s d then fresh Listening else was))
+          (λ (l : Listeners). listener_between l s d ≡ (if is_parted_below old new (k + 1) s d then fresh Listening else was))
           (sym w.listeners-is)
           (parted_here old new k s d (fresh Listening) was _ _ (ap not (sym c.is_same_party.ensures ∙ w.if-not-is_same_party.true))
           (w.forget.ensures s d first second) before)
       | else-not-is_same_party w ↦
           subst
-          (λ (l : Listeners). listener_at l s d ≡ (if is_parted_below old new (k + 1) s d then fresh Listening else was))
+          (λ (l : Listeners). listener_between l s d ≡ (if is_parted_below old new (k + 1) s d then fresh Listening else was))
           (sym w.listeners-is)
           (parted_not old new k s d (fresh Listening) was _ (ap not (sym c.is_same_party.ensures ∙ w.if-not-is_same_party.false)) before)
     ]

@@ -2,7 +2,7 @@ use Rattle.std.proofs.Common.{◌≡◌, ◌≢◌, ℕ, Option, Some, None, tru
 use Rattle.std.specs.Option.{is_some}
 use Rattle.std.proofs.lemmas.Option.{get_or_from_slice_get, slice_get-get_or}
 use Rattle.j39_findings.specs.declared.plan.group_plan.GroupPlan.{GroupPlan}
-use Rattle.j39_follow.specs.Fits.{flow_of}
+use Rattle.j39_follow.specs.Fits.{fitting_flow}
 use Rattle.j39_follow.proofs.sending.may_be_group.Goals as goal
 
 some_or_none : (o : Option ℕ) → is_some o ≡ true → o ≢ None
@@ -40,7 +40,7 @@ returns c = (
     meets = record {
       number = c.if-group-pgn.false;
       length = sym c.has_length.ensures ∙ c.if-not-has_length.false;
-      own = inr (some_or_none (flow_of c.args.plan.now c.args.place c.args.sent)
+      own = inr (some_or_none (fitting_flow c.args.plan.now c.args.place c.args.sent)
           (ap is_some (sym c.flow_of.ensures) ∙ sym c.is_some.ensures ∙ e));
     };
   },
@@ -50,6 +50,6 @@ returns c = (
         c.index-group.ensures
         ∙ get_or_from_slice_get c.args.plan.now.groups.items c.args.place may.value c.index-group.result.now may.value_is in
         absurd (false_true (sym shared ∙ sym (ap (λ (g : GroupPlan). g.private) same) ∙ c.if-not-group.false))
-    | inr flow ↦ c.is_some.ensures ∙ ap is_some c.flow_of.ensures ∙ none_or_some (flow_of c.args.plan.now c.args.place c.args.sent) flow
+    | inr flow ↦ c.is_some.ensures ∙ ap is_some c.flow_of.ensures ∙ none_or_some (fitting_flow c.args.plan.now c.args.place c.args.sent) flow
   ],
 )

@@ -4,12 +4,12 @@ use Rattle.j39_findings.specs.declared.plan.Plan.{Plan}
 use Rattle.j39_findings.specs.declared.steps.Step.{Step}
 use Rattle.j39_world.specs.Run.{refusal, StepsTo, RunsThrough}
 use Rattle.j39_bus.specs.Stands.{Stands}
-use Rattle.j39_world.specs.World.{World, first}
+use Rattle.j39_world.specs.World.{World, all_off}
 use Rattle.j39_bus.proofs.Running.{run_more}
 use Rattle.j39_vectors.proofs.stepped.steps_done.Goals as goal
 
 pub returns-in-Err : goal.returns-in-Err
-returns-in-Err g c = let (w, ran, s) = c.loop-place.invariant c.args.plan.now first c.in_ok-bus.ensures.stands in (w, ran)
+returns-in-Err g c = let (w, ran, s) = c.loop-place.invariant c.args.plan.now all_off c.in_ok-bus.ensures.stands in (w, ran)
 
 pub loop-place-preserved : goal.loop-place-preserved
 loop-place-preserved g c =
@@ -22,8 +22,8 @@ loop-place-preserved g c =
 pub returns : goal.returns
 returns g c =
     let past : length c.args.steps.now ≤ c.loop-place.place = omega arith in
-    let (w, ran, s) = c.loop-place.invariant c.args.plan.now first c.in_ok-bus.ensures.stands in (
+    let (w, ran, s) = c.loop-place.invariant c.args.plan.now all_off c.in_ok-bus.ensures.stands in (
       w,
-      subst (λ (l : List Step). RunsThrough c.args.plan.now first l w)
+      subst (λ (l : List Step). RunsThrough c.args.plan.now all_off l w)
           (take_all c.loop-place.place c.args.steps.now past ∙ sym (take_all (length c.args.steps.now) c.args.steps.now (omega arith))) ran,
     )

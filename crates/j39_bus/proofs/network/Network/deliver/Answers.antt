@@ -4,7 +4,7 @@ use Rattle.j39_claim.specs.ClaimerValue.{ClaimerValue, can_note}
 use Rattle.j39_queues.specs.Queued.{pair_in}
 use Rattle.j39_world.specs.Sent.{sent_of}
 use Rattle.j39_bus.specs.Stations.{absent_unit, station_at}
-use Rattle.j39_bus.specs.inside.Network.{world_in, planned_units, is_named, IsWellFormed}
+use Rattle.j39_bus.specs.inside.Network.{world_in, planned_units, has_unit_named, IsWellFormed}
 use Rattle.j39_bus.proofs.Delivered.{delivered, planned_units_heard}
 use Rattle.j39_bus.proofs.Room.{can_note_all, named}
 use Rattle.j39_bus.specs.declared.network.Network.{Network}
@@ -33,7 +33,7 @@ returns-in-Some-answer-clause-network g c =
     let cs : List ClaimerValue = c.args.self.now.claimers.items in
     let new : List ClaimerValue = c.hear-answer.new.claimers.items in
     let rule = c.in-Some-answer.ensures.rule in
-    let is_one : is_named cs c.name-name.result ≡ true = ap (is_named cs) named_is ∙ named cs c.args.from c.requires.from in
+    let is_one : has_unit_named cs c.name-name.result ≡ true = ap (has_unit_named cs) named_is ∙ named cs c.args.from c.requires.from in
     let well : IsWellFormed new c.pop.new.self.lists =
     well_heard cs c.args.self.now.claims.lists c.requires.network.claims c.args.to c.requires.to c.name-name.result is_one c.in-Some.item
     (Some c.in-Some-answer.say) new rule c.pop.new.self.lists c.pop.ensures.table in
@@ -74,7 +74,7 @@ returns-in-None-clause-network g c =
     c.name-name.ensures in
     let net = c.args.self.now in
     let cs : List ClaimerValue = c.args.self.now.claimers.items in
-    let is_one : is_named cs c.name-name.result ≡ true = ap (is_named cs) named_is ∙ named cs c.args.from c.requires.from in
+    let is_one : has_unit_named cs c.name-name.result ≡ true = ap (has_unit_named cs) named_is ∙ named cs c.args.from c.requires.from in
     record {
       claims = well_heard cs c.args.self.now.claims.lists c.requires.network.claims c.args.to c.requires.to c.name-name.result is_one c.in-Some.item None
           c.hear-answer.new.claimers.items c.in-None.ensures.rule

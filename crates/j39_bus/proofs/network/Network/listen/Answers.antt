@@ -10,7 +10,7 @@ use Rattle.j39_world.specs.World.{changed_pair}
 use Rattle.j39_bus.proofs.ChangedReceivers.{changed_here, held_changed, progress_changed}
 use Rattle.j39_bus.proofs.ChangedSessions.{after_is, sessions_staged}
 use Rattle.j39_bus.proofs.Wires.{as_table}
-use Rattle.j39_world.specs.TransferSteps.{session_hears}
+use Rattle.j39_world.specs.TransferSteps.{outgoing_hears}
 use Rattle.j39_world.specs.World.{changed}
 use Rattle.j39_bus.specs.BusState.{session_at}
 use Rattle.j39_bus.proofs.network.Network.listen.Goals as goal
@@ -25,7 +25,7 @@ returns-clause-network c =
       claims = c.requires.network.claims;
       traffic = record {
         flows = well.flows;
-        sessions = sessions_staged n net.sessions.items c.hear-reaction.new.sessions.items c.args.to (λ s. (session_hears s c.args.from c.args.packet.now).0)
+        sessions = sessions_staged n net.sessions.items c.hear-reaction.new.sessions.items c.args.to (λ s. (outgoing_hears s c.args.from c.args.packet.now).0)
             (c.hear-reaction.ensures.session ∙ ap (changed old c.args.to) (after_is (old c.args.to) c.args.from c.args.packet.now))
             c.hear-reaction.ensures.count well.sessions;
         table = as_table n net.wire.lists c.pop.new.self.lists well.table c.pop.ensures.table;

@@ -1,6 +1,6 @@
 use Rattle.std.proofs.Common.{◌≡◌, ◌++◌, List, ℕ, length, refl, sym, ap, subst, ◌∙◌, append_assoc}
 use Rattle.std.proofs.lemmas.Result.{IfOk-weaker}
-use Rattle.j39_follow.specs.FollowText.{counts_line, flow_lines, frames_of, group_ends}
+use Rattle.j39_follow.specs.FollowText.{follow_counts_line, flow_ends, frames_seen, group_ends}
 use Rattle.j39_follow.specs.declared.holders.Holders.{Holders}
 use Rattle.j39_follow.specs.inside.Recounting.{Recounts}
 use Rattle.j39_follow.proofs.reading.Reading.finish.Goals as goal
@@ -15,21 +15,21 @@ returns c =
     IfOk-weaker c.write_counts.result _ _
     (λ _ written. λ past recalls.
     let m = recalls.remembers in
-    let recounts = subst (λ (h : Holders). Recounts plan h (frames_of past.seen)) (sym c.holders.ensures) m.knows.recounts in
-    let ends = c.in_ok-write_endings.ensures past.sent (frames_of past.seen) m.tally recounts in
-    let a : List ℕ = flow_lines plan past.sent 0 plan.flows.items in
+    let recounts = subst (λ (h : Holders). Recounts plan h (frames_seen past.seen)) (sym c.holders.ensures) m.knows.recounts in
+    let ends = c.in_ok-write_endings.ensures past.sent (frames_seen past.seen) m.tally recounts in
+    let a : List ℕ = flow_ends plan past.sent 0 plan.flows.items in
     let b : List ℕ = group_ends plan past.sent 0 plan.groups.items in
-    let counts : counts_line self.frames self.skipped self.bad self.elsewhere
-    ≡ counts_line (length past.seen) past.skipped past.bad past.elsewhere =
-    ap (λ (n : ℕ). counts_line n self.skipped self.bad self.elsewhere) recalls.frames_are
-    ∙ ap (λ (n : ℕ). counts_line (length past.seen) n self.bad self.elsewhere) recalls.skipped_are
-    ∙ ap (λ (n : ℕ). counts_line (length past.seen) past.skipped n self.elsewhere) recalls.bad_are
-    ∙ ap (λ (n : ℕ). counts_line (length past.seen) past.skipped past.bad n) recalls.elsewhere_are in (
+    let counts : follow_counts_line self.frames self.skipped self.bad self.elsewhere
+    ≡ follow_counts_line (length past.seen) past.skipped past.bad past.elsewhere =
+    ap (λ (n : ℕ). follow_counts_line n self.skipped self.bad self.elsewhere) recalls.frames_are
+    ∙ ap (λ (n : ℕ). follow_counts_line (length past.seen) n self.bad self.elsewhere) recalls.skipped_are
+    ∙ ap (λ (n : ℕ). follow_counts_line (length past.seen) past.skipped n self.elsewhere) recalls.bad_are
+    ∙ ap (λ (n : ℕ). follow_counts_line (length past.seen) past.skipped past.bad n) recalls.elsewhere_are in (
       ends.0,
       ends.1,
       written
-          ∙ ap (λ (t : List ℕ). t ++ counts_line self.frames self.skipped self.bad self.elsewhere) ends.2
+          ∙ ap (λ (t : List ℕ). t ++ follow_counts_line self.frames self.skipped self.bad self.elsewhere) ends.2
           ∙ ap (λ (t : List ℕ). (self.text ++ (a ++ (b ++ ends.0))) ++ t) counts
-          ∙ grouped self.text a b ends.0 (counts_line (length past.seen) past.skipped past.bad past.elsewhere),
+          ∙ grouped self.text a b ends.0 (follow_counts_line (length past.seen) past.skipped past.bad past.elsewhere),
     ))
     c.write_counts.ensures

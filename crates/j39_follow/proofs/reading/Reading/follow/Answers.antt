@@ -1,8 +1,8 @@
 use Rattle.std.proofs.Common.{◌+◌, ◌<◌, ◌^◌, length, sym, subst, arith, ◌∙◌}
 use Rattle.std.proofs.lemmas.Result.{IfOk-weaker}
-use Rattle.j39_follow.specs.FollowText.{frames_of}
+use Rattle.j39_follow.specs.FollowText.{frames_seen}
 use Rattle.j39_follow.specs.declared.directory.Directory.{Directory}
-use Rattle.j39_follow.specs.inside.FrameWriting.{with_frame}
+use Rattle.j39_follow.specs.inside.FrameWriting.{frames_with}
 use Rattle.j39_follow.specs.inside.Recounting.{Knows}
 use Rattle.j39_follow.proofs.Heard.{heard_on}
 use Rattle.j39_follow.proofs.Knowing.{knows_on}
@@ -19,7 +19,7 @@ returns-clause-followed c =
     (λ _ reported. λ past of few.
     let sent = of.few in
     let room : length past.sent + 2 < 2 ^ 64 = omega (arith, few, sent) in
-    let knows = knows_on plan directory (frames_of past.seen) f nothing of.knows in
+    let knows = knows_on plan directory (frames_seen past.seen) f nothing of.knows in
     let told = reported past knows of.heard of.ranges of.tally room in
     let w = told.written in
     record {
@@ -35,7 +35,7 @@ returns-clause-followed c =
       report_is = w.report_is;
       carried_is = w.carried_is;
       text_is = w.text_is;
-      knows = subst (λ (d : Directory). Knows plan d (with_frame past.seen f)) (sym c.report.ensures.directory) knows;
+      knows = subst (λ (d : Directory). Knows plan d (frames_with past.seen f)) (sym c.report.ensures.directory) knows;
       heard = heard_on plan past.seen (record { frame = f; packet = w.packet }) directory.parties c.report.new.self.listeners
           of.knows.parties knows.parties w.heard;
       tally = told.tally;

@@ -1,8 +1,8 @@
 use Rattle.std.proofs.Common.{◌+◌, ◌<◌, ◌^◌, List, length, sym, subst, arith}
-use Rattle.j39_follow.specs.FollowText.{frames_of}
+use Rattle.j39_follow.specs.FollowText.{frames_seen}
 use Rattle.j39_follow.specs.declared.directory.Directory.{Directory}
 use Rattle.j39_follow.specs.declared.who.Who.{Who}
-use Rattle.j39_follow.specs.inside.FrameWriting.{with_frame}
+use Rattle.j39_follow.specs.inside.FrameWriting.{frames_with}
 use Rattle.j39_follow.specs.inside.Recounting.{ArePartiesOf, Knows}
 use Rattle.j39_follow.proofs.Heard.{heard_anew}
 use Rattle.j39_follow.proofs.reading.Reading.follow_claim.Goals as goal
@@ -13,12 +13,12 @@ returns-clause-followed c = λ past of few.
     let f = c.args.frame.now in
     let sent = of.few in
     let room : length past.sent + 2 < 2 ^ 64 = omega (arith, few, sent) in
-    let heard = c.hear.ensures (frames_of past.seen) of.knows in
+    let heard = c.hear.ensures (frames_seen past.seen) of.knows in
     let told = c.in_ok-report.ensures.reported past heard of.heard of.ranges of.tally room in
     let w = told.written in
-    let knows = subst (λ (d : Directory). Knows plan d (with_frame past.seen f)) (sym c.in_ok-report.ensures.directory) heard in
-    let before = subst (λ (ps : List Who). ArePartiesOf plan (frames_of past.seen) ps) (sym c.parties-before.ensures) of.knows.parties in
-    let after = subst (λ (ps : List Who). ArePartiesOf plan (with_frame past.seen f) ps) (sym c.parties-after.ensures) knows.parties in
+    let knows = subst (λ (d : Directory). Knows plan d (frames_with past.seen f)) (sym c.in_ok-report.ensures.directory) heard in
+    let before = subst (λ (ps : List Who). ArePartiesOf plan (frames_seen past.seen) ps) (sym c.parties-before.ensures) of.knows.parties in
+    let after = subst (λ (ps : List Who). ArePartiesOf plan (frames_with past.seen f) ps) (sym c.parties-after.ensures) knows.parties in
     record {
       sort = told.sort;
       ended = told.ended;

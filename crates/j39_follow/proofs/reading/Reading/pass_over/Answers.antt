@@ -1,13 +1,13 @@
 use Rattle.std.proofs.Common.{◌≡◌, ◌≢◌, ◌+◌, refl, sym, subst, arith}
 use Rattle.j39_id.specs.declared.line_error.LineError.{LineError}
 use Rattle.j39_id.specs.declared.line_error.LineError.TheVariants.{Empty, NoHash, ShortIdent, BadIdent, TooLong, BadData}
-use Rattle.j39_follow.specs.FollowText.{Past, passed_over, with_bad}
+use Rattle.j39_follow.specs.FollowText.{FollowedPast, line_passed_over, with_bad_line}
 use Rattle.j39_follow.specs.declared.reading.Reading.{Reading}
-use Rattle.j39_follow.specs.inside.Recalling.{Recalls}
+use Rattle.j39_follow.specs.inside.Recalling.{RecallsPast}
 use Rattle.j39_follow.proofs.Recalls.{one_more_bad, one_more_skipped}
 use Rattle.j39_follow.proofs.reading.Reading.pass_over.Goals as goal
 
-counts_as_bad : (e : LineError) (past : Past) → e ≢ Empty → e ≢ ShortIdent → with_bad past ≡ passed_over e past
+counts_as_bad : (e : LineError) (past : FollowedPast) → e ≢ Empty → e ≢ ShortIdent → with_bad_line past ≡ line_passed_over e past
 counts_as_bad Empty past some long = absurd (some refl)
 counts_as_bad ShortIdent past some long = absurd (long refl)
 counts_as_bad NoHash past some long = refl
@@ -19,7 +19,7 @@ pub returns-in-ShortIdent-clause-past : goal.returns-in-ShortIdent-clause-past
 returns-in-ShortIdent-clause-past c = λ plan past recalls.
     let self = c.args.self.now in
     let new : Reading = record self { skipped = self.skipped + 1 } in
-    subst (λ (e : LineError). Recalls plan new (passed_over e past)) (sym c.in-ShortIdent.is)
+    subst (λ (e : LineError). RecallsPast plan new (line_passed_over e past)) (sym c.in-ShortIdent.is)
     (one_more_skipped plan c.args.self.now past recalls)
 
 pub returns-in_default : goal.returns-in_default
@@ -27,7 +27,7 @@ returns-in_default c = record {
   past = λ plan past recalls.
       let self = c.args.self.now in
       let new : Reading = record self { bad = self.bad + 1 } in
-      subst (Recalls plan new) (counts_as_bad c.args.error past c.in_default.not-Empty c.in_default.not-ShortIdent)
+      subst (RecallsPast plan new) (counts_as_bad c.args.error past c.in_default.not-Empty c.in_default.not-ShortIdent)
       (one_more_bad plan c.args.self.now past recalls);
   text = refl;
   count = record {

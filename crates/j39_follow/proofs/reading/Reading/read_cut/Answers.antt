@@ -3,7 +3,7 @@ use Rattle.std.proofs.lemmas.List.{append-nil}
 use Rattle.std.proofs.lemmas.Result.{IfOk-weaker}
 use Rattle.j39_id.specs.Lines.{tells}
 use Rattle.j39_id.specs.declared.cut.Cut.{Cut}
-use Rattle.j39_follow.specs.FollowText.{Past, ReadsLines, one_line_more, with_bad}
+use Rattle.j39_follow.specs.FollowText.{FollowedPast, FollowsLines, one_line_more, with_bad_line}
 use Rattle.j39_follow.proofs.Recalls.{numbered, one_more_bad}
 use Rattle.j39_follow.proofs.reading.Reading.read_cut.Goals as goal
 
@@ -14,7 +14,7 @@ returns-in-Line-clause-lines c =
     let told = read (one_line_more past) (numbered c.args.plan.now c.args.self.now past recalls) in (
       told.0,
       told.1,
-      subst (λ (cut : Cut). ReadsLines c.args.plan.now past (tells cut c.args.line.now) told.0 told.1) (sym c.in-Line.is)
+      subst (λ (cut : Cut). FollowsLines c.args.plan.now past (tells cut c.args.line.now) told.0 told.1) (sym c.in-Line.is)
           (told.0, told.1, [], told.2, (refl, refl), sym (append-nil told.1)),
       told.3,
       told.4,
@@ -35,10 +35,10 @@ returns-in-Line-clause-count c =
 
 pub returns-in-Long-clause-lines : goal.returns-in-Long-clause-lines
 returns-in-Long-clause-lines c = λ past recalls.
-    let next : Past = with_bad (one_line_more past) in (
+    let next : FollowedPast = with_bad_line (one_line_more past) in (
       next,
       [],
-      subst (λ (cut : Cut). ReadsLines c.args.plan.now past (tells cut c.args.line.now) next []) (sym c.in-Long.is)
+      subst (λ (cut : Cut). FollowsLines c.args.plan.now past (tells cut c.args.line.now) next []) (sym c.in-Long.is)
           (next, [], [], (refl, refl), (refl, refl), refl),
       one_more_bad c.args.plan.now _ (one_line_more past) (numbered c.args.plan.now c.args.self.now past recalls),
       sym (append-nil c.args.self.now.text),

@@ -6,10 +6,10 @@ use Rattle.j39_id.specs.declared.frame.Frame.{Frame}
 use Rattle.j39_log.specs.LogPairs.{Seen}
 use Rattle.j39_log.specs.inside.Listening.{IsInRange}
 use Rattle.j39_follow.specs.FollowReports.{IsMessageReport, IsNotice, stamp}
-use Rattle.j39_follow.specs.FollowText.{IsPacketReport, Past, in_frame}
+use Rattle.j39_follow.specs.FollowText.{IsPacketReport, FollowedPast, in_frame}
 use Rattle.j39_follow.specs.LogLines.{interface_behind}
 use Rattle.j39_follow.specs.declared.message.Sort.{Sort}
-use Rattle.j39_follow.specs.inside.FrameWriting.{with_frame}
+use Rattle.j39_follow.specs.inside.FrameWriting.{frames_with}
 use Rattle.j39_follow.specs.inside.Recalling.{interface_of}
 use Rattle.j39_follow.specs.inside.Recounting.{Knows}
 use Rattle.j39_follow.proofs.Heard.{frames_more}
@@ -32,7 +32,7 @@ returns-clause-frame c = λ past recalls.
     let same = c.in_ok-follow.ensures.counts in
     let x : Seen = record { frame = f; packet = done.packet } in
     let sorts : List Sort = option_to_list done.ended in
-    let next : Past = record past {
+    let next : FollowedPast = record past {
       seen = past.seen ++ x ∷ [];
       interface = interface_behind past.interface named;
       sent = past.sent ++ done.sort ∷ sorts;
@@ -53,8 +53,8 @@ returns-clause-frame c = λ past recalls.
         report = done.report;
         carried = done.carried;
         heard_as = done.heard_as;
-        notice_is = subst (λ (n : ℕ). IsNotice plan (with_frame past.seen f) (stamp n time) f done.notice) number done.notice_is;
-        report_is = subst (λ (n : ℕ). IsMessageReport plan (with_frame past.seen f) (stamp n time) (in_frame f) done.sort done.report) number
+        notice_is = subst (λ (n : ℕ). IsNotice plan (frames_with past.seen f) (stamp n time) f done.notice) number done.notice_is;
+        report_is = subst (λ (n : ℕ). IsMessageReport plan (frames_with past.seen f) (stamp n time) (in_frame f) done.sort done.report) number
             done.report_is;
         carried_is = subst (λ (n : ℕ). IsPacketReport plan past.seen (stamp n time) f done.packet sorts done.carried) number done.carried_is;
         text_is = refl;

@@ -6,7 +6,7 @@ use Rattle.j39_id.specs.declared.frame.Frame.{Frame}
 use Rattle.j39_id.specs.declared.line_error.LineError.{LineError}
 use Rattle.std.proofs.lemmas.List.{append-nil}
 use Rattle.std.proofs.lemmas.Result.{IfOk-weaker}
-use Rattle.j39_follow.specs.FollowText.{Past, passed_over}
+use Rattle.j39_follow.specs.FollowText.{FollowedPast, line_passed_over}
 use Rattle.j39_follow.specs.LogLines.{IsElsewhere}
 use Rattle.j39_follow.proofs.Recalls.{names_it, one_more_elsewhere}
 use Rattle.j39_follow.proofs.reading.Reading.read_line.Goals as goal
@@ -18,7 +18,7 @@ pub returns-then-is_elsewhere-clause-line : goal.returns-then-is_elsewhere-claus
 returns-then-is_elsewhere-clause-line c = λ past recalls.
     let read = c.read_part-part in
     let named = c.interface-named in
-    let next : Past = record past { elsewhere = past.elsewhere + 1 } in (
+    let next : FollowedPast = record past { elsewhere = past.elsewhere + 1 } in (
       next,
       [],
       (
@@ -69,7 +69,7 @@ pub returns-in-Err-clause-line : goal.returns-in-Err-clause-line
 returns-in-Err-clause-line c = λ past recalls.
     let read = c.read_part-part in
     let named = c.interface-named in (
-      passed_over c.in-Err.error past,
+      line_passed_over c.in-Err.error past,
       [],
       (
         read.result.now,

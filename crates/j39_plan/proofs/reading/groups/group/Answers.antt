@@ -4,11 +4,11 @@ use Rattle.toml.specs.View.{items_view}
 use Rattle.j39_findings.specs.LabelForm.{is_label}
 use Rattle.j39_signal.specs.Parts.{IsSignal}
 use Rattle.j39_plan.specs.declared.reading.key.Key.TheVariants as key
-use Rattle.j39_plan.specs.Elements.{each_faults, Each}
+use Rattle.j39_plan.specs.Elements.{each_faults, Each, label_in}
 use Rattle.j39_plan.specs.Growing.{NeverGrows, EachGrows}
 use Rattle.j39_plan.specs.Outcome.{FailsGrowing}
 use Rattle.j39_plan.specs.SignalTables.{IsSignalOf}
-use Rattle.j39_plan.specs.TextTables.{IsTextOf, text_faults, text_label}
+use Rattle.j39_plan.specs.TextTables.{IsTextOf, text_faults}
 use Rattle.j39_plan.specs.GroupTables.{group_table_faults}
 use Rattle.j39_plan.proofs.FirstFaults.{fails_on, first-append}
 use Rattle.j39_plan.proofs.NoFaults.{tables_count, length-Each, All-from_Each, Each-weaken}
@@ -69,7 +69,7 @@ returns-in_err-texts c =
     let ds = items_view c.in_ok-later.later.texts.now in
     let told :
     FailsGrowing (EachGrows (text_faults (signal_texts ss) c.args.index) NeverGrows ds) c.in_err-texts.field-0.0
-    (each_faults (text_faults (signal_texts ss) c.args.index) text_label 0 [] ds) =
+    (each_faults (text_faults (signal_texts ss) c.args.index) label_in 0 [] ds) =
     rw c.deref.ensures.value at c.in_err-texts.ensures in
     let fails = rw (labels, later.1.3, later.1.4) at told in
     rw (p.1, p.2, c.in_ok-only_known.ensures.0, c.in_ok-label.ensures.gives.0, c.in_ok-pgn.ensures.gives.0, c.in_ok-priority.ensures.gives.0)
@@ -86,7 +86,7 @@ returns c =
     let told = rw later.1.3 at (Each-weaken (IsRead c.args.third c.is_some-records.result) (IsSignalOf c.args.third) (λ d s read. read.0) _ _ c.in_ok-signals.ensures.1) in
     let none = rw (records, later.1.3) at c.in_ok-signals.ensures.0 in
     let ds = items_view c.in_ok-later.later.texts.now in
-    let read : (each_faults (text_faults (signal_texts ss) c.args.index) text_label 0 [] ds ≡ []) × Each IsTextOf ds c.in_ok-texts.texts.items =
+    let read : (each_faults (text_faults (signal_texts ss) c.args.index) label_in 0 [] ds ≡ []) × Each IsTextOf ds c.in_ok-texts.texts.items =
     rw c.deref.ensures.value at c.in_ok-texts.ensures in
     let texts = rw (labels, later.1.3, later.1.4) at read in (
       rw (c.in_ok-only_known.ensures.0, c.in_ok-label.ensures.gives.0, c.in_ok-pgn.ensures.gives.0, c.in_ok-priority.ensures.gives.0)

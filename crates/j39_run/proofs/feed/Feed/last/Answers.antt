@@ -1,7 +1,7 @@
 use Rattle.std.proofs.Common.{◌≡◌, List, ap, ◌∙◌, subst}
 use Rattle.j39_id.specs.Lines.{Line, tells, told_at_end}
 use Rattle.j39_run.specs.declared.next.Next.{Next}
-use Rattle.j39_run.specs.inside.Feeding.{Feeding, IsNext}
+use Rattle.j39_run.specs.inside.Feeding.{Feeding, IsReadNext}
 use Rattle.j39_run.proofs.Reading.{last_begins, last_line, no_last_line, tells_end}
 use Rattle.j39_run.proofs.Stopping.{on_error}
 use Rattle.j39_run.proofs.feed.Feed.last.Goals as goal
@@ -19,7 +19,7 @@ returns-clause-comes c =
       | in-More w ↦
           rw w.result-is (λ first now p q seen ls fed.
           no_last_line c.args.plan.now first now p q c.args.self.now _ seen ls more c.requires.ended c.end-cut.ensures.pending told_last
-          (subst (λ (n : Next). IsNext c.args.plan.now n more) w.in-More.is c.in_ok-next.ensures.is) fed)
+          (subst (λ (n : Next). IsReadNext c.args.plan.now n more) w.in-More.is c.in_ok-next.ensures.is) fed)
       | in_default w ↦
           rw w.result-is (λ first now p q seen ls fed.
           last_line c.args.plan.now c.in_ok-next.next first now p q c.args.self.now _ seen ls more c.requires.ended ended c.end-cut.ensures.pending told_last
