@@ -6,7 +6,7 @@ use Rattle.j39_findings.specs.Findings.{Clean}
 use Rattle.j39_findings.specs.Found.{found}
 use Rattle.j39_load.specs.declared.load_finding.LoadFinding.{LoadFinding}
 use Rattle.j39_load.specs.LoadFindings.{AreLoadFindings}
-use Rattle.j39_world.specs.SoundPlan.{IsSound}
+use Rattle.j39_check.specs.Certified.{IsCertified}
 use Rattle.j39_check.specs.FindingLines.{finding_lines}
 use Rattle.j39_check.specs.LoadLines.{load_finding_lines}
 use Rattle.j39_check.specs.PlanText.{Describes, IsRefusedText}
@@ -25,9 +25,10 @@ unfoldable pub findings_text : Plan → List Finding → List LoadFinding → Li
 findings_text plan findings others = finding_lines plan findings
     ++ (load_finding_lines others ++ (field (codes "findings ") (length findings + length others) ++ 10 ∷ []))
 
--- what is written for a plan, with the verdict: one in which nothing is wrong is sound
+-- what is written for a plan, with the verdict: one in which nothing is wrong is sound, and its frames
+-- are in time
 abbrev pub IsReport : Plan → List ℕ → Verdict → Type 0
-IsReport plan text Done = Clean plan × AreLoadFindings plan plan.timing [] × IsSound plan × (text ≡ ok_line plan)
+IsReport plan text Done = Clean plan × AreLoadFindings plan plan.timing [] × IsCertified plan × (text ≡ ok_line plan)
 IsReport plan text Findings = (others : List LoadFinding) × AreLoadFindings plan plan.timing others
     × ¬ ((found plan ≡ []) × (others ≡ [])) × (text ≡ findings_text plan (found plan) others)
 IsReport plan text Refused = ⊥

@@ -1,4 +1,5 @@
 pub mod AddressesText
+pub mod Certified
 pub mod CheckText
 pub mod FindingLines
 pub mod LoadLines

@@ -2,6 +2,7 @@
 #![tactic(auto)]
 
 mod addresses;
+mod certificate;
 mod check;
 mod finding_lines;
 mod laws;
@@ -14,6 +15,7 @@ mod stays_report;
 mod timing;
 
 pub use addresses::addresses_text;
+pub use certificate::certify_with_load;
 pub use check::check_text;
 pub use laws::{
     addresses_have_one_text, check_has_one_text, load_has_one_text, written_runs_read_back,

@@ -2,10 +2,10 @@
 ghost use Rattle.std.specs.Prelude.{◌≡◌, ◌++◌, OnOk, IfOk};
 ghost use Rattle.j39_check.specs.CheckText.{IsReport, findings_text, ok_line};
 
+use crate::certificate::certify_with_load;
 use crate::finding_lines::write_lines;
 use crate::load_lines::write_load_findings;
 use j39_findings::{Finding, Plan, Refused, RefusedCause, checked};
-use j39_laws::certify;
 use j39_load::{LoadFinding, check_load};
 use j39_stream::Verdict;
 use j39_text::TextBuffer;
@@ -45,7 +45,7 @@ pub(super) fn report(alloc: Global, plan: Plan) -> Result<(TextBuffer, Verdict),
     let others = check_load(alloc, &plan)?;
     match checked(alloc, plan) {
         Ok(plan) if others.is_empty() => {
-            certify(&plan);
+            certify_with_load(&plan);
             write_ok(&mut text, plan.plan())?;
             Ok((text, Verdict::Done))
         }

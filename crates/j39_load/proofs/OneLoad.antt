@@ -1,12 +1,11 @@
 -- What a plan asks of a bus is one: whoever tells who stays tells the same loads and the same delays.
-use Rattle.std.proofs.Common.{◌≡◌, ◌≢◌, ℕ, ◌+◌, ◌<◌, ◌≤◌, Bool, true, false, if◌then◌else◌, List, [], ◌∷◌, map, length, min, max, inl, inr, Option, Some, None, get_or}
-use Rattle.std.proofs.Common.{refl, sym, ap, ◌∙◌, subst, arith, true≢false, option_map, IfSome}
+use Rattle.std.proofs.Common.{◌≡◌, ℕ, ◌+◌, ◌≤◌, Bool, true, false, if◌then◌else◌, List, [], ◌∷◌, map, min, max, inl, inr, Option, Some, None}
+use Rattle.std.proofs.Common.{refl, sym, ap, ◌∙◌, subst, arith, true≢false}
 use Rattle.std.proofs.lemmas.Bool.{cases_lt}
 use Rattle.std.proofs.lemmas.List.{ext_get_or}
 use Rattle.std.proofs.lemmas.Option.{same_Some, none-some}
 use Rattle.std.specs.Bool.{MatchBool}
 use Rattle.std.specs.List.{slice_get}
-use Rattle.std.specs.Prelude.{slice_index_or}
 use Rattle.j39_findings.specs.declared.plan.Plan.{Plan}
 use Rattle.j39_findings.specs.declared.plan.flow_plan.FlowPlan.{FlowPlan}
 use Rattle.j39_findings.specs.declared.plan.group_plan.GroupPlan.{GroupPlan}
@@ -18,11 +17,12 @@ use Rattle.j39_findings.specs.declared.plan.unit_plan.UnitPlan.{UnitPlan}
 use Rattle.j39_load.specs.declared.delay.Delay.{Delay}
 use Rattle.j39_load.specs.declared.delay.Delay.TheVariants.{Within, Late, Long}
 use Rattle.j39_load.specs.declared.flow_load.FlowLoad.{FlowLoad}
-use Rattle.j39_load.specs.Delays.{HasDelay, IsDelay, IsInTime, TellDelays, blocking, need_of, streams_before}
+use Rattle.j39_load.specs.Delays.{HasDelay, IsDelay, IsInTime, TellDelays, blocking, streams_before}
 use Rattle.j39_load.specs.LoadFindings.{AsksOfBus}
-use Rattle.j39_load.specs.Loads.{destination_at, flow_load, greatest_address, ident_at, least_address, load_of_flow, loads_of, of_unit}
+use Rattle.j39_load.specs.Loads.{destination_at, flow_load, group_ident, load_of_flow, loads_of, of_unit, packet_frames, packet_ident, single_frames}
 use Rattle.j39_load.specs.Standing.{TellsWhoStays}
 use Rattle.j39_timing.specs.Waits.{HaveNoRoom}
+use Rattle.j39_tp.specs.Chunks.{packets_of}
 
 -- a statement is told in one way
 pub told_once : (stays other : Bool) (S : Type 0) → MatchBool stays S (¬ S) → MatchBool other S (¬ S) → stays ≡ other
@@ -51,16 +51,32 @@ module _ (plan : Plan) (timing : Timing) (stays other : UnitPlan → Bool) (tell
     destination_same ToAll = refl
     destination_same (One v) = unit_same v
 
-    pub ident_same : (group : GroupPlan) (flow : FlowPlan)
-        → ident_at plan.units.items (λ x. by (stays x) x) group flow ≡ ident_at plan.units.items (λ x. by (other x) x) group flow
-    ident_same group flow = rw (destination_same flow.to, unit_same flow.sender) refl
+    pub group_same : (group : GroupPlan) (flow : FlowPlan)
+        → group_ident plan.units.items (λ x. by (stays x) x) group flow ≡ group_ident plan.units.items (λ x. by (other x) x) group flow
+    group_same group flow = rw (destination_same flow.to, unit_same flow.sender) refl
+
+    pub packet_same : (flow : FlowPlan)
+        → packet_ident plan.units.items (λ x. by (stays x) x) flow ≡ packet_ident plan.units.items (λ x. by (other x) x) flow
+    packet_same flow = rw (destination_same flow.to, unit_same flow.sender) refl
+
+  abbrev least_by : Bool → UnitPlan → ℕ
+  least_by b x = if b then x.address else min x.address 128
+
+  abbrev greatest_by : Bool → UnitPlan → ℕ
+  greatest_by b x = if b then x.address else max x.address 247
+
+  singles_same : (flow : FlowPlan) (period : ℕ) (group : GroupPlan)
+      → single_frames timing plan.units.items stays flow period group ≡ single_frames timing plan.units.items other flow period group
+  singles_same flow period group = rw (group_same least_by group flow, group_same greatest_by group flow) refl
+
+  packets_same : (flow : FlowPlan) (period packets : ℕ)
+      → packet_frames timing plan.units.items stays flow period packets ≡ packet_frames timing plan.units.items other flow period packets
+  packets_same flow period packets = rw (packet_same least_by flow, packet_same greatest_by flow) refl
 
   load_same : (flow : FlowPlan) (pace : Pace) (group : GroupPlan)
       → flow_load timing plan.units.items stays flow pace group ≡ flow_load timing plan.units.items other flow pace group
   load_same flow pace group =
-      let least = ident_same (λ b x. if b then x.address else min x.address 128) group flow in
-      let greatest = ident_same (λ b x. if b then x.address else max x.address 247) group flow in
-      rw (least, greatest) refl
+      rw (singles_same flow pace.period group, packets_same flow pace.period (packets_of group.most)) refl
 
   flow_same : (flow : FlowPlan) (pace : Option Pace) (group : Option GroupPlan) → flow.pace ≡ pace → slice_get plan.groups.items flow.group ≡ group
       → load_of_flow timing plan stays flow ≡ load_of_flow timing plan other flow
@@ -82,7 +98,7 @@ module _ (plan : Plan) (timing : Timing) (stays other : UnitPlan → Bool) (tell
 module _ (timing : Timing) (loads : List (Option FlowLoad)) (flow : ℕ) where
   -- of two least waits none is less
   not_less : (load : FlowLoad) (wait other : ℕ) → IsInTime timing loads flow load wait
-      → HaveNoRoom (blocking timing load.greatest_ident) (streams_before flow load.greatest_ident loads) other → other ≤ wait
+      → HaveNoRoom (blocking timing load.frames.greatest_ident) (streams_before flow load.frames.greatest_ident loads) other → other ≤ wait
   not_less load wait other inside least = elim (cases_lt wait other) [
     | inl below ↦ absurd (omega (arith, least wait below, inside.room))
     | inr above ↦ above
@@ -93,7 +109,7 @@ module _ (timing : Timing) (loads : List (Option FlowLoad)) (flow : ℕ) where
       let above = not_less load is.1 another.1 is.2 another.3 in
       let below = not_less load another.1 is.1 another.2 is.3 in
       let waits : is.1 ≡ another.1 = omega (arith, above, below) in
-      ap Within (is.4 ∙ ap (λ (w : ℕ). w + load.stream.bits) waits ∙ sym another.4)
+      ap Within (is.4 ∙ ap (λ (w : ℕ). w + load.frames.stream.bits) waits ∙ sym another.4)
   one_delay load (Within bits) Late is another = absurd (another.1 is.1 is.2)
   one_delay load (Within bits) (Long frames) is another = absurd (true≢false (sym is.0 ∙ another.0))
   one_delay load Late (Within bits) is another = absurd (is.1 another.1 another.2)

@@ -1,7 +1,7 @@
 -- A greater address of either end makes a greater identifier, and units hold addresses between the least and the greatest.
-use Rattle.std.proofs.Common.{◌≡◌, ℕ, ◌+◌, ◌*◌, ◌^◌, ◌<◌, ◌≤◌, ◌⊎◌, Bool, true, false, if◌then◌else◌, leb, length, min, List, inl, inr}
-use Rattle.std.proofs.Common.{refl, sym, ap, ◌∙◌, arith}
-use Rattle.std.proofs.lemmas.Bool.{and_parts, leb-true, true≢false}
+use Rattle.std.proofs.Common.{◌≡◌, ℕ, ◌+◌, ◌*◌, ◌^◌, ◌<◌, ◌≤◌, ◌⊎◌, Bool, true, false, if◌then◌else◌, leb, length, List, inl, inr}
+use Rattle.std.proofs.Common.{refl, ap, ◌∙◌, arith}
+use Rattle.std.proofs.lemmas.Bool.{and_parts, leb-true}
 use Rattle.std.proofs.lemmas.List.{length-map}
 use Rattle.std.specs.Bool.{MatchBool}
 use Rattle.j39_id.specs.Addresses.{in_pool}
@@ -14,7 +14,7 @@ use Rattle.j39_findings.specs.declared.plan.group_plan.GroupPlan.{GroupPlan}
 use Rattle.j39_findings.specs.declared.plan.to.To.{To}
 use Rattle.j39_findings.specs.declared.plan.to.To.TheVariants.{All as ToAll, One}
 use Rattle.j39_findings.specs.declared.plan.unit_plan.UnitPlan.{UnitPlan}
-use Rattle.j39_load.specs.Loads.{destination_at, greatest_address, group_ident, has_short, is_always_short, least_address, of_unit, packet_ident}
+use Rattle.j39_load.specs.Loads.{destination_at, greatest_address, least_address, of_unit}
 use Rattle.j39_load.specs.Ranks.{AreHeldByPlan, AreUnitsPlanned, LieBetween, destination_held}
 use Rattle.j39_load.specs.Standing.{TellsWhoStays}
 use Rattle.j39_load.proofs.WhoStays.{placed}
@@ -80,20 +80,4 @@ module _ (plan : Plan) (stays : UnitPlan → Bool) (tells : TellsWhoStays plan s
     lie_between group =
         let own = between group.priority group.pgn in
         let packets = between transport_priority data_transfer in
-        record {
-          least = λ some. least_of (is_always_short group) (has_short group) some (group_ident plan.units.items (least_address stays) group flow) (packet_ident plan.units.items (least_address stays) flow) _ own.0;
-          greatest = λ short. rw (short) own.1;
-          packets = λ long. least_of_packets (is_always_short group) (has_short group) long (group_ident plan.units.items (least_address stays) group flow) (packet_ident plan.units.items (least_address stays) flow) _ packets.0;
-        }
-      where
-        least_of : (short has : Bool) → has ≡ true → (x y n : ℕ) → x ≤ n
-            → (if short then x else if has then min x y else y) ≤ n
-        least_of true has is x y n le = le
-        least_of false true is x y n le = omega (arith, le)
-        least_of false false is x y n le = absurd (true≢false (sym is))
-
-        least_of_packets : (short has : Bool) → short ≡ false → (x y n : ℕ) → y ≤ n
-            → (if short then x else if has then min x y else y) ≤ n
-        least_of_packets true has is x y n le = absurd (true≢false is)
-        least_of_packets false true is x y n le = omega (arith, le)
-        least_of_packets false false is x y n le = le
+        record { least = own.0; greatest = own.1; least_packet = packets.0; greatest_packet = packets.1 }

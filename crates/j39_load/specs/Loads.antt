@@ -1,5 +1,5 @@
 -- What each flow of a plan asks of the bus: how many frames, how long, how often, and how urgent.
-use Rattle.std.specs.Prelude.{ℕ, ◌+◌, ◌*◌, ◌^◌, min, max, nat_le, Bool, if◌then◌else◌, List, length, map, sum_by, Option, Some, None}
+use Rattle.std.specs.Prelude.{ℕ, ◌+◌, ◌*◌, min, max, nat_le, Bool, not, ◌&&◌, if◌then◌else◌, List, map, sum_by, Option, Some, None}
 use Rattle.std.specs.Int.{div_ceil}
 use Rattle.std.specs.List.{slice_get}
 use Rattle.std.specs.Option.{option_and_then, option_map, option_map_or}
@@ -17,6 +17,7 @@ use Rattle.j39_findings.specs.declared.plan.timing.Timing.{Timing}
 use Rattle.j39_findings.specs.declared.plan.to.To.{To}
 use Rattle.j39_findings.specs.declared.plan.to.To.TheVariants.{All, One}
 use Rattle.j39_findings.specs.declared.plan.unit_plan.UnitPlan.{UnitPlan}
+use Rattle.j39_load.specs.declared.flow_frames.FlowFrames.{FlowFrames}
 use Rattle.j39_load.specs.declared.flow_load.FlowLoad.{FlowLoad}
 use Rattle.j39_timing.specs.FrameBits.{longest_frame}
 use Rattle.j39_timing.specs.declared.stream.Stream.{Stream}
@@ -41,6 +42,10 @@ bits_of_ms timing ms = ms * bits_per_ms timing.bitrate
 abbrev pub is_always_short : GroupPlan → Bool
 is_always_short group = nat_le group.most frame_bytes
 
+-- some messages of the group do
+abbrev pub has_short : GroupPlan → Bool
+has_short group = nat_le group.length frame_bytes
+
 -- the most bytes of a frame
 abbrev pub most_bytes : GroupPlan → ℕ
 most_bytes group = if is_always_short group then group.most else frame_bytes
@@ -55,16 +60,22 @@ abbrev pub long_frames : List UnitPlan → ℕ → To → ℕ
 long_frames units packets All = 1 + packets
 long_frames units packets (One v) = 2 + packets + div_ceil packets (of_unit units (λ unit. unit.window) v)
 
-abbrev pub frames_of : List UnitPlan → GroupPlan → To → ℕ
-frames_of units group to = if is_always_short group then 1 else long_frames units (packets_of group.most) to
-
--- the frames of a flow; those of a long message are queued while it lasts
-abbrev pub stream_of : Timing → List UnitPlan → GroupPlan → To → ℕ → Stream
-stream_of timing units group to period = record {
-  frames = frames_of units group to;
+-- messages of one frame of the group each
+abbrev pub single_stream : Timing → GroupPlan → ℕ → Stream
+single_stream timing group period = record {
+  frames = 1;
   period = bits_of_ms timing period;
   bits = longest_frame (most_bytes group);
-  spread = if is_always_short group then 0 else 1;
+  spread = 0;
+}
+
+-- long messages of so many packets, whose frames are queued while they last
+abbrev pub packet_stream : Timing → List UnitPlan → ℕ → To → ℕ → Stream
+packet_stream timing units packets to period = record {
+  frames = long_frames units packets to;
+  period = bits_of_ms timing period;
+  bits = longest_frame frame_bytes;
+  spread = 1;
 }
 
 -- ---- identifiers: the smaller one goes first
@@ -80,25 +91,15 @@ abbrev pub destination_at : List UnitPlan → (UnitPlan → ℕ) → To → ℕ
 destination_at units address All = global_address
 destination_at units address (One v) = of_unit units address v
 
--- some messages of the group go in one frame
-abbrev pub has_short : GroupPlan → Bool
-has_short group = nat_le group.length frame_bytes
-
+-- the identifier of frames of the group, where the units hold these addresses
 abbrev pub group_ident : List UnitPlan → (UnitPlan → ℕ) → GroupPlan → FlowPlan → ℕ
 group_ident units address group flow =
     identifier_of group.priority group.pgn (destination_at units address flow.to) (of_unit units address flow.sender)
 
+-- that of the data packets of a long message, by which it counts
 abbrev pub packet_ident : List UnitPlan → (UnitPlan → ℕ) → FlowPlan → ℕ
 packet_ident units address flow =
     identifier_of transport_priority data_transfer (destination_at units address flow.to) (of_unit units address flow.sender)
-
--- the identifier of a flow's frames where the units hold these addresses: that of its group, or, as a long message counts by its data
--- packets, that of these; where its messages go either way the smaller one
-abbrev pub ident_at : List UnitPlan → (UnitPlan → ℕ) → GroupPlan → FlowPlan → ℕ
-ident_at units address group flow =
-    if is_always_short group then group_ident units address group flow
-    else if has_short group then min (group_ident units address group flow) (packet_ident units address flow)
-    else packet_ident units address flow
 
 -- ---- flows
 
@@ -110,14 +111,40 @@ time_limit timing pace = bits_of_ms timing (min pace.deadline pace.period)
 abbrev pub load_of : Stream → ℕ → ℕ
 load_of stream period = div_ceil (1000 * (stream.frames * stream.bits)) period
 
+-- the frames of a flow's messages that go in one frame
+abbrev pub single_frames : Timing → List UnitPlan → (UnitPlan → Bool) → FlowPlan → ℕ → GroupPlan → FlowFrames
+single_frames timing units stays flow period group = record {
+  stream = single_stream timing group period;
+  least_ident = group_ident units (least_address stays) group flow;
+  greatest_ident = group_ident units (greatest_address stays) group flow;
+}
+
+-- those of its long messages, each of so many packets
+abbrev pub packet_frames : Timing → List UnitPlan → (UnitPlan → Bool) → FlowPlan → ℕ → ℕ → FlowFrames
+packet_frames timing units stays flow period packets = record {
+  stream = packet_stream timing units packets flow.to period;
+  least_ident = packet_ident units (least_address stays) flow;
+  greatest_ident = packet_ident units (greatest_address stays) flow;
+}
+
+-- the frames of a flow, by its longest messages
+abbrev pub frames_of : Timing → List UnitPlan → (UnitPlan → Bool) → FlowPlan → ℕ → GroupPlan → FlowFrames
+frames_of timing units stays flow period group =
+    if is_always_short group then single_frames timing units stays flow period group
+    else packet_frames timing units stays flow period (packets_of group.most)
+
+-- a flow with long messages has short ones too, where its group's shortest go in one frame
+abbrev pub singles_of : Timing → List UnitPlan → (UnitPlan → Bool) → FlowPlan → ℕ → GroupPlan → Option FlowFrames
+singles_of timing units stays flow period group =
+    if not (is_always_short group) && has_short group then Some (single_frames timing units stays flow period group) else None
+
 abbrev pub flow_load : Timing → List UnitPlan → (UnitPlan → Bool) → FlowPlan → Pace → GroupPlan → FlowLoad
 flow_load timing units stays flow pace group = record {
-  stream = stream_of timing units group flow.to pace.period;
+  frames = frames_of timing units stays flow pace.period group;
+  singles = singles_of timing units stays flow pace.period group;
   is_short = is_always_short group;
-  least_ident = ident_at units (least_address stays) group flow;
-  greatest_ident = ident_at units (greatest_address stays) group flow;
   limit = time_limit timing pace;
-  bits_per_second = load_of (stream_of timing units group flow.to pace.period) pace.period;
+  bits_per_second = load_of (frames_of timing units stays flow pace.period group).stream pace.period;
 }
 
 -- what a flow asks of the bus, where it is known how often it is sent

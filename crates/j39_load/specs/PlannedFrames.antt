@@ -1,29 +1,45 @@
 -- The frames of a bus that are those of a plan's flows, among what else is on it; and what a delay says of them.
-use Rattle.std.specs.Prelude.{◌≡◌, ℕ, ◌+◌, Bool, true, List, length, slice_index_or, Option, Some, None}
+use Rattle.std.specs.Prelude.{◌≡◌, ℕ, ◌+◌, ◌-◌, nat_lt, if◌then◌else◌, Bool, true, List, length, slice_index_or, unwrap_or, Option, Some, None}
 use Rattle.std.specs.List.{slice_get}
-use Rattle.std.specs.Option.{option_map_or}
+use Rattle.std.specs.Option.{option_and_then, option_map_or}
 use Rattle.j39_findings.specs.declared.plan.Plan.{Plan}
 use Rattle.j39_findings.specs.declared.plan.timing.Timing.{Timing}
 use Rattle.j39_findings.specs.declared.plan.unit_plan.UnitPlan.{UnitPlan}
 use Rattle.j39_load.specs.declared.delay.Delay.{Delay}
 use Rattle.j39_load.specs.declared.delay.Delay.TheVariants.{Within}
+use Rattle.j39_load.specs.declared.flow_frames.FlowFrames.{FlowFrames}
 use Rattle.j39_load.specs.declared.flow_load.FlowLoad.{FlowLoad}
 use Rattle.j39_load.specs.Delays.{IsInTime, blocking, streams_before, unplanned_idents}
 use Rattle.j39_load.specs.LoadFindings.{AsksOfBus}
 use Rattle.j39_load.specs.Loads.{loads_of}
 use Rattle.j39_timing.specs.FrameBits.{longest_frame}
 use Rattle.j39_timing.specs.Schedule.{Schedule, IsLegal}
-use Rattle.j39_timing.specs.Streams.{Origins, nothing}
+use Rattle.j39_timing.specs.Streams.{Origins}
 use Rattle.j39_timing.specs.Traffic.{Traffic, Others, IsPlannedTraffic, IsStreamInTime}
 use Rattle.j39_timing.specs.Waits.{HaveNoRoom}
 
--- the flows are the streams of the planned frames, at their places
+-- frames of which none is ever queued
+abbrev pub no_frames : FlowFrames
+no_frames = record { stream = record { frames = 0; period = 1; bits = 0; spread = 0 }; least_ident = 0; greatest_ident = 0 }
+
+-- at the places of the flows stand their frames, and as many places behind, the single frames of those that have long messages too
+abbrev pub frames_at : List (Option FlowLoad) → ℕ → FlowFrames
+frames_at loads j = option_map_or (λ (load : FlowLoad). load.frames) (slice_index_or loads j None) no_frames
+
+abbrev pub singles_at : List (Option FlowLoad) → ℕ → FlowFrames
+singles_at loads j =
+    unwrap_or (option_and_then (λ (load : FlowLoad). load.singles) (slice_index_or loads j None)) no_frames
+
+abbrev pub planned_at : List (Option FlowLoad) → ℕ → FlowFrames
+planned_at loads j = if nat_lt j (length loads) then frames_at loads j else singles_at loads (j - length loads)
+
+-- they are the streams of the planned frames
 abbrev pub traffic_of : List (Option FlowLoad) → Traffic
 traffic_of loads = record {
-  count = length loads;
-  stream = λ j. option_map_or (λ (load : FlowLoad). load.stream) (slice_index_or loads j None) nothing;
-  least = λ j. option_map_or (λ (load : FlowLoad). load.least_ident) (slice_index_or loads j None) 0;
-  greatest = λ j. option_map_or (λ (load : FlowLoad). load.greatest_ident) (slice_index_or loads j None) 0;
+  count = length loads + length loads;
+  stream = λ j. (planned_at loads j).stream;
+  least = λ j. (planned_at loads j).least_ident;
+  greatest = λ j. (planned_at loads j).greatest_ident;
 }
 
 -- what is of no planned flow has priority 6 or 7
@@ -39,16 +55,16 @@ AreFramesOfFlows timing loads s planned of = IsPlannedTraffic s (traffic_of load
 -- has ended within it and its own length
 abbrev pub IsInTimeOnEveryBus : Timing → List (Option FlowLoad) → ℕ → FlowLoad → ℕ → Type 0
 IsInTimeOnEveryBus timing loads flow load wait = (s : Schedule) (planned : ℕ → Bool) (of : Origins) → IsLegal s
-    → AreFramesOfFlows timing loads s planned of → IsStreamInTime s planned of flow load.stream.bits wait
+    → AreFramesOfFlows timing loads s planned of → IsStreamInTime s planned of flow load.frames.stream.bits wait
 
 -- the flow's delay is the least wait that has room, with its own length; this is within its limit, and bounds its frames' time on every bus
 pub record IsBounded (timing : Timing) (loads : List (Option FlowLoad)) (flow bits : ℕ) : Type 0 where
   pub load : FlowLoad
   pub its : slice_get loads flow ≡ Some (Some load)
   pub wait : ℕ
-  pub sum : bits ≡ wait + load.stream.bits
+  pub sum : bits ≡ wait + load.frames.stream.bits
   pub inside : IsInTime timing loads flow load wait
-  pub least : HaveNoRoom (blocking timing load.greatest_ident) (streams_before flow load.greatest_ident loads) wait
+  pub least : HaveNoRoom (blocking timing load.frames.greatest_ident) (streams_before flow load.frames.greatest_ident loads) wait
   pub bounds : IsInTimeOnEveryBus timing loads flow load wait
 
 -- each delay that is told is a bound

@@ -1,5 +1,5 @@
 -- Between which identifiers the frames of a flow lie, whatever addresses the units of a plan come to hold.
-use Rattle.std.specs.Prelude.{◌≡◌, ◌≢◌, ℕ, ◌<◌, ◌≤◌, ◌⊎◌, Bool, true, false, length, Some}
+use Rattle.std.specs.Prelude.{◌≡◌, ◌≢◌, ℕ, ◌<◌, ◌≤◌, ◌⊎◌, Bool, true, length, Some}
 use Rattle.std.specs.List.{slice_get}
 use Rattle.j39_id.specs.Addresses.{global_address, in_pool}
 use Rattle.j39_id.specs.Ident.{identifier_of}
@@ -10,7 +10,7 @@ use Rattle.j39_findings.specs.declared.plan.group_plan.GroupPlan.{GroupPlan}
 use Rattle.j39_findings.specs.declared.plan.to.To.{To}
 use Rattle.j39_findings.specs.declared.plan.to.To.TheVariants.{All, One}
 use Rattle.j39_findings.specs.declared.plan.unit_plan.UnitPlan.{UnitPlan}
-use Rattle.j39_load.specs.Loads.{greatest_address, has_short, ident_at, is_always_short, least_address}
+use Rattle.j39_load.specs.Loads.{greatest_address, group_ident, is_always_short, least_address, packet_ident}
 use Rattle.j39_world.specs.PlannedUnits.{unit_at, units_of}
 use Rattle.j39_world.specs.Staying.{Stays}
 
@@ -37,11 +37,12 @@ pub record AreUnitsPlanned (plan : Plan) (flow : FlowPlan) : Type 0 where
   pub sender : flow.sender < length plan.units.items
   pub receiver : (v : ℕ) → flow.to ≡ One v → v < length plan.units.items
 
--- the identifiers of a flow's frames lie between the least and the greatest one of the flow; of a long one none is smaller than the least
+-- the identifiers of a flow's frames lie between the least and the greatest one: those of single frames, and those of packets
 pub record LieBetween (plan : Plan) (stays : UnitPlan → Bool) (held : ℕ → ℕ) (group : GroupPlan) (flow : FlowPlan) : Type 0 where
-  pub least : has_short group ≡ true → ident_at plan.units.items (least_address stays) group flow ≤ frame_ident held group flow
-  pub greatest : is_always_short group ≡ true → frame_ident held group flow ≤ ident_at plan.units.items (greatest_address stays) group flow
-  pub packets : is_always_short group ≡ false → ident_at plan.units.items (least_address stays) group flow ≤ data_ident held flow
+  pub least : group_ident plan.units.items (least_address stays) group flow ≤ frame_ident held group flow
+  pub greatest : frame_ident held group flow ≤ group_ident plan.units.items (greatest_address stays) group flow
+  pub least_packet : packet_ident plan.units.items (least_address stays) flow ≤ data_ident held flow
+  pub greatest_packet : data_ident held flow ≤ packet_ident plan.units.items (greatest_address stays) flow
 
 -- of the units that are on each holds an address, and no two of them one
 pub record AreHeldApart (on : ℕ → Bool) (held : ℕ → ℕ) : Type 0 where

@@ -1,10 +1,12 @@
 //! How long the frames of the flows of a plan wait.
-ghost use Rattle.std.specs.Prelude.{◌≡◌, ◌≤◌, true, [], ◌∷◌, All, length, IfOk, IfSome, IfNone};
-ghost use Rattle.j39_load.specs.Delays.{IsDelay, blocking, going_before, streams_before};
+ghost use Rattle.std.specs.Option.{option_map_or};
+ghost use Rattle.std.specs.Prelude.{◌≡◌, ◌≤◌, ◌+◌, ◌*◌, true, [], ◌++◌, All, length, IfOk, OnOk};
+ghost use Rattle.j39_load.specs.Delays.{IsDelay, blocking, frames_before, going_before, streams_before};
 ghost use Rattle.j39_load.specs.SoundLoads.{IsSoundIfKnown, IsSoundLoad};
 ghost use Rattle.j39_timing.specs.Waits.{IsStream};
 
 use crate::delay::Delay;
+use crate::flow_frames::FlowFrames;
 use crate::flow_load::FlowLoad;
 use j39_findings::Timing;
 use j39_timing::{Stream, frame_bits, least_wait};
@@ -25,16 +27,57 @@ fn blocking(timing: Timing, ident: u64) -> u32
     u32::from(frame_bits(8)) * (1 + unplanned)
 }
 
-// The stream of the flow at this place, where it is another flow and a frame of it may go before one of this identifier.
-fn stream_before(load: &Option<FlowLoad>, place: usize, flow: usize, ident: u64) -> Option<Stream>
-    requires { IsSoundIfKnown load.now }
-    ensures some { IfSome result (λ stream. (going_before flow ident place load.now ≡ stream ∷ []) × IsStream stream) }
-    ensures none { IfNone result (going_before flow ident place load.now ≡ []) }
+// Adds the stream of these frames, where one of them may go before one of this identifier.
+fn add_frames(streams: &mut Vec<Stream>, ident: u64, frames: &FlowFrames) -> Result<(), AllocError>
+    requires frames { IsStream frames.now.stream }
+    requires streams { All IsStream streams.old.items }
+    ensures streams { OnOk result (streams.new.items ≡ streams.old.items ++ frames_before ident frames.now) }
+    ensures fit { OnOk result (All IsStream streams.new.items) }
+    ensures few { OnOk result (length streams.new.items ≤ length streams.old.items + 1) }
 {
-    match load {
-        Some(load) if place != flow && load.least_ident < ident => Some(load.stream),
-        _ => None,
+    if frames.least_ident < ident {
+        streams.push(frames.stream)?;
     }
+    Ok(())
+}
+
+// Adds those of a flow.
+fn add_flow(streams: &mut Vec<Stream>, ident: u64, load: &FlowLoad) -> Result<(), AllocError>
+    requires load { IsSoundLoad load.now }
+    requires streams { All IsStream streams.old.items }
+    ensures streams { OnOk result (streams.new.items ≡ streams.old.items
+        ++ (frames_before ident load.now.frames ++ option_map_or (frames_before ident) load.now.singles [])) }
+    ensures fit { OnOk result (All IsStream streams.new.items) }
+    ensures few { OnOk result (length streams.new.items ≤ length streams.old.items + 2) }
+{
+    add_frames(streams, ident, &load.frames)?;
+    match &load.singles {
+        Some(singles) => add_frames(streams, ident, singles),
+        None => Ok(()),
+    }
+}
+
+// Adds those of the flow at this place, where it is another flow.
+fn add_other(
+    streams: &mut Vec<Stream>,
+    flow: usize,
+    ident: u64,
+    place: usize,
+    load: &Option<FlowLoad>,
+) -> Result<(), AllocError>
+    requires load { IsSoundIfKnown load.now }
+    requires streams { All IsStream streams.old.items }
+    ensures streams { OnOk result (streams.new.items ≡ streams.old.items ++ going_before flow ident place load.now) }
+    ensures fit { OnOk result (All IsStream streams.new.items) }
+    ensures few { OnOk result (length streams.new.items ≤ length streams.old.items + 2) }
+{
+    let Some(load) = load else {
+        return Ok(());
+    };
+    if place == flow {
+        return Ok(());
+    }
+    add_flow(streams, ident, load)
 }
 
 // The streams of the other flows of which a frame may go before one of this identifier.
@@ -48,13 +91,11 @@ fn streams_before(
     requires { All IsSoundIfKnown loads.now }
     ensures streams { IfOk result (λ streams. streams.items ≡ streams_before flow ident loads.now) }
     ensures fit { IfOk result (λ streams. All IsStream streams.items) }
-    ensures few { IfOk result (λ streams. length streams.items ≤ length loads.now) }
+    ensures few { IfOk result (λ streams. length streams.items ≤ 2 * length loads.now) }
 {
-    let mut streams = Vec::with_capacity(alloc, loads.len())?;
+    let mut streams = Vec::new(alloc);
     for (place, load) in loads.iter().enumerate() {
-        if let Some(stream) = stream_before(load, place, flow, ident) {
-            streams.push_reserved(stream);
-        }
+        add_other(&mut streams, flow, ident, place, load)?;
     }
     Ok(streams)
 }
@@ -73,12 +114,12 @@ fn short_delay(
     requires short { load.now.is_short ≡ true }
     ensures { IfOk result (IsDelay timing loads.now flow load.now) }
 {
-    let bits = u32::from(load.stream.bits);
+    let bits = u32::from(load.frames.stream.bits);
     if load.limit < bits {
         return Ok(Delay::Late);
     }
-    let streams = streams_before(alloc, loads, flow, load.greatest_ident)?;
-    let blocking = blocking(timing, load.greatest_ident);
+    let streams = streams_before(alloc, loads, flow, load.frames.greatest_ident)?;
+    let blocking = blocking(timing, load.frames.greatest_ident);
     match least_wait(blocking, streams.as_slice(), load.limit - bits) {
         Some(wait) => Ok(Delay::Within(wait + bits)),
         None => Ok(Delay::Late),
@@ -101,6 +142,6 @@ pub(crate) fn delay_of(
     if load.is_short {
         short_delay(alloc, timing, loads, flow, load)
     } else {
-        Ok(Delay::Long(load.stream.frames))
+        Ok(Delay::Long(load.frames.stream.frames))
     }
 }

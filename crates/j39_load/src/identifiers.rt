@@ -2,7 +2,7 @@
 ghost use Rattle.std.specs.Prelude.{◌≡◌, ◌<◌, ℕ, length};
 ghost use Rattle.j39_id.specs.Ident.{identifier_of};
 ghost use Rattle.j39_findings.specs.declared.plan.to.To.TheVariants.{One};
-ghost use Rattle.j39_load.specs.Loads.{destination_at, ident_at};
+ghost use Rattle.j39_load.specs.Loads.{destination_at, group_ident, packet_ident};
 ghost use Rattle.j39_load.specs.Standing.{stays_by};
 ghost use Rattle.j39_load.specs.inside.Extremes.{extreme_address};
 
@@ -10,7 +10,6 @@ use crate::extreme::Extreme;
 use crate::standing::Standing;
 use j39_findings::{FlowPlan, GroupPlan, To, UnitPlan};
 use j39_id::addresses::GLOBAL_ADDRESS;
-use j39_id::limits::FRAME_BYTES;
 use j39_id::services::{DATA_TRANSFER, TRANSPORT_PRIORITY};
 use j39_id::{PDU2_FIRST, pf_of};
 
@@ -36,8 +35,8 @@ fn destination(units: &[UnitPlan], standing: &Standing, extreme: Extreme, to: To
     }
 }
 
-/// The number of the identifier of a flow's frames, where its units hold their addresses at this end.
-pub(crate) fn ident(
+/// The number of the identifier of a flow's frames of its group, where its units hold their addresses at this end.
+pub(crate) fn group_ident(
     units: &[UnitPlan],
     standing: &Standing,
     extreme: Extreme,
@@ -46,23 +45,31 @@ pub(crate) fn ident(
 ) -> u64
     requires sender { flow.now.sender < length units.now }
     requires receiver { (v : ℕ) → flow.now.to ≡ One v → v < length units.now }
-    ensures { result ≡ ident_at units.now (extreme_address extreme (stays_by standing.now.firsts standing.now.mover)) group.now flow.now }
+    ensures { result ≡ group_ident units.now (extreme_address extreme (stays_by standing.now.firsts standing.now.mover)) group.now flow.now }
 {
-    let source = extreme.address(standing, &units[flow.sender]);
-    let destination = destination(units, standing, extreme, flow.to);
-    let own = identifier(group.priority, group.pgn, destination, source);
-    if usize::from(group.most) <= FRAME_BYTES {
-        return own;
-    }
-    let of_packets = identifier(
+    identifier(
+        group.priority,
+        group.pgn,
+        destination(units, standing, extreme, flow.to),
+        extreme.address(standing, &units[flow.sender]),
+    )
+}
+
+/// That of the data packets of its long messages.
+pub(crate) fn packet_ident(
+    units: &[UnitPlan],
+    standing: &Standing,
+    extreme: Extreme,
+    flow: &FlowPlan,
+) -> u64
+    requires sender { flow.now.sender < length units.now }
+    requires receiver { (v : ℕ) → flow.now.to ≡ One v → v < length units.now }
+    ensures { result ≡ packet_ident units.now (extreme_address extreme (stays_by standing.now.firsts standing.now.mover)) flow.now }
+{
+    identifier(
         TRANSPORT_PRIORITY,
         DATA_TRANSFER.number(),
-        destination,
-        source,
-    );
-    if usize::from(group.length) <= FRAME_BYTES {
-        own.min(of_packets)
-    } else {
-        of_packets
-    }
+        destination(units, standing, extreme, flow.to),
+        extreme.address(standing, &units[flow.sender]),
+    )
 }

@@ -6,6 +6,7 @@ mod delay;
 mod delays;
 mod extreme;
 mod faults;
+mod flow_frames;
 mod flow_load;
 mod identifiers;
 mod laws;
@@ -16,6 +17,7 @@ mod streams;
 
 pub use delay::Delay;
 pub use faults::{bits_of_second, check_load, load_findings};
+pub use flow_frames::FlowFrames;
 pub use flow_load::FlowLoad;
 pub use laws::{
     delays_are_bounds, identifiers_lie_between, short_flows_have_different_identifiers,

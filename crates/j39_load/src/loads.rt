@@ -1,23 +1,26 @@
 //! What the flows of a plan ask of the bus.
-ghost use Rattle.std.specs.Prelude.{◌≡◌, ◌^◌, ◌<◌, ◌≤◌, ℕ, Bool, All, length, IfOk};
+ghost use Rattle.std.specs.Prelude.{◌≡◌, ◌^◌, ◌<◌, ◌≤◌, ℕ, Bool, All, length, IfOk, IfSome};
 ghost use Rattle.j39_findings.specs.declared.plan.to.To.TheVariants.{One};
 ghost use Rattle.j39_findings.specs.declared.plan.unit_plan.UnitPlan.{UnitPlan as APlannedUnit};
 ghost use Rattle.j39_load.specs.Delays.{HasDelay, TellDelays};
-ghost use Rattle.j39_load.specs.Loads.{flow_load, time_limit, load_of_flow, loads_of, total_load};
+ghost use Rattle.j39_load.specs.Loads.{flow_load, frames_of, time_limit, load_of_flow, loads_of, packet_frames, single_frames, singles_of, total_load};
 ghost use Rattle.j39_load.specs.Standing.{TellsWhoStays, stays_by};
 ghost use Rattle.std.proofs.Props.{props};
 ghost use Rattle.std.specs.Option.{option_map_or};
 ghost use Rattle.j39_load.specs.SoundLoads.{IsSoundIfKnown, IsSoundLoad};
+ghost use Rattle.j39_timing.specs.Waits.{IsStream};
 
 use crate::delay::Delay;
 use crate::delays::delay_of;
 use crate::extreme::Extreme;
+use crate::flow_frames::FlowFrames;
 use crate::flow_load::FlowLoad;
-use crate::identifiers::ident;
+use crate::identifiers::{group_ident, packet_ident};
 use crate::standing::Standing;
-use crate::streams::{bits_of_ms, load, stream};
+use crate::streams::{bits_of_ms, load, packet_stream, single_stream};
 use j39_findings::{FlowPlan, GroupPlan, Pace, Plan, Timing, UnitPlan};
 use j39_id::limits::FRAME_BYTES;
+use j39_tp::Size;
 use std::alloc::{AllocError, Global};
 
 // Within how many bits each frame of a flow of this pace has to be on the bus.
@@ -26,6 +29,82 @@ fn limit(timing: Timing, pace: Pace) -> u32
     ensures few { result < 2 ^ 31 }
 {
     bits_of_ms(timing, pace.deadline.min(pace.period))
+}
+
+// The frames of a flow's messages that go in one frame.
+fn single_frames(
+    timing: Timing,
+    units: &[UnitPlan],
+    standing: &Standing,
+    flow: &FlowPlan,
+    period: u16,
+    group: &GroupPlan,
+) -> FlowFrames
+    requires sender { flow.now.sender < length units.now }
+    requires receiver { (v : ℕ) → flow.now.to ≡ One v → v < length units.now }
+    requires period { 1 ≤ period }
+    ensures frames { result ≡ single_frames timing units.now (stays_by standing.now.firsts standing.now.mover) flow.now period group.now }
+    ensures fits { IsStream result.stream }
+    ensures few { result.stream.frames ≤ 512 }
+{
+    FlowFrames {
+        stream: single_stream(timing, group, period),
+        least_ident: group_ident(units, standing, Extreme::Least, group, flow),
+        greatest_ident: group_ident(units, standing, Extreme::Greatest, group, flow),
+    }
+}
+
+// Those of its long messages, each of so many packets.
+fn packet_frames(
+    timing: Timing,
+    units: &[UnitPlan],
+    standing: &Standing,
+    flow: &FlowPlan,
+    period: u16,
+    packets: u8,
+) -> FlowFrames
+    requires sender { flow.now.sender < length units.now }
+    requires receiver { (v : ℕ) → flow.now.to ≡ One v → v < length units.now }
+    requires period { 1 ≤ period }
+    ensures frames { result ≡ packet_frames timing units.now (stays_by standing.now.firsts standing.now.mover) flow.now period packets }
+    ensures fits { IsStream result.stream }
+    ensures few { result.stream.frames ≤ 512 }
+{
+    FlowFrames {
+        stream: packet_stream(timing, units, packets, flow.to, period),
+        least_ident: packet_ident(units, standing, Extreme::Least, flow),
+        greatest_ident: packet_ident(units, standing, Extreme::Greatest, flow),
+    }
+}
+
+// The frames of a flow by its longest messages, and its single frames where it has both.
+fn frames_of(
+    timing: Timing,
+    units: &[UnitPlan],
+    standing: &Standing,
+    flow: &FlowPlan,
+    period: u16,
+    group: &GroupPlan,
+) -> (FlowFrames, Option<FlowFrames>)
+    requires sender { flow.now.sender < length units.now }
+    requires receiver { (v : ℕ) → flow.now.to ≡ One v → v < length units.now }
+    requires period { 1 ≤ period }
+    ensures frames { result.0 ≡ frames_of timing units.now (stays_by standing.now.firsts standing.now.mover) flow.now period group.now }
+    ensures singles { result.1 ≡ singles_of timing units.now (stays_by standing.now.firsts standing.now.mover) flow.now period group.now }
+    ensures fits { IsStream result.0.stream }
+    ensures single_fits { IfSome result.1 (λ singles. IsStream singles.stream) }
+    ensures few { result.0.stream.frames ≤ 512 }
+{
+    let singles = single_frames(timing, units, standing, flow, period, group);
+    let Some(size) = Size::new(group.most) else {
+        return (singles, None);
+    };
+    let packets = packet_frames(timing, units, standing, flow, period, size.packets());
+    if usize::from(group.length) <= FRAME_BYTES {
+        (packets, Some(singles))
+    } else {
+        (packets, None)
+    }
 }
 
 fn flow_load(
@@ -41,14 +120,13 @@ fn flow_load(
     ensures load { result ≡ flow_load timing units.now (stays_by standing.now.firsts standing.now.mover) flow.now pace group.now }
     ensures sound { IsSoundLoad result }
 {
-    let stream = stream(timing, units, group, flow.to, pace.period);
+    let (frames, singles) = frames_of(timing, units, standing, flow, pace.period, group);
     FlowLoad {
-        stream,
+        frames,
+        singles,
         is_short: usize::from(group.most) <= FRAME_BYTES,
-        least_ident: ident(units, standing, Extreme::Least, group, flow),
-        greatest_ident: ident(units, standing, Extreme::Greatest, group, flow),
         limit: limit(timing, pace),
-        bits_per_second: load(stream, pace.period),
+        bits_per_second: load(frames.stream, pace.period),
     }
 }
 

@@ -1,13 +1,12 @@
 //! The frames of a flow.
 ghost use Rattle.std.specs.Prelude.{◌≡◌, ◌<◌, ◌≤◌, ℕ, length};
 ghost use Rattle.j39_findings.specs.declared.plan.to.To.TheVariants.{One};
-ghost use Rattle.j39_load.specs.Loads.{bits_of_ms, bits_per_ms, frames_of, load_of, long_frames, most_bytes, stream_of};
+ghost use Rattle.j39_load.specs.Loads.{bits_of_ms, bits_per_ms, load_of, long_frames, most_bytes, packet_stream, single_stream};
 ghost use Rattle.j39_timing.specs.Waits.{IsStream};
 
 use j39_findings::{Bitrate, GroupPlan, Timing, To, UnitPlan};
 use j39_id::limits::FRAME_BYTES;
 use j39_timing::{Stream, frame_bits};
-use j39_tp::Size;
 
 /// How many bits the bus carries in a millisecond.
 pub(crate) fn bits_per_ms(bitrate: Bitrate) -> u16
@@ -39,18 +38,6 @@ fn long_frames(units: &[UnitPlan], packets: u8, to: To) -> u16
     }
 }
 
-// The frames of a message of the group.
-fn frames(units: &[UnitPlan], group: &GroupPlan, to: To) -> u16
-    requires { (v : ℕ) → to ≡ One v → v < length units.now }
-    ensures frames { result ≡ frames_of units.now group.now to }
-    ensures few { result ≤ 512 }
-{
-    match Size::new(group.most) {
-        None => 1,
-        Some(size) => long_frames(units, size.packets(), to),
-    }
-}
-
 // The most bytes of a frame of the group.
 fn most_bytes(group: &GroupPlan) -> u8
     ensures bytes { result ≡ most_bytes group.now }
@@ -59,29 +46,40 @@ fn most_bytes(group: &GroupPlan) -> u8
     usize::from(group.most).min(FRAME_BYTES) as u8
 }
 
-/// The frames of a flow of the group.
-pub(crate) fn stream(
+/// Messages of one frame of the group each.
+pub(crate) fn single_stream(timing: Timing, group: &GroupPlan, period: u16) -> Stream
+    requires period { 1 ≤ period }
+    ensures stream { result ≡ single_stream timing group.now period }
+    ensures fits { IsStream result }
+    ensures few { result.frames ≤ 512 }
+{
+    Stream {
+        frames: 1,
+        period: bits_of_ms(timing, period),
+        bits: frame_bits(most_bytes(group)),
+        spread: 0,
+    }
+}
+
+/// Messages of so many data packets.
+pub(crate) fn packet_stream(
     timing: Timing,
     units: &[UnitPlan],
-    group: &GroupPlan,
+    packets: u8,
     to: To,
     period: u16,
 ) -> Stream
     requires receiver { (v : ℕ) → to ≡ One v → v < length units.now }
     requires period { 1 ≤ period }
-    ensures stream { result ≡ stream_of timing units.now group.now to period }
+    ensures stream { result ≡ packet_stream timing units.now packets to period }
     ensures fits { IsStream result }
     ensures few { result.frames ≤ 512 }
 {
     Stream {
-        frames: frames(units, group, to),
+        frames: long_frames(units, packets, to),
         period: bits_of_ms(timing, period),
-        bits: frame_bits(most_bytes(group)),
-        spread: if usize::from(group.most) <= FRAME_BYTES {
-            0
-        } else {
-            1
-        },
+        bits: frame_bits(FRAME_BYTES as u8),
+        spread: 1,
     }
 }
 

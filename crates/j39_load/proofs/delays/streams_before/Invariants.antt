@@ -1,4 +1,4 @@
-use Rattle.std.proofs.Common.{◌≡◌, ◌≤◌, take, length, All, vec_len, vec_capacity}
+use Rattle.std.proofs.Common.{◌≡◌, ◌≤◌, ◌*◌, take, length, All}
 use Rattle.j39_load.specs.Delays.{going_before}
 use Rattle.j39_load.specs.Places.{told_from}
 use Rattle.j39_timing.specs.Waits.{IsStream}
@@ -7,7 +7,6 @@ use Rattle.j39_load.proofs.delays.streams_before.Given as goal
 abbrev pub invariant-loop-place : goal.invariant-loop-place
 invariant-loop-place l = record {
   streams : l.streams.items ≡ told_from (going_before l.flow l.ident) 0 (take l.place l.loads);
-  few : length l.streams.items ≤ l.place;
-  room : length l.loads ≤ vec_capacity l.streams;
+  few : length l.streams.items ≤ 2 * l.place;
   fit : All IsStream l.streams.items;
 }

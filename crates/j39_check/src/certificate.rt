@@ -1,0 +1,18 @@
+//! What a check of a plan and of its load is good for.
+ghost use Rattle.std.specs.Prelude.{[]};
+ghost use Rattle.j39_check.specs.Certified.{IsCertified};
+ghost use Rattle.j39_load.specs.LoadFindings.{AreLoadFindings};
+
+use j39_findings::CheckedPlan;
+use j39_laws::certify;
+use j39_load::delays_are_bounds;
+
+/// A checked plan with whose load nothing is wrong is sound, and where something is known of its bus, its planned frames are in time on
+/// it. It does nothing when it runs; it rests on the certificate of the plan and on the law of delays.
+pub fn certify_with_load(checked: &CheckedPlan)
+    requires { AreLoadFindings checked.now checked.now.timing [] }
+    ensures { IsCertified checked.now }
+{
+    certify(checked);
+    delays_are_bounds();
+}

@@ -1,0 +1,13 @@
+//! Frames of a flow.
+
+use j39_timing::Stream;
+
+/// Frames of a flow with how urgent they are.
+#[derive(Clone, Copy, Debug, PartialEq, Eq)]
+pub struct FlowFrames {
+    /// How many a message has, how often they come, and how long they are at most, in bits.
+    pub stream: Stream,
+    /// Their identifiers lie between these, whatever addresses the units come to hold.
+    pub least_ident: u64,
+    pub greatest_ident: u64,
+}
