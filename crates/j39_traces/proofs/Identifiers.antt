@@ -1,10 +1,10 @@
 -- What an identifier that a world sends is, and whether its frame carries a NAME.
 use Rattle.std.proofs.Common.{◌≡◌, ◌≢◌, ℕ, ◌+◌, ◌*◌, ◌/◌, ◌%◌, ◌^◌, ◌<◌, ◌≤◌, ◌==◌, ◌&&◌, ◌||◌, nat_le, Bool, true, false, if◌then◌else◌, length}
 use Rattle.std.proofs.Common.{inl, inr, refl, sym, ap, ◌∙◌, arith, eqb-true}
-use Rattle.std.proofs.lemmas.Bool.{and_parts, cases_Bool, false_from_ne_true, leb-true, ltb-true, or_cases, true≢false}
+use Rattle.std.proofs.lemmas.Bool.{and_parts, cases_Bool, false_from_ne_true, le-leb, leb-true, ltb-true, or_cases, true≢false}
 use Rattle.j39_id.specs.Ident.{bits, identifier_of, pgn_of}
 use Rattle.j39_id.specs.Pgn.{is_pdu2, is_pgn, pf_of}
-use Rattle.j39_id.specs.Services.{address_claimed, is_service}
+use Rattle.j39_id.specs.Services.{address_claimed, is_service, request}
 use Rattle.j39_id.specs.declared.frame.Frame.{Frame}
 use Rattle.j39_id.specs.declared.ident.Ident.{Ident}
 use Rattle.j39_text.specs.FrameText.{carries_name}
@@ -94,3 +94,54 @@ planned_other pgn valid own =
       ];
       unlike = λ (e : pgn ≡ 60928). true≢false (sym (ap is_service e) ∙ own);
     }
+
+-- ---- where a frame of such a group comes from, and where it goes
+
+pub record IsSentAs (i : Ident) (pgn destination source : ℕ) : Type 0 where
+  pub source_is : i.sa ≡ source
+  -- it names no destination, or this one
+  pub undirected : is_pdu2 pgn ≡ true → is_pdu2 (pgn_of i) ≡ true
+  pub directed : is_pdu2 pgn ≡ false → i.ps ≡ destination
+
+pdu2_of : (i : Ident) → 240 ≤ i.pf → is_pdu2 (pgn_of i) ≡ true
+pdu2_of i above =
+    let b = i.edp_range in let c = i.dp_range in let d = i.pf_range in let f = i.ps_range in
+    let number : pgn_of i ≡ i.edp * 131072 + i.dp * 65536 + i.pf * 256 + i.ps =
+    ap (λ (x : Bool). i.edp * 131072 + i.dp * 65536 + i.pf * 256 + (if x then i.ps else 0)) (le-leb 240 i.pf above) in
+    le-leb 240 (pf_of (pgn_of i)) (omega (arith, number, above))
+
+pub sent_as : (i : Ident) (priority pgn destination source : ℕ) → IsOther pgn → destination < 256 → source < 256
+    → bits i ≡ identifier_of priority pgn destination source → IsSentAs i pgn destination source
+sent_as i priority pgn destination source other d s number =
+    let a = i.priority_range in let b = i.edp_range in let c = i.dp_range in let e = i.pf_range in let f = i.ps_range in let g = i.sa_range in
+    let range = other.range in
+    record {
+      source_is = elim (cases_Bool (is_pdu2 pgn)) [
+        | inl two ↦ (let sum = of_two two in omega (arith, sum, s))
+        | inr one ↦ (let sum = of_one one in omega (arith, sum, s))
+      ];
+      undirected = λ two. pdu2_of i
+          (let sum = of_two two in let above : 240 ≤ pgn / 256 % 256 = leb-true 240 (pf_of pgn) two in omega (arith, sum, above, s, range));
+      directed = λ one. (let sum = of_one one in let low = other.low one in omega (arith, sum, low, s, d, range));
+    }
+  where
+    of_two : is_pdu2 pgn ≡ true → bits i ≡ priority * 2 ^ 26 + pgn * 2 ^ 8 + 0 + source
+    of_two two = number ∙ ap (λ (x : Bool). priority * 2 ^ 26 + pgn * 2 ^ 8 + (if x then 0 else destination * 2 ^ 8) + source) two
+
+    of_one : is_pdu2 pgn ≡ false → bits i ≡ priority * 2 ^ 26 + pgn * 2 ^ 8 + destination * 2 ^ 8 + source
+    of_one one = number ∙ ap (λ (x : Bool). priority * 2 ^ 26 + pgn * 2 ^ 8 + (if x then 0 else destination * 2 ^ 8) + source) one
+
+-- ---- a request
+
+pub record IsRequestIdent (i : Ident) : Type 0 where
+  pub edp : i.edp ≡ 0
+  pub group : pgn_of i ≡ request
+
+pub request_ident : (i : Ident) (source : ℕ) → source < 256 → bits i ≡ to_all request source → IsRequestIdent i
+request_ident i source less e =
+    let number : bits i ≡ 6 * 2 ^ 26 + 59904 * 2 ^ 8 + 255 * 2 ^ 8 + source = e in
+    let a = i.priority_range in let b = i.edp_range in let c = i.dp_range in let d = i.pf_range in let f = i.ps_range in let g = i.sa_range in
+    let edp : i.edp ≡ 0 = omega arith in
+    let dp : i.dp ≡ 0 = omega arith in
+    let pf : i.pf ≡ 234 = omega arith in
+    record { edp = edp; group = rw (edp, dp, pf) refl }

@@ -3,21 +3,22 @@ use Rattle.std.proofs.Common.{◌≡◌, ◌≢◌, ◌⊎◌, ℕ, suc, ◌<◌
 use Rattle.std.proofs.Common.{inl, inr, refl, sym, ap, subst, ◌∙◌, arith, append_assoc, eq-eqb}
 use Rattle.std.specs.Int.{w64, to_le_bytes, from_le_bytes}
 use Rattle.std.specs.List.{AllByRecursion, Contains}
-use Rattle.std.proofs.lemmas.Bool.{and_from, and_parts, cases_eq, lt-ltb, ltb-true, true≢false}
+use Rattle.std.proofs.lemmas.Bool.{and_from, and_parts, cases_eq, lt-ltb, ltb-true, or_left, or_right, true≢false}
 use Rattle.std.proofs.lemmas.List.{append-nil}
 use Rattle.std.proofs.lemmas.Nat.{from_le_bytes-to_le_bytes_8}
 use Rattle.j39_id.specs.Addresses.{is_address, null_address}
 use Rattle.j39_id.specs.Ident.{pgn_of}
-use Rattle.j39_id.specs.Services.{address_claimed}
+use Rattle.j39_id.specs.Services.{address_claimed, request}
 use Rattle.j39_id.specs.declared.frame.Frame.{Frame}
 use Rattle.j39_claim.specs.declared.item.Item.{Item}
 use Rattle.j39_claim.specs.declared.item.Item.TheVariants.{Told, Request}
 use Rattle.j39_claim.specs.declared.item.Say.TheVariants.{Claim, Cannot}
-use Rattle.j39_text.specs.FrameText.{carries_name, name_in}
+use Rattle.j39_text.specs.FrameText.{carries_name, name_in, requests_group}
 use Rattle.j39_world.specs.Sent.{Sent, frame_of, sent_of, source_of}
 use Rattle.j39_follow.specs.Holders.{Claims, HoldsByFrames, TakesFrom, TellsOf}
 use Rattle.j39_follow.proofs.Holding.{holds_new, holds_on}
-use Rattle.j39_traces.proofs.Identifiers.{carries_none, claim_ident, pgn_there}
+use Rattle.j39_traces.specs.Between.{tells_of_addresses}
+use Rattle.j39_traces.proofs.Identifiers.{carries_none, claim_ident, pgn_there, request_ident}
 
 -- ---- lists
 
@@ -148,3 +149,19 @@ module _ (name : ℕ) (range : name < 2 ^ 64) (held : Option ℕ) (source : sour
   asked log (f ∷ more) item a less e =
       let tail : map sent_of more ≡ frame_of name held (Told (Claim a)) ∷ [] = cc in
       subst (λ (l : List Frame). HoldsByFrames l name a) (append_assoc log (f ∷ []) more) (claimed (log ++ f ∷ []) more a less tail)
+
+  -- each tells of addresses
+  pub tells_addresses : (f : Frame) (item : Item) → IsItemInRange item → sent_of f ≡ frame_of name held item → tells_of_addresses f ≡ true
+  tells_addresses f (Told (Claim a)) less e =
+      let i = claim_ident f.ident a (omega arith) (ap (λ (s : Sent). s.identifier) e) in
+      or_left (carries_name f) (requests_group f) (carries f _ e i.edp (pgn_there f.ident i.edp i.dp i.pf))
+  tells_addresses f (Told Cannot) less e =
+      let i = claim_ident f.ident 254 (omega arith) (ap (λ (s : Sent). s.identifier) e) in
+      or_left (carries_name f) (requests_group f) (carries f _ e i.edp (pgn_there f.ident i.edp i.dp i.pf))
+  tells_addresses f Request less e =
+      let i = request_ident f.ident (source_of held) source (ap (λ (s : Sent). s.identifier) e) in
+      let three : length f.payload.items ≡ 3 = ap (λ (s : Sent). length s.payload) e in
+      or_right (carries_name f) (requests_group f)
+      (and_from (f.ident.edp == 0) (pgn_of f.ident == request && length f.payload.items == 3) (eq-eqb f.ident.edp 0 i.edp)
+      (and_from (pgn_of f.ident == request) (length f.payload.items == 3) (eq-eqb (pgn_of f.ident) request i.group)
+      (eq-eqb (length f.payload.items) 3 three)))

@@ -58,7 +58,7 @@ some_same a b e = cc
 
 -- ---- frames of transfers
 
-packet_group : (p : Packet) → IsOther (group_of p)
+pub packet_group : (p : Packet) → IsOther (group_of p)
 packet_group (Rts size limit pgn) = management
   where
     management : IsOther 60416
@@ -383,17 +383,20 @@ module _ (plan : Plan) (distinct : AreNamesDistinct (units_of plan)) (own : Have
       (source_below (w.stations v) (inv.standing.1 v)) _))
   step_tells (Rest u) allowed new e = subst (FramesTellHolders plan) (sym e) inv.tells
 
-told_keep : (plan : Plan) → AreNamesDistinct (units_of plan) → HaveOwnNumbers plan → IsPreserved plan (AreTold plan)
+pub told_keep : (plan : Plan) → AreNamesDistinct (units_of plan) → HaveOwnNumbers plan → IsPreserved plan (AreTold plan)
 told_keep plan distinct own w inv step allowed new leads = record {
   standing = claim_steps_keep plan (AreStanding plan) (standing_keeps plan) w inv.standing step allowed new leads;
   tells = step_tells plan distinct own w inv step allowed new leads;
 }
 
-pub frames_tell : (plan : Plan) → AreNamesDistinct (units_of plan) → HaveOwnNumbers plan → Always plan (FramesTellHolders plan)
-frames_tell plan distinct own steps w run =
-    (always plan (AreTold plan)
+pub all_told : (plan : Plan) → AreNamesDistinct (units_of plan) → HaveOwnNumbers plan → Always plan (AreTold plan)
+all_told plan distinct own =
+    always plan (AreTold plan)
     (record { standing = at_first plan; tells = λ log is u a on. absurd (true≢false (sym on)) })
-    (told_keep plan distinct own) steps w run).tells
+    (told_keep plan distinct own)
+
+pub frames_tell : (plan : Plan) → AreNamesDistinct (units_of plan) → HaveOwnNumbers plan → Always plan (FramesTellHolders plan)
+frames_tell plan distinct own steps w run = (all_told plan distinct own steps w run).tells
 
 pub quiet_frames_tell : (plan : Plan) → AreNamesDistinct (units_of plan) → HaveOwnNumbers plan
     → Always plan (λ w. IsQuiet w.claims → EachIsTold plan w)

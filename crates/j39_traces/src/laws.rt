@@ -8,6 +8,7 @@ ghost use Rattle.j39_world.specs.Run.{Run};
 ghost use Rattle.j39_world.specs.Sound.{IsQuiet};
 ghost use Rattle.j39_world.specs.SoundPlan.{IsSending};
 ghost use Rattle.j39_world.specs.World.{World, all_off};
+ghost use Rattle.j39_traces.specs.Between.{EachGoesBetweenUnits, EndsKeepAddresses, MessagesGoBetweenHolders};
 ghost use Rattle.j39_traces.specs.Telling.{EachIsTold, FramesTellHolders, HaveOwnNumbers};
 
 /// In every world of every run of a plan whose NAMEs differ and that plans none of the network's own groups, with all lawful choices:
@@ -23,4 +24,22 @@ pub fn quiet_frames_tell_holders()
         → Run plan all_off steps w → IsQuiet w.claims → EachIsTold plan w }
     ensures sending { (plan : Plans) (steps : List Steps) (w : World) → AreNamesDistinct (units_of plan) → HaveOwnNumbers plan
         → Run plan all_off steps w → IsSending w → EachIsTold plan w }
+{}
+
+/// In every world of every run of every plan, while a unit is between the beginning of a message and its rest, it is on and holds an
+/// address, and so is the one unit that the message is for, if it is for one; a flow goes from the one to the other; and no unit's
+/// address changes.
+pub fn ends_keep_addresses()
+    ensures { (plan : Plans) (steps : List Steps) (w : World) → Run plan all_off steps w → EndsKeepAddresses plan w }
+{}
+
+/// In every world of every run of such a plan, each frame that a step sends, unless it tells of addresses, comes from the address of the
+/// unit that sends it, and goes to all, or to the address of the unit that it is for: these are the ends of the message that it is of. By
+/// the frames up to it the two units hold these addresses. So in the log of a run units of the plan stand behind both addresses of each
+/// such frame.
+pub fn messages_go_between_holders()
+    ensures sent { (plan : Plans) (steps : List Steps) (w : World) → AreNamesDistinct (units_of plan) → HaveOwnNumbers plan
+        → Run plan all_off steps w → MessagesGoBetweenHolders plan w }
+    ensures logged { (plan : Plans) (steps : List Steps) (w : World) → AreNamesDistinct (units_of plan) → HaveOwnNumbers plan
+        → Run plan all_off steps w → EachGoesBetweenUnits plan w }
 {}

@@ -3,4 +3,7 @@
 
 mod laws;
 
-pub use laws::{frames_tell_holders, quiet_frames_tell_holders};
+pub use laws::{
+    ends_keep_addresses, frames_tell_holders, messages_go_between_holders,
+    quiet_frames_tell_holders,
+};

@@ -1,0 +1,157 @@
+-- In the log of each world of a run, units of the plan stand behind the addresses of each frame of a message.
+use Rattle.std.proofs.Common.{◌≡◌, ◌⊎◌, ℕ, List, [], ◌∷◌, ◌++◌, map, Option, Some, None, inl, inr, refl, sym, ap, subst, ◌∙◌}
+use Rattle.std.specs.List.{slice_get}
+use Rattle.std.proofs.lemmas.List.{append-nil, map-append}
+use Rattle.j39_id.specs.declared.frame.Frame.{Frame}
+use Rattle.j39_id.specs.declared.ident.Ident.{Ident}
+use Rattle.j39_claim.specs.declared.item.Item.{Item}
+use Rattle.j39_findings.specs.declared.plan.Plan.{Plan}
+use Rattle.j39_findings.specs.declared.plan.to.To.{To}
+use Rattle.j39_findings.specs.declared.plan.to.To.TheVariants.{All, One}
+use Rattle.j39_findings.specs.declared.steps.Step.{Step}
+use Rattle.j39_findings.specs.declared.steps.Step.TheVariants.{Up, Down, Give, Ask, Begin, Emit, Take, Lose, LateSender, LateReceiver, Rest}
+use Rattle.j39_world.specs.declared.flow.Flow.{Flow}
+use Rattle.j39_world.specs.declared.wired.Wired.{Wired}
+use Rattle.j39_world.specs.declared.wired.Wired.TheVariants as wired
+use Rattle.j39_world.specs.ClaimSteps.{GivenFrom}
+use Rattle.j39_world.specs.Flows.{flows_of, windows_of}
+use Rattle.j39_world.specs.Opening.{AreNamesDistinct}
+use Rattle.j39_world.specs.PlannedUnits.{units_of}
+use Rattle.j39_world.specs.Run.{StepsTo, count_of}
+use Rattle.j39_world.specs.Sent.{Sent, sent_of}
+use Rattle.j39_world.specs.SoundPlan.{Always}
+use Rattle.j39_world.specs.TransferSteps.{BeginsAt, LostFrom, TakenFrom}
+use Rattle.j39_world.specs.World.{World, all_off}
+use Rattle.j39_laws.proofs.Runs.Always.{IsPreserved, always}
+use Rattle.j39_follow.specs.Who.{IsWho}
+use Rattle.j39_follow.specs.declared.who.Who.TheVariants.{Holder}
+use Rattle.j39_traces.specs.Between.{AreJoined, ComesTo, EachGoesBetweenUnits, GoesToHolder, IsFlow, IsSentBehind, IsSentBy}
+use Rattle.j39_traces.specs.Telling.{HaveOwnNumbers}
+use Rattle.j39_traces.proofs.Between.{step_goes}
+use Rattle.j39_traces.proofs.Ends.{HasEnds, all_ends, ends_keep}
+use Rattle.j39_traces.proofs.Logs.{split}
+use Rattle.j39_traces.proofs.Telling.{AreTold, all_told, told_keep}
+
+-- ---- where a frame of a log stands
+
+-- among those of the first list, or behind them among those of the second
+place : (xs ys : List Sent) (before : List Frame) (f : Frame) (behind : List Frame) → map sent_of (before ++ f ∷ behind) ≡ xs ++ ys
+    → ((front : List Frame) × (map sent_of (before ++ f ∷ front) ≡ xs))
+    ⊎ ((earlier : List Sent) × (later : List Sent) × (map sent_of before ≡ xs ++ earlier) × (ys ≡ earlier ++ sent_of f ∷ later))
+place [] ys before f behind e = inr (map sent_of before, map sent_of behind, refl, sym e ∙ map-append sent_of before (f ∷ behind))
+place (x ∷ xs) ys [] f behind e =
+    let head : sent_of f ≡ x = cc in
+    let tail : map sent_of behind ≡ xs ++ ys = cc in
+    let s = split sent_of behind xs ys tail in
+    inl (s.0, rw (head, s.3) refl)
+place (x ∷ xs) ys (g ∷ before) f behind e =
+    let head : sent_of g ≡ x = cc in
+    let tail : map sent_of (before ++ f ∷ behind) ≡ xs ++ ys = cc in
+    elim (place xs ys before f behind tail) [
+      | inl (front, is) ↦ inl (front, rw (head, is) refl)
+      | inr (earlier, later, is, at) ↦ inr (earlier, later, rw (head, is) refl, at)
+    ]
+
+-- ---- a step takes back no frame
+
+abbrev Grows : World → World → Type 0
+Grows w new = (added : List Sent) × (new.frames ≡ w.frames ++ added)
+
+stays : (w new : World) → new.frames ≡ w.frames → Grows w new
+stays w new is = ([], is ∙ sym (append-nil w.frames))
+
+module _ (plan : Plan) (w : World) where
+  given_grows : (u v : ℕ) (list : List Item) (new : World) → GivenFrom (units_of plan) w u v list new → Grows w new
+  given_grows u v [] new never = absurd never
+  given_grows u v (item ∷ rest) new (says, s, answers, e) = (_, ap (λ (x : World). x.frames) e)
+
+  begun_grows : (k : ℕ) (o : Option Flow) (bytes : List ℕ) (new : World) → BeginsAt (count_of plan) w k o bytes new → Grows w new
+  begun_grows k None bytes new never = absurd never
+  begun_grows k (Some flow) bytes new e = (_, ap (λ (x : World). x.frames) e)
+
+  taken_grows : (u v : ℕ) (list : List Wired) (new : World) → TakenFrom (windows_of plan) w u v list new → Grows w new
+  taken_grows u v [] new never = absurd never
+  taken_grows u v (wired.Short bytes ∷ rest) new e = stays w new (ap (λ (x : World). x.frames) e)
+  taken_grows u v (wired.Packet p ∷ rest) new (reports, reported, e) = (_, ap (λ (x : World). x.frames) e)
+
+  lost_grows : (u v : ℕ) (list : List Wired) (new : World) → LostFrom w u v list new → Grows w new
+  lost_grows u v [] new never = absurd never
+  lost_grows u v (item ∷ rest) new e = stays w new (ap (λ (x : World). x.frames) e)
+
+  grows : (step : Step) (new : World) → StepsTo plan w step new → Grows w new
+  grows (Up u) new e = (_, ap (λ (x : World). x.frames) e)
+  grows (Down u) new e = stays w new (ap (λ (x : World). x.frames) e)
+  grows (Give u v) new leads = given_grows u v (w.claims u v) new leads
+  grows (Ask u) new e = (_, ap (λ (x : World). x.frames) e)
+  grows (Begin k bytes) new leads = begun_grows k (slice_get (flows_of plan) k) bytes.items new leads
+  grows (Emit u) new (s, p, session, next, e) = (_, ap (λ (x : World). x.frames) e)
+  grows (Take u v) new leads = taken_grows u v (w.wire u v) new leads
+  grows (Lose u v) new leads = lost_grows u v (w.wire u v) new leads
+  grows (LateSender u) new (s, p, session, packet, e) = (_, ap (λ (x : World). x.frames) e)
+  grows (LateReceiver u v) new e = (_, ap (λ (x : World). x.frames) e)
+  grows (Rest u) new e = stays w new (ap (λ (x : World). x.frames) e)
+
+-- ---- each frame
+
+record IsLogged (plan : Plan) (w : World) : Type 0 where
+  told : AreTold plan w
+  ends : HasEnds plan w
+  each : EachGoesBetweenUnits plan w
+
+comes_to : (plan : Plan) (w : World) (log : List Frame) (to : To) (i : Ident) → GoesToHolder plan w log to i → ComesTo plan log to i
+comes_to plan w log All i goes = goes
+comes_to plan w log (One v) i (a, at, inl two) = inl two
+comes_to plan w log (One v) i (a, at, inr same) = inr (subst (λ (k : ℕ). IsWho plan log k (Holder v)) (sym same) at.told)
+
+-- whoever sends by a step, a flow joins it with those that this is for
+joins : (plan : Plan) (w : World) (step : Step) (u : ℕ) (to : To) → IsSentBy plan w step u to → AreJoined plan u to
+joins plan w (Up x) u to never = absurd never
+joins plan w (Down x) u to never = absurd never
+joins plan w (Give x y) u to never = absurd never
+joins plan w (Ask x) u to never = absurd never
+joins plan w (Begin f bytes) u to flow = inl (f, flow)
+joins plan w (Emit x) u to (same, (s, session, flow)) = inl (s.flow, subst (λ (k : ℕ). IsFlow plan s.flow k to) same flow)
+joins plan w (LateSender x) u to (same, (s, session, flow)) = inl (s.flow, subst (λ (k : ℕ). IsFlow plan s.flow k to) same flow)
+joins plan w (Take x y) u to (same, is, inl (s, session, flow)) =
+    inr (s.flow, x, sym is, subst (λ (k : ℕ). IsFlow plan s.flow x (One k)) same flow)
+joins plan w (Take x y) u to (same, is, inr (s, session, flow)) =
+    inl (s.flow, subst (λ (t : To). IsFlow plan s.flow u t) is (subst (λ (k : ℕ). IsFlow plan s.flow k (One x)) same flow))
+joins plan w (LateReceiver x y) u to (same, is, (s, session, flow)) =
+    inr (s.flow, x, sym is, subst (λ (k : ℕ). IsFlow plan s.flow x (One k)) same flow)
+joins plan w (Lose x y) u to never = absurd never
+joins plan w (Rest x) u to never = absurd never
+
+logged_keep : (plan : Plan) → AreNamesDistinct (units_of plan) → HaveOwnNumbers plan → IsPreserved plan (IsLogged plan)
+logged_keep plan distinct own w inv step allowed new leads = record {
+  told = told_keep plan distinct own w inv.told step allowed new leads;
+  ends = ends_keep plan w inv.ends step allowed new leads;
+  each = λ before f behind e other.
+      let (added, is) = grows plan w step new leads in
+      elim (place w.frames added before f behind (e ∙ is)) [
+        | inl (front, here) ↦ inv.each before f front here other
+        | inr (earlier, later, log_is, at) ↦
+            let sent : IsSentBehind w new before f =
+            record { earlier = earlier; later = later; log_is = log_is; sent = is ∙ ap (λ (x : List Sent). w.frames ++ x) at } in
+            let (u, to, by, source, goes) =
+            step_goes plan distinct own w inv.told inv.ends step allowed new leads before f sent other in
+            record {
+              sender = u;
+              to = to;
+              joined = joins plan w step u to by;
+              comes = source.told;
+              goes = comes_to plan w (before ++ f ∷ []) to f.ident goes;
+            }
+      ];
+}
+
+pub each_goes : (plan : Plan) → AreNamesDistinct (units_of plan) → HaveOwnNumbers plan → Always plan (EachGoesBetweenUnits plan)
+each_goes plan distinct own steps w run =
+    (always plan (IsLogged plan) (record {
+      told = all_told plan distinct own [] all_off refl;
+      ends = all_ends plan [] all_off refl;
+      each = none_at_first;
+    }) (logged_keep plan distinct own) steps w run).each
+  where
+    none_at_first : EachGoesBetweenUnits plan all_off
+    none_at_first [] f behind e other = absurd (cc e)
+    none_at_first (g ∷ before) f behind e other = absurd (cc e)

@@ -1,0 +1,9 @@
+use Rattle.j39_traces.proofs.Between.{messages_go}
+use Rattle.j39_traces.proofs.Logged.{each_goes}
+use Rattle.j39_traces.proofs.laws.messages_go_between_holders.Goals as goal
+
+pub returns-clause-sent : goal.returns-clause-sent
+returns-clause-sent c = λ plan steps w distinct own run. messages_go plan distinct own steps w run
+
+pub returns-clause-logged : goal.returns-clause-logged
+returns-clause-logged c = λ plan steps w distinct own run. each_goes plan distinct own steps w run

@@ -1,0 +1,116 @@
+-- Between whom the frames of messages go (SAE J1939-21, transport protocol functions), as a log of a world's frames is followed.
+use Rattle.std.specs.Prelude.{◌≡◌, ◌⊎◌, ℕ, true, false, ◌||◌, Bool, List, [], ◌∷◌, ◌++◌, map, Some}
+use Rattle.std.specs.List.{slice_get}
+use Rattle.j39_id.specs.Ident.{pgn_of}
+use Rattle.j39_id.specs.Pgn.{is_pdu2}
+use Rattle.j39_id.specs.declared.frame.Frame.{Frame}
+use Rattle.j39_id.specs.declared.ident.Ident.{Ident}
+use Rattle.j39_findings.specs.declared.plan.Plan.{Plan}
+use Rattle.j39_findings.specs.declared.plan.to.To.{To}
+use Rattle.j39_findings.specs.declared.plan.to.To.TheVariants.{All, One}
+use Rattle.j39_findings.specs.declared.steps.Step.{Step}
+use Rattle.j39_findings.specs.declared.steps.Step.TheVariants.{Begin, Emit, Take, LateSender, LateReceiver}
+use Rattle.j39_text.specs.FrameText.{carries_name, requests_group}
+use Rattle.j39_world.specs.declared.flow.Flow.{Flow}
+use Rattle.j39_world.specs.Flows.{flows_of}
+use Rattle.j39_world.specs.Run.{Follows}
+use Rattle.j39_world.specs.Sent.{Sent, sent_of}
+use Rattle.j39_world.specs.SoundPlan.{IsSending}
+use Rattle.j39_world.specs.Transfers.{Outgoing}
+use Rattle.j39_world.specs.World.{World}
+use Rattle.j39_follow.specs.FollowReports.{is_to_all}
+use Rattle.j39_follow.specs.Who.{IsWho}
+use Rattle.j39_follow.specs.declared.who.Who.TheVariants.{Holder}
+use Rattle.j39_traces.specs.Telling.{IsLogOf}
+
+-- ---- who sends, and for whom
+
+-- the flow at this place of the plan goes from the unit to these
+abbrev pub IsFlow : Plan → ℕ → ℕ → To → Type 0
+IsFlow plan f u to = (flow : Flow) × (slice_get (flows_of plan) f ≡ Some flow) × (flow.sender ≡ u) × (flow.to ≡ to)
+
+-- the unit is between the beginning of a message and its rest, and the message is of a flow from it to these
+abbrev pub SendsTo : Plan → World → ℕ → To → Type 0
+SendsTo plan w u to = (s : Outgoing) × (w.sessions u ≡ Some s) × IsFlow plan s.flow u to
+
+-- what the step sends of messages is of this unit, for these: a sender's is for those that its flow goes to, and an answer is for the unit
+-- that is answered, one of the two being the sender of a message to the other alone
+abbrev pub IsSentBy : Plan → World → Step → ℕ → To → Type 0
+IsSentBy plan w (Begin f bytes) u to = IsFlow plan f u to
+IsSentBy plan w (Emit s) u to = (s ≡ u) × SendsTo plan w s to
+IsSentBy plan w (LateSender s) u to = (s ≡ u) × SendsTo plan w s to
+IsSentBy plan w (Take s r) u to = (r ≡ u) × (One s ≡ to) × (SendsTo plan w s (One r) ⊎ SendsTo plan w r (One s))
+IsSentBy plan w (LateReceiver s r) u to = (r ≡ u) × (One s ≡ to) × SendsTo plan w s (One r)
+IsSentBy plan w _ u to = ⊥
+
+-- ---- they hold addresses
+
+abbrev pub HasAddress : World → ℕ → Type 0
+HasAddress w u = ((w.stations u).on ≡ true) × ((a : ℕ) × ((w.stations u).address ≡ Some a))
+
+pub record EndsKeepAddresses (plan : Plan) (w : World) : Type 0 where
+  -- who sends a message is on and holds an address, and so is the unit that it is for, where it is for one; it is of a flow between them
+  pub sender : (u : ℕ) (s : Outgoing) → w.sessions u ≡ Some s → HasAddress w u
+  pub receiver : (u v : ℕ) (s : Outgoing) → w.sessions u ≡ Some s → s.to ≡ One v → HasAddress w v
+  pub flow : (u : ℕ) (s : Outgoing) → w.sessions u ≡ Some s → IsFlow plan s.flow u s.to
+  -- while a message is sent, whoever sends it, no step changes the address of any unit, nor what else it is
+  pub still : IsSending w → (step : Step) (after : World) → Follows plan w step after → after.stations ≡ w.stations
+
+-- ---- their addresses
+
+-- the unit is on and holds the address, and these frames tell so
+pub record IsKnownAt (plan : Plan) (w : World) (log : List Frame) (u a : ℕ) : Type 0 where
+  pub on : (w.stations u).on ≡ true
+  pub holds : (w.stations u).address ≡ Some a
+  pub told : IsWho plan log a (Holder u)
+
+-- what is for all goes to all; what is for one unit goes to its address, unless its identifier names none (PDU2)
+abbrev pub GoesToHolder : Plan → World → List Frame → To → Ident → Type 0
+GoesToHolder plan w log All i = is_to_all i ≡ true
+GoesToHolder plan w log (One v) i = (a : ℕ) × IsKnownAt plan w log v a × ((is_pdu2 (pgn_of i) ≡ true) ⊎ (i.ps ≡ a))
+
+-- ---- the frames of a step
+
+-- the step from the one world to the other sends the frame, behind those of the log
+pub record IsSentBehind (before after : World) (log : List Frame) (f : Frame) : Type 0 where
+  pub earlier : List Sent
+  pub later : List Sent
+  pub log_is : map sent_of log ≡ before.frames ++ earlier
+  pub sent : after.frames ≡ before.frames ++ (earlier ++ sent_of f ∷ later)
+
+-- it claims an address or can't, or asks for a group
+abbrev pub tells_of_addresses : Frame → Bool
+tells_of_addresses f = carries_name f || requests_group f
+
+-- each other frame that a step sends comes from the address of the unit that sends it and goes to that of the unit that it is for, and the
+-- frames up to it tell that these units hold them
+abbrev pub MessagesGoBetweenHolders : Plan → World → Type 0
+MessagesGoBetweenHolders plan w =
+    (step : Step) (after : World) (log : List Frame) (f : Frame)
+    → Follows plan w step after → IsSentBehind w after log f → tells_of_addresses f ≡ false
+    → (u : ℕ) × (to : To) × IsSentBy plan w step u to × IsKnownAt plan w (log ++ f ∷ []) u f.ident.sa × GoesToHolder plan w (log ++ f ∷ []) to f.ident
+
+-- ---- the frames of a log
+
+-- a flow goes from the unit to these, or they are one unit, and it goes from that one to this unit alone
+abbrev pub AreJoined : Plan → ℕ → To → Type 0
+AreJoined plan u to = ((f : ℕ) × IsFlow plan f u to) ⊎ ((f : ℕ) × (v : ℕ) × (to ≡ One v) × IsFlow plan f v (One u))
+
+-- it goes to all, or to an address behind which the one unit stands, if its identifier names any
+abbrev pub ComesTo : Plan → List Frame → To → Ident → Type 0
+ComesTo plan log All i = is_to_all i ≡ true
+ComesTo plan log (One v) i = (is_pdu2 (pgn_of i) ≡ true) ⊎ IsWho plan log i.ps (Holder v)
+
+-- a unit stands behind the address from which it comes, and it goes to all, or to a unit that stands behind the address to which it goes
+pub record IsBetweenUnits (plan : Plan) (log : List Frame) (i : Ident) : Type 0 where
+  pub sender : ℕ
+  pub to : To
+  pub joined : AreJoined plan sender to
+  pub comes : IsWho plan log i.sa (Holder sender)
+  pub goes : ComesTo plan log to i
+
+-- so it is of each frame that was sent so far and doesn't tell of addresses, by the frames up to it
+abbrev pub EachGoesBetweenUnits : Plan → World → Type 0
+EachGoesBetweenUnits plan w =
+    (before : List Frame) (f : Frame) (behind : List Frame) → IsLogOf w (before ++ f ∷ behind) → tells_of_addresses f ≡ false
+    → IsBetweenUnits plan (before ++ f ∷ []) f.ident
