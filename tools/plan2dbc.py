@@ -274,7 +274,7 @@ def options(words: list[str] | None) -> argparse.Namespace:
     """What the command line asks for."""
     parser = program.parser(__doc__)
     parser.add_argument("plan", metavar="PLAN", help="the name of a plan file")
-    parser.epilog = "Example: plan2dbc.py plan.toml > network.dbc"
+    parser.epilog = "example: %(prog)s plan.toml > network.dbc"
     return parser.parse_args(words)
 
 

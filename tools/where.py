@@ -402,6 +402,7 @@ def linted(name: str, plan: str, github: bool) -> Iterator[str]:
 def main(words: list[str] | None = None) -> int:
     """Runs `j39plan check` and answers its exit status."""
     parser = program.parser(__doc__)
+    parser.epilog = "example: %(prog)s --lint plan.toml"
     parser.add_argument("plan", metavar="PLAN", help="the name of a plan file")
     parser.add_argument("--github", action="store_true", help="as annotations of GitHub's CI")
     parser.add_argument("--lint", action="store_true", help="with hints that are no findings, as FILE:LINE: hint ANSWER, for example "

@@ -142,11 +142,27 @@ class Pages(unittest.TestCase):
 
     def test_the_page_names_each_command_and_each_status(self):
         page = text_of(os.path.join(PACKAGE, "man", "j39plan.1"))
-        for command in COMMANDS[:-1]:
-            self.assertIn(f".BI {command} ", page)
+        synopsis = re.findall(r"^\.B j39plan (\w+)$", page, re.MULTILINE)
+        self.assertEqual([synopsis, re.findall(r"^\.BI (\w+) ", page, re.MULTILINE)], [COMMANDS[:-1]] * 2)
         for tool in INSTALLED:
             self.assertIn(f".BR j39plan-{tool} (1)", page)
         self.assertEqual(re.findall(r"\n\.TP\n\.B (\d)\n", page), ["0", "1", "2", "3", "4"])
+
+    def test_the_pages_of_tools_have_what_their_help_has(self):
+        """The same options, in the synopsis too, and an example, which the help gives under the name that was called."""
+        for tool in INSTALLED:
+            name = tool if tool == "check-plans" else f"{tool}.py"
+            shown = "\n".join(lines_of(os.path.join(TOOLS, name), "--help"))
+            options = set(re.findall(r"--[a-z]+", shown))
+            page = text_of(os.path.join(PACKAGE, "man", f"j39plan-{tool}.1")).replace("\\-", "-")
+            synopsis = page[page.index(".SH SYNOPSIS"):page.index(".SH DESCRIPTION")]
+            self.assertEqual(options - {"--output"}, set(re.findall(r"--[a-z]+", synopsis)), tool)
+            self.assertEqual(options - set(re.findall(r"--[a-z]+", page)), set(), tool)
+            self.assertRegex(shown, rf"\nexample: {re.escape(name)} ", tool)
+            example = page[page.index(".SH EXAMPLE"):].splitlines()[1]
+            self.assertEqual(example.removeprefix(".B ").removeprefix("j39plan-"),
+                             re.search(r"\nexample: (.*)", shown).group(1).replace(name, tool), tool)
+            self.assertIn(".SH ENVIRONMENT", page, tool)
 
 
 class Completions(InFolder):

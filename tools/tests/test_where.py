@@ -1,5 +1,6 @@
 """Where the answers of `check` belong."""
 
+import glob
 import json
 import os
 import re
@@ -244,6 +245,20 @@ class Where(InFolder):
             status, answer = self.answer(plan)
             self.assertEqual((status, len(answer)), (2, 1))
             self.assertTrue(answer[0].startswith(f"{line}: {refused.strip()}"), answer)
+
+    def test_each_refusal_of_the_cases_has_its_line_and_a_hint(self):
+        """Those of all keys; where a key is named the line is that of the key, else that of its table."""
+        plans = sorted(glob.glob(os.path.join(CASES, "refusals", "*.toml")))
+        self.assertGreater(len(plans), 100)
+        for plan in plans:
+            refused, lines = text_of(plan[:-5] + ".check").strip(), read_bytes(plan).split(b"\n")
+            status, answer, said = run("where.py", plan)
+            self.assertEqual((status, said), (2, ""), plan)
+            found = re.fullmatch(rf"{re.escape(plan)}:(\d+): {re.escape(refused)}  \((.+)\)\n", answer)
+            self.assertIsNotNone(found, answer)
+            key = re.search(r" key (\w+)$", refused)
+            if key and not refused.startswith("refused Missing") and os.path.basename(plan) not in ELSEWHERE:
+                self.assertRegex(lines[int(found.group(1)) - 1].decode(), rf"\b{key.group(1)}\b", answer)
 
     def test_a_key_that_was_meant(self):
         plan = 'version = 1\n[[unit]]\nlabel = "A"\nadress = 1\nname = { identity = 1 }\n'
