@@ -92,6 +92,13 @@ class Lint(InFolder):
     def test_each_hint(self):
         self.assertEqual(self.lines(LINTED), (0, [*HINTS, "ok 4 units 4 groups 3 flows"]))
 
+    def test_short_messages_of_a_group_of_several_lengths(self):
+        """Those of fewer than 8 bytes go in one frame; where each has 8 or more there is no hint."""
+        hint = "32: hint group SHORT: messages of 7 bytes and more; one of one frame has 8, unused ones filled with ones"
+        plan = LINTED.replace("version = 2", "version = 3").replace("length = 7\n", "length = 7\nmost = 20\n")
+        self.assertIn(hint, self.lines(plan)[1])
+        self.assertNotIn("SHORT: ", "".join(self.lines(plan.replace("length = 7", "length = 8"))[1]))
+
     def test_hints_stand_before_findings_and_leave_the_status(self):
         status, lines = self.lines(LINTED.replace('to = "A"', 'to = "C"'))
         self.assertEqual((status, lines[:6], lines[-1]), (1, HINTS, "findings 1"))
