@@ -41,13 +41,11 @@ class Curve:
 
 
 def curves_of(rows: Iterable[Row]) -> list[Curve]:
-    """The curves of a log, by their first points. A text has none, nor has a signal of a record."""
+    """The curves of a log, by their first points."""
     curves: dict[tuple[str, str, str], Curve] = {}
     for origin, group, readings in rows:
         time = seconds(origin.line, origin.time)
         for label, reading in readings:
-            if reading.state == "text" or "[" in label:
-                continue
             key = group, label, origin.sender
             curve = curves.get(key)
             if curve is None:

@@ -40,6 +40,16 @@ def in_order(columns: dict[Column, str], names: list[str]) -> dict[Column, str]:
         ranks.get(name, len(names)) for name in (*chosen[0], ".".join(chosen[0])))))
 
 
+def curved(tables: Tables, columns: dict[Column, str]) -> dict[Column, str]:
+    """The chosen signals of which there are curves; others are said."""
+    whys = {(group.label, text.label): "is a text" for group in tables.groups for text in group.texts}
+    whys.update({(group.label, signal.label): "is repeated" for group in tables.groups for signal in group.signals if signal.repeated})
+    for column in columns:
+        if column in whys:
+            program.say(f"{'.'.join(column)} {whys[column]}, and isn't drawn")
+    return {column: unit for column, unit in columns.items() if column not in whys}
+
+
 def refuse_unless_possible(names: Iterable[str], addresses: bool, output: str) -> None:
     """Refuses what can't be drawn, and where what draws isn't there."""
     if not output.endswith(ENDINGS):
@@ -65,8 +75,11 @@ def main(words: list[str] | None = None) -> int:
     with program.copied(given.plan) as plan:
         tables = tables_of(plan)
         choice = Choice(tables, given.names, nothing=not given.names)
+        choice.columns = curved(tables, choice.columns)
         if len(choice.columns) > MOST:
             raise program.Refused(program.UNREADABLE, f"{len(choice.columns)} signals are chosen, and {MOST} can be drawn")
+        if not choice.columns and not given.addresses:
+            raise program.Refused(program.UNREADABLE, "nothing to draw")
         curves, held = drawn(given.log, plan, tables, choice)
     import picture
 

@@ -117,6 +117,20 @@ class Drawn(WithLog):
         with open(self.path("a.svg"), "rb") as file:
             self.assertIn("not in the log", self.texts(file.read()))
 
+    def test_what_has_no_curve(self):
+        """Records and texts are said, whatever the log has of them, and get no place in the picture."""
+        plan, log, picture = example("trouble_codes.toml"), example("trouble_codes.drive.log"), self.path("a.svg")
+        self.assertEqual(run("plot.py", plan, log, "DM1", "-o", picture), (0, "", "plot: DM1.DTC is repeated, and isn't drawn\n"))
+        with open(picture, "rb") as file:
+            texts = self.texts(file.read())
+        self.assertIn("DM1.SPN624", texts)
+        self.assertNotIn("DM1.DTC", texts)
+        plan, log = example("identification.toml"), example("identification.start.log")
+        said = "plot: VI.SPN237 is a text, and isn't drawn\n"
+        self.assertEqual(run("plot.py", plan, log, "VI", "-o", self.path("b.svg")), (2, "", said + "plot: nothing to draw\n"))
+        self.assertFalse(os.path.exists(self.path("b.svg")))
+        self.assertEqual(run("plot.py", plan, log, "VI", "--addresses", "-o", self.path("b.svg")), (0, "", said))
+
     def test_an_empty_log_and_an_empty_plan(self):
         empty = self.write("empty.log", "")
         self.drawn("a.svg", "--addresses", log=empty)
