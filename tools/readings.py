@@ -139,6 +139,15 @@ class Known(dict[str, Readings | None]):
         return told
 
 
+def readings_in(lines: Iterable[str], known: Known) -> Iterator[tuple[str, Reading]]:
+    """The readings that are wanted of the lines below that of a message, each behind its label."""
+    for line in lines:
+        label, _, said = line[2:-1].partition(" ")
+        readings = known[label]
+        if readings is not None:
+            yield label, readings[said]
+
+
 class Rows:
     """The messages of a log with the readings that are wanted."""
 
@@ -150,14 +159,7 @@ class Rows:
     def of(self, reports: Iterable[Report]) -> Iterator[Row]:
         """The rows of messages; of none that has no signal that is wanted."""
         for report in reports:
-            known = self._known.get(report.group) if isinstance(report, Message) else None
-            if known is None:
-                continue
-            told = []
-            for line in report.signals:
-                label, _, said = line[2:-1].partition(" ")
-                readings = known[label]
-                if readings is not None:
-                    told.append((label, readings[said]))
-            if told:
-                yield Row(origin_of(report), report.group, told)
+            if isinstance(report, Message) and report.group in self._known:
+                told = list(readings_in(report.signals, self._known[report.group]))
+                if told:
+                    yield Row(origin_of(report), report.group, told)

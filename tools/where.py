@@ -95,7 +95,7 @@ class Plan:
 
     def knows(self, word: object) -> bool:
         """Whether the plan's version knows a key of a table, or a kind."""
-        version = self.places.number(("version",))
+        version = self.places.number(("version",)) or VERSIONS[0]
         return SINCE.get(word, VERSIONS[0]) <= (version if version in VERSIONS else VERSIONS[0])
 
     def tables_with(self, key: str) -> list[str]:
