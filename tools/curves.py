@@ -87,6 +87,7 @@ class Timeline:
             self._planned.setdefault(unit.address, []).append(unit.label)
             self._preferred[unit.label] = unit.address
         self._messages, self._claims = Span(), Span()
+        self.has_times = False
         self._at: dict[str, int] = {}  # where each holder is that claimed an address
         self._open: dict[int, tuple[str, float, bool]] = {}
         self._held: list[Held] = []
@@ -94,8 +95,9 @@ class Timeline:
             self._leave(address, -math.inf)
 
     def passed(self, reports: Iterable[Report]) -> Iterator[Report]:
-        """The reports, of which the times are seen, and the claims heard."""
+        """The reports, of which the times are seen, if there are any, and the claims heard."""
         for report in reports:
+            self.has_times = self.has_times or SECONDS.fullmatch(report.time) is not None
             if isinstance(report, Claim):
                 self._claim(report.who, seconds(report.line, report.time))
             elif isinstance(report, Message):

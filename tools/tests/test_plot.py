@@ -111,6 +111,15 @@ class Drawn(WithLog):
         for text in ("address", "129", "SPRAYER", "0000000012345678", "ENGINE"):
             self.assertIn(text, texts)
 
+    def test_what_the_axis_counts(self):
+        """Seconds, and lines in a log without times."""
+        self.assertIn("seconds from the first frame that is drawn", self.texts(self.drawn("a.svg", "SPN110")))
+        bare = self.write("bare.log", "".join(f"{line.split()[-1]}\n" for line in LINES))
+        for words in (["SPN110"], ["--addresses"]):
+            texts = self.texts(self.drawn("b.svg", *words, log=bare))
+            self.assertIn("lines from the first frame that is drawn", texts)
+            self.assertNotIn("seconds from the first frame that is drawn", texts)
+
     def test_what_is_not_in_the_log(self):
         status, _, said = run("plot.py", PLAN, self.log, "SPN544", "-o", self.path("a.svg"))
         self.assertEqual((status, said), (0, "plot: EC1.SPN544 isn't in the log\n"))

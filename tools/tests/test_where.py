@@ -249,7 +249,7 @@ class Where(InFolder):
         self.assertEqual(self.answer(plan.replace("version = 3", "version = 2").replace("every = 3\n", "")), (2, [early]))
 
     def test_each_shown_refusal_has_its_line(self):
-        lines = [4, 2, 3, 9, 2, 3, 11, 3, 2, 5, 4, 15, 9, 2, 16]
+        lines = [4, 2, 3, 9, 2, 8, 3, 2, 11, 3, 2, 5, 4, 15, 14, 9, 2, 16]
         shown = shown_refusals()
         self.assertEqual(len(shown), len(lines))
         for (plan, refused), line in zip(shown, lines):
