@@ -66,23 +66,36 @@ class Lines:
         self._file.write("".join([f'{head}, "signal": "{label}", {members_of(reading)}}}\n' for label, reading in row.readings]))
 
 
+@lru_cache(maxsize=KEPT)
+def quoted(text: str) -> str:
+    """A cell of a row."""
+    row = io.StringIO()
+    csv.writer(row, lineterminator="").writerow([text, ""])
+    return row.getvalue()[:-1]
+
+
 class Wide:
     """A row a message, with a column for each signal: its value, or the word for what it has instead of one."""
 
     def __init__(self, file: TextIO, choice: Choice) -> None:
-        self._writer = csv.writer(file, lineterminator="\n")
-        self._columns = {column: at for at, column in enumerate(choice.columns)}
+        self._file = file
+        self._columns = {column: at for at, column in enumerate(choice.columns, 1)}
         heads = [f"{group}.{label}" + (f" [{unit}]" if unit else "") for (group, label), unit in choice.columns.items()]
-        self._writer.writerow([*HEADS[:5], *heads])
+        csv.writer(file, lineterminator="\n").writerow([*HEADS[:5], *heads])
 
     def put(self, row: Row) -> None:
-        """Writes the signals of a message."""
+        """Writes the signals of a message. Most columns are those of other groups, so that a row is mostly commas."""
         line, time, sender, to = row.origin
-        cells = [""] * len(self._columns)
+        cells: dict[int, str] = {}
         for label, reading in row.readings:
             at = self._columns[row.group, label.partition("[")[0]]
-            cells[at] = f"{cells[at]}; {cell(reading)}" if cells[at] else cell(reading)  # of a signal of several records
-        self._writer.writerow([time, line, sender, to, row.group, *cells])
+            cells[at] = f"{cells[at]}; {cell(reading)}" if at in cells else cell(reading)  # of a signal of several records
+        parts, last = [f"{time},{line},{sender},{to},{row.group}"], 0
+        for at, text in sorted(cells.items()):
+            parts.append("," * (at - last) + quoted(text))
+            last = at
+        parts.append("," * (len(self._columns) - last) + "\n")
+        self._file.write("".join(parts))
 
 
 def cell(reading: Reading) -> str:
