@@ -83,7 +83,7 @@ def draw_addresses(axes: Axes, held: list[Held], begin: float, end: float) -> No
             axes.text(part.start - begin + width / 2, rows[part.address], part.holder, ha="center", va="center", fontsize=7)
     axes.set_yticks(list(rows.values()), [str(address) for address in rows], fontsize=8)
     axes.set_ylabel("address", fontsize=9)
-    axes.invert_yaxis()
+    axes.set_ylim(max(len(rows), 1) - 0.5, -0.5)
 
 
 def span_of(curves: Mapping[Column, list[Curve]], held: list[Held]) -> tuple[float, float]:
