@@ -41,13 +41,11 @@ class Curve:
 
 
 def curves_of(rows: Iterable[Row]) -> list[Curve]:
-    """The curves of a log, by their first points. A text has none, nor has a signal of a record."""
+    """The curves of a log, by their first points."""
     curves: dict[tuple[str, str, str], Curve] = {}
     for origin, group, readings in rows:
         time = seconds(origin.line, origin.time)
         for label, reading in readings:
-            if reading.state == "text" or "[" in label:
-                continue
             key = group, label, origin.sender
             curve = curves.get(key)
             if curve is None:
@@ -89,6 +87,7 @@ class Timeline:
             self._planned.setdefault(unit.address, []).append(unit.label)
             self._preferred[unit.label] = unit.address
         self._messages, self._claims = Span(), Span()
+        self.has_times = False
         self._at: dict[str, int] = {}  # where each holder is that claimed an address
         self._open: dict[int, tuple[str, float, bool]] = {}
         self._held: list[Held] = []
@@ -96,8 +95,9 @@ class Timeline:
             self._leave(address, -math.inf)
 
     def passed(self, reports: Iterable[Report]) -> Iterator[Report]:
-        """The reports, of which the times are seen, and the claims heard."""
+        """The reports, of which the times are seen, if there are any, and the claims heard."""
         for report in reports:
+            self.has_times = self.has_times or SECONDS.fullmatch(report.time) is not None
             if isinstance(report, Claim):
                 self._claim(report.who, seconds(report.line, report.time))
             elif isinstance(report, Message):

@@ -350,6 +350,7 @@ class PlanVersion(program.Version):
 def options(words: list[str] | None) -> argparse.Namespace:
     """What the command line asks for."""
     parser = program.parser(__doc__, own_version=True)
+    parser.epilog = "example: %(prog)s network.dbc > plan.toml"
     parser.add_argument("--version", action=PlanVersion, nargs="?", type=int, choices=VERSIONS, default=VERSIONS[-1],
                         help=f"the version of the plan, {VERSIONS[-1]} where none is chosen; without a number: print the version and exit")
     parser.add_argument("file", metavar="FILE", help="a file with one of the endings .dbc, .arxml, .kcd, .sym")

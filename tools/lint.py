@@ -64,12 +64,13 @@ class Lint:
                 yield self.at(unit + ("address",), text)
 
     def short(self) -> Iterator[Hint]:
-        """Groups of one frame that don't fill it."""
+        """Groups whose messages of one frame don't fill it."""
         for group in self.groups:
             length = self.places.integer(group + ("length",))
             if length < FRAME_BYTES:
-                text = f"group {self.label(group)}: {length} bytes; a group of one frame has 8, unused ones filled with ones"
-                yield self.at(group + ("length",), text)
+                most = self.places.number(group + ("most",)) or length
+                what = f"{length} bytes; a group" if most == length else f"messages of {length} bytes and more; one"
+                yield self.at(group + ("length",), f"group {self.label(group)}: {what} of one frame has 8, unused ones filled with ones")
 
     def urgent(self) -> Iterator[Hint]:
         """Groups that go to all, and thus inform, at the priorities of control."""

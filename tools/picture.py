@@ -83,7 +83,7 @@ def draw_addresses(axes: Axes, held: list[Held], begin: float, end: float) -> No
             axes.text(part.start - begin + width / 2, rows[part.address], part.holder, ha="center", va="center", fontsize=7)
     axes.set_yticks(list(rows.values()), [str(address) for address in rows], fontsize=8)
     axes.set_ylabel("address", fontsize=9)
-    axes.invert_yaxis()
+    axes.set_ylim(max(len(rows), 1) - 0.5, -0.5)
 
 
 def span_of(curves: Mapping[Column, list[Curve]], held: list[Held]) -> tuple[float, float]:
@@ -93,8 +93,10 @@ def span_of(curves: Mapping[Column, list[Curve]], held: list[Held]) -> tuple[flo
     return (min(ends), max(ends)) if ends else (0.0, 1.0)
 
 
-def figure_of(columns: Mapping[Column, str], curves: Mapping[Column, list[Curve]], held: list[Held] | None, title: str) -> Figure:
-    """The picture: a part for each signal, with its unit of measurement, and one for the addresses, if they are given."""
+def figure_of(columns: Mapping[Column, str], curves: Mapping[Column, list[Curve]], held: list[Held] | None, title: str,
+              counted: str) -> Figure:
+    """The picture: a part for each signal, with its unit of measurement, and one for the addresses, if they are given. What is counted
+    are seconds, or lines."""
     span = span_of(curves, held or [])
     heights = [HEIGHT] * len(columns)
     if held is not None:
@@ -108,7 +110,7 @@ def figure_of(columns: Mapping[Column, str], curves: Mapping[Column, list[Curve]
         draw_addresses(parts[-1], held, *span)
     parts[-1].set_xlim(0, span[1] - span[0] or 1.0)
     figure.align_ylabels(parts)
-    parts[-1].set_xlabel("seconds from the first frame that is drawn", fontsize=9)
+    parts[-1].set_xlabel(f"{counted} from the first frame that is drawn", fontsize=9)
     return figure
 
 

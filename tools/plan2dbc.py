@@ -1,5 +1,5 @@
 #!/usr/bin/python3
-"""Writes a plan as a DBC, which canmatrix, SavvyCAN and Wireshark read.
+"""Writes a plan as a DBC, as canmatrix and SavvyCAN read it.
 
 Each group is a message for each unit that sends it, and where its identifier has a destination for each unit that it goes to. What
 a DBC can't say is listed on standard error.
@@ -274,7 +274,7 @@ def options(words: list[str] | None) -> argparse.Namespace:
     """What the command line asks for."""
     parser = program.parser(__doc__)
     parser.add_argument("plan", metavar="PLAN", help="the name of a plan file")
-    parser.epilog = "Example: plan2dbc.py plan.toml > network.dbc"
+    parser.epilog = "example: %(prog)s plan.toml > network.dbc"
     return parser.parse_args(words)
 
 

@@ -97,6 +97,11 @@ class Group:
         first = -(-max(ends, default=0) // 8)
         return 0 if self.every is None or first == 0 or first > length else (length - first) // self.every + 1
 
+    def further(self, length: int) -> range:
+        """The bytes, counted from 1, of the records behind the first one in data of this length, and what is between them."""
+        starts = [signal.span.start for signal in self.signals if signal.repeated]
+        return range(min(starts) // 8 + 1 + self.every, length + 1) if self.every and starts else range(0)
+
     def lines(self, length: int) -> int:
         """How many lines `read` writes below that of a message of this length."""
         repeated = sum(signal.repeated for signal in self.signals)

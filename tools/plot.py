@@ -10,7 +10,7 @@ from collections import defaultdict
 from collections.abc import Iterable
 
 import program
-from curves import Curve, Held, Timeline, curves_of
+from curves import Curve, Timeline, curves_of
 from plan_tables import Tables
 from readings import Choice, Column, Rows
 from reports import Counts, follow, tables_of
@@ -21,8 +21,8 @@ ENDINGS = (".png", ".svg")
 MOST = 24
 
 
-def drawn(given_log: str, plan: str, tables: Tables, choice: Choice) -> tuple[dict[Column, list[Curve]], list[Held]]:
-    """The curves of each chosen signal, those of each sender apart, and who held which address."""
+def drawn(given_log: str, plan: str, tables: Tables, choice: Choice) -> tuple[dict[Column, list[Curve]], Timeline]:
+    """The curves of each chosen signal, those of each sender apart, and what tells who held which address."""
     counts, timeline = Counts(), Timeline(tables.units)
     with open(given_log, "rb") as file:
         curves = curves_of(Rows(choice).of(timeline.passed(follow(plan, file, tables, counts))))
@@ -30,7 +30,7 @@ def drawn(given_log: str, plan: str, tables: Tables, choice: Choice) -> tuple[di
     by_signal = defaultdict(list)
     for curve in curves:
         by_signal[curve.group, curve.signal].append(curve)
-    return by_signal, timeline.held()
+    return by_signal, timeline
 
 
 def in_order(columns: dict[Column, str], names: list[str]) -> dict[Column, str]:
@@ -38,6 +38,16 @@ def in_order(columns: dict[Column, str], names: list[str]) -> dict[Column, str]:
     ranks = {name: rank for rank, name in reversed(list(enumerate(names)))}
     return dict(sorted(columns.items(), key=lambda chosen: min(
         ranks.get(name, len(names)) for name in (*chosen[0], ".".join(chosen[0])))))
+
+
+def curved(tables: Tables, columns: dict[Column, str]) -> dict[Column, str]:
+    """The chosen signals of which there are curves; others are said."""
+    whys = {(group.label, text.label): "is a text" for group in tables.groups for text in group.texts}
+    whys.update({(group.label, signal.label): "is repeated" for group in tables.groups for signal in group.signals if signal.repeated})
+    for column in columns:
+        if column in whys:
+            program.say(f"{'.'.join(column)} {whys[column]}, and isn't drawn")
+    return {column: unit for column, unit in columns.items() if column not in whys}
 
 
 def refuse_unless_possible(names: Iterable[str], addresses: bool, output: str) -> None:
@@ -65,13 +75,17 @@ def main(words: list[str] | None = None) -> int:
     with program.copied(given.plan) as plan:
         tables = tables_of(plan)
         choice = Choice(tables, given.names, nothing=not given.names)
+        choice.columns = curved(tables, choice.columns)
         if len(choice.columns) > MOST:
             raise program.Refused(program.UNREADABLE, f"{len(choice.columns)} signals are chosen, and {MOST} can be drawn")
-        curves, held = drawn(given.log, plan, tables, choice)
+        if not choice.columns and not given.addresses:
+            raise program.Refused(program.UNREADABLE, "nothing to draw")
+        curves, timeline = drawn(given.log, plan, tables, choice)
     import picture
 
     columns, title = in_order(choice.columns, given.names), os.path.basename(given.log)
-    figure = picture.figure_of(columns, curves, held if given.addresses else None, title)
+    held = timeline.held() if given.addresses else None
+    figure = picture.figure_of(columns, curves, held, title, "seconds" if timeline.has_times else "lines")
     picture.save(figure, given.output)
     for group, signal in choice.columns:
         if (group, signal) not in curves:

@@ -4,7 +4,6 @@ import difflib
 import re
 from collections.abc import Iterable, Iterator
 from decimal import Context, Decimal
-from functools import lru_cache
 from typing import NamedTuple
 
 import program
@@ -16,8 +15,8 @@ PARTS = re.compile(r"1/([1-9]\d{0,11})(?: (.*))?")
 
 EXACT = Context(prec=80)
 
-# How many readings, and how many lines of all groups, are kept, since signals repeat themselves.
-READINGS, LINES = 1 << 14, 1 << 17
+# How many readings are kept of all scales.
+KEPT = 1 << 17
 
 # Group and signal.
 Column = tuple[str, str]
@@ -81,7 +80,6 @@ def divided(spelled: str, parts: int) -> str:
     return spelled if parts == 1 else f"{EXACT.divide(Decimal(spelled), Decimal(parts)):f}"
 
 
-@lru_cache(maxsize=READINGS)
 def reading_of(said: str, scale: Scale) -> Reading:
     """The reading that `follow` tells of a signal."""
     state, _, behind = said.partition(" ")
@@ -114,36 +112,54 @@ class Choice:
             raise program.Refused(program.UNREADABLE, f"no group or signal is called {name}{hint}")
 
 
-class Known(dict[str, tuple[str, Reading] | None]):
-    """Of a group what a line of `follow` tells: a signal's label and reading, None of a signal that isn't wanted. So many are kept."""
+class Readings(dict[str, Reading]):
+    """What lines of `follow` say behind the label of a signal of this scale, as readings. So many are kept, since signals repeat themselves."""
 
-    def __init__(self, group: str, choice: Choice, most: int) -> None:
+    def __init__(self, scale: Scale, most: int) -> None:
         super().__init__()
-        self._group, self._choice, self._most = group, choice, most
+        self._scale, self._most = scale, most
 
-    def __missing__(self, line: str) -> tuple[str, Reading] | None:
-        label, _, said = line.strip().partition(" ")
-        column = self._group, label.partition("[")[0]  # of a record its place stands behind the label
-        told = (label, reading_of(said, self._choice.scales[column])) if column in self._choice.columns else None
+    def __missing__(self, said: str) -> Reading:
         if len(self) >= self._most:
             self.clear()
-        self[line] = told
+        reading = self[said] = reading_of(said, self._scale)
+        return reading
+
+
+class Known(dict[str, Readings | None]):
+    """Of a group the readings of each label that `follow` writes, None where they aren't wanted."""
+
+    def __init__(self, group: str, choice: Choice, readings: dict[Scale, Readings]) -> None:
+        super().__init__()
+        self._group, self._choice, self._readings = group, choice, readings
+
+    def __missing__(self, label: str) -> Readings | None:
+        column = self._group, label.partition("[")[0]  # of a record its place stands behind the label
+        self[label] = told = self._readings[self._choice.scales[column]] if column in self._choice.columns else None
         return told
+
+
+def readings_in(lines: Iterable[str], known: Known) -> Iterator[tuple[str, Reading]]:
+    """The readings that are wanted of the lines below that of a message, each behind its label."""
+    for line in lines:
+        label, _, said = line[2:-1].partition(" ")
+        readings = known[label]
+        if readings is not None:
+            yield label, readings[said]
 
 
 class Rows:
     """The messages of a log with the readings that are wanted."""
 
     def __init__(self, choice: Choice) -> None:
-        groups = {group for group, _ in choice.columns}
-        self._known = {group: Known(group, choice, LINES // len(groups)) for group in groups}
+        scales = {choice.scales[column] for column in choice.columns}
+        readings = {scale: Readings(scale, KEPT // len(scales)) for scale in scales}
+        self._known = {group: Known(group, choice, readings) for group, _ in choice.columns}
 
     def of(self, reports: Iterable[Report]) -> Iterator[Row]:
         """The rows of messages; of none that has no signal that is wanted."""
         for report in reports:
-            known = self._known.get(report.group) if isinstance(report, Message) else None
-            if known is None:
-                continue
-            readings = [told for told in map(known.__getitem__, report.signals) if told]
-            if readings:
-                yield Row(origin_of(report), report.group, readings)
+            if isinstance(report, Message) and report.group in self._known:
+                told = list(readings_in(report.signals, self._known[report.group]))
+                if told:
+                    yield Row(origin_of(report), report.group, told)

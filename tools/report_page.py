@@ -152,6 +152,8 @@ def byte_rows(group: Group) -> Iterator[str]:
         for byte in text.places(group.most):
             texts[byte].append(escape(text.label))
     used = {bit // 8 + 1 for bit in owners}
+    for byte in set(group.further(group.most)) - used:
+        texts[byte].append("further records")
     last = max(used | set(texts) | {group.most})
     for (is_used, named, is_inside), run in groupby(
         range(1, last + 1), lambda byte: (byte in used, " and ".join(texts.get(byte, ())), byte <= group.most)
@@ -297,7 +299,7 @@ def load_section(tables: Tables, load: Load) -> str:
     if rows:
         parts.append("<p>The times count from when a frame is ready in its controller, and hold where the bus keeps the premises of "
                      "<code>load</code>.</p>")
-        heads = ("Flow", "Group", "From", "To", "Period", "On the bus within", "Of", "Share")
+        heads = ("Flow", "Group", "From", "To", "Period", "On the bus within", "Limit", "Share")
         parts.append(table("Delays of the flows", heads, rows))
     return section("load", "Load", parts)
 

@@ -12,6 +12,7 @@ a { color: var(--anchor); }
 .skip { position: absolute; left: -100rem; }
 .skip:focus { left: 1rem; top: 0.5rem; padding: 0.25rem; background: var(--paper); }
 nav ul { display: flex; flex-wrap: wrap; gap: 1rem; list-style: none; padding: 0; }
+h1, p, .bytes td { overflow-wrap: anywhere; }
 h2 { border-bottom: 2px solid var(--line); margin-top: 2.5rem; }
 h3 { margin: 2rem 0 0.25rem; }
 p { margin: 0.25rem 0 0.75rem; }
@@ -22,7 +23,9 @@ th, td { border: 1px solid var(--line); padding: 0.2rem 0.5rem; text-align: left
 th { background: var(--head); font-weight: 600; }
 .numbers { font-size: 90%; }
 .numbers td + td { text-align: right; font-variant-numeric: tabular-nums; }
-.bytes td { text-align: center; min-width: 3.2rem; }
+.bytes { table-layout: fixed; width: 100%; min-width: 28rem; max-width: 38rem; }
+.bytes th:first-child { width: 4.5rem; }
+.bytes td { text-align: center; }
 .bytes .free { color: var(--soft); font-style: italic; border-style: dashed; }
 code { font-family: monospace; }
 footer { margin-top: 2rem; color: var(--soft); }
@@ -32,7 +35,7 @@ footer { margin-top: 2rem; color: var(--soft); }
   body { max-width: none; padding: 0; font-size: 9pt; }
   nav, .skip { display: none; }
   .wide { overflow: visible; break-inside: avoid; }
-  h2, h3 { break-after: avoid; }
+  h2, h3, article > p { break-after: avoid; }
   tr, caption { break-inside: avoid; }
   thead { display: table-header-group; }
   a { text-decoration: none; }

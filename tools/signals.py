@@ -5,14 +5,16 @@ The log is one of candump -L. What the frames say, and who sent them, is what `j
 """
 
 import csv
+import io
 import json
 import re
 import sys
 from collections.abc import Callable, Iterator
+from functools import lru_cache
 from typing import TextIO
 
 import program
-from readings import Choice, Reading, Row, Rows
+from readings import KEPT, Choice, Reading, Row, Rows
 from reports import Counts, follow, is_live, tables_of
 
 HEADS = ("time", "line", "from", "to", "group", "signal", "state", "value", "unit", "detail")
@@ -21,22 +23,37 @@ HEADS = ("time", "line", "from", "to", "group", "signal", "state", "value", "uni
 NUMBER = re.compile(r"-?(?:0|[1-9]\d*)(?:\.\d+)?")
 
 
+@lru_cache(maxsize=KEPT)
+def cells_of(reading: Reading) -> str:
+    """A reading as cells of a row."""
+    text = io.StringIO()
+    csv.writer(text, lineterminator="\n").writerow(reading)
+    return text.getvalue()
+
+
+@lru_cache(maxsize=KEPT)
+def members_of(reading: Reading) -> str:
+    """A reading as members of a JSON object. A key is left out where there is nothing to say."""
+    there = {key: text for key, text in reading._asdict().items() if text}
+    return ", ".join(f'"{key}": {text if key == "value" else json.dumps(text)}' for key, text in there.items())
+
+
 class Plain:
     """A row a signal, with commas between its columns."""
 
     def __init__(self, file: TextIO, _: Choice) -> None:
-        self._writer = csv.writer(file, lineterminator="\n")
-        self._writer.writerow(HEADS)
+        self._file = file
+        file.write(",".join(HEADS) + "\n")
 
     def put(self, row: Row) -> None:
-        """Writes the signals of a message."""
+        """Writes the signals of a message. What stands in front of a reading are times, numbers and labels, so it needs no quotes."""
         line, time, sender, to = row.origin
-        head = (time, line, sender, to, row.group)
-        self._writer.writerows([(*head, label, *reading) for label, reading in row.readings])
+        head = f"{time},{line},{sender},{to},{row.group}"
+        self._file.write("".join([f"{head},{label},{cells_of(reading)}" for label, reading in row.readings]))
 
 
 class Lines:
-    """A JSON object a signal, each on a line. A key is left out where there is nothing to say."""
+    """A JSON object a signal, each on a line."""
 
     def __init__(self, file: TextIO, _: Choice) -> None:
         self._file = file
@@ -44,32 +61,41 @@ class Lines:
     def put(self, row: Row) -> None:
         """Writes the signals of a message."""
         line, time, sender, to = row.origin
-        head = [("time", time), ("line", str(line)), ("from", json.dumps(sender)), ("to", json.dumps(to)), ("group", json.dumps(row.group))]
-        head[0] = ("time", time if NUMBER.fullmatch(time) else json.dumps(time) if time else "")
-        for label, (state, value, unit, detail) in row.readings:
-            tail = [("signal", label), ("state", state), ("unit", unit), ("detail", detail)]
-            cells = [*head, *((key, json.dumps(text) if text else "") for key, text in tail[:2]), ("value", value),
-                     *((key, json.dumps(text) if text else "") for key, text in tail[2:])]
-            self._file.write("{" + ", ".join(f'"{key}": {text}' for key, text in cells if text) + "}\n")
+        at = f'"time": {time if NUMBER.fullmatch(time) else json.dumps(time)}, ' if time else ""
+        head = f'{{{at}"line": {line}, "from": "{sender}", "to": "{to}", "group": "{row.group}"'
+        self._file.write("".join([f'{head}, "signal": "{label}", {members_of(reading)}}}\n' for label, reading in row.readings]))
+
+
+@lru_cache(maxsize=KEPT)
+def quoted(text: str) -> str:
+    """A cell of a row."""
+    row = io.StringIO()
+    csv.writer(row, lineterminator="").writerow([text, ""])
+    return row.getvalue()[:-1]
 
 
 class Wide:
     """A row a message, with a column for each signal: its value, or the word for what it has instead of one."""
 
     def __init__(self, file: TextIO, choice: Choice) -> None:
-        self._writer = csv.writer(file, lineterminator="\n")
-        self._columns = {column: at for at, column in enumerate(choice.columns)}
+        self._file = file
+        self._columns = {column: at for at, column in enumerate(choice.columns, 1)}
         heads = [f"{group}.{label}" + (f" [{unit}]" if unit else "") for (group, label), unit in choice.columns.items()]
-        self._writer.writerow([*HEADS[:5], *heads])
+        csv.writer(file, lineterminator="\n").writerow([*HEADS[:5], *heads])
 
     def put(self, row: Row) -> None:
-        """Writes the signals of a message."""
+        """Writes the signals of a message. Most columns are those of other groups, so that a row is mostly commas."""
         line, time, sender, to = row.origin
-        cells = [""] * len(self._columns)
+        cells: dict[int, str] = {}
         for label, reading in row.readings:
             at = self._columns[row.group, label.partition("[")[0]]
-            cells[at] = f"{cells[at]}; {cell(reading)}" if cells[at] else cell(reading)  # of a signal of several records
-        self._writer.writerow([time, line, sender, to, row.group, *cells])
+            cells[at] = f"{cells[at]}; {cell(reading)}" if at in cells else cell(reading)  # of a signal of several records
+        parts, last = [f"{time},{line},{sender},{to},{row.group}"], 0
+        for at, text in sorted(cells.items()):
+            parts.append("," * (at - last) + quoted(text))
+            last = at
+        parts.append("," * (len(self._columns) - last) + "\n")
+        self._file.write("".join(parts))
 
 
 def cell(reading: Reading) -> str:

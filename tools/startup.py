@@ -130,6 +130,7 @@ def told(ends: list[str], sure: set[str]) -> list[str]:
 def main(words: list[str] | None = None) -> int:
     """Writes the schedule."""
     parser = program.parser(__doc__)
+    parser.epilog = "example: %(prog)s plan.toml > start.schedule"
     parser.add_argument("plan", metavar="PLAN", help="the name of a plan file")
     parser.add_argument("first", metavar="UNIT", nargs="*", default=[],
                         help="units that are switched on first, in this order; "

@@ -23,6 +23,9 @@ DECIMAL = re.compile(r"[+-]?[0-9_]{1,20}(?:\.[0-9_]{1,20})?(?:[eE][+-]?[0-9]{1,2
 
 SCHEMA = os.path.join(os.path.dirname(os.path.realpath(__file__)), "plan.schema.json")
 
+# The versions of the format.
+VERSIONS = range(1, 4)
+
 # The keys and the kinds of signals that the first version doesn't know, each with the first that does.
 SINCE: dict[object, int] = {
     (None, "keep_free"): 2, (None, "timing"): 3, ("group", "private"): 3, ("group", "most"): 3, ("group", "every"): 3, ("group", "text"): 3,
@@ -92,8 +95,8 @@ class Plan:
 
     def knows(self, word: object) -> bool:
         """Whether the plan's version knows a key of a table, or a kind."""
-        version = self.places.number(("version",))
-        return SINCE.get(word, 1) <= (version if version in (2, 3) else 1)
+        version = self.places.number(("version",)) or VERSIONS[0]
+        return SINCE.get(word, VERSIONS[0]) <= (version if version in VERSIONS else VERSIONS[0])
 
     def tables_with(self, key: str) -> list[str]:
         """The tables that may have a key."""
@@ -191,6 +194,12 @@ def text_fault(plan: Plan, data: bytes) -> Told:
     return statement_fault(text, plan.places, *faulty_statement(text, plan.places))
 
 
+def since_when(plan: Plan, since: int) -> str:
+    """From which version on something is known, for a plan that is of an earlier one or of none."""
+    is_known = plan.places.number(("version",)) in VERSIONS
+    return f"only from version = {since} on" + ("" if is_known else f", and the version is none of {VERSIONS[0]} to {VERSIONS[-1]}")
+
+
 def unknown_key(plan: Plan, place: Place) -> Told:
     """Line and hint of the table's first key that isn't listed."""
     listed = list(plan.listed(place))
@@ -198,7 +207,7 @@ def unknown_key(plan: Plan, place: Place) -> Told:
         if key in listed:
             continue
         if since := SINCE.get((table_of(place), key)):
-            return plan.line(place + (key,)), f"key {key}: only from version = {since} on"
+            return plan.line(place + (key,)), f"key {key}: {since_when(plan, since)}"
         tables = plan.tables_with(key)
         hint = likely(key, listed) or (f" belongs to {' or '.join(tables)}" if tables else " isn't listed")
         return plan.line(place + (key,)), f"key {key}{hint}"
@@ -257,6 +266,9 @@ def value_fault(plan: Plan, place: Place, key: str, cause: str) -> Told:
     shown = f"{key} = {spelled}" if 0 < len(spelled) < 50 and "\n" not in spelled else f"key {key}"
     if key == "repeated" and cause == "Range":
         return plan.line(place + (key,)), f"{shown}: the group has no key every"
+    word = plan.places.texts.get(place + (key,), "")
+    if key == "kind" and not plan.knows(word):
+        return plan.line(place + (key,)), f"{shown}: {since_when(plan, SINCE[word])}"
     if key in SCALE and plan.places.texts.get(place + ("kind",)) == "dtc":
         return plan.line(place + (key,)), f"{shown}: a dtc has no {key}"
     return plan.line(place + (key,)), f"{shown}: {plan.wanted(place, key)}{value_hint(plan, place, key, cause)}"
@@ -289,7 +301,8 @@ def refusal(plan: Plan, data: bytes, line: str) -> Told:
     if key is None:
         return plan.line(place), "a table is wanted"
     if cause == "Missing":
-        return plan.line(place), f"key {key} isn't there: {plan.wanted(place, key)}"
+        why = ", which a deadline needs" if key == "period" else ""
+        return plan.line(place), f"key {key} isn't there{why}: {plan.wanted(place, key)}"
     if cause in ("Repeated", "UnknownLabel") and key != "keep_free":
         return label_fault(plan, place, key, cause)
     return value_fault(plan, place, key, cause)
@@ -402,6 +415,7 @@ def linted(name: str, plan: str, github: bool) -> Iterator[str]:
 def main(words: list[str] | None = None) -> int:
     """Runs `j39plan check` and answers its exit status."""
     parser = program.parser(__doc__)
+    parser.epilog = "example: %(prog)s --lint plan.toml"
     parser.add_argument("plan", metavar="PLAN", help="the name of a plan file")
     parser.add_argument("--github", action="store_true", help="as annotations of GitHub's CI")
     parser.add_argument("--lint", action="store_true", help="with hints that are no findings, as FILE:LINE: hint ANSWER, for example "

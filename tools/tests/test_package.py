@@ -1,7 +1,9 @@
 """The packages: their bytes, what is in them, and that what is in them works."""
 
+import contextlib
 import glob
 import gzip
+import importlib.util
 import os
 import re
 import shutil
@@ -9,6 +11,7 @@ import subprocess
 import tarfile
 import tempfile
 import unittest
+from concurrent.futures import ThreadPoolExecutor
 
 import program
 from tests.support import TOOLS, TOP, InFolder, text_of
@@ -81,6 +84,12 @@ class Built(InFolder):
         plan, log = f"{examples}/tractor_and_implement.toml", f"{examples}/tractor_and_implement.start.log"
         compared = subprocess.run(["j39plan-against", plan, log], env=environment, capture_output=True, text=True, check=False)
         self.assertEqual((compared.returncode, compared.stdout.splitlines()[-1][:11]), (1, "deviations "), compared.stderr)
+        self.assertIn("</html>", lines_of("j39plan-report", plan, env=environment))
+        self.assertIn("1764230400.000000,1,ENGINE,all,EEC1,SPN190,value,800,rpm,", lines_of("j39plan-signals", plan, log, env=environment))
+        self.assertIn("BU_: ENGINE CLUSTER", lines_of("j39plan-plan2dbc", f"{examples}/first_plan.toml", env=environment))
+        drawn = subprocess.run(["j39plan-plot", plan, log, "SPN190", "-o", self.path("plot.png")], env=environment, check=False)
+        self.assertEqual(drawn.returncode, 0 if importlib.util.find_spec("matplotlib") else 69)
+        self.assertIn("load 32160 of 250000", lines_of("j39plan", "load", f"{examples}/axle.toml", env=environment))
         for tool in ("", *(f"-{tool}" for tool in INSTALLED)):
             self.assertTrue(os.path.exists(f"{prefix}/share/man/man1/j39plan{tool}.1.gz"), tool)
             self.assertTrue(os.path.exists(f"{prefix}/share/bash-completion/completions/j39plan{tool}"), tool)
@@ -142,11 +151,27 @@ class Pages(unittest.TestCase):
 
     def test_the_page_names_each_command_and_each_status(self):
         page = text_of(os.path.join(PACKAGE, "man", "j39plan.1"))
-        for command in COMMANDS[:-1]:
-            self.assertIn(f".BI {command} ", page)
+        synopsis = re.findall(r"^\.B j39plan (\w+)$", page, re.MULTILINE)
+        self.assertEqual([synopsis, re.findall(r"^\.BI (\w+) ", page, re.MULTILINE)], [COMMANDS[:-1]] * 2)
         for tool in INSTALLED:
             self.assertIn(f".BR j39plan-{tool} (1)", page)
         self.assertEqual(re.findall(r"\n\.TP\n\.B (\d)\n", page), ["0", "1", "2", "3", "4"])
+
+    def test_the_pages_of_tools_have_what_their_help_has(self):
+        """The same options, in the synopsis too, and an example, which the help gives under the name that was called."""
+        for tool in INSTALLED:
+            name = tool if tool == "check-plans" else f"{tool}.py"
+            shown = "\n".join(lines_of(os.path.join(TOOLS, name), "--help"))
+            options = set(re.findall(r"--[a-z]+", shown))
+            page = text_of(os.path.join(PACKAGE, "man", f"j39plan-{tool}.1")).replace("\\-", "-")
+            synopsis = page[page.index(".SH SYNOPSIS"):page.index(".SH DESCRIPTION")]
+            self.assertEqual(options - {"--output"}, set(re.findall(r"--[a-z]+", synopsis)), tool)
+            self.assertEqual(options - set(re.findall(r"--[a-z]+", page)), set(), tool)
+            self.assertRegex(shown, rf"\nexample: {re.escape(name)} ", tool)
+            example = page[page.index(".SH EXAMPLE"):].splitlines()[1]
+            self.assertEqual(example.removeprefix(".B ").removeprefix("j39plan-"),
+                             re.search(r"\nexample: (.*)", shown).group(1).replace(name, tool), tool)
+            self.assertIn(".SH ENVIRONMENT", page, tool)
 
 
 class Completions(InFolder):
@@ -214,9 +239,11 @@ class Completions(InFolder):
         """The file is that of each tool, whose options are those of its help."""
         with open(os.path.join(PACKAGE, "completions", "_j39plan"), encoding="utf-8") as file:
             self.assertEqual(file.readline().split(), ["#compdef", "j39plan", *(f"j39plan-{tool}" for tool in INSTALLED)])
-        offered = self.complete_zsh("j39plan-where --")
-        for option in ("--github", "--help", "--version"):
-            self.assertRegex(offered, rf"{option} +-- ")
+        with ThreadPoolExecutor() as pool:
+            offered = dict(zip(INSTALLED, pool.map(self.complete_zsh, [f"j39plan-{tool} --" for tool in INSTALLED])))
+        for tool, text in offered.items():
+            shown = set(re.findall(r"--[a-z]+", "\n".join(lines_of(self.path(f"j39plan-{tool}"), "--help"))))
+            self.assertEqual(set(re.findall(r"^\s*(--[a-z]+) +-- ", text, re.MULTILINE)), shown, tool)
 
     def complete_zsh(self, typed):
         """What zsh offers behind what was typed: only on a terminal, so it has one here."""
@@ -231,9 +258,8 @@ class Completions(InFolder):
     def environment(self):
         """An environment in which the tools are commands."""
         for tool in INSTALLED:
-            name = self.path(f"j39plan-{tool}")
-            if not os.path.exists(name):
-                os.symlink(os.path.join(TOOLS, tool if tool == "check-plans" else f"{tool}.py"), name)
+            with contextlib.suppress(FileExistsError):
+                os.symlink(os.path.join(TOOLS, tool if tool == "check-plans" else f"{tool}.py"), self.path(f"j39plan-{tool}"))
         return {**os.environ, "PATH": f"{self.folder}:{os.environ['PATH']}"}
 
 

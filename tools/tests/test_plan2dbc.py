@@ -1,13 +1,19 @@
 """DBCs of plans: what they say is what the plan said, read back and decoded."""
 
+import os
 import random
+import re
+import shutil
+import subprocess
+import sys
 import tomllib
+import unittest
 from fractions import Fraction
 from math import gcd
 
 import program
 from matrix_file import import_canmatrix
-from tests.support import MARKED, NEWER, InFolder, example, examples, needs, run, text_of
+from tests.support import MARKED, NEWER, TOOLS, TOP, InFolder, example, examples, needs, run, text_of
 
 KINDS = {
     "measured": (8, 16, 32), "discrete": (2,), "raw": (1, 2, 3, 8, 16, 31, 32), "states": (2, 3, 8), "signed": (2, 8, 13, 32),
@@ -176,6 +182,24 @@ class RoundTrip(WithPlans):
                     self.assertLessEqual(abs(found - value), abs(value) / 10**24)
                     values += 1
         self.assertGreater(values, 200)
+
+
+@needs("canmatrix", "python3-canmatrix")
+@unittest.skipUnless(shutil.which("tshark"), "tshark isn't there: apt-get install tshark")
+class Wireshark(InFolder):
+    def test_the_way_of_the_page(self):
+        """What docs/TOOLS.md has for Wireshark shows the raw numbers of a log's signals."""
+        plan, lines = example("tractor_and_implement.toml"), text_of(example("tractor_and_implement.start.log")).splitlines(keepends=True)
+        log = self.write("drive.log", "".join(lines[:-1]))  # the last one is bad
+        block = re.search(r"```sh\n(tools/plan2dbc\.py .*?)```", text_of(os.path.join(TOP, "docs", "TOOLS.md")), re.DOTALL).group(1)
+        for shown, there in (("tools/", TOOLS + "/"), (" plan.toml", f" {plan}"), (" drive.log", f" {log}"), ("python3 -m", f"{sys.executable} -m")):
+            self.assertIn(shown, block)
+            block = block.replace(shown, there)
+        environment = {**os.environ, "J39PLAN": program.path(), "HOME": self.folder}
+        ended = subprocess.run(["sh", "-e", "-c", block], cwd=self.folder, env=environment, capture_output=True, text=True, check=True)
+        numbers = re.findall(r"^    (SPN\d+): (\d+)$", ended.stdout, re.MULTILINE)
+        for number in (("SPN190", "6400"), ("SPN110", "125"), ("SPN175", "11552"), ("SPN84", "65024")):
+            self.assertIn(number, numbers)
 
 
 class Written(WithPlans):

@@ -111,11 +111,34 @@ class Drawn(WithLog):
         for text in ("address", "129", "SPRAYER", "0000000012345678", "ENGINE"):
             self.assertIn(text, texts)
 
+    def test_what_the_axis_counts(self):
+        """Seconds, and lines in a log without times."""
+        self.assertIn("seconds from the first frame that is drawn", self.texts(self.drawn("a.svg", "SPN110")))
+        bare = self.write("bare.log", "".join(f"{line.split()[-1]}\n" for line in LINES))
+        for words in (["SPN110"], ["--addresses"]):
+            texts = self.texts(self.drawn("b.svg", *words, log=bare))
+            self.assertIn("lines from the first frame that is drawn", texts)
+            self.assertNotIn("seconds from the first frame that is drawn", texts)
+
     def test_what_is_not_in_the_log(self):
         status, _, said = run("plot.py", PLAN, self.log, "SPN544", "-o", self.path("a.svg"))
         self.assertEqual((status, said), (0, "plot: EC1.SPN544 isn't in the log\n"))
         with open(self.path("a.svg"), "rb") as file:
             self.assertIn("not in the log", self.texts(file.read()))
+
+    def test_what_has_no_curve(self):
+        """Records and texts are said, whatever the log has of them, and get no place in the picture."""
+        plan, log, picture = example("trouble_codes.toml"), example("trouble_codes.drive.log"), self.path("a.svg")
+        self.assertEqual(run("plot.py", plan, log, "DM1", "-o", picture), (0, "", "plot: DM1.DTC is repeated, and isn't drawn\n"))
+        with open(picture, "rb") as file:
+            texts = self.texts(file.read())
+        self.assertIn("DM1.SPN624", texts)
+        self.assertNotIn("DM1.DTC", texts)
+        plan, log = example("identification.toml"), example("identification.start.log")
+        said = "plot: VI.SPN237 is a text, and isn't drawn\n"
+        self.assertEqual(run("plot.py", plan, log, "VI", "-o", self.path("b.svg")), (2, "", said + "plot: nothing to draw\n"))
+        self.assertFalse(os.path.exists(self.path("b.svg")))
+        self.assertEqual(run("plot.py", plan, log, "VI", "--addresses", "-o", self.path("b.svg")), (0, "", said))
 
     def test_an_empty_log_and_an_empty_plan(self):
         empty = self.write("empty.log", "")

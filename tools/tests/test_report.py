@@ -19,6 +19,34 @@ CHECKS = os.path.join(TOP, "crates", "examples_check", "data", "checks")
 VOID = ("meta", "br")
 
 
+# A plan with labels of the greatest length, on one bit and on seven.
+NARROW = """version = 1
+[[unit]]
+label = "A"
+address = 0
+name = { identity = 1 }
+[[group]]
+label = "G"
+pgn = 65262
+priority = 6
+length = 8
+""" + signal("S" * 32, 1, 1, "raw") + signal("T" * 32, 1, 7, "raw", "bit = 2\n")
+
+# A page with page.html in a frame as wide as a telephone, whose title becomes the widths of that page and of its bits.
+FRAME = """<!DOCTYPE html>
+<html lang="en"><title></title>
+<iframe src="page.html" style="width: 400px; height: 800px; border: 0"></iframe>
+<script>
+const frame = document.querySelector("iframe");
+frame.addEventListener("load", () => {
+  const page = frame.contentDocument, bits = [...page.querySelectorAll(".bytes thead th")].slice(1);
+  const widths = bits.map((bit) => Math.round(bit.getBoundingClientRect().width));
+  document.title = [page.documentElement.scrollWidth, ...widths].join(" ");
+});
+</script></html>
+"""
+
+
 class Page(HTMLParser):
     """A page as it is read: its elements close in order, and what they have is kept."""
 
@@ -169,6 +197,23 @@ bytes = 5
         for row in (["ALL", "1", "to the end"], ["FAR", "6", "5"]):
             self.assertIn(row, rows)
 
+    def test_records(self):
+        """The bytes of further records aren't free, but for those before them; other signals among them are shown."""
+        rows = self.page(example("trouble_codes.toml")).rows
+        at = rows.index(["Byte", *(f"bit {bit}" for bit in range(8, 0, -1))])
+        self.assertEqual(rows[at + 2:at + 8], [["2", "free"], *([str(byte), "DTC[1]"] for byte in range(3, 7)), ["7 to 1730", "further records"]])
+        rows = self.page(self.write("plan.toml", """version = 3
+[[group]]
+label = "G"
+pgn = 65226
+priority = 6
+length = 12
+most = 20
+every = 6
+""" + signal("R", 1, 16, "raw", "repeated = true\n") + signal("S", 11, 8, "raw"))).rows
+        at = rows.index(["Byte", *(f"bit {bit}" for bit in range(8, 0, -1))])
+        self.assertEqual(rows[at + 3:at + 7], [["3 to 6", "free"], ["7 to 10", "further records"], ["11", "S"], ["12 to 20", "further records"]])
+
     def test_kinds_and_values(self):
         rows = self.page(self.write("plan.toml", """version = 3
 [[group]]
@@ -273,6 +318,18 @@ class Browser(InFolder):
         text = run("report.py", PLAN)[1]
         _, document = self.shown(self.write("page.html", text), "--dump-dom")
         self.assertEqual(re.findall(r"<(\w+)", document), re.findall(r"<(\w+)", text))
+
+    def test_a_narrow_screen_scrolls_tables_alone(self):
+        """The page itself fits, also where the file's name is long, and the bits of a byte are equally wide, also where labels are long."""
+        plan = self.write(f"{'a_long_name_' * 8}.toml", NARROW)
+        self.write("page.html", run("report.py", plan)[1])
+        frame = self.write("frame.html", FRAME)
+        console, document = self.shown(frame, "--allow-file-access-from-files", "--dump-dom", "--virtual-time-budget=5000")
+        self.assertEqual(console, [])
+        widths = [int(width) for width in re.search(r"<title>(.*)</title>", document).group(1).split()]
+        self.assertLessEqual(widths[0], 400)
+        self.assertLessEqual(max(widths[1:]) - min(widths[1:]), 2)
+        self.assertEqual(len(widths), 9)
 
     def test_a_faulty_page_is_told(self):
         page = run("report.py", PLAN)[1].replace("</main>", "<script>alert(1)</script></main>")

@@ -1,5 +1,6 @@
 """The JSON schema of a plan file says what docs/PLAN.md and the program say."""
 
+import glob
 import json
 import os
 import re
@@ -17,6 +18,7 @@ TABLES = {"Top": None, "`[timing]`": "timing", "`[[unit]]`": "unit", "`unit.name
 
 # Refusals that a schema can't say.
 UNSAID = ("Text", "Repeated", "UnknownLabel")
+UNSAID_CASES = ("most_below_length", "most_float", "per_3")
 
 # A plan of a version with a signal of a kind.
 SIGNAL = """version = {}
@@ -112,8 +114,17 @@ class Validated(InFolder):
 
     def test_it_refuses_what_the_page_shows_as_refused(self):
         for plan, refused in shown_refusals():
-            if not refused.startswith(tuple(f"refused {word}" for word in UNSAID)):
+            if not refused.startswith(tuple(f"refused {word}" for word in UNSAID)) and not refused.endswith(" key per\n"):
                 self.assertNotEqual(self.faults(plan), [], plan)
+
+    def test_it_refuses_the_cases_that_the_program_refuses(self):
+        """But for what a schema can't say: two places of a plan that have to fit together, and of which primes a number is a product."""
+        plans = sorted(glob.glob(os.path.join(TOP, "crates", "examples_check", "data", "refusals", "*.toml")))
+        self.assertGreater(len(plans), 100)
+        for plan in plans:
+            refused = text_of(plan[:-5] + ".check")
+            if os.path.basename(plan)[:-5] not in UNSAID_CASES and not refused.startswith(tuple(f"refused {word}" for word in UNSAID)):
+                self.assertNotEqual(self.faults(text_of(plan)), [], plan)
 
     def test_it_agrees_with_the_program_on_the_addresses_kept_free(self):
         for head in (

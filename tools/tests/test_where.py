@@ -1,5 +1,6 @@
 """Where the answers of `check` belong."""
 
+import glob
 import json
 import os
 import re
@@ -10,6 +11,8 @@ import unittest
 import program
 import where
 from tests.support import MARKED, NEWER, TOOLS, TOP, InFolder, example, examples, run, shown_refusals, text_of
+
+CASES = os.path.join(TOP, "crates", "examples_check", "data")
 
 UNIT = '[[unit]]\nlabel = "{}"\naddress = {}\nname = {{ identity = {} }}\n'
 
@@ -90,6 +93,13 @@ class Lint(InFolder):
 
     def test_each_hint(self):
         self.assertEqual(self.lines(LINTED), (0, [*HINTS, "ok 4 units 4 groups 3 flows"]))
+
+    def test_short_messages_of_a_group_of_several_lengths(self):
+        """Those of fewer than 8 bytes go in one frame; where each has 8 or more there is no hint."""
+        hint = "32: hint group SHORT: messages of 7 bytes and more; one of one frame has 8, unused ones filled with ones"
+        plan = LINTED.replace("version = 2", "version = 3").replace("length = 7\n", "length = 7\nmost = 20\n")
+        self.assertIn(hint, self.lines(plan)[1])
+        self.assertNotIn("SHORT: ", "".join(self.lines(plan.replace("length = 7", "length = 8"))[1]))
 
     def test_hints_stand_before_findings_and_leave_the_status(self):
         status, lines = self.lines(LINTED.replace('to = "A"', 'to = "C"'))
@@ -209,6 +219,8 @@ class Where(InFolder):
         self.assertEqual(self.answer(head.replace("version = 3", "version = 2")), (2, [early]))
         wrong = "3: refused Range timing key bitrate  (bitrate = 125000: 250000 or 500000)"
         self.assertEqual(self.answer(head.replace("250000", "125000")), (2, [wrong]))
+        alone = "14: refused Missing flow 1 key period  (key period isn't there, which a deadline needs: integer 1..65535)"
+        self.assertEqual(self.answer(f"{head}{group}{flow}deadline = 5\n"), (2, [alone]))
         missing = "2: refused Missing timing key unplanned  (key unplanned isn't there: integer 0..1000)"
         self.assertEqual(self.answer(head.replace("unplanned = 0\n", "")), (2, [missing]))
 
@@ -237,13 +249,29 @@ class Where(InFolder):
         self.assertEqual(self.answer(plan.replace("version = 3", "version = 2").replace("every = 3\n", "")), (2, [early]))
 
     def test_each_shown_refusal_has_its_line(self):
-        lines = [4, 2, 3, 9, 2, 3, 11, 3, 2, 5, 4, 15, 9, 2, 16]
+        lines = [4, 2, 3, 9, 2, 8, 3, 2, 11, 3, 2, 5, 4, 15, 14, 9, 2, 16]
         shown = shown_refusals()
         self.assertEqual(len(shown), len(lines))
         for (plan, refused), line in zip(shown, lines):
             status, answer = self.answer(plan)
             self.assertEqual((status, len(answer)), (2, 1))
             self.assertTrue(answer[0].startswith(f"{line}: {refused.strip()}"), answer)
+
+    def test_each_refusal_of_the_cases_has_its_line_and_a_hint(self):
+        """Those of all keys; where a key is named the line is that of the key, else that of its table."""
+        plans = sorted(glob.glob(os.path.join(CASES, "refusals", "*.toml")))
+        self.assertGreater(len(plans), 100)
+        for plan in plans:
+            refused = text_of(plan[:-5] + ".check").strip()
+            with open(plan, "rb") as file:
+                lines = file.read().decode(errors="replace").split("\n")
+            status, answer, said = run("where.py", plan)
+            self.assertEqual((status, said), (2, ""), plan)
+            found = re.fullmatch(rf"{re.escape(plan)}:(\d+): {re.escape(refused)}  \((.+)\)\n", answer)
+            self.assertIsNotNone(found, answer)
+            key = re.search(r" key (\w+)$", refused)
+            if key and not refused.startswith(("refused Missing", "refused TooMany")):
+                self.assertRegex(lines[int(found.group(1)) - 1], rf"\b{key.group(1)}\b", answer)
 
     def test_a_key_that_was_meant(self):
         plan = 'version = 1\n[[unit]]\nlabel = "A"\nadress = 1\nname = { identity = 1 }\n'
@@ -328,6 +356,9 @@ class Where(InFolder):
         self.assertEqual(self.answer("version = 2\nkeep_free = 240\n"), (2, [f"2: refused WrongType top key keep_free  {wanted}"]))
         hint = "(key keep_free: only from version = 2 on)"
         self.assertEqual(self.answer("version = 1\nkeep_free = []\n"), (2, [f"2: refused UnknownKey top  {hint}"]))
+        hint = "(key keep_free: only from version = 2 on, and the version is none of 1 to 3)"
+        for version in ("4", '"2"', "2.0"):
+            self.assertEqual(self.answer(f"version = {version}\nkeep_free = []\n"), (2, [f"2: refused UnknownKey top  {hint}"]))
         unit = UNIT.format("A", 241, 1).replace("identity = 1", "identity = 1, arbitrary = true")
         hint = "(key address: kept free: a unit with arbitrary = true may not hold it)"
         self.assertEqual(self.answer(plan.format("242") + unit)[1][0], f"9: F12 KeptAddress A 241  {hint}")
@@ -339,7 +370,7 @@ class Where(InFolder):
         for plan, answer in (
             ("version = 2\n" + signal.format("raw") + "per = 8\n", f"12: refused UnknownKey {place}  (key per: only from version = 3 on)"),
             ("version = 2\n" + signal.format("states"),
-             f'11: refused Range {place} key kind  (kind = "states": "measured" or "discrete" or "raw")'),
+             f'11: refused Range {place} key kind  (kind = "states": only from version = 3 on)'),
             ("version = 3\n" + signal.format("text"), f'11: refused Range {place} key kind  (kind = "text": '
              '"measured" or "discrete" or "raw" or "states" or "signed" or "dtc")'),
             ("version = 3\n" + signal.format("raw") + "per = 3\n",
