@@ -15,4 +15,5 @@ knows_on plan directory frames f silent of =
       recounts = told;
       parties = λ a less.
           who_as_well plan directory.holders frames (frames ++ f ∷ []) a (party_at directory.parties a) of.recounts told (of.parties a less);
+      names = of.names;
     }

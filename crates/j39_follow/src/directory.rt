@@ -1,23 +1,28 @@
 //! Who stands behind each address.
-ghost use Rattle.std.specs.Prelude.{◌≡◌, ◌≢◌, ◌<◌, [], ◌∷◌, ◌++◌, ℕ, List, Some, false};
+ghost use Rattle.std.specs.Prelude.{◌≡◌, ◌≢◌, ◌<◌, [], ◌∷◌, ◌++◌, ℕ, List, Some, false, IfSome};
 ghost use Rattle.j39_id.specs.declared.frame.Frame.{Frame as AFrame};
 ghost use Rattle.j39_findings.specs.declared.plan.Plan.{Plan as APlan};
-ghost use Rattle.j39_follow.specs.Who.{IsWho};
-ghost use Rattle.j39_follow.specs.inside.Recounting.{ArePartiesOf, HasNameAt, IsUntouched, Knows, PrefersElsewhere, Recounts, StandsStill, is_touched};
+ghost use Rattle.j39_follow.specs.Who.{IsWho, who_text};
+ghost use Rattle.j39_follow.specs.inside.Recounting.{ArePartiesOf, HasNames, HasNameAt, IsUntouched, Knows, PrefersElsewhere, Recounts, StandsStill, is_touched, party_at};
 
 use crate::holders::{Holders, cannot_claim, carried_name, claims_address};
+use crate::naming::{names_of, renamed};
 use crate::who::{Who, who_at};
 use j39_findings::Plan;
 use j39_id::Frame;
+use j39_text::TextBuffer;
+use std::alloc::Global;
 
 // The addresses of a network: 0 to 255.
 const ADDRESSES: usize = 256;
 
-/// Who stands behind each address, by the frames that were heard.
+/// Who stands behind each address, by the frames that were heard, and the texts of it as long as no memory was refused to them.
 #[derive(Drop)]
 pub(crate) struct Directory {
+    alloc: Global,
     holders: Holders,
     parties: [Who; ADDRESSES],
+    names: Option<Vec<TextBuffer>>,
 }
 
 // Who stands behind each address, as the holders tell.
@@ -102,8 +107,9 @@ fn look_again(
     holders: &Holders,
     touched: &[bool; ADDRESSES],
 )
-    ensures { (before after : List AFrame) → Recounts plan.now holders.now after → ArePartiesOf plan.now before parties.old
+    ensures parties { (before after : List AFrame) → Recounts plan.now holders.now after → ArePartiesOf plan.now before parties.old
         → StandsStill plan.now before after touched.now → ArePartiesOf plan.now after parties.new }
+    ensures others { (a : ℕ) → is_touched touched.now a ≡ false → party_at parties.new a ≡ party_at parties.old a }
 {
     for address in 0..ADDRESSES {
         if touched[address] {
@@ -112,13 +118,29 @@ fn look_again(
     }
 }
 
+// The texts of who stands behind each address, if there is memory for them.
+fn kept_names(alloc: Global, plan: &Plan, parties: &[Who; ADDRESSES]) -> Option<Vec<TextBuffer>>
+    ensures { HasNames plan.now parties.now result }
+{
+    match names_of(alloc, plan, parties) {
+        Ok(names) => Some(names),
+        Err(_) => None,
+    }
+}
+
 impl Directory {
-    pub fn new(plan: &Plan) -> Self
+    pub fn new(alloc: Global, plan: &Plan) -> Self
         ensures { Knows plan.now result [] }
     {
         let holders = Holders::new();
         let parties = parties_of(plan, &holders);
-        Directory { holders, parties }
+        let names = kept_names(alloc, plan, &parties);
+        Directory {
+            alloc,
+            holders,
+            parties,
+            names,
+        }
     }
 
     /// The holders of the addresses.
@@ -142,6 +164,27 @@ impl Directory {
         self.parties[usize::from(address)]
     }
 
+    /// Who stands behind an address.
+    pub fn party_at(&self, address: u8) -> Who
+        ensures { result ≡ party_at self.now.parties address }
+    {
+        self.parties[usize::from(address)]
+    }
+
+    /// The text of who stands behind an address, if it was kept.
+    pub fn name(&self, address: u8) -> Option<&[u8]>
+        ensures { IfSome result (λ name. (plan : APlan) → HasNames plan self.now.parties self.now.names
+            → name.now ≡ who_text plan (party_at self.now.parties address) address) }
+    {
+        let Some(names) = &self.names else {
+            return None;
+        };
+        match names.get(usize::from(address)) {
+            Some(name) => Some(name.as_slice()),
+            None => None,
+        }
+    }
+
     /// Notes what a frame tells.
     pub fn hear(&mut self, plan: &Plan, frame: &Frame)
         ensures { (frames : List AFrame) → Knows plan.now self.old frames → Knows plan.now self.new (frames ++ frame.now ∷ []) }
@@ -149,5 +192,7 @@ impl Directory {
         let touched = touched_by(plan, &self.holders, frame);
         self.holders.hear(plan, frame);
         look_again(&mut self.parties, plan, &self.holders, &touched);
+        let names = self.names.take();
+        self.names = renamed(self.alloc, plan, &self.parties, &touched, names);
     }
 }

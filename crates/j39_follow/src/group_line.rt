@@ -1,5 +1,6 @@
 //! The report of a message: who sent which group to whom, and what it reads.
 ghost use Rattle.std.specs.Prelude.{◌≡◌, ◌++◌, ℕ, List, if◌then◌else◌, IfOk, OnOk};
+ghost use Rattle.hex.specs.Hex.{encode_upper};
 ghost use Rattle.j39_id.specs.declared.frame.Frame.{Frame as AFrame};
 ghost use Rattle.j39_findings.specs.declared.plan.Plan.{Plan as APlan};
 ghost use Rattle.j39_log.specs.inside.Listening.{IsCatalogOf};
@@ -16,6 +17,7 @@ use crate::party_text::{is_to_all, write_way};
 use crate::sending::{Aim, Sending, flow_of, group_of};
 use crate::stamp::{Stamp, write_stamp};
 use j39_findings::{GroupPlan, Plan};
+use j39_id::limits::FRAME_BYTES;
 use j39_id::{PDU2_FIRST, pf_of};
 use j39_log::{Catalog, write_group_readings};
 use j39_text::TextBuffer;
@@ -74,6 +76,18 @@ fn write_priority(text: &mut TextBuffer, planned: u8, framed: Option<u8>) -> Res
     }
 }
 
+// The digits of the bytes. Those of a full frame are written apart, which is faster since their count is known there.
+#[inline(always)]
+fn write_digits(text: &mut TextBuffer, bytes: &[u8]) -> Result<(), AllocError>
+    ensures { OnOk result (text.new ≡ text.old ++ encode_upper bytes.now) }
+{
+    if bytes.len() == FRAME_BYTES {
+        text.hex(&bytes[..FRAME_BYTES])
+    } else {
+        text.hex(bytes)
+    }
+}
+
 #[tactic(auto, unfolding(crate::specs::FollowReports::sent_text))]
 fn write_sent(
     text: &mut TextBuffer,
@@ -86,7 +100,7 @@ fn write_sent(
     write_flow(text, flow)?;
     write_priority(text, group.priority, message.framed)?;
     text.word(" bytes ")?;
-    text.hex(message.bytes)?;
+    write_digits(text, message.bytes)?;
     text.end_line()
 }
 

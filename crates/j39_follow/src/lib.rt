@@ -10,6 +10,7 @@ mod laws;
 mod log_line;
 mod log_text;
 mod message;
+mod naming;
 mod notice;
 mod parting;
 mod party_text;

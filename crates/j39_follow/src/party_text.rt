@@ -3,7 +3,7 @@ ghost use Rattle.std.specs.Prelude.{◌≡◌, ◌++◌, ℕ, List, OnOk, codes,
 ghost use Rattle.j39_id.specs.declared.frame.Frame.{Frame as AFrame};
 ghost use Rattle.j39_follow.specs.FollowReports.{IsWay, is_to_all as goes_to_all, named_text};
 ghost use Rattle.j39_follow.specs.Who.{name_text, party_text, who_text};
-ghost use Rattle.j39_follow.specs.inside.Recounting.{Knows};
+ghost use Rattle.j39_follow.specs.inside.Recounting.{HasNames, Knows, party_at};
 
 use crate::directory::Directory;
 use crate::who::{Who, unit_named};
@@ -47,8 +47,14 @@ fn write_party(text: &mut TextBuffer, plan: &Plan, who: Who) -> Result<(), Alloc
     }
 }
 
+/// Writes who stands behind an address.
 #[tactic(auto, unfolding(crate::specs::Who::who_text, j39_text::specs::Texts::field_text))]
-fn write_who(text: &mut TextBuffer, plan: &Plan, who: Who, address: u8) -> Result<(), AllocError>
+pub(crate) fn write_who(
+    text: &mut TextBuffer,
+    plan: &Plan,
+    who: Who,
+    address: u8,
+) -> Result<(), AllocError>
     ensures { OnOk result (text.new ≡ text.old ++ who_text plan.now who address) }
 {
     write_party(text, plan, who)?;
@@ -62,18 +68,36 @@ pub(crate) fn is_to_all(ident: Ident) -> bool
     !ident.pgn().is_pdu1() || ident.ps == GLOBAL_ADDRESS
 }
 
+// Writes who stands behind an address, from the text that was kept of it where there is one.
+fn write_party_at(
+    text: &mut TextBuffer,
+    plan: &Plan,
+    directory: &Directory,
+    address: u8,
+) -> Result<(), AllocError>
+    ensures { OnOk result (HasNames plan.now directory.now.parties directory.now.names
+        → text.new ≡ text.old ++ who_text plan.now (party_at directory.now.parties address) address) }
+{
+    match directory.name(address) {
+        Some(name) => text.bytes(name),
+        None => write_who(text, plan, directory.party_at(address), address),
+    }
+}
+
 fn write_receiver(
     text: &mut TextBuffer,
     plan: &Plan,
-    who: Who,
+    directory: &Directory,
     ident: Ident,
 ) -> Result<(), AllocError>
-    ensures { OnOk result (text.new ≡ text.old ++ (if goes_to_all ident then codes "all" else who_text plan.now who ident.ps)) }
+    ensures { OnOk result (HasNames plan.now directory.now.parties directory.now.names → text.new ≡ text.old
+        ++ (codes " to " ++ (if goes_to_all ident then codes "all" else who_text plan.now (party_at directory.now.parties ident.ps) ident.ps))) }
 {
     if is_to_all(ident) {
-        text.word("all")
+        text.word(" to all")
     } else {
-        write_who(text, plan, who, ident.ps)
+        text.word(" to ")?;
+        write_party_at(text, plan, directory, ident.ps)
     }
 }
 
@@ -87,10 +111,7 @@ pub(crate) fn write_way(
     ensures { OnOk result ((frames : List AFrame) → Knows plan.now directory.now frames
         → (way : List ℕ) × IsWay plan.now frames ident way × (text.new ≡ text.old ++ way)) }
 {
-    let sender = directory.party(ident.sa);
-    let receiver = directory.party(ident.ps);
     text.word(" from ")?;
-    write_who(text, plan, sender, ident.sa)?;
-    text.word(" to ")?;
-    write_receiver(text, plan, receiver, ident)
+    write_party_at(text, plan, directory, ident.sa)?;
+    write_receiver(text, plan, directory, ident)
 }

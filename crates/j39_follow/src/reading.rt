@@ -91,7 +91,7 @@ impl Reading {
         Reading {
             alloc,
             text: TextBuffer::new(alloc),
-            directory: Directory::new(plan),
+            directory: Directory::new(alloc, plan),
             listeners: Listeners::new(alloc),
             tally: Tally::new(),
             interface: None,

@@ -7,6 +7,9 @@ ghost use Rattle.j39_follow.specs.inside.Splitting.{IsEnclosed, SplitsLast, Tell
 
 use j39_id::{Frame, is_separator};
 
+// The digits and the point of a time as `candump -L` writes it: seconds and microseconds.
+const WHOLE_TIME: usize = 17;
+
 // Where the words of a line end.
 fn words_end(line: &[u8]) -> usize
     ensures within { result ≤ length line.now }
@@ -140,12 +143,39 @@ fn is_of_time(byte: u8) -> bool
     matches!(byte, b'0'..=b'9' | b'.')
 }
 
+// Whether these begin with as many digits and points as a whole time has, looked at together.
+#[inline(always)]
+fn are_whole_time(bytes: &[u8]) -> bool
+    requires { 17 ≤ length bytes.now }
+    ensures { result ≡ true → AllWithin IsOfTime bytes.now 0 17 }
+{
+    let mut all = true;
+    for at in 0..WHOLE_TIME {
+        if !is_of_time(bytes[at]) {
+            all = false;
+        }
+    }
+    all
+}
+
+// How many digits and points these begin with, as far as it is told without a look at each: a whole time, or none.
+#[inline(always)]
+fn time_start(bytes: &[u8]) -> usize
+    ensures within { result ≤ length bytes.now }
+    ensures time { AllWithin IsOfTime bytes.now 0 result }
+{
+    if bytes.len() < WHOLE_TIME {
+        return 0;
+    }
+    if are_whole_time(bytes) { WHOLE_TIME } else { 0 }
+}
+
 // How many digits and points these begin with.
 fn time_length(bytes: &[u8]) -> usize
     ensures within { result ≤ length bytes.now }
     ensures time { AllWithin IsOfTime bytes.now 0 result }
 {
-    let mut stop = 0;
+    let mut stop = time_start(bytes);
     while stop < bytes.len() && is_of_time(bytes[stop]) {
         stop += 1;
     }

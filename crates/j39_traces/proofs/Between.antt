@@ -52,7 +52,7 @@ use Rattle.j39_laws.proofs.Runs.Units.{in_units, names_differ}
 use Rattle.j39_laws.proofs.Addresses.CleanUnits.{names_in_range}
 use Rattle.j39_follow.specs.Holders.{HoldsByFrames}
 use Rattle.j39_follow.specs.Who.{unit_of_name}
-use Rattle.j39_traces.specs.Between.{GoesToHolder, IsKnownAt, IsFlow, IsSentBehind, IsSentBy, MessagesGoBetweenHolders, SendsTo, tells_of_addresses}
+use Rattle.j39_traces.specs.Between.{GoesToHolder, IsKnownAt, FlowGoes, IsSentBehind, IsSentBy, MessagesGoBetweenHolders, SendsTo, tells_of_addresses}
 use Rattle.j39_traces.specs.Telling.{HaveOwnNumbers}
 use Rattle.j39_traces.proofs.Ends.{HasEnds, IsForHolding, IsHolding, all_ends, begun_ends, ends_of}
 use Rattle.j39_traces.proofs.Identifiers.{IsOther, carries_none, sent_as}
@@ -255,7 +255,7 @@ module _ (plan : Plan) (distinct : AreNamesDistinct (units_of plan)) (own : Have
       (heard_while u s is, e.0, subst (IsForHolding w.stations) to e.1)
 
   of_flow : (u : ℕ) (to : To) → GoesOnTo w u to → SendsTo plan w u to
-  of_flow u to (s, is, same) = (s, is, subst (IsFlow plan s.flow u) same (ends_of plan w ends u s is).2)
+  of_flow u to (s, is, same) = (s, is, subst (FlowGoes plan s.flow u) same (ends_of plan w ends u s is).2)
 
   up : (u : ℕ) → refusal plan w (Up u) ≡ None → (after : World) → StepsTo plan w (Up u) after → Goes (Up u) after
   up u allowed after e log f sent other =

@@ -30,7 +30,7 @@ use Rattle.j39_laws.proofs.Runs.Always.{IsPreserved, always}
 use Rattle.j39_laws.proofs.Runs.Changed.{changed_each}
 use Rattle.j39_laws.proofs.Transfers.AccountedSteps.{IsOfClaims, claims_refused}
 use Rattle.j39_laws.proofs.Transfers.Named.{IsKeptNamed, all_named, keeps_named}
-use Rattle.j39_traces.specs.Between.{EndsKeepAddresses, IsFlow}
+use Rattle.j39_traces.specs.Between.{EndsKeepAddresses, FlowGoes}
 
 -- the unit is on and holds an address
 abbrev pub IsHolding : Stations → ℕ → Type 0
@@ -44,7 +44,7 @@ IsForHolding stations (One v) = IsHolding stations v
 -- the flow of a message goes from its sender to whom it is for
 abbrev pub AreEndsHolding : Plan → Stations → ℕ → Option Outgoing → Type 0
 AreEndsHolding plan stations u None = Unit {0}
-AreEndsHolding plan stations u (Some s) = IsHolding stations u × IsForHolding stations s.to × IsFlow plan s.flow u s.to
+AreEndsHolding plan stations u (Some s) = IsHolding stations u × IsForHolding stations s.to × FlowGoes plan s.flow u s.to
 
 pub record HasEnds (plan : Plan) (w : World) : Type 0 where
   pub kept : IsKeptNamed plan w

@@ -25,7 +25,7 @@ use Rattle.j39_world.specs.World.{World, all_off}
 use Rattle.j39_laws.proofs.Runs.Always.{IsPreserved, always}
 use Rattle.j39_follow.specs.Who.{IsWho}
 use Rattle.j39_follow.specs.declared.who.Who.TheVariants.{Holder}
-use Rattle.j39_traces.specs.Between.{AreJoined, ComesTo, EachGoesBetweenUnits, GoesToHolder, IsFlow, IsSentBehind, IsSentBy}
+use Rattle.j39_traces.specs.Between.{AreJoined, ComesTo, EachGoesBetweenUnits, GoesToHolder, FlowGoes, IsSentBehind, IsSentBy}
 use Rattle.j39_traces.specs.Telling.{HaveOwnNumbers}
 use Rattle.j39_traces.proofs.Between.{step_goes}
 use Rattle.j39_traces.proofs.Ends.{HasEnds, all_ends, ends_keep}
@@ -110,14 +110,14 @@ joins plan w (Down x) u to never = absurd never
 joins plan w (Give x y) u to never = absurd never
 joins plan w (Ask x) u to never = absurd never
 joins plan w (Begin f bytes) u to flow = inl (f, flow)
-joins plan w (Emit x) u to (same, (s, session, flow)) = inl (s.flow, subst (λ (k : ℕ). IsFlow plan s.flow k to) same flow)
-joins plan w (LateSender x) u to (same, (s, session, flow)) = inl (s.flow, subst (λ (k : ℕ). IsFlow plan s.flow k to) same flow)
+joins plan w (Emit x) u to (same, (s, session, flow)) = inl (s.flow, subst (λ (k : ℕ). FlowGoes plan s.flow k to) same flow)
+joins plan w (LateSender x) u to (same, (s, session, flow)) = inl (s.flow, subst (λ (k : ℕ). FlowGoes plan s.flow k to) same flow)
 joins plan w (Take x y) u to (same, is, inl (s, session, flow)) =
-    inr (s.flow, x, sym is, subst (λ (k : ℕ). IsFlow plan s.flow x (One k)) same flow)
+    inr (s.flow, x, sym is, subst (λ (k : ℕ). FlowGoes plan s.flow x (One k)) same flow)
 joins plan w (Take x y) u to (same, is, inr (s, session, flow)) =
-    inl (s.flow, subst (λ (t : To). IsFlow plan s.flow u t) is (subst (λ (k : ℕ). IsFlow plan s.flow k (One x)) same flow))
+    inl (s.flow, subst (λ (t : To). FlowGoes plan s.flow u t) is (subst (λ (k : ℕ). FlowGoes plan s.flow k (One x)) same flow))
 joins plan w (LateReceiver x y) u to (same, is, (s, session, flow)) =
-    inr (s.flow, x, sym is, subst (λ (k : ℕ). IsFlow plan s.flow x (One k)) same flow)
+    inr (s.flow, x, sym is, subst (λ (k : ℕ). FlowGoes plan s.flow x (One k)) same flow)
 joins plan w (Lose x y) u to never = absurd never
 joins plan w (Rest x) u to never = absurd never
 

@@ -26,17 +26,17 @@ use Rattle.j39_traces.specs.Telling.{IsLogOf}
 -- ---- who sends, and for whom
 
 -- the flow at this place of the plan goes from the unit to these
-abbrev pub IsFlow : Plan → ℕ → ℕ → To → Type 0
-IsFlow plan f u to = (flow : Flow) × (slice_get (flows_of plan) f ≡ Some flow) × (flow.sender ≡ u) × (flow.to ≡ to)
+abbrev pub FlowGoes : Plan → ℕ → ℕ → To → Type 0
+FlowGoes plan f u to = (flow : Flow) × (slice_get (flows_of plan) f ≡ Some flow) × (flow.sender ≡ u) × (flow.to ≡ to)
 
 -- the unit is between the beginning of a message and its rest, and the message is of a flow from it to these
 abbrev pub SendsTo : Plan → World → ℕ → To → Type 0
-SendsTo plan w u to = (s : Outgoing) × (w.sessions u ≡ Some s) × IsFlow plan s.flow u to
+SendsTo plan w u to = (s : Outgoing) × (w.sessions u ≡ Some s) × FlowGoes plan s.flow u to
 
 -- what the step sends of messages is of this unit, for these: a sender's is for those that its flow goes to, and an answer is for the unit
 -- that is answered, one of the two being the sender of a message to the other alone
 abbrev pub IsSentBy : Plan → World → Step → ℕ → To → Type 0
-IsSentBy plan w (Begin f bytes) u to = IsFlow plan f u to
+IsSentBy plan w (Begin f bytes) u to = FlowGoes plan f u to
 IsSentBy plan w (Emit s) u to = (s ≡ u) × SendsTo plan w s to
 IsSentBy plan w (LateSender s) u to = (s ≡ u) × SendsTo plan w s to
 IsSentBy plan w (Take s r) u to = (r ≡ u) × (One s ≡ to) × (SendsTo plan w s (One r) ⊎ SendsTo plan w r (One s))
@@ -52,7 +52,7 @@ pub record EndsKeepAddresses (plan : Plan) (w : World) : Type 0 where
   -- who sends a message is on and holds an address, and so is the unit that it is for, where it is for one; it is of a flow between them
   pub sender : (u : ℕ) (s : Outgoing) → w.sessions u ≡ Some s → HasAddress w u
   pub receiver : (u v : ℕ) (s : Outgoing) → w.sessions u ≡ Some s → s.to ≡ One v → HasAddress w v
-  pub flow : (u : ℕ) (s : Outgoing) → w.sessions u ≡ Some s → IsFlow plan s.flow u s.to
+  pub flow : (u : ℕ) (s : Outgoing) → w.sessions u ≡ Some s → FlowGoes plan s.flow u s.to
   -- while a message is sent, whoever sends it, no step changes the address of any unit, nor what else it is
   pub still : IsSending w → (step : Step) (after : World) → Follows plan w step after → after.stations ≡ w.stations
 
@@ -94,7 +94,7 @@ MessagesGoBetweenHolders plan w =
 
 -- a flow goes from the unit to these, or they are one unit, and it goes from that one to this unit alone
 abbrev pub AreJoined : Plan → ℕ → To → Type 0
-AreJoined plan u to = ((f : ℕ) × IsFlow plan f u to) ⊎ ((f : ℕ) × (v : ℕ) × (to ≡ One v) × IsFlow plan f v (One u))
+AreJoined plan u to = ((f : ℕ) × FlowGoes plan f u to) ⊎ ((f : ℕ) × (v : ℕ) × (to ≡ One v) × FlowGoes plan f v (One u))
 
 -- it goes to all, or to an address behind which the one unit stands, if its identifier names any
 abbrev pub ComesTo : Plan → List Frame → To → Ident → Type 0

@@ -1,12 +1,14 @@
 -- What a table of holders keeps, and what it stands for.
-use Rattle.std.specs.Prelude.{◌≡◌, ◌≢◌, ◌⊎◌, ◌==◌, ◌<◌, ℕ, Bool, true, false, List, Option, Some, None, if◌then◌else◌}
+use Rattle.std.specs.Prelude.{◌≡◌, ◌≢◌, ◌⊎◌, ◌==◌, ◌<◌, ℕ, Bool, true, false, List, [], length, Option, Some, None, if◌then◌else◌}
 use Rattle.std.specs.Prelude.{slice_index_or}
 use Rattle.std.specs.List.{slice_get}
+use Rattle.std.specs.declared.alloc.Global.{Global}
+use Rattle.std.specs.declared.vec.Vec.{Vec}
 use Rattle.j39_id.specs.declared.frame.Frame.{Frame}
 use Rattle.j39_findings.specs.declared.plan.Plan.{Plan}
 use Rattle.j39_findings.specs.declared.plan.unit_plan.UnitPlan.{UnitPlan}
 use Rattle.j39_follow.specs.Holders.{Claims, HoldsByFrames, IsTold, TellsOf}
-use Rattle.j39_follow.specs.Who.{IsWho}
+use Rattle.j39_follow.specs.Who.{IsWho, who_text}
 use Rattle.j39_follow.specs.declared.directory.Directory.{Directory}
 use Rattle.j39_follow.specs.declared.holders.Holders.{Holders}
 use Rattle.j39_follow.specs.declared.who.Who.{Who}
@@ -66,10 +68,21 @@ party_at parties address = slice_index_or parties address (Holder 0)
 abbrev pub ArePartiesOf : Plan → List Frame → List Who → Type 0
 ArePartiesOf plan frames parties = (address : ℕ) → address < 256 → IsWho plan frames address (party_at parties address)
 
+-- the texts of the parties of so many addresses
+pub record AreNames (plan : Plan) (parties : List Who) (many : ℕ) (names : List (List ℕ)) : Type 0 where
+  pub all : length names ≡ many
+  pub each : (a : ℕ) → a < many → slice_index_or names a [] ≡ who_text plan (party_at parties a) a
+
+-- the same, where they were kept
+abbrev pub HasNames : Plan → List Who → Option (Vec (List ℕ) Global) → Type 0
+HasNames plan parties None = Unit {0}
+HasNames plan parties (Some names) = AreNames plan parties 256 names.items
+
 -- a directory has what these frames tell
 pub record Knows (plan : Plan) (directory : Directory) (frames : List Frame) : Type 0 where
   pub recounts : Recounts plan directory.holders frames
   pub parties : ArePartiesOf plan frames directory.parties
+  pub names : HasNames plan directory.parties directory.names
 
 -- ---- a frame after which most addresses have whom they had
 

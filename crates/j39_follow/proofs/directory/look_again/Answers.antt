@@ -1,14 +1,17 @@
-use Rattle.std.proofs.Common.{◌≡◌, ◌<◌, ◌==◌, ℕ, length, sym, subst, ◌∙◌, inl, inr, arith, eqb-true}
+use Rattle.std.proofs.Common.{◌≡◌, ◌<◌, ◌==◌, ℕ, false, true, length, ap, sym, subst, ◌∙◌, inl, inr, arith, eqb-true}
 use Rattle.std.specs.Prelude.{slice_set}
 use Rattle.std.proofs.lemmas.Bool.{cases_Bool, eqb-false}
 use Rattle.std.proofs.lemmas.List.{length-set}
 use Rattle.j39_follow.specs.Who.{IsWho}
 use Rattle.j39_follow.specs.declared.who.Who.{Who}
 use Rattle.j39_follow.specs.declared.who.Who.TheVariants.{Holder}
-use Rattle.j39_follow.specs.inside.Recounting.{party_at}
+use Rattle.j39_follow.specs.inside.Recounting.{is_touched, party_at}
 use Rattle.j39_follow.proofs.Tables.{set_here, set_there}
 use Rattle.j39_follow.proofs.directory.look_again.Goals as goal
 use Rattle.j39_follow.proofs.directory.look_again.Goals.{then-touched-address, else-touched-address}
+
+false_true : {A : Type 0} → false ≡ true → A
+false_true e = cc
 
 pub loop-address-preserved : goal.loop-address-preserved
 loop-address-preserved c =
@@ -37,6 +40,10 @@ loop-address-preserved c =
                   subst (IsWho plan after a) (sym (set_there parties k a who (Holder 0) apart))
                   (invariant.2 before after of were still a (omega (arith, less, apart)) range)
             ]),
+            (λ a still.
+                set_there parties k a who (Holder 0)
+                (λ same. false_true (sym still ∙ ap (is_touched c.args.touched.now) (sym same) ∙ w.if-touched-address.true))
+                ∙ invariant.3 a still),
           )
       | else-touched-address w ↦
           rw w.parties-is (
@@ -52,9 +59,13 @@ loop-address-preserved c =
                   let apart = eqb-false k a other in
                   invariant.2 before after of were still a (omega (arith, less, apart)) range
             ]),
+            invariant.3,
           )
     ]
 
-pub returns : goal.returns
-returns c = λ before after of were still address less.
+pub returns-clause-parties : goal.returns-clause-parties
+returns-clause-parties c = λ before after of were still address less.
     c.loop-address.invariant.2 before after of were still address (omega (arith, less, c.loop-address-test.false)) less
+
+pub returns-clause-others : goal.returns-clause-others
+returns-clause-others c = c.loop-address.invariant.3
