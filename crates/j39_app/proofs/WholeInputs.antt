@@ -35,9 +35,9 @@ by_file A C P Q (Some known) left (Ok v) opened some all =
 
 -- what is read to its end where this is the answer is the whole file then
 pub whole_where : {V E : Type 0} (P : V → List ℕ → List ℕ → Type 0) (Q : List ℕ → Type 0) (known left end : Option (List ℕ)) (r : Result V E) (done : V)
-    → AreLeft known left → IfOk r (λ v. (bytes : List ℕ) × (text : List ℕ) × Consumes left end bytes × P v bytes text × Q text)
-    → (r ≡ Ok done → IsAtEnd end)
+    → AreLeft known left
+    → IfOk r (λ v. (bytes : List ℕ) × (text : List ℕ) × Consumes left end bytes × (v ≡ done → IsAtEnd end) × P v bytes text × Q text)
     → IfOk r (λ v. (text : List ℕ) × ((bytes : List ℕ) × (v ≡ done → AreOf known bytes) × P v bytes text) × Q text)
-whole_where P Q known left end (Err e) done opened said over = tt
-whole_where P Q known left end (Ok v) done opened said over =
-    (said.1, (said.0, λ is. whole_file known left end said.0 opened said.2 (over (ap Ok is)), said.3), said.4)
+whole_where P Q known left end (Err e) done opened said = tt
+whole_where P Q known left end (Ok v) done opened said =
+    (said.1, (said.0, λ is. whole_file known left end said.0 opened said.2 (said.3 is), said.4), said.5)

@@ -23,7 +23,7 @@ fn plan_of<F: Folder, W: Sink>(
     sink: &mut W,
 ) -> Result<Option<Plan>, Fault>
     ensures written { IfOk result (λ plan. (bytes : List ℕ) × (text : List ℕ) × AreOf (F.bytes_of files.now name.now) bytes
-        × IsPlanText bytes text plan × Appends (W.taken sink.old) (W.taken sink.new) text) }
+        × IsPlanText bytes text plan × Appends (W.state sink.old).taken (W.state sink.new).taken text) }
     ensures silent { IfOk result (λ plan. OnSome plan (sink.new ≡ sink.old)) }
 {
     plan_text(alloc, &mut files.open(name)?, sink)
@@ -36,7 +36,7 @@ fn check_file<F: Folder, W: Sink>(
     sink: &mut W,
 ) -> Result<Verdict, Fault>
     ensures { IfOk result (λ verdict. (bytes : List ℕ) × (text : List ℕ) × AreOf (F.bytes_of files.now plan.now) bytes
-        × IsCheckText bytes text verdict × Appends (W.taken sink.old) (W.taken sink.new) text) }
+        × IsCheckText bytes text verdict × Appends (W.state sink.old).taken (W.state sink.new).taken text) }
 {
     check_text(alloc, &mut files.open(plan)?, sink)
 }
@@ -48,7 +48,7 @@ fn addresses_file<F: Folder, W: Sink>(
     sink: &mut W,
 ) -> Result<Verdict, Fault>
     ensures { IfOk result (λ verdict. (bytes : List ℕ) × (text : List ℕ) × AreOf (F.bytes_of files.now plan.now) bytes
-        × IsAddressesText bytes text verdict × Appends (W.taken sink.old) (W.taken sink.new) text) }
+        × IsAddressesText bytes text verdict × Appends (W.state sink.old).taken (W.state sink.new).taken text) }
 {
     addresses_text(alloc, &mut files.open(plan)?, sink)
 }
@@ -60,7 +60,7 @@ fn load_file<F: Folder, W: Sink>(
     sink: &mut W,
 ) -> Result<Verdict, Fault>
     ensures { IfOk result (λ verdict. (bytes : List ℕ) × (text : List ℕ) × AreOf (F.bytes_of files.now plan.now) bytes
-        × IsLoadText bytes text verdict × Appends (W.taken sink.old) (W.taken sink.new) text) }
+        × IsLoadText bytes text verdict × Appends (W.state sink.old).taken (W.state sink.new).taken text) }
 {
     timing_text(alloc, &mut files.open(plan)?, sink)
 }
@@ -73,7 +73,7 @@ fn run_by<F: Folder, W: Sink>(
     sink: &mut W,
 ) -> Result<Verdict, Fault>
     ensures { IfOk result (λ verdict. (text : List ℕ) × IsRunOf plan.now (F.bytes_of files.now schedule.now) text verdict
-        × Appends (W.taken sink.old) (W.taken sink.new) text) }
+        × Appends (W.state sink.old).taken (W.state sink.new).taken text) }
 {
     run_planned(alloc, plan, &mut files.open(schedule)?, sink)
 }
@@ -86,7 +86,7 @@ fn read_by<F: Folder, W: Sink>(
     sink: &mut W,
 ) -> Result<Verdict, Fault>
     ensures { IfOk result (λ verdict. (text : List ℕ) × IsReadOf plan.now (F.bytes_of files.now log.now) text verdict
-        × Appends (W.taken sink.old) (W.taken sink.new) text) }
+        × Appends (W.state sink.old).taken (W.state sink.new).taken text) }
 {
     read_text(alloc, plan, &mut files.open(log)?, sink)
 }
@@ -99,7 +99,7 @@ fn follow_by<F: Folder, W: Sink>(
     sink: &mut W,
 ) -> Result<Verdict, Fault>
     ensures { IfOk result (λ verdict. (text : List ℕ) × IsFollowOf plan.now (F.bytes_of files.now log.now) text verdict
-        × Appends (W.taken sink.old) (W.taken sink.new) text) }
+        × Appends (W.state sink.old).taken (W.state sink.new).taken text) }
 {
     follow_text(alloc, plan, &mut files.open(log)?, sink)
 }
@@ -114,7 +114,7 @@ fn run_files<F: Folder, W: Sink>(
 ) -> Result<Verdict, Fault>
     ensures { IfOk result (λ verdict. (text : List ℕ)
         × IsAnswerOfTwo IsRunOf (F.bytes_of files.now plan.now) (F.bytes_of files.now schedule.now) text verdict
-        × Appends (W.taken sink.old) (W.taken sink.new) text) }
+        × Appends (W.state sink.old).taken (W.state sink.new).taken text) }
 {
     match plan_of(alloc, files, plan, sink)? {
         Some(plan) => run_by(alloc, files, &plan, schedule, sink),
@@ -132,7 +132,7 @@ fn read_files<F: Folder, W: Sink>(
 ) -> Result<Verdict, Fault>
     ensures { IfOk result (λ verdict. (text : List ℕ)
         × IsAnswerOfTwo IsReadOf (F.bytes_of files.now plan.now) (F.bytes_of files.now log.now) text verdict
-        × Appends (W.taken sink.old) (W.taken sink.new) text) }
+        × Appends (W.state sink.old).taken (W.state sink.new).taken text) }
 {
     match plan_of(alloc, files, plan, sink)? {
         Some(plan) => read_by(alloc, files, &plan, log, sink),
@@ -150,7 +150,7 @@ fn follow_files<F: Folder, W: Sink>(
 ) -> Result<Verdict, Fault>
     ensures { IfOk result (λ verdict. (text : List ℕ)
         × IsAnswerOfTwo IsFollowOf (F.bytes_of files.now plan.now) (F.bytes_of files.now log.now) text verdict
-        × Appends (W.taken sink.old) (W.taken sink.new) text) }
+        × Appends (W.state sink.old).taken (W.state sink.new).taken text) }
 {
     match plan_of(alloc, files, plan, sink)? {
         Some(plan) => follow_by(alloc, files, &plan, log, sink),
@@ -167,8 +167,8 @@ pub fn answer<F: Folder, S: Source, W: Sink>(
     order: &Order,
     sink: &mut W,
 ) -> Result<Verdict, Fault>
-    ensures { IfOk result (λ verdict. (text : List ℕ) × IsAnswer (F.bytes_of files.now) (S.left input.old) order.now text verdict
-        × Appends (W.taken sink.old) (W.taken sink.new) text) }
+    ensures { IfOk result (λ verdict. (text : List ℕ) × IsAnswer (F.bytes_of files.now) (S.state input.old).left order.now text verdict
+        × Appends (W.state sink.old).taken (W.state sink.new).taken text) }
 {
     match order {
         Order::Input => input_text(alloc, input, sink),

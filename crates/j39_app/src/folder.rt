@@ -16,7 +16,7 @@ pub trait Folder {
 
     /// Opens the file of a name, to be read from its first byte on.
     fn open(&self, name: &str) -> Result<Self::File, Failed>
-        ensures { IfOk result (λ file. AreLeft (bytes_of self.now name.now) (Self.File.left file)) };
+        ensures { IfOk result (λ file. AreLeft (bytes_of self.now name.now) (Self.File.state file).left) };
 }
 
 /// The files of the operating system, of which nothing is known.

@@ -1,5 +1,5 @@
 -- The text that the addresses command writes for a plan file.
-use Rattle.std.specs.Prelude.{◌≡◌, ◌⊎◌, ℕ, Bool, true, false, List, [], ◌∷◌, ◌++◌, codes, count_by, length}
+use Rattle.std.specs.Prelude.{◌≡◌, ℕ, Bool, true, false, List, [], ◌∷◌, ◌++◌, codes, count_by, length}
 use Rattle.j39_findings.specs.declared.plan.Plan.{Plan}
 use Rattle.j39_findings.specs.declared.plan.unit_plan.UnitPlan.{UnitPlan}
 use Rattle.j39_findings.specs.declared.checking.finding.Finding.{Finding}
@@ -10,7 +10,7 @@ use Rattle.j39_world.specs.PlannedUnits.{units_of}
 use Rattle.j39_world.specs.SoundPlan.{Always}
 use Rattle.j39_world.specs.Staying.{HoldsPlanned, Stays}
 use Rattle.j39_check.specs.CheckText.{IsReport}
-use Rattle.j39_check.specs.PlanText.{Describes, IsRefusedText}
+use Rattle.j39_check.specs.PlanText.{IsReportedText}
 use Rattle.j39_text.specs.Texts.{field}
 use Rattle.j39_stream.specs.declared.verdict.Verdict.{Verdict}
 use Rattle.j39_stream.specs.declared.verdict.Verdict.TheVariants.{Done, Findings, Refused, Unreadable}
@@ -57,10 +57,9 @@ IsAddressesReport plan text Findings =
 IsAddressesReport plan text Refused = ⊥
 IsAddressesReport plan text Unreadable = ⊥
 
--- what is written for a file: the report of the plan that it describes, or why it describes none
+-- what is written for a file
 abbrev pub IsAddressesText : List ℕ → List ℕ → Verdict → Type 0
-IsAddressesText bytes text verdict =
-    ((plan : Plan) × Describes bytes plan × IsAddressesReport plan text verdict) ⊎ (IsRefusedText bytes text × (verdict ≡ Unreadable))
+IsAddressesText = IsReportedText IsAddressesReport
 
 -- ---- laws
 

@@ -1,5 +1,5 @@
 -- The text that the check command writes for a plan file.
-use Rattle.std.specs.Prelude.{◌≡◌, ◌⊎◌, ℕ, ◌+◌, List, [], ◌∷◌, ◌++◌, codes, length}
+use Rattle.std.specs.Prelude.{◌≡◌, ℕ, ◌+◌, List, [], ◌∷◌, ◌++◌, codes, length}
 use Rattle.j39_findings.specs.declared.plan.Plan.{Plan}
 use Rattle.j39_findings.specs.declared.checking.finding.Finding.{Finding}
 use Rattle.j39_findings.specs.Findings.{Clean}
@@ -9,7 +9,7 @@ use Rattle.j39_load.specs.LoadFindings.{AreLoadFindings}
 use Rattle.j39_check.specs.Certified.{IsCertified}
 use Rattle.j39_check.specs.FindingLines.{finding_lines}
 use Rattle.j39_check.specs.LoadLines.{load_finding_lines}
-use Rattle.j39_check.specs.PlanText.{Describes, IsRefusedText}
+use Rattle.j39_check.specs.PlanText.{Describes, IsRefusedText, IsReportedText}
 use Rattle.j39_text.specs.Texts.{field}
 use Rattle.j39_stream.specs.declared.verdict.Verdict.{Verdict}
 use Rattle.j39_stream.specs.declared.verdict.Verdict.TheVariants.{Done, Findings, Refused, Unreadable}
@@ -34,10 +34,9 @@ IsReport plan text Findings = (others : List LoadFinding) × AreLoadFindings pla
 IsReport plan text Refused = ⊥
 IsReport plan text Unreadable = ⊥
 
--- what is written for a file: the report of the plan that it describes, or why it describes none
+-- what is written for a file
 abbrev pub IsCheckText : List ℕ → List ℕ → Verdict → Type 0
-IsCheckText bytes text verdict =
-    ((plan : Plan) × Describes bytes plan × IsReport plan text verdict) ⊎ (IsRefusedText bytes text × (verdict ≡ Unreadable))
+IsCheckText = IsReportedText IsReport
 
 -- ---- laws
 

@@ -11,9 +11,9 @@ use Rattle.j39_load.specs.LoadFindings.{AsksOfBus, load_findings}
 use Rattle.j39_load.specs.Loads.{loads_of, total_load}
 use Rattle.j39_check.specs.CheckText.{IsReport}
 use Rattle.j39_check.specs.LoadLines.{loads_text}
-use Rattle.j39_check.specs.PlanText.{Describes, IsRefusedText}
+use Rattle.j39_check.specs.PlanText.{IsReportedText}
 use Rattle.j39_stream.specs.declared.verdict.Verdict.{Verdict}
-use Rattle.j39_stream.specs.declared.verdict.Verdict.TheVariants.{Done, Findings, Refused, Unreadable}
+use Rattle.j39_stream.specs.declared.verdict.Verdict.TheVariants.{Done, Findings, Refused}
 
 -- a flow without a period has no delay
 abbrev pub have_periods : List (Option Delay) → Bool
@@ -38,10 +38,9 @@ IsLoadReport plan None text verdict = (text ≡ codes "refused plan NoTiming\n")
 IsLoadReport plan (Some timing) text verdict = (stays : UnitPlan → Bool) × (delays : List (Option Delay))
     × AsksOfBus plan timing stays delays × TellsLoads plan timing stays delays text verdict
 
--- what is written for a file: the report of the plan that it describes, or why it describes none
+-- what is written for a file
 abbrev pub IsLoadText : List ℕ → List ℕ → Verdict → Type 0
-IsLoadText bytes text verdict =
-    ((plan : Plan) × Describes bytes plan × IsLoadReport plan plan.timing text verdict) ⊎ (IsRefusedText bytes text × (verdict ≡ Unreadable))
+IsLoadText = IsReportedText (λ plan text verdict. IsLoadReport plan plan.timing text verdict)
 
 -- ---- laws
 

@@ -1,5 +1,5 @@
 -- What is written of a plan file: nothing of one that describes a plan, else why it is refused.
-use Rattle.std.specs.Prelude.{◌≡◌, ℕ, List, [], ◌∷◌, ◌++◌, codes, Option, Some, None, Ok, Err}
+use Rattle.std.specs.Prelude.{◌≡◌, ◌⊎◌, ℕ, List, [], ◌∷◌, ◌++◌, codes, Option, Some, None, Ok, Err}
 use Rattle.j39_findings.specs.declared.plan.Plan.{Plan}
 use Rattle.j39_plan.specs.declared.reading.fault.Fault.{Fault}
 use Rattle.j39_plan.specs.declared.reading.key.Key.{Key}
@@ -9,6 +9,8 @@ use Rattle.j39_plan.specs.declared.reading.plan_error.PlanError.{PlanError}
 use Rattle.j39_plan.specs.declared.reading.plan_error.PlanError.TheVariants as errors
 use Rattle.j39_plan.specs.Words.{word_of, cause_word}
 use Rattle.j39_plan.specs.Described.{Reads, tree_of}
+use Rattle.j39_stream.specs.declared.verdict.Verdict.{Verdict}
+use Rattle.j39_stream.specs.declared.verdict.Verdict.TheVariants.{Unreadable}
 use Rattle.j39_text.specs.Texts.{place_field}
 
 -- a table of the file
@@ -49,3 +51,12 @@ IsRefusedText bytes text = (error : PlanError) × Reads (Err error) (tree_of byt
 abbrev pub IsPlanText : List ℕ → List ℕ → Option Plan → Type 0
 IsPlanText bytes text (Some plan) = Describes bytes plan × (text ≡ [])
 IsPlanText bytes text None = IsRefusedText bytes text
+
+-- the line of a refusal, and no plan
+abbrev pub RefusesPlan : PlanError → List ℕ → Option Plan → Type 0
+RefusesPlan error text plan = IsRefusalLine error text × (plan ≡ None)
+
+-- what is written for a file: what is reported of the plan that it describes, or why it describes none
+abbrev pub IsReportedText : (Plan → List ℕ → Verdict → Type 0) → List ℕ → List ℕ → Verdict → Type 0
+IsReportedText IsReport bytes text verdict =
+    ((plan : Plan) × Describes bytes plan × IsReport plan text verdict) ⊎ (IsRefusedText bytes text × (verdict ≡ Unreadable))

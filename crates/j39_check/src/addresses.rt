@@ -1,13 +1,27 @@
 //! What the addresses command writes.
-ghost use Rattle.std.specs.Prelude.{◌≡◌, ◌⊎◌, ℕ, List, IfOk, IsErrOf, OnOk};
-ghost use Rattle.std.specs.Io.KnownBytes.{Appends, Consumes, IsAtEnd};
 ghost use Rattle.j39_check.specs.AddressesText.{IsAddressesText};
-ghost use Rattle.j39_stream.specs.Streams.{AppendsPart, HasFailed, KeepsLimits, PassesLimits, plan_limits};
+ghost use Rattle.j39_stream.specs.Commands.{AnswersWhole, IsOfAny};
+ghost use Rattle.j39_stream.specs.Streams.{plan_limits};
 
-use crate::plan_file::plan_text;
+use crate::report_text::{Report, report_text};
 use crate::stays_report::stays_report;
-use j39_stream::{Fault, Sink, Source, Verdict, put_all};
-use std::alloc::Global;
+use j39_findings::Plan;
+use j39_stream::{Fault, Sink, Source, Verdict};
+use j39_text::TextBuffer;
+use std::alloc::{AllocError, Global};
+
+// What is reported of the addresses of a plan.
+struct AddressesReport;
+
+impl Report for AddressesReport {
+    ghost use Rattle.j39_check.specs.AddressesText.{IsAddressesReport};
+
+    ghost says = { IsAddressesReport };
+
+    fn report(&self, alloc: Global, plan: Plan) -> Result<(TextBuffer, Verdict), AllocError> {
+        stays_report(alloc, &plan)
+    }
+}
 
 /// Writes which units of the plan that a file describes hold their planned addresses whatever happens, and which may move; of a plan
 /// whose NAMEs or addresses have findings, what `check_text` writes; or why the file describes no plan.
@@ -16,25 +30,7 @@ pub fn addresses_text<S: Source, W: Sink>(
     source: &mut S,
     sink: &mut W,
 ) -> Result<Verdict, Fault>
-    ensures written { IfOk result (λ verdict. (input : List ℕ) × (text : List ℕ)
-        × Consumes (S.left source.old) (S.left source.new) input × IsAtEnd (S.left source.new)
-        × IsAddressesText input text verdict × Appends (W.taken sink.old) (W.taken sink.new) text) }
-    ensures memory { IsErrOf result Fault.Memory → sink.new ≡ sink.old }
-    ensures limits { OnOk result (KeepsLimits plan_limits (S.left source.old) (S.left source.new) (S.pulls source.old) (S.pulls source.new)) }
-    ensures long { IsErrOf result Fault.TooLong → (sink.new ≡ sink.old)
-        × PassesLimits plan_limits (S.left source.old) (S.left source.new) (S.pulls source.old) (S.pulls source.new) }
-
-    // A call of the source or of the sink failed. What was written is then a prefix of what the file asks for.
-    ensures device { IsErrOf result Fault.Device → HasFailed (S.failures source.old) (S.failures source.new)
-        ⊎ HasFailed (W.failures sink.old) (W.failures sink.new) }
-    ensures cut { IsErrOf result Fault.Device → (sink.new ≡ sink.old) ⊎ ((input : List ℕ) × (text : List ℕ) × (verdict : Verdict)
-        × Consumes (S.left source.old) (S.left source.new) input × IsAtEnd (S.left source.new)
-        × IsAddressesText input text verdict × AppendsPart (W.taken sink.old) (W.taken sink.new) text) }
+    ensures { AnswersWhole IsAddressesText (IsOfAny IsAddressesText) plan_limits (S.state source.old) (S.state source.new) W.state sink.old sink.new result }
 {
-    let Some(plan) = plan_text(alloc, source, sink)? else {
-        return Ok(Verdict::Unreadable);
-    };
-    let (text, verdict) = stays_report(alloc, &plan)?;
-    put_all(sink, text.as_slice())?;
-    Ok(verdict)
+    report_text(alloc, &AddressesReport, source, sink)
 }

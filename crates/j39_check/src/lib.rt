@@ -10,6 +10,7 @@ mod load_lines;
 mod load_report;
 mod plan_file;
 mod plan_report;
+mod report_text;
 mod stays_lines;
 mod stays_report;
 mod timing;

@@ -1,16 +1,11 @@
 -- A log that is read line after line.
-use Rattle.std.proofs.Common.{◌≡◌, ℕ, List, [], ◌∷◌, ◌++◌, length, Option, refl, sym, ap, ◌∙◌, subst, append_assoc}
-use Rattle.std.specs.Io.KnownBytes.{Appends, Consumes}
+use Rattle.std.proofs.Common.{◌≡◌, ℕ, List, [], ◌∷◌, ◌++◌, length, refl, sym, ap, ◌∙◌, subst, append_assoc}
 use Rattle.std.proofs.lemmas.List.{append-nil}
-use Rattle.j39_id.specs.Lines.{Line, Pending, answer_to_end, at_start, behind_all, cutter_line, tells, told, told_at_end}
-use Rattle.j39_id.specs.declared.cut.Cut.{Cut}
-use Rattle.j39_id.specs.declared.cut.Cut.TheVariants as cuts
-use Rattle.j39_id.proofs.CutLines.{tells_lines, told-append}
+use Rattle.j39_id.specs.Lines.{Line, lines}
 use Rattle.j39_findings.specs.declared.plan.Plan.{Plan}
-use Rattle.j39_stream.specs.Streams.{AppendsPart}
-use Rattle.j39_stream.proofs.Parts.{front_of, part_after}
 use Rattle.j39_log.specs.ReadText.{IsLogText, Past, ReadsLines, count_line, counts_line, nothing_yet}
-use Rattle.j39_log.specs.inside.Recalling.{HasReadLines, HasWritten, Recalls}
+use Rattle.j39_log.specs.inside.LineReading.{IsSoFar}
+use Rattle.j39_log.specs.inside.Recalling.{HasReadLines, Recalls}
 use Rattle.j39_log.specs.declared.log_reading.Reading.{Reading}
 
 -- ---- lines after lines
@@ -46,38 +41,6 @@ read_next plan before next old new written step all =
       text_is = ap (λ (t : List ℕ). t ++ one.1) all.text_is ∙ append_assoc written old.text one.1 ∙ sym (ap (λ (t : List ℕ). written ++ t) one.4);
     }
 
--- what is told of a part of a piece is read behind what is told of the piece before it
-pub read_part : (plan : Plan) (first old new : Reading) (p q : Pending) (used part : List ℕ) (cut : Cut) (line : List ℕ) → q ≡ behind_all p used
-    → told q part ≡ tells cut line
-    → ((before : List Line) (written : List ℕ) → HasReadLines plan before first written → HasReadLines plan (before ++ told p used) old written)
-    → ((past : Past) → Recalls old past → (end : Past) × (piece : List ℕ) × ReadsLines plan past (tells cut line) end piece × Recalls new end
-    × (new.text ≡ old.text ++ piece))
-    → (before : List Line) (written : List ℕ) → HasReadLines plan before first written → HasReadLines plan (before ++ told p (used ++ part)) new written
-read_part plan first old new p q used part cut line at is so_far step before written start =
-    let here : told p (used ++ part) ≡ told p used ++ tells cut line = told-append p used part
-    ∙ ap (λ (r : Pending). told p used ++ told r part) (sym at) ∙ ap (λ (u : List Line). told p used ++ u) is in
-    let whole : (before ++ told p used) ++ tells cut line ≡ before ++ told p (used ++ part) = append_assoc before (told p used) (tells cut line)
-    ∙ sym (ap (λ (u : List Line). before ++ u) here) in
-    subst (λ (all : List Line). HasReadLines plan all new written) whole
-    (read_next plan (before ++ told p used) (tells cut line) old new written step (so_far before written start))
-
-tells_given : (cut : Cut) (p : Pending) → tells cut (cutter_line cut p) ≡ tells cut p.held
-tells_given cuts.More p = refl
-tells_given cuts.Line p = refl
-tells_given cuts.Long p = refl
-
--- what is told of a piece is told of the text behind what was seen before it
-pub more_seen : (plan : Plan) (seen part : List ℕ) (p : Pending) (reading : Reading) (written : List ℕ) → p ≡ behind_all at_start seen
-    → HasReadLines plan (told at_start seen ++ told p part) reading written → HasReadLines plan (told at_start (seen ++ part)) reading written
-more_seen plan seen part p reading written at before =
-    let whole : told at_start seen ++ told p part ≡ told at_start (seen ++ part) = ap (λ (r : Pending). told at_start seen ++ told r part) at
-    ∙ sym (told-append at_start seen part) in
-    subst (λ (all : List Line). HasReadLines plan all reading written) whole before
-
--- what a cutter tells at the end
-pub tells_end : (cut : Cut) (p : Pending) (line : List ℕ) → cut ≡ answer_to_end p → line ≡ cutter_line cut p → tells cut line ≡ told_at_end p
-tells_end cut p line answered gave = ap (tells cut) gave ∙ tells_given cut p ∙ ap (λ (k : Cut). tells k p.held) answered
-
 -- what is to be written is written
 pub put : (plan : Plan) (told_so_far : List Line) (old : Reading) (written text : List ℕ) → text ≡ [] → HasReadLines plan told_so_far old written
     → HasReadLines plan told_so_far (record old { text = text }) (written ++ old.text)
@@ -101,10 +64,11 @@ same_counts reading past recalls =
     ∙ ap (λ (n : ℕ). counts_line (length past.seen) n reading.bad) recalls.skipped_are
     ∙ ap (λ (n : ℕ). counts_line (length past.seen) past.skipped n) recalls.bad_are
 
-pub closed : (plan : Plan) (all : List Line) (reading : Reading) (written text : List ℕ)
+-- with the line of counts the text is whole
+pub closed : (plan : Plan) (log : List ℕ) (reading : Reading) (written text : List ℕ)
     → text ≡ reading.text ++ counts_line reading.frames reading.skipped reading.bad
-    → HasReadLines plan all reading written → HasWritten plan all (written ++ text)
-closed plan all reading written text ends before = record {
+    → HasReadLines plan (lines log) reading written → IsLogText plan log (written ++ text)
+closed plan log reading written text ends before = record {
   past = before.past;
   reports = before.reports;
   read = before.read;
@@ -114,38 +78,18 @@ closed plan all reading written text ends before = record {
       ∙ ap (λ (t : List ℕ). before.reports ++ t) (same_counts reading before.past before.recalls);
 }
 
--- the whole text
-pub finished : (plan : Plan) (log text : List ℕ) → HasWritten plan (told at_start log ++ told_at_end (behind_all at_start log)) text → IsLogText plan log text
-finished plan log text whole = record {
-  past = whole.past;
-  reports = whole.reports;
-  read = subst (λ (all : List Line). ReadsLines plan nothing_yet all whole.past whole.reports) (tells_lines log) whole.read;
-  text_is = whole.text_is;
-}
-
--- ---- a part of the text
-
--- what was written is some first bytes of the text of a log that begins like this one
-pub partly : (plan : Plan) (seen more : List ℕ) (reading : Reading) (written next tail : List ℕ) (x y a b c : Option (List ℕ))
-    → (before : HasReadLines plan (told at_start seen) reading written) → Consumes x y (seen ++ more) → reading.text ++ count_line before.past ≡ next ++ tail
-    → Appends a b written → AppendsPart b c next
-    → (log : List ℕ) × (rest : List ℕ) × (text : List ℕ) × Consumes x y (log ++ rest) × IsLogText plan log text × AppendsPart a c text
-partly plan seen more reading written next tail x y a b c before consumed ends first second =
-    let front = front_of seen in
-    let text : before.reports ++ count_line before.past ≡ written ++ (next ++ tail) =
-    ap (λ (t : List ℕ). t ++ count_line before.past) before.text_is ∙ append_assoc written reading.text (count_line before.past)
-    ∙ ap (λ (t : List ℕ). written ++ t) ends in
-    let whole : seen ++ more ≡ front.0 ++ (front.1 ++ more) = ap (λ (t : List ℕ). t ++ more) front.2 ∙ append_assoc front.0 front.1 more in
-    let told_text : IsLogText plan front.0 (before.reports ++ count_line before.past) = record {
+-- a text of these lines begins with what is written of them
+pub so_far : (plan : Plan) (told : List Line) (reading : Reading) (written : List ℕ) → HasReadLines plan told reading written
+    → IsSoFar (λ told written. HasReadLines plan told reading written) (λ log text. IsLogText plan log text) reading.text told written
+so_far plan told reading written before = record {
+  read = before;
+  begins = λ log is. (
+    count_line before.past,
+    record {
       past = before.past;
       reports = before.reports;
-      read = subst (λ (all : List Line). ReadsLines plan nothing_yet all before.past before.reports) (sym front.3) before.read;
-      text_is = refl;
-    } in (
-      front.0,
-      front.1 ++ more,
-      before.reports ++ count_line before.past,
-      subst (Consumes x y) whole consumed,
-      told_text,
-      part_after a b c written next tail (before.reports ++ count_line before.past) text first second,
-    )
+      read = subst (λ (all : List Line). ReadsLines plan nothing_yet all before.past before.reports) (sym is) before.read;
+      text_is = sym (append_assoc written reading.text (count_line before.past)) ∙ ap (λ (t : List ℕ). t ++ count_line before.past) (sym before.text_is);
+    },
+  );
+}

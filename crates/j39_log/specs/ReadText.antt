@@ -107,6 +107,10 @@ pub record IsLogText (plan : Plan) (log text : List ℕ) : Type 0 where
 unfoldable pub refused_plan_line : Plan → ℕ → List ℕ
 refused_plan_line plan g = codes "refused plan BadGroup " ++ (group_label plan g ++ 10 ∷ [])
 
+-- the line of a plan that is refused by this group, with the verdict
+abbrev pub IsRefused : Plan → ℕ → List ℕ → Verdict → Type 0
+IsRefused plan g text verdict = (text ≡ refused_plan_line plan g) × (verdict ≡ Refused)
+
 -- what is written for a plan and a log, with the verdict; of the log of a refused plan nothing is read
 abbrev pub IsReadText : Plan → List ℕ → List ℕ → Verdict → Type 0
 IsReadText plan log text Done = All IsSendable plan.groups.items × IsLogText plan log text

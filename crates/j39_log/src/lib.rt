@@ -4,7 +4,9 @@
 mod catalog;
 mod group_report;
 mod laws;
+mod line_reader;
 mod listeners;
+mod log_lines;
 mod log_reading;
 mod log_text;
 mod readings;
@@ -16,8 +18,10 @@ mod value_line;
 
 pub use catalog::{Catalog, CatalogError, Span};
 pub use laws::{a_log_has_one_text, older_plans_are_read_as_before};
+pub use line_reader::LineReader;
 pub use listeners::{Listeners, listen};
-pub use log_text::{read_text, refusal};
+pub use log_lines::read_log;
+pub use log_text::{read_text, refuse};
 pub use readings::write_group_readings;
 pub use transport::transport_packet;
 pub use value_line::ValueLine;

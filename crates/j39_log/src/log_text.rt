@@ -1,99 +1,54 @@
 //! What the read command writes.
-ghost use Rattle.std.specs.Prelude.{◌≡◌, ◌⊎◌, ◌+◌, ◌<◌, ◌≤◌, ◌^◌, ℕ, List, ◌++◌, length, Ok, IfOk, IsErrOf, OnOk, OnErr};
-ghost use Rattle.std.specs.Io.KnownBytes.{Appends, Consumes, IsAtEnd};
-ghost use Rattle.j39_id.specs.Lines.{Line, behind_all, told, told_at_end};
-ghost use Rattle.j39_stream.specs.Streams.{AppendsPart, HasFailed, KeepsLimits, PassesLimits, log_limits};
-ghost use Rattle.j39_log.specs.ReadText.{IsLogText, IsReadText, refused_plan_line};
-ghost use Rattle.j39_log.specs.inside.Listening.{IsCatalogOf};
-ghost use Rattle.j39_log.specs.inside.Recalling.{HasReadLines, HasWritten, counted};
+ghost use Rattle.std.specs.Prelude.{◌≡◌, IfOk};
+ghost use Rattle.j39_log.specs.ReadText.{IsReadText, IsRefused, refused_plan_line};
+ghost use Rattle.j39_stream.specs.Commands.{AnswersInPieces, PutsText};
+ghost use Rattle.j39_stream.specs.Streams.{log_limits};
 
 use crate::catalog::{Catalog, CatalogError};
+use crate::line_reader::LineReader;
+use crate::log_lines::read_log;
 use crate::log_reading::Reading;
 use j39_findings::Plan;
-use j39_id::Cutter;
-use j39_stream::{Fault, Intake, LOG_LIMITS, PIECE_BYTES, Sink, Source, Verdict, put_all};
+use j39_id::Cut;
+use j39_stream::{Fault, Sink, Source, Verdict, put_all};
 use j39_text::{TextBuffer, group_label, put_text};
 use std::alloc::{AllocError, Global};
 
-// Reads the lines that a piece of the log ends.
-fn read_piece(
-    reading: &mut Reading,
-    cutter: &mut Cutter,
-    plan: &Plan,
-    catalog: &Catalog,
-    piece: &[u8],
-) -> Result<(), AllocError>
-    requires catalog { IsCatalogOf plan.now catalog.now }
-    requires room { counted reading.old + length piece.now < 2 ^ 63 }
-    ensures pending { OnOk result (cutter.new.pending ≡ behind_all cutter.old.pending piece.now) }
-    ensures lines { OnOk result ((before : List Line) (written : List ℕ) → HasReadLines plan.now before reading.old written
-        → HasReadLines plan.now (before ++ told cutter.old.pending piece.now) reading.new written) }
-    ensures count { OnOk result (counted reading.new ≤ counted reading.old + length piece.now) }
-{
-    let mut rest = piece;
-    while !rest.is_empty() {
-        let step = cutter.advance(rest);
-        let line = step.whole.unwrap_or(cutter.line());
-        reading.read_cut(plan, catalog, step.cut, line)?;
-        rest = &rest[step.used..];
+impl LineReader for Reading {
+    ghost use Rattle.std.specs.Prelude.{◌≤◌};
+    ghost use Rattle.j39_log.specs.ReadText.{IsLogText};
+    ghost use Rattle.j39_log.specs.inside.Recalling.{HasReadLines, counted};
+
+    ghost text = { λ reading. reading.text };
+
+    ghost has_read = { λ plan reading told written. HasReadLines plan told reading written };
+
+    ghost is_text = { λ plan log text. IsLogText plan log text };
+
+    ghost within = { λ reading most. counted reading ≤ most };
+
+    fn read(
+        &mut self,
+        plan: &Plan,
+        catalog: &Catalog,
+        cut: Cut,
+        line: &[u8],
+    ) -> Result<(), AllocError> {
+        self.read_cut(plan, catalog, cut, line)
     }
-    Ok(())
-}
 
-// Reads the last line, if the log ends in one, and writes how many lines there were.
-fn close(
-    reading: &mut Reading,
-    cutter: &mut Cutter,
-    plan: &Plan,
-    catalog: &Catalog,
-) -> Result<(), AllocError>
-    requires catalog { IsCatalogOf plan.now catalog.now }
-    requires room { counted reading.old < 2 ^ 63 }
-    ensures { OnOk result ((before : List Line) (written : List ℕ) → HasReadLines plan.now before reading.old written
-        → HasWritten plan.now (before ++ told_at_end cutter.old.pending) (written ++ reading.new.text)) }
-{
-    let cut = cutter.end();
-    reading.read_cut(plan, catalog, cut, cutter.line())?;
-    reading.write_counts()
-}
-
-// Writes what the log says, a piece of the log after another.
-fn read_log<S: Source, W: Sink>(
-    alloc: Global,
-    plan: &Plan,
-    catalog: &Catalog,
-    source: &mut S,
-    sink: &mut W,
-) -> Result<(), Fault>
-    requires { IsCatalogOf plan.now catalog.now }
-    ensures ok { OnOk result ((log : List ℕ) × (text : List ℕ) × Consumes (S.left source.old) (S.left source.new) log × IsAtEnd (S.left source.new)
-        × IsLogText plan.now log text × Appends (W.taken sink.old) (W.taken sink.new) text) }
-    ensures cut { OnErr result ((log : List ℕ) × (rest : List ℕ) × (text : List ℕ) × Consumes (S.left source.old) (S.left source.new) (log ++ rest)
-        × IsLogText plan.now log text × AppendsPart (W.taken sink.old) (W.taken sink.new) text) }
-    ensures limits { OnOk result (KeepsLimits log_limits (S.left source.old) (S.left source.new) (S.pulls source.old) (S.pulls source.new)) }
-    ensures long { IsErrOf result Fault.TooLong → PassesLimits log_limits (S.left source.old) (S.left source.new) (S.pulls source.old) (S.pulls source.new) }
-    ensures device { IsErrOf result Fault.Device → HasFailed (S.failures source.old) (S.failures source.new)
-        ⊎ HasFailed (W.failures sink.old) (W.failures sink.new) }
-{
-    let mut reading = Reading::new(alloc);
-    let mut cutter = Cutter::new();
-    let mut intake = Intake::new(LOG_LIMITS);
-    let mut piece = [0; PIECE_BYTES];
-    loop {
-        let count = intake.pull(source, &mut piece)?;
-        if count == 0 {
-            break;
-        }
-        read_piece(&mut reading, &mut cutter, plan, catalog, &piece[..count])?;
-        put_text(sink, &mut reading.text)?;
+    fn close(&mut self, _plan: &Plan) -> Result<(), AllocError> {
+        self.write_counts()
     }
-    close(&mut reading, &mut cutter, plan, catalog)?;
-    put_text(sink, &mut reading.text)
+
+    fn put<W: Sink>(&mut self, sink: &mut W) -> Result<(), Fault> {
+        put_text(sink, &mut self.text)
+    }
 }
 
-/// The line of a refused plan.
+// The line of a refused plan.
 #[tactic(auto, unfolding(crate::specs::ReadText::refused_plan_line))]
-pub fn refusal(alloc: Global, plan: &Plan, group: usize) -> Result<TextBuffer, AllocError>
+fn refusal(alloc: Global, plan: &Plan, group: usize) -> Result<TextBuffer, AllocError>
     ensures { IfOk result (λ text. text ≡ refused_plan_line plan.now group) }
 {
     let mut text = TextBuffer::new(alloc);
@@ -101,6 +56,20 @@ pub fn refusal(alloc: Global, plan: &Plan, group: usize) -> Result<TextBuffer, A
     text.word(group_label(plan, group))?;
     text.end_line()?;
     Ok(text)
+}
+
+/// Writes why no log can be read with the plan: by this group.
+pub fn refuse<W: Sink>(
+    alloc: Global,
+    plan: &Plan,
+    group: usize,
+    sink: &mut W,
+) -> Result<Verdict, Fault>
+    ensures { PutsText (IsRefused plan.now group) W.state sink.old sink.new result }
+{
+    let text = refusal(alloc, plan, group)?;
+    put_all(sink, text.as_slice())?;
+    Ok(Verdict::Refused)
 }
 
 /// Writes what a log says of the groups of a plan: a report for each frame of a planned group and for each message that
@@ -114,33 +83,11 @@ pub fn read_text<S: Source, W: Sink>(
     source: &mut S,
     sink: &mut W,
 ) -> Result<Verdict, Fault>
-    ensures written { IfOk result (λ verdict. (log : List ℕ) × (text : List ℕ)
-        × Consumes (S.left source.old) (S.left source.new) log
-        × IsReadText plan.now log text verdict × Appends (W.taken sink.old) (W.taken sink.new) text) }
-    ensures end { result ≡ Ok Verdict.Done → IsAtEnd (S.left source.new) }
-    ensures limits { OnOk result (KeepsLimits log_limits (S.left source.old) (S.left source.new) (S.pulls source.old) (S.pulls source.new)) }
-    ensures long { IsErrOf result Fault.TooLong → PassesLimits log_limits (S.left source.old) (S.left source.new) (S.pulls source.old) (S.pulls source.new) }
-
-    // A call of the source or of the sink failed.
-    ensures device { IsErrOf result Fault.Device → HasFailed (S.failures source.old) (S.failures source.new)
-        ⊎ HasFailed (W.failures sink.old) (W.failures sink.new) }
-
-    // What was written is then a prefix of what a log asks for that begins like this one.
-    ensures cut { OnErr result ((sink.new ≡ sink.old) ⊎ ((log : List ℕ) × (rest : List ℕ) × (text : List ℕ) × (verdict : Verdict)
-        × Consumes (S.left source.old) (S.left source.new) (log ++ rest)
-        × IsReadText plan.now log text verdict × AppendsPart (W.taken sink.old) (W.taken sink.new) text)) }
+    ensures { AnswersInPieces (IsReadText plan.now) log_limits (S.state source.old) (S.state source.new) W.state sink.old sink.new result }
 {
-    let catalog = match Catalog::new(alloc, plan) {
-        Ok(catalog) => catalog,
-        Err(CatalogError::Memory) => return Err(Fault::Memory),
-        Err(CatalogError::BadGroup(group)) => {
-            let Ok(text) = refusal(alloc, plan, group) else {
-                return Err(Fault::Memory);
-            };
-            put_all(sink, text.as_slice())?;
-            return Ok(Verdict::Refused);
-        }
-    };
-    read_log(alloc, plan, &catalog, source, sink)?;
-    Ok(Verdict::Done)
+    match Catalog::new(alloc, plan) {
+        Ok(catalog) => read_log(plan, &catalog, &mut Reading::new(alloc), source, sink),
+        Err(CatalogError::Memory) => Err(Fault::Memory),
+        Err(CatalogError::BadGroup(group)) => refuse(alloc, plan, group, sink),
+    }
 }

@@ -12,7 +12,7 @@ use Rattle.j39_id.specs.declared.cut.Cut.TheVariants as cuts
 use Rattle.j39_id.proofs.CutLines.{tells_lines, told-append, behind_all-append}
 use Rattle.j39_findings.specs.declared.plan.Plan.{Plan}
 use Rattle.j39_stream.specs.Intakes.{HasRead}
-use Rattle.j39_stream.specs.Streams.{KeepsLimits, PassesLimits, plan_limits}
+use Rattle.j39_stream.specs.Streams.{KeepsLimits, PassesLimits, SourceState, plan_limits}
 use Rattle.j39_stream.specs.declared.limits.Limits.{Limits}
 use Rattle.j39_stream.proofs.Parts.{front_of, none_read}
 use Rattle.j39_run.specs.declared.next.Next.{Next}
@@ -22,25 +22,25 @@ use Rattle.j39_run.specs.inside.Feeding.{Comes, Feeding, TellsFurther, HasEnded,
 -- ---- a piece
 
 -- before anything is read
-pub unread : (first : Option (List ℕ)) (pulls : ℕ) → IsFed first first pulls pulls unfed [] []
-unread first pulls = record {
-  read = record { limits_are = refl; consumed = none_read first; bytes_are = refl; within = omega arith; calls_gave = omega arith; pulls_are = omega arith };
+pub unread : (first : SourceState) → IsFed first first unfed [] []
+unread first = record {
+  read = record { limits_are = refl; consumed = none_read first.left; bytes_are = refl; within = omega arith; calls_gave = omega arith; pulls_are = omega arith };
   calls = omega arith;
   pending_is = refl;
   told_is = refl;
 }
 
 -- the next piece is read, or the end is told
-pub read_on : (first a b : Option (List ℕ)) (p q r : ℕ) (old new : Feeding) (seen : List ℕ) (ls : List Line) (n : ℕ) → old.unread ≡ [] → old.ended ≡ false
+pub read_on : (first a b : SourceState) (old new : Feeding) (seen : List ℕ) (ls : List Line) (n : ℕ) → old.unread ≡ [] → old.ended ≡ false
     → new.pending ≡ old.pending → new.ended ≡ (n == 0) → new.counts.calls ≤ new.counts.limits.calls
-    → ((text : List ℕ) → HasRead plan_limits first a p q old.counts text → 0 < n → HasRead plan_limits first b p r new.counts (text ++ new.unread))
-    → ((text : List ℕ) → HasRead plan_limits first a p q old.counts text → n ≡ 0 → Consumes first b text × KeepsLimits plan_limits first b p r) → (n ≡ 0 → IsAtEnd b)
-    → IsFed first a p q old seen ls → IsFed first b p r new seen ls
-read_on first a b p q r old new seen ls n used going same ends calls more last end fed =
-    let before : IsReading first a p q old seen ls = subst (λ (e : Bool). IsFedSo e first a p q old seen ls) going fed in
-    let all : HasRead plan_limits first a p q old.counts seen = subst (λ (t : List ℕ). HasRead plan_limits first a p q old.counts t)
+    → ((text : List ℕ) → HasRead plan_limits first a old.counts text → 0 < n → HasRead plan_limits first b new.counts (text ++ new.unread))
+    → ((text : List ℕ) → HasRead plan_limits first a old.counts text → n ≡ 0 → Consumes first.left b.left text × KeepsLimits plan_limits first b) → (n ≡ 0 → IsAtEnd b.left)
+    → IsFed first a old seen ls → IsFed first b new seen ls
+read_on first a b old new seen ls n used going same ends calls more last end fed =
+    let before : IsReading first a old seen ls = subst (λ (e : Bool). IsFedSo e first a old seen ls) going fed in
+    let all : HasRead plan_limits first a old.counts seen = subst (λ (t : List ℕ). HasRead plan_limits first a old.counts t)
     (ap (λ (u : List ℕ). seen ++ u) used ∙ append-nil seen) before.read in
-    subst (λ (e : Bool). IsFedSo e first b p r new seen ls) (sym ends)
+    subst (λ (e : Bool). IsFedSo e first b new seen ls) (sym ends)
     (elim (cases_Bool (n == 0)) [
       | inl none ↦
           let is : n ≡ 0 = eqb-true n 0 none in
@@ -52,10 +52,10 @@ read_on first a b p q r old new seen ls n used going same ends calls more last e
     ])
 
 -- what passes the limits
-pub passes : (first a b : Option (List ℕ)) (p q r : ℕ) (old : Feeding) (seen : List ℕ) (ls : List Line) → old.ended ≡ false
-    → ((text : List ℕ) → HasRead plan_limits first a p q old.counts text → PassesLimits plan_limits first b p r) → IsFed first a p q old seen ls → PassesLimits plan_limits first b p r
-passes first a b p q r old seen ls going long fed =
-    let before : IsReading first a p q old seen ls = subst (λ (e : Bool). IsFedSo e first a p q old seen ls) going fed in
+pub passes : (first a b : SourceState) (old : Feeding) (seen : List ℕ) (ls : List Line) → old.ended ≡ false
+    → ((text : List ℕ) → HasRead plan_limits first a old.counts text → PassesLimits plan_limits first b) → IsFed first a old seen ls → PassesLimits plan_limits first b
+passes first a b old seen ls going long fed =
+    let before : IsReading first a old seen ls = subst (λ (e : Bool). IsFedSo e first a old seen ls) going fed in
     long (seen ++ old.unread) before.read
 
 -- ---- what is told
@@ -71,96 +71,96 @@ ended_all p seen ls (inl (told_is, at)) = ap (λ (l : List Line). l ++ told_at_e
     ∙ tells_lines seen
 ended_all p seen ls (inr (told_is, at)) = ap (λ (r : Pending). ls ++ told_at_end r) at ∙ append-nil ls ∙ told_is
 
-pub goes_on : (plan : Plan) (next : Next) (first now : Option (List ℕ)) (p q : ℕ) (f : Feeding) (seen : List ℕ) (ls : List Line) (more : List Line)
-    → IsReadNext plan next more → TellsFurther plan next first now p q f seen ls → Comes plan next first now p q f seen ls
-goes_on plan Wait first now p q f seen ls more is goes = absurd is
-goes_on plan More first now p q f seen ls more is goes = goes
-goes_on plan Blank first now p q f seen ls more is goes = goes
-goes_on plan (AStep step) first now p q f seen ls more is goes = goes
-goes_on plan (Refused fault) first now p q f seen ls more is goes = goes
-goes_on plan End first now p q f seen ls more is goes = absurd is
+pub goes_on : (plan : Plan) (next : Next) (first now : SourceState) (f : Feeding) (seen : List ℕ) (ls : List Line) (more : List Line)
+    → IsReadNext plan next more → TellsFurther plan next first now f seen ls → Comes plan next first now f seen ls
+goes_on plan Wait first now f seen ls more is goes = absurd is
+goes_on plan More first now f seen ls more is goes = goes
+goes_on plan Blank first now f seen ls more is goes = goes
+goes_on plan (AStep step) first now f seen ls more is goes = goes
+goes_on plan (Refused fault) first now f seen ls more is goes = goes
+goes_on plan End first now f seen ls more is goes = absurd is
 
 -- the last line
-last_ended : (first now : Option (List ℕ)) (p q : ℕ) (old new : Feeding) (seen : List ℕ) (ls more : List Line) → new.pending ≡ at_start
+last_ended : (first now : SourceState) (old new : Feeding) (seen : List ℕ) (ls more : List Line) → new.pending ≡ at_start
     → more ≡ told_at_end old.pending
-    → HasEnded first now p q old seen ls → HasEnded first now p q new (seen ++ []) (ls ++ more)
-last_ended first now p q old new seen ls more start is ended =
+    → HasEnded first now old seen ls → HasEnded first now new (seen ++ []) (ls ++ more)
+last_ended first now old new seen ls more start is ended =
     let all : ls ++ more ≡ lines seen = ap (λ (m : List Line). ls ++ m) is ∙ ended_all old.pending seen ls ended.told_is in
-    subst (λ (t : List ℕ). HasEnded first now p q new t (ls ++ more)) (sym (append-nil seen))
+    subst (λ (t : List ℕ). HasEnded first now new t (ls ++ more)) (sym (append-nil seen))
     (record { consumed = ended.consumed; end = ended.end; limits = ended.limits; within = ended.within; told_is = inr (all, start) })
 
 -- with these lines
-last_told : (first now : Option (List ℕ)) (p q : ℕ) (old new : Feeding) (seen : List ℕ) (ls more : List Line) → old.ended ≡ true → new.ended ≡ true
-    → new.pending ≡ at_start → more ≡ told_at_end old.pending → IsFed first now p q old seen ls → IsFed first now p q new (seen ++ []) (ls ++ more)
-last_told first now p q old new seen ls more over still start is fed =
-    let before : HasEnded first now p q old seen ls = subst (λ (e : Bool). IsFedSo e first now p q old seen ls) over fed in
-    subst (λ (e : Bool). IsFedSo e first now p q new (seen ++ []) (ls ++ more)) (sym still) (last_ended first now p q old new seen ls more start is before)
+last_told : (first now : SourceState) (old new : Feeding) (seen : List ℕ) (ls more : List Line) → old.ended ≡ true → new.ended ≡ true
+    → new.pending ≡ at_start → more ≡ told_at_end old.pending → IsFed first now old seen ls → IsFed first now new (seen ++ []) (ls ++ more)
+last_told first now old new seen ls more over still start is fed =
+    let before : HasEnded first now old seen ls = subst (λ (e : Bool). IsFedSo e first now old seen ls) over fed in
+    subst (λ (e : Bool). IsFedSo e first now new (seen ++ []) (ls ++ more)) (sym still) (last_ended first now old new seen ls more start is before)
 
-pub last_line : (plan : Plan) (next : Next) (first now : Option (List ℕ)) (p q : ℕ) (old new : Feeding) (seen : List ℕ) (ls more : List Line)
+pub last_line : (plan : Plan) (next : Next) (first now : SourceState) (old new : Feeding) (seen : List ℕ) (ls more : List Line)
     → old.ended ≡ true → new.ended ≡ true
-    → new.pending ≡ at_start → more ≡ told_at_end old.pending → IsReadNext plan next more → IsFed first now p q old seen ls
-    → Comes plan next first now p q new seen ls
-last_line plan next first now p q old new seen ls more over still start is told_next fed =
-    goes_on plan next first now p q new seen ls more told_next
-    (record { used = []; more = more; fed = last_told first now p q old new seen ls more over still start is fed; is = told_next })
+    → new.pending ≡ at_start → more ≡ told_at_end old.pending → IsReadNext plan next more → IsFed first now old seen ls
+    → Comes plan next first now new seen ls
+last_line plan next first now old new seen ls more over still start is told_next fed =
+    goes_on plan next first now new seen ls more told_next
+    (record { used = []; more = more; fed = last_told first now old new seen ls more over still start is fed; is = told_next })
 
 -- it orders a Begin
-pub last_begins : (plan : Plan) (first now : Option (List ℕ)) (p q : ℕ) (old : Feeding) (seen : List ℕ) (ls more : List Line) → old.ended ≡ true
-    → more ≡ told_at_end old.pending → IsBegin plan more → IsFed first now p q old seen ls → MeetsBegin plan first now p q seen ls
-last_begins plan first now p q old seen ls more over is begins fed = record {
+pub last_begins : (plan : Plan) (first now : SourceState) (old : Feeding) (seen : List ℕ) (ls more : List Line) → old.ended ≡ true
+    → more ≡ told_at_end old.pending → IsBegin plan more → IsFed first now old seen ls → MeetsBegin plan first now seen ls
+last_begins plan first now old seen ls more over is begins fed = record {
   used = [];
   more = more;
   f = record old { pending = at_start };
-  fed = last_told first now p q old (record old { pending = at_start }) seen ls more over over refl is fed;
+  fed = last_told first now old (record old { pending = at_start }) seen ls more over over refl is fed;
   begins = begins;
 }
 
 -- there was none
-pub no_last_line : (plan : Plan) (first now : Option (List ℕ)) (p q : ℕ) (old new : Feeding) (seen : List ℕ) (ls more : List Line) → old.ended ≡ true
-    → new.pending ≡ at_start → more ≡ told_at_end old.pending → more ≡ [] → IsFed first now p q old seen ls → Comes plan End first now p q new seen ls
-no_last_line plan first now p q old new seen ls more over start is none fed =
-    let before : HasEnded first now p q old seen ls = subst (λ (e : Bool). IsFedSo e first now p q old seen ls) over fed in
+pub no_last_line : (plan : Plan) (first now : SourceState) (old new : Feeding) (seen : List ℕ) (ls more : List Line) → old.ended ≡ true
+    → new.pending ≡ at_start → more ≡ told_at_end old.pending → more ≡ [] → IsFed first now old seen ls → Comes plan End first now new seen ls
+no_last_line plan first now old new seen ls more over start is none fed =
+    let before : HasEnded first now old seen ls = subst (λ (e : Bool). IsFedSo e first now old seen ls) over fed in
     let all : ls ≡ lines seen = sym (append-nil ls) ∙ ap (λ (m : List Line). ls ++ m) (sym none ∙ is) ∙ ended_all old.pending seen ls before.told_is in
     (record { consumed = before.consumed; end = before.end; limits = before.limits; within = before.within; told_is = inr (all, start) }, all)
 
 -- a part of a piece
-part_told : (first now : Option (List ℕ)) (p q : ℕ) (old new : Feeding) (seen part : List ℕ) (ls more : List Line)
+part_told : (first now : SourceState) (old new : Feeding) (seen part : List ℕ) (ls more : List Line)
     → old.ended ≡ false → new.ended ≡ false
     → new.counts ≡ old.counts → old.unread ≡ part ++ new.unread → new.pending ≡ behind_all old.pending part → told old.pending part ≡ more
-    → IsFed first now p q old seen ls → IsFed first now p q new (seen ++ part) (ls ++ more)
-part_told first now p q old new seen part ls more going still same row at told_is fed =
-    let before : IsReading first now p q old seen ls = subst (λ (e : Bool). IsFedSo e first now p q old seen ls) going fed in
+    → IsFed first now old seen ls → IsFed first now new (seen ++ part) (ls ++ more)
+part_told first now old new seen part ls more going still same row at told_is fed =
+    let before : IsReading first now old seen ls = subst (λ (e : Bool). IsFedSo e first now old seen ls) going fed in
     let all : seen ++ old.unread ≡ (seen ++ part) ++ new.unread = ap (λ (u : List ℕ). seen ++ u) row ∙ sym (append_assoc seen part new.unread) in
-    let after : IsReading first now p q new (seen ++ part) (ls ++ more) = record {
-      read = subst (λ c. HasRead plan_limits first now p q c ((seen ++ part) ++ new.unread)) (sym same)
-          (subst (λ (t : List ℕ). HasRead plan_limits first now p q old.counts t) all before.read);
+    let after : IsReading first now new (seen ++ part) (ls ++ more) = record {
+      read = subst (λ c. HasRead plan_limits first now c ((seen ++ part) ++ new.unread)) (sym same)
+          (subst (λ (t : List ℕ). HasRead plan_limits first now old.counts t) all before.read);
       calls = subst (λ c. c.calls ≤ c.limits.calls) (sym same) before.calls;
       pending_is = at ∙ ap (λ (r : Pending). behind_all r part) before.pending_is ∙ sym (behind_all-append at_start seen part);
       told_is = ap (λ (l : List Line). l ++ more) before.told_is ∙ ap (λ (m : List Line). told at_start seen ++ m) (sym told_is)
           ∙ ap (λ (r : Pending). told at_start seen ++ told r part) before.pending_is ∙ sym (told-append at_start seen part);
     } in
-    subst (λ (e : Bool). IsFedSo e first now p q new (seen ++ part) (ls ++ more)) (sym still) after
+    subst (λ (e : Bool). IsFedSo e first now new (seen ++ part) (ls ++ more)) (sym still) after
 
-pub next_part : (plan : Plan) (next : Next) (first now : Option (List ℕ)) (p q : ℕ) (old new : Feeding) (seen part : List ℕ) (ls more : List Line)
+pub next_part : (plan : Plan) (next : Next) (first now : SourceState) (old new : Feeding) (seen part : List ℕ) (ls more : List Line)
     → old.ended ≡ false → new.ended ≡ false
     → new.counts ≡ old.counts → old.unread ≡ part ++ new.unread → new.pending ≡ behind_all old.pending part → told old.pending part ≡ more
     → IsReadNext plan next more
-    → IsFed first now p q old seen ls → Comes plan next first now p q new seen ls
-next_part plan next first now p q old new seen part ls more going still same row at told_is told_next fed =
-    goes_on plan next first now p q new seen ls more told_next
-    (record { used = part; more = more; fed = part_told first now p q old new seen part ls more going still same row at told_is fed; is = told_next })
+    → IsFed first now old seen ls → Comes plan next first now new seen ls
+next_part plan next first now old new seen part ls more going still same row at told_is told_next fed =
+    goes_on plan next first now new seen ls more told_next
+    (record { used = part; more = more; fed = part_told first now old new seen part ls more going still same row at told_is fed; is = told_next })
 
 -- it tells a line that orders a Begin
-pub part_begins : (plan : Plan) (first now : Option (List ℕ)) (p q : ℕ) (old : Feeding) (seen part rest : List ℕ) (ls more : List Line)
+pub part_begins : (plan : Plan) (first now : SourceState) (old : Feeding) (seen part rest : List ℕ) (ls more : List Line)
     → old.ended ≡ false → old.unread ≡ part ++ rest → told old.pending part ≡ more → IsBegin plan more
-    → IsFed first now p q old seen ls → MeetsBegin plan first now p q seen ls
-part_begins plan first now p q old seen part rest ls more going row told_is begins fed =
+    → IsFed first now old seen ls → MeetsBegin plan first now seen ls
+part_begins plan first now old seen part rest ls more going row told_is begins fed =
     let new : Feeding = record old { unread = rest; pending = behind_all old.pending part } in
     record {
       used = part;
       more = more;
       f = new;
-      fed = part_told first now p q old new seen part ls more going going refl row refl told_is fed;
+      fed = part_told first now old new seen part ls more going going refl row refl told_is fed;
       begins = begins;
     }
 
@@ -179,15 +179,15 @@ few_told p (b ∷ bs) =
     let all = length-append (tells (answer_to p b) p.held) (told (behind p b) bs) in
     omega (arith, one, rest, all)
 
-few_so : (e : Bool) (first now : Option (List ℕ)) (p q : ℕ) (f : Feeding) (seen : List ℕ) (ls : List Line) → IsFedSo e first now p q f seen ls
+few_so : (e : Bool) (first now : SourceState) (f : Feeding) (seen : List ℕ) (ls : List Line) → IsFedSo e first now f seen ls
     → length ls ≤ plan_limits.bytes + 1
-few_so false first now p q f seen ls fed =
+few_so false first now f seen ls fed =
     let count = few_told at_start seen in
     let is = ap length fed.told_is in
     let within = fed.read.within in
     let all = length-append seen f.unread in
     omega (arith, count, is, within, all)
-few_so true first now p q f seen ls fed =
+few_so true first now f seen ls fed =
     let count = few_told at_start seen in
     let last = one_told (answer_to_end (behind_all at_start seen)) (behind_all at_start seen).held in
     let all = length-append (told at_start seen) (told_at_end (behind_all at_start seen)) in
@@ -198,9 +198,9 @@ few_so true first now p q f seen ls fed =
       | inr done ↦ let is = ap length done.0 in omega (arith, count, last, all, whole, is, within)
     ]
 
-pub few_lines : (first now : Option (List ℕ)) (p q : ℕ) (f : Feeding) (seen : List ℕ) (ls : List Line) → IsFed first now p q f seen ls
+pub few_lines : (first now : SourceState) (f : Feeding) (seen : List ℕ) (ls : List Line) → IsFed first now f seen ls
     → length ls ≤ plan_limits.bytes + 1
-few_lines first now p q f seen ls fed = few_so f.ended first now p q f seen ls fed
+few_lines first now f seen ls fed = few_so f.ended first now f seen ls fed
 
 -- ---- what of the schedule these lines are
 
@@ -215,24 +215,24 @@ whole : (first now : Option (List ℕ)) (seen more : List ℕ) (ls : List Line) 
     → (input : List ℕ) × (rest : List ℕ) × Consumes first now (input ++ rest) × (ls ≡ lines input)
 whole first now seen more ls consumed told_is = (seen, more, consumed, told_is)
 
-input_so : (e : Bool) (first now then : Option (List ℕ)) (p q : ℕ) (f : Feeding) (seen : List ℕ) (ls : List Line) → IsFedSo e first now p q f seen ls
-    → ((text : List ℕ) → Consumes first now text → (more : List ℕ) × Consumes first then (text ++ more))
-    → (input : List ℕ) × (rest : List ℕ) × Consumes first then (input ++ rest) × (ls ≡ lines input)
-input_so false first now then p q f seen ls fed kept =
+input_so : (e : Bool) (first now then : SourceState) (f : Feeding) (seen : List ℕ) (ls : List Line) → IsFedSo e first now f seen ls
+    → ((text : List ℕ) → Consumes first.left now.left text → (more : List ℕ) × Consumes first.left then.left (text ++ more))
+    → (input : List ℕ) × (rest : List ℕ) × Consumes first.left then.left (input ++ rest) × (ls ≡ lines input)
+input_so false first now then f seen ls fed kept =
     let (more, all) = kept (seen ++ f.unread) fed.read.consumed in
-    fronted first then seen (f.unread ++ more) ls (subst (Consumes first then) (append_assoc seen f.unread more) all) fed.told_is
-input_so true first now then p q f seen ls fed kept =
+    fronted first.left then.left seen (f.unread ++ more) ls (subst (Consumes first.left then.left) (append_assoc seen f.unread more) all) fed.told_is
+input_so true first now then f seen ls fed kept =
     let (more, all) = kept seen fed.consumed in
     elim fed.told_is [
-      | inl part ↦ fronted first then seen more ls all part.0
-      | inr done ↦ whole first then seen more ls all done.0
+      | inl part ↦ fronted first.left then.left seen more ls all part.0
+      | inr done ↦ whole first.left then.left seen more ls all done.0
     ]
 
 -- the lines that were told are those of some first bytes of what was read, then and after one more call
-pub input_of : (first now then : Option (List ℕ)) (p q : ℕ) (f : Feeding) (seen : List ℕ) (ls : List Line) → IsFed first now p q f seen ls
-    → ((text : List ℕ) → Consumes first now text → (more : List ℕ) × Consumes first then (text ++ more))
-    → (input : List ℕ) × (rest : List ℕ) × Consumes first then (input ++ rest) × (ls ≡ lines input)
-input_of first now then p q f seen ls fed kept = input_so f.ended first now then p q f seen ls fed kept
+pub input_of : (first now then : SourceState) (f : Feeding) (seen : List ℕ) (ls : List Line) → IsFed first now f seen ls
+    → ((text : List ℕ) → Consumes first.left now.left text → (more : List ℕ) × Consumes first.left then.left (text ++ more))
+    → (input : List ℕ) × (rest : List ℕ) × Consumes first.left then.left (input ++ rest) × (ls ≡ lines input)
+input_of first now then f seen ls fed kept = input_so f.ended first now then f seen ls fed kept
 
 -- nothing more is read
 pub none_more : (first now : Option (List ℕ)) (text : List ℕ) → Consumes first now text → (more : List ℕ) × Consumes first now (text ++ more)
@@ -247,14 +247,14 @@ lines_from seen tail =
           ∙ append_assoc (told at_start seen) (told (behind_all at_start seen) tail) end,
     )
 
-abbrev pub BeginWith : Option (List ℕ) → Option (List ℕ) → ℕ → ℕ → List Line → Type 0
-BeginWith first now p q ls =
-    (input : List ℕ) × Consumes first now input × KeepsLimits plan_limits first now p q
-    × ((more : List ℕ) → (IsAtEnd now → more ≡ []) → (rest : List Line) × (lines (input ++ more) ≡ ls ++ rest))
+abbrev pub BeginWith : SourceState → SourceState → List Line → Type 0
+BeginWith first now ls =
+    (input : List ℕ) × Consumes first.left now.left input × KeepsLimits plan_limits first now
+    × ((more : List ℕ) → (IsAtEnd now.left → more ≡ []) → (rest : List Line) × (lines (input ++ more) ≡ ls ++ rest))
 
-begins_so : (e : Bool) (first now : Option (List ℕ)) (p q : ℕ) (f : Feeding) (seen : List ℕ) (ls : List Line) → IsFedSo e first now p q f seen ls
-    → BeginWith first now p q ls
-begins_so false first now p q f seen ls fed = (
+begins_so : (e : Bool) (first now : SourceState) (f : Feeding) (seen : List ℕ) (ls : List Line) → IsFedSo e first now f seen ls
+    → BeginWith first now ls
+begins_so false first now f seen ls fed = (
   seen ++ f.unread,
   fed.read.consumed,
   (seen ++ f.unread, fed.read.consumed, fed.read.within, (f.counts.calls, subst (λ (l : Limits). f.counts.calls ≤ l.calls) fed.read.limits_are fed.calls, fed.read.pulls_are)),
@@ -262,7 +262,7 @@ begins_so false first now p q f seen ls fed = (
       let (rest, is) = lines_from seen (f.unread ++ more) in
       (rest, ap lines (append_assoc seen f.unread more) ∙ is ∙ ap (λ (l : List Line). l ++ rest) (sym fed.told_is)),
 )
-begins_so true first now p q f seen ls fed = (
+begins_so true first now f seen ls fed = (
   seen,
   fed.consumed,
   fed.limits,
@@ -272,9 +272,9 @@ begins_so true first now p q f seen ls fed = (
 )
 
 -- the lines of all that was read, and of what stands behind it, begin with those that were told
-pub begin_with : (first now : Option (List ℕ)) (p q : ℕ) (f : Feeding) (seen : List ℕ) (ls : List Line) → IsFed first now p q f seen ls
-    → BeginWith first now p q ls
-begin_with first now p q f seen ls fed = begins_so f.ended first now p q f seen ls fed
+pub begin_with : (first now : SourceState) (f : Feeding) (seen : List ℕ) (ls : List Line) → IsFed first now f seen ls
+    → BeginWith first now ls
+begin_with first now f seen ls fed = begins_so f.ended first now f seen ls fed
 
 -- ---- within a piece
 

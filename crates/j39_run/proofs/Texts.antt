@@ -1,53 +1,30 @@
 -- The text of a schedule, by what a bus did.
-use Rattle.std.proofs.Common.{◌≡◌, ◌++◌, List, ℕ, Option, Some, None, [], sym, inl, inr, refl, subst, ◌∙◌, ◌⊎◌, ◌≢◌, Result, Ok, Err, IfOk, OnOk, OnErr}
+use Rattle.std.proofs.Common.{◌≡◌, ◌++◌, List, ℕ, Option, Some, None, [], sym, inl, inr, refl, subst, ◌⊎◌, Result, Ok, Err, IfOk}
 use Rattle.std.specs.Prelude.{IsErrOf}
 use Rattle.std.proofs.lemmas.List.{append-nil}
+use Rattle.std.proofs.lemmas.Result.{IfOk-weaker}
 use Rattle.std.specs.Io.KnownBytes.{Appends, Consumes, IsAtEnd}
 use Rattle.j39_findings.specs.declared.plan.Plan.{Plan}
 use Rattle.j39_world.specs.declared.bus_error.BusError.{BusError}
 use Rattle.j39_world.specs.Opening.{CanOpen, IsNotOpened}
-use Rattle.j39_stream.specs.Streams.{AppendsPart, KeepsLimits, plan_limits}
+use Rattle.j39_stream.specs.Commands.{AnswersInPieces, PutsText}
+use Rattle.j39_stream.specs.Streams.{HasFailed, PassesLimits, SinkState, SourceState, plan_limits}
 use Rattle.j39_stream.specs.declared.fault.Fault.{Fault}
-use Rattle.j39_stream.specs.declared.fault.Fault.TheVariants.{Memory, Device, TooLong}
+use Rattle.j39_stream.specs.declared.fault.Fault.TheVariants.{Device, TooLong}
 use Rattle.j39_stream.specs.declared.verdict.Verdict.{Verdict}
-use Rattle.j39_stream.specs.declared.verdict.Verdict.TheVariants.{Done, Refused}
-use Rattle.j39_stream.proofs.Parts.{none_read}
-use Rattle.j39_run.specs.RunText.{IsPlanRefusal, IsRunText, verdict_of}
-use Rattle.j39_run.specs.inside.Ending.{CutOff, HasEndedSo, HasRunTo}
-use Rattle.j39_run.proofs.Stopping.{both, by_fault}
-
--- ---- how the run ended
-
-module _ (plan : Plan) (old new : Option (List ℕ)) (p q : ℕ) (x y : Option (List ℕ)) where
-  pub done_of : (r : Result Verdict Fault) → HasEndedSo plan old new p q x y r → IfOk r (HasRunTo plan old new x y)
-  done_of (Ok verdict) ends = ends.0
-  done_of (Err fault) ends = tt
-
-  pub limits_of : (r : Result Verdict Fault) → HasEndedSo plan old new p q x y r → OnOk r (KeepsLimits plan_limits old new p q)
-  limits_of (Ok verdict) ends = ends.1
-  limits_of (Err fault) ends = tt
-
-  pub cut_of : (r : Result Verdict Fault) → HasEndedSo plan old new p q x y r → OnErr r (CutOff plan old new x y)
-  cut_of (Ok verdict) ends = tt
-  cut_of (Err fault) ends = ends
+use Rattle.j39_stream.proofs.Answering.{put_unread}
+use Rattle.j39_run.specs.RunText.{IsRefusedBy, IsRunText, verdict_of}
+use Rattle.j39_run.specs.inside.Ending.{HasEndedSo, HasRunTo}
 
 -- ---- the text of a bus
 
-module _ (plan : Plan) (choosers : ℕ) (opens : CanOpen choosers plan) (old new x y : Option (List ℕ)) (verdict : Verdict)
+module _ (plan : Plan) (choosers : ℕ) (opens : CanOpen choosers plan) (old new : SourceState) (x y : SinkState) (verdict : Verdict)
     (ran : HasRunTo plan old new x y verdict) where
-  text_with : (more : List ℕ) → (IsAtEnd new → more ≡ []) → IsRunText plan choosers (ran.input ++ more) ran.text verdict
+  text_with : (more : List ℕ) → (IsAtEnd new.left → more ≡ []) → IsRunText plan choosers (ran.input ++ more) ran.text verdict
   text_with more none = inr (ran.halt, (opens, ran.is_text more none), ran.judged)
 
-  pub bus_text : (input : List ℕ) × (text : List ℕ) × Consumes old new input × (verdict ≡ Done → IsAtEnd new) × IsRunText plan choosers input text verdict
-      × Appends x y text
-  bus_text = (
-    ran.input,
-    ran.text,
-    ran.consumed,
-    ran.end,
-    subst (λ (t : List ℕ). IsRunText plan choosers t ran.text verdict) (append-nil ran.input) (text_with [] (λ _. refl)),
-    ran.written,
-  )
+  bus_text : IsRunText plan choosers ran.input ran.text verdict
+  bus_text = subst (λ (t : List ℕ). IsRunText plan choosers t ran.text verdict) (append-nil ran.input) (text_with [] (λ _. refl))
 
   -- the text is that of all that was left
   of_all : (left : Option (List ℕ)) (all : List ℕ) → Consumes (Some all) left ran.input
@@ -56,40 +33,49 @@ module _ (plan : Plan) (choosers : ℕ) (opens : CanOpen choosers plan) (old new
   of_all None all consumed text = absurd consumed
   of_all (Some rest) all consumed text = subst (λ (t : List ℕ). IsRunText plan choosers t ran.text verdict) (sym consumed) (text rest (λ none. none))
 
-  pub whole_text : (all : List ℕ) → old ≡ Some all → (text : List ℕ) × IsRunText plan choosers all text verdict × Appends x y text
-  whole_text all is = (ran.text, of_all new all (subst (λ (o : Option (List ℕ)). Consumes o new ran.input) is ran.consumed) text_with, ran.written)
+  whole_text : (all : List ℕ) → old.left ≡ Some all → (text : List ℕ) × IsRunText plan choosers all text verdict × Appends x.taken y.taken text
+  whole_text all is =
+      (ran.text, of_all new.left all (subst (λ (o : Option (List ℕ)). Consumes o new.left ran.input) is ran.consumed) text_with, ran.written)
 
--- a part of it
-pub cut_text : (plan : Plan) (choosers : ℕ) → CanOpen choosers plan → (old new x y : Option (List ℕ)) → CutOff plan old new x y
-    → (input : List ℕ) × (rest : List ℕ) × (text : List ℕ) × (verdict : Verdict) × Consumes old new (input ++ rest)
-    × IsRunText plan choosers input text verdict × AppendsPart x y text
-cut_text plan choosers opens old new x y (input, rest, text, halt, consumed, is_text, part) =
-    (input, rest, text, verdict_of halt, consumed, inr (halt, (opens, is_text), refl), part)
+module _ {W : Type 0} {state : W → SinkState} (plan : Plan) (choosers : ℕ) (opens : CanOpen choosers plan) {old new : SourceState} {told ended : W} where
+  pub bus_answers : (r : Result Verdict Fault) → HasEndedSo plan old new (state told) (state ended) r
+      → (IsErrOf r TooLong → PassesLimits plan_limits old new)
+      → (IsErrOf r Device → HasFailed old.failures new.failures ⊎ HasFailed (state told).failures (state ended).failures)
+      → AnswersInPieces (IsRunText plan choosers) plan_limits old new state told ended r
+  bus_answers (Ok verdict) (ran, limits) long device = record {
+    written = (ran.input, ran.text, ran.consumed, ran.end, bus_text plan choosers opens old new (state told) (state ended) verdict ran, ran.written);
+    limits = limits;
+    long = long;
+    device = device;
+    cut = tt;
+  }
+  bus_answers (Err fault) cut long device = record {
+    written = tt;
+    limits = tt;
+    long = long;
+    device = device;
+    cut = inr (cut.input, cut.rest, cut.text, verdict_of cut.halt, cut.consumed, inr (cut.halt, (opens, cut.is_text), refl), cut.part);
+  }
+
+pub bus_whole : (plan : Plan) (choosers : ℕ) → CanOpen choosers plan → (old new : SourceState) (x y : SinkState) (r : Result Verdict Fault)
+    → HasEndedSo plan old new x y r
+    → IfOk r (λ verdict. (all : List ℕ) → old.left ≡ Some all → (text : List ℕ) × IsRunText plan choosers all text verdict × Appends x.taken y.taken text)
+bus_whole plan choosers opens old new x y (Ok verdict) (ran, limits) = whole_text plan choosers opens old new x y verdict ran
+bus_whole plan choosers opens old new x y (Err fault) cut = tt
 
 -- ---- a plan that has no bus
 
-module _ (plan : Plan) (choosers : ℕ) (error : BusError) (refused : IsNotOpened choosers plan error) (old x y : Option (List ℕ))
-    (r : Result Verdict Fault) where
-  refusal_of : (bytes text : List ℕ) (verdict : Verdict) → IsPlanRefusal plan error text → verdict ≡ Refused → IsRunText plan choosers bytes text verdict
-  refusal_of bytes text verdict line is = inl ((error, refused, line), is)
+module _ (plan : Plan) (choosers : ℕ) (error : BusError) (refused : IsNotOpened choosers plan error) where
+  refusal_of : (bytes text : List ℕ) (verdict : Verdict) → IsRefusedBy plan error text verdict → IsRunText plan choosers bytes text verdict
+  refusal_of bytes text verdict (line, is) = inl ((error, refused, line), is)
 
-  pub refused_text : IfOk r (λ verdict. verdict ≡ Refused) → OnOk r ((text : List ℕ) × IsPlanRefusal plan error text × Appends x y text)
-      → IfOk r (λ verdict. (input : List ℕ) × (text : List ℕ) × Consumes old old input × (verdict ≡ Done → IsAtEnd old)
-      × IsRunText plan choosers input text verdict × Appends x y text)
-  refused_text judged written =
-      both r (λ verdict. verdict ≡ Refused) _ _ judged written
-      (λ verdict is (text, line, appended). ([], text, none_read old, (λ done. cc (sym is ∙ done)), refusal_of [] text verdict line is, appended))
+  pub refused_answers : {W : Type 0} {state : W → SinkState} {old : SourceState} {told ended : W} (r : Result Verdict Fault)
+      → PutsText (IsRefusedBy plan error) state told ended r → AnswersInPieces (IsRunText plan choosers) plan_limits old old state told ended r
+  refused_answers r puts = put_unread r (λ text verdict is. (refusal_of [] text verdict is, λ done. cc (done, is.1))) puts
 
-  pub refused_whole : IfOk r (λ verdict. verdict ≡ Refused) → OnOk r ((text : List ℕ) × IsPlanRefusal plan error text × Appends x y text)
-      → IfOk r (λ verdict. (all : List ℕ) → old ≡ Some all → (text : List ℕ) × IsRunText plan choosers all text verdict × Appends x y text)
-  refused_whole judged written =
-      both r (λ verdict. verdict ≡ Refused) _ _ judged written
-      (λ verdict is (text, line, appended) all known. (text, refusal_of all text verdict line is, appended))
-
-  pub refused_cut : {P : Type 0} → (IsErrOf r Memory → P) → (IsErrOf r Device → (text : List ℕ) × IsPlanRefusal plan error text × AppendsPart x y text)
-      → r ≢ Err TooLong
-      → OnErr r (P ⊎ ((input : List ℕ) × (rest : List ℕ) × (text : List ℕ) × (verdict : Verdict) × Consumes old old (input ++ rest)
-      × IsRunText plan choosers input text verdict × AppendsPart x y text))
-  refused_cut same part fits =
-      by_fault r _ (λ is. inl (same is))
-      (λ is. let (text, line, some) = part is in inr ([], [], text, Refused, none_read old, refusal_of [] text Refused line refl, some)) fits
+  pub refused_whole : {W : Type 0} {state : W → SinkState} {told ended : W} (left : Option (List ℕ)) (r : Result Verdict Fault)
+      → PutsText (IsRefusedBy plan error) state told ended r
+      → IfOk r (λ verdict. (all : List ℕ) → left ≡ Some all → (text : List ℕ) × IsRunText plan choosers all text verdict
+      × Appends (state told).taken (state ended).taken text)
+  refused_whole left r puts =
+      IfOk-weaker r _ _ (λ verdict (text, is, put) all known. (text, refusal_of all text verdict is, put)) puts.written

@@ -37,6 +37,10 @@ IsPlanRefusal plan (SameName i j) text = text ≡ units_text (codes "refused pla
 IsPlanRefusal plan (BadGroup g) text = text ≡ group_text (codes "refused plan BadGroup ") plan g ++ 10 ∷ []
 IsPlanRefusal plan Memory text = ⊥
 
+-- with the verdict
+abbrev pub IsRefusedBy : Plan → BusError → List ℕ → Verdict → Type 0
+IsRefusedBy plan error text verdict = IsPlanRefusal plan error text × (verdict ≡ Refused)
+
 abbrev pub IsRefusedPlan : Plan → ℕ → List ℕ → Type 0
 IsRefusedPlan plan choosers text = (error : BusError) × IsNotOpened choosers plan error × IsPlanRefusal plan error text
 

@@ -1,12 +1,12 @@
 //! The end of a run.
-ghost use Rattle.std.specs.Prelude.{◌≡◌, ◌≢◌, ◌⊎◌, ◌++◌, ℕ, List, Option, Err, IfErr, IfOk, IsErrOf, OnOk, length};
-ghost use Rattle.std.specs.Io.KnownBytes.{Appends};
+ghost use Rattle.std.specs.Prelude.{◌≡◌, ◌⊎◌, ◌++◌, Err, IfErr, IsErrOf, OnOk, length};
 ghost use Rattle.j39_bus.specs.Stands.{Stands};
 ghost use Rattle.j39_world.specs.World.{World};
-ghost use Rattle.j39_run.specs.RunText.{closing_text, verdict_of};
+ghost use Rattle.j39_run.specs.RunText.{closing_text};
 ghost use Rattle.j39_run.specs.Views.{Shows, View};
-ghost use Rattle.j39_run.specs.inside.Ending.{EndsSo, HasEndedSo};
-ghost use Rattle.j39_stream.specs.Streams.{AppendsPart, HasFailed};
+ghost use Rattle.j39_run.specs.inside.Ending.{EndsSo, HasEndedSo, IsClosing};
+ghost use Rattle.j39_stream.specs.Commands.{PutsText};
+ghost use Rattle.j39_stream.specs.Streams.{HasFailed, SinkState, SourceState};
 
 use crate::halt::Halt;
 use crate::run_lines::{settled_line, write_halt, write_reports, write_units};
@@ -43,14 +43,7 @@ fn put_closing<W: Sink>(
     sink: &mut W,
 ) -> Result<Verdict, Fault>
     requires { length bus.now.units ≡ length plan.now.units.items }
-    ensures verdict { IfOk result (λ verdict. verdict ≡ verdict_of halt) }
-    ensures ok { OnOk result ((view : View) × Appends (W.taken sink.old) (W.taken sink.new) (text.old ++ closing_text plan.now view halt)
-        × ((w : World) → Stands bus.now plan.now w → Shows plan.now w view)) }
-    ensures cut { IsErrOf result Fault.Device → (view : View) × AppendsPart (W.taken sink.old) (W.taken sink.new) (text.old ++ closing_text plan.now view halt)
-        × ((w : World) → Stands bus.now plan.now w → Shows plan.now w view) }
-    ensures memory { IsErrOf result Fault.Memory → sink.new ≡ sink.old }
-    ensures device { IsErrOf result Fault.Device → HasFailed (W.failures sink.old) (W.failures sink.new) }
-    ensures fits { result ≢ Err Fault.TooLong }
+    ensures { PutsText (IsClosing plan.now bus.now halt text.old) W.state sink.old sink.new result }
 {
     write_closing(text, plan, bus, halt)?;
     put_all(sink, text.as_slice())?;
@@ -66,12 +59,12 @@ pub fn close<W: Sink>(
     sink: &mut W,
 ) -> Result<Verdict, Fault>
     requires { OnOk end (length bus.now.units ≡ length plan.now.units.items) }
-    ensures ends { (first now : Option (List ℕ)) (first_pulls pulls : ℕ) (first_taken : Option (List ℕ))
-        → EndsSo plan.now bus.now text.old first now first_pulls pulls first_taken (W.taken sink.old) end
-        → HasEndedSo plan.now first now first_pulls pulls first_taken (W.taken sink.new) result }
+    ensures ends { (first now : SourceState) (told : SinkState)
+        → EndsSo plan.now bus.now text.old first now told (W.state sink.old) end
+        → HasEndedSo plan.now first now told (W.state sink.new) result }
     ensures fault { IfErr end (λ fault. (result ≡ Err fault) × (sink.new ≡ sink.old)) }
     ensures long { IsErrOf result Fault.TooLong → end ≡ Err Fault.TooLong }
-    ensures device { IsErrOf result Fault.Device → (end ≡ Err Fault.Device) ⊎ HasFailed (W.failures sink.old) (W.failures sink.new) }
+    ensures device { IsErrOf result Fault.Device → (end ≡ Err Fault.Device) ⊎ HasFailed (W.state sink.old).failures (W.state sink.new).failures }
 {
     put_closing(text, plan, bus, end?, sink)
 }

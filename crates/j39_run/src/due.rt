@@ -1,9 +1,9 @@
 //! What a run does next.
-ghost use Rattle.std.specs.Prelude.{◌≡◌, ◌⊎◌, ◌<◌, ℕ, List, Option, IfOk, IsErrOf, OnErr, OnOk};
+ghost use Rattle.std.specs.Prelude.{◌≡◌, ◌⊎◌, ◌<◌, IfOk, IsErrOf, OnErr, OnOk};
 ghost use Rattle.j39_findings.specs.declared.steps.Step.{Step as Steps};
 ghost use Rattle.j39_bus.specs.BusState.{BusState};
 ghost use Rattle.j39_schedule.specs.UnitIndexes.{IsIndexOf};
-ghost use Rattle.j39_stream.specs.Streams.{HasFailed, PassesLimits, plan_limits};
+ghost use Rattle.j39_stream.specs.Streams.{HasFailed, PassesLimits, SinkState, SourceState, plan_limits};
 ghost use Rattle.j39_run.specs.inside.Ending.{CutOff, GoesOnTo, IsAtBegin, IsRunning, Of};
 ghost use Rattle.j39_run.specs.inside.Feeding.{to_do};
 
@@ -39,21 +39,21 @@ pub fn next_due<S: Source, W: Sink>(
     sink: &mut W,
 ) -> Result<Due, Fault>
     requires indexed { IsIndexOf plan.now index.now }
-    requires running { (b : BusState) × (first : Option (List ℕ)) × (pulls : ℕ) × (taken : Option (List ℕ))
-        × IsRunning plan.now b place.old text.old feed.old first (S.left source.old) pulls (S.pulls source.old) taken (W.taken sink.old) }
-    ensures goes { IfOk result (λ due. Of plan.now place.old text.old feed.old (S.left source.old) (S.pulls source.old) (W.taken sink.old)
-        (λ b first pulls taken. GoesOnTo plan.now b place.new text.new feed.new first (S.left source.new) pulls (S.pulls source.new)
-        taken (W.taken sink.new) due)) }
+    requires running { (b : BusState) × (first : SourceState) × (told : SinkState)
+        × IsRunning plan.now b place.old text.old feed.old first (S.state source.old) told (W.state sink.old) }
+    ensures goes { IfOk result (λ due. Of plan.now place.old text.old feed.old (S.state source.old) (W.state sink.old)
+        (λ b first told. GoesOnTo plan.now b place.new text.new feed.new first (S.state source.new)
+        told (W.state sink.new) due)) }
     ensures shorter { IfOk result (λ due. (step : Steps) → due ≡ Due.Step step → to_do feed.new < to_do feed.old) }
-    ensures calm { OnOk result ((S.failures source.new ≡ S.failures source.old) × (W.failures sink.new ≡ W.failures sink.old)) }
-    ensures long { IsErrOf result Fault.TooLong → Of plan.now place.old text.old feed.old (S.left source.old) (S.pulls source.old) (W.taken sink.old)
-        (λ b first pulls taken. PassesLimits plan_limits first (S.left source.new) pulls (S.pulls source.new)) }
-    ensures memory { IsErrOf result Fault.Memory → Of plan.now place.old text.old feed.old (S.left source.old) (S.pulls source.old) (W.taken sink.old)
-        (λ b first pulls taken. IsAtBegin plan.now place.new first (S.left source.new) pulls (S.pulls source.new)) }
-    ensures device { IsErrOf result Fault.Device → HasFailed (S.failures source.old) (S.failures source.new)
-        ⊎ HasFailed (W.failures sink.old) (W.failures sink.new) }
-    ensures cut { OnErr result (Of plan.now place.old text.old feed.old (S.left source.old) (S.pulls source.old) (W.taken sink.old)
-        (λ b first pulls taken. CutOff plan.now first (S.left source.new) taken (W.taken sink.new))) }
+    ensures calm { OnOk result (((S.state source.new).failures ≡ (S.state source.old).failures) × ((W.state sink.new).failures ≡ (W.state sink.old).failures)) }
+    ensures long { IsErrOf result Fault.TooLong → Of plan.now place.old text.old feed.old (S.state source.old) (W.state sink.old)
+        (λ b first told. PassesLimits plan_limits first (S.state source.new)) }
+    ensures memory { IsErrOf result Fault.Memory → Of plan.now place.old text.old feed.old (S.state source.old) (W.state sink.old)
+        (λ b first told. IsAtBegin plan.now place.new first (S.state source.new)) }
+    ensures device { IsErrOf result Fault.Device → HasFailed (S.state source.old).failures (S.state source.new).failures
+        ⊎ HasFailed (W.state sink.old).failures (W.state sink.new).failures }
+    ensures cut { OnErr result (Of plan.now place.old text.old feed.old (S.state source.old) (W.state sink.old)
+        (λ b first told. CutOff plan.now first (S.state source.new) told (W.state sink.new))) }
 {
     loop {
         match feed.next(alloc, index, plan)? {

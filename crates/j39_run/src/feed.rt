@@ -3,7 +3,7 @@ ghost use Rattle.std.specs.Prelude.{◌≡◌, ◌≢◌, ◌<◌, ◌≤◌, �
 ghost use Rattle.std.specs.Io.KnownBytes.{Consumes};
 ghost use Rattle.j39_id.specs.Lines.{Line};
 ghost use Rattle.j39_schedule.specs.UnitIndexes.{IsIndexOf};
-ghost use Rattle.j39_stream.specs.Streams.{HasFailed, PassesLimits, plan_limits};
+ghost use Rattle.j39_stream.specs.Streams.{HasFailed, PassesLimits, SourceState, plan_limits};
 ghost use Rattle.j39_run.specs.inside.Feeding.{Comes, IsFed, IsShorter, MeetsBegin, to_do, unfed};
 
 use crate::next::{Next, next_of};
@@ -69,17 +69,17 @@ impl Feed {
     pub fn read_on<S: Source>(&mut self, source: &mut S) -> Result<(), Fault>
         requires unread { self.old.unread ≡ [] }
         requires going { self.old.ended ≡ false }
-        ensures fed { OnOk result ((first : Option (List ℕ)) (pulls : ℕ) (seen : List ℕ) (ls : List Line)
-            → IsFed first (S.left source.old) pulls (S.pulls source.old) self.old seen ls
-            → IsFed first (S.left source.new) pulls (S.pulls source.new) self.new seen ls) }
+        ensures fed { OnOk result ((first : SourceState) (seen : List ℕ) (ls : List Line)
+            → IsFed first (S.state source.old) self.old seen ls
+            → IsFed first (S.state source.new) self.new seen ls) }
         ensures shorter { OnOk result (to_do self.new < to_do self.old) }
-        ensures long { IsErrOf result Fault.TooLong → (first : Option (List ℕ)) (pulls : ℕ) (seen : List ℕ) (ls : List Line)
-            → IsFed first (S.left source.old) pulls (S.pulls source.old) self.old seen ls
-            → PassesLimits plan_limits first (S.left source.new) pulls (S.pulls source.new) }
-        ensures kept { (first : Option (List ℕ)) (text : List ℕ) → Consumes first (S.left source.old) text
-            → (more : List ℕ) × Consumes first (S.left source.new) (text ++ more) }
-        ensures device { IsErrOf result Fault.Device → HasFailed (S.failures source.old) (S.failures source.new) }
-        ensures calm { result ≢ Err Fault.Device → S.failures source.new ≡ S.failures source.old }
+        ensures long { IsErrOf result Fault.TooLong → (first : SourceState) (seen : List ℕ) (ls : List Line)
+            → IsFed first (S.state source.old) self.old seen ls
+            → PassesLimits plan_limits first (S.state source.new) }
+        ensures kept { (first : Option (List ℕ)) (text : List ℕ) → Consumes first (S.state source.old).left text
+            → (more : List ℕ) × Consumes first (S.state source.new).left (text ++ more) }
+        ensures device { IsErrOf result Fault.Device → HasFailed (S.state source.old).failures (S.state source.new).failures }
+        ensures calm { result ≢ Err Fault.Device → (S.state source.new).failures ≡ (S.state source.old).failures }
         ensures no_memory { result ≢ Err Fault.Memory }
     {
         let count = self.intake.pull(source, &mut self.piece)?;
@@ -93,12 +93,12 @@ impl Feed {
     fn last(&mut self, alloc: Global, index: &UnitIndex, plan: &Plan) -> Result<Next, AllocError>
         requires indexed { IsIndexOf plan.now index.now }
         requires ended { self.old.ended ≡ true }
-        ensures comes { IfOk result (λ next. (first now : Option (List ℕ)) (first_pulls pulls : ℕ) (seen : List ℕ) (ls : List Line)
-            → IsFed first now first_pulls pulls self.old seen ls
-            → Comes plan.now next first now first_pulls pulls self.new seen ls) }
+        ensures comes { IfOk result (λ next. (first now : SourceState) (seen : List ℕ) (ls : List Line)
+            → IsFed first now self.old seen ls
+            → Comes plan.now next first now self.new seen ls) }
         ensures shorter { IfOk result (λ next. IsShorter next self.old self.new) }
-        ensures memory { OnErr result ((first now : Option (List ℕ)) (first_pulls pulls : ℕ) (seen : List ℕ) (ls : List Line)
-            → IsFed first now first_pulls pulls self.old seen ls → MeetsBegin plan.now first now first_pulls pulls seen ls) }
+        ensures memory { OnErr result ((first now : SourceState) (seen : List ℕ) (ls : List Line)
+            → IsFed first now self.old seen ls → MeetsBegin plan.now first now seen ls) }
     {
         let cut = self.cutter.end();
         match next_of(alloc, index, plan, cut, self.cutter.line())? {
@@ -115,12 +115,12 @@ impl Feed {
         plan: &Plan,
     ) -> Result<Next, AllocError>
         requires { IsIndexOf plan.now index.now }
-        ensures comes { IfOk result (λ next. (first now : Option (List ℕ)) (first_pulls pulls : ℕ) (seen : List ℕ) (ls : List Line)
-            → IsFed first now first_pulls pulls self.old seen ls
-            → Comes plan.now next first now first_pulls pulls self.new seen ls) }
+        ensures comes { IfOk result (λ next. (first now : SourceState) (seen : List ℕ) (ls : List Line)
+            → IsFed first now self.old seen ls
+            → Comes plan.now next first now self.new seen ls) }
         ensures shorter { IfOk result (λ next. IsShorter next self.old self.new) }
-        ensures memory { OnErr result ((first now : Option (List ℕ)) (first_pulls pulls : ℕ) (seen : List ℕ) (ls : List Line)
-            → IsFed first now first_pulls pulls self.old seen ls → MeetsBegin plan.now first now first_pulls pulls seen ls) }
+        ensures memory { OnErr result ((first now : SourceState) (seen : List ℕ) (ls : List Line)
+            → IsFed first now self.old seen ls → MeetsBegin plan.now first now seen ls) }
     {
         if self.ended {
             return self.last(alloc, index, plan);

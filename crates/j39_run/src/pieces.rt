@@ -2,7 +2,7 @@
 ghost use Rattle.std.specs.Prelude.{◌≡◌, ◌≢◌, ◌⊎◌, ◌<◌, ◌++◌, ℕ, List, Option, [], false, Err, IsErrOf, OnErr, OnOk};
 ghost use Rattle.std.specs.Io.KnownBytes.{Appends, Consumes};
 ghost use Rattle.j39_id.specs.Lines.{Line};
-ghost use Rattle.j39_stream.specs.Streams.{AppendsPart, HasFailed, PassesLimits, plan_limits};
+ghost use Rattle.j39_stream.specs.Streams.{AppendsPart, HasFailed, PassesLimits, SourceState, plan_limits};
 ghost use Rattle.j39_run.specs.inside.Feeding.{IsFed, to_do};
 
 use crate::feed::Feed;
@@ -18,22 +18,22 @@ pub fn next_piece<S: Source, W: Sink>(
 ) -> Result<(), Fault>
     requires unread { feed.old.unread ≡ [] }
     requires going { feed.old.ended ≡ false }
-    ensures fed { OnOk result ((first : Option (List ℕ)) (pulls : ℕ) (seen : List ℕ) (ls : List Line)
-        → IsFed first (S.left source.old) pulls (S.pulls source.old) feed.old seen ls
-        → IsFed first (S.left source.new) pulls (S.pulls source.new) feed.new seen ls) }
+    ensures fed { OnOk result ((first : SourceState) (seen : List ℕ) (ls : List Line)
+        → IsFed first (S.state source.old) feed.old seen ls
+        → IsFed first (S.state source.new) feed.new seen ls) }
     ensures shorter { OnOk result (to_do feed.new < to_do feed.old) }
-    ensures put { OnOk result (Appends (W.taken sink.old) (W.taken sink.new) text.old) }
+    ensures put { OnOk result (Appends (W.state sink.old).taken (W.state sink.new).taken text.old) }
     ensures empty { OnOk result (text.new ≡ []) }
-    ensures calm { OnOk result ((S.failures source.new ≡ S.failures source.old) × (W.failures sink.new ≡ W.failures sink.old)) }
-    ensures long { IsErrOf result Fault.TooLong → (first : Option (List ℕ)) (pulls : ℕ) (seen : List ℕ) (ls : List Line)
-        → IsFed first (S.left source.old) pulls (S.pulls source.old) feed.old seen ls
-        → PassesLimits plan_limits first (S.left source.new) pulls (S.pulls source.new) }
-    ensures device { IsErrOf result Fault.Device → HasFailed (S.failures source.old) (S.failures source.new)
-        ⊎ HasFailed (W.failures sink.old) (W.failures sink.new) }
+    ensures calm { OnOk result (((S.state source.new).failures ≡ (S.state source.old).failures) × ((W.state sink.new).failures ≡ (W.state sink.old).failures)) }
+    ensures long { IsErrOf result Fault.TooLong → (first : SourceState) (seen : List ℕ) (ls : List Line)
+        → IsFed first (S.state source.old) feed.old seen ls
+        → PassesLimits plan_limits first (S.state source.new) }
+    ensures device { IsErrOf result Fault.Device → HasFailed (S.state source.old).failures (S.state source.new).failures
+        ⊎ HasFailed (W.state sink.old).failures (W.state sink.new).failures }
     ensures no_memory { result ≢ Err Fault.Memory }
-    ensures kept { OnErr result ((first : Option (List ℕ)) (text : List ℕ) → Consumes first (S.left source.old) text
-        → (more : List ℕ) × Consumes first (S.left source.new) (text ++ more)) }
-    ensures cut { OnErr result (AppendsPart (W.taken sink.old) (W.taken sink.new) text.old) }
+    ensures kept { OnErr result ((first : Option (List ℕ)) (text : List ℕ) → Consumes first (S.state source.old).left text
+        → (more : List ℕ) × Consumes first (S.state source.new).left (text ++ more)) }
+    ensures cut { OnErr result (AppendsPart (W.state sink.old).taken (W.state sink.new).taken text.old) }
 {
     put_text(sink, text)?;
     feed.read_on(source)

@@ -1,8 +1,9 @@
 //! The run command with the choosers that a plan names.
-ghost use Rattle.std.specs.Prelude.{◌≡◌, ◌⊎◌, ◌++◌, ℕ, List, length, IfOk, IsErrOf, OnErr, OnOk, Some};
-ghost use Rattle.std.specs.Io.KnownBytes.{Appends, Consumes, IsAtEnd};
+ghost use Rattle.std.specs.Prelude.{◌≡◌, ℕ, List, length, IfOk, Some};
+ghost use Rattle.std.specs.Io.KnownBytes.{Appends};
 ghost use Rattle.j39_run.specs.RunText.{IsRunText};
-ghost use Rattle.j39_stream.specs.Streams.{AppendsPart, HasFailed, KeepsLimits, PassesLimits, plan_limits};
+ghost use Rattle.j39_stream.specs.Commands.{AnswersInPieces};
+ghost use Rattle.j39_stream.specs.Streams.{plan_limits};
 
 use crate::run_text;
 use j39_claim::{Choose, Lowest, Upward};
@@ -17,24 +18,12 @@ pub fn run_planned<S: Source, W: Sink>(
     source: &mut S,
     sink: &mut W,
 ) -> Result<Verdict, Fault>
-    ensures written { IfOk result (λ verdict. (input : List ℕ) × (text : List ℕ)
-        × Consumes (S.left source.old) (S.left source.new) input × (verdict ≡ Verdict.Done → IsAtEnd (S.left source.new))
-        × IsRunText plan.now (length plan.now.units.items) input text verdict × Appends (W.taken sink.old) (W.taken sink.new) text) }
+    ensures answers { AnswersInPieces (IsRunText plan.now (length plan.now.units.items)) plan_limits (S.state source.old) (S.state source.new)
+        W.state sink.old sink.new result }
 
     // The text is that of all that the source had left at the call, however much of it was read.
-    ensures whole { IfOk result (λ verdict. (all : List ℕ) → S.left source.old ≡ Some all → (text : List ℕ)
-        × IsRunText plan.now (length plan.now.units.items) all text verdict × Appends (W.taken sink.old) (W.taken sink.new) text) }
-    ensures limits { OnOk result (KeepsLimits plan_limits (S.left source.old) (S.left source.new) (S.pulls source.old) (S.pulls source.new)) }
-    ensures long { IsErrOf result Fault.TooLong → PassesLimits plan_limits (S.left source.old) (S.left source.new) (S.pulls source.old) (S.pulls source.new) }
-
-    // A call of the source or of the sink failed.
-    ensures device { IsErrOf result Fault.Device → HasFailed (S.failures source.old) (S.failures source.new)
-        ⊎ HasFailed (W.failures sink.old) (W.failures sink.new) }
-
-    // What was written is then a prefix of what a schedule asks for that begins like this one.
-    ensures cut { OnErr result ((sink.new ≡ sink.old) ⊎ ((input : List ℕ) × (rest : List ℕ) × (text : List ℕ) × (verdict : Verdict)
-        × Consumes (S.left source.old) (S.left source.new) (input ++ rest)
-        × IsRunText plan.now (length plan.now.units.items) input text verdict × AppendsPart (W.taken sink.old) (W.taken sink.new) text)) }
+    ensures whole { IfOk result (λ verdict. (all : List ℕ) → (S.state source.old).left ≡ Some all → (text : List ℕ)
+        × IsRunText plan.now (length plan.now.units.items) all text verdict × Appends (W.state sink.old).taken (W.state sink.new).taken text) }
 {
     let mut choosers: Vec<Box<dyn Choose>> = Vec::with_capacity(alloc, plan.units.len())?;
     for unit in &plan.units {

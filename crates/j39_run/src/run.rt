@@ -1,8 +1,9 @@
 //! What the run command writes.
-ghost use Rattle.std.specs.Prelude.{◌≡◌, ◌≢◌, ◌⊎◌, ◌++◌, ℕ, List, length, Err, IfOk, IsErrOf, OnErr, OnOk, Some};
-ghost use Rattle.std.specs.Io.KnownBytes.{Appends, Consumes, IsAtEnd};
-ghost use Rattle.j39_run.specs.RunText.{IsPlanRefusal, IsRunText};
-ghost use Rattle.j39_stream.specs.Streams.{AppendsPart, HasFailed, KeepsLimits, PassesLimits, plan_limits};
+ghost use Rattle.std.specs.Prelude.{◌≡◌, ℕ, List, length, IfOk, Some};
+ghost use Rattle.std.specs.Io.KnownBytes.{Appends};
+ghost use Rattle.j39_run.specs.RunText.{IsRefusedBy, IsRunText};
+ghost use Rattle.j39_stream.specs.Commands.{AnswersInPieces, PutsText};
+ghost use Rattle.j39_stream.specs.Streams.{plan_limits};
 
 use crate::refusal::plan_refusal;
 use crate::running::run_bus;
@@ -20,12 +21,7 @@ fn refuse<W: Sink>(
     error: BusError,
     sink: &mut W,
 ) -> Result<Verdict, Fault>
-    ensures verdict { IfOk result (λ verdict. verdict ≡ Verdict.Refused) }
-    ensures ok { OnOk result ((text : List ℕ) × IsPlanRefusal plan.now error text × Appends (W.taken sink.old) (W.taken sink.new) text) }
-    ensures cut { IsErrOf result Fault.Device → (text : List ℕ) × IsPlanRefusal plan.now error text × AppendsPart (W.taken sink.old) (W.taken sink.new) text }
-    ensures memory { IsErrOf result Fault.Memory → sink.new ≡ sink.old }
-    ensures device { IsErrOf result Fault.Device → HasFailed (W.failures sink.old) (W.failures sink.new) }
-    ensures fits { result ≢ Err Fault.TooLong }
+    ensures { PutsText (IsRefusedBy plan.now error) W.state sink.old sink.new result }
 {
     let text = plan_refusal(alloc, plan, error)?;
     put_all(sink, text.as_slice())?;
@@ -43,24 +39,12 @@ pub fn run_text<S: Source, W: Sink>(
     source: &mut S,
     sink: &mut W,
 ) -> Result<Verdict, Fault>
-    ensures written { IfOk result (λ verdict. (input : List ℕ) × (text : List ℕ)
-        × Consumes (S.left source.old) (S.left source.new) input × (verdict ≡ Verdict.Done → IsAtEnd (S.left source.new))
-        × IsRunText plan.now (length choosers.items) input text verdict × Appends (W.taken sink.old) (W.taken sink.new) text) }
+    ensures answers { AnswersInPieces (IsRunText plan.now (length choosers.items)) plan_limits (S.state source.old) (S.state source.new)
+        W.state sink.old sink.new result }
 
     // The text is that of all that the source had left at the call, however much of it was read.
-    ensures whole { IfOk result (λ verdict. (all : List ℕ) → S.left source.old ≡ Some all → (text : List ℕ)
-        × IsRunText plan.now (length choosers.items) all text verdict × Appends (W.taken sink.old) (W.taken sink.new) text) }
-    ensures limits { OnOk result (KeepsLimits plan_limits (S.left source.old) (S.left source.new) (S.pulls source.old) (S.pulls source.new)) }
-    ensures long { IsErrOf result Fault.TooLong → PassesLimits plan_limits (S.left source.old) (S.left source.new) (S.pulls source.old) (S.pulls source.new) }
-
-    // A call of the source or of the sink failed.
-    ensures device { IsErrOf result Fault.Device → HasFailed (S.failures source.old) (S.failures source.new)
-        ⊎ HasFailed (W.failures sink.old) (W.failures sink.new) }
-
-    // What was written is then a prefix of what a schedule asks for that begins like this one.
-    ensures cut { OnErr result ((sink.new ≡ sink.old) ⊎ ((input : List ℕ) × (rest : List ℕ) × (text : List ℕ) × (verdict : Verdict)
-        × Consumes (S.left source.old) (S.left source.new) (input ++ rest)
-        × IsRunText plan.now (length choosers.items) input text verdict × AppendsPart (W.taken sink.old) (W.taken sink.new) text)) }
+    ensures whole { IfOk result (λ verdict. (all : List ℕ) → (S.state source.old).left ≡ Some all → (text : List ℕ)
+        × IsRunText plan.now (length choosers.items) all text verdict × Appends (W.state sink.old).taken (W.state sink.new).taken text) }
 {
     let index = UnitIndex::new(alloc, plan)?;
     match Bus::new(alloc, plan, choosers) {

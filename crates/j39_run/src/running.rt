@@ -43,11 +43,10 @@ pub fn run_bus<S: Source, W: Sink>(
 ) -> Result<Verdict, Fault>
     requires indexed { IsIndexOf plan.now index.now }
     requires stands { Stands bus plan.now all_off }
-    ensures ends { HasEndedSo plan.now (S.left source.old) (S.left source.new) (S.pulls source.old) (S.pulls source.new)
-        (W.taken sink.old) (W.taken sink.new) result }
-    ensures long { IsErrOf result Fault.TooLong → PassesLimits plan_limits (S.left source.old) (S.left source.new) (S.pulls source.old) (S.pulls source.new) }
-    ensures device { IsErrOf result Fault.Device → HasFailed (S.failures source.old) (S.failures source.new)
-        ⊎ HasFailed (W.failures sink.old) (W.failures sink.new) }
+    ensures ends { HasEndedSo plan.now (S.state source.old) (S.state source.new) (W.state sink.old) (W.state sink.new) result }
+    ensures long { IsErrOf result Fault.TooLong → PassesLimits plan_limits (S.state source.old) (S.state source.new) }
+    ensures device { IsErrOf result Fault.Device → HasFailed (S.state source.old).failures (S.state source.new).failures
+        ⊎ HasFailed (W.state sink.old).failures (W.state sink.new).failures }
 {
     let mut bus = bus;
     let mut feed = Feed::new();

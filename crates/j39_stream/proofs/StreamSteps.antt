@@ -6,7 +6,7 @@ use Rattle.std.proofs.lemmas.Bool.{cases_lt, lt-ltb, ne_eqb}
 use Rattle.std.proofs.Math.Seq.{take-add}
 use Rattle.std.proofs.KnownBytes.{Appends-trans, Consumes-trans}
 use Rattle.std.specs.Io.KnownBytes.{Appends, Consumes}
-use Rattle.j39_stream.specs.Streams.{one_more, after_calls, after_put, HasFailed, KeepsLimits, PassesLimits}
+use Rattle.j39_stream.specs.Streams.{one_more, after_calls, after_put, HasFailed, KeepsLimits, PassesLimits, SourceState}
 use Rattle.j39_stream.specs.declared.limits.Limits.{Limits}
 use Rattle.j39_stream.specs.declared.failed.Failed.{Failed}
 
@@ -63,14 +63,14 @@ nothing_more a b c text buffer n none p q =
     subst (Consumes a c) (append-nil text) (Consumes-trans a b c text [] p q')
 
 -- the limits are kept where the end is told
-pub kept_limits : (limits : Limits) (a b : Option (List ℕ)) (text : List ℕ) (old count new calls : ℕ) → Consumes a b text → length text ≤ limits.bytes
-    → calls < limits.calls → count ≡ after_calls old calls → new ≡ one_more count → KeepsLimits limits a b old new
-kept_limits limits a b text old count new calls p within fewer before now = (text, p, within, (calls + 1, omega arith, now ∙ calls_more old count calls before))
+pub kept_limits : (limits : Limits) (a b : SourceState) (text : List ℕ) (count calls : ℕ) → Consumes a.left b.left text → length text ≤ limits.bytes
+    → calls < limits.calls → count ≡ after_calls a.pulls calls → b.pulls ≡ one_more count → KeepsLimits limits a b
+kept_limits limits a b text count calls p within fewer before now = (text, p, within, (calls + 1, omega arith, now ∙ calls_more a.pulls count calls before))
 
 -- a piece that passes the limit
-pub passed_limit : (limits : Limits) (a b c : Option (List ℕ)) (text buffer : List ℕ) (bytes n old new : ℕ) → n ≤ length buffer → bytes ≡ length text
-    → limits.bytes - bytes < n → Consumes a b text → Consumes b c (take n buffer) → PassesLimits limits a c old new
-passed_limit limits a b c text buffer bytes n old new some are passes p q =
+pub passed_limit : (limits : Limits) (a b c : SourceState) (text buffer : List ℕ) (bytes n : ℕ) → n ≤ length buffer → bytes ≡ length text
+    → limits.bytes - bytes < n → Consumes a.left b.left text → Consumes b.left c.left (take n buffer) → PassesLimits limits a c
+passed_limit limits a b c text buffer bytes n some are passes p q =
     let count = length-take-le n buffer some in
     let sum = length-append text (take n buffer) in
-    (text ++ take n buffer, Consumes-trans a b c text (take n buffer) p q, inl (omega arith))
+    (text ++ take n buffer, Consumes-trans a.left b.left c.left text (take n buffer) p q, inl (omega arith))

@@ -1,3 +1,4 @@
+pub mod Commands
 pub mod Intakes
 pub mod Streams
 pub mod Tape

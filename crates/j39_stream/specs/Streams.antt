@@ -6,6 +6,17 @@ use Rattle.std.specs.Io.KnownBytes.{Appends, Consumes}
 use Rattle.j39_stream.specs.declared.failed.Failed.{Failed}
 use Rattle.j39_stream.specs.declared.limits.Limits.{Limits}
 
+-- what is seen of a source: the bytes that are left, where they are known, how many calls were made, and how many of them failed
+pub record SourceState : Type 0 where
+  pub left : Option (List ℕ)
+  pub pulls : ℕ
+  pub failures : ℕ
+
+-- what is seen of a sink: the bytes that were taken, where they are known, and how many calls failed
+pub record SinkState : Type 0 where
+  pub taken : Option (List ℕ)
+  pub failures : ℕ
+
 -- a count after n more calls: it grows up to the largest number of 64 bits
 abbrev pub after_calls : ℕ → ℕ → ℕ
 after_calls count n = max count (min (count + n) (2 ^ 64 - 1))
@@ -44,10 +55,10 @@ abbrev pub log_limits : Limits
 log_limits = record { bytes = 2 ^ 62; calls = 2 ^ 62 }
 
 -- what a source gave between these, in the calls that were counted, keeps the limits
-abbrev pub KeepsLimits : Limits → Option (List ℕ) → Option (List ℕ) → ℕ → ℕ → Type 0
-KeepsLimits limits old new old_pulls new_pulls =
-    (bytes : List ℕ) × Consumes old new bytes × (length bytes ≤ limits.bytes)
-    × ((n : ℕ) × (n ≤ limits.calls) × (new_pulls ≡ after_calls old_pulls n))
+abbrev pub KeepsLimits : Limits → SourceState → SourceState → Type 0
+KeepsLimits limits old new =
+    (bytes : List ℕ) × Consumes old.left new.left bytes × (length bytes ≤ limits.bytes)
+    × ((n : ℕ) × (n ≤ limits.calls) × (new.pulls ≡ after_calls old.pulls n))
 
 -- more bytes came than the limit, or all the calls were made and each of them gave a byte
 abbrev pub IsTooLong : Limits → List ℕ → ℕ → ℕ → Type 0
@@ -55,6 +66,5 @@ IsTooLong limits bytes old_pulls new_pulls =
     (limits.bytes < length bytes) ⊎ ((limits.calls ≤ length bytes) × (new_pulls ≡ after_calls old_pulls limits.calls))
 
 -- it passes them
-abbrev pub PassesLimits : Limits → Option (List ℕ) → Option (List ℕ) → ℕ → ℕ → Type 0
-PassesLimits limits old new old_pulls new_pulls =
-    (bytes : List ℕ) × Consumes old new bytes × IsTooLong limits bytes old_pulls new_pulls
+abbrev pub PassesLimits : Limits → SourceState → SourceState → Type 0
+PassesLimits limits old new = (bytes : List ℕ) × Consumes old.left new.left bytes × IsTooLong limits bytes old.pulls new.pulls

@@ -27,11 +27,7 @@ impl<R: Read> FromRead<R> {
 }
 
 impl<R: Read> Source for FromRead<R> {
-    ghost left = { λ s. R.remaining s.inner };
-
-    ghost pulls = { λ s. s.pulls };
-
-    ghost failures = { λ s. s.failures };
+    ghost state = { λ s. record { left = R.remaining s.inner; pulls = s.pulls; failures = s.failures } };
 
     fn pull(&mut self, buffer: &mut [u8]) -> Result<usize, Failed> {
         self.pulls = self.pulls.saturating_add(1);

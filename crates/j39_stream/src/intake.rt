@@ -3,7 +3,7 @@ ghost use Rattle.std.specs.Prelude.{◌≡◌, ◌≢◌, ◌<◌, ◌≤◌, �
 ghost use Rattle.std.specs.Io.KnownBytes.{Consumes, IsAtEnd};
 ghost use Rattle.j39_stream.specs.Intakes.{HasRead, no_counts};
 ghost use Rattle.j39_stream.specs.declared.limits.Limits.{Limits as SomeLimits};
-ghost use Rattle.j39_stream.specs.Streams.{HasFailed, KeepsLimits, PassesLimits};
+ghost use Rattle.j39_stream.specs.Streams.{HasFailed, KeepsLimits, PassesLimits, SourceState};
 
 use crate::{Fault, Limits, Source};
 use std::marker::Model;
@@ -45,23 +45,23 @@ impl Intake {
     pub fn pull<S: Source>(&mut self, source: &mut S, piece: &mut [u8]) -> Result<usize, Fault>
         requires { 0 < length piece.old }
         ensures count { IfOk result (λ n. n ≤ length piece.old) }
-        ensures more { IfOk result (λ n. (limits : SomeLimits) (first : Option (List ℕ)) (pulls : ℕ) (text : List ℕ)
-            → HasRead limits first (S.left source.old) pulls (S.pulls source.old) self.old text
-            → 0 < n → HasRead limits first (S.left source.new) pulls (S.pulls source.new) self.new (text ++ take n piece.new)) }
+        ensures more { IfOk result (λ n. (limits : SomeLimits) (first : SourceState) (text : List ℕ)
+            → HasRead limits first (S.state source.old) self.old text
+            → 0 < n → HasRead limits first (S.state source.new) self.new (text ++ take n piece.new)) }
         ensures fewer { OnOk result (self.old.calls < self.new.calls × self.new.calls ≤ self.new.limits.calls) }
         ensures same { self.new.limits ≡ self.old.limits }
-        ensures end { IfOk result (λ n. n ≡ 0 → IsAtEnd (S.left source.new)) }
-        ensures last { IfOk result (λ n. (limits : SomeLimits) (first : Option (List ℕ)) (pulls : ℕ) (text : List ℕ)
-            → HasRead limits first (S.left source.old) pulls (S.pulls source.old) self.old text
-            → n ≡ 0 → Consumes first (S.left source.new) text × KeepsLimits limits first (S.left source.new) pulls (S.pulls source.new)) }
-        ensures long { IsErrOf result Fault.TooLong → (limits : SomeLimits) (first : Option (List ℕ)) (pulls : ℕ) (text : List ℕ)
-            → HasRead limits first (S.left source.old) pulls (S.pulls source.old) self.old text → PassesLimits limits first (S.left source.new) pulls (S.pulls source.new) }
+        ensures end { IfOk result (λ n. n ≡ 0 → IsAtEnd (S.state source.new).left) }
+        ensures last { IfOk result (λ n. (limits : SomeLimits) (first : SourceState) (text : List ℕ)
+            → HasRead limits first (S.state source.old) self.old text
+            → n ≡ 0 → Consumes first.left (S.state source.new).left text × KeepsLimits limits first (S.state source.new)) }
+        ensures long { IsErrOf result Fault.TooLong → (limits : SomeLimits) (first : SourceState) (text : List ℕ)
+            → HasRead limits first (S.state source.old) self.old text → PassesLimits limits first (S.state source.new) }
 
         // What was read before is read still, whatever the answer.
-        ensures kept { (first : Option (List ℕ)) (text : List ℕ) → Consumes first (S.left source.old) text
-            → (more : List ℕ) × Consumes first (S.left source.new) (text ++ more) }
-        ensures device { IsErrOf result Fault.Device → HasFailed (S.failures source.old) (S.failures source.new) }
-        ensures calm { result ≢ Err Fault.Device → S.failures source.new ≡ S.failures source.old }
+        ensures kept { (first : Option (List ℕ)) (text : List ℕ) → Consumes first (S.state source.old).left text
+            → (more : List ℕ) × Consumes first (S.state source.new).left (text ++ more) }
+        ensures device { IsErrOf result Fault.Device → HasFailed (S.state source.old).failures (S.state source.new).failures }
+        ensures calm { result ≢ Err Fault.Device → (S.state source.new).failures ≡ (S.state source.old).failures }
         ensures no_memory { result ≢ Err Fault.Memory }
     {
         if self.calls == self.limits.calls {

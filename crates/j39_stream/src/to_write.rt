@@ -37,9 +37,7 @@ impl<W: Write> ToWrite<W> {
 }
 
 impl<W: Write> Sink for ToWrite<W> {
-    ghost taken = { λ s. W.contents s.inner };
-
-    ghost failures = { λ s. s.failures };
+    ghost state = { λ s. record { taken = W.contents s.inner; failures = s.failures } };
 
     fn put(&mut self, bytes: &[u8]) -> Result<usize, Failed> {
         match self.inner.write(bytes) {

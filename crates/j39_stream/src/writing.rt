@@ -7,10 +7,10 @@ use crate::{Fault, Sink};
 
 /// Writes all of the bytes. Where a call fails or takes nothing, the bytes before it stay written.
 pub fn put_all<W: Sink>(sink: &mut W, bytes: &[u8]) -> Result<(), Fault>
-    ensures ok { OnOk result (Appends (W.taken sink.old) (W.taken sink.new) bytes.now) }
-    ensures cut { OnErr result (AppendsPart (W.taken sink.old) (W.taken sink.new) bytes.now) }
-    ensures whole { OnOk result (W.failures sink.new ≡ W.failures sink.old) }
-    ensures device { IfErr result (λ fault. (fault ≡ Fault.Device) × HasFailed (W.failures sink.old) (W.failures sink.new)) }
+    ensures ok { OnOk result (Appends (W.state sink.old).taken (W.state sink.new).taken bytes.now) }
+    ensures cut { OnErr result (AppendsPart (W.state sink.old).taken (W.state sink.new).taken bytes.now) }
+    ensures whole { OnOk result ((W.state sink.new).failures ≡ (W.state sink.old).failures) }
+    ensures device { IfErr result (λ fault. (fault ≡ Fault.Device) × HasFailed (W.state sink.old).failures (W.state sink.new).failures) }
 {
     let mut done = 0;
     while done < bytes.len() {

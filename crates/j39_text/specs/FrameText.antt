@@ -2,12 +2,14 @@
 use Rattle.std.specs.Prelude.{◌≡◌, ℕ, Bool, ◌==◌, ◌||◌, ◌&&◌, length, if◌then◌else◌, List, [], ◌∷◌, ◌++◌, codes, decimal}
 use Rattle.std.specs.Int.{w64, to_be_bytes}
 use Rattle.hex.specs.Hex.{encode_upper}
+use Rattle.std.specs.List.{before_first}
 use Rattle.j39_id.specs.Addresses.{global_address, is_address, null_address}
 use Rattle.j39_id.specs.Ident.{pgn_of}
 use Rattle.j39_id.specs.Name.{fields_of, name_of_bytes}
 use Rattle.j39_id.specs.Pgn.{is_pdu2, number_of_bytes}
 use Rattle.j39_id.specs.Services.{address_claimed, request}
 use Rattle.j39_id.specs.FrameLine.{Spells, HasLineFault, canon}
+use Rattle.j39_id.specs.Lines.{is_line_feed}
 use Rattle.j39_id.specs.declared.name_fields.NameFields.{NameFields}
 use Rattle.j39_id.specs.declared.ident.Ident.{Ident}
 use Rattle.j39_id.specs.declared.frame.Frame.{Frame}
@@ -120,6 +122,10 @@ IsFrameText line text Done = (f : Frame) × Spells line f × (text ≡ frame_lin
 IsFrameText line text Unreadable = (e : LineError) × HasLineFault line e × (text ≡ refused_frame_line e)
 IsFrameText line text Findings = ⊥
 IsFrameText line text Refused = ⊥
+
+-- what is written for an input: of its first line
+abbrev pub IsInputText : List ℕ → List ℕ → Verdict → Type 0
+IsInputText input text verdict = IsFrameText (before_first is_line_feed input) text verdict
 
 -- ---- a law
 

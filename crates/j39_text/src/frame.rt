@@ -1,8 +1,7 @@
 //! What the frame command writes.
-ghost use Rattle.std.specs.Prelude.{◌≡◌, ◌≢◌, ℕ, List, ◌++◌, IfOk, IsErrOf, OnOk, Err};
-ghost use Rattle.std.specs.Io.KnownBytes.{Appends};
+ghost use Rattle.std.specs.Prelude.{◌≡◌, ◌++◌, IfOk, OnOk};
 ghost use Rattle.j39_text.specs.FrameText.{IsFrameText, frame_lines as lines_of, head_lines as heads_of, refused_frame_line as line_of};
-ghost use Rattle.j39_stream.specs.Streams.{AppendsPart, HasFailed};
+ghost use Rattle.j39_stream.specs.Commands.{PutsText};
 
 mod meaning;
 mod name;
@@ -68,20 +67,10 @@ fn line_text(alloc: Global, line: &[u8]) -> Result<(TextBuffer, Verdict), AllocE
 /// Writes the frame that the line spells, with its route and what it says of a NAME or a request, or why the line is
 /// refused. Where a call of the sink fails, what was written is a prefix of that.
 pub fn frame_text<W: Sink>(alloc: Global, line: &[u8], sink: &mut W) -> Result<Verdict, Fault>
-    ensures written { IfOk result (λ verdict. (text : List ℕ) × IsFrameText line.now text verdict
-        × Appends (W.taken sink.old) (W.taken sink.new) text) }
-    ensures memory { IsErrOf result Fault.Memory → sink.new ≡ sink.old }
-    ensures cut { IsErrOf result Fault.Device → (text : List ℕ) × (verdict : Verdict)
-        × IsFrameText line.now text verdict × AppendsPart (W.taken sink.old) (W.taken sink.new) text }
-    ensures device { IsErrOf result Fault.Device → HasFailed (W.failures sink.old) (W.failures sink.new) }
-    ensures calm { IfOk result (λ _. W.failures sink.new ≡ W.failures sink.old) }
-    ensures only { result ≢ Err Fault.TooLong }
+    ensures puts { PutsText (IsFrameText line.now) W.state sink.old sink.new result }
+    ensures calm { IfOk result (λ _. (W.state sink.new).failures ≡ (W.state sink.old).failures) }
 {
-    let Ok((text, verdict)) = line_text(alloc, line) else {
-        return Err(Fault::Memory);
-    };
-    match put_all(sink, text.as_slice()) {
-        Ok(()) => Ok(verdict),
-        Err(fault) => Err(fault),
-    }
+    let (text, verdict) = line_text(alloc, line)?;
+    put_all(sink, text.as_slice())?;
+    Ok(verdict)
 }

@@ -8,11 +8,11 @@ use j39_stream::{Fault, Sink, put_all};
 
 /// Puts what is to be written, and empties it.
 pub fn put_text<W: Sink>(sink: &mut W, text: &mut TextBuffer) -> Result<(), Fault>
-    ensures ok { OnOk result (Appends (W.taken sink.old) (W.taken sink.new) text.old) }
+    ensures ok { OnOk result (Appends (W.state sink.old).taken (W.state sink.new).taken text.old) }
     ensures empty { OnOk result (text.new ≡ []) }
-    ensures cut { OnErr result (AppendsPart (W.taken sink.old) (W.taken sink.new) text.old) }
-    ensures whole { OnOk result (W.failures sink.new ≡ W.failures sink.old) }
-    ensures device { IfErr result (λ fault. (fault ≡ Fault.Device) × HasFailed (W.failures sink.old) (W.failures sink.new)) }
+    ensures cut { OnErr result (AppendsPart (W.state sink.old).taken (W.state sink.new).taken text.old) }
+    ensures whole { OnOk result ((W.state sink.new).failures ≡ (W.state sink.old).failures) }
+    ensures device { IfErr result (λ fault. (fault ≡ Fault.Device) × HasFailed (W.state sink.old).failures (W.state sink.new).failures) }
 {
     put_all(sink, text.as_slice())?;
     text.clear();

@@ -9,7 +9,7 @@ use Rattle.j39_findings.specs.declared.plan.Plan.{Plan}
 use Rattle.j39_log.specs.inside.Listening.{AreAllInRange, IsInRange}
 use Rattle.j39_tp.specs.declared.packet.Packet.{Packet}
 use Rattle.j39_follow.specs.FollowReports.{IsMessageReport, IsNotice}
-use Rattle.j39_follow.specs.FollowText.{AreUnitLines, IsFollowedAs, IsPacketReport, FollowedPast, FollowsLines, follow_counts_line, flow_ends, frames_seen, group_ends, in_frame, nothing_followed}
+use Rattle.j39_follow.specs.FollowText.{IsFollowedAs, IsPacketReport, FollowedPast, FollowsLines, follow_counts_line, flow_ends, frames_seen, group_ends, in_frame, nothing_followed}
 use Rattle.j39_follow.specs.declared.message.Sort.{Sort}
 use Rattle.j39_follow.specs.declared.reading.Reading.{Reading}
 use Rattle.j39_follow.specs.inside.FrameWriting.{IsFrameWritten, frames_with}
@@ -103,12 +103,3 @@ abbrev pub behind_reports : Plan → FollowedPast → List ℕ → List ℕ
 behind_reports plan past units =
     flow_ends plan past.sent 0 plan.flows.items ++ (group_ends plan past.sent 0 plan.groups.items
     ++ (units ++ follow_counts_line (length past.seen) past.skipped past.bad past.elsewhere))
-
--- the text of these lines, with what is written at the end
-pub record HasFollowedToEnd (plan : Plan) (told : List Line) (text : List ℕ) : Type 0 where
-  pub past : FollowedPast
-  pub reports : List ℕ
-  pub units : List ℕ
-  pub read : FollowsLines plan nothing_followed told past reports
-  pub units_are : AreUnitLines (frames_seen past.seen) plan.units.items units
-  pub text_is : text ≡ reports ++ behind_reports plan past units

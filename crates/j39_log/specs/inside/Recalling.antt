@@ -1,7 +1,7 @@
 -- What a reading keeps of what came so far.
 use Rattle.std.specs.Prelude.{◌≡◌, ◌+◌, ℕ, List, ◌++◌, length}
 use Rattle.j39_log.specs.inside.Listening.{AreAllInRange, HaveHeard}
-use Rattle.j39_log.specs.ReadText.{Past, ReadsLines, count_line, nothing_yet}
+use Rattle.j39_log.specs.ReadText.{Past, ReadsLines, nothing_yet}
 use Rattle.j39_id.specs.Lines.{Line}
 use Rattle.j39_findings.specs.declared.plan.Plan.{Plan}
 use Rattle.j39_log.specs.declared.log_reading.Reading.{Reading}
@@ -25,10 +25,3 @@ pub record HasReadLines (plan : Plan) (told : List Line) (reading : Reading) (wr
   pub read : ReadsLines plan nothing_yet told past reports
   pub recalls : Recalls reading past
   pub text_is : reports ≡ written ++ reading.text
-
--- the text of these lines, with the line of counts
-pub record HasWritten (plan : Plan) (told : List Line) (text : List ℕ) : Type 0 where
-  pub past : Past
-  pub reports : List ℕ
-  pub read : ReadsLines plan nothing_yet told past reports
-  pub text_is : text ≡ reports ++ count_line past

@@ -1,12 +1,12 @@
 -- A schedule as it is read: what of it came, and which of its lines were told.
-use Rattle.std.specs.Prelude.{◌≡◌, ◌⊎◌, ⊤, ℕ, ◌+◌, ◌*◌, ◌-◌, ◌<◌, ◌≤◌, Bool, true, false, List, [], ◌∷◌, ◌++◌, length, Option, Some, None, Err}
+use Rattle.std.specs.Prelude.{◌≡◌, ◌⊎◌, ⊤, ℕ, ◌+◌, ◌*◌, ◌-◌, ◌<◌, ◌≤◌, Bool, true, false, List, [], ◌∷◌, ◌++◌, length, Some, None, Err}
 use Rattle.std.specs.Io.KnownBytes.{Consumes, IsAtEnd}
 use Rattle.j39_id.specs.Lines.{Line, Pending, at_start, behind_all, lines, told, told_at_end}
 use Rattle.j39_findings.specs.declared.plan.Plan.{Plan}
 use Rattle.j39_schedule.specs.Schedule.{line_order, read_as}
 use Rattle.j39_schedule.specs.Scheduling.{OrdersBegin}
 use Rattle.j39_stream.specs.Intakes.{Counts, HasRead, no_counts}
-use Rattle.j39_stream.specs.Streams.{KeepsLimits, plan_limits}
+use Rattle.j39_stream.specs.Streams.{KeepsLimits, SourceState, plan_limits}
 use Rattle.j39_run.specs.declared.next.Next.{Next}
 use Rattle.j39_run.specs.declared.next.Next.TheVariants.{Wait, More, Blank, Step as AStep, Refused, End}
 
@@ -23,8 +23,8 @@ unfed = record { counts = no_counts plan_limits; unread = []; pending = at_start
 -- ---- between a source as it was first and as it is now
 
 -- this much of the schedule is told, by these lines; what is unread came behind it
-pub record IsReading (first now : Option (List ℕ)) (first_pulls pulls : ℕ) (f : Feeding) (seen : List ℕ) (ls : List Line) : Type 0 where
-  pub read : HasRead plan_limits first now first_pulls pulls f.counts (seen ++ f.unread)
+pub record IsReading (first now : SourceState) (f : Feeding) (seen : List ℕ) (ls : List Line) : Type 0 where
+  pub read : HasRead plan_limits first now f.counts (seen ++ f.unread)
   pub calls : f.counts.calls ≤ f.counts.limits.calls
   pub pending_is : f.pending ≡ behind_all at_start seen
   pub told_is : ls ≡ told at_start seen
@@ -34,19 +34,19 @@ abbrev pub IsEnding : Pending → List ℕ → List Line → Type 0
 IsEnding p seen ls = ((ls ≡ told at_start seen) × (p ≡ behind_all at_start seen)) ⊎ ((ls ≡ lines seen) × (p ≡ at_start))
 
 -- this is the whole schedule, and these lines were told of it
-pub record HasEnded (first now : Option (List ℕ)) (first_pulls pulls : ℕ) (f : Feeding) (seen : List ℕ) (ls : List Line) : Type 0 where
-  pub consumed : Consumes first now seen
-  pub end : IsAtEnd now
-  pub limits : KeepsLimits plan_limits first now first_pulls pulls
+pub record HasEnded (first now : SourceState) (f : Feeding) (seen : List ℕ) (ls : List Line) : Type 0 where
+  pub consumed : Consumes first.left now.left seen
+  pub end : IsAtEnd now.left
+  pub limits : KeepsLimits plan_limits first now
   pub within : length seen ≤ plan_limits.bytes
   pub told_is : IsEnding f.pending seen ls
 
-abbrev pub IsFedSo : Bool → Option (List ℕ) → Option (List ℕ) → ℕ → ℕ → Feeding → List ℕ → List Line → Type 0
-IsFedSo false first now first_pulls pulls f seen ls = IsReading first now first_pulls pulls f seen ls
-IsFedSo true first now first_pulls pulls f seen ls = HasEnded first now first_pulls pulls f seen ls
+abbrev pub IsFedSo : Bool → SourceState → SourceState → Feeding → List ℕ → List Line → Type 0
+IsFedSo false first now f seen ls = IsReading first now f seen ls
+IsFedSo true first now f seen ls = HasEnded first now f seen ls
 
-abbrev pub IsFed : Option (List ℕ) → Option (List ℕ) → ℕ → ℕ → Feeding → List ℕ → List Line → Type 0
-IsFed first now first_pulls pulls f seen ls = IsFedSo f.ended first now first_pulls pulls f seen ls
+abbrev pub IsFed : SourceState → SourceState → Feeding → List ℕ → List Line → Type 0
+IsFed first now f seen ls = IsFedSo f.ended first now f seen ls
 
 -- ---- what comes next
 
@@ -64,26 +64,26 @@ abbrev pub IsBegin : Plan → List Line → Type 0
 IsBegin plan ls = (l : Line) × (ls ≡ l ∷ []) × OrdersBegin (line_order plan l)
 
 -- with what comes next the schedule is told so much further
-pub record TellsFurther (plan : Plan) (next : Next) (first now : Option (List ℕ)) (first_pulls pulls : ℕ) (f : Feeding) (seen : List ℕ)
+pub record TellsFurther (plan : Plan) (next : Next) (first now : SourceState) (f : Feeding) (seen : List ℕ)
     (ls : List Line) : Type 0 where
   pub used : List ℕ
   pub more : List Line
-  pub fed : IsFed first now first_pulls pulls f (seen ++ used) (ls ++ more)
+  pub fed : IsFed first now f (seen ++ used) (ls ++ more)
   pub is : IsReadNext plan next more
 
 -- the line behind these ones orders a Begin; with some more of what came it would be told
-pub record MeetsBegin (plan : Plan) (first now : Option (List ℕ)) (first_pulls pulls : ℕ) (seen : List ℕ) (ls : List Line) : Type 0 where
+pub record MeetsBegin (plan : Plan) (first now : SourceState) (seen : List ℕ) (ls : List Line) : Type 0 where
   pub used : List ℕ
   pub more : List Line
   pub f : Feeding
-  pub fed : IsFed first now first_pulls pulls f (seen ++ used) (ls ++ more)
+  pub fed : IsFed first now f (seen ++ used) (ls ++ more)
   pub begins : IsBegin plan more
 
 -- what comes next of a schedule of which these lines were told
-abbrev pub Comes : Plan → Next → Option (List ℕ) → Option (List ℕ) → ℕ → ℕ → Feeding → List ℕ → List Line → Type 0
-Comes plan Wait first now first_pulls pulls f seen ls = IsFed first now first_pulls pulls f seen ls
-Comes plan End first now first_pulls pulls f seen ls = HasEnded first now first_pulls pulls f seen ls × (ls ≡ lines seen)
-Comes plan next first now first_pulls pulls f seen ls = TellsFurther plan next first now first_pulls pulls f seen ls
+abbrev pub Comes : Plan → Next → SourceState → SourceState → Feeding → List ℕ → List Line → Type 0
+Comes plan Wait first now f seen ls = IsFed first now f seen ls
+Comes plan End first now f seen ls = HasEnded first now f seen ls × (ls ≡ lines seen)
+Comes plan next first now f seen ls = TellsFurther plan next first now f seen ls
 
 -- ---- how much is still to be done, at most
 

@@ -9,11 +9,7 @@ use crate::{Failed, Pieces, Source};
 impl Source for Pieces {
     ghost use Rattle.std.specs.Prelude.{Some};
 
-    ghost left = { λ p. Some p.left };
-
-    ghost pulls = { λ p. p.calls };
-
-    ghost failures = { λ p. p.failures };
+    ghost state = { λ p. record { left = Some p.left; pulls = p.calls; failures = p.failures } };
 
     fn pull(&mut self, buffer: &mut [u8]) -> Result<usize, Failed>
         ensures count { IfOk result (λ n. n ≤ length buffer.old) }

@@ -9,9 +9,7 @@ use crate::{Failed, Pieces, Sink};
 impl Sink for Pieces {
     ghost use Rattle.std.specs.Prelude.{Some};
 
-    ghost taken = { λ p. Some p.taken };
-
-    ghost failures = { λ p. p.failures };
+    ghost state = { λ p. record { taken = Some p.taken; failures = p.failures } };
 
     fn put(&mut self, bytes: &[u8]) -> Result<usize, Failed>
         ensures count { IfOk result (λ n. n ≤ length bytes.now) }

@@ -6,4 +6,4 @@ pub returns-clause-written : goal.returns-clause-written
 returns-clause-written g c =
     IfOk-weaker c.plan_text.result _ _
     (λ plan said. (said.0, said.1, whole_file _ _ _ _ c.in_ok-open.ensures said.2 said.3, said.4, said.5))
-    c.plan_text.ensures.written
+    c.plan_text.ensures.answers.written

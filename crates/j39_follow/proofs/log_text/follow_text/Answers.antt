@@ -1,21 +1,19 @@
-use Rattle.std.proofs.Common.{◌≡◌, [], refl, ◌∙◌, inr}
-use Rattle.j39_log.specs.ReadText.{refused_plan_line}
-use Rattle.j39_stream.specs.declared.verdict.Verdict.TheVariants.{Refused}
-use Rattle.j39_stream.proofs.Parts.{none_read}
-use Rattle.j39_log.proofs.Outcomes.{on_error}
+use Rattle.std.proofs.Common.{[], refl}
+use Rattle.j39_stream.proofs.Answering.{not_begun, put_unread, said_of}
+use Rattle.j39_follow.proofs.LinesRead.{begun, so_far}
 use Rattle.j39_follow.proofs.log_text.follow_text.Goals as goal
 
-pub returns-in_err-put_all-in-Err-BadGroup-clause-cut : goal.returns-in_err-put_all-in-Err-BadGroup-clause-cut
-returns-in_err-put_all-in-Err-BadGroup-clause-cut g c =
+pub read_log-requires-clause-begins : goal.read_log-requires-clause-begins
+read_log-requires-clause-begins g c =
+    so_far c.args.plan.now [] c.new-in-Ok.result [] (begun c.args.plan.now c.new-in-Ok.result c.new-in-Ok.ensures.text c.new-in-Ok.ensures.past)
+
+pub returns-in-Ok : goal.returns-in-Ok
+returns-in-Ok g c = said_of c.read_log.result (λ log text verdict is. rw is.1 (c.in-Ok.ensures.readable, is.0)) c.read_log.ensures
+
+pub returns-in-Err-Memory : goal.returns-in-Err-Memory
+returns-in-Err-Memory g c = not_begun _ refl
+
+pub returns-in-Err-BadGroup : goal.returns-in-Err-BadGroup
+returns-in-Err-BadGroup g c =
     let first = rw c.in-Err-BadGroup.field-0-is at c.in-Err-BadGroup.ensures.refused in
-    let line : c.as_slice.result.now ≡ refused_plan_line c.args.plan.now c.in-Err-BadGroup.group = c.as_slice.ensures ∙ c.in-Ok-refusal.ensures in
-    on_error c.from_residual.result _
-    (inr (
-      [],
-      [],
-      c.as_slice.result.now,
-      Refused,
-      none_read (g.S.Source.left c.args.source.now),
-      (c.in-Err-BadGroup.group, first, line, refl),
-      c.in_err-put_all-in-Err-BadGroup.ensures.cut,
-    ))
+    put_unread c.refuse.result (λ text verdict is. rw is.1 ((c.in-Err-BadGroup.group, first, is.0, refl), λ done. cc done)) c.refuse.ensures

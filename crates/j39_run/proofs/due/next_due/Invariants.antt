@@ -5,12 +5,11 @@ use Rattle.j39_run.proofs.due.next_due.Given as goal
 
 abbrev pub invariant-loop-feed : goal.invariant-loop-feed
 invariant-loop-feed g l = record {
-  running : Of l.plan l.fn.place l.fn.text l.fn.feed (g.S.Source.left l.fn.source) (g.S.Source.pulls l.fn.source) (g.W.Sink.taken l.fn.sink)
-      (λ b first pulls taken. IsRunning l.plan b l.place l.text l.feed first (g.S.Source.left l.source) pulls (g.S.Source.pulls l.source)
-      taken (g.W.Sink.taken l.sink));
+  running : Of l.plan l.fn.place l.fn.text l.fn.feed (g.S.Source.state l.fn.source) (g.W.Sink.state l.fn.sink)
+      (λ b first told. IsRunning l.plan b l.place l.text l.feed first (g.S.Source.state l.source) told (g.W.Sink.state l.sink));
   shorter : to_do l.feed ≤ to_do l.fn.feed;
-  read : g.S.Source.failures l.source ≡ g.S.Source.failures l.fn.source;
-  put : g.W.Sink.failures l.sink ≡ g.W.Sink.failures l.fn.sink;
+  read : (g.S.Source.state l.source).failures ≡ (g.S.Source.state l.fn.source).failures;
+  put : (g.W.Sink.state l.sink).failures ≡ (g.W.Sink.state l.fn.sink).failures;
 }
 
 abbrev pub decreases-loop-feed : goal.decreases-loop-feed

@@ -10,17 +10,17 @@ on_ok (Ok x) A fine a = a
 on_ok (Err e) A fine a = cc
 
 pub loop-fault-init : goal.loop-fault-init
-loop-fault-init g c = record { running = started _ _ _ _ _ _ _ c.requires.stands c.new-feed.ensures c.new-text.ensures; read = refl; put = refl }
+loop-fault-init g c = record { running = started _ _ _ _ _ _ c.requires.stands c.new-feed.ensures c.new-text.ensures; read = refl; put = refl }
 
 pub overflow_add-place : goal.overflow_add-place
 overflow_add-place g c =
-    let due : IsDue _ _ _ _ _ _ _ _ _ _ _ c.in-Step.step = rw c.in-Step.is at (c.in-Ok.ensures.goes _ _ _ _ c.loop-fault.invariant.running) in
+    let due : IsDue _ _ _ _ _ _ _ _ _ c.in-Step.step = rw c.in-Step.is at (c.in-Ok.ensures.goes _ _ _ c.loop-fault.invariant.running) in
     let few = due.few in
     omega (arith, few)
 
 pub loop-fault-preserved-else-is_err : goal.loop-fault-preserved-else-is_err
 loop-fault-preserved-else-is_err g c =
-    let due : IsDue _ _ _ _ _ _ _ _ _ _ _ c.in-Step.step = rw c.in-Step.is at (c.in-Ok.ensures.goes _ _ _ _ c.loop-fault.invariant.running) in
+    let due : IsDue _ _ _ _ _ _ _ _ _ c.in-Step.step = rw c.in-Step.is at (c.in-Ok.ensures.goes _ _ _ c.loop-fault.invariant.running) in
     record {
       running = due.done _ _
           (has_stepped c.in-Step.step _ _ _ _ c.frames-shown.result.now c.frames.result.now _ c.in_default.ensures.ok c.frames-shown.ensures
@@ -32,7 +32,7 @@ loop-fault-preserved-else-is_err g c =
 
 pub loop-fault-preserved : goal.loop-fault-preserved
 loop-fault-preserved g c =
-    let due : IsDue _ _ _ _ _ _ _ _ _ _ _ c.in-Step.step = rw c.in-Step.is at (c.in-Ok.ensures.goes _ _ _ _ c.loop-fault.invariant.running) in
+    let due : IsDue _ _ _ _ _ _ _ _ _ c.in-Step.step = rw c.in-Step.is at (c.in-Ok.ensures.goes _ _ _ c.loop-fault.invariant.running) in
     record {
       running = due.done _ _
           (has_stepped c.in-Step.step _ _ _ _ c.frames-shown.result.now c.frames.result.now _ c.in_default.ensures.ok c.frames-shown.ensures
@@ -45,28 +45,28 @@ loop-fault-preserved g c =
 pub returns-clause-ends : goal.returns-clause-ends
 returns-clause-ends g c =
     let running = c.loop-fault.invariant.running in
-    let ends : EndsSo c.args.plan.now c.match-next_due.bus c.match-next_due.text (g.S.Source.left c.args.source.now) (g.S.Source.left c.next_due.new.source)
-    (g.S.Source.pulls c.args.source.now) (g.S.Source.pulls c.next_due.new.source) (g.W.Sink.taken c.args.sink.now) (g.W.Sink.taken c.next_due.new.sink)
+    let ends : EndsSo c.args.plan.now c.match-next_due.bus c.match-next_due.text (g.S.Source.state c.args.source.now) (g.S.Source.state c.next_due.new.source) (g.W.Sink.state c.args.sink.now)
+    (g.W.Sink.state c.next_due.new.sink)
     c.match-next_due.end =
     elim c.match-next_due.branch [
-      | in-Err w ↦ rw w.end-is (w.in-Err.ensures.cut _ _ _ _ running)
-      | in-Ok+in-Halt w ↦ rw (w.end-is, w.bus-is, w.text-is) (rw w.in-Halt.is at (w.in-Ok.ensures.goes _ _ _ _ running))
+      | in-Err w ↦ rw w.end-is (w.in-Err.ensures.cut _ _ _ running)
+      | in-Ok+in-Halt w ↦ rw (w.end-is, w.bus-is, w.text-is) (rw w.in-Halt.is at (w.in-Ok.ensures.goes _ _ _ running))
       | in-Ok+in-Step+in-Err-step w ↦
-          let due : IsDue _ _ _ _ _ _ _ _ _ _ _ w.in-Step.step = rw w.in-Step.is at (w.in-Ok.ensures.goes _ _ _ _ running) in
+          let due : IsDue _ _ _ _ _ _ _ _ _ w.in-Step.step = rw w.in-Step.is at (w.in-Ok.ensures.goes _ _ _ running) in
           rw (w.end-is, w.bus-is, w.text-is)
           (refused_ends due w.step.new.self w.in-Err-step.error w.refused_at-end.result w.in-Err-step.ensures.same w.in-Err-step.ensures.refused
           w.refused_at-end.ensures.halt w.refused_at-end.ensures.cause)
       | in-Ok+in-Step+in_default+then-is_err w ↦
-          let due : IsDue _ _ _ _ _ _ _ _ _ _ _ w.in-Step.step = rw w.in-Step.is at (w.in-Ok.ensures.goes _ _ _ _ running) in
+          let due : IsDue _ _ _ _ _ _ _ _ _ w.in-Step.step = rw w.in-Step.is at (w.in-Ok.ensures.goes _ _ _ running) in
           rw w.end-is due.cut
     ] in
-    c.close.ensures.ends _ _ _ _ _ ends
+    c.close.ensures.ends _ _ _ ends
 
 pub returns-clause-long : goal.returns-clause-long
 returns-clause-long g c is =
     let long = c.close.ensures.long is in
     elim c.match-next_due.branch [
-      | in-Err w ↦ w.in-Err.ensures.long (cc (sym w.end-is ∙ long)) _ _ _ _ c.loop-fault.invariant.running
+      | in-Err w ↦ w.in-Err.ensures.long (cc (sym w.end-is ∙ long)) _ _ _ c.loop-fault.invariant.running
       | in-Ok+in-Halt w ↦ cc (w.end-is, long)
       | in-Ok+in-Step+in-Err-step w ↦
           let wants = rw (sym w.end-is ∙ long) at w.refused_at-end.ensures.memory in

@@ -5,10 +5,9 @@ use Rattle.j39_run.proofs.running.run_bus.Given as goal
 
 abbrev pub invariant-loop-fault : goal.invariant-loop-fault
 invariant-loop-fault g l = record {
-  running : IsRunning l.plan l.bus l.place l.text l.feed (g.S.Source.left l.fn.source) (g.S.Source.left l.source)
-      (g.S.Source.pulls l.fn.source) (g.S.Source.pulls l.source) (g.W.Sink.taken l.fn.sink) (g.W.Sink.taken l.sink);
-  read : g.S.Source.failures l.source ≡ g.S.Source.failures l.fn.source;
-  put : g.W.Sink.failures l.sink ≡ g.W.Sink.failures l.fn.sink;
+  running : IsRunning l.plan l.bus l.place l.text l.feed (g.S.Source.state l.fn.source) (g.S.Source.state l.source) (g.W.Sink.state l.fn.sink) (g.W.Sink.state l.sink);
+  read : (g.S.Source.state l.source).failures ≡ (g.S.Source.state l.fn.source).failures;
+  put : (g.W.Sink.state l.sink).failures ≡ (g.W.Sink.state l.fn.sink).failures;
 }
 
 abbrev pub decreases-loop-fault : goal.decreases-loop-fault

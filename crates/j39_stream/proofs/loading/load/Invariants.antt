@@ -5,8 +5,8 @@ use Rattle.j39_stream.proofs.loading.load.Given as goal
 
 abbrev pub invariant-loop-input : goal.invariant-loop-input
 invariant-loop-input g l =
-    HasRead plan_limits (g.S.Source.left l.fn.source) (g.S.Source.left l.source) (g.S.Source.pulls l.fn.source) (g.S.Source.pulls l.source) l.intake l.input.items
-    × (g.S.Source.failures l.source ≡ g.S.Source.failures l.fn.source)
+    HasRead plan_limits (g.S.Source.state l.fn.source) (g.S.Source.state l.source) l.intake l.input.items
+    × ((g.S.Source.state l.source).failures ≡ (g.S.Source.state l.fn.source).failures)
 
 abbrev pub decreases-loop-input : goal.decreases-loop-input
 decreases-loop-input g l = plan_limits.calls - l.intake.calls

@@ -17,12 +17,12 @@ returns-clause-comes c =
     ∙ ap told_at_end pending in
     elim c.match-branch-2.branch [
       | in-More w ↦
-          rw w.result-is (λ first now p q seen ls fed.
-          no_last_line c.args.plan.now first now p q c.args.self.now _ seen ls more c.requires.ended c.end-cut.ensures.pending told_last
+          rw w.result-is (λ first now seen ls fed.
+          no_last_line c.args.plan.now first now c.args.self.now _ seen ls more c.requires.ended c.end-cut.ensures.pending told_last
           (subst (λ (n : Next). IsReadNext c.args.plan.now n more) w.in-More.is c.in_ok-next.ensures.is) fed)
       | in_default w ↦
-          rw w.result-is (λ first now p q seen ls fed.
-          last_line c.args.plan.now c.in_ok-next.next first now p q c.args.self.now _ seen ls more c.requires.ended ended c.end-cut.ensures.pending told_last
+          rw w.result-is (λ first now seen ls fed.
+          last_line c.args.plan.now c.in_ok-next.next first now c.args.self.now _ seen ls more c.requires.ended ended c.end-cut.ensures.pending told_last
           c.in_ok-next.ensures.is fed)
     ]
 
@@ -34,4 +34,4 @@ returns-in_err-next-clause-memory c =
     tells_end c.end-cut.result c.self.inside.cutter.pending c.line.result.now c.end-cut.ensures.answer (c.line.ensures ∙ c.end-cut.ensures.line)
     ∙ ap told_at_end pending in
     on_error c.from_residual.result _
-    (λ first now p q seen ls fed. last_begins c.args.plan.now first now p q c.args.self.now seen ls more c.requires.ended told_last c.in_err-next.ensures.memory fed)
+    (λ first now seen ls fed. last_begins c.args.plan.now first now c.args.self.now seen ls more c.requires.ended told_last c.in_err-next.ensures.memory fed)

@@ -8,7 +8,7 @@ use Rattle.j39_run.proofs.Stopping.{on_error}
 use Rattle.j39_run.proofs.feed.Feed.next.Goals as goal
 
 pub returns-clause-comes : goal.returns-clause-comes
-returns-clause-comes c first now p q seen ls fed =
+returns-clause-comes c first now seen ls fed =
     let n : ℕ = c.advance-step.result.used in
     let rest : List ℕ = c.part.result.now in
     let part : List ℕ = take n rest in
@@ -29,7 +29,7 @@ returns-clause-comes c first now p q seen ls fed =
     let inside : n ≤ length (take (to - from) (drop from piece)) = subst (λ (l : List ℕ). n ≤ length l) c.part.ensures c.advance-step.ensures.within in
     let row : old.unread ≡ part ++ take (to - (from + n)) (drop (from + n) piece) =
     sym lies ∙ part_on piece from to n inside ∙ ap (λ (l : List ℕ). take n l ++ take (to - (from + n)) (drop (from + n) piece)) (sym c.part.ensures) in
-    next_part c.args.plan.now c.in_ok-next.next first now p q old _ seen part ls more (sym ended ∙ c.if-self.false) c.if-self.false counts row
+    next_part c.args.plan.now c.in_ok-next.next first now old _ seen part ls more (sym ended ∙ c.if-self.false) c.if-self.false counts row
     (c.advance-step.ensures.pending ∙ ap (λ r. behind_all r part) pending)
     (ap (λ r. told r part) (sym pending) ∙ c.advance-step.ensures.told ∙ ap (tells c.advance-step.result.cut) is)
     c.in_ok-next.ensures.is fed
@@ -56,7 +56,7 @@ returns-in_err-next-clause-memory c =
     let row : old.unread ≡ part ++ take (to - (from + n)) (drop (from + n) piece) =
     sym lies ∙ part_on piece from to n inside ∙ ap (λ (l : List ℕ). take n l ++ take (to - (from + n)) (drop (from + n) piece)) (sym c.part.ensures) in
     on_error c.from_residual.result _
-    (λ first now p q seen ls fed.
-    part_begins c.args.plan.now first now p q old seen part _ ls more (sym ended ∙ c.if-self.false) row
+    (λ first now seen ls fed.
+    part_begins c.args.plan.now first now old seen part _ ls more (sym ended ∙ c.if-self.false) row
     (ap (λ r. told r part) (sym pending) ∙ c.advance-step.ensures.told ∙ ap (tells c.advance-step.result.cut) is)
     c.in_err-next.ensures.memory fed)
