@@ -16,7 +16,7 @@ PARTS = re.compile(r"1/([1-9]\d{0,11})(?: (.*))?")
 EXACT = Context(prec=80)
 
 # How many readings are kept of all scales.
-KEPT = 1 << 17
+KEPT = 1 << 16
 
 # Group and signal.
 Column = tuple[str, str]

@@ -14,24 +14,30 @@ from functools import lru_cache
 from typing import TextIO
 
 import program
-from readings import KEPT, Choice, Reading, Row, Rows
+from readings import Choice, Reading, Row, Rows
 from reports import Counts, follow, is_live, tables_of
 
 HEADS = ("time", "line", "from", "to", "group", "signal", "state", "value", "unit", "detail")
+
+# How many readings are kept as they are written.
+WRITTEN = 1 << 14
 
 # A number as JSON spells it.
 NUMBER = re.compile(r"-?(?:0|[1-9]\d*)(?:\.\d+)?")
 
 
-@lru_cache(maxsize=KEPT)
+@lru_cache(maxsize=WRITTEN)
 def cells_of(reading: Reading) -> str:
     """A reading as cells of a row."""
+    plainly = ",".join(reading)
+    if plainly.count(",") == len(reading) - 1 and '"' not in plainly:
+        return plainly + "\n"
     text = io.StringIO()
     csv.writer(text, lineterminator="\n").writerow(reading)
     return text.getvalue()
 
 
-@lru_cache(maxsize=KEPT)
+@lru_cache(maxsize=WRITTEN)
 def members_of(reading: Reading) -> str:
     """A reading as members of a JSON object. A key is left out where there is nothing to say."""
     there = {key: text for key, text in reading._asdict().items() if text}
@@ -66,7 +72,7 @@ class Lines:
         self._file.write("".join([f'{head}, "signal": "{label}", {members_of(reading)}}}\n' for label, reading in row.readings]))
 
 
-@lru_cache(maxsize=KEPT)
+@lru_cache(maxsize=WRITTEN)
 def quoted(text: str) -> str:
     """A cell of a row."""
     row = io.StringIO()

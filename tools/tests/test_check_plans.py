@@ -32,7 +32,8 @@ class CheckPlans(InFolder):
     def test_its_help_and_its_version(self):
         version = program.call(["--version"])[1].split()[1]
         self.assertEqual(self.status("--version"), (0, f"check-plans (j39plan) {version}\n"))
-        self.assertEqual(self.status("--help"), (0, "usage: check-plans PLAN.. | --help | --version\n"))
+        usage = "usage: check-plans PLAN.. | --help | --version\n"
+        self.assertEqual(self.status("--help"), (0, f"{usage}\nexample: check-plans plans/*.toml\n"))
 
     def test_it_finds_the_program_through_a_link(self):
         os.symlink(os.path.join(TOOLS, "check-plans"), self.path("linked"))
