@@ -1,5 +1,5 @@
 #!/usr/bin/python3
-"""Writes a plan as a DBC, as canmatrix and SavvyCAN read it.
+"""Writes a plan as a DBC, as canmatrix reads it.
 
 Each group is a message for each unit that sends it, and where its identifier has a destination for each unit that it goes to. What
 a DBC can't say is listed on standard error.
