@@ -6,6 +6,7 @@ pub mod Found
 pub mod LabelForm
 pub mod Lengths
 pub mod ListPlaces
+pub mod PlanLimits
 pub mod PlannedGroups
 pub mod PrivateGroups
 pub mod Records

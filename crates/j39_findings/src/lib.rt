@@ -4,6 +4,7 @@
 mod checking;
 mod conflict_run;
 mod laws;
+pub mod limits;
 mod plan;
 mod planned_groups;
 mod records;

@@ -3,6 +3,7 @@ ghost use Rattle.std.specs.Prelude.{◌≡◌, ◌≢◌, ℕ, true, ◌<◌, �
 ghost use Rattle.std.specs.FinSet.{contains};
 ghost use Rattle.j39_id.specs.Addresses.{in_pool};
 ghost use Rattle.j39_id.specs.Limits.{unit_limit};
+ghost use Rattle.j39_findings.specs.PlanLimits.{flow_limit, group_limit};
 ghost use Rattle.j39_findings.specs.declared.plan.to.To.TheVariants.{One};
 
 mod flow_plan;
@@ -38,8 +39,8 @@ pub struct Plan {
     pub flows: Vec<FlowPlan>,
     pub ghost keep_free_range: { (a : ℕ) → contains keep_free a ≡ true → in_pool a ≡ true },
     pub ghost unit_count: { length units.items ≤ unit_limit },
-    pub ghost group_count: { length groups.items ≤ 256 },
-    pub ghost flow_count: { length flows.items ≤ 512 },
+    pub ghost group_count: { length groups.items ≤ group_limit },
+    pub ghost flow_count: { length flows.items ≤ flow_limit },
     pub ghost unit_labels: { AllPairs (λ u w. u.label.bytes ≢ w.label.bytes) units.items },
     pub ghost group_labels: { AllPairs (λ g h. g.label.bytes ≢ h.label.bytes) groups.items },
     pub ghost flow_groups: { All (λ f. f.group < length groups.items) flows.items },

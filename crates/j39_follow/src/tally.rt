@@ -2,6 +2,7 @@
 ghost use Rattle.std.specs.Prelude.{◌≡◌, ◌==◌, ◌+◌, ◌-◌, ◌^◌, ◌<◌, ◌∷◌, ◌++◌, [], ℕ, List, if◌then◌else◌, length, min};
 ghost use Rattle.std.specs.List.{position};
 ghost use Rattle.std.specs.Option.{option_to_list};
+ghost use Rattle.j39_findings.specs.PlanLimits.{flow_limit, group_limit};
 ghost use Rattle.j39_findings.specs.declared.plan.Plan.{Plan as APlan};
 ghost use Rattle.j39_findings.specs.declared.plan.group_plan.GroupPlan.{GroupPlan as APlannedGroup};
 ghost use Rattle.j39_log.specs.inside.Listening.{IsCatalogOf};
@@ -10,19 +11,15 @@ ghost use Rattle.j39_follow.specs.declared.message.Sort.{Sort as ASort};
 
 use crate::message::Sort;
 use j39_findings::Plan;
+use j39_findings::limits::{FLOW_LIMIT, GROUP_LIMIT};
 use j39_log::Catalog;
-
-// The most flows and groups of a plan.
-const FLOWS: usize = 512;
-
-const GROUPS: usize = 256;
 
 /// How often each flow was sent, each group without a flow, and at the first group of a number what else there was of the number.
 #[derive(Drop)]
 pub(crate) struct Tally {
-    flows: [u64; FLOWS],
-    groups: [u64; GROUPS],
-    others: [u64; GROUPS],
+    flows: [u64; FLOW_LIMIT],
+    groups: [u64; GROUP_LIMIT],
+    others: [u64; GROUP_LIMIT],
 }
 
 // One more at a place.
@@ -61,9 +58,9 @@ impl Tally {
         ensures { (plan : APlan) → IsTally plan result [] }
     {
         Tally {
-            flows: [0; FLOWS],
-            groups: [0; GROUPS],
-            others: [0; GROUPS],
+            flows: [0; FLOW_LIMIT],
+            groups: [0; GROUP_LIMIT],
+            others: [0; GROUP_LIMIT],
         }
     }
 
@@ -99,7 +96,7 @@ impl Tally {
 
     /// How often a flow was sent.
     pub fn of_flow(&self, flow: usize) -> u64
-        requires { flow < 512 }
+        requires { flow < flow_limit }
         ensures { result ≡ tally_at self.now.flows flow }
     {
         self.flows[flow]
@@ -107,7 +104,7 @@ impl Tally {
 
     /// How often a group was sent without a flow.
     pub fn of_group(&self, group: usize) -> u64
-        requires { group < 256 }
+        requires { group < group_limit }
         ensures { result ≡ tally_at self.now.groups group }
     {
         self.groups[group]
@@ -115,7 +112,7 @@ impl Tally {
 
     /// How much else there was of the number of a group, at the first group that has it.
     pub fn of_others(&self, group: usize) -> u64
-        requires { group < 256 }
+        requires { group < group_limit }
         ensures { result ≡ tally_at self.now.others group }
     {
         self.others[group]

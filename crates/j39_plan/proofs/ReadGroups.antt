@@ -5,6 +5,7 @@ use Rattle.std.proofs.lemmas.List.{length-map, get_or-map}
 use Rattle.std.proofs.lemmas.List.Elements.{All-cons}
 use Rattle.toml.specs.Data.{Data, Items, no_items, item, Members}
 use Rattle.j39_signal.specs.Parts.{SignalParts}
+use Rattle.j39_findings.specs.PlanLimits.{text_limit}
 use Rattle.j39_findings.specs.declared.plan.text_plan.TextPlan.{TextPlan}
 use Rattle.j39_plan.specs.declared.reading.place.Table.TheVariants as at
 use Rattle.j39_plan.specs.declared.reading.text_kind.TextKind.TheVariants as texts
@@ -44,8 +45,8 @@ signal_texts_told third records = labels_told (IsRead third records) label_in (�
 
 -- ---- texts
 
-pub texts_count : (third : Bool) (ms : Members) → items_count (text_tables_of third ms) ≤ 64
-texts_count true ms = tables_count key.Text 64 ms
+pub texts_count : (third : Bool) (ms : Members) → items_count (text_tables_of third ms) ≤ text_limit
+texts_count true ms = tables_count key.Text text_limit ms
 texts_count false ms = omega arith
 
 -- a text without a fault has a label that neither a signal nor a text before it has

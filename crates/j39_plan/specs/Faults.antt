@@ -4,6 +4,7 @@ use Rattle.std.specs.Option.{option_map_or}
 use Rattle.toml.specs.Data.{Data, Members}
 use Rattle.j39_id.specs.Addresses.{pool_size}
 use Rattle.j39_id.specs.Limits.{unit_limit}
+use Rattle.j39_findings.specs.PlanLimits.{flow_limit, group_limit}
 use Rattle.j39_plan.specs.declared.reading.key.Key.TheVariants as key
 use Rattle.j39_plan.specs.declared.reading.place.Table.TheVariants as at
 use Rattle.j39_plan.specs.declared.reading.fault.Fault.{Fault}
@@ -38,10 +39,10 @@ abbrev pub units_rule : Rule
 units_rule = tables key.Unit unit_limit
 
 abbrev pub groups_rule : Rule
-groups_rule = tables key.Group 256
+groups_rule = tables key.Group group_limit
 
 abbrev pub flows_rule : Rule
-flows_rule = tables key.Flow 512
+flows_rule = tables key.Flow flow_limit
 
 -- the first keys of tables: a plan of the first version keeps no address free
 abbrev pub head_rules : Members → List Rule

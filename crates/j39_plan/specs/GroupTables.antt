@@ -4,6 +4,7 @@ use Rattle.std.specs.Prelude.{◌≡◌, ℕ, List, [], ◌++◌, ◌∷◌, Boo
 use Rattle.std.specs.Option.{option_map_or}
 use Rattle.toml.specs.Data.{Data, Items, no_items, Members, as_table}
 use Rattle.j39_id.specs.Limits.{message_bytes}
+use Rattle.j39_findings.specs.PlanLimits.{signal_limit, text_limit}
 use Rattle.j39_findings.specs.declared.plan.group_plan.GroupPlan.{GroupPlan}
 use Rattle.j39_plan.specs.declared.reading.key.Key.TheVariants as key
 use Rattle.j39_plan.specs.declared.reading.place.Table.TheVariants as at
@@ -36,10 +37,10 @@ abbrev pub every_rule : Rule
 every_rule = optional key.Every 1 255
 
 abbrev pub signal_rule : Rule
-signal_rule = tables key.Signal 64
+signal_rule = tables key.Signal signal_limit
 
 abbrev pub text_rule : Rule
-text_rule = tables key.Text 64
+text_rule = tables key.Text text_limit
 
 -- behind the length, in the third version and in another
 abbrev pub later_rules : Bool → ℕ → List Rule

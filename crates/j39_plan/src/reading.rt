@@ -32,7 +32,7 @@ use flows::Flows;
 use groups::Groups;
 use heads::{head, is_third};
 use j39_findings::Plan;
-use j39_id::limits::UNIT_LIMIT;
+use j39_findings::limits::{FLOW_LIMIT, GROUP_LIMIT, UNIT_LIMIT};
 pub use key::Key;
 pub use place::{Place, Table};
 pub use plan_error::PlanError;
@@ -50,8 +50,8 @@ fn read_top(alloc: Global, members: &toml::Table) -> Result<Plan, PlanError>
     let third = is_third(members);
     let timing = timing(members, third)?;
     let unit_values = array(members, Table::Top, Key::Unit, UNIT_LIMIT)?;
-    let group_values = array(members, Table::Top, Key::Group, 256)?;
-    let flow_values = array(members, Table::Top, Key::Flow, 512)?;
+    let group_values = array(members, Table::Top, Key::Group, GROUP_LIMIT)?;
+    let flow_values = array(members, Table::Top, Key::Flow, FLOW_LIMIT)?;
     let units = read_each(alloc, &Units, unit_values)?;
     let groups = read_each(alloc, &Groups { third }, group_values)?;
     let flows = read_each(

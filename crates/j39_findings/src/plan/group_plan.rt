@@ -4,6 +4,7 @@ ghost use Rattle.std.specs.Option.{ForSome};
 ghost use Rattle.j39_id.specs.Limits.{message_bytes};
 ghost use Rattle.j39_signal.specs.Parts.{IsSignal};
 ghost use Rattle.j39_findings.specs.LabelForm.{is_label};
+ghost use Rattle.j39_findings.specs.PlanLimits.{signal_limit, text_limit};
 
 use super::TextPlan;
 use j39_id::Label;
@@ -38,11 +39,11 @@ pub struct GroupPlan {
     pub ghost most_range: { most ≤ message_bytes },
     pub ghost every_positive: { ForSome every (λ n. 1 ≤ n) },
     pub ghost every_needed: { every ≡ None → All (λ s. s.repeated ≡ false) signals.items },
-    pub ghost signal_count: { count signals.items ≤ 64 },
+    pub ghost signal_count: { count signals.items ≤ signal_limit },
     pub ghost signal_forms: { All (λ s. IsTrue (is_label s.label.bytes)) signals.items },
     pub ghost signal_ranges: { All (λ s. IsSignal s.start s.bits s.step s.offset) signals.items },
     pub ghost signal_labels: { AllPairs (λ s t. s.label.bytes ≢ t.label.bytes) signals.items },
-    pub ghost text_count: { count texts.items ≤ 64 },
+    pub ghost text_count: { count texts.items ≤ text_limit },
     pub ghost text_labels: { AllPairs (λ s t. s.label.bytes ≢ t.label.bytes) texts.items },
     pub ghost other_labels: { All (λ t. All (λ s. s.label.bytes ≢ t.label.bytes) signals.items) texts.items },
 }

@@ -17,6 +17,7 @@ use super::texts::Texts;
 use super::values::{flag, number, optional_number, short_text};
 use super::{Key, PlanError, Table};
 use j39_findings::GroupPlan;
+use j39_findings::limits::{SIGNAL_LIMIT, TEXT_LIMIT};
 use j39_id::limits::MESSAGE_BYTES;
 use std::alloc::Global;
 use toml::Value;
@@ -91,8 +92,8 @@ fn later_keys(
             Some(length),
         )?;
         let every = optional_number(members, table, Key::Every, 1, 255, false)?;
-        let signals = array(members, table, Key::Signal, 64)?;
-        let texts = array(members, table, Key::Text, 64)?;
+        let signals = array(members, table, Key::Signal, SIGNAL_LIMIT)?;
+        let texts = array(members, table, Key::Text, TEXT_LIMIT)?;
         Ok(LaterKeys {
             private,
             most,
@@ -101,7 +102,7 @@ fn later_keys(
             texts,
         })
     } else {
-        let signals = array(members, table, Key::Signal, 64)?;
+        let signals = array(members, table, Key::Signal, SIGNAL_LIMIT)?;
         Ok(LaterKeys {
             private: false,
             most: length,

@@ -1,6 +1,8 @@
 use Rattle.std.proofs.Common.{◌≡◌, [], refl, inr}
 use Rattle.std.proofs.lemmas.Result.{err_from_is_err_and}
 use Rattle.toml.specs.View.{items_view}
+use Rattle.j39_id.specs.Limits.{unit_limit}
+use Rattle.j39_findings.specs.PlanLimits.{flow_limit, group_limit}
 use Rattle.j39_plan.specs.declared.reading.key.Key.TheVariants as key
 use Rattle.j39_plan.specs.Elements.{each_faults, Each}
 use Rattle.j39_plan.specs.Growing.{NeverGrows, EachGrows}
@@ -34,13 +36,13 @@ returns-in_err-flows c =
     (fails_on _ _ c.in_err-flows.field-0.0 _ _ (λ grows. (refl, inr (refl, inr (refl, grows)))) (λ f is. is) fails))
 
 pub invariant_of-result-clause-unit_count : goal.invariant_of-result-clause-unit_count
-invariant_of-result-clause-unit_count c = rw (length-Each _ _ _ c.in_ok-units.ensures.1, c.in_ok-unit_values.ensures.1) (tables_count key.Unit 128 _)
+invariant_of-result-clause-unit_count c = rw (length-Each _ _ _ c.in_ok-units.ensures.1, c.in_ok-unit_values.ensures.1) (tables_count key.Unit unit_limit _)
 
 pub invariant_of-result-clause-group_count : goal.invariant_of-result-clause-group_count
-invariant_of-result-clause-group_count c = rw (length-Each _ _ _ c.in_ok-groups.ensures.1, c.in_ok-group_values.ensures.1) (tables_count key.Group 256 _)
+invariant_of-result-clause-group_count c = rw (length-Each _ _ _ c.in_ok-groups.ensures.1, c.in_ok-group_values.ensures.1) (tables_count key.Group group_limit _)
 
 pub invariant_of-result-clause-flow_count : goal.invariant_of-result-clause-flow_count
-invariant_of-result-clause-flow_count c = rw (length-Each _ _ _ c.in_ok-flows.ensures.1, c.in_ok-flow_values.ensures.1) (tables_count key.Flow 512 _)
+invariant_of-result-clause-flow_count c = rw (length-Each _ _ _ c.in_ok-flows.ensures.1, c.in_ok-flow_values.ensures.1) (tables_count key.Flow flow_limit _)
 
 pub invariant_of-result-clause-unit_labels : goal.invariant_of-result-clause-unit_labels
 invariant_of-result-clause-unit_labels c = units_apart _ _ c.in_ok-units.ensures.1 c.in_ok-units.ensures.0

@@ -2,6 +2,7 @@ use Rattle.std.proofs.Common.{◌≡◌, [], IsTrue, false, is_some, refl, inl, 
 use Rattle.std.proofs.lemmas.Result.{err_from_is_err_and}
 use Rattle.toml.specs.View.{items_view}
 use Rattle.j39_findings.specs.LabelForm.{is_label}
+use Rattle.j39_findings.specs.PlanLimits.{signal_limit}
 use Rattle.j39_signal.specs.Parts.{IsSignal}
 use Rattle.j39_plan.specs.declared.reading.key.Key.TheVariants as key
 use Rattle.j39_plan.specs.Elements.{each_faults, Each, label_in}
@@ -17,7 +18,7 @@ use Rattle.j39_plan.proofs.reading.groups.group.Goals as goal
 
 pub invariant_of-result-clause-signal_count : goal.invariant_of-result-clause-signal_count
 invariant_of-result-clause-signal_count c =
-    rw (length-Each _ _ _ c.in_ok-signals.ensures.1, c.in_ok-later.ensures.gives.1.3) (tables_count key.Signal 64 _)
+    rw (length-Each _ _ _ c.in_ok-signals.ensures.1, c.in_ok-later.ensures.gives.1.3) (tables_count key.Signal signal_limit _)
 
 pub invariant_of-result-clause-signal_forms : goal.invariant_of-result-clause-signal_forms
 invariant_of-result-clause-signal_forms c =

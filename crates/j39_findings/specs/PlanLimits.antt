@@ -1,0 +1,18 @@
+-- How much a plan holds at most, beside the units of a network.
+use Rattle.std.specs.Prelude.{ℕ}
+
+-- the most groups of a plan
+abbrev pub group_limit : ℕ
+group_limit = 256
+
+-- the most flows of a plan
+abbrev pub flow_limit : ℕ
+flow_limit = 512
+
+-- the most signals of a group
+abbrev pub signal_limit : ℕ
+signal_limit = 64
+
+-- the most texts of a group
+abbrev pub text_limit : ℕ
+text_limit = 64

@@ -1,0 +1,16 @@
+//! How much a plan holds at most.
+
+/// The most units: those of a network.
+pub use j39_id::limits::UNIT_LIMIT;
+
+/// The most groups of a plan.
+pub const GROUP_LIMIT: usize = 256;
+
+/// The most flows of a plan.
+pub const FLOW_LIMIT: usize = 512;
+
+/// The most signals of a group.
+pub const SIGNAL_LIMIT: usize = 64;
+
+/// The most texts of a group.
+pub const TEXT_LIMIT: usize = 64;
