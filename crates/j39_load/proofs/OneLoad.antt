@@ -1,11 +1,12 @@
 -- What a plan asks of a bus is one: whoever tells who stays tells the same loads and the same delays.
-use Rattle.std.proofs.Common.{◌≡◌, ℕ, ◌+◌, ◌≤◌, Bool, true, false, if◌then◌else◌, List, [], ◌∷◌, map, min, max, inl, inr, Option, Some, None}
+use Rattle.std.proofs.Common.{◌≡◌, ℕ, ◌+◌, ◌≤◌, Bool, true, false, not, ◌&&◌, if◌then◌else◌, List, [], ◌∷◌, map, min, max, inl, inr, Option, Some, None}
 use Rattle.std.proofs.Common.{refl, sym, ap, ◌∙◌, subst, arith, true≢false}
 use Rattle.std.proofs.lemmas.Bool.{cases_lt}
 use Rattle.std.proofs.lemmas.List.{ext_get_or}
 use Rattle.std.proofs.lemmas.Option.{same_Some, none-some}
 use Rattle.std.specs.Bool.{MatchBool}
 use Rattle.std.specs.List.{slice_get}
+use Rattle.j39_id.specs.Name.{is_arbitrary}
 use Rattle.j39_findings.specs.declared.plan.Plan.{Plan}
 use Rattle.j39_findings.specs.declared.plan.flow_plan.FlowPlan.{FlowPlan}
 use Rattle.j39_findings.specs.declared.plan.group_plan.GroupPlan.{GroupPlan}
@@ -60,10 +61,10 @@ module _ (plan : Plan) (timing : Timing) (stays other : UnitPlan → Bool) (tell
     packet_same flow = rw (destination_same flow.to, unit_same flow.sender) refl
 
   abbrev least_by : Bool → UnitPlan → ℕ
-  least_by b x = if b then x.address else min x.address 128
+  least_by b x = if is_arbitrary x.name && not b then min x.address 128 else x.address
 
   abbrev greatest_by : Bool → UnitPlan → ℕ
-  greatest_by b x = if b then x.address else max x.address 247
+  greatest_by b x = if is_arbitrary x.name && not b then max x.address 247 else x.address
 
   singles_same : (flow : FlowPlan) (period : ℕ) (group : GroupPlan)
       → single_frames timing plan.units.items stays flow period group ≡ single_frames timing plan.units.items other flow period group

@@ -1,11 +1,12 @@
 -- A greater address of either end makes a greater identifier, and units hold addresses between the least and the greatest.
-use Rattle.std.proofs.Common.{◌≡◌, ℕ, ◌+◌, ◌*◌, ◌^◌, ◌<◌, ◌≤◌, ◌⊎◌, Bool, true, false, if◌then◌else◌, leb, length, List, inl, inr}
-use Rattle.std.proofs.Common.{refl, ap, ◌∙◌, arith}
-use Rattle.std.proofs.lemmas.Bool.{and_parts, leb-true}
+use Rattle.std.proofs.Common.{◌≡◌, ℕ, ◌+◌, ◌*◌, ◌^◌, ◌<◌, ◌≤◌, Bool, true, false, not, if◌then◌else◌, leb, length, List, inl, inr}
+use Rattle.std.proofs.Common.{refl, sym, ap, subst, ◌∙◌, arith, min, max}
+use Rattle.std.proofs.lemmas.Bool.{and_from, and_parts, cases_Bool, leb-true}
 use Rattle.std.proofs.lemmas.List.{length-map}
 use Rattle.std.specs.Bool.{MatchBool}
 use Rattle.j39_id.specs.Addresses.{in_pool}
 use Rattle.j39_id.specs.Ident.{identifier_of}
+use Rattle.j39_id.specs.Name.{is_arbitrary}
 use Rattle.j39_id.specs.Pgn.{is_pdu2}
 use Rattle.j39_id.specs.Services.{data_transfer, transport_priority}
 use Rattle.j39_findings.specs.declared.plan.Plan.{Plan}
@@ -14,7 +15,7 @@ use Rattle.j39_findings.specs.declared.plan.group_plan.GroupPlan.{GroupPlan}
 use Rattle.j39_findings.specs.declared.plan.to.To.{To}
 use Rattle.j39_findings.specs.declared.plan.to.To.TheVariants.{All as ToAll, One}
 use Rattle.j39_findings.specs.declared.plan.unit_plan.UnitPlan.{UnitPlan}
-use Rattle.j39_load.specs.Loads.{destination_at, greatest_address, least_address, of_unit}
+use Rattle.j39_load.specs.Loads.{destination_at, greatest_address, least_address, may_move, of_unit}
 use Rattle.j39_load.specs.Ranks.{AreHeldByPlan, AreUnitsPlanned, LieBetween, destination_held}
 use Rattle.j39_load.specs.Standing.{TellsWhoStays}
 use Rattle.j39_load.proofs.WhoStays.{placed}
@@ -35,28 +36,40 @@ module _ (plan : Plan) (stays : UnitPlan → Bool) (tells : TellsWhoStays plan s
   abbrev units : List UnitPlan
   units = plan.units.items
 
-  -- a unit's address lies between its ends
-  address_between : (unit : UnitPlan) (a : ℕ) (S : Type 0) (told : Bool) → stays unit ≡ told → MatchBool told S (¬ S)
-      → (a ≡ unit.address) ⊎ ((in_pool a ≡ true) × ¬ S) → (least_address stays unit ≤ a) × (a ≤ greatest_address stays unit)
-  address_between unit a S true is it (inl planned) = rw (is) (omega (arith, planned), omega (arith, planned))
-  address_between unit a S true is it (inr moved) = absurd (moved.1 it)
-  address_between unit a S false is it (inl planned) = rw (is) (omega (arith, planned), omega (arith, planned))
-  address_between unit a S false is it (inr moved) =
-      let two = and_parts (leb 128 a) (leb a 247) moved.0 in
+  -- a unit's planned address lies between its ends
+  planned_between : (unit : UnitPlan) (a : ℕ) → a ≡ unit.address → (least_address stays unit ≤ a) × (a ≤ greatest_address stays unit)
+  planned_between unit a planned =
+      elim (may_move stays unit)
+      as (λ b. ((if b then min unit.address 128 else unit.address) ≤ a) × (a ≤ (if b then max unit.address 247 else unit.address))) [
+        | true ↦ (omega (arith, planned), omega (arith, planned))
+        | false ↦ (omega (arith, planned), omega (arith, planned))
+      ]
+
+  -- each address of the pool does where it may move
+  pool_between : (unit : UnitPlan) (a : ℕ) → may_move stays unit ≡ true → in_pool a ≡ true
+      → (least_address stays unit ≤ a) × (a ≤ greatest_address stays unit)
+  pool_between unit a moves inside =
+      let two = and_parts (leb 128 a) (leb a 247) inside in
       let low : 128 ≤ a = leb-true 128 a two.0 in
       let high : a ≤ 247 = leb-true a 247 two.1 in
-      rw (is) (omega (arith, low, high), omega (arith, low, high))
+      rw (moves) (omega (arith, low, high), omega (arith, low, high))
+
+  moves_where_told : (unit : UnitPlan) (S : Type 0) → MatchBool (stays unit) S (¬ S) → is_arbitrary unit.name ≡ true → ¬ S → may_move stays unit ≡ true
+  moves_where_told unit S it arbitrary leaves = elim (cases_Bool (stays unit)) [
+    | inl one ↦ absurd (leaves (subst (λ b. MatchBool b S (¬ S)) one it))
+    | inr other ↦ and_from (is_arbitrary unit.name) (not (stays unit)) arbitrary (ap not other)
+  ]
 
   unit_between : (u : ℕ) → u < length units
       → (of_unit units (least_address stays) u ≤ held u) × (held u ≤ of_unit units (greatest_address stays) u)
   unit_between u below =
       let (unit, at, its) = placed plan.keep_free units u (omega (arith, below, length-map units (planned_unit plan.keep_free))) in
       let preferred : (unit_at (units_of plan) u).preferred ≡ unit.address = ap (λ (c : PlannedUnit). c.preferred) its in
-      rw (at) (address_between unit (held u) (Stays (units_of plan) u) (stays unit) refl (tells u unit at)
-      (elim (by_plan u below) [
-        | inl planned ↦ inl (planned ∙ preferred)
-        | inr moved ↦ inr moved
-      ]))
+      let name : is_arbitrary (unit_at (units_of plan) u).name ≡ is_arbitrary unit.name = ap (λ (c : PlannedUnit). is_arbitrary c.name) its in
+      rw (at) (elim (by_plan u below) [
+        | inl planned ↦ planned_between unit (held u) (planned ∙ preferred)
+        | inr moved ↦ pool_between unit (held u) (moves_where_told unit (Stays (units_of plan) u) (tells u unit at) (sym name ∙ moved.1) moved.2) moved.0
+      ])
 
   module _ (flow : FlowPlan) (known : AreUnitsPlanned plan flow) where
     destination_between : (to : To) → flow.to ≡ to

@@ -6,6 +6,7 @@ use Rattle.std.specs.Option.{option_and_then, option_map, option_map_or}
 use Rattle.j39_id.specs.Addresses.{global_address, pool_first, pool_last}
 use Rattle.j39_id.specs.Ident.{identifier_of}
 use Rattle.j39_id.specs.Limits.{frame_bytes}
+use Rattle.j39_id.specs.Name.{is_arbitrary}
 use Rattle.j39_id.specs.Services.{data_transfer, transport_priority}
 use Rattle.j39_findings.specs.declared.plan.Plan.{Plan}
 use Rattle.j39_findings.specs.declared.plan.flow_plan.FlowPlan.{FlowPlan}
@@ -80,12 +81,15 @@ packet_stream timing units packets to period = record {
 
 -- ---- identifiers: the smaller one goes first
 
--- a unit that stays holds its planned address, another one this or one of the pool
+-- a unit that may choose and doesn't stay may come to hold another address than its planned one: one of the pool
+abbrev pub may_move : (UnitPlan → Bool) → UnitPlan → Bool
+may_move stays unit = is_arbitrary unit.name && not (stays unit)
+
 abbrev pub least_address : (UnitPlan → Bool) → UnitPlan → ℕ
-least_address stays unit = if stays unit then unit.address else min unit.address pool_first
+least_address stays unit = if may_move stays unit then min unit.address pool_first else unit.address
 
 abbrev pub greatest_address : (UnitPlan → Bool) → UnitPlan → ℕ
-greatest_address stays unit = if stays unit then unit.address else max unit.address pool_last
+greatest_address stays unit = if may_move stays unit then max unit.address pool_last else unit.address
 
 abbrev pub destination_at : List UnitPlan → (UnitPlan → ℕ) → To → ℕ
 destination_at units address All = global_address

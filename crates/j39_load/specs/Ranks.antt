@@ -3,6 +3,7 @@ use Rattle.std.specs.Prelude.{◌≡◌, ◌≢◌, ℕ, ◌<◌, ◌≤◌, ◌
 use Rattle.std.specs.List.{slice_get}
 use Rattle.j39_id.specs.Addresses.{global_address, in_pool}
 use Rattle.j39_id.specs.Ident.{identifier_of}
+use Rattle.j39_id.specs.Name.{is_arbitrary}
 use Rattle.j39_id.specs.Services.{data_transfer, transport_priority}
 use Rattle.j39_findings.specs.declared.plan.Plan.{Plan}
 use Rattle.j39_findings.specs.declared.plan.flow_plan.FlowPlan.{FlowPlan}
@@ -14,10 +15,11 @@ use Rattle.j39_load.specs.Loads.{greatest_address, group_ident, is_always_short,
 use Rattle.j39_world.specs.PlannedUnits.{unit_at, units_of}
 use Rattle.j39_world.specs.Staying.{Stays}
 
--- each unit of the plan holds its planned address, or one of the pool where it doesn't stay
+-- each unit of the plan holds its planned address, or one of the pool where it may choose and doesn't stay
 abbrev pub AreHeldByPlan : Plan → (ℕ → ℕ) → Type 0
 AreHeldByPlan plan held = (u : ℕ) → u < length plan.units.items
-    → (held u ≡ (unit_at (units_of plan) u).preferred) ⊎ ((in_pool (held u) ≡ true) × ¬ Stays (units_of plan) u)
+    → (held u ≡ (unit_at (units_of plan) u).preferred)
+    ⊎ ((in_pool (held u) ≡ true) × (is_arbitrary (unit_at (units_of plan) u).name ≡ true) × ¬ Stays (units_of plan) u)
 
 -- the address that a message goes to
 abbrev pub destination_held : (ℕ → ℕ) → To → ℕ

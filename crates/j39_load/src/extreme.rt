@@ -20,7 +20,7 @@ impl Extreme {
         ensures { result ≡ extreme_address self (stays_by standing.now.firsts standing.now.mover) unit.now }
     {
         let planned = unit.address.number();
-        if standing.stays(unit) {
+        if !standing.may_move(unit) {
             return planned;
         }
         match self {

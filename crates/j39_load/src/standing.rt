@@ -1,5 +1,6 @@
 //! Which units of a plan hold their planned addresses, whatever the others do.
 ghost use Rattle.std.specs.Prelude.{◌≡◌, length, IsTrue};
+ghost use Rattle.j39_load.specs.Loads.{may_move};
 ghost use Rattle.j39_load.specs.Standing.{AreFirsts, TellsWhoStays, IsMover, is_first_by, is_least, is_mover_by, smaller, stays_by};
 
 use j39_findings::{Plan, UnitPlan};
@@ -87,5 +88,12 @@ impl Standing {
     {
         is_first(&self.firsts, unit)
             && (!is_in_pool(unit.address.number()) || is_least(self.mover, unit.name))
+    }
+
+    /// Whether the unit may come to hold another address than its planned one.
+    pub(crate) fn may_move(&self, unit: &UnitPlan) -> bool
+        ensures { result ≡ may_move (stays_by self.now.firsts self.now.mover) unit.now }
+    {
+        unit.name.is_arbitrary() && !self.stays(unit)
     }
 }

@@ -154,11 +154,11 @@ stay plan steps w run u stays on =
     (claim_steps_keep plan (AreSaid (units_of plan)) (claim_steps plan)) steps w run in
     planned_held (units_of plan) u stays (w.stations u).address (inv.held u on)
 
--- what a unit holds is its planned address, or one of the pool where it doesn't stay
+-- what a unit holds is its planned address, or one of the pool where it may choose and doesn't stay
 pub stand : (plan : Plan) → Always plan (λ w. (u a : ℕ) → (w.stations u).on ≡ true → (w.stations u).address ≡ Some a
-    → (a ≡ (unit_at (units_of plan) u).preferred) ⊎ ((in_pool a ≡ true) × ¬ Stays (units_of plan) u))
+    → (a ≡ (unit_at (units_of plan) u).preferred)
+    ⊎ ((in_pool a ≡ true) × (is_arbitrary (unit_at (units_of plan) u).name ≡ true) × ¬ Stays (units_of plan) u))
 stand plan steps w run u a on is =
     let inv = always plan (λ x. AreSaid (units_of plan) x.stations x.claims) (at_first (units_of plan))
     (claim_steps_keep plan (AreSaid (units_of plan)) (claim_steps plan)) steps w run in
-    let held : IsHeld (units_of plan) u (Some a) = subst (IsHeld (units_of plan) u) is (inv.held u on) in
-    elim held [ inl planned ↦ inl planned | inr moved ↦ inr (moved.0, moved.2) ]
+    subst (IsHeld (units_of plan) u) is (inv.held u on)

@@ -38,9 +38,10 @@ pub fn smaller_names_are_undisturbed()
 {}
 
 /// In every world of every run of each plan, with all lawful choices, the address that a unit holds which is on is its planned one, or one
-/// of 128 to 247 where it isn't a unit that stays.
+/// of 128 to 247 where it may choose and isn't a unit that stays.
 pub fn units_hold_planned_or_pool_addresses()
     ensures { (plan : Plans) (steps : List Steps) (w : World) → Run plan all_off steps w
         → (u a : ℕ) → (w.stations u).on ≡ true → (w.stations u).address ≡ Some a
-        → (a ≡ (unit_at (units_of plan) u).preferred) ⊎ ((in_pool a ≡ true) × ¬ Stays (units_of plan) u) }
+        → (a ≡ (unit_at (units_of plan) u).preferred)
+        ⊎ ((in_pool a ≡ true) × (is_arbitrary (unit_at (units_of plan) u).name ≡ true) × ¬ Stays (units_of plan) u) }
 {}
