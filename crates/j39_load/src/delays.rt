@@ -1,6 +1,7 @@
 //! How long the frames of the flows of a plan wait.
 ghost use Rattle.std.specs.Option.{option_map_or};
 ghost use Rattle.std.specs.Prelude.{◌≡◌, ◌≤◌, ◌+◌, ◌*◌, true, [], ◌++◌, All, length, IfOk, OnOk};
+ghost use Rattle.j39_findings.specs.PlanLimits.{flow_limit};
 ghost use Rattle.j39_load.specs.Delays.{IsDelay, blocking, frames_before, going_before, streams_before};
 ghost use Rattle.j39_load.specs.SoundLoads.{IsSoundIfKnown, IsSoundLoad};
 ghost use Rattle.j39_timing.specs.Waits.{IsStream};
@@ -109,7 +110,7 @@ fn short_delay(
     load: &FlowLoad,
 ) -> Result<Delay, AllocError>
     requires sound { All IsSoundIfKnown loads.now }
-    requires few { length loads.now ≤ 512 }
+    requires few { length loads.now ≤ flow_limit }
     requires load { IsSoundLoad load.now }
     requires short { load.now.is_short ≡ true }
     ensures { IfOk result (IsDelay timing loads.now flow load.now) }
@@ -135,7 +136,7 @@ pub(crate) fn delay_of(
     load: &FlowLoad,
 ) -> Result<Delay, AllocError>
     requires sound { All IsSoundIfKnown loads.now }
-    requires few { length loads.now ≤ 512 }
+    requires few { length loads.now ≤ flow_limit }
     requires load { IsSoundLoad load.now }
     ensures { IfOk result (IsDelay timing loads.now flow load.now) }
 {

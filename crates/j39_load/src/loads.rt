@@ -1,5 +1,6 @@
 //! What the flows of a plan ask of the bus.
 ghost use Rattle.std.specs.Prelude.{◌≡◌, ◌^◌, ◌<◌, ◌≤◌, ℕ, Bool, All, length, IfOk, IfSome};
+ghost use Rattle.j39_findings.specs.PlanLimits.{flow_limit};
 ghost use Rattle.j39_findings.specs.declared.plan.to.To.TheVariants.{One};
 ghost use Rattle.j39_findings.specs.declared.plan.unit_plan.UnitPlan.{UnitPlan as APlannedUnit};
 ghost use Rattle.j39_load.specs.Delays.{HasDelay, TellDelays};
@@ -187,7 +188,7 @@ fn bits_per_second(load: &Option<FlowLoad>) -> u64
 pub struct Loads {
     pub timing: Timing,
     pub flows: Vec<Option<FlowLoad>>,
-    pub ghost count: { length flows.items ≤ 512 },
+    pub ghost count: { length flows.items ≤ flow_limit },
     pub ghost sound: { All IsSoundIfKnown flows.items } by { Prim.hlevel props },
 }
 
