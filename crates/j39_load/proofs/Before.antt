@@ -1,8 +1,16 @@
--- What is told of places, one more after another.
-use Rattle.std.proofs.Common.{◌≡◌, ℕ, suc, ◌+◌, ◌<◌, List, [], ◌∷◌, ◌++◌, length, take, get_or, append_assoc, sym, ap, ◌∙◌, arith}
+-- What is told of places: one more after another, and where something is told at all.
+use Rattle.std.proofs.Common.{◌≡◌, ◌≢◌, ℕ, zero, suc, ◌+◌, ◌<◌, List, [], ◌∷◌, ◌++◌, length, take, get_or, append_assoc, refl, sym, ap, ◌∙◌, arith}
 use Rattle.std.proofs.Math.Seq.{take-suc}
 use Rattle.std.proofs.lemmas.List.{append-nil, length-take-le}
 use Rattle.j39_load.specs.Places.{told_from}
+
+some_left : {Y : Type 0} (xs ys : List Y) → xs ≢ [] → xs ++ ys ≢ []
+some_left [] ys some = absurd (some refl)
+some_left (x ∷ xs) ys some = λ none. cc
+
+some_right : {Y : Type 0} (xs ys : List Y) → ys ≢ [] → xs ++ ys ≢ []
+some_right [] ys some = some
+some_right (x ∷ xs) ys some = λ none. cc
 
 module _ {X Y : Type 0} (tell : ℕ → X → List Y) where
   -- one more
@@ -22,3 +30,17 @@ module _ {X Y : Type 0} (tell : ℕ → X → List Y) where
       ap (λ (n : ℕ). told_from tell 0 (take n xs)) next
       ∙ ap (told_from tell 0) (take-suc xs k d inside) ∙ one_more 0 (take k xs) (get_or xs k d)
       ∙ ap (λ (n : ℕ). told_from tell 0 (take k xs) ++ tell n (get_or xs k d)) (omega (arith, length-take-le k xs (omega arith)))
+
+  some_behind : (k place : ℕ) (xs : List X) (d : X) → k < length xs → tell (place + k) (get_or xs k d) ≢ [] → told_from tell place xs ≢ []
+  unfolding told_from
+  some_behind k place [] d inside some = absurd (omega arith)
+  some_behind zero place (x ∷ xs) d inside some =
+      some_left (tell place x) (told_from tell (place + 1) xs) (λ none. some (ap (λ (n : ℕ). tell n x) (omega arith) ∙ none))
+  some_behind (suc k) place (x ∷ xs) d inside some =
+      some_right (tell place x) (told_from tell (place + 1) xs)
+      (some_behind k (place + 1) xs d (omega (arith, inside)) (λ none. some (ap (λ (n : ℕ). tell n (get_or xs k d)) (omega arith) ∙ none)))
+
+  -- something is told of these, where something is told at one place
+  pub some_told : (k : ℕ) (xs : List X) (d : X) → k < length xs → tell k (get_or xs k d) ≢ [] → told_from tell 0 xs ≢ []
+  some_told k xs d inside some =
+      some_behind k 0 xs d inside (λ none. some (ap (λ (n : ℕ). tell n (get_or xs k d)) (omega arith) ∙ none))

@@ -1,5 +1,5 @@
 //! What is wrong with what a plan asks of its bus.
-ghost use Rattle.std.specs.Prelude.{◌≡◌, ◌∷◌, ◌++◌, [], IfOk, IfSome, IfNone, OnOk};
+ghost use Rattle.std.specs.Prelude.{◌≡◌, ◌≢◌, ◌∷◌, ◌++◌, [], None, IfOk, IfSome, IfNone, OnOk, OnErr};
 ghost use Rattle.j39_load.specs.LoadFindings.{AreLoadFindings, load_findings};
 ghost use Rattle.j39_load.specs.Loads.{bits_of_second, total_load};
 ghost use Rattle.j39_load.specs.Places.{told_from};
@@ -37,7 +37,8 @@ fn find_each(
     fault: Fault,
     delays: &[Option<Delay>],
 ) -> Result<(), AllocError>
-    ensures { OnOk result (findings.new.items ≡ findings.old.items ++ told_from (found_at fault) 0 delays.now) }
+    ensures found { OnOk result (findings.new.items ≡ findings.old.items ++ told_from (found_at fault) 0 delays.now) }
+    ensures memory { OnErr result (told_from (found_at fault) 0 delays.now ≢ []) }
 {
     for (flow, delay) in delays.iter().enumerate() {
         if let Some(finding) = finding_at(fault, flow, *delay) {
@@ -54,9 +55,10 @@ pub fn bits_of_second(bitrate: Bitrate) -> u32
     1_000 * u32::from(bits_per_ms(bitrate))
 }
 
-/// What is wrong with what the flows of a plan ask of its bus: nothing where nothing is known of this.
+/// What is wrong with what the flows of a plan ask of its bus: nothing where nothing is known of this, and no memory is asked for then.
 pub fn check_load(alloc: Global, plan: &Plan) -> Result<Vec<LoadFinding>, AllocError>
-    ensures { IfOk result (λ findings. AreLoadFindings plan.now plan.now.timing findings.items) }
+    ensures findings { IfOk result (λ findings. AreLoadFindings plan.now plan.now.timing findings.items) }
+    ensures memory { OnErr result (plan.now.timing ≢ None) }
 {
     let Some(timing) = plan.timing else {
         return Ok(Vec::new(alloc));
@@ -66,14 +68,15 @@ pub fn check_load(alloc: Global, plan: &Plan) -> Result<Vec<LoadFinding>, AllocE
     load_findings(alloc, timing, loads.total(), delays.as_slice())
 }
 
-/// What is wrong with a load of so many bits in a second and with these delays of the flows.
+/// What is wrong with a load of so many bits in a second and with these delays of the flows. Asks for memory only where something is.
 pub fn load_findings(
     alloc: Global,
     timing: Timing,
     load: u64,
     delays: &[Option<Delay>],
 ) -> Result<Vec<LoadFinding>, AllocError>
-    ensures { IfOk result (λ findings. findings.items ≡ load_findings timing load delays.now) }
+    ensures findings { IfOk result (λ findings. findings.items ≡ load_findings timing load delays.now) }
+    ensures memory { OnErr result (load_findings timing load delays.now ≢ []) }
 {
     let mut findings = Vec::new(alloc);
     find_each(&mut findings, Fault::WithoutPeriod, delays)?;

@@ -1,9 +1,9 @@
-use Rattle.std.proofs.Common.{◌++◌, ◌∷◌, [], List, take, append_assoc, None, sym, ap, ◌∙◌}
+use Rattle.std.proofs.Common.{rules, ◌≡◌, ◌≢◌, ◌++◌, ◌∷◌, [], List, take, append_assoc, None, sym, ap, ◌∙◌}
 use Rattle.std.proofs.lemmas.List.{append-nil}
 use Rattle.j39_load.specs.Places.{told_from}
 use Rattle.j39_load.specs.declared.load_finding.LoadFinding.{LoadFinding}
 use Rattle.j39_load.specs.inside.Faults.{found_at}
-use Rattle.j39_load.proofs.Before.{more}
+use Rattle.j39_load.proofs.Before.{more, some_told}
 use Rattle.j39_load.proofs.faults.find_each.Goals.{in-Some+in_ok-push, in_default}
 use Rattle.j39_load.proofs.faults.find_each.Goals as goal
 
@@ -26,3 +26,10 @@ loop-flow-preserved c =
             (sym (append-nil before) ∙ ap (λ (xs : List LoadFinding). before ++ xs) (sym (w.in_default.ensures {u = tt}).none) ∙ sym step))
       ];
     }
+
+pub returns-in_err-push-clause-memory : goal.returns-in_err-push-clause-memory
+returns-in_err-push-clause-memory c =
+    let some : told_from (found_at c.args.fault) 0 c.args.delays.now ≢ [] =
+    some_told (found_at c.args.fault) c.loop-flow.flow c.args.delays.now None c.loop-flow-test.true
+    (λ none. let never : c.in-Some.finding ∷ [] ≡ [] = sym (c.in-Some.ensures {u = tt}).some ∙ none in cc) in
+    search rules
