@@ -1,11 +1,14 @@
 -- The line of a value is the value between what stands around it.
-use Rattle.std.proofs.Common.{◌≡◌, ◌≢◌, ℕ, ℤ, List, [], ◌∷◌, ◌++◌, codes, refl, sym, ap, ◌∙◌, append_assoc}
+use Rattle.std.proofs.Common.{◌≡◌, ◌≢◌, ◌+◌, ◌<◌, ◌≤ℤ◌, ℕ, ℤ, pos, negsuc, List, [], ◌∷◌, ◌++◌, codes, refl, sym, ap, ◌∙◌, append_assoc, arith}
+use Rattle.std.proofs.lemmas.Fmt.{decimal_digit}
+use Rattle.std.proofs.lemmas.Int.{ints}
 use Rattle.std.specs.Prelude.{unsigned_abs}
 use Rattle.j39_signal.specs.declared.kind.Kind.{Kind}
 use Rattle.j39_signal.specs.declared.kind.Kind.TheVariants.{Measured, Discrete, Raw, States, Signed, Dtc}
 use Rattle.j39_text.specs.Decimals.{quotient_text}
 use Rattle.j39_signal.specs.Parts.{SignalParts}
 use Rattle.j39_signal.specs.declared.state.State.TheVariants.{Value}
+use Rattle.j39_text.proofs.Quotients.{undivided}
 use Rattle.j39_text.specs.Texts.{field_text}
 use Rattle.j39_log.specs.LogReports.{code_text, scaled_text, signal_line, signal_state_text, signal_unit_text, value_text}
 use Rattle.j39_log.specs.inside.ValueLines.{value_line_of}
@@ -29,6 +32,10 @@ unfolding signal_line signal_state_text scaled_text field_text
 line_of_value s v other =
     grouped (codes "  ") s.label.bytes (codes " value ") (quotient_text s.per v) (signal_unit_text s.unit.bytes) (10 ∷ [])
     ∙ ap (λ (text : List ℕ). codes "  " ++ (s.label.bytes ++ (text ++ 10 ∷ []))) (sym (scaled s.kind s.per s.unit.bytes v other))
+
+pub one_digit : (v : ℤ) → pos 0 ≤ℤ v → unsigned_abs v < 10 → quotient_text 1 v ≡ (48 + unsigned_abs v) ∷ []
+one_digit (pos n) above small = undivided (pos n) ∙ decimal_digit n small
+one_digit (negsuc n) above small = absurd (omega (arith, ints, above))
 
 pub line_of_code : (s : SignalParts) (v : ℤ) → s.kind ≡ Dtc
     → codes "  " ++ (s.label.bytes ++ (code_text (unsigned_abs v) ++ 10 ∷ [])) ≡ signal_line s (Value v)

@@ -150,7 +150,9 @@ impl Catalog {
         self.spans.get(&pgn).copied()
     }
 
-    /// The place of the first of the plan's groups of this number that isn't private and has messages of so many bytes.
+    /// The place of the first of the plan's groups of this number that isn't private and has messages of so many bytes. It
+    /// is looked for at each frame.
+    #[inline(always)]
     pub fn place(&self, groups: &[GroupPlan], pgn: u32, bytes: usize) -> Option<usize>
         requires { IsIndex groups.now self.now.spans }
         ensures { result ≡ position (is_planned_as pgn bytes) groups.now }

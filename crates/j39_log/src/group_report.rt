@@ -1,6 +1,7 @@
 //! The lines that report a group.
 ghost use Rattle.std.specs.Prelude.{◌≡◌, ◌≤◌, if◌then◌else◌, [], ◌∷◌, ◌++◌, codes, length, map, OnOk};
 ghost use Rattle.hex.specs.Hex.{encode_upper};
+ghost use Rattle.j39_signal.specs.Parts.{IsDivisor};
 ghost use Rattle.j39_findings.specs.Records.{single_signals};
 ghost use Rattle.j39_text.specs.Decimals.{quotient_text};
 ghost use Rattle.j39_text.specs.Texts.{field};
@@ -18,6 +19,20 @@ use j39_signal::{Kind, Layout, Signal, State};
 use j39_text::{TextBuffer, write_destination, write_quotient};
 use std::alloc::AllocError;
 
+// The number of a value. One digit, as most values of a few bits have, is written apart, which is faster.
+#[inline(always)]
+fn write_number(text: &mut TextBuffer, value: i64, per: u32) -> Result<(), AllocError>
+    requires { IsDivisor per }
+    ensures { OnOk result (text.new ≡ text.old ++ quotient_text per value) }
+{
+    let magnitude = value.unsigned_abs();
+    if per == 1 && 0 <= value && magnitude < 10 {
+        text.bytes(&[b'0' + magnitude as u8])
+    } else {
+        write_quotient(text, value, per)
+    }
+}
+
 // The line of a value, between what stands around it.
 fn write_scaled(
     text: &mut TextBuffer,
@@ -28,7 +43,7 @@ fn write_scaled(
     ensures { OnOk result (text.new ≡ text.old ++ (line.now.before ++ (quotient_text signal.now.per value ++ line.now.after))) }
 {
     text.bytes(line.before.as_slice())?;
-    write_quotient(text, value, signal.per())?;
+    write_number(text, value, signal.per())?;
     text.bytes(line.after.as_slice())
 }
 
@@ -39,15 +54,6 @@ fn write_raw(text: &mut TextBuffer, signal: &Signal, word: &str, raw: u32) -> Re
     text.word("  ")?;
     text.word(signal.label().as_str())?;
     text.field(word, raw)?;
-    text.end_line()
-}
-
-fn write_absent(text: &mut TextBuffer, signal: &Signal) -> Result<(), AllocError>
-    ensures { OnOk result (text.new ≡ text.old ++ (codes "  " ++ (signal.now.label.bytes ++ (codes " absent" ++ 10 ∷ [])))) }
-{
-    text.word("  ")?;
-    text.word(signal.label().as_str())?;
-    text.word(" absent")?;
     text.end_line()
 }
 
@@ -82,7 +88,7 @@ fn write_signal(
         State::Specific(raw) => write_raw(text, signal, " specific ", raw),
         State::Reserved(raw) => write_raw(text, signal, " reserved ", raw),
         State::Fault(raw) => write_raw(text, signal, " fault ", raw),
-        State::Absent => write_absent(text, signal),
+        State::Absent => text.bytes(line.absent.as_slice()),
     }
 }
 
@@ -161,6 +167,7 @@ fn write_group_line(
 }
 
 /// Writes what the signals, the records and the texts of a group read.
+#[inline(always)]
 #[tactic(auto, unfolding(crate::specs::LogReports::reading_lines))]
 pub(super) fn write_readings(
     text: &mut TextBuffer,

@@ -30,7 +30,8 @@ pub(crate) struct Reading {
     bad: u64,
 }
 
-// The report of a planned group.
+// The report of a planned group, which most frames of a log have.
+#[inline(always)]
 fn write_group(
     text: &mut TextBuffer,
     plan: &Plan,

@@ -102,6 +102,8 @@ fn write_record(
     Ok(())
 }
 
+// Few groups have records, so what writes them is no part of the code that writes a report.
+#[inline(never)]
 fn write_all_records(
     text: &mut TextBuffer,
     group: &GroupPlan,

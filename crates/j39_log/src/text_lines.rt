@@ -19,6 +19,8 @@ fn text_bytes<'a>(plan: &TextPlan, bytes: &'a [u8]) -> &'a [u8]
     }
 }
 
+// Few groups have texts, so what writes one is no part of the code that writes a report.
+#[inline(never)]
 #[tactic(auto, unfolding(crate::specs::TextLines::text_line))]
 fn write_text(text: &mut TextBuffer, plan: &TextPlan, bytes: &[u8]) -> Result<(), AllocError>
     ensures { OnOk result (text.new ≡ text.old ++ text_line plan.now bytes.now) }

@@ -56,7 +56,8 @@ pub(crate) fn write_code(text: &mut TextBuffer, code: u64) -> Result<(), AllocEr
     }
 }
 
-/// Writes what a trouble code says, behind the label of its signal.
+/// Writes what a trouble code says, behind the label of its signal. Few signals are codes: the loop over signals is faster without it.
+#[inline(never)]
 pub(crate) fn write_code_line(
     text: &mut TextBuffer,
     signal: &Signal,

@@ -9,11 +9,12 @@ use j39_signal::Signal;
 use j39_text::TextBuffer;
 use std::alloc::{AllocError, Global};
 
-/// The text before the value of a signal, and the one behind it.
+/// The text before the value of a signal, the one behind it, and the whole line of one that is absent.
 #[derive(Drop)]
 pub struct ValueLine {
     pub before: TextBuffer,
     pub after: TextBuffer,
+    pub absent: TextBuffer,
 }
 
 /// Writes one space and a unit, where there is one.
@@ -38,7 +39,16 @@ fn value_line(alloc: Global, signal: &Signal) -> Result<ValueLine, AllocError>
     let mut after = TextBuffer::new(alloc);
     write_unit(&mut after, signal.unit())?;
     after.end_line()?;
-    Ok(ValueLine { before, after })
+    let mut absent = TextBuffer::new(alloc);
+    absent.word("  ")?;
+    absent.word(signal.label().as_str())?;
+    absent.word(" absent")?;
+    absent.end_line()?;
+    Ok(ValueLine {
+        before,
+        after,
+        absent,
+    })
 }
 
 // Those of signals, in order.

@@ -11,6 +11,7 @@ abbrev pub value_line_of : SignalParts → ValueLine
 value_line_of s = record {
   before = codes "  " ++ (s.label.bytes ++ codes " value ");
   after = signal_unit_text s.unit.bytes ++ 10 ∷ [];
+  absent = codes "  " ++ (s.label.bytes ++ (codes " absent" ++ 10 ∷ []));
 }
 
 abbrev pub value_lines_of : GroupPlan → List ValueLine
