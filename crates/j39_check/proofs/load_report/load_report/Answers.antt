@@ -22,6 +22,6 @@ returns c =
     ] in
     as_checked plan timing c.in-Some.is flows.0 loads delays others flows.1 flows.2
     (rw c.in_ok-loads.ensures.timing at c.in_ok-delays.ensures)
-    (rw (c.total.ensures, c.as_slice.ensures.value) at c.in_ok-others.ensures)
+    (rw (c.total.ensures, c.as_slice.ensures.value) at c.in_ok-others.ensures.findings)
     findings c.write_findings.new.text c.in_ok-findings.ensures.list wrong
     (rw (c.new-text.ensures, c.deref.ensures.value, c.as_slice-2.ensures.value) at c.in_ok-write_findings.ensures)
