@@ -116,7 +116,8 @@ stopped_on : (plan : Plan) (b : BusState) (place : ℕ) (text : List ℕ) (halt 
     → HasRunTo plan b place text halt told written → HasRunTo plan b place text halt (told ++ more) written
 stopped_on plan b place text End told more written stopped run = cc stopped
 stopped_on plan b place text (AtStep at cause) told more written stopped run = still_stopped plan b (IsRefusedStep plan b cause) at text told more written run
-stopped_on plan b place text (AtLine at fault) told more written stopped run = still_stopped plan b (λ reading. reading ≡ Err fault) at text told more written run
+stopped_on plan b place text (AtLine at fault) told more written stopped run =
+    still_stopped plan b (λ reading. reading ≡ Err fault) at text told more written run
 
 -- a run that stopped reads no more lines
 pub stopped_run : {X : Type 0} {P : X → Type 0} (plan : Plan) (old : Running X P) (ls : List Line) → is_running old.halt ≡ false → RunsOn plan old old ls
@@ -148,7 +149,8 @@ put_to plan b place text rest (AtLine at fault) told written empty run = record 
 }
 
 -- what is to be written is written
-pub put_run : {X : Type 0} {P : X → Type 0} (plan : Plan) (run : Running X P) (rest : List ℕ) (told : List Line) (written : List ℕ) → rest ≡ [] → HasRun plan run told written
+pub put_run : {X : Type 0} {P : X → Type 0} (plan : Plan) (run : Running X P) (rest : List ℕ) (told : List Line) (written : List ℕ)
+    → rest ≡ [] → HasRun plan run told written
     → HasRun plan (record run { text = rest }) told (written ++ run.text)
 put_run plan run rest told written empty has = put_to plan run.bus run.place run.text rest run.halt told written empty has
 
@@ -179,7 +181,8 @@ module _ (plan : Plan) (b : BusState) (place : ℕ) (text : List ℕ) (view : Vi
 
 -- a text begins with what is written of the lines
 pub so_far : {X : Type 0} {P : X → Type 0} (plan : Plan) (run : Running X P) (told : List Line) (written : List ℕ) → HasRun plan run told written
-    → IsSoFar (λ told written. HasRun plan run told written) (λ schedule text verdict. IsTextOfBus plan schedule text verdict) (is_running run.halt) run.text told written
+    → IsSoFar (λ told written. HasRun plan run told written) (λ schedule text verdict. IsTextOfBus plan schedule text verdict)
+    (is_running run.halt) run.text told written
 so_far plan run told written has =
     let (view, shows) = some_view plan run.bus in
     record {
