@@ -1,13 +1,13 @@
 //! A schedule that runs on a bus, line after line.
-ghost use Rattle.std.specs.Prelude.{◌≡◌, ◌<◌, ◌^◌, true, [], ◌∷◌, IfOk, OnOk, Some};
+ghost use Rattle.std.specs.Prelude.{◌≡◌, ◌<◌, ◌^◌, true, [], ◌∷◌, IfOk, OnErr, OnOk, None, Some};
 ghost use Rattle.j39_bus.specs.Stands.{Stands};
 ghost use Rattle.j39_findings.specs.declared.plan.Plan.{Plan as APlan};
 ghost use Rattle.j39_id.specs.Lines.{Line, Short, tells};
 ghost use Rattle.j39_schedule.specs.Schedule.{line_order, read_as};
-ghost use Rattle.j39_world.specs.Run.{cause_of};
-ghost use Rattle.j39_world.specs.World.{all_off};
+ghost use Rattle.j39_world.specs.Run.{cause_of, refusal};
+ghost use Rattle.j39_world.specs.World.{World, all_off};
 ghost use Rattle.j39_run.specs.RunText.{is_running};
-ghost use Rattle.j39_run.specs.inside.Doing.{HasRun, RunsOn};
+ghost use Rattle.j39_run.specs.inside.Doing.{HasRun, OrdersStep, RunsOn};
 
 use crate::halt::Halt;
 use crate::run_lines::write_frames;
@@ -30,7 +30,8 @@ pub(crate) struct Running {
 
 // Where a run ends at this line, whose step was not done. A step for which memory was wanted ends no run.
 fn refused_at(place: usize, error: StepError) -> Result<Halt, AllocError>
-    ensures { IfOk result (λ halt. (halt ≡ Halt.Step place error) × (cause_of error ≡ Some error)) }
+    ensures halt { IfOk result (λ halt. (halt ≡ Halt.Step place error) × (cause_of error ≡ Some error)) }
+    ensures memory { OnErr result (cause_of error ≡ None) }
 {
     match error {
         StepError::Memory => Err(AllocError),
@@ -59,8 +60,9 @@ impl Running {
     fn step(&mut self, step: &Step) -> Result<(), AllocError>
         requires goes { is_running self.old.halt ≡ true }
         requires room { self.old.place < 2 ^ 63 }
-        ensures { OnOk result ((plan : APlan) (line : Line) → line_order plan line ≡ read_as (Some step.now)
+        ensures run { OnOk result ((plan : APlan) (line : Line) → line_order plan line ≡ read_as (Some step.now)
             → RunsOn plan self.old self.new (line ∷ [])) }
+        ensures memory { OnErr result ((plan : APlan) (w : World) → Stands self.old.bus plan w → refusal plan w step.now ≡ None) }
     {
         let shown = self.bus.frames().len();
         match self.bus.step(step) {
@@ -81,7 +83,8 @@ impl Running {
     fn read_line(&mut self, units: &Units, line: &[u8]) -> Result<(), AllocError>
         requires goes { is_running self.old.halt ≡ true }
         requires room { self.old.place < 2 ^ 63 }
-        ensures { OnOk result (RunsOn units.now self.old self.new (Short line.now ∷ [])) }
+        ensures run { OnOk result (RunsOn units.now self.old self.new (Short line.now ∷ [])) }
+        ensures memory { OnErr result (OrdersStep units.now (Short line.now ∷ [])) }
     {
         match read_line(self.alloc, units, line) {
             Ok(Some(step)) => self.step(&step),
@@ -101,7 +104,8 @@ impl Running {
     #[tactic(auto, using(crate::proofs::Runs::same_run, crate::proofs::Runs::stopped_run))]
     pub fn read_cut(&mut self, units: &Units, cut: Cut, line: &[u8]) -> Result<(), AllocError>
         requires { self.old.place < 2 ^ 63 }
-        ensures { OnOk result (RunsOn units.now self.old self.new (tells cut line.now)) }
+        ensures run { OnOk result (RunsOn units.now self.old self.new (tells cut line.now)) }
+        ensures memory { OnErr result ((is_running self.old.halt ≡ true) × OrdersStep units.now (tells cut line.now)) }
     {
         if !self.halt.is_running() {
             return Ok(());

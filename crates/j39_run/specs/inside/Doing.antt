@@ -1,5 +1,5 @@
 -- How far a run of a schedule has come, and what a step and a line do.
-use Rattle.std.specs.Prelude.{◌≡◌, ℕ, ◌+◌, ◌≤◌, List, [], ◌∷◌, ◌++◌, length, map, Option, Some, None, Err}
+use Rattle.std.specs.Prelude.{◌≡◌, ℕ, ◌+◌, ◌≤◌, List, [], ◌∷◌, ◌++◌, length, map, Option, Some, None, Ok, Err}
 use Rattle.j39_id.specs.Lines.{Line}
 use Rattle.j39_findings.specs.declared.plan.Plan.{Plan}
 use Rattle.j39_findings.specs.declared.steps.Step.{Step}
@@ -8,7 +8,7 @@ use Rattle.j39_world.specs.Run.{RunsThrough, StepsTo, refusal}
 use Rattle.j39_bus.specs.Stands.{Stands}
 use Rattle.j39_world.specs.World.{World, all_off}
 use Rattle.j39_world.specs.declared.step_error.StepError.{StepError}
-use Rattle.j39_schedule.specs.Schedule.{Reading, line_order, read_as}
+use Rattle.j39_schedule.specs.Schedule.{Ordered, Reading, line_order, read_as}
 use Rattle.j39_stream.specs.declared.verdict.Verdict.{Verdict}
 use Rattle.j39_run.specs.RunText.{IsBusText, sent_lines, steps_of, verdict_of}
 use Rattle.j39_run.specs.declared.halt.Halt.{Halt}
@@ -45,6 +45,10 @@ pub record HasStopped (plan : Plan) (b : BusState) (IsRefused : Reading → Type
 -- it orders a step that the bus refuses for this cause
 abbrev pub IsRefusedStep : Plan → BusState → StepError → Reading → Type 0
 IsRefusedStep plan b cause reading = (step : Step) × (reading ≡ read_as (Some step)) × ((w : World) → Stands b plan w → refusal plan w step ≡ Some cause)
+
+-- this is one line, and it orders a step
+abbrev pub OrdersStep : Plan → List Line → Type 0
+OrdersStep plan ls = (line : Line) × (ordered : Ordered) × (ls ≡ line ∷ []) × (line_order plan line ≡ Ok (Some ordered))
 
 -- these lines of a schedule were read: all of them done, or those before the one at which the run ends
 abbrev pub HasRunTo : Plan → BusState → ℕ → List ℕ → Halt → List Line → List ℕ → Type 0

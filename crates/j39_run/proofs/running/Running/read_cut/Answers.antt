@@ -6,8 +6,8 @@ use Rattle.j39_run.specs.RunText.{is_running}
 use Rattle.j39_run.proofs.Runs.{bad_run}
 use Rattle.j39_run.proofs.running.Running.read_cut.Goals as goal
 
-pub returns-in-Long : goal.returns-in-Long
+pub returns-in-Long-clause-run : goal.returns-in-Long-clause-run
 unfolding line_order
-returns-in-Long g c =
+returns-in-Long-clause-run g c =
     let goes : is_running c.args.self.now.halt ≡ true = search rules in
     rw c.in-Long.is (bad_run c.args.units.now c.args.self.now goes Long LongLine refl)

@@ -12,8 +12,8 @@ returns-clause-lines g c =
     IfOk-weaker c.read_cut.result _ _
     (λ _ runs. λ before written has.
     so_far c.args.self.now.units.now c.read_cut.new.self (before ++ tells c.args.cut c.args.line.now) written (runs.run before written has))
-    c.read_cut.ensures
+    c.read_cut.ensures.run
 
 pub returns-clause-count : goal.returns-clause-count
 returns-clause-count g c =
-    IfOk-weaker c.read_cut.result _ _ (λ _ runs. λ most more within less. let one = runs.count in omega (arith, one, within, less)) c.read_cut.ensures
+    IfOk-weaker c.read_cut.result _ _ (λ _ runs. λ most more within less. let one = runs.count in omega (arith, one, within, less)) c.read_cut.ensures.run
