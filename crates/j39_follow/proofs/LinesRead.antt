@@ -1,14 +1,15 @@
 -- A log that is read line after line.
-use Rattle.std.proofs.Common.{◌≡◌, ◌≢◌, ◌⊎◌, ◌==◌, ℕ, zero, suc, List, [], ◌∷◌, ◌++◌, codes, Option, Some, None, inl, inr, refl, sym, ap, ◌∙◌, subst, append_assoc, eqb-true}
+use Rattle.std.proofs.Common.{◌≡◌, ◌≢◌, ◌⊎◌, ◌==◌, ℕ, zero, suc, true, List, [], ◌∷◌, ◌++◌, codes, Option, Some, None, inl, inr, refl, sym, ap, ◌∙◌, subst, append_assoc, eqb-true}
 use Rattle.std.specs.List.{slice_get}
 use Rattle.std.proofs.lemmas.Bool.{cases_Bool, eqb-false}
 use Rattle.std.proofs.lemmas.List.{append-nil}
-use Rattle.j39_id.specs.Lines.{Line, lines}
+use Rattle.j39_id.specs.Lines.{Line}
 use Rattle.j39_id.specs.declared.frame.Frame.{Frame}
 use Rattle.j39_findings.specs.declared.plan.Plan.{Plan}
 use Rattle.j39_findings.specs.declared.plan.unit_plan.UnitPlan.{UnitPlan}
 use Rattle.j39_text.specs.Texts.{field}
-use Rattle.j39_log.specs.inside.LineReading.{IsSoFar}
+use Rattle.j39_stream.specs.LineReading.{HasLines, IsSoFar}
+use Rattle.j39_stream.specs.declared.verdict.Verdict.TheVariants.{Done}
 use Rattle.j39_follow.specs.declared.holders.Holders.{Holders}
 use Rattle.j39_follow.specs.inside.Recounting.{Recounts, is_marked}
 use Rattle.j39_follow.specs.FollowText.{AreUnitLines, IsFollowedLog, IsUnitLine, FollowedPast, FollowsLines, frames_seen, nothing_followed, unit_end_line}
@@ -71,14 +72,15 @@ put plan told_so_far old written text empty before =
     }
 
 -- with what stands at the end the text is whole
-pub closed : (plan : Plan) (log : List ℕ) (reading : Reading) (written text : List ℕ) (before : HasFollowedLines plan (lines log) reading written)
+pub closed : (plan : Plan) (log : List ℕ) (told : List Line) (reading : Reading) (written text : List ℕ) (before : HasFollowedLines plan told reading written)
+    → HasLines true told log
     → (units : List ℕ) × AreUnitLines (frames_seen before.past.seen) plan.units.items units × (text ≡ reading.text ++ behind_reports plan before.past units)
     → IsFollowedLog plan log (written ++ text)
-closed plan log reading written text before ends = record {
+closed plan log told reading written text before all ends = record {
   past = before.past;
   reports = before.reports;
   units = ends.0;
-  read = before.read;
+  read = subst (λ (ls : List Line). FollowsLines plan nothing_followed ls before.past before.reports) (sym all) before.read;
   units_are = ends.1;
   text_is =
       ap (λ (t : List ℕ). written ++ t) ends.2 ∙ sym (append_assoc written reading.text (behind_reports plan before.past ends.0))
@@ -149,7 +151,8 @@ unit_lines plan holders frames of =
 
 -- a text of these lines begins with what is written of them
 pub so_far : (plan : Plan) (told : List Line) (reading : Reading) (written : List ℕ) → HasFollowedLines plan told reading written
-    → IsSoFar (λ told written. HasFollowedLines plan told reading written) (λ log text. IsFollowedLog plan log text) reading.text told written
+    → IsSoFar (λ told written. HasFollowedLines plan told reading written) (λ log text verdict. IsFollowedLog plan log text × (verdict ≡ Done))
+    true reading.text told written
 so_far plan told reading written before =
     let units = unit_lines plan reading.directory.holders (frames_seen before.past.seen) before.recalls.remembers.knows.recounts in
     let end : List ℕ = behind_reports plan before.past units.0 in
@@ -157,13 +160,17 @@ so_far plan told reading written before =
       read = before;
       begins = λ log is. (
         end,
-        record {
-          past = before.past;
-          reports = before.reports;
-          units = units.0;
-          read = subst (λ (all : List Line). FollowsLines plan nothing_followed all before.past before.reports) (sym is) before.read;
-          units_are = units.1;
-          text_is = sym (append_assoc written reading.text end) ∙ ap (λ (t : List ℕ). t ++ end) (sym before.text_is);
-        },
+        Done,
+        (
+          record {
+            past = before.past;
+            reports = before.reports;
+            units = units.0;
+            read = subst (λ (all : List Line). FollowsLines plan nothing_followed all before.past before.reports) (sym is) before.read;
+            units_are = units.1;
+            text_is = sym (append_assoc written reading.text end) ∙ ap (λ (t : List ℕ). t ++ end) (sym before.text_is);
+          },
+          refl,
+        ),
       );
     }

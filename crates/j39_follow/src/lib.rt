@@ -8,6 +8,7 @@ mod group_line;
 mod holders;
 mod laws;
 mod log_line;
+mod log_reader;
 mod log_text;
 mod message;
 mod naming;

@@ -3,44 +3,12 @@ ghost use Rattle.j39_follow.specs.FollowText.{IsFollowText};
 ghost use Rattle.j39_stream.specs.Commands.{AnswersInPieces};
 ghost use Rattle.j39_stream.specs.Streams.{log_limits};
 
+use crate::log_reader::LogReader;
 use crate::reading::Reading;
 use j39_findings::Plan;
-use j39_id::Cut;
-use j39_log::{Catalog, CatalogError, LineReader, read_log, refuse};
-use j39_stream::{Fault, Sink, Source, Verdict};
-use j39_text::put_text;
-use std::alloc::{AllocError, Global};
-
-impl LineReader for Reading {
-    ghost use Rattle.j39_follow.specs.FollowText.{IsFollowedLog};
-    ghost use Rattle.j39_follow.specs.inside.Recalling.{CountsWithin, HasFollowedLines};
-
-    ghost text = { λ reading. reading.text };
-
-    ghost has_read = { λ plan reading told written. HasFollowedLines plan told reading written };
-
-    ghost is_text = { λ plan log text. IsFollowedLog plan log text };
-
-    ghost within = { λ reading most. CountsWithin reading most };
-
-    fn read(
-        &mut self,
-        plan: &Plan,
-        catalog: &Catalog,
-        cut: Cut,
-        line: &[u8],
-    ) -> Result<(), AllocError> {
-        self.read_cut(plan, catalog, cut, line)
-    }
-
-    fn close(&mut self, plan: &Plan) -> Result<(), AllocError> {
-        self.finish(plan)
-    }
-
-    fn put<W: Sink>(&mut self, sink: &mut W) -> Result<(), Fault> {
-        put_text(sink, &mut self.text)
-    }
-}
+use j39_log::{CatalogError, Groups, refuse};
+use j39_stream::{Fault, LOG_LIMITS, Sink, Source, Verdict, read_lines};
+use std::alloc::Global;
 
 /// Writes who sent what in a log, by the claims of the log itself: each claim, each request, and each frame or message
 /// of a planned group with the unit that holds its source and the flow that it fits, with the number of its line and its
@@ -58,8 +26,15 @@ pub fn follow_text<S: Source, W: Sink>(
 ) -> Result<Verdict, Fault>
     ensures { AnswersInPieces (IsFollowText plan.now) log_limits (S.state source.old) (S.state source.new) W.state sink.old sink.new result }
 {
-    match Catalog::new(alloc, plan) {
-        Ok(catalog) => read_log(plan, &catalog, &mut Reading::new(alloc, plan), source, sink),
+    match Groups::new(alloc, plan) {
+        Ok(groups) => {
+            let reading = Reading::new(alloc, plan);
+            let mut reader = LogReader {
+                groups: &groups,
+                reading,
+            };
+            read_lines(LOG_LIMITS, &mut reader, source, sink)
+        }
         Err(CatalogError::Memory) => Err(Fault::Memory),
         Err(CatalogError::BadGroup(group)) => refuse(alloc, plan, group, sink),
     }

@@ -1,7 +1,6 @@
 pub mod Completing
 pub mod FoundGroups
 pub mod Indexes
-pub mod LineReading
 pub mod ListenerTables
 pub mod LogReading
 pub mod OlderPlans

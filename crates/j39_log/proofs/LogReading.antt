@@ -1,10 +1,11 @@
 -- A log that is read line after line.
-use Rattle.std.proofs.Common.{◌≡◌, ℕ, List, [], ◌∷◌, ◌++◌, length, refl, sym, ap, ◌∙◌, subst, append_assoc}
+use Rattle.std.proofs.Common.{◌≡◌, ℕ, true, List, [], ◌∷◌, ◌++◌, length, refl, sym, ap, ◌∙◌, subst, append_assoc}
 use Rattle.std.proofs.lemmas.List.{append-nil}
-use Rattle.j39_id.specs.Lines.{Line, lines}
+use Rattle.j39_id.specs.Lines.{Line}
 use Rattle.j39_findings.specs.declared.plan.Plan.{Plan}
 use Rattle.j39_log.specs.ReadText.{IsLogText, Past, ReadsLines, count_line, counts_line, nothing_yet}
-use Rattle.j39_log.specs.inside.LineReading.{IsSoFar}
+use Rattle.j39_stream.specs.LineReading.{HasLines, IsSoFar}
+use Rattle.j39_stream.specs.declared.verdict.Verdict.TheVariants.{Done}
 use Rattle.j39_log.specs.inside.Recalling.{HasReadLines, Recalls}
 use Rattle.j39_log.specs.declared.log_reading.Reading.{Reading}
 
@@ -65,13 +66,13 @@ same_counts reading past recalls =
     ∙ ap (λ (n : ℕ). counts_line (length past.seen) past.skipped n) recalls.bad_are
 
 -- with the line of counts the text is whole
-pub closed : (plan : Plan) (log : List ℕ) (reading : Reading) (written text : List ℕ)
+pub closed : (plan : Plan) (log : List ℕ) (told : List Line) (reading : Reading) (written text : List ℕ)
     → text ≡ reading.text ++ counts_line reading.frames reading.skipped reading.bad
-    → HasReadLines plan (lines log) reading written → IsLogText plan log (written ++ text)
-closed plan log reading written text ends before = record {
+    → HasReadLines plan told reading written → HasLines true told log → IsLogText plan log (written ++ text)
+closed plan log told reading written text ends before all = record {
   past = before.past;
   reports = before.reports;
-  read = before.read;
+  read = subst (λ (ls : List Line). ReadsLines plan nothing_yet ls before.past before.reports) (sym all) before.read;
   text_is =
       ap (λ (t : List ℕ). written ++ t) ends ∙ sym (append_assoc written reading.text (counts_line reading.frames reading.skipped reading.bad))
       ∙ ap (λ (t : List ℕ). t ++ counts_line reading.frames reading.skipped reading.bad) (sym before.text_is)
@@ -80,16 +81,21 @@ closed plan log reading written text ends before = record {
 
 -- a text of these lines begins with what is written of them
 pub so_far : (plan : Plan) (told : List Line) (reading : Reading) (written : List ℕ) → HasReadLines plan told reading written
-    → IsSoFar (λ told written. HasReadLines plan told reading written) (λ log text. IsLogText plan log text) reading.text told written
+    → IsSoFar (λ told written. HasReadLines plan told reading written) (λ log text verdict. IsLogText plan log text × (verdict ≡ Done))
+    true reading.text told written
 so_far plan told reading written before = record {
   read = before;
   begins = λ log is. (
     count_line before.past,
-    record {
-      past = before.past;
-      reports = before.reports;
-      read = subst (λ (all : List Line). ReadsLines plan nothing_yet all before.past before.reports) (sym is) before.read;
-      text_is = sym (append_assoc written reading.text (count_line before.past)) ∙ ap (λ (t : List ℕ). t ++ count_line before.past) (sym before.text_is);
-    },
+    Done,
+    (
+      record {
+        past = before.past;
+        reports = before.reports;
+        read = subst (λ (all : List Line). ReadsLines plan nothing_yet all before.past before.reports) (sym is) before.read;
+        text_is = sym (append_assoc written reading.text (count_line before.past)) ∙ ap (λ (t : List ℕ). t ++ count_line before.past) (sym before.text_is);
+      },
+      refl,
+    ),
   );
 }

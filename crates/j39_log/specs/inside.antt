@@ -1,5 +1,4 @@
 -- What only private contracts and proofs need.
-pub mod LineReading
 pub mod Listening
 pub mod Recalling
 pub mod ValueLines

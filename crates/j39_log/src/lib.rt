@@ -3,10 +3,10 @@
 
 mod catalog;
 mod group_report;
+mod groups;
 mod laws;
-mod line_reader;
 mod listeners;
-mod log_lines;
+mod log_reader;
 mod log_reading;
 mod log_text;
 mod readings;
@@ -17,10 +17,9 @@ mod trouble_code;
 mod value_line;
 
 pub use catalog::{Catalog, CatalogError, Span};
+pub use groups::Groups;
 pub use laws::{a_log_has_one_text, older_plans_are_read_as_before};
-pub use line_reader::LineReader;
 pub use listeners::{Listeners, listen};
-pub use log_lines::read_log;
 pub use log_text::{read_text, refuse};
 pub use readings::write_group_readings;
 pub use transport::transport_packet;

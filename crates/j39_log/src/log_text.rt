@@ -4,47 +4,14 @@ ghost use Rattle.j39_log.specs.ReadText.{IsReadText, IsRefused, refused_plan_lin
 ghost use Rattle.j39_stream.specs.Commands.{AnswersInPieces, PutsText};
 ghost use Rattle.j39_stream.specs.Streams.{log_limits};
 
-use crate::catalog::{Catalog, CatalogError};
-use crate::line_reader::LineReader;
-use crate::log_lines::read_log;
+use crate::catalog::CatalogError;
+use crate::groups::Groups;
+use crate::log_reader::LogReader;
 use crate::log_reading::Reading;
 use j39_findings::Plan;
-use j39_id::Cut;
-use j39_stream::{Fault, Sink, Source, Verdict, put_all};
-use j39_text::{TextBuffer, group_label, put_text};
+use j39_stream::{Fault, LOG_LIMITS, Sink, Source, Verdict, put_all, read_lines};
+use j39_text::{TextBuffer, group_label};
 use std::alloc::{AllocError, Global};
-
-impl LineReader for Reading {
-    ghost use Rattle.std.specs.Prelude.{◌≤◌};
-    ghost use Rattle.j39_log.specs.ReadText.{IsLogText};
-    ghost use Rattle.j39_log.specs.inside.Recalling.{HasReadLines, counted};
-
-    ghost text = { λ reading. reading.text };
-
-    ghost has_read = { λ plan reading told written. HasReadLines plan told reading written };
-
-    ghost is_text = { λ plan log text. IsLogText plan log text };
-
-    ghost within = { λ reading most. counted reading ≤ most };
-
-    fn read(
-        &mut self,
-        plan: &Plan,
-        catalog: &Catalog,
-        cut: Cut,
-        line: &[u8],
-    ) -> Result<(), AllocError> {
-        self.read_cut(plan, catalog, cut, line)
-    }
-
-    fn close(&mut self, _plan: &Plan) -> Result<(), AllocError> {
-        self.write_counts()
-    }
-
-    fn put<W: Sink>(&mut self, sink: &mut W) -> Result<(), Fault> {
-        put_text(sink, &mut self.text)
-    }
-}
 
 // The line of a refused plan.
 #[tactic(auto, unfolding(crate::specs::ReadText::refused_plan_line))]
@@ -85,8 +52,15 @@ pub fn read_text<S: Source, W: Sink>(
 ) -> Result<Verdict, Fault>
     ensures { AnswersInPieces (IsReadText plan.now) log_limits (S.state source.old) (S.state source.new) W.state sink.old sink.new result }
 {
-    match Catalog::new(alloc, plan) {
-        Ok(catalog) => read_log(plan, &catalog, &mut Reading::new(alloc), source, sink),
+    match Groups::new(alloc, plan) {
+        Ok(groups) => {
+            let reading = Reading::new(alloc);
+            let mut reader = LogReader {
+                groups: &groups,
+                reading,
+            };
+            read_lines(LOG_LIMITS, &mut reader, source, sink)
+        }
         Err(CatalogError::Memory) => Err(Fault::Memory),
         Err(CatalogError::BadGroup(group)) => refuse(alloc, plan, group, sink),
     }

@@ -10,7 +10,7 @@ use Rattle.j39_schedule.specs.Schedule.{Reading, line_order, read_as, readings_o
 use Rattle.j39_run.specs.declared.halt.Halt.{Halt}
 use Rattle.j39_run.specs.declared.halt.Halt.TheVariants.{End, Step as AtStep, Line as AtLine}
 use Rattle.j39_schedule.proofs.Splits.{lines-append}
-use Rattle.j39_run.proofs.Reading.{lines_from}
+use Rattle.j39_stream.proofs.LineReading.{lines_from}
 
 -- a list that goes on past a place has what stands there
 cut_here : {X : Type 0} (ended xs done : List X) (y : X) (ys : List X) → ended ++ xs ≡ done ++ y ∷ ys → length done < length ended

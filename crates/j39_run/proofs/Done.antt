@@ -1,7 +1,6 @@
 -- What was done of a schedule, line after line, and the text of it.
 use Rattle.std.proofs.Common.{◌≡◌, ◌↔◌, IsTrue, ℕ, ◌+◌, Bool, List, [], ◌∷◌, ◌++◌, length, map, drop, refl, sym, ap, ◌∙◌, subst, append_assoc, Option, Some, None, Err}
 use Rattle.std.proofs.lemmas.List.{append-nil, length-append, length-map, map-append}
-use Rattle.std.specs.Io.KnownBytes.{Appends}
 use Rattle.std.specs.List.{range_with_len}
 use Rattle.j39_id.specs.Lines.{Line, lines}
 use Rattle.j39_id.specs.declared.frame.Frame.{Frame}
@@ -18,8 +17,6 @@ use Rattle.j39_bus.specs.Stands.{Stands}
 use Rattle.j39_world.specs.World.{Stations, World, all_off}
 use Rattle.j39_schedule.specs.Schedule.{Reading, line_order, read_as, readings_of}
 use Rattle.j39_schedule.specs.declared.line_fault.LineFault.{LineFault}
-use Rattle.j39_stream.specs.Streams.{AppendsPart}
-use Rattle.j39_stream.proofs.Parts.{part_after}
 use Rattle.j39_run.specs.RunText.{EndsAt, IsBusText, closing_text, end_text, sent_lines, steps_of}
 use Rattle.j39_run.specs.Views.{Shows, View, unit_state}
 use Rattle.j39_run.specs.declared.halt.Halt.{Halt}
@@ -188,15 +185,3 @@ module _ (plan : Plan) (b : BusState) (ls : List Line) (place : ℕ) (written te
         h.ran,
         refuses h.world h.stands,
       )
-
--- what was written, and some first bytes of what was to be written next, are some first bytes of a text
-pub partly : (plan : Plan) (b : BusState) (ls : List Line) (place : ℕ) (written text input : List ℕ) (x y z : Option (List ℕ))
-    → HasDone plan b ls place written text → ls ≡ lines input
-    → Appends x y written → AppendsPart y z text → (whole : List ℕ) × IsBusText plan input End whole × AppendsPart x z whole
-partly plan b ls place written text input x y z h all first_part next_part =
-    let (view, shows) = some_view plan b in
-    let closing : List ℕ = closing_text plan view End in (
-      written ++ (text ++ closing),
-      end_done plan b ls place written text h view shows input all,
-      part_after x y z written text closing (written ++ (text ++ closing)) refl first_part next_part,
-    )

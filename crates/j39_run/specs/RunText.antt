@@ -1,5 +1,5 @@
 -- The text that the run command writes for a plan and a schedule.
-use Rattle.std.specs.Prelude.{◌≡◌, ◌⊎◌, ℕ, ◌+◌, ◌<◌, Bool, if◌then◌else◌, List, [], ◌∷◌, ◌++◌, length, map, codes, Option, Some, None, Err}
+use Rattle.std.specs.Prelude.{◌≡◌, ◌⊎◌, ℕ, ◌+◌, ◌<◌, Bool, true, false, if◌then◌else◌, List, [], ◌∷◌, ◌++◌, length, map, codes, Option, Some, None, Err}
 use Rattle.std.specs.List.{slice_split}
 use Rattle.hex.specs.Hex.{encode_upper}
 use Rattle.j39_id.specs.FrameLine.{canon_text}
@@ -68,6 +68,12 @@ abbrev pub verdict_of : Halt → Verdict
 verdict_of End = Done
 verdict_of (AtStep place cause) = Refused
 verdict_of (AtLine place fault) = Unreadable
+
+-- no line is refused
+abbrev pub is_running : Halt → Bool
+is_running End = true
+is_running (AtStep place cause) = false
+is_running (AtLine place fault) = false
 
 -- ---- what is written of it
 

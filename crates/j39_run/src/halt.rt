@@ -1,6 +1,6 @@
 //! Where a run of a schedule ends.
 ghost use Rattle.std.specs.Prelude.{◌≡◌};
-ghost use Rattle.j39_run.specs.RunText.{verdict_of};
+ghost use Rattle.j39_run.specs.RunText.{is_running, verdict_of};
 
 use j39_bus::StepError;
 use j39_schedule::LineFault;
@@ -18,6 +18,13 @@ pub enum Halt {
 }
 
 impl Halt {
+    /// Whether no line is refused.
+    pub fn is_running(self) -> bool
+        ensures { result ≡ is_running self }
+    {
+        matches!(self, Halt::End)
+    }
+
     pub fn verdict(self) -> Verdict
         ensures { result ≡ verdict_of self }
     {

@@ -2,17 +2,14 @@
 #![tactic(auto)]
 
 mod closing;
-mod due;
-mod feed;
 mod halt;
 mod laws;
-mod next;
-mod pieces;
 mod planned;
 mod refusal;
 mod run;
 mod run_lines;
 mod running;
+mod schedule_reader;
 mod unit_state;
 
 pub use laws::refused_lines_end_the_text;

@@ -6,12 +6,13 @@ ghost use Rattle.j39_stream.specs.Commands.{AnswersInPieces, PutsText};
 ghost use Rattle.j39_stream.specs.Streams.{plan_limits};
 
 use crate::refusal::plan_refusal;
-use crate::running::run_bus;
+use crate::running::Running;
+use crate::schedule_reader::ScheduleReader;
 use j39_bus::{Bus, BusError};
 use j39_claim::Choose;
 use j39_findings::Plan;
-use j39_schedule::UnitIndex;
-use j39_stream::{Fault, Sink, Source, Verdict, put_all};
+use j39_schedule::Units;
+use j39_stream::{Fault, PLAN_LIMITS, Sink, Source, Verdict, put_all, read_lines};
 use std::alloc::Global;
 
 // Writes why the plan has no bus.
@@ -46,9 +47,16 @@ pub fn run_text<S: Source, W: Sink>(
     ensures whole { IfOk result (λ verdict. (all : List ℕ) → (S.state source.old).left ≡ Some all → (text : List ℕ)
         × IsRunText plan.now (length choosers.items) all text verdict × Appends (W.state sink.old).taken (W.state sink.new).taken text) }
 {
-    let index = UnitIndex::new(alloc, plan)?;
+    let units = Units::new(alloc, plan)?;
     match Bus::new(alloc, plan, choosers) {
-        Ok(bus) => run_bus(alloc, &index, plan, bus, source, sink),
+        Ok(bus) => {
+            let running = Running::new(alloc, bus);
+            let mut reader = ScheduleReader {
+                units: &units,
+                running,
+            };
+            read_lines(PLAN_LIMITS, &mut reader, source, sink)
+        }
         Err(error) => refuse(alloc, plan, error, sink),
     }
 }

@@ -1,77 +1,122 @@
-//! A schedule that runs on a bus as it is read.
-ghost use Rattle.std.specs.Prelude.{◌≡◌, ◌⊎◌, IfErr, IfOk, OnOk, IsErrOf, Some, None};
+//! A schedule that runs on a bus, line after line.
+ghost use Rattle.std.specs.Prelude.{◌≡◌, ◌<◌, ◌^◌, true, [], ◌∷◌, IfOk, OnErr, OnOk, None, Some};
 ghost use Rattle.j39_bus.specs.Stands.{Stands};
-ghost use Rattle.j39_world.specs.Run.{cause_of};
-ghost use Rattle.j39_world.specs.World.{all_off};
-ghost use Rattle.j39_schedule.specs.UnitIndexes.{IsIndexOf};
-ghost use Rattle.j39_run.specs.inside.Ending.{HasEndedSo};
-ghost use Rattle.j39_stream.specs.Streams.{HasFailed, PassesLimits, plan_limits};
+ghost use Rattle.j39_findings.specs.declared.plan.Plan.{Plan as APlan};
+ghost use Rattle.j39_id.specs.Lines.{Line, Short, tells};
+ghost use Rattle.j39_schedule.specs.Schedule.{line_order, read_as};
+ghost use Rattle.j39_world.specs.Run.{cause_of, refusal};
+ghost use Rattle.j39_world.specs.World.{World, all_off};
+ghost use Rattle.j39_run.specs.RunText.{is_running};
+ghost use Rattle.j39_run.specs.inside.Doing.{HasRun, OrdersStep, RunsOn};
 
-use crate::closing::close;
-use crate::due::{Due, next_due};
-use crate::feed::Feed;
 use crate::halt::Halt;
 use crate::run_lines::write_frames;
 use j39_bus::{Bus, StepError};
-use j39_findings::Plan;
-use j39_schedule::UnitIndex;
-use j39_stream::{Fault, Sink, Source, Verdict};
+use j39_findings::Step;
+use j39_id::Cut;
+use j39_schedule::{LineFault, Units, Unread, read_line};
 use j39_text::TextBuffer;
-use std::alloc::Global;
+use std::alloc::{AllocError, Global};
+
+/// A run of a schedule: its bus, how many lines were done, what is to be written of them, and where the run ends, so far as is known.
+#[derive(Drop)]
+pub(crate) struct Running {
+    alloc: Global,
+    pub bus: Bus,
+    pub place: usize,
+    pub text: TextBuffer,
+    pub halt: Halt,
+}
 
 // Where a run ends at this line, whose step was not done. A step for which memory was wanted ends no run.
-fn refused_at(place: usize, error: StepError) -> Result<Halt, Fault>
-    ensures halt { IfOk result (λ halt. halt ≡ Halt.Step place error) }
-    ensures cause { OnOk result (cause_of error ≡ Some error) }
-    ensures memory { IfErr result (λ fault. (fault ≡ Fault.Memory) × (cause_of error ≡ None)) }
+fn refused_at(place: usize, error: StepError) -> Result<Halt, AllocError>
+    ensures halt { IfOk result (λ halt. (halt ≡ Halt.Step place error) × (cause_of error ≡ Some error)) }
+    ensures memory { OnErr result (cause_of error ≡ None) }
 {
     match error {
-        StepError::Memory => Err(Fault::Memory),
+        StepError::Memory => Err(AllocError),
         refused => Ok(Halt::Step(place, refused)),
     }
 }
 
-/// Runs a schedule on a new bus of the plan, up to the first line that is refused. Of each piece of the schedule the frames
-/// are written before the next piece is read.
-pub fn run_bus<S: Source, W: Sink>(
-    alloc: Global,
-    index: &UnitIndex,
-    plan: &Plan,
-    bus: Bus,
-    source: &mut S,
-    sink: &mut W,
-) -> Result<Verdict, Fault>
-    requires indexed { IsIndexOf plan.now index.now }
-    requires stands { Stands bus plan.now all_off }
-    ensures ends { HasEndedSo plan.now (S.state source.old) (S.state source.new) (W.state sink.old) (W.state sink.new) result }
-    ensures long { IsErrOf result Fault.TooLong → PassesLimits plan_limits (S.state source.old) (S.state source.new) }
-    ensures device { IsErrOf result Fault.Device → HasFailed (S.state source.old).failures (S.state source.new).failures
-        ⊎ HasFailed (W.state sink.old).failures (W.state sink.new).failures }
-{
-    let mut bus = bus;
-    let mut feed = Feed::new();
-    let mut place = 0;
-    let mut text = TextBuffer::new(alloc);
-    // (the bus has one way out of here, since what a way drops is part of its proof)
-    let end = loop {
-        match next_due(
-            alloc, index, plan, &mut feed, &mut place, &mut text, source, sink,
-        ) {
-            Err(fault) => break Err(fault),
-            Ok(due) => match due {
-                Due::Halt(halt) => break Ok(halt),
-                Due::Step(step) => {
-                    let shown = bus.frames().len();
-                    if let Err(error) = bus.step(&step) {
-                        break refused_at(place, error);
-                    }
-                    if write_frames(&mut text, bus.frames(), shown).is_err() {
-                        break Err(Fault::Memory);
-                    }
-                    place += 1;
-                }
-            },
+impl Running {
+    /// A run that did nothing yet.
+    pub fn new(alloc: Global, bus: Bus) -> Self
+        ensures begun { (plan : APlan) → Stands bus plan all_off → HasRun plan result [] [] }
+        ensures text { result.text ≡ [] }
+        ensures place { result.place ≡ 0 }
+        ensures halt { result.halt ≡ Halt.End }
+    {
+        Running {
+            alloc,
+            bus,
+            place: 0,
+            text: TextBuffer::new(alloc),
+            halt: Halt::End,
         }
-    };
-    close(&mut text, plan, &bus, end, sink)
+    }
+
+    // Does the step that the next line orders, or ends there where it is refused.
+    fn step(&mut self, step: &Step) -> Result<(), AllocError>
+        requires goes { is_running self.old.halt ≡ true }
+        requires room { self.old.place < 2 ^ 63 }
+        ensures run { OnOk result ((plan : APlan) (line : Line) → line_order plan line ≡ read_as (Some step.now)
+            → RunsOn plan self.old self.new (line ∷ [])) }
+        ensures memory { OnErr result ((plan : APlan) (w : World) → Stands self.old.bus plan w → refusal plan w step.now ≡ None) }
+    {
+        let shown = self.bus.frames().len();
+        match self.bus.step(step) {
+            Ok(()) => {
+                write_frames(&mut self.text, self.bus.frames(), shown)?;
+                self.place += 1;
+                Ok(())
+            }
+            Err(error) => {
+                self.halt = refused_at(self.place, error)?;
+                Ok(())
+            }
+        }
+    }
+
+    // Does what a line orders, or ends there where it can't be read or its step is refused.
+    #[tactic(auto, using(crate::proofs::Runs::bad_run))]
+    fn read_line(&mut self, units: &Units, line: &[u8]) -> Result<(), AllocError>
+        requires goes { is_running self.old.halt ≡ true }
+        requires room { self.old.place < 2 ^ 63 }
+        ensures run { OnOk result (RunsOn units.now self.old self.new (Short line.now ∷ [])) }
+        ensures memory { OnErr result (OrdersStep units.now (Short line.now ∷ [])) }
+    {
+        match read_line(self.alloc, units, line) {
+            Ok(Some(step)) => self.step(&step),
+            Ok(None) => {
+                self.place += 1;
+                Ok(())
+            }
+            Err(Unread::Fault(fault)) => {
+                self.halt = Halt::Line(self.place, fault);
+                Ok(())
+            }
+            Err(Unread::Memory) => Err(AllocError),
+        }
+    }
+
+    /// Reads what a cutter tells: a line, a line that is too long, or nothing yet. Behind a line that is refused nothing is done.
+    #[tactic(auto, using(crate::proofs::Runs::same_run, crate::proofs::Runs::stopped_run))]
+    pub fn read_cut(&mut self, units: &Units, cut: Cut, line: &[u8]) -> Result<(), AllocError>
+        requires { self.old.place < 2 ^ 63 }
+        ensures run { OnOk result (RunsOn units.now self.old self.new (tells cut line.now)) }
+        ensures memory { OnErr result ((is_running self.old.halt ≡ true) × OrdersStep units.now (tells cut line.now)) }
+    {
+        if !self.halt.is_running() {
+            return Ok(());
+        }
+        match cut {
+            Cut::More => Ok(()),
+            Cut::Line => self.read_line(units, line),
+            Cut::Long => {
+                self.halt = Halt::Line(self.place, LineFault::LongLine);
+                Ok(())
+            }
+        }
+    }
 }

@@ -15,7 +15,7 @@ use Rattle.std.specs.Str.{bytes_eq}
 use Rattle.j39_findings.specs.declared.plan.Plan.{Plan}
 use Rattle.j39_findings.specs.declared.plan.unit_plan.UnitPlan.{UnitPlan}
 use Rattle.j39_schedule.specs.Schedule.{unit_named}
-use Rattle.j39_schedule.specs.UnitIndexes.{Has, IsIndexOf}
+use Rattle.j39_schedule.specs.inside.UnitIndexes.{Has, IsIndexOf}
 use Rattle.j39_schedule.specs.inside.Checksums.{checksum, is_unit_named}
 use Rattle.j39_schedule.proofs.UnitNames.{named}
 

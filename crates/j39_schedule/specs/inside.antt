@@ -2,3 +2,4 @@
 pub mod Checksums
 pub mod OrderWords
 pub mod WordValues
+pub mod UnitIndexes

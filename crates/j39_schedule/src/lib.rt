@@ -9,6 +9,7 @@ mod order_line;
 mod order_word;
 mod step_lines;
 mod unit_index;
+mod units;
 mod unread;
 mod values;
 
@@ -16,5 +17,5 @@ pub use laws::{first_fault_is_told, written_steps_read_back};
 pub use line_fault::LineFault;
 pub use order_line::read_line;
 pub use step_lines::write_steps;
-pub use unit_index::UnitIndex;
+pub use units::Units;
 pub use unread::Unread;

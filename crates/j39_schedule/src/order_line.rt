@@ -3,27 +3,25 @@ ghost use Rattle.std.specs.Prelude.{◌≡◌, None, Some, IfOk, IfErr};
 ghost use Rattle.j39_id.specs.Lines.{Short};
 ghost use Rattle.j39_schedule.specs.Schedule.{line_order, order_of, unit_named, words_of};
 ghost use Rattle.j39_schedule.specs.Scheduling.{IsReadAs};
-ghost use Rattle.j39_schedule.specs.UnitIndexes.{IsIndexOf};
 ghost use Rattle.j39_schedule.specs.inside.OrderWords.{order_word};
 
 use crate::beginning::begin;
 use crate::line_fault::LineFault;
 use crate::line_words::next_word;
 use crate::order_word::OrderWord;
-use crate::unit_index::UnitIndex;
+use crate::units::Units;
 use crate::unread::Unread;
 use crate::values::{Values, values_of};
-use j39_findings::{Plan, Step};
+use j39_findings::Step;
 use std::alloc::Global;
 
 /// The unit of a label, by its place.
 #[tactic(auto, unfolding(crate::specs::Schedule::unit_named))]
-fn unit(index: &UnitIndex, plan: &Plan, label: &[u8]) -> Result<usize, Unread>
-    requires { IsIndexOf plan.now index.now }
-    ensures found { IfOk result (λ u. unit_named plan.now label.now ≡ Some u) }
-    ensures none { IfErr result (λ why. (unit_named plan.now label.now ≡ None) × (why ≡ Unread.Fault LineFault.UnknownLabel)) }
+fn unit(units: &Units, label: &[u8]) -> Result<usize, Unread>
+    ensures found { IfOk result (λ u. unit_named units.now label.now ≡ Some u) }
+    ensures none { IfErr result (λ why. (unit_named units.now label.now ≡ None) × (why ≡ Unread.Fault LineFault.UnknownLabel)) }
 {
-    match index.find(plan, label) {
+    match units.find(label) {
         Some(place) => Ok(place),
         None => Err(Unread::Fault(LineFault::UnknownLabel)),
     }
@@ -32,53 +30,49 @@ fn unit(index: &UnitIndex, plan: &Plan, label: &[u8]) -> Result<usize, Unread>
 /// What a word orders with these values.
 fn order_of(
     alloc: Global,
-    index: &UnitIndex,
-    plan: &Plan,
+    units: &Units,
     word: OrderWord,
     values: &[u8],
 ) -> Result<Option<Step>, Unread>
-    requires { IsIndexOf plan.now index.now }
-    ensures { IsReadAs (order_of plan.now (order_word word) (words_of values.now)) result }
+    ensures { IsReadAs (order_of units.now (order_word word) (words_of values.now)) result }
 {
     match (word, values_of(values)) {
-        (OrderWord::Up, Values::One(a)) => Ok(Some(Step::Up(unit(index, plan, a)?))),
-        (OrderWord::Down, Values::One(a)) => Ok(Some(Step::Down(unit(index, plan, a)?))),
+        (OrderWord::Up, Values::One(a)) => Ok(Some(Step::Up(unit(units, a)?))),
+        (OrderWord::Down, Values::One(a)) => Ok(Some(Step::Down(unit(units, a)?))),
         (OrderWord::Give, Values::Two(a, b)) => Ok(Some(Step::Give(
-            unit(index, plan, a)?,
-            unit(index, plan, b)?,
+            unit(units, a)?,
+            unit(units, b)?,
         ))),
-        (OrderWord::Ask, Values::One(a)) => Ok(Some(Step::Ask(unit(index, plan, a)?))),
-        (OrderWord::Begin, Values::Two(number, digits)) => begin(alloc, plan, number, digits),
-        (OrderWord::Emit, Values::One(a)) => Ok(Some(Step::Emit(unit(index, plan, a)?))),
+        (OrderWord::Ask, Values::One(a)) => Ok(Some(Step::Ask(unit(units, a)?))),
+        (OrderWord::Begin, Values::Two(number, digits)) => begin(
+            alloc,
+            units.plan(),
+            number,
+            digits,
+        ),
+        (OrderWord::Emit, Values::One(a)) => Ok(Some(Step::Emit(unit(units, a)?))),
         (OrderWord::Take, Values::Two(a, b)) => Ok(Some(Step::Take(
-            unit(index, plan, a)?,
-            unit(index, plan, b)?,
+            unit(units, a)?,
+            unit(units, b)?,
         ))),
         (OrderWord::Lose, Values::Two(a, b)) => Ok(Some(Step::Lose(
-            unit(index, plan, a)?,
-            unit(index, plan, b)?,
+            unit(units, a)?,
+            unit(units, b)?,
         ))),
-        (OrderWord::Late, Values::One(a)) => Ok(Some(Step::LateSender(unit(index, plan, a)?))),
+        (OrderWord::Late, Values::One(a)) => Ok(Some(Step::LateSender(unit(units, a)?))),
         (OrderWord::Late, Values::Two(a, b)) => Ok(Some(Step::LateReceiver(
-            unit(index, plan, a)?,
-            unit(index, plan, b)?,
+            unit(units, a)?,
+            unit(units, b)?,
         ))),
-        (OrderWord::Rest, Values::One(a)) => Ok(Some(Step::Rest(unit(index, plan, a)?))),
+        (OrderWord::Rest, Values::One(a)) => Ok(Some(Step::Rest(unit(units, a)?))),
         _ => Err(Unread::Fault(LineFault::WordCount)),
     }
 }
 
-/// What a line that isn't too long orders: a step, or nothing where it has no words or is a comment. Its units are found by an
-/// index of the plan.
+/// What a line that isn't too long orders: a step, or nothing where it has no words or is a comment.
 #[tactic(auto, unfolding(crate::specs::Schedule::line_order, crate::specs::Schedule::words_order))]
-pub fn read_line(
-    alloc: Global,
-    index: &UnitIndex,
-    plan: &Plan,
-    line: &[u8],
-) -> Result<Option<Step>, Unread>
-    requires { IsIndexOf plan.now index.now }
-    ensures { IsReadAs (line_order plan.now (Short line.now)) result }
+pub fn read_line(alloc: Global, units: &Units, line: &[u8]) -> Result<Option<Step>, Unread>
+    ensures { IsReadAs (line_order units.now (Short line.now)) result }
 {
     let Some((word, values)) = next_word(line) else {
         return Ok(None);
@@ -87,7 +81,7 @@ pub fn read_line(
         return Ok(None);
     }
     match OrderWord::spelled(word) {
-        Some(word) => order_of(alloc, index, plan, word, values),
+        Some(word) => order_of(alloc, units, word, values),
         None => Err(Unread::Fault(LineFault::UnknownWord)),
     }
 }

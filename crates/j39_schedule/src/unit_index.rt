@@ -1,7 +1,7 @@
 //! The units of a plan, found by their labels.
 ghost use Rattle.std.specs.Prelude.{◌≡◌, ℕ, [], position, slice_index_or, OnOk, IfOk};
 ghost use Rattle.j39_schedule.specs.Schedule.{unit_named};
-ghost use Rattle.j39_schedule.specs.UnitIndexes.{Has, IsIndexOf};
+ghost use Rattle.j39_schedule.specs.inside.UnitIndexes.{Has, IsIndexOf};
 ghost use Rattle.j39_schedule.specs.inside.Checksums.{checksum, is_unit_named};
 
 use j39_findings::Plan;

@@ -1,3 +1,4 @@
 pub mod Answering
+pub mod LineReading
 pub mod Parts
 pub mod StreamSteps

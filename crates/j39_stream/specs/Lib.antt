@@ -1,4 +1,5 @@
 pub mod Commands
 pub mod Intakes
+pub mod LineReading
 pub mod Streams
 pub mod Tape

@@ -1,4 +1,4 @@
-//! Sources and sinks of bytes, and why reading or writing them fails.
+//! Sources and sinks of bytes, why reading or writing them fails, and the loop that reads the lines of a source.
 #![tactic(auto)]
 
 mod failed;
@@ -6,6 +6,8 @@ mod fault;
 mod from_read;
 mod intake;
 mod limits;
+mod line_reader;
+mod line_reading;
 mod loading;
 mod pieces;
 mod sink;
@@ -19,6 +21,8 @@ pub use fault::Fault;
 pub use from_read::FromRead;
 pub use intake::{Intake, PIECE_BYTES};
 pub use limits::{LOG_LIMITS, Limits, PLAN_LIMITS};
+pub use line_reader::LineReader;
+pub use line_reading::read_lines;
 pub use loading::load;
 pub use pieces::{Pieces, Stop};
 pub use sink::Sink;

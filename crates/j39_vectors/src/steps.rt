@@ -2,7 +2,7 @@
 
 use crate::rows::CHECK_OF_A_PLAN;
 use j39_plan::{Step, read_plan};
-use j39_schedule::{UnitIndex, write_steps};
+use j39_schedule::{Units, write_steps};
 use j39_text::TextBuffer;
 use std::test::Fail;
 
@@ -57,7 +57,7 @@ fn each_step_has_its_line(rt: HostRuntime) -> Result<(), Fail> {
 #[test]
 fn units_are_found_by_their_labels(rt: HostRuntime) -> Result<(), Fail> {
     let plan = read_plan(rt.alloc(), ALIKE.as_bytes())?;
-    let index = UnitIndex::new(rt.alloc(), &plan)?;
+    let units = Units::new(rt.alloc(), &plan)?;
     for (label, place) in [
         ("Aa", Some(0)),
         ("BB", Some(1)),
@@ -66,7 +66,7 @@ fn units_are_found_by_their_labels(rt: HostRuntime) -> Result<(), Fail> {
         ("Aaa", None),
         ("", None),
     ] {
-        assert_eq!(rt; index.find(&plan, label.as_bytes()), place, "at {label}");
+        assert_eq!(rt; units.find(label.as_bytes()), place, "at {label}");
     }
     Ok(())
 }

@@ -1,14 +1,19 @@
-use Rattle.std.proofs.Common.{[], refl}
+use Rattle.std.proofs.Common.{[], refl, subst}
+use Rattle.j39_findings.specs.declared.plan.Plan.{Plan}
 use Rattle.j39_stream.proofs.Answering.{not_begun, put_unread, said_of}
+use Rattle.j39_log.specs.ReadText.{IsLogText}
 use Rattle.j39_log.proofs.LogReading.{begun, so_far}
 use Rattle.j39_log.proofs.log_text.read_text.Goals as goal
 
-pub read_log-requires-clause-begins : goal.read_log-requires-clause-begins
-read_log-requires-clause-begins g c =
-    so_far c.args.plan.now [] c.new-in-Ok.result [] (begun c.args.plan.now c.new-in-Ok.result c.new-in-Ok.ensures.text c.new-in-Ok.ensures.past)
+pub read_lines-requires-clause-begins : goal.read_lines-requires-clause-begins
+read_lines-requires-clause-begins g c =
+    so_far c.in-Ok.groups [] c.new-reading.result [] (begun c.in-Ok.groups c.new-reading.result c.new-reading.ensures.text c.new-reading.ensures.past)
 
 pub returns-in-Ok : goal.returns-in-Ok
-returns-in-Ok g c = said_of c.read_log.result (λ log text verdict is. rw is.1 (c.in-Ok.ensures.readable, is.0)) c.read_log.ensures
+returns-in-Ok g c =
+    said_of c.read_lines.result
+    (λ log text verdict is. rw is.1 (c.in-Ok.ensures.readable, subst (λ (p : Plan). IsLogText p log text) c.in-Ok.ensures.plan is.0))
+    c.read_lines.ensures.answers
 
 pub returns-in-Err-Memory : goal.returns-in-Err-Memory
 returns-in-Err-Memory g c = not_begun _ refl

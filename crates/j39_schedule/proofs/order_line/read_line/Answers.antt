@@ -8,6 +8,6 @@ use Rattle.j39_schedule.proofs.order_line.read_line.Goals as goal
 pub returns-in-Some-spelled : goal.returns-in-Some-spelled
 unfolding line_order words_order
 returns-in-Some-spelled c =
-    let is : line_order c.args.plan.now (Short c.args.line.now)
-    ≡ order_of c.args.plan.now (order_word c.in-Some-spelled.word) (words_of c.in-Some.values.now) = grind (arith, common_steps) in
+    let is : line_order c.args.units.now (Short c.args.line.now)
+    ≡ order_of c.args.units.now (order_word c.in-Some-spelled.word) (words_of c.in-Some.values.now) = grind (arith, common_steps) in
     rw is c.order_of.ensures

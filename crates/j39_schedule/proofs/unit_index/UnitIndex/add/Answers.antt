@@ -1,6 +1,6 @@
 use Rattle.std.proofs.Common.{◌≡◌, ℕ, ◌<◌, List, Vec, Global, [], ◌∷◌, ◌++◌, length, map, set, get_or, sym, ap, ◌∙◌, subst, arith}
 use Rattle.std.proofs.lemmas.List.{length-map, map-set}
-use Rattle.j39_schedule.specs.UnitIndexes.{Has}
+use Rattle.j39_schedule.specs.inside.UnitIndexes.{Has}
 use Rattle.j39_schedule.specs.inside.Checksums.{checksum}
 use Rattle.j39_schedule.proofs.UnitIndexes.{IsJoined, joined_has, joined_keeps, list_at}
 use Rattle.j39_schedule.proofs.unit_index.UnitIndex.add.Goals as goal

@@ -1,0 +1,201 @@
+-- A run of a schedule, line after line.
+use Rattle.std.proofs.Common.{◌≡◌, ◌+◌, ◌++◌, ℕ, true, false, List, [], ◌∷◌, length, refl, sym, ap, ◌∙◌, subst, arith, append_assoc, Some, None, Err}
+use Rattle.std.proofs.lemmas.List.{append-nil}
+use Rattle.j39_id.specs.Lines.{Line, lines}
+use Rattle.j39_findings.specs.declared.plan.Plan.{Plan}
+use Rattle.j39_findings.specs.declared.steps.Step.{Step}
+use Rattle.j39_world.specs.declared.step_error.StepError.{StepError}
+use Rattle.j39_world.specs.Run.{cause_of, refusal}
+use Rattle.j39_world.specs.World.{World}
+use Rattle.j39_bus.specs.BusState.{BusState}
+use Rattle.j39_bus.specs.Stands.{Stands}
+use Rattle.j39_schedule.specs.Schedule.{Reading, line_order, read_as}
+use Rattle.j39_schedule.specs.declared.line_fault.LineFault.{LineFault}
+use Rattle.j39_stream.specs.LineReading.{HasLines, IsSoFar}
+use Rattle.j39_stream.specs.declared.verdict.Verdict.TheVariants.{Done}
+use Rattle.j39_run.specs.RunText.{IsBusText, closing_text, is_running, verdict_of}
+use Rattle.j39_run.specs.Views.{Shows, View}
+use Rattle.j39_run.specs.declared.halt.Halt.{Halt}
+use Rattle.j39_run.specs.declared.halt.Halt.TheVariants.{End, Step as AtStep, Line as AtLine}
+use Rattle.j39_run.specs.declared.running.Running.{Running}
+use Rattle.j39_run.specs.inside.Doing.{HasDone, HasRun, HasRunTo, HasShown, HasStopped, IsRefusedStep, IsTextOfBus, RunsOn}
+use Rattle.j39_run.proofs.Done.{blank_done, end_done, line_refused, put_done, some_view, step_done, step_refused, unit_count}
+
+-- ---- a line
+
+-- a run goes on where no line is refused
+runs_to_end : (halt : Halt) → is_running halt ≡ true → halt ≡ End
+runs_to_end End is = refl
+runs_to_end (AtStep place cause) is = cc is
+runs_to_end (AtLine place fault) is = cc is
+
+-- a run that goes on has done all lines that were read
+done_all : (plan : Plan) (b : BusState) (place : ℕ) (text : List ℕ) (halt : Halt) (told : List Line) (written : List ℕ) → halt ≡ End
+    → HasRunTo plan b place text halt told written → HasDone plan b told place written text
+done_all plan b place text halt told written goes run = subst (λ (h : Halt). HasRunTo plan b place text h told written) goes run
+
+-- where the next line is refused the run stops
+stops : (plan : Plan) (b : BusState) (IsRefused : Reading → Type 0) (place : ℕ) (text : List ℕ) (told : List Line) (line : Line) (written : List ℕ)
+    → HasDone plan b told place written text → IsRefused (line_order plan line) → HasStopped plan b IsRefused place text (told ++ line ∷ []) written
+stops plan b IsRefused place text told line written done refused = record {
+  ls = told;
+  line = line;
+  rest = [];
+  parts = sym (append-nil (told ++ line ∷ []));
+  done = done;
+  refused = refused;
+}
+
+-- what stands behind it makes no difference
+still_stopped : (plan : Plan) (b : BusState) (IsRefused : Reading → Type 0) (place : ℕ) (text : List ℕ) (told more : List Line) (written : List ℕ)
+    → HasStopped plan b IsRefused place text told written → HasStopped plan b IsRefused place text (told ++ more) written
+still_stopped plan b IsRefused place text told more written h = record {
+  ls = h.ls;
+  line = h.line;
+  rest = h.rest ++ more;
+  parts = ap (λ (t : List Line). t ++ more) h.parts ∙ append_assoc (h.ls ++ h.line ∷ []) h.rest more;
+  done = h.done;
+  refused = h.refused;
+}
+
+module _ {X : Type 0} {P : X → Type 0} (plan : Plan) (old : Running X P) (goes : is_running old.halt ≡ true) where
+  done_of : (told : List Line) (written : List ℕ) → HasRun plan old told written → HasDone plan old.bus told old.place written old.text
+  done_of told written run = done_all plan old.bus old.place old.text old.halt told written (runs_to_end old.halt goes) run
+
+  -- a line that orders nothing
+  pub blank_run : (line : Line) → line_order plan line ≡ read_as None → RunsOn plan old (record old { place = old.place + 1 }) (line ∷ [])
+  blank_run line reads = record {
+    run = λ told written run.
+        subst (λ (h : Halt). HasRunTo plan old.bus (old.place + 1) old.text h (told ++ line ∷ []) written) (sym (runs_to_end old.halt goes))
+        (blank_done plan old.bus told line old.place written old.text (done_of told written run) reads);
+    count = omega arith;
+  }
+
+  -- a line that can't be read
+  pub bad_run : (line : Line) (fault : LineFault) → line_order plan line ≡ Err fault
+      → RunsOn plan old (record old { halt = AtLine old.place fault }) (line ∷ [])
+  bad_run line fault reads = record {
+    run = λ told written run.
+        stops plan old.bus (λ reading. reading ≡ Err fault) old.place old.text told line written (done_of told written run) reads;
+    count = omega arith;
+  }
+
+  -- a line whose step was done
+  pub step_run : (line : Line) (step : Step) (bus : BusState) (text : List ℕ) → line_order plan line ≡ read_as (Some step)
+      → HasShown step old.bus bus old.text text
+      → RunsOn plan old (record old { bus = bus; text = text; place = old.place + 1 }) (line ∷ [])
+  step_run line step bus text reads shown = record {
+    run = λ told written run.
+        subst (λ (h : Halt). HasRunTo plan bus (old.place + 1) text h (told ++ line ∷ []) written) (sym (runs_to_end old.halt goes))
+        (step_done plan old.bus bus told line step old.place written old.text text (done_of told written run) reads shown);
+    count = omega arith;
+  }
+
+  -- a line whose step is refused
+  pub refused_run : (line : Line) (step : Step) (bus : BusState) (halt : Halt) (cause : StepError) → line_order plan line ≡ read_as (Some step)
+      → bus ≡ old.bus → ((p : Plan) (w : World) → Stands old.bus p w → refusal p w step ≡ cause_of cause)
+      → (halt ≡ AtStep old.place cause) × (cause_of cause ≡ Some cause)
+      → RunsOn plan old (record old { bus = bus; halt = halt }) (line ∷ [])
+  refused_run line step bus halt cause reads same refuses (at, told_so) = record {
+    run = λ told written run.
+        subst (λ (h : Halt). HasRunTo plan bus old.place old.text h (told ++ line ∷ []) written) (sym at)
+        (subst (λ (b : BusState). HasStopped plan b (IsRefusedStep plan b cause) old.place old.text (told ++ line ∷ []) written) (sym same)
+        (stops plan old.bus (IsRefusedStep plan old.bus cause) old.place old.text told line written (done_of told written run)
+        (step, reads, (λ w stands. refuses plan w stands ∙ told_so))));
+    count = omega arith;
+  }
+
+-- nothing was told
+pub same_run : {X : Type 0} {P : X → Type 0} (plan : Plan) (old : Running X P) (ls : List Line) → ls ≡ [] → RunsOn plan old old ls
+same_run plan old ls none = record {
+  run = λ told written run. subst (λ (t : List Line). HasRun plan old t written) (sym (append-nil told) ∙ ap (λ (m : List Line). told ++ m) (sym none)) run;
+  count = omega arith;
+}
+
+stopped_on : (plan : Plan) (b : BusState) (place : ℕ) (text : List ℕ) (halt : Halt) (told more : List Line) (written : List ℕ) → is_running halt ≡ false
+    → HasRunTo plan b place text halt told written → HasRunTo plan b place text halt (told ++ more) written
+stopped_on plan b place text End told more written stopped run = cc stopped
+stopped_on plan b place text (AtStep at cause) told more written stopped run = still_stopped plan b (IsRefusedStep plan b cause) at text told more written run
+stopped_on plan b place text (AtLine at fault) told more written stopped run =
+    still_stopped plan b (λ reading. reading ≡ Err fault) at text told more written run
+
+-- a run that stopped reads no more lines
+pub stopped_run : {X : Type 0} {P : X → Type 0} (plan : Plan) (old : Running X P) (ls : List Line) → is_running old.halt ≡ false → RunsOn plan old old ls
+stopped_run plan old ls stopped = record {
+  run = λ told written run. stopped_on plan old.bus old.place old.text old.halt told ls written stopped run;
+  count = omega arith;
+}
+
+-- ---- what is written
+
+put_to : (plan : Plan) (b : BusState) (place : ℕ) (text rest : List ℕ) (halt : Halt) (told : List Line) (written : List ℕ) → rest ≡ []
+    → HasRunTo plan b place text halt told written → HasRunTo plan b place rest halt told (written ++ text)
+put_to plan b place text rest End told written empty run = put_done plan b told place written text rest empty run
+put_to plan b place text rest (AtStep at cause) told written empty run = record {
+  ls = run.ls;
+  line = run.line;
+  rest = run.rest;
+  parts = run.parts;
+  done = put_done plan b run.ls at written text rest empty run.done;
+  refused = run.refused;
+}
+put_to plan b place text rest (AtLine at fault) told written empty run = record {
+  ls = run.ls;
+  line = run.line;
+  rest = run.rest;
+  parts = run.parts;
+  done = put_done plan b run.ls at written text rest empty run.done;
+  refused = run.refused;
+}
+
+-- what is to be written is written
+pub put_run : {X : Type 0} {P : X → Type 0} (plan : Plan) (run : Running X P) (rest : List ℕ) (told : List Line) (written : List ℕ)
+    → rest ≡ [] → HasRun plan run told written
+    → HasRun plan (record run { text = rest }) told (written ++ run.text)
+put_run plan run rest told written empty has = put_to plan run.bus run.place run.text rest run.halt told written empty has
+
+-- ---- the text
+
+-- the bus has the units of the plan
+pub units_counted : (plan : Plan) (b : BusState) (place : ℕ) (text : List ℕ) (halt : Halt) (told : List Line) (written : List ℕ)
+    → HasRunTo plan b place text halt told written → length b.units ≡ length plan.units.items
+units_counted plan b place text End told written run = unit_count b plan run.world run.stands
+units_counted plan b place text (AtStep at cause) told written run = unit_count b plan run.done.world run.done.stands
+units_counted plan b place text (AtLine at fault) told written run = unit_count b plan run.done.world run.done.stands
+
+rest_told : (told front rest more all : List Line) → all ≡ told ++ more → told ≡ front ++ rest → all ≡ front ++ (rest ++ more)
+rest_told told front rest more all is parts = is ∙ ap (λ (t : List Line). t ++ more) parts ∙ append_assoc front rest more
+
+module _ (plan : Plan) (b : BusState) (place : ℕ) (text : List ℕ) (view : View) (shows : (w : World) → Stands b plan w → Shows plan w view) where
+  -- with what stands at its end the text is whole, for each schedule with these lines
+  pub closed : (halt : Halt) (told : List Line) (written input : List ℕ) → HasRunTo plan b place text halt told written
+      → HasLines (is_running halt) told input → IsBusText plan input halt (written ++ (text ++ closing_text plan view halt))
+  closed End told written input run all = end_done plan b told place written text run view shows input (sym all)
+  closed (AtStep at cause) told written input run (more, all) =
+      let (step, reads, refuses) = run.refused in
+      step_refused plan b run.ls at written text run.done view shows input run.line (run.rest ++ more) step cause
+      (rest_told told (run.ls ++ run.line ∷ []) run.rest more (lines input) all run.parts) reads refuses
+  closed (AtLine at fault) told written input run (more, all) =
+      line_refused plan b run.ls at written text run.done view shows input run.line (run.rest ++ more) fault
+      (rest_told told (run.ls ++ run.line ∷ []) run.rest more (lines input) all run.parts) run.refused
+
+-- a text begins with what is written of the lines
+pub so_far : {X : Type 0} {P : X → Type 0} (plan : Plan) (run : Running X P) (told : List Line) (written : List ℕ) → HasRun plan run told written
+    → IsSoFar (λ told written. HasRun plan run told written) (λ schedule text verdict. IsTextOfBus plan schedule text verdict)
+    (is_running run.halt) run.text told written
+so_far plan run told written has =
+    let (view, shows) = some_view plan run.bus in
+    record {
+      read = has;
+      begins = λ input all. (
+        closing_text plan view run.halt,
+        verdict_of run.halt,
+        (run.halt, closed plan run.bus run.place run.text view shows run.halt told written input has all, refl),
+      );
+    }
+
+-- it is done only where no line is refused
+pub done_at_end : (halt : Halt) → verdict_of halt ≡ Done → is_running halt ≡ true
+done_at_end End is = refl
+done_at_end (AtStep place cause) is = cc is
+done_at_end (AtLine place fault) is = cc is
