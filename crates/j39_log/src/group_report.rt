@@ -167,7 +167,6 @@ fn write_group_line(
 }
 
 /// Writes what the signals, the records and the texts of a group read.
-#[inline(always)]
 #[tactic(auto, unfolding(crate::specs::LogReports::reading_lines))]
 pub(super) fn write_readings(
     text: &mut TextBuffer,
