@@ -3,7 +3,7 @@ ghost use Rattle.std.specs.Prelude.{◌≡◌, ◌++◌, ◌∷◌, [], ℕ, Lis
 ghost use Rattle.std.specs.Option.{option_to_list};
 ghost use Rattle.j39_id.specs.declared.frame.Frame.{Frame as AFrame};
 ghost use Rattle.j39_log.specs.LogPairs.{Seen};
-ghost use Rattle.j39_log.specs.inside.Listening.{AreAllInRange, IsCatalogOf};
+ghost use Rattle.j39_log.specs.inside.Listening.{AreAllInRange};
 ghost use Rattle.j39_tp.specs.Packets.{InRange};
 ghost use Rattle.j39_tp.specs.declared.receiving.progress.Progress.TheVariants.{Complete};
 ghost use Rattle.j39_follow.specs.FollowReports.{IsMessageReport};
@@ -18,9 +18,8 @@ use crate::group_line::write_message;
 use crate::message::{Arrival, Sort};
 use crate::notice::write_notice;
 use crate::stamp::Stamp;
-use j39_findings::Plan;
 use j39_id::{Frame, Ident};
-use j39_log::{Catalog, Listeners, listen, transport_packet};
+use j39_log::{Groups, Listeners, listen, transport_packet};
 use j39_text::TextBuffer;
 use j39_tp::{Packet, listener_completes_what_is_carried};
 use std::alloc::AllocError;
@@ -40,17 +39,15 @@ fn in_frame(frame: &Frame) -> Arrival<'_>
 // The report of the message that a pair just completed, and what it counts as.
 fn write_completed(
     text: &mut TextBuffer,
-    plan: &Plan,
-    catalog: &Catalog,
+    groups: &Groups<'_>,
     directory: &Directory,
     listeners: &Listeners,
     stamp: Stamp<'_>,
     ident: Ident,
 ) -> Result<Option<Sort>, AllocError>
-    requires catalog { IsCatalogOf plan.now catalog.now }
-    requires complete { (pgn : ℕ) × ((listener_between listeners.now ident.sa ident.ps).progress ≡ Complete pgn) }
-    ensures { IfOk result (λ counted. (frames : List AFrame) → Knows plan.now directory.now frames
-        → IsCompleted plan.now frames (front_of stamp.entry) (listener_between listeners.now ident.sa ident.ps) ident counted text.old text.new) }
+    requires { (pgn : ℕ) × ((listener_between listeners.now ident.sa ident.ps).progress ≡ Complete pgn) }
+    ensures { IfOk result (λ counted. (frames : List AFrame) → Knows groups.now directory.now frames
+        → IsCompleted groups.now frames (front_of stamp.entry) (listener_between listeners.now ident.sa ident.ps) ident counted text.old text.new) }
 {
     let Some(listener) = listeners.listener(ident.sa, ident.ps) else {
         return Ok(None);
@@ -63,7 +60,7 @@ fn write_completed(
                 ident,
                 framed: None,
             };
-            let sort = write_message(text, plan, catalog, directory, stamp, message)?;
+            let sort = write_message(text, groups, directory, stamp, message)?;
             Ok(Some(sort))
         }
         None => Ok(None),
@@ -74,33 +71,23 @@ fn write_completed(
 fn write_packet(
     text: &mut TextBuffer,
     listeners: &mut Listeners,
-    plan: &Plan,
-    catalog: &Catalog,
+    groups: &Groups<'_>,
     directory: &Directory,
     stamp: Stamp<'_>,
     frame: &Frame,
     packet: &Packet,
 ) -> Result<Option<Sort>, AllocError>
-    requires catalog { IsCatalogOf plan.now catalog.now }
-    requires range { InRange packet.now }
-    ensures heard { OnOk result ((seen : List Seen) → HaveHeardSince plan.now listeners.old seen
-        → HaveHeardOneMore plan.now listeners.new seen (record { frame = frame.now; packet = Some packet.now })) }
-    ensures carried { IfOk result (λ ended. (seen : List Seen) → Knows plan.now directory.now (frames_with seen frame.now)
-        → HaveHeardSince plan.now listeners.old seen → AreAllInRange seen
-        → (piece : List ℕ) × IsPacketReport plan.now seen (front_of stamp.entry) frame.now (Some packet.now) (option_to_list ended) piece
+    requires { InRange packet.now }
+    ensures heard { OnOk result ((seen : List Seen) → HaveHeardSince groups.now listeners.old seen
+        → HaveHeardOneMore groups.now listeners.new seen (record { frame = frame.now; packet = Some packet.now })) }
+    ensures carried { IfOk result (λ ended. (seen : List Seen) → Knows groups.now directory.now (frames_with seen frame.now)
+        → HaveHeardSince groups.now listeners.old seen → AreAllInRange seen
+        → (piece : List ℕ) × IsPacketReport groups.now seen (front_of stamp.entry) frame.now (Some packet.now) (option_to_list ended) piece
         × (text.new ≡ text.old ++ piece)) }
 {
     listener_completes_what_is_carried();
     if listen(listeners, frame.ident, packet)? {
-        write_completed(
-            text,
-            plan,
-            catalog,
-            directory,
-            listeners,
-            stamp,
-            frame.ident,
-        )
+        write_completed(text, groups, directory, listeners, stamp, frame.ident)
     } else {
         Ok(None)
     }
@@ -110,27 +97,23 @@ fn write_packet(
 pub(crate) fn write_frame(
     text: &mut TextBuffer,
     listeners: &mut Listeners,
-    plan: &Plan,
-    catalog: &Catalog,
+    groups: &Groups<'_>,
     directory: &Directory,
     stamp: Stamp<'_>,
     frame: &Frame,
 ) -> Result<(Sort, Option<Sort>), AllocError>
-    requires { IsCatalogOf plan.now catalog.now }
-    ensures { IfOk result (λ sorts. (seen : List Seen) → Knows plan.now directory.now (frames_with seen frame.now)
-        → HaveHeardSince plan.now listeners.old seen → AreAllInRange seen
-        → IsFrameWritten plan.now listeners.new seen (front_of stamp.entry) frame.now sorts.0 sorts.1 text.old text.new) }
+    ensures { IfOk result (λ sorts. (seen : List Seen) → Knows groups.now directory.now (frames_with seen frame.now)
+        → HaveHeardSince groups.now listeners.old seen → AreAllInRange seen
+        → IsFrameWritten groups.now listeners.new seen (front_of stamp.entry) frame.now sorts.0 sorts.1 text.old text.new) }
 {
-    write_notice(text, plan, directory, stamp, frame)?;
-    let sort = write_message(text, plan, catalog, directory, stamp, in_frame(frame))?;
+    write_notice(text, groups.plan(), directory, stamp, frame)?;
+    let sort = write_message(text, groups, directory, stamp, in_frame(frame))?;
     if sort.is_grouped() {
         return Ok((sort, None));
     }
     let Some(packet) = transport_packet(frame) else {
         return Ok((sort, None));
     };
-    let ended = write_packet(
-        text, listeners, plan, catalog, directory, stamp, frame, &packet,
-    )?;
+    let ended = write_packet(text, listeners, groups, directory, stamp, frame, &packet)?;
     Ok((sort, ended))
 }

@@ -3,7 +3,6 @@ ghost use Rattle.std.specs.Prelude.{◌≡◌, ◌++◌, ℕ, List, if◌then◌
 ghost use Rattle.hex.specs.Hex.{encode_upper};
 ghost use Rattle.j39_id.specs.declared.frame.Frame.{Frame as AFrame};
 ghost use Rattle.j39_findings.specs.declared.plan.Plan.{Plan as APlan};
-ghost use Rattle.j39_log.specs.inside.Listening.{IsCatalogOf};
 ghost use Rattle.j39_follow.specs.FollowReports.{IsMessageReport, IsSendingOf, IsWay, aim_at, flow_word, message_line, is_to_all as goes_to_all, priority_text, sent_text};
 ghost use Rattle.j39_follow.specs.Who.{IsWho, unit_of};
 ghost use Rattle.j39_follow.specs.declared.sending.Aim.TheVariants as aims;
@@ -19,7 +18,7 @@ use crate::stamp::{Stamp, write_stamp};
 use j39_findings::{GroupPlan, Plan};
 use j39_id::limits::FRAME_BYTES;
 use j39_id::{PDU2_FIRST, pf_of};
-use j39_log::{Catalog, write_group_readings};
+use j39_log::{Groups, write_group_readings};
 use j39_text::TextBuffer;
 use std::alloc::AllocError;
 
@@ -128,31 +127,30 @@ fn write_group_line(
 /// Writes the report of a message, if it is a group, and tells what it counts as.
 pub(crate) fn write_message(
     text: &mut TextBuffer,
-    plan: &Plan,
-    catalog: &Catalog,
+    groups: &Groups<'_>,
     directory: &Directory,
     stamp: Stamp<'_>,
     message: Arrival<'_>,
 ) -> Result<Sort, AllocError>
-    requires { IsCatalogOf plan.now catalog.now }
-    ensures { IfOk result (λ sort. (frames : List AFrame) → Knows plan.now directory.now frames
-        → (piece : List ℕ) × IsMessageReport plan.now frames (front_of stamp.entry) (arrived_message message.entry) sort piece
+    ensures { IfOk result (λ sort. (frames : List AFrame) → Knows groups.now directory.now frames
+        → (piece : List ℕ) × IsMessageReport groups.now frames (front_of stamp.entry) (arrived_message message.entry) sort piece
         × (text.new ≡ text.old ++ piece)) }
 {
     let sent = sending_of(directory, message);
-    let Some(group) = group_of(plan, catalog, message.pgn, message.bytes.len(), sent) else {
+    let Some(group) = group_of(groups, message.pgn, message.bytes.len(), sent) else {
         return Ok(Sort::Other(message.pgn));
     };
+    let plan = groups.plan();
     let flow = flow_of(plan, group, sent);
     write_group_line(
         text,
         plan,
         directory,
         stamp,
-        &plan.groups[group],
+        groups.group(group),
         flow,
         message,
     )?;
-    write_group_readings(text, plan, catalog, group, message.bytes)?;
+    write_group_readings(text, groups, group, message.bytes)?;
     Ok(Sort::Grouped(group, flow))
 }

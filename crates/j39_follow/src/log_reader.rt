@@ -34,8 +34,7 @@ impl<'a> LineReader for LogReader<'a> {
     }
 
     fn read(&mut self, cut: Cut, line: &[u8]) -> Result<(), AllocError> {
-        self.reading
-            .read_cut(self.groups.plan(), self.groups.catalog(), cut, line)
+        self.reading.read_cut(self.groups, cut, line)
     }
 
     fn close(&mut self) -> Result<Verdict, AllocError> {

@@ -3,7 +3,7 @@ ghost use Rattle.std.specs.Prelude.{◌≡◌, ◌+◌, ◌-◌, ◌^◌, ◌<�
 ghost use Rattle.std.specs.Option.{option_copied};
 ghost use Rattle.j39_id.specs.Lines.{tells};
 ghost use Rattle.j39_findings.specs.declared.plan.Plan.{Plan as APlan};
-ghost use Rattle.j39_log.specs.inside.Listening.{AreAllInRange, IsCatalogOf};
+ghost use Rattle.j39_log.specs.inside.Listening.{AreAllInRange};
 ghost use Rattle.j39_follow.specs.FollowReports.{stamp};
 ghost use Rattle.j39_follow.specs.FollowText.{AreUnitLines, FollowedPast, FollowsFrame, FollowsLines, FollowsShort, follow_counts_line, frames_seen, nothing_followed, line_passed_over};
 ghost use Rattle.j39_follow.specs.LogLines.{IsElsewhere, interface_behind};
@@ -23,7 +23,7 @@ use crate::stamp::Stamp;
 use crate::tally::Tally;
 use j39_findings::Plan;
 use j39_id::{Cut, Frame, LineError, read_frame};
-use j39_log::{Catalog, Listeners};
+use j39_log::{Groups, Listeners};
 use j39_text::TextBuffer;
 use std::alloc::{AllocError, Global};
 
@@ -104,19 +104,12 @@ impl Reading {
     }
 
     // Writes and counts a frame whose claim was noted.
-    fn report(
-        &mut self,
-        plan: &Plan,
-        catalog: &Catalog,
-        time: &[u8],
-        frame: &Frame,
-    ) -> Result<(), AllocError>
-        requires { IsCatalogOf plan.now catalog.now }
+    fn report(&mut self, groups: &Groups<'_>, time: &[u8], frame: &Frame) -> Result<(), AllocError>
         ensures directory { self.new.directory ≡ self.old.directory }
         ensures counts { IsSameCounts self.old self.new }
-        ensures reported { OnOk result ((past : FollowedPast) → Knows plan.now self.old.directory (frames_with past.seen frame.now)
-            → HaveHeardSince plan.now self.old.listeners past.seen → AreAllInRange past.seen → IsTally plan.now self.old.tally past.sent
-            → length past.sent + 2 < 2 ^ 64 → IsReported plan.now self.old self.new past (stamp self.old.number time.now) frame.now) }
+        ensures reported { OnOk result ((past : FollowedPast) → Knows groups.now self.old.directory (frames_with past.seen frame.now)
+            → HaveHeardSince groups.now self.old.listeners past.seen → AreAllInRange past.seen → IsTally groups.now self.old.tally past.sent
+            → length past.sent + 2 < 2 ^ 64 → IsReported groups.now self.old self.new past (stamp self.old.number time.now) frame.now) }
     {
         let stamp = Stamp {
             number: self.number,
@@ -125,75 +118,63 @@ impl Reading {
         let (sort, ended) = write_frame(
             &mut self.text,
             &mut self.listeners,
-            plan,
-            catalog,
+            groups,
             &self.directory,
             stamp,
             frame,
         )?;
-        self.tally.count_frame(plan, catalog, sort, ended);
+        self.tally.count_frame(groups, sort, ended);
         Ok(())
     }
 
     // Follows a frame that tells of an address: the pairs of which one changes hands begin anew.
     fn follow_claim(
         &mut self,
-        plan: &Plan,
-        catalog: &Catalog,
+        groups: &Groups<'_>,
         time: &[u8],
         frame: &Frame,
     ) -> Result<(), AllocError>
-        requires { IsCatalogOf plan.now catalog.now }
         ensures counts { IsSameCounts self.old self.new }
-        ensures followed { OnOk result ((past : FollowedPast) → Remembers plan.now self.old past → length past.seen ≤ 2 ^ 62 + 1
-            → IsFollowed plan.now self.old self.new past (stamp self.old.number time.now) frame.now) }
+        ensures followed { OnOk result ((past : FollowedPast) → Remembers groups.now self.old past → length past.seen ≤ 2 ^ 62 + 1
+            → IsFollowed groups.now self.old self.new past (stamp self.old.number time.now) frame.now) }
     {
         let before = self.directory.parties();
-        self.directory.hear(plan, frame);
-        self.report(plan, catalog, time, frame)?;
+        self.directory.hear(groups.plan(), frame);
+        self.report(groups, time, frame)?;
         let after = self.directory.parties();
         part(&mut self.listeners, &before, &after);
         Ok(())
     }
 
     // Follows a frame.
-    fn follow(
-        &mut self,
-        plan: &Plan,
-        catalog: &Catalog,
-        time: &[u8],
-        frame: &Frame,
-    ) -> Result<(), AllocError>
-        requires { IsCatalogOf plan.now catalog.now }
+    fn follow(&mut self, groups: &Groups<'_>, time: &[u8], frame: &Frame) -> Result<(), AllocError>
         ensures counts { IsSameCounts self.old self.new }
-        ensures followed { OnOk result ((past : FollowedPast) → Remembers plan.now self.old past → length past.seen ≤ 2 ^ 62 + 1
-            → IsFollowed plan.now self.old self.new past (stamp self.old.number time.now) frame.now) }
+        ensures followed { OnOk result ((past : FollowedPast) → Remembers groups.now self.old past → length past.seen ≤ 2 ^ 62 + 1
+            → IsFollowed groups.now self.old self.new past (stamp self.old.number time.now) frame.now) }
     {
         if claims_address(frame) {
-            return self.follow_claim(plan, catalog, time, frame);
+            return self.follow_claim(groups, time, frame);
         }
         if cannot_claim(frame) {
-            return self.follow_claim(plan, catalog, time, frame);
+            return self.follow_claim(groups, time, frame);
         }
-        self.report(plan, catalog, time, frame)
+        self.report(groups, time, frame)
     }
 
     fn read_frame(
         &mut self,
-        plan: &Plan,
-        catalog: &Catalog,
+        groups: &Groups<'_>,
         time: &[u8],
         named: Option<&[u8]>,
         frame: &Frame,
     ) -> Result<(), AllocError>
-        requires catalog { IsCatalogOf plan.now catalog.now }
-        requires room { CountsWithin self.old (2 ^ 62 + 1) }
-        ensures frame { OnOk result ((past : FollowedPast) → RecallsPast plan.now self.old past → (next : FollowedPast) × (piece : List ℕ)
-            × FollowsFrame plan.now past (stamp past.number time.now) (option_copied named.entry) frame.now next piece
-            × RecallsPast plan.now self.new next × (self.new.text ≡ self.old.text ++ piece)) }
+        requires { CountsWithin self.old (2 ^ 62 + 1) }
+        ensures frame { OnOk result ((past : FollowedPast) → RecallsPast groups.now self.old past → (next : FollowedPast) × (piece : List ℕ)
+            × FollowsFrame groups.now past (stamp past.number time.now) (option_copied named.entry) frame.now next piece
+            × RecallsPast groups.now self.new next × (self.new.text ≡ self.old.text ++ piece)) }
         ensures count { OnOk result (IsOneMore self.old self.new) }
     {
-        self.follow(plan, catalog, time, frame)?;
+        self.follow(groups, time, frame)?;
         keep_interface(self.alloc, &mut self.interface, named)?;
         self.frames += 1;
         Ok(())
@@ -214,11 +195,10 @@ impl Reading {
     }
 
     /// Reads a line, whose number is noted.
-    fn read_line(&mut self, plan: &Plan, catalog: &Catalog, line: &[u8]) -> Result<(), AllocError>
-        requires catalog { IsCatalogOf plan.now catalog.now }
-        requires room { CountsWithin self.old (2 ^ 62 + 1) }
-        ensures line { OnOk result ((past : FollowedPast) → RecallsPast plan.now self.old past → (next : FollowedPast) × (piece : List ℕ)
-            × FollowsShort plan.now past line.now next piece × RecallsPast plan.now self.new next × (self.new.text ≡ self.old.text ++ piece)) }
+    fn read_line(&mut self, groups: &Groups<'_>, line: &[u8]) -> Result<(), AllocError>
+        requires { CountsWithin self.old (2 ^ 62 + 1) }
+        ensures line { OnOk result ((past : FollowedPast) → RecallsPast groups.now self.old past → (next : FollowedPast) × (piece : List ℕ)
+            × FollowsShort groups.now past line.now next piece × RecallsPast groups.now self.new next × (self.new.text ≡ self.old.text ++ piece)) }
         ensures count { OnOk result (IsOneMore self.old self.new) }
     {
         let part = read_part(line);
@@ -229,7 +209,7 @@ impl Reading {
             return Ok(());
         }
         match read {
-            Ok(frame) => self.read_frame(plan, catalog, time_text(line), named, &frame),
+            Ok(frame) => self.read_frame(groups, time_text(line), named, &frame),
             Err(error) => {
                 self.pass_over(error);
                 Ok(())
@@ -238,17 +218,10 @@ impl Reading {
     }
 
     /// Reads what a cutter tells: a line, a line that is too long, or nothing yet.
-    pub fn read_cut(
-        &mut self,
-        plan: &Plan,
-        catalog: &Catalog,
-        cut: Cut,
-        line: &[u8],
-    ) -> Result<(), AllocError>
-        requires catalog { IsCatalogOf plan.now catalog.now }
-        requires room { CountsWithin self.old (2 ^ 62) }
-        ensures lines { OnOk result ((past : FollowedPast) → RecallsPast plan.now self.old past → (next : FollowedPast) × (piece : List ℕ)
-            × FollowsLines plan.now past (tells cut line.now) next piece × RecallsPast plan.now self.new next
+    pub fn read_cut(&mut self, groups: &Groups<'_>, cut: Cut, line: &[u8]) -> Result<(), AllocError>
+        requires { CountsWithin self.old (2 ^ 62) }
+        ensures lines { OnOk result ((past : FollowedPast) → RecallsPast groups.now self.old past → (next : FollowedPast) × (piece : List ℕ)
+            × FollowsLines groups.now past (tells cut line.now) next piece × RecallsPast groups.now self.new next
             × (self.new.text ≡ self.old.text ++ piece)) }
         ensures count { OnOk result ((most : ℕ) → CountsWithin self.old most → CountsWithin self.new (most + 1)) }
     {
@@ -256,7 +229,7 @@ impl Reading {
             Cut::More => Ok(()),
             Cut::Line => {
                 self.number += 1;
-                self.read_line(plan, catalog, line)
+                self.read_line(groups, line)
             }
             Cut::Long => {
                 self.number += 1;

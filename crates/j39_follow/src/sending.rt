@@ -1,10 +1,10 @@
 //! A message as it was sent, and the flow that it fits.
 ghost use Rattle.std.specs.Prelude.{◌≡◌, ◌<◌, ◌↔◌, IsTrue, length};
-ghost use Rattle.j39_log.specs.inside.Listening.{HasAllOf, IsCatalogOf};
+ghost use Rattle.j39_log.specs.inside.Listening.{HasAllOf};
 ghost use Rattle.j39_follow.specs.Fits.{IsSentGroup, MayBeGroup, fits, fitting_flow as first_flow, may_have_bytes, is_unit, reaches as is_reached};
 
 use j39_findings::{FlowPlan, GroupPlan, Plan, To};
-use j39_log::{Catalog, Span};
+use j39_log::{Groups, Span};
 
 /// Whom a message went to. Units are given by their places, from 0.
 #[derive(Clone, Copy, Debug, PartialEq, Eq)]
@@ -103,18 +103,11 @@ fn group_in(plan: &Plan, span: Span, pgn: u32, bytes: usize, sent: Sending) -> O
 }
 
 /// The group of so many bytes of a number, by its place: the first that isn't private, or that a flow of it fits.
-pub fn group_of(
-    plan: &Plan,
-    catalog: &Catalog,
-    pgn: u32,
-    bytes: usize,
-    sent: Sending,
-) -> Option<usize>
-    requires { IsCatalogOf plan.now catalog.now }
-    ensures { IsSentGroup plan.now pgn bytes sent result }
+pub fn group_of(groups: &Groups<'_>, pgn: u32, bytes: usize, sent: Sending) -> Option<usize>
+    ensures { IsSentGroup groups.now pgn bytes sent result }
 {
-    let Some(span) = catalog.span(pgn) else {
+    let Some(span) = groups.span(pgn) else {
         return None;
     };
-    group_in(plan, span, pgn, bytes, sent)
+    group_in(groups.plan(), span, pgn, bytes, sent)
 }

@@ -5,14 +5,13 @@ ghost use Rattle.std.specs.Option.{option_to_list};
 ghost use Rattle.j39_findings.specs.PlanLimits.{flow_limit, group_limit};
 ghost use Rattle.j39_findings.specs.declared.plan.Plan.{Plan as APlan};
 ghost use Rattle.j39_findings.specs.declared.plan.group_plan.GroupPlan.{GroupPlan as APlannedGroup};
-ghost use Rattle.j39_log.specs.inside.Listening.{IsCatalogOf};
 ghost use Rattle.j39_follow.specs.inside.Tallies.{IsTally, tally_at};
 ghost use Rattle.j39_follow.specs.declared.message.Sort.{Sort as ASort};
 
 use crate::message::Sort;
 use j39_findings::Plan;
 use j39_findings::limits::{FLOW_LIMIT, GROUP_LIMIT};
-use j39_log::Catalog;
+use j39_log::Groups;
 
 /// How often each flow was sent, each group without a flow, and at the first group of a number what else there was of the number.
 #[derive(Drop)]
@@ -32,12 +31,11 @@ fn add_one(counts: &mut [u64], place: usize)
     }
 }
 
-// The first group of a number, by its place, as the catalog has it.
-fn first_in(plan: &Plan, catalog: &Catalog, pgn: u32) -> Option<usize>
-    requires { IsCatalogOf plan.now catalog.now }
-    ensures { result ≡ position (λ (group : APlannedGroup). group.pgn == pgn) plan.now.groups.items }
+// The first group of a number, by its place, as its span has it.
+fn first_in(groups: &Groups<'_>, pgn: u32) -> Option<usize>
+    ensures { result ≡ position (λ (group : APlannedGroup). group.pgn == pgn) groups.now.groups.items }
 {
-    match catalog.span(pgn) {
+    match groups.span(pgn) {
         Some(span) => Some(span.first),
         None => None,
     }
@@ -65,29 +63,27 @@ impl Tally {
     }
 
     /// Counts a frame, and the message that it ends.
-    pub fn count_frame(&mut self, plan: &Plan, catalog: &Catalog, sort: Sort, ended: Option<Sort>)
-        requires { IsCatalogOf plan.now catalog.now }
-        ensures { (sent : List ASort) → length sent + 2 < 2 ^ 64 → IsTally plan.now self.old sent
-            → IsTally plan.now self.new (sent ++ sort ∷ option_to_list ended) }
+    pub fn count_frame(&mut self, groups: &Groups<'_>, sort: Sort, ended: Option<Sort>)
+        ensures { (sent : List ASort) → length sent + 2 < 2 ^ 64 → IsTally groups.now self.old sent
+            → IsTally groups.now self.new (sent ++ sort ∷ option_to_list ended) }
     {
-        self.count(plan, catalog, sort);
+        self.count(groups, sort);
         match ended {
-            Some(ended) => self.count(plan, catalog, ended),
+            Some(ended) => self.count(groups, ended),
             None => {}
         }
     }
 
     // Counts a message.
-    fn count(&mut self, plan: &Plan, catalog: &Catalog, sort: Sort)
-        requires { IsCatalogOf plan.now catalog.now }
-        ensures { (sent : List ASort) → length sent < 2 ^ 64 - 1 → IsTally plan.now self.old sent
-            → IsTally plan.now self.new (sent ++ sort ∷ []) }
+    fn count(&mut self, groups: &Groups<'_>, sort: Sort)
+        ensures { (sent : List ASort) → length sent < 2 ^ 64 - 1 → IsTally groups.now self.old sent
+            → IsTally groups.now self.new (sent ++ sort ∷ []) }
     {
         match sort {
             Sort::Grouped(_, Some(flow)) => add_one(&mut self.flows, flow),
             Sort::Grouped(group, None) => add_one(&mut self.groups, group),
             Sort::Other(pgn) => {
-                if let Some(first) = first_in(plan, catalog, pgn) {
+                if let Some(first) = first_in(groups, pgn) {
                     add_one(&mut self.others, first);
                 }
             }

@@ -1,9 +1,6 @@
-//! The groups of a plan as a reader of frames finds them.
+//! The layouts of a plan's groups, what stands around the values of their signals, and where the groups of one number stand.
 ghost use Rattle.std.specs.Prelude.{◌≡◌, ◌<◌, List, [], ◌∷◌, ◌++◌, length, map, All, OnOk, IfOk, IfErr};
-ghost use Rattle.std.specs.List.{HoldsAt, position};
-ghost use Rattle.j39_log.specs.inside.Listening.{extended, HasAllOf, IsBadCatalog, IsCatalogOf, IsIndex, IsSpanOf};
-ghost use Rattle.j39_log.specs.inside.ValueLines.{items_of};
-ghost use Rattle.j39_log.specs.LogFrames.{is_planned_as};
+ghost use Rattle.j39_log.specs.inside.Listening.{extended, IsBadCatalog, IsCatalogOf, IsIndex};
 ghost use Rattle.j39_findings.specs.PlannedGroups.{IsSendable, layout_of as parts_of};
 ghost use Rattle.j39_findings.specs.declared.plan.group_plan.GroupPlan.{GroupPlan as APlannedGroup};
 
@@ -33,10 +30,10 @@ pub struct Span {
 /// The groups of a plan: their layouts by place, what stands around the values of their signals, and by its number where they
 /// stand.
 #[derive(Drop)]
-pub struct Catalog {
-    layouts: Vec<Layout>,
-    lines: Vec<Vec<ValueLine>>,
-    spans: HashMap<u32, Span>,
+pub(crate) struct Catalog {
+    pub layouts: Vec<Layout>,
+    pub lines: Vec<Vec<ValueLine>>,
+    pub spans: HashMap<u32, Span>,
 }
 
 // The layouts of the groups, by place.
@@ -102,27 +99,6 @@ fn spans_of(alloc: Global, groups: &[GroupPlan]) -> Result<HashMap<u32, Span>, A
     Ok(spans)
 }
 
-// Whether the group has this number, isn't private, and has messages of so many bytes.
-fn is_planned_as(group: &GroupPlan, pgn: u32, bytes: usize) -> bool
-    ensures { result ≡ is_planned_as pgn bytes group.now }
-{
-    (!group.private && group.pgn == pgn)
-        && (usize::from(group.length) <= bytes && bytes <= usize::from(group.most))
-}
-
-// The place of the first such group, which stands in the span of its number.
-fn place_in(groups: &[GroupPlan], span: Span, pgn: u32, bytes: usize) -> Option<usize>
-    requires { HasAllOf groups.now pgn span }
-    ensures { result ≡ position (is_planned_as pgn bytes) groups.now }
-{
-    for place in span.first..span.end {
-        if is_planned_as(&groups[place], pgn, bytes) {
-            return Some(place);
-        }
-    }
-    None
-}
-
 impl Catalog {
     pub fn new(alloc: Global, plan: &Plan) -> Result<Self, CatalogError>
         ensures catalog { IfOk result (IsCatalogOf plan.now) }
@@ -141,41 +117,5 @@ impl Catalog {
             lines,
             spans,
         })
-    }
-
-    /// Where the groups of a number stand, if there are any.
-    pub fn span(&self, pgn: u32) -> Option<Span>
-        ensures { (groups : List APlannedGroup) → IsIndex groups self.now.spans → IsSpanOf groups pgn result }
-    {
-        self.spans.get(&pgn).copied()
-    }
-
-    /// The place of the first of the plan's groups of this number that isn't private and has messages of so many bytes. It
-    /// is looked for at each frame.
-    #[inline(always)]
-    pub fn place(&self, groups: &[GroupPlan], pgn: u32, bytes: usize) -> Option<usize>
-        requires { IsIndex groups.now self.now.spans }
-        ensures { result ≡ position (is_planned_as pgn bytes) groups.now }
-    {
-        match self.spans.get(&pgn).copied() {
-            Some(span) => place_in(groups, span, pgn, bytes),
-            None => None,
-        }
-    }
-
-    /// The layout of the group at a place.
-    pub fn layout(&self, place: usize) -> &Layout
-        requires { place < length self.now.layouts.items }
-        ensures { HoldsAt (λ l. l ≡ result.now) self.now.layouts.items place }
-    {
-        &self.layouts[place]
-    }
-
-    /// What stands around the values of the signals of the group at a place.
-    pub fn lines(&self, place: usize) -> &[ValueLine]
-        requires { place < length self.now.lines.items }
-        ensures { HoldsAt (λ l. items_of l ≡ result.now) self.now.lines.items place }
-    {
-        &self.lines[place]
     }
 }

@@ -1,10 +1,15 @@
-//! A plan with the catalog of its groups.
-ghost use Rattle.std.specs.Prelude.{◌≡◌, All, IfErr, IfOk, OnOk};
-ghost use Rattle.j39_findings.specs.PlannedGroups.{IsSendable};
-ghost use Rattle.j39_log.specs.inside.Listening.{IsBadCatalog, IsCatalogOf};
+//! The groups of a plan as a reader of frames finds them.
+ghost use Rattle.std.specs.Prelude.{◌≡◌, ◌<◌, length, All, IfErr, IfOk, OnOk};
+ghost use Rattle.std.specs.List.{HoldsAt, position};
+ghost use Rattle.j39_findings.specs.PlannedGroups.{IsSendable, layout_of};
+ghost use Rattle.j39_log.specs.LogFrames.{is_planned_as, planned};
+ghost use Rattle.j39_log.specs.inside.Listening.{HasAllOf, IsBadCatalog, IsSpanOf};
+ghost use Rattle.j39_log.specs.inside.ValueLines.{value_lines_of};
 
-use crate::catalog::{Catalog, CatalogError};
-use j39_findings::Plan;
+use crate::catalog::{Catalog, CatalogError, Span};
+use crate::value_line::ValueLine;
+use j39_findings::{GroupPlan, Plan};
+use j39_signal::Layout;
 use std::alloc::Global;
 use std::marker::Model;
 
@@ -31,6 +36,27 @@ impl<'a> Model for Groups<'a> {
     ghost invariant = { λ g. IsCatalogOf g.plan.now g.catalog };
 }
 
+// Whether the group has this number, isn't private, and has messages of so many bytes.
+fn is_planned_as(group: &GroupPlan, pgn: u32, bytes: usize) -> bool
+    ensures { result ≡ is_planned_as pgn bytes group.now }
+{
+    (!group.private && group.pgn == pgn)
+        && (usize::from(group.length) <= bytes && bytes <= usize::from(group.most))
+}
+
+// The place of the first such group, which stands in the span of its number.
+fn place_in(groups: &[GroupPlan], span: Span, pgn: u32, bytes: usize) -> Option<usize>
+    requires { HasAllOf groups.now pgn span }
+    ensures { result ≡ position (is_planned_as pgn bytes) groups.now }
+{
+    for place in span.first..span.end {
+        if is_planned_as(&groups[place], pgn, bytes) {
+            return Some(place);
+        }
+    }
+    None
+}
+
 impl<'a> Groups<'a> {
     pub fn new(alloc: Global, plan: &'a Plan) -> Result<Self, CatalogError>
         ensures plan { IfOk result (λ groups. groups ≡ plan.now) }
@@ -48,10 +74,46 @@ impl<'a> Groups<'a> {
         self.plan
     }
 
-    /// Its catalog.
-    pub fn catalog(&self) -> &Catalog
-        ensures { IsCatalogOf self.now result.now }
+    /// Where the groups of a number stand, if there are any.
+    pub fn span(&self, pgn: u32) -> Option<Span>
+        ensures { IsSpanOf self.now.groups.items pgn result }
     {
-        &self.catalog
+        self.catalog.spans.get(&pgn).copied()
+    }
+
+    /// The place of the first group of this number that isn't private and has messages of so many bytes. It is looked for
+    /// at each frame.
+    #[inline(always)]
+    pub fn place(&self, pgn: u32, bytes: usize) -> Option<usize>
+        ensures { result ≡ planned self.now pgn bytes }
+    {
+        match self.span(pgn) {
+            Some(span) => place_in(self.plan.groups.as_slice(), span, pgn, bytes),
+            None => None,
+        }
+    }
+
+    /// The group at a place.
+    pub fn group(&self, place: usize) -> &GroupPlan
+        requires { place < length self.now.groups.items }
+        ensures { HoldsAt (λ group. group ≡ result.now) self.now.groups.items place }
+    {
+        &self.plan.groups[place]
+    }
+
+    /// Its layout.
+    pub fn layout(&self, place: usize) -> &Layout
+        requires { place < length self.now.groups.items }
+        ensures { HoldsAt (λ group. layout_of group ≡ result.now) self.now.groups.items place }
+    {
+        &self.catalog.layouts[place]
+    }
+
+    /// What stands around the values of its signals.
+    pub fn lines(&self, place: usize) -> &[ValueLine]
+        requires { place < length self.now.groups.items }
+        ensures { HoldsAt (λ group. value_lines_of group ≡ result.now) self.now.groups.items place }
+    {
+        &self.catalog.lines[place]
     }
 }

@@ -16,7 +16,7 @@ mod transport;
 mod trouble_code;
 mod value_line;
 
-pub use catalog::{Catalog, CatalogError, Span};
+pub use catalog::{CatalogError, Span};
 pub use groups::Groups;
 pub use laws::{a_log_has_one_text, older_plans_are_read_as_before};
 pub use listeners::{Listeners, listen};

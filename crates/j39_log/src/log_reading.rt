@@ -3,18 +3,17 @@ ghost use Rattle.std.specs.Prelude.{◌≡◌, ◌+◌, ◌^◌, ◌<◌, ◌≤
 ghost use Rattle.j39_id.specs.Lines.{Short, tells};
 ghost use Rattle.j39_tp.specs.Packets.{InRange};
 ghost use Rattle.j39_tp.specs.declared.receiving.progress.Progress.TheVariants.{Complete};
-ghost use Rattle.j39_log.specs.inside.Listening.{AreAllInRange, HaveHeard, IsCatalogOf, IsInRange, listener_of_pair};
+ghost use Rattle.j39_log.specs.inside.Listening.{AreAllInRange, HaveHeard, IsInRange, listener_of_pair};
 ghost use Rattle.j39_log.specs.inside.Recalling.{Recalls, counted};
 ghost use Rattle.j39_log.specs.LogFrames.{IsHeardAs, planned};
 ghost use Rattle.j39_log.specs.LogPairs.{Seen};
 ghost use Rattle.j39_log.specs.ReadText.{IsFrameReport, IsGroupReport, Past, ReadsFrame, ReadsLine, ReadsLines, counts_line, nothing_yet, passed_over};
 ghost use Rattle.j39_tp.specs.declared.packet.Packet.{Packet as APacket};
 
-use crate::catalog::Catalog;
 use crate::group_report::write_report;
+use crate::groups::Groups;
 use crate::listeners::{Listeners, listen};
 use crate::transport::transport_packet;
-use j39_findings::Plan;
 use j39_id::{Cut, Frame, Ident, LineError, read_frame};
 use j39_text::TextBuffer;
 use j39_tp::{Packet, listener_completes_what_is_carried};
@@ -34,21 +33,19 @@ pub(crate) struct Reading {
 #[inline(always)]
 fn write_group(
     text: &mut TextBuffer,
-    plan: &Plan,
-    catalog: &Catalog,
+    groups: &Groups<'_>,
     place: usize,
     ident: Ident,
     bytes: &[u8],
 ) -> Result<(), AllocError>
-    requires catalog { IsCatalogOf plan.now catalog.now }
-    requires planned { (pgn : ℕ) × (planned plan.now pgn (length bytes.now) ≡ Some place) }
-    ensures { OnOk result ((piece : List ℕ) × IsGroupReport plan.now (Some place) ident bytes.now piece × (text.new ≡ text.old ++ piece)) }
+    requires { (pgn : ℕ) × (planned groups.now pgn (length bytes.now) ≡ Some place) }
+    ensures { OnOk result ((piece : List ℕ) × IsGroupReport groups.now (Some place) ident bytes.now piece × (text.new ≡ text.old ++ piece)) }
 {
     write_report(
         text,
-        &plan.groups[place],
-        catalog.lines(place),
-        catalog.layout(place),
+        groups.group(place),
+        groups.lines(place),
+        groups.layout(place),
         ident,
         bytes,
     )
@@ -57,18 +54,16 @@ fn write_group(
 // The report of a message, where a group is planned of its number and length.
 fn write_planned(
     text: &mut TextBuffer,
-    plan: &Plan,
-    catalog: &Catalog,
+    groups: &Groups<'_>,
     ident: Ident,
     pgn: u32,
     bytes: &[u8],
 ) -> Result<(), AllocError>
-    requires { IsCatalogOf plan.now catalog.now }
-    ensures { OnOk result ((piece : List ℕ) × IsGroupReport plan.now (planned plan.now pgn (length bytes.now)) ident bytes.now piece
+    ensures { OnOk result ((piece : List ℕ) × IsGroupReport groups.now (planned groups.now pgn (length bytes.now)) ident bytes.now piece
         × (text.new ≡ text.old ++ piece)) }
 {
-    match catalog.place(&plan.groups, pgn, bytes.len()) {
-        Some(place) => write_group(text, plan, catalog, place, ident, bytes),
+    match groups.place(pgn, bytes.len()) {
+        Some(place) => write_group(text, groups, place, ident, bytes),
         None => Ok(()),
     }
 }
@@ -76,24 +71,22 @@ fn write_planned(
 // The report of the message that a pair just completed.
 fn write_message(
     text: &mut TextBuffer,
-    plan: &Plan,
-    catalog: &Catalog,
+    groups: &Groups<'_>,
     listeners: &Listeners,
     ident: Ident,
 ) -> Result<(), AllocError>
-    requires catalog { IsCatalogOf plan.now catalog.now }
-    requires complete { (pgn : ℕ) × ((listener_of_pair listeners.now.rows.items ident.sa ident.ps).progress ≡ Complete pgn) }
+    requires { (pgn : ℕ) × ((listener_of_pair listeners.now.rows.items ident.sa ident.ps).progress ≡ Complete pgn) }
     ensures { OnOk result ((pgn : ℕ) × (message : List ℕ) × (piece : List ℕ)
         × ((listener_of_pair listeners.now.rows.items ident.sa ident.ps).progress ≡ Complete pgn)
         × ((listener_of_pair listeners.now.rows.items ident.sa ident.ps).bytes ≡ message)
-        × IsGroupReport plan.now (planned plan.now pgn (length message)) ident message piece
+        × IsGroupReport groups.now (planned groups.now pgn (length message)) ident message piece
         × (text.new ≡ text.old ++ piece)) }
 {
     let Some(listener) = listeners.listener(ident.sa, ident.ps) else {
         return Ok(());
     };
     match listener.group() {
-        Some(pgn) => write_planned(text, plan, catalog, ident, pgn.number(), listener.bytes()),
+        Some(pgn) => write_planned(text, groups, ident, pgn.number(), listener.bytes()),
         None => Ok(()),
     }
 }
@@ -102,21 +95,19 @@ fn write_message(
 fn write_packet(
     text: &mut TextBuffer,
     listeners: &mut Listeners,
-    plan: &Plan,
-    catalog: &Catalog,
+    groups: &Groups<'_>,
     frame: &Frame,
     packet: &Packet,
 ) -> Result<(), AllocError>
-    requires catalog { IsCatalogOf plan.now catalog.now }
-    requires range { InRange packet.now }
+    requires { InRange packet.now }
     ensures heard { OnOk result ((seen : List Seen) → HaveHeard listeners.old.rows.items seen
         → HaveHeard listeners.new.rows.items (seen ++ record { frame = frame.now; packet = Some packet.now } ∷ [])) }
     ensures message { OnOk result ((seen : List Seen) → HaveHeard listeners.old.rows.items seen → AreAllInRange seen
-        → (piece : List ℕ) × IsFrameReport plan.now seen frame.now (Some packet.now) piece × (text.new ≡ text.old ++ piece)) }
+        → (piece : List ℕ) × IsFrameReport groups.now seen frame.now (Some packet.now) piece × (text.new ≡ text.old ++ piece)) }
 {
     listener_completes_what_is_carried();
     if listen(listeners, frame.ident, packet)? {
-        write_message(text, plan, catalog, listeners, frame.ident)?;
+        write_message(text, groups, listeners, frame.ident)?;
     }
     Ok(())
 }
@@ -125,23 +116,21 @@ fn write_packet(
 fn write_frame(
     text: &mut TextBuffer,
     listeners: &mut Listeners,
-    plan: &Plan,
-    catalog: &Catalog,
+    groups: &Groups<'_>,
     frame: &Frame,
 ) -> Result<(), AllocError>
-    requires { IsCatalogOf plan.now catalog.now }
     ensures { OnOk result ((seen : List Seen) → HaveHeard listeners.old.rows.items seen → AreAllInRange seen
-        → (packet : Option APacket) × (piece : List ℕ) × IsHeardAs plan.now frame.now packet × IsInRange packet
-        × IsFrameReport plan.now seen frame.now packet piece
+        → (packet : Option APacket) × (piece : List ℕ) × IsHeardAs groups.now frame.now packet × IsInRange packet
+        × IsFrameReport groups.now seen frame.now packet piece
         × HaveHeard listeners.new.rows.items (seen ++ record { frame = frame.now; packet = packet } ∷ [])
         × (text.new ≡ text.old ++ piece)) }
 {
     let bytes = frame.payload.as_slice();
-    if let Some(place) = catalog.place(&plan.groups, frame.ident.pgn().number(), bytes.len()) {
-        return write_group(text, plan, catalog, place, frame.ident, bytes);
+    if let Some(place) = groups.place(frame.ident.pgn().number(), bytes.len()) {
+        return write_group(text, groups, place, frame.ident, bytes);
     }
     match transport_packet(frame) {
-        Some(packet) => write_packet(text, listeners, plan, catalog, frame, &packet),
+        Some(packet) => write_packet(text, listeners, groups, frame, &packet),
         None => Ok(()),
     }
 }
@@ -161,20 +150,14 @@ impl Reading {
         }
     }
 
-    fn read_frame(
-        &mut self,
-        plan: &Plan,
-        catalog: &Catalog,
-        frame: &Frame,
-    ) -> Result<(), AllocError>
-        requires catalog { IsCatalogOf plan.now catalog.now }
-        requires room { counted self.old < 2 ^ 63 }
+    fn read_frame(&mut self, groups: &Groups<'_>, frame: &Frame) -> Result<(), AllocError>
+        requires { counted self.old < 2 ^ 63 }
         ensures frame { OnOk result ((past : Past) → Recalls self.old past → (next : Past) × (piece : List ℕ)
-            × ReadsFrame plan.now past frame.now next piece × Recalls self.new next × (self.new.text ≡ self.old.text ++ piece)) }
+            × ReadsFrame groups.now past frame.now next piece × Recalls self.new next × (self.new.text ≡ self.old.text ++ piece)) }
         ensures count { counted self.new ≤ counted self.old + 1 }
     {
         self.frames += 1;
-        write_frame(&mut self.text, &mut self.listeners, plan, catalog, frame)
+        write_frame(&mut self.text, &mut self.listeners, groups, frame)
     }
 
     // Counts a line that spells no frame: one of an 11-bit identifier as skipped, and one without a word not at all.
@@ -192,20 +175,14 @@ impl Reading {
     }
 
     /// Reads a line.
-    pub fn read_line(
-        &mut self,
-        plan: &Plan,
-        catalog: &Catalog,
-        line: &[u8],
-    ) -> Result<(), AllocError>
-        requires catalog { IsCatalogOf plan.now catalog.now }
-        requires room { counted self.old < 2 ^ 63 }
+    pub fn read_line(&mut self, groups: &Groups<'_>, line: &[u8]) -> Result<(), AllocError>
+        requires { counted self.old < 2 ^ 63 }
         ensures line { OnOk result ((past : Past) → Recalls self.old past → (next : Past) × (piece : List ℕ)
-            × ReadsLine plan.now past (Short line.now) next piece × Recalls self.new next × (self.new.text ≡ self.old.text ++ piece)) }
+            × ReadsLine groups.now past (Short line.now) next piece × Recalls self.new next × (self.new.text ≡ self.old.text ++ piece)) }
         ensures count { counted self.new ≤ counted self.old + 1 }
     {
         match read_frame(line) {
-            Ok(frame) => self.read_frame(plan, catalog, &frame),
+            Ok(frame) => self.read_frame(groups, &frame),
             Err(error) => {
                 self.pass_over(error);
                 Ok(())
@@ -214,22 +191,15 @@ impl Reading {
     }
 
     /// Reads what a cutter tells: a line, a line that is too long, or nothing yet.
-    pub fn read_cut(
-        &mut self,
-        plan: &Plan,
-        catalog: &Catalog,
-        cut: Cut,
-        line: &[u8],
-    ) -> Result<(), AllocError>
-        requires catalog { IsCatalogOf plan.now catalog.now }
-        requires room { counted self.old < 2 ^ 63 }
+    pub fn read_cut(&mut self, groups: &Groups<'_>, cut: Cut, line: &[u8]) -> Result<(), AllocError>
+        requires { counted self.old < 2 ^ 63 }
         ensures lines { OnOk result ((past : Past) → Recalls self.old past → (next : Past) × (piece : List ℕ)
-            × ReadsLines plan.now past (tells cut line.now) next piece × Recalls self.new next × (self.new.text ≡ self.old.text ++ piece)) }
+            × ReadsLines groups.now past (tells cut line.now) next piece × Recalls self.new next × (self.new.text ≡ self.old.text ++ piece)) }
         ensures count { counted self.new ≤ counted self.old + 1 }
     {
         match cut {
             Cut::More => Ok(()),
-            Cut::Line => self.read_line(plan, catalog, line),
+            Cut::Line => self.read_line(groups, line),
             Cut::Long => {
                 self.bad += 1;
                 Ok(())

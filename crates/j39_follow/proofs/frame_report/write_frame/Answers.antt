@@ -10,12 +10,12 @@ use Rattle.j39_follow.proofs.frame_report.write_frame.Goals as goal
 
 pub returns-then-is_grouped : goal.returns-then-is_grouped
 returns-then-is_grouped c = λ seen knows have ranges.
-    let plan = c.args.plan.now in
+    let plan = c.args.groups.now in
     let f = c.args.frame.now in
     let frames = frames_with seen f in
     let front = front_of c.args.stamp in
     let sort = c.in_ok-sort.sort in
-    let notice = c.in_ok-write_notice.ensures frames knows in
+    let notice = (rw c.plan.ensures at c.in_ok-write_notice.ensures) frames knows in
     let message = c.in_ok-sort.ensures frames knows in
     let report = subst (λ (m : Message). IsMessageReport plan frames front m sort message.0) c.in_frame.ensures message.1 in
     record {
@@ -35,12 +35,12 @@ returns-then-is_grouped c = λ seen knows have ranges.
 
 pub returns-in_default : goal.returns-in_default
 returns-in_default c = λ seen knows have ranges.
-    let plan = c.args.plan.now in
+    let plan = c.args.groups.now in
     let f = c.args.frame.now in
     let frames = frames_with seen f in
     let front = front_of c.args.stamp in
     let sort = c.in_ok-sort.sort in
-    let notice = c.in_ok-write_notice.ensures frames knows in
+    let notice = (rw c.plan.ensures at c.in_ok-write_notice.ensures) frames knows in
     let message = c.in_ok-sort.ensures frames knows in
     let report = subst (λ (m : Message). IsMessageReport plan frames front m sort message.0) c.in_frame.ensures message.1 in
     record {
@@ -59,12 +59,12 @@ returns-in_default c = λ seen knows have ranges.
 
 pub returns : goal.returns
 returns c = λ seen knows have ranges.
-    let plan = c.args.plan.now in
+    let plan = c.args.groups.now in
     let f = c.args.frame.now in
     let frames = frames_with seen f in
     let front = front_of c.args.stamp in
     let sort = c.in_ok-sort.sort in
-    let notice = c.in_ok-write_notice.ensures frames knows in
+    let notice = (rw c.plan.ensures at c.in_ok-write_notice.ensures) frames knows in
     let message = c.in_ok-sort.ensures frames knows in
     let report = subst (λ (m : Message). IsMessageReport plan frames front m sort message.0) c.in_frame.ensures message.1 in
     let carried = c.in_ok-ended.ensures.carried seen knows have ranges in

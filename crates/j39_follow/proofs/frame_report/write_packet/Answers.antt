@@ -15,7 +15,7 @@ pub returns-then-branch-clause-heard : goal.returns-then-branch-clause-heard
 returns-then-branch-clause-heard c =
     IfOk-weaker c.write_completed.result _ _
     (λ _ _. λ seen have.
-    heard_packet c.args.plan.now c.args.listeners.now c.listen.new.listeners seen c.args.frame.now c.args.packet.now
+    heard_packet c.args.groups.now c.args.listeners.now c.listen.new.listeners seen c.args.frame.now c.args.packet.now
     c.in_ok-listen.ensures.heard have)
     c.write_completed.ensures
 
@@ -41,8 +41,8 @@ returns-then-branch-clause-carried c =
           done.sort,
           carried_there c.listener_completes_what_is_carried.ensures.completed one.0 p old new done.pgn done.bytes one.2
               (heard_itself c.args.listeners.now.rows.items c.listen.new.listeners.rows.items i p c.in_ok-listen.ensures.heard)
-              (since_in_range c.args.plan.now seen i.sa i.ps one.0 one.1 ranges)
-              c.requires.range told done.progress_is done.bytes_are,
+              (since_in_range c.args.groups.now seen i.sa i.ps one.0 one.1 ranges)
+              c.requires told done.progress_is done.bytes_are,
           done.report,
           ap option_to_list done.counted_is,
         ),
@@ -53,7 +53,7 @@ returns-then-branch-clause-carried c =
 
 pub returns-else-branch-clause-heard : goal.returns-else-branch-clause-heard
 returns-else-branch-clause-heard c = λ seen have.
-    heard_packet c.args.plan.now c.args.listeners.now c.listen.new.listeners seen c.args.frame.now c.args.packet.now
+    heard_packet c.args.groups.now c.args.listeners.now c.listen.new.listeners seen c.args.frame.now c.args.packet.now
     c.in_ok-listen.ensures.heard have
 
 pub returns-else-branch-clause-carried : goal.returns-else-branch-clause-carried

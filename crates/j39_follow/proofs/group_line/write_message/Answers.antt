@@ -1,19 +1,18 @@
-use Rattle.std.proofs.Common.{◌≡◌, ◌++◌, ℕ, List, Option, Some, ap, subst, ◌∙◌, append_assoc, nat_le}
-use Rattle.std.proofs.lemmas.Bool.{leb-true}
-use Rattle.std.proofs.lemmas.Bool.{and_parts}
+use Rattle.std.proofs.Common.{◌≡◌, ◌++◌, ℕ, List, Option, Some, ap, sym, subst, ◌∙◌, append_assoc, nat_le}
+use Rattle.std.proofs.lemmas.Bool.{and_parts, leb-true}
 use Rattle.std.proofs.lemmas.Option.{get_or_from_slice_get}
 use Rattle.j39_findings.specs.declared.plan.group_plan.GroupPlan.{GroupPlan}
 use Rattle.j39_log.specs.LogReports.{reading_lines}
-use Rattle.j39_follow.specs.Fits.{IsSentGroup}
+use Rattle.j39_follow.specs.Fits.{IsSentGroup, fitting_flow}
 use Rattle.j39_follow.specs.FollowReports.{message_line}
 use Rattle.j39_follow.specs.declared.message.Sort.TheVariants.{Grouped}
 use Rattle.j39_follow.specs.inside.Reporting.{front_of, arrived_message}
 use Rattle.j39_follow.proofs.group_line.write_message.Goals as goal
 
-pub write_group_readings-requires-clause-length : goal.write_group_readings-requires-clause-length
-write_group_readings-requires-clause-length c =
+pub write_group_readings-requires : goal.write_group_readings-requires
+write_group_readings-requires c =
     let m = arrived_message c.args.message in
-    let found = subst (IsSentGroup c.args.plan.now m.pgn _ c.sending_of-sent.result) c.in-Some.is c.group_of.ensures in
+    let found = subst (IsSentGroup c.args.groups.now m.pgn _ c.sending_of-sent.result) c.in-Some.is c.group_of.ensures in
     let group : GroupPlan = found.0.value in
     record {
       value = group;
@@ -23,17 +22,19 @@ write_group_readings-requires-clause-length c =
 
 pub returns : goal.returns
 returns c = λ frames knows.
-    let plan = c.args.plan.now in
+    let plan = c.args.groups.now in
     let front = front_of c.args.stamp in
     let m = arrived_message c.args.message in
     let sent = c.sending_of-sent.result in
-    let flow = c.flow_of-flow in
-    let line = c.in_ok-write_group_line.ensures frames knows in
+    let flow = c.flow_of-flow.result in
+    let fits : flow ≡ fitting_flow plan c.in-Some.group sent = rw c.plan-plan.ensures at c.flow_of-flow.ensures in
+    let line = (rw c.plan-plan.ensures at c.in_ok-write_group_line.ensures) frames knows in
     let reads = c.in_ok-write_group_readings.ensures in
     let group : GroupPlan = reads.value in
-    let same : c.index.result.now ≡ group =
-    c.index.ensures ∙ get_or_from_slice_get plan.groups.items c.in-Some.group group c.index.result.now reads.value_is in
-    let head : List ℕ = message_line group front line.0 flow.result m in
+    let there = c.group.result.now in
+    let same : there ≡ group =
+    sym (c.group.ensures there) ∙ get_or_from_slice_get plan.groups.items c.in-Some.group group there reads.value_is in
+    let head : List ℕ = message_line group front line.0 flow m in
     let body : List ℕ = reading_lines group m.bytes in (
       head ++ body,
       (
@@ -42,17 +43,17 @@ returns c = λ frames knows.
         c.sending_of-sent.ensures plan frames knows,
         subst (IsSentGroup plan m.pgn _ sent) c.in-Some.is c.group_of.ensures,
         (
-          ap (Grouped c.in-Some.group) flow.ensures,
+          ap (Grouped c.in-Some.group) fits,
           line.0,
           line.1,
           record {
             value = group;
             value_is = reads.value_is;
-            meets = ap (λ (o : Option ℕ). message_line group front line.0 o m ++ body) flow.ensures;
+            meets = ap (λ (o : Option ℕ). message_line group front line.0 o m ++ body) fits;
           },
         ),
       ),
       reads.meets
-          ∙ ap (λ (t : List ℕ). t ++ body) (line.2 ∙ ap (λ (g : GroupPlan). c.args.text.now ++ message_line g front line.0 flow.result m) same)
+          ∙ ap (λ (t : List ℕ). t ++ body) (line.2 ∙ ap (λ (g : GroupPlan). c.args.text.now ++ message_line g front line.0 flow m) same)
           ∙ append_assoc c.args.text.now head body,
     )

@@ -10,11 +10,11 @@ use Rattle.j39_log.proofs.log_reading.write_frame.Goals as goal
 
 pub returns-in-Some : goal.returns-in-Some
 returns-in-Some c =
-    let plan = c.args.plan.now in
+    let plan = c.args.groups.now in
     let f = c.args.frame.now in
     let group : c.place.result ≡ planned_group plan f =
-    found_for plan c.deref.result.now f c.number.result c.as_slice-bytes.result.now c.place.result c.deref.ensures.value
-    (c.number.ensures.value ∙ c.pgn.ensures) c.as_slice-bytes.ensures.value c.place.ensures in
+    found_for plan f c.number.result c.as_slice-bytes.result.now c.place.result (c.number.ensures.value ∙ c.pgn.ensures)
+    c.as_slice-bytes.ensures.value c.place.ensures in
     let planned : planned_group plan f ≡ Some c.in-Some.place = sym group ∙ c.in-Some.is in
     IfOk-weaker c.write_group.result _ _
     (λ _ written. λ seen have ranges. (
@@ -30,11 +30,11 @@ returns-in-Some c =
 
 pub returns-in-Some-transport_packet : goal.returns-in-Some-transport_packet
 returns-in-Some-transport_packet c =
-    let plan = c.args.plan.now in
+    let plan = c.args.groups.now in
     let f = c.args.frame.now in
     let group : c.place.result ≡ planned_group plan f =
-    found_for plan c.deref.result.now f c.number.result c.as_slice-bytes.result.now c.place.result c.deref.ensures.value
-    (c.number.ensures.value ∙ c.pgn.ensures) c.as_slice-bytes.ensures.value c.place.ensures in
+    found_for plan f c.number.result c.as_slice-bytes.result.now c.place.result (c.number.ensures.value ∙ c.pgn.ensures)
+    c.as_slice-bytes.ensures.value c.place.ensures in
     both_ok c.write_packet.result _ _ _ c.write_packet.ensures.heard c.write_packet.ensures.message
     (λ heard written. λ seen have ranges.
     let told = written seen have ranges in (
@@ -49,11 +49,11 @@ returns-in-Some-transport_packet c =
 
 pub returns-in-None : goal.returns-in-None
 returns-in-None c = λ seen have ranges.
-    let plan = c.args.plan.now in
+    let plan = c.args.groups.now in
     let f = c.args.frame.now in
     let group : c.place.result ≡ planned_group plan f =
-    found_for plan c.deref.result.now f c.number.result c.as_slice-bytes.result.now c.place.result c.deref.ensures.value
-    (c.number.ensures.value ∙ c.pgn.ensures) c.as_slice-bytes.ensures.value c.place.ensures in (
+    found_for plan f c.number.result c.as_slice-bytes.result.now c.place.result (c.number.ensures.value ∙ c.pgn.ensures)
+    c.as_slice-bytes.ensures.value c.place.ensures in (
       None,
       [],
       inr c.in-None.ensures.none,

@@ -31,7 +31,7 @@ returns-in_ok-write_message-clause-message c = λ seen have ranges.
             (have i.sa i.ps i.sa_range i.ps_range)
             (heard_itself c.args.listeners.now.rows.items c.listen.new.listeners.rows.items i p c.in_ok-listen.ensures.heard)
             (heard_in_range i.sa i.ps seen ranges)
-            c.requires.range told written.3 written.4,
+            c.requires told written.3 written.4,
         written.5,
       ),
       written.6,

@@ -11,7 +11,7 @@ use Rattle.j39_follow.proofs.reading.Reading.follow.Goals as goal
 
 pub returns-clause-followed : goal.returns-clause-followed
 returns-clause-followed c =
-    let plan = c.args.plan.now in
+    let plan = c.args.groups.now in
     let f = c.args.frame.now in
     let directory = c.args.self.now.directory in
     let nothing = silent f (sym c.claims_address.ensures ∙ c.if-claims_address.false) (sym c.cannot_claim.ensures ∙ c.if-cannot_claim.false) in

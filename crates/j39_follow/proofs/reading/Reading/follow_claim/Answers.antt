@@ -1,4 +1,5 @@
 use Rattle.std.proofs.Common.{◌+◌, ◌<◌, ◌^◌, List, length, sym, subst, arith}
+use Rattle.j39_findings.specs.declared.plan.Plan.{Plan}
 use Rattle.j39_follow.specs.FollowText.{frames_seen}
 use Rattle.j39_follow.specs.declared.directory.Directory.{Directory}
 use Rattle.j39_follow.specs.declared.who.Who.{Who}
@@ -9,11 +10,13 @@ use Rattle.j39_follow.proofs.reading.Reading.follow_claim.Goals as goal
 
 pub returns-clause-followed : goal.returns-clause-followed
 returns-clause-followed c = λ past of few.
-    let plan = c.args.plan.now in
+    let plan = c.args.groups.now in
     let f = c.args.frame.now in
     let sent = of.few in
     let room : length past.sent + 2 < 2 ^ 64 = omega (arith, few, sent) in
-    let heard = c.hear.ensures (frames_seen past.seen) of.knows in
+    let heard : Knows plan c.hear.new.self (frames_with past.seen f) =
+    subst (λ (p : Plan). Knows p c.hear.new.self (frames_with past.seen f)) c.plan.ensures
+    (c.hear.ensures (frames_seen past.seen) (subst (λ (p : Plan). Knows p c.args.self.now.directory (frames_seen past.seen)) (sym c.plan.ensures) of.knows)) in
     let told = c.in_ok-report.ensures.reported past heard of.heard of.ranges of.tally room in
     let w = told.written in
     let knows = subst (λ (d : Directory). Knows plan d (frames_with past.seen f)) (sym c.in_ok-report.ensures.directory) heard in

@@ -21,13 +21,13 @@ one_at_most (Some s) = omega arith
 
 pub returns-clause-frame : goal.returns-clause-frame
 returns-clause-frame c = λ past recalls.
-    let plan = c.args.plan.now in
+    let plan = c.args.groups.now in
     let f = c.args.frame.now in
     let time : List ℕ = c.args.time.now in
     let named : Option (List ℕ) = option_copied c.args.named in
     let m = recalls.remembers in
     let frames = recalls.frames_are in
-    let room = c.requires.room.frames in
+    let room = c.requires.frames in
     let done = c.in_ok-follow.ensures.followed past m (omega (arith, frames, room)) in
     let same = c.in_ok-follow.ensures.counts in
     let x : Seen = record { frame = f; packet = done.packet } in

@@ -33,7 +33,7 @@ returns-then-is_elsewhere-clause-line c = λ past recalls.
           refl,
         ),
       ),
-      one_more_elsewhere c.args.plan.now c.args.self.now past recalls,
+      one_more_elsewhere c.args.groups.now c.args.self.now past recalls,
       sym (append-nil c.args.self.now.text),
     )
 
@@ -89,6 +89,6 @@ returns-in-Err-clause-line c = λ past recalls.
           ),
         ),
       ),
-      c.pass_over.ensures.past c.args.plan.now past recalls,
+      c.pass_over.ensures.past c.args.groups.now past recalls,
       c.pass_over.ensures.text ∙ sym (append-nil c.args.self.now.text),
     )

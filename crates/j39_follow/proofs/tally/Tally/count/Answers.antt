@@ -10,6 +10,6 @@ returns-in-Some c = λ sent few of.
     let old = c.args.self.now in
     let new : Tally = record { flows = old.flows; groups = old.groups; others = c.add_one-in-Some.new.counts } in
     let room : length old.others ≡ 256 = search rules in
-    subst (λ (s : Sort). IsTally c.args.plan.now new (sent ++ s ∷ [])) (sym c.in-Other.is)
-    (other_counted c.args.plan.now old new sent c.in-Other.pgn c.in-Some.first few (sym c.first_in.ensures ∙ c.in-Some.is) room refl refl
+    subst (λ (s : Sort). IsTally c.args.groups.now new (sent ++ s ∷ [])) (sym c.in-Other.is)
+    (other_counted c.args.groups.now old new sent c.in-Other.pgn c.in-Some.first few (sym c.first_in.ensures ∙ c.in-Some.is) room refl refl
     c.add_one-in-Some.ensures of)

@@ -7,7 +7,7 @@ use Rattle.j39_follow.proofs.tally.Tally.count_frame.Goals as goal
 
 pub returns-in-Some : goal.returns-in-Some
 returns-in-Some c = λ sent few of.
-    let plan = c.args.plan.now in
+    let plan = c.args.groups.now in
     let first = c.count.ensures sent (omega (arith, few)) of in
     let more = length_push sent c.args.sort in
     let second = c.count-in-Some.ensures (sent ++ c.args.sort ∷ []) (omega (arith, few, more)) first in
@@ -16,5 +16,5 @@ returns-in-Some c = λ sent few of.
 
 pub returns-in-None : goal.returns-in-None
 returns-in-None c = λ sent few of.
-    subst (λ (e : Option Sort). IsTally c.args.plan.now c.count.new.self (sent ++ c.args.sort ∷ option_to_list e)) (sym c.in-None.is)
+    subst (λ (e : Option Sort). IsTally c.args.groups.now c.count.new.self (sent ++ c.args.sort ∷ option_to_list e)) (sym c.in-None.is)
     (c.count.ensures sent (omega (arith, few)) of)

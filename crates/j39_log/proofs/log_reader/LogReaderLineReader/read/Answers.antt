@@ -4,11 +4,8 @@ use Rattle.j39_id.specs.Lines.{tells}
 use Rattle.j39_log.proofs.LogReading.{read_next, so_far}
 use Rattle.j39_log.proofs.log_reader.LogReaderLineReader.read.Goals as goal
 
-pub read_cut-requires-clause-catalog : goal.read_cut-requires-clause-catalog
-read_cut-requires-clause-catalog c = rw c.plan.ensures c.catalog.ensures
-
-pub read_cut-requires-clause-room : goal.read_cut-requires-clause-room
-read_cut-requires-clause-room c = let (most, within, room) = c.requires.room in omega (arith, within, room)
+pub read_cut-requires : goal.read_cut-requires
+read_cut-requires c = let (most, within, room) = c.requires.room in omega (arith, within, room)
 
 pub returns-clause-lines : goal.returns-clause-lines
 returns-clause-lines c =
@@ -16,7 +13,7 @@ returns-clause-lines c =
     (λ _ lines. λ before written read.
     so_far c.args.self.now.groups.now (before ++ tells c.args.cut c.args.line.now) c.read_cut.new.self written
     (read_next c.args.self.now.groups.now before (tells c.args.cut c.args.line.now) c.args.self.now.reading c.read_cut.new.self written lines read))
-    (rw c.plan.ensures at c.read_cut.ensures.lines)
+    c.read_cut.ensures.lines
 
 pub returns-clause-count : goal.returns-clause-count
 returns-clause-count c =

@@ -10,7 +10,7 @@ returns-in-Long-clause-lines c = λ past recalls.
     let next : Past = with_bad past in (
       next,
       [],
-      subst (λ (cut : Cut). ReadsLines c.args.plan.now past (tells cut c.args.line.now) next []) (sym c.in-Long.is)
+      subst (λ (cut : Cut). ReadsLines c.args.groups.now past (tells cut c.args.line.now) next []) (sym c.in-Long.is)
           (next, [], [], (refl, refl), (refl, refl), refl),
       record {
         heard_all = recalls.heard_all;

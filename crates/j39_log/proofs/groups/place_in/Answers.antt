@@ -2,7 +2,7 @@ use Rattle.std.proofs.Common.{get_or, ◌∙◌, sym, ap, inl, inr, arith}
 use Rattle.std.proofs.lemmas.Bool.{cases_lt}
 use Rattle.j39_log.specs.LogFrames.{is_planned_as}
 use Rattle.j39_log.proofs.Indexes.{first_place, no_place, unplanned}
-use Rattle.j39_log.proofs.catalog.place_in.Goals as goal
+use Rattle.j39_log.proofs.groups.place_in.Goals as goal
 
 pub returns-then-is_planned_as : goal.returns-then-is_planned_as
 returns-then-is_planned_as c =
