@@ -58,6 +58,7 @@ fn place_in(groups: &[GroupPlan], span: Span, pgn: u32, bytes: usize) -> Option<
 }
 
 impl<'a> Groups<'a> {
+    /// The groups of a plan, if each has a layout.
     pub fn new(alloc: Global, plan: &'a Plan) -> Result<Self, CatalogError>
         ensures plan { IfOk result (λ groups. groups ≡ plan.now) }
         ensures readable { OnOk result (All IsSendable plan.now.groups.items) }
@@ -101,7 +102,7 @@ impl<'a> Groups<'a> {
         &self.plan.groups[place]
     }
 
-    /// Its layout.
+    /// The layout of the group at a place.
     pub fn layout(&self, place: usize) -> &Layout
         requires { place < length self.now.groups.items }
         ensures { HoldsAt (λ group. layout_of group ≡ result.now) self.now.groups.items place }
@@ -109,7 +110,7 @@ impl<'a> Groups<'a> {
         &self.catalog.layouts[place]
     }
 
-    /// What stands around the values of its signals.
+    /// What stands around the values of the signals of the group at a place.
     pub fn lines(&self, place: usize) -> &[ValueLine]
         requires { place < length self.now.groups.items }
         ensures { HoldsAt (λ group. value_lines_of group ≡ result.now) self.now.groups.items place }
