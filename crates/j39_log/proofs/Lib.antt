@@ -8,6 +8,7 @@ pub mod OneText
 pub mod Outcomes
 pub mod PairLists
 pub mod RecordLists
+pub mod ReportHeads
 pub mod SignalLists
 pub mod TextLists
 pub mod ValueLines

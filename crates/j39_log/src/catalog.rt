@@ -1,12 +1,14 @@
-//! The layouts of a plan's groups, what stands around the values of their signals, and where the groups of one number stand.
+//! The layouts of a plan's groups, what their reports have in common, and where the groups of one number stand.
 ghost use Rattle.std.specs.Prelude.{◌≡◌, ◌<◌, List, [], ◌∷◌, ◌++◌, length, map, All, OnOk, IfOk, IfErr};
 ghost use Rattle.j39_log.specs.inside.Listening.{extended, IsBadCatalog, IsCatalogOf, IsIndex};
 ghost use Rattle.j39_findings.specs.PlannedGroups.{IsSendable, layout_of as parts_of};
 ghost use Rattle.j39_findings.specs.declared.plan.group_plan.GroupPlan.{GroupPlan as APlannedGroup};
 
+use crate::report_head::report_heads;
 use crate::value_line::{ValueLine, value_lines_of};
 use j39_findings::{GroupFault, GroupPlan, Plan, layout_of};
 use j39_signal::Layout;
+use j39_text::TextBuffer;
 use std::alloc::{AllocError, Global};
 use std::collections::HashMap;
 
@@ -27,10 +29,11 @@ pub struct Span {
     pub end: usize,
 }
 
-/// The groups of a plan: their layouts by place, what stands around the values of their signals, and by its number where they
-/// stand.
+/// The groups of a plan: by place what their reports begin with, their layouts and what stands around the values of their
+/// signals, and by its number where they stand.
 #[derive(Drop)]
 pub(crate) struct Catalog {
+    pub heads: Vec<TextBuffer>,
     pub layouts: Vec<Layout>,
     pub lines: Vec<Vec<ValueLine>>,
     pub spans: HashMap<u32, Span>,
@@ -106,6 +109,9 @@ impl Catalog {
         ensures refused { IfErr result (IsBadCatalog plan.now.groups.items) }
     {
         let layouts = layouts_of(alloc, plan.groups.as_slice())?;
+        let Ok(heads) = report_heads(alloc, plan.groups.as_slice()) else {
+            return Err(CatalogError::Memory);
+        };
         let Ok(lines) = value_lines_of(alloc, plan.groups.as_slice()) else {
             return Err(CatalogError::Memory);
         };
@@ -113,6 +119,7 @@ impl Catalog {
             return Err(CatalogError::Memory);
         };
         Ok(Catalog {
+            heads,
             layouts,
             lines,
             spans,

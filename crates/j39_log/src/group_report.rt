@@ -5,8 +5,8 @@ ghost use Rattle.j39_signal.specs.Parts.{IsDivisor};
 ghost use Rattle.j39_findings.specs.Records.{single_signals};
 ghost use Rattle.j39_text.specs.Decimals.{quotient_text};
 ghost use Rattle.j39_text.specs.Texts.{field};
-ghost use Rattle.j39_log.specs.LogReports.{all_records_lines, group_line, group_report, reading_lines, signal_line, signal_lines, way_text};
-ghost use Rattle.j39_log.specs.inside.ValueLines.{value_line_of, value_lines_of};
+ghost use Rattle.j39_log.specs.LogReports.{all_records_lines, group_report, reading_lines, signal_line, signal_lines};
+ghost use Rattle.j39_log.specs.inside.ValueLines.{behind_head, head_of, value_line_of, value_lines_of};
 
 use crate::record_lines::write_records;
 use crate::text_lines::write_texts;
@@ -128,15 +128,6 @@ fn write_signals(
     Ok(())
 }
 
-#[tactic(auto, unfolding(crate::specs::LogReports::way_text))]
-fn write_way(text: &mut TextBuffer, ident: Ident) -> Result<(), AllocError>
-    ensures { OnOk result (text.new ≡ text.old ++ way_text ident) }
-{
-    text.field(" from ", ident.sa)?;
-    text.word(" to ")?;
-    write_destination(text, ident)
-}
-
 // The digits of the bytes. Those of a full frame are written apart, which is faster since their count is known there.
 #[inline(always)]
 fn write_digits(text: &mut TextBuffer, bytes: &[u8]) -> Result<(), AllocError>
@@ -149,18 +140,20 @@ fn write_digits(text: &mut TextBuffer, bytes: &[u8]) -> Result<(), AllocError>
     }
 }
 
-#[tactic(auto, unfolding(crate::specs::LogReports::group_line))]
+// The line of a report with this head.
+#[tactic(auto, unfolding(crate::specs::inside::ValueLines::behind_head))]
 fn write_group_line(
     text: &mut TextBuffer,
-    group: &GroupPlan,
+    head: &[u8],
     ident: Ident,
     bytes: &[u8],
 ) -> Result<(), AllocError>
-    ensures { OnOk result (text.new ≡ text.old ++ group_line group.now ident bytes.now) }
+    ensures { OnOk result (text.new ≡ text.old ++ (head.now ++ behind_head ident bytes.now)) }
 {
-    text.word("group ")?;
-    text.word(group.label.as_str())?;
-    write_way(text, ident)?;
+    text.bytes(head)?;
+    text.number(ident.sa)?;
+    text.word(" to ")?;
+    write_destination(text, ident)?;
     text.word(" bytes ")?;
     write_digits(text, bytes)?;
     text.end_line()
@@ -186,20 +179,21 @@ pub(super) fn write_readings(
 }
 
 /// Writes who sent which bytes of a group to whom, and what each of its signals, records and texts reads.
-#[tactic(auto, unfolding(crate::specs::LogReports::group_report))]
 pub(super) fn write_report(
     text: &mut TextBuffer,
     group: &GroupPlan,
+    head: &[u8],
     lines: &[ValueLine],
     layout: &Layout,
     ident: Ident,
     bytes: &[u8],
 ) -> Result<(), AllocError>
+    requires head { head.now ≡ head_of group.now }
     requires signals { layout.now.signals ≡ group.now.signals.items }
     requires lines { lines.now ≡ value_lines_of group.now }
     requires bytes { layout.now.length ≤ length bytes.now }
     ensures { OnOk result (text.new ≡ text.old ++ group_report group.now ident bytes.now) }
 {
-    write_group_line(text, group, ident, bytes)?;
+    write_group_line(text, head, ident, bytes)?;
     write_readings(text, group, lines, layout, bytes)
 }

@@ -11,6 +11,7 @@ mod log_reading;
 mod log_text;
 mod readings;
 mod record_lines;
+mod report_head;
 mod text_lines;
 mod transport;
 mod trouble_code;

@@ -44,6 +44,7 @@ fn write_group(
     write_report(
         text,
         groups.group(place),
+        groups.head(place),
         groups.lines(place),
         groups.layout(place),
         ident,
