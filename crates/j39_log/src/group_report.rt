@@ -6,7 +6,8 @@ ghost use Rattle.j39_findings.specs.Records.{single_signals};
 ghost use Rattle.j39_text.specs.Decimals.{quotient_text};
 ghost use Rattle.j39_text.specs.Texts.{field};
 ghost use Rattle.j39_log.specs.LogReports.{all_records_lines, group_report, reading_lines, signal_line, signal_lines};
-ghost use Rattle.j39_log.specs.inside.ValueLines.{behind_head, head_of, value_line_of, value_lines_of};
+ghost use Rattle.j39_log.specs.inside.ReportHeads.{behind_head, report_head};
+ghost use Rattle.j39_log.specs.inside.ValueLines.{value_line_of, value_lines_of};
 
 use crate::record_lines::write_records;
 use crate::text_lines::write_texts;
@@ -141,7 +142,7 @@ fn write_digits(text: &mut TextBuffer, bytes: &[u8]) -> Result<(), AllocError>
 }
 
 // The line of a report with this head.
-#[tactic(auto, unfolding(crate::specs::inside::ValueLines::behind_head))]
+#[tactic(auto, unfolding(crate::specs::inside::ReportHeads::behind_head))]
 fn write_group_line(
     text: &mut TextBuffer,
     head: &[u8],
@@ -188,7 +189,7 @@ pub(super) fn write_report(
     ident: Ident,
     bytes: &[u8],
 ) -> Result<(), AllocError>
-    requires head { head.now ≡ head_of group.now }
+    requires head { head.now ≡ report_head group.now }
     requires signals { layout.now.signals ≡ group.now.signals.items }
     requires lines { lines.now ≡ value_lines_of group.now }
     requires bytes { layout.now.length ≤ length bytes.now }

@@ -4,7 +4,8 @@ ghost use Rattle.std.specs.List.{HoldsAt, position};
 ghost use Rattle.j39_findings.specs.PlannedGroups.{IsSendable, layout_of};
 ghost use Rattle.j39_log.specs.LogFrames.{is_planned_as, planned};
 ghost use Rattle.j39_log.specs.inside.Listening.{HasAllOf, IsBadCatalog, IsSpanOf};
-ghost use Rattle.j39_log.specs.inside.ValueLines.{head_of, value_lines_of};
+ghost use Rattle.j39_log.specs.inside.ReportHeads.{report_head};
+ghost use Rattle.j39_log.specs.inside.ValueLines.{value_lines_of};
 
 use crate::catalog::{Catalog, CatalogError, Span};
 use crate::value_line::ValueLine;
@@ -105,7 +106,7 @@ impl<'a> Groups<'a> {
     /// What a report of the group at a place begins with.
     pub fn head(&self, place: usize) -> &[u8]
         requires { place < length self.now.groups.items }
-        ensures { HoldsAt (λ group. head_of group ≡ result.now) self.now.groups.items place }
+        ensures { HoldsAt (λ group. report_head group ≡ result.now) self.now.groups.items place }
     {
         self.catalog.heads[place].as_slice()
     }

@@ -1,13 +1,13 @@
 //! What the report of a group begins with, which is the same in each report of it.
 ghost use Rattle.std.specs.Prelude.{◌≡◌, map, IfOk};
-ghost use Rattle.j39_log.specs.inside.ValueLines.{head_of};
+ghost use Rattle.j39_log.specs.inside.ReportHeads.{report_head};
 
 use j39_findings::GroupPlan;
 use j39_text::TextBuffer;
 use std::alloc::{AllocError, Global};
 
 fn report_head(alloc: Global, group: &GroupPlan) -> Result<TextBuffer, AllocError>
-    ensures { IfOk result (λ text. text ≡ head_of group.now) }
+    ensures { IfOk result (λ text. text ≡ report_head group.now) }
 {
     let mut text = TextBuffer::new(alloc);
     text.word("group ")?;
@@ -21,7 +21,7 @@ pub(crate) fn report_heads(
     alloc: Global,
     groups: &[GroupPlan],
 ) -> Result<Vec<TextBuffer>, AllocError>
-    ensures { IfOk result (λ heads. heads.items ≡ map head_of groups.now) }
+    ensures { IfOk result (λ heads. heads.items ≡ map report_head groups.now) }
 {
     let mut heads = Vec::new(alloc);
     for group in groups {

@@ -17,7 +17,8 @@ use Rattle.j39_log.specs.declared.catalog.CatalogError.{CatalogError}
 use Rattle.j39_log.specs.declared.catalog.CatalogError.TheVariants.{BadGroup, Memory}
 use Rattle.j39_log.specs.declared.catalog.Catalog.{Catalog}
 use Rattle.j39_log.specs.declared.catalog.Span.{Span}
-use Rattle.j39_log.specs.inside.ValueLines.{head_of, items_of, value_lines_of}
+use Rattle.j39_log.specs.inside.ReportHeads.{report_head}
+use Rattle.j39_log.specs.inside.ValueLines.{items_of, value_lines_of}
 
 -- ---- groups
 
@@ -53,7 +54,7 @@ IsIndex groups spans = (pgn : ℕ) → IsSpanOf groups pgn (get nat_eq spans pgn
 
 -- a catalog has the groups of the plan
 pub record IsCatalogOf (plan : Plan) (catalog : Catalog) : Type 0 where
-  pub heads : catalog.heads.items ≡ map head_of plan.groups.items
+  pub heads : catalog.heads.items ≡ map report_head plan.groups.items
   pub layouts : catalog.layouts.items ≡ map layout_of plan.groups.items
   pub lines : map items_of catalog.lines.items ≡ map value_lines_of plan.groups.items
   pub index : IsIndex plan.groups.items catalog.spans

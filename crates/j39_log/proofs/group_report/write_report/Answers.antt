@@ -1,7 +1,7 @@
 use Rattle.std.proofs.Common.{◌++◌, ℕ, List, ap, ◌∙◌, append_assoc}
 use Rattle.std.proofs.lemmas.Result.{IfOk-weaker}
 use Rattle.j39_log.specs.LogReports.{group_line, group_report, reading_lines}
-use Rattle.j39_log.specs.inside.ValueLines.{behind_head}
+use Rattle.j39_log.specs.inside.ReportHeads.{behind_head}
 use Rattle.j39_log.proofs.ReportHeads.{head_and_rest}
 use Rattle.j39_log.proofs.group_report.write_report.Goals as goal
 

@@ -3,13 +3,14 @@ use Rattle.std.proofs.lemmas.Result.{IfOk-weaker}
 use Rattle.j39_signal.specs.LayoutParts.{LayoutParts}
 use Rattle.j39_findings.specs.PlannedGroups.{layout_of}
 use Rattle.j39_log.specs.LogReports.{group_report}
-use Rattle.j39_log.specs.inside.ValueLines.{head_of, value_lines_of}
+use Rattle.j39_log.specs.inside.ReportHeads.{report_head}
+use Rattle.j39_log.specs.inside.ValueLines.{value_lines_of}
 use Rattle.j39_log.proofs.FoundGroups.{of_group, planned_there, report_there}
 use Rattle.j39_log.proofs.log_reading.write_group.Goals as goal
 
 pub write_report-requires-clause-head : goal.write_report-requires-clause-head
 write_report-requires-clause-head c =
-    of_group head_of c.args.groups.now.groups.items c.args.place c.group.result.now c.head.result.now c.group.ensures c.head.ensures
+    of_group report_head c.args.groups.now.groups.items c.args.place c.group.result.now c.head.result.now c.group.ensures c.head.ensures
 
 pub write_report-requires-clause-signals : goal.write_report-requires-clause-signals
 write_report-requires-clause-signals c =
