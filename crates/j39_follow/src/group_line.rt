@@ -1,6 +1,5 @@
 //! The report of a message: who sent which group to whom, and what it reads.
 ghost use Rattle.std.specs.Prelude.{◌≡◌, ◌++◌, ℕ, List, if◌then◌else◌, IfOk, OnOk};
-ghost use Rattle.hex.specs.Hex.{encode_upper};
 ghost use Rattle.j39_id.specs.declared.frame.Frame.{Frame as AFrame};
 ghost use Rattle.j39_findings.specs.declared.plan.Plan.{Plan as APlan};
 ghost use Rattle.j39_follow.specs.FollowReports.{IsMessageReport, IsSendingOf, IsWay, aim_at, flow_word, message_line, is_to_all as goes_to_all, priority_text, sent_text};
@@ -16,9 +15,8 @@ use crate::party_text::{is_to_all, write_way};
 use crate::sending::{Aim, Sending, flow_of, group_of};
 use crate::stamp::{Stamp, write_stamp};
 use j39_findings::{GroupPlan, Plan};
-use j39_id::limits::FRAME_BYTES;
 use j39_id::{PDU2_FIRST, pf_of};
-use j39_log::{Groups, write_group_readings};
+use j39_log::{Groups, write_digits, write_group_readings};
 use j39_text::TextBuffer;
 use std::alloc::AllocError;
 
@@ -72,18 +70,6 @@ fn write_priority(text: &mut TextBuffer, planned: u8, framed: Option<u8>) -> Res
             }
         }
         None => Ok(()),
-    }
-}
-
-// The digits of the bytes. Those of a full frame are written apart, which is faster since their count is known there.
-#[inline(always)]
-fn write_digits(text: &mut TextBuffer, bytes: &[u8]) -> Result<(), AllocError>
-    ensures { OnOk result (text.new ≡ text.old ++ encode_upper bytes.now) }
-{
-    if bytes.len() == FRAME_BYTES {
-        text.hex(&bytes[..FRAME_BYTES])
-    } else {
-        text.hex(bytes)
     }
 }
 

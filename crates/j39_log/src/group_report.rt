@@ -129,9 +129,9 @@ fn write_signals(
     Ok(())
 }
 
-// The digits of the bytes. Those of a full frame are written apart, which is faster since their count is known there.
+/// Writes two digits for each byte. Those of a full frame are written apart, which is faster since their count is known there.
 #[inline(always)]
-fn write_digits(text: &mut TextBuffer, bytes: &[u8]) -> Result<(), AllocError>
+pub fn write_digits(text: &mut TextBuffer, bytes: &[u8]) -> Result<(), AllocError>
     ensures { OnOk result (text.new ≡ text.old ++ encode_upper bytes.now) }
 {
     if bytes.len() == FRAME_BYTES {

@@ -18,6 +18,7 @@ mod trouble_code;
 mod value_line;
 
 pub use catalog::{CatalogError, Span};
+pub use group_report::write_digits;
 pub use groups::Groups;
 pub use laws::{a_log_has_one_text, older_plans_are_read_as_before};
 pub use listeners::{Listeners, listen};
