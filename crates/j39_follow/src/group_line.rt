@@ -2,6 +2,7 @@
 ghost use Rattle.std.specs.Prelude.{◌≡◌, ◌++◌, ℕ, List, if◌then◌else◌, IfOk, OnOk};
 ghost use Rattle.j39_id.specs.declared.frame.Frame.{Frame as AFrame};
 ghost use Rattle.j39_findings.specs.declared.plan.Plan.{Plan as APlan};
+ghost use Rattle.j39_log.specs.inside.ReportHeads.{report_head};
 ghost use Rattle.j39_follow.specs.FollowReports.{IsMessageReport, IsSendingOf, IsWay, aim_at, flow_word, message_line, is_to_all as goes_to_all, priority_text, sent_text};
 ghost use Rattle.j39_follow.specs.Who.{IsWho, unit_of};
 ghost use Rattle.j39_follow.specs.declared.sending.Aim.TheVariants as aims;
@@ -11,7 +12,7 @@ ghost use Rattle.j39_follow.specs.inside.Reporting.{front_of, arrived_message};
 
 use crate::directory::Directory;
 use crate::message::{Arrival, Sort};
-use crate::party_text::{is_to_all, write_way};
+use crate::party_text::{is_to_all, write_parties};
 use crate::sending::{Aim, Sending, flow_of, group_of};
 use crate::stamp::{Stamp, write_stamp};
 use j39_findings::{GroupPlan, Plan};
@@ -89,24 +90,24 @@ fn write_sent(
     text.end_line()
 }
 
-#[tactic(auto, unfolding(crate::specs::FollowReports::message_line))]
 fn write_group_line(
     text: &mut TextBuffer,
     plan: &Plan,
     directory: &Directory,
     stamp: Stamp<'_>,
     group: &GroupPlan,
+    head: &[u8],
     flow: Option<usize>,
     message: Arrival<'_>,
 ) -> Result<(), AllocError>
+    requires { head.now ≡ report_head group.now }
     ensures { OnOk result ((frames : List AFrame) → Knows plan.now directory.now frames
         → (way : List ℕ) × IsWay plan.now frames message.entry.ident way
         × (text.new ≡ text.old ++ message_line group.now (front_of stamp.entry) way flow (arrived_message message.entry))) }
 {
     write_stamp(text, stamp)?;
-    text.word("group ")?;
-    text.word(group.label.as_str())?;
-    write_way(text, plan, directory, message.ident)?;
+    text.bytes(head)?;
+    write_parties(text, plan, directory, message.ident)?;
     write_sent(text, group, flow, message)
 }
 
@@ -134,6 +135,7 @@ pub(crate) fn write_message(
         directory,
         stamp,
         groups.group(group),
+        groups.head(group),
         flow,
         message,
     )?;

@@ -101,6 +101,20 @@ fn write_receiver(
     }
 }
 
+/// Writes from whom to whom a frame goes, behind the word for it.
+pub(crate) fn write_parties(
+    text: &mut TextBuffer,
+    plan: &Plan,
+    directory: &Directory,
+    ident: Ident,
+) -> Result<(), AllocError>
+    ensures { OnOk result ((frames : List AFrame) → Knows plan.now directory.now frames
+        → (parties : List ℕ) × IsWay plan.now frames ident (codes " from " ++ parties) × (text.new ≡ text.old ++ parties)) }
+{
+    write_party_at(text, plan, directory, ident.sa)?;
+    write_receiver(text, plan, directory, ident)
+}
+
 /// Writes from whom to whom a frame goes.
 pub(crate) fn write_way(
     text: &mut TextBuffer,
@@ -112,6 +126,5 @@ pub(crate) fn write_way(
         → (way : List ℕ) × IsWay plan.now frames ident way × (text.new ≡ text.old ++ way)) }
 {
     text.word(" from ")?;
-    write_party_at(text, plan, directory, ident.sa)?;
-    write_receiver(text, plan, directory, ident)
+    write_parties(text, plan, directory, ident)
 }

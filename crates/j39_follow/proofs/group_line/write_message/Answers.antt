@@ -3,6 +3,8 @@ use Rattle.std.proofs.lemmas.Bool.{and_parts, leb-true}
 use Rattle.std.proofs.lemmas.Option.{get_or_from_slice_get}
 use Rattle.j39_findings.specs.declared.plan.group_plan.GroupPlan.{GroupPlan}
 use Rattle.j39_log.specs.LogReports.{reading_lines}
+use Rattle.j39_log.specs.inside.ReportHeads.{report_head}
+use Rattle.j39_log.proofs.FoundGroups.{of_group}
 use Rattle.j39_follow.specs.Fits.{IsSentGroup, fitting_flow}
 use Rattle.j39_follow.specs.FollowReports.{message_line}
 use Rattle.j39_follow.specs.declared.message.Sort.TheVariants.{Grouped}
@@ -19,6 +21,10 @@ write_group_readings-requires c =
       value_is = found.0.value_is;
       meets = leb-true group.length _ (and_parts (nat_le group.length _) (nat_le _ group.most) found.0.meets.length).0;
     }
+
+pub write_group_line-requires : goal.write_group_line-requires
+write_group_line-requires c =
+    of_group report_head c.args.groups.now.groups.items c.in-Some.group c.group.result.now c.head.result.now c.group.ensures c.head.ensures
 
 pub returns : goal.returns
 returns c = λ frames knows.
