@@ -127,11 +127,10 @@ pub(crate) fn write_message(
     let Some(group) = group_of(groups, message.pgn, message.bytes.len(), sent) else {
         return Ok(Sort::Other(message.pgn));
     };
-    let plan = groups.plan();
-    let flow = flow_of(plan, group, sent);
+    let flow = flow_of(groups, group, sent);
     write_group_line(
         text,
-        plan,
+        groups.plan(),
         directory,
         stamp,
         groups.group(group),

@@ -3,7 +3,7 @@ ghost use Rattle.std.specs.Prelude.{◌≡◌, ◌<◌, ◌↔◌, IsTrue, lengt
 ghost use Rattle.j39_log.specs.inside.Listening.{HasAllOf};
 ghost use Rattle.j39_follow.specs.Fits.{IsSentGroup, MayBeGroup, fits, fitting_flow as first_flow, may_have_bytes, is_unit, reaches as is_reached};
 
-use j39_findings::{FlowPlan, GroupPlan, Plan, To};
+use j39_findings::{FlowPlan, GroupPlan, To};
 use j39_log::{Groups, Span};
 
 /// Whom a message went to. Units are given by their places, from 0.
@@ -55,13 +55,16 @@ fn is_fit(group: usize, sent: Sending, flow: &FlowPlan) -> bool
 }
 
 /// The first flow of a group that fits what was sent, by its place.
-pub fn flow_of(plan: &Plan, group: usize, sent: Sending) -> Option<usize>
-    ensures { result ≡ first_flow plan.now group sent }
+pub fn flow_of(groups: &Groups<'_>, group: usize, sent: Sending) -> Option<usize>
+    ensures { result ≡ first_flow groups.now group sent }
 {
-    plan.flows
-        .as_slice()
-        .iter()
-        .position(|flow| is_fit(group, sent, flow))
+    let plan = groups.plan();
+    for place in groups.first_flow(group)..plan.flows.len() {
+        if is_fit(group, sent, &plan.flows[place]) {
+            return Some(place);
+        }
+    }
+    None
 }
 
 // Whether messages of a group may have so many bytes.
@@ -72,11 +75,11 @@ fn has_length(group: &GroupPlan, bytes: usize) -> bool
 }
 
 // Whether a group may be that of so many bytes of this number, as they were sent.
-fn may_be_group(plan: &Plan, place: usize, pgn: u32, bytes: usize, sent: Sending) -> bool
-    requires { place < length plan.now.groups.items }
-    ensures { IsTrue result ↔ MayBeGroup plan.now pgn bytes sent place }
+fn may_be_group(groups: &Groups<'_>, place: usize, pgn: u32, bytes: usize, sent: Sending) -> bool
+    requires { place < length groups.now.groups.items }
+    ensures { IsTrue result ↔ MayBeGroup groups.now pgn bytes sent place }
 {
-    let group = &plan.groups[place];
+    let group = groups.group(place);
     if group.pgn != pgn {
         return false;
     }
@@ -86,16 +89,16 @@ fn may_be_group(plan: &Plan, place: usize, pgn: u32, bytes: usize, sent: Sending
     if !group.private {
         return true;
     }
-    flow_of(plan, place, sent).is_some()
+    flow_of(groups, place, sent).is_some()
 }
 
 // The first such group, which stands in the span of its number.
-fn group_in(plan: &Plan, span: Span, pgn: u32, bytes: usize, sent: Sending) -> Option<usize>
-    requires { HasAllOf plan.now.groups.items pgn span }
-    ensures { IsSentGroup plan.now pgn bytes sent result }
+fn group_in(groups: &Groups<'_>, span: Span, pgn: u32, bytes: usize, sent: Sending) -> Option<usize>
+    requires { HasAllOf groups.now.groups.items pgn span }
+    ensures { IsSentGroup groups.now pgn bytes sent result }
 {
     for place in span.first..span.end {
-        if may_be_group(plan, place, pgn, bytes, sent) {
+        if may_be_group(groups, place, pgn, bytes, sent) {
             return Some(place);
         }
     }
@@ -109,5 +112,5 @@ pub fn group_of(groups: &Groups<'_>, pgn: u32, bytes: usize, sent: Sending) -> O
     let Some(span) = groups.span(pgn) else {
         return None;
     };
-    group_in(groups.plan(), span, pgn, bytes, sent)
+    group_in(groups, span, pgn, bytes, sent)
 }

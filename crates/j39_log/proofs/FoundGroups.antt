@@ -1,5 +1,5 @@
 -- The group that is found for a number and a length.
-use Rattle.std.proofs.Common.{◌≡◌, ℕ, ◌<◌, true, nat_le, List, length, map, get_or, Option, Some, refl, sym, ap, ◌∙◌}
+use Rattle.std.proofs.Common.{◌≡◌, ℕ, ◌<◌, true, nat_le, List, length, get_or, Option, Some, refl, sym, ap, ◌∙◌}
 use Rattle.std.proofs.Common.{Vec, Global, arith}
 use Rattle.std.specs.List.{HoldsAt}
 use Rattle.std.proofs.lemmas.Bool.{and_parts, leb-true}

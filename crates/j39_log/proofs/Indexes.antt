@@ -15,35 +15,35 @@ use Rattle.j39_log.specs.LogFrames.{is_planned_as}
 
 -- ---- the first place
 
-first_from : (p : GroupPlan → Bool) (n place : ℕ) (groups : List GroupPlan) (d : GroupPlan) → place < length groups
-    → p (get_or groups place d) ≡ true → ((k : ℕ) (d : GroupPlan) → k < place → p (get_or groups k d) ≡ false)
-    → position_from p n groups ≡ Some (n + place)
+first_from : {A : Type 0} (p : A → Bool) (n place : ℕ) (xs : List A) (d : A) → place < length xs
+    → p (get_or xs place d) ≡ true → ((k : ℕ) (d : A) → k < place → p (get_or xs k d) ≡ false)
+    → position_from p n xs ≡ Some (n + place)
 first_from p n place [] d less passes none = absurd (omega arith)
-first_from p n zero (group ∷ groups) d less passes none =
+first_from p n zero (x ∷ xs) d less passes none =
     let same : n ≡ n + 0 = omega arith in
     rw passes (ap Some same)
-first_from p n (suc place) (group ∷ groups) d less passes none =
-    let other : p group ≡ false = none 0 group (omega arith) in
+first_from p n (suc place) (x ∷ xs) d less passes none =
+    let other : p x ≡ false = none 0 x (omega arith) in
     let same : (n + 1) + place ≡ n + suc place = omega arith in
-    rw other (first_from p (n + 1) place groups d (omega arith) passes (λ k e below. none (suc k) e (omega (arith, below))) ∙ ap Some same)
+    rw other (first_from p (n + 1) place xs d (omega arith) passes (λ k e below. none (suc k) e (omega (arith, below))) ∙ ap Some same)
 
-none_from : (p : GroupPlan → Bool) (n : ℕ) (groups : List GroupPlan)
-    → ((k : ℕ) (d : GroupPlan) → k < length groups → p (get_or groups k d) ≡ false) → position_from p n groups ≡ None
+none_from : {A : Type 0} (p : A → Bool) (n : ℕ) (xs : List A)
+    → ((k : ℕ) (d : A) → k < length xs → p (get_or xs k d) ≡ false) → position_from p n xs ≡ None
 none_from p n [] none = refl
-none_from p n (group ∷ groups) none =
-    let other : p group ≡ false = none 0 group (omega arith) in
-    rw other (none_from p (n + 1) groups (λ k d below. none (suc k) d (omega (arith, below))))
+none_from p n (x ∷ xs) none =
+    let other : p x ≡ false = none 0 x (omega arith) in
+    rw other (none_from p (n + 1) xs (λ k d below. none (suc k) d (omega (arith, below))))
 
-pub first_place : (p : GroupPlan → Bool) (place : ℕ) (groups : List GroupPlan) (d : GroupPlan) → place < length groups
-    → p (get_or groups place d) ≡ true → ((k : ℕ) (d : GroupPlan) → k < place → p (get_or groups k d) ≡ false)
-    → position p groups ≡ Some place
-first_place p place groups d less passes none =
+pub first_place : {A : Type 0} (p : A → Bool) (place : ℕ) (xs : List A) (d : A) → place < length xs
+    → p (get_or xs place d) ≡ true → ((k : ℕ) (d : A) → k < place → p (get_or xs k d) ≡ false)
+    → position p xs ≡ Some place
+first_place p place xs d less passes none =
     let same : 0 + place ≡ place = omega arith in
-    position_from-zero p groups ∙ first_from p 0 place groups d less passes none ∙ ap Some same
+    position_from-zero p xs ∙ first_from p 0 place xs d less passes none ∙ ap Some same
 
-pub no_place : (p : GroupPlan → Bool) (groups : List GroupPlan) → ((k : ℕ) (d : GroupPlan) → k < length groups → p (get_or groups k d) ≡ false)
-    → position p groups ≡ None
-no_place p groups none = position_from-zero p groups ∙ none_from p 0 groups none
+pub no_place : {A : Type 0} (p : A → Bool) (xs : List A) → ((k : ℕ) (d : A) → k < length xs → p (get_or xs k d) ≡ false)
+    → position p xs ≡ None
+no_place p xs none = position_from-zero p xs ∙ none_from p 0 xs none
 
 -- ---- groups of a number
 

@@ -1,4 +1,5 @@
 -- What only private contracts and proofs need.
+pub mod FirstFlows
 pub mod Listening
 pub mod Recalling
 pub mod ReportHeads

@@ -4,8 +4,10 @@ ghost use Rattle.j39_log.specs.inside.Listening.{extended, IsBadCatalog, IsCatal
 ghost use Rattle.j39_findings.specs.PlannedGroups.{IsSendable, layout_of as parts_of};
 ghost use Rattle.j39_findings.specs.declared.plan.group_plan.GroupPlan.{GroupPlan as APlannedGroup};
 
+use crate::first_flows::first_flows;
 use crate::report_head::report_heads;
 use crate::value_line::{ValueLine, value_lines_of};
+use j39_findings::limits::GROUP_LIMIT;
 use j39_findings::{GroupFault, GroupPlan, Plan, layout_of};
 use j39_signal::Layout;
 use j39_text::TextBuffer;
@@ -30,13 +32,14 @@ pub struct Span {
 }
 
 /// The groups of a plan: by place what their reports begin with, their layouts and what stands around the values of their
-/// signals, and by its number where they stand.
+/// signals, by its number where they stand, and where their flows begin.
 #[derive(Drop)]
 pub(crate) struct Catalog {
     pub heads: Vec<TextBuffer>,
     pub layouts: Vec<Layout>,
     pub lines: Vec<Vec<ValueLine>>,
     pub spans: HashMap<u32, Span>,
+    pub flows: [usize; GROUP_LIMIT],
 }
 
 // The layouts of the groups, by place.
@@ -123,6 +126,7 @@ impl Catalog {
             layouts,
             lines,
             spans,
+            flows: first_flows(plan.flows.as_slice()),
         })
     }
 }

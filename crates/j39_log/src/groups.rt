@@ -1,14 +1,18 @@
 //! The groups of a plan as a reader of frames finds them.
-ghost use Rattle.std.specs.Prelude.{◌≡◌, ◌<◌, length, All, IfErr, IfOk, OnOk};
+ghost use Rattle.std.specs.Prelude.{◌≡◌, ◌<◌, ℕ, false, get_or, length, All, IfErr, IfOk, OnOk};
 ghost use Rattle.std.specs.List.{HoldsAt, position};
 ghost use Rattle.j39_findings.specs.PlannedGroups.{IsSendable, layout_of};
 ghost use Rattle.j39_log.specs.LogFrames.{is_planned_as, planned};
+ghost use Rattle.j39_findings.specs.PlanLimits.{group_limit};
+ghost use Rattle.j39_findings.specs.declared.plan.flow_plan.FlowPlan.{FlowPlan as APlannedFlow};
+ghost use Rattle.j39_log.specs.inside.FirstFlows.{first_flow, is_flow_of};
 ghost use Rattle.j39_log.specs.inside.Listening.{HasAllOf, IsBadCatalog, IsSpanOf};
 ghost use Rattle.j39_log.specs.inside.ReportHeads.{report_head};
 ghost use Rattle.j39_log.specs.inside.ValueLines.{value_lines_of};
 
 use crate::catalog::{Catalog, CatalogError, Span};
 use crate::value_line::ValueLine;
+use j39_findings::limits::GROUP_LIMIT;
 use j39_findings::{GroupPlan, Plan};
 use j39_signal::Layout;
 use std::alloc::Global;
@@ -101,6 +105,18 @@ impl<'a> Groups<'a> {
         ensures { HoldsAt (λ group. group ≡ result.now) self.now.groups.items place }
     {
         &self.plan.groups[place]
+    }
+
+    /// The place of the first flow of the group at a place, or how many flows there are; 0 at a place that no group can have.
+    pub fn first_flow(&self, place: usize) -> usize
+        ensures first { place < group_limit → result ≡ first_flow place self.now.flows.items }
+        ensures before { (k : ℕ) (flow : APlannedFlow) → k < result → is_flow_of place (get_or self.now.flows.items k flow) ≡ false }
+    {
+        if place < GROUP_LIMIT {
+            self.catalog.flows[place]
+        } else {
+            0
+        }
     }
 
     /// What a report of the group at a place begins with.

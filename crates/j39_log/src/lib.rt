@@ -2,6 +2,7 @@
 #![tactic(auto)]
 
 mod catalog;
+mod first_flows;
 mod group_report;
 mod groups;
 mod laws;

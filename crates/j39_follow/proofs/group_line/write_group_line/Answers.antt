@@ -1,6 +1,5 @@
 use Rattle.std.proofs.Common.{◌≡◌, ◌++◌, ℕ, List, codes, refl, ap, ◌∙◌, append_assoc}
 use Rattle.std.proofs.lemmas.Result.{IfOk-weaker}
-use Rattle.j39_log.specs.inside.ReportHeads.{report_head}
 use Rattle.j39_follow.specs.FollowReports.{message_line, sent_text}
 use Rattle.j39_follow.specs.inside.Reporting.{arrived_message, front_of}
 use Rattle.j39_follow.proofs.group_line.write_group_line.Goals as goal

@@ -3,4 +3,4 @@ use Rattle.j39_follow.specs.Fits.{MayBeGroup}
 use Rattle.j39_follow.proofs.sending.group_in.Given as goal
 
 abbrev pub invariant-loop-place : goal.invariant-loop-place
-invariant-loop-place l = (earlier : ℕ) → earlier < l.place → ¬ MayBeGroup l.plan l.pgn l.bytes l.sent earlier
+invariant-loop-place l = (earlier : ℕ) → earlier < l.place → ¬ MayBeGroup l.groups l.pgn l.bytes l.sent earlier

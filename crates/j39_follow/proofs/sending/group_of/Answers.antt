@@ -4,13 +4,9 @@ use Rattle.j39_follow.proofs.Numbered.{none_numbered}
 use Rattle.j39_follow.proofs.sending.group_of.Goals as goal
 
 pub group_in-requires : goal.group_in-requires
-group_in-requires c =
-    rw c.plan.ensures (subst (IsSpanOf c.args.groups.now.groups.items c.args.pgn) c.in-Some.is c.span.ensures)
+group_in-requires c = subst (IsSpanOf c.args.groups.now.groups.items c.args.pgn) c.in-Some.is c.span.ensures
 
 pub returns-in_default : goal.returns-in_default
 returns-in_default c =
     none_numbered c.args.groups.now c.args.pgn c.args.bytes c.args.sent
     (subst (IsSpanOf c.args.groups.now.groups.items c.args.pgn) c.in_default.is c.span.ensures)
-
-pub returns : goal.returns
-returns c = rw c.plan.ensures at c.group_in.ensures

@@ -19,9 +19,9 @@ false_true e = cc
 pub returns-then-not-group : goal.returns-then-not-group
 returns-then-not-group c = (
   λ e. record {
-    value = c.index-group.result.now;
+    value = c.group-group.result.now;
     value_is =
-        slice_get-get_or c.args.plan.now.groups.items c.args.place c.index-group.result.now c.requires ∙ ap Some (sym c.index-group.ensures);
+        slice_get-get_or c.args.groups.now.groups.items c.args.place c.group-group.result.now c.requires ∙ ap Some (c.group-group.ensures c.group-group.result.now);
     meets = record {
       number = c.if-group-pgn.false;
       length = sym c.has_length.ensures ∙ c.if-not-has_length.false;
@@ -34,22 +34,22 @@ returns-then-not-group c = (
 pub returns : goal.returns
 returns c = (
   λ e. record {
-    value = c.index-group.result.now;
+    value = c.group-group.result.now;
     value_is =
-        slice_get-get_or c.args.plan.now.groups.items c.args.place c.index-group.result.now c.requires ∙ ap Some (sym c.index-group.ensures);
+        slice_get-get_or c.args.groups.now.groups.items c.args.place c.group-group.result.now c.requires ∙ ap Some (c.group-group.ensures c.group-group.result.now);
     meets = record {
       number = c.if-group-pgn.false;
       length = sym c.has_length.ensures ∙ c.if-not-has_length.false;
-      own = inr (some_or_none (fitting_flow c.args.plan.now c.args.place c.args.sent)
+      own = inr (some_or_none (fitting_flow c.args.groups.now c.args.place c.args.sent)
           (ap is_some (sym c.flow_of.ensures) ∙ sym c.is_some.ensures ∙ e));
     };
   },
   λ may. elim may.meets.own [
     | inl shared ↦
-        let same : c.index-group.result.now ≡ may.value =
-        c.index-group.ensures
-        ∙ get_or_from_slice_get c.args.plan.now.groups.items c.args.place may.value c.index-group.result.now may.value_is in
+        let same : c.group-group.result.now ≡ may.value =
+        sym (c.group-group.ensures c.group-group.result.now)
+        ∙ get_or_from_slice_get c.args.groups.now.groups.items c.args.place may.value c.group-group.result.now may.value_is in
         absurd (false_true (sym shared ∙ sym (ap (λ (g : GroupPlan). g.private) same) ∙ c.if-not-group.false))
-    | inr flow ↦ c.is_some.ensures ∙ ap is_some c.flow_of.ensures ∙ none_or_some (fitting_flow c.args.plan.now c.args.place c.args.sent) flow
+    | inr flow ↦ c.is_some.ensures ∙ ap is_some c.flow_of.ensures ∙ none_or_some (fitting_flow c.args.groups.now c.args.place c.args.sent) flow
   ],
 )
