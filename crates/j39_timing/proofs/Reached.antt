@@ -1,8 +1,7 @@
 -- A frame of a greater identifier has just begun, and the frame waits for all of it.
 use Rattle.std.proofs.Common.{◌≡◌, ◌+◌, ◌*◌, ◌-◌, ◌<◌, refl, arith, inl, inr}
 use Rattle.std.proofs.lemmas.Bool.{cases_lt}
-use Rattle.j39_timing.specs.Sums.{total}
-use Rattle.j39_timing.specs.Schedule.{Schedule, IsLegal, IsAnalysed}
+use Rattle.j39_timing.specs.Schedule.{Schedule, IsLegal}
 
 abbrev pub two : Schedule
 two = record { count = 2; queued = λ p. 0; start = λ p. p * 160; bits = λ p. 160; ident = λ p. 1 - p; now = 1000 }
@@ -18,17 +17,3 @@ two_legal = record {
   ];
   in_order = λ p q in_p in_q early waits. omega arith;
 }
-
-two_analysed : IsAnalysed two 0 1000 160 160 160
-unfolding total
-two_analysed = record {
-  bits_at_most = λ p _ _. omega arith;
-  longest_at_most = λ p _. omega arith;
-  spaced = λ p q in_p in_q apart is_p is_q. absurd (apart (omega arith));
-  enough = λ t. omega arith;
-  fits = omega arith;
-}
-
-pub reached : (s : Schedule) × IsLegal s × IsAnalysed s 0 1000 160 160 160 × (1 < s.count) × (s.ident 1 ≡ 0)
-    × (s.queued 1 + 160 < s.now) × (s.start 1 ≡ s.queued 1 + 160)
-reached = (two, two_legal, two_analysed, omega arith, refl, omega arith, refl)

@@ -2,10 +2,9 @@
 use Rattle.std.proofs.Common.{◌≡◌, ◌≢◌, ℕ, zero, suc, ◌+◌, ◌*◌, ◌-◌, ◌<◌, ◌≤◌, ◌⊎◌, Bool, true, false, cond, ◌&&◌, eqb, ltb, leb, refl, sym, subst, arith, inl, inr}
 use Rattle.std.proofs.lemmas.Bool.{and_parts, and_from, cases_lt, cases_eq, cases_Bool, le-leb, lt-ltb, leb-true, ltb-true, eqb-true, eq-eqb}
 use Rattle.j39_timing.specs.Sums.{total}
-use Rattle.j39_timing.specs.Schedule.{Schedule, IsLegal, AreInTime, demand}
-use Rattle.j39_timing.specs.Streams.{Streams, Origins, AreOfStreams, AreOwnSpaced, IsEnough}
+use Rattle.j39_timing.specs.Schedule.{Schedule, demand}
+use Rattle.j39_timing.specs.Streams.{Streams, Origins, AreOfStreams}
 use Rattle.j39_timing.proofs.Sums.{total-le, total-none, total-two}
-use Rattle.j39_timing.proofs.BusyWindow.{in_time}
 
 -- the sum over the places that pass, of which there is one at most
 at_most_one : (n : ℕ) (passes : ℕ → Bool) (f : ℕ → ℕ) (most : ℕ) → ((i : ℕ) → i < n → passes i ≡ true → f i ≤ most)
@@ -299,19 +298,3 @@ module _ (s : Schedule) (c : ℕ) (streams : Streams) (of : Origins) (known : Ar
               rw (is, here) (omega arith)
         ]) in
         omega arith
-
-pub beside_streams : (s : Schedule) (c period bits longest wait : ℕ) (streams : Streams) (of : Origins) (slots : ℕ → ℕ) → IsLegal s
-    → ((p : ℕ) → p < s.count → s.bits p ≤ longest) → AreOwnSpaced s c period bits → wait + bits ≤ period
-    → AreOfStreams s c streams of → IsEnough streams longest wait slots → AreInTime s c bits wait
-beside_streams s c period bits longest wait streams of slots legal short own fits known enough =
-    in_time s c period bits longest wait legal (record {
-      bits_at_most = own.bits_at_most;
-      longest_at_most = short;
-      spaced = own.spaced;
-      enough = λ t.
-          let most : demand s c t (wait + 1) ≤ total streams.count (λ j. streams.frames j * (slots j * streams.bits j)) =
-          all_streams s c streams of known t (wait + 1) slots enough.slots_cover in
-          let room : longest + total streams.count (λ j. streams.frames j * (slots j * streams.bits j)) ≤ wait = enough.room in
-          omega arith;
-      fits = fits;
-    })

@@ -38,17 +38,3 @@ pub record IsLegal (s : Schedule) : Type 0 where
 abbrev pub demand : Schedule → ℕ → ℕ → ℕ → ℕ
 demand s c t span =
     total s.count (λ p. cond (nat_lt (s.ident p) c && (nat_le t (s.queued p) && nat_lt (s.queued p) (t + span))) (s.bits p) 0)
-
--- what is known of the frames with identifier c, and of what may go before them
-pub record IsAnalysed (s : Schedule) (c period bits longest wait : ℕ) : Type 0 where
-  pub bits_at_most : (p : ℕ) → p < s.count → s.ident p ≡ c → s.bits p ≤ bits
-  pub longest_at_most : (p : ℕ) → p < s.count → s.bits p ≤ longest
-  pub spaced : (p q : ℕ) → p < s.count → q < s.count → p ≢ q → s.ident p ≡ c → s.ident q ≡ c
-      → (s.queued p + period ≤ s.queued q) ⊎ (s.queued q + period ≤ s.queued p)
-  pub enough : (t : ℕ) → longest + demand s c t (wait + 1) ≤ wait
-  pub fits : wait + bits ≤ period
-
--- each frame with identifier c begins in time, and so ends in time
-abbrev pub AreInTime : Schedule → ℕ → ℕ → ℕ → Type 0
-AreInTime s c bits wait = (p : ℕ) → p < s.count → s.ident p ≡ c → s.queued p + wait < s.now
-    → (s.start p ≤ s.queued p + wait) × (s.start p + s.bits p ≤ s.queued p + (wait + bits))

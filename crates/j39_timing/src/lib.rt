@@ -9,9 +9,6 @@ mod stream;
 mod waiting;
 
 pub use frame_length::frame_bits;
-pub use laws::{
-    a_bound_is_reached, a_wait_with_room_is_a_bound, frames_are_in_time,
-    frames_beside_streams_are_in_time, planned_frames_are_in_time,
-};
+pub use laws::{a_bound_is_reached, planned_frames_are_in_time};
 pub use stream::Stream;
 pub use waiting::least_wait;
