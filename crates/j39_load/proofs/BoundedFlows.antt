@@ -294,7 +294,7 @@ module _ (plan : Plan) (timing : Timing) (stays : UnitPlan → Bool) (delays : L
     on_every_bus : IsInTimeOnEveryBus timing loads flow load wait
     on_every_bus s planned of legal known =
         subst (λ (frames : FlowFrames). IsStreamInTime s planned of flow frames.stream.bits wait) read
-        (stream_in_time s (traffic_of loads) (others_of timing) (longest_frame 8) planned of legal known positive flow wait single room fits)
+        (stream_in_time s (traffic_of loads) (others_of timing) (longest_frame 8) planned of legal flow wait known positive single room fits)
 
   pub bounded : AreDelaysBounds timing loads delays
   bounded flow bits at =

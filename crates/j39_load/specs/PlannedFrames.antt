@@ -48,14 +48,14 @@ others_of timing = record { least = unplanned_idents; count = timing.unplanned }
 
 -- the planned frames of a schedule are those of the flows, and no frame has more than eight bytes: the premises one by one are the fields
 -- of `IsPlannedTraffic`
-abbrev pub AreFramesOfFlows : Timing → List (Option FlowLoad) → Schedule → (ℕ → Bool) → Origins → Type 0
-AreFramesOfFlows timing loads s planned of = IsPlannedTraffic s (traffic_of loads) (others_of timing) (longest_frame 8) planned of
+abbrev pub AreFramesOfFlows : Timing → List (Option FlowLoad) → Schedule → (ℕ → Bool) → Origins → ℕ → Type 0
+AreFramesOfFlows timing loads s planned of flow = IsPlannedTraffic s (traffic_of loads) (others_of timing) (longest_frame 8) planned of flow
 
 -- in every legal schedule of such frames each one of the flow that was queued more than `wait` bits ago has begun within this wait, and
 -- has ended within it and its own length
 abbrev pub IsInTimeOnEveryBus : Timing → List (Option FlowLoad) → ℕ → FlowLoad → ℕ → Type 0
 IsInTimeOnEveryBus timing loads flow load wait = (s : Schedule) (planned : ℕ → Bool) (of : Origins) → IsLegal s
-    → AreFramesOfFlows timing loads s planned of → IsStreamInTime s planned of flow load.frames.stream.bits wait
+    → AreFramesOfFlows timing loads s planned of flow → IsStreamInTime s planned of flow load.frames.stream.bits wait
 
 -- the flow's delay is the least wait that has room, with its own length; this is within its limit, and bounds its frames' time on every bus
 pub record IsBounded (timing : Timing) (loads : List (Option FlowLoad)) (flow bits : ℕ) : Type 0 where

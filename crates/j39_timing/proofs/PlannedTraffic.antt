@@ -73,8 +73,8 @@ too_many k longest wait count shares planned others has most times room =
     omega arith
 
 module _ (s : Schedule) (traffic : Traffic) (others : Others) (longest : ℕ) (planned : ℕ → Bool) (of : Origins) (legal : IsLegal s)
-    (known : IsPlannedTraffic s traffic others longest planned of) (positive : (j : ℕ) → j < traffic.count → 0 < (traffic.stream j).period)
-    (i wait : ℕ) (single : IsSingle (traffic.stream i)) (room : HasRoom traffic others longest i wait)
+    (i wait : ℕ) (known : IsPlannedTraffic s traffic others longest planned of i)
+    (positive : (j : ℕ) → j < traffic.count → 0 < (traffic.stream j).period) (single : IsSingle (traffic.stream i)) (room : HasRoom traffic others longest i wait)
     (fits : wait + (traffic.stream i).bits ≤ (traffic.stream i).period) where
   abbrev own : ℕ → Bool
   own p = planned p && eqb (of.source p) i
@@ -84,9 +84,6 @@ module _ (s : Schedule) (traffic : Traffic) (others : Others) (longest : ℕ) (p
 
   own_parts : (p : ℕ) → own p ≡ true → (planned p ≡ true) × (of.source p ≡ i)
   own_parts p is = let two = and_parts (planned p) (eqb (of.source p) i) is in (two.0, eqb-true (of.source p) i two.1)
-
-  own_single : (p : ℕ) → own p ≡ true → IsSingle (traffic.stream (of.source p))
-  own_single p is = subst (λ j. IsSingle (traffic.stream j)) (sym (own_parts p is).1) single
 
   -- frames of the stream are queued a period apart
   apart : (p q : ℕ) → p < s.count → q < s.count → p ≢ q → own p ≡ true → own q ≡ true
@@ -205,10 +202,7 @@ module _ (s : Schedule) (traffic : Traffic) (others : Others) (longest : ℕ) (p
     c = s.ident x
 
     low : c ≤ traffic.greatest i
-    low =
-        let (is, same) = own_parts x is_x in
-        subst (λ j. s.ident x ≤ traffic.greatest j) same
-        (known.to_greatest x in_x is (own_single x is_x))
+    low = let (is, same) = own_parts x is_x in known.to_greatest x in_x is same
 
     -- how many periods it is queued behind the beginning
     abbrev k : ℕ
@@ -304,7 +298,7 @@ module _ (s : Schedule) (traffic : Traffic) (others : Others) (longest : ℕ) (p
       → others_queued s planned (s.ident x) begin (s.queued x + wait) ≤ others_before others (traffic.greatest i)
   few x begin in_x is_x seen some late stretch = elim (cases_Bool (leb others.least (traffic.greatest i))) [
     | inl may ↦
-        let most = known.few_others x begin (s.queued x + wait) in_x (own_parts x is_x).0 (own_single x is_x) seen (omega arith, omega arith) stretch in
+        let most = known.few_others x begin (s.queued x + wait) in_x (own_parts x is_x).0 (own_parts x is_x).1 seen (omega arith, omega arith) stretch in
         rw (may) most
     | inr cannot ↦
         let high : traffic.greatest i < others.least = elim (cases_lt (traffic.greatest i) others.least) [
@@ -342,7 +336,7 @@ module _ (s : Schedule) (traffic : Traffic) (others : Others) (longest : ℕ) (p
         let bits : 1 ≤ (traffic.stream i).bits = long p in_p is 0 (omega arith) in
         let alone : (q : ℕ) → q < s.count → q ≢ p → s.ident q ≡ s.ident p → s.queued p < s.start q → s.start q ≤ s.queued p + wait → ⊥ = λ q in_q differ equal after within.
         let first : s.queued q ≤ s.start q = legal.queued_first q in_q in
-        let its = known.own_identifier p q (s.start q) in_p in_q (omega arith) is_planned (own_single p is) (omega arith, omega arith) (first, omega arith) (sym equal) in
+        let its = known.own_identifier p q (s.start q) in_p in_q (omega arith) is_planned same (omega arith, omega arith) (first, omega arith) (sym equal) in
         let own_q : own q ≡ true = own_from q its.0 (sym its.1 ∙ same) in
         elim (apart q p in_q in_p differ own_q is) [
           | inl earlier ↦

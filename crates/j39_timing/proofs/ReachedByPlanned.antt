@@ -36,7 +36,7 @@ none_before p from to is = total-none 2 (λ q. cond (is_other_queued two second 
           absurd (omega (arith, less, same))
     ])
 
-two_planned : IsPlannedTraffic two one_stream no_others 160 second at_once
+two_planned : IsPlannedTraffic two one_stream no_others 160 second at_once 0
 two_planned = record {
   longest_at_most = λ p _. omega arith;
   known = λ p _ _. omega arith;
@@ -65,6 +65,6 @@ unfolding total
 room = omega arith
 
 pub reached_by_planned : (s : Schedule) × (traffic : Traffic) × (others : Others) × (planned : ℕ → Bool) × (of : Origins) × IsLegal s
-    × IsPlannedTraffic s traffic others 160 planned of × HasRoom traffic others 160 0 160 × (1 < s.count) × (planned 1 ≡ true)
+    × IsPlannedTraffic s traffic others 160 planned of 0 × HasRoom traffic others 160 0 160 × (1 < s.count) × (planned 1 ≡ true)
     × (of.source 1 ≡ 0) × (s.queued 1 + 160 < s.now) × (s.start 1 ≡ s.queued 1 + 160)
 reached_by_planned = (two, one_stream, no_others, second, at_once, two_legal, two_planned, room, omega arith, refl, refl, omega arith, refl)

@@ -44,8 +44,9 @@ is_other_queued s planned c from to p =
 abbrev pub others_queued : Schedule → (ℕ → Bool) → ℕ → ℕ → ℕ → ℕ
 others_queued s planned c from to = total s.count (λ p. cond (is_other_queued s planned c from to p) 1 0)
 
--- the planned frames of a schedule are those of the streams, and what else is in it keeps within what is foreseen of others
-pub record IsPlannedTraffic (s : Schedule) (traffic : Traffic) (others : Others) (longest : ℕ) (planned : ℕ → Bool) (of : Origins) : Type 0 where
+-- the planned frames of a schedule are those of the streams, and what else is in it keeps within what is foreseen of others while frames of
+-- stream i wait
+pub record IsPlannedTraffic (s : Schedule) (traffic : Traffic) (others : Others) (longest : ℕ) (planned : ℕ → Bool) (of : Origins) (i : ℕ) : Type 0 where
   -- no frame is longer
   pub longest_at_most : (p : ℕ) → p < s.count → s.bits p ≤ longest
   -- a planned frame is one of a stream, as long as its frames at most, and has its turn in a message
@@ -62,16 +63,15 @@ pub record IsPlannedTraffic (s : Schedule) (traffic : Traffic) (others : Others)
       → (of.since p + (traffic.stream (of.source p)).period ≤ of.since q) ⊎ (of.since q + (traffic.stream (of.source p)).period ≤ of.since p)
   -- its identifier is one of the stream's
   pub from_least : (p : ℕ) → p < s.count → planned p ≡ true → traffic.least (of.source p) ≤ s.ident p
-  pub to_greatest : (p : ℕ) → p < s.count → planned p ≡ true → IsSingle (traffic.stream (of.source p))
-      → s.ident p ≤ traffic.greatest (of.source p)
-  -- while a single frame is queued, nothing that is queued too has its identifier but frames of its stream
-  pub own_identifier : (p q t : ℕ) → p < s.count → q < s.count → t < s.now → planned p ≡ true → IsSingle (traffic.stream (of.source p))
+  pub to_greatest : (p : ℕ) → p < s.count → planned p ≡ true → of.source p ≡ i → s.ident p ≤ traffic.greatest i
+  -- while a frame of this stream is queued, nothing that is queued too has its identifier but frames of the stream
+  pub own_identifier : (p q t : ℕ) → p < s.count → q < s.count → t < s.now → planned p ≡ true → of.source p ≡ i
       → IsQueuedAt s p t → IsQueuedAt s q t → s.ident p ≡ s.ident q → (planned q ≡ true) × (of.source p ≡ of.source q)
   -- what isn't planned has no smaller identifier than this
   pub urgency_of_others : (p : ℕ) → p < s.count → planned p ≡ false → others.least ≤ s.ident p
-  -- and while a single frame waits, together with the time before in which planned frames that may go before it wait without a break, no
+  -- and while a frame of this stream waits, together with the time before in which planned frames that may go before it wait without a break, no
   -- more of what isn't planned are queued than so many that may go before it
-  pub few_others : (p from to : ℕ) → p < s.count → planned p ≡ true → IsSingle (traffic.stream (of.source p)) → to < s.now → Waits s p to
+  pub few_others : (p from to : ℕ) → p < s.count → planned p ≡ true → of.source p ≡ i → to < s.now → Waits s p to
       → PlannedFramesWait s planned (s.ident p) from to → others_queued s planned (s.ident p) from to ≤ others.count
 
 -- frames of stream j may go before those of stream i, whatever identifiers they have
