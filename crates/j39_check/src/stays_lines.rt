@@ -1,7 +1,7 @@
 //! The lines that say which units of a plan stay.
 ghost use Rattle.std.specs.Prelude.{◌≡◌, ◌++◌, OnOk};
 ghost use Rattle.j39_check.specs.AddressesText.{stays_text, stays_word, staying_line, staying_lines};
-ghost use Rattle.j39_load.specs.Standing.{stays_by};
+ghost use Rattle.j39_load.specs.Standing.{stays_of};
 
 use j39_findings::UnitPlan;
 use j39_load::Standing;
@@ -16,7 +16,7 @@ fn word_of(stays: bool) -> &'static str
 
 #[tactic(auto, unfolding(crate::specs::AddressesText::staying_line))]
 fn write_unit(text: &mut TextBuffer, standing: &Standing, unit: &UnitPlan) -> Result<(), AllocError>
-    ensures { OnOk result (text.new ≡ text.old ++ staying_line (stays_by standing.now.firsts standing.now.mover) unit.now) }
+    ensures { OnOk result (text.new ≡ text.old ++ staying_line (stays_of standing.now) unit.now) }
 {
     text.word("unit ")?;
     text.word(unit.label.as_str())?;
@@ -29,7 +29,7 @@ fn write_units(
     standing: &Standing,
     units: &[UnitPlan],
 ) -> Result<(), AllocError>
-    ensures { OnOk result (text.new ≡ text.old ++ staying_lines (stays_by standing.now.firsts standing.now.mover) units.now) }
+    ensures { OnOk result (text.new ≡ text.old ++ staying_lines (stays_of standing.now) units.now) }
 {
     for unit in units {
         write_unit(text, standing, unit)?;
@@ -44,7 +44,7 @@ pub(super) fn write_stays(
     standing: &Standing,
     units: &[UnitPlan],
 ) -> Result<(), AllocError>
-    ensures { OnOk result (text.new ≡ text.old ++ stays_text (stays_by standing.now.firsts standing.now.mover) units.now) }
+    ensures { OnOk result (text.new ≡ text.old ++ stays_text (stays_of standing.now) units.now) }
 {
     write_units(text, standing, units)?;
     let staying = units.iter().filter(|unit| standing.stays(unit)).count();

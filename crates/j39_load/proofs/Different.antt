@@ -16,7 +16,8 @@ use Rattle.j39_findings.specs.declared.plan.to.To.{To}
 use Rattle.j39_findings.specs.declared.plan.to.To.TheVariants.{All as ToAll, One}
 use Rattle.j39_findings.proofs.CleanLaws.{parts_of}
 use Rattle.j39_findings.proofs.PrivateGroups.{one_fits}
-use Rattle.j39_load.specs.Ranks.{AreHeldApart, IsShortFlow, destination_held, frame_ident}
+use Rattle.j39_load.specs.Loads.{destination_at, group_ident}
+use Rattle.j39_load.specs.Ranks.{AreHeldApart, IsShortFlow}
 
 -- an identifier tells its group, its source, and in PDU1 its destination
 tells : (p q n m d e s t : ℕ) → n < 131072 → m < 131072 → d < 256 → e < 256 → s < 256 → t < 256 → (pf_of n < 240 → n % 256 ≡ 0)
@@ -55,13 +56,13 @@ module _ (plan : Plan) (clean : Clean plan) (on : ℕ → Bool) (held : ℕ → 
   one_unit u v on_u on_v same = elim (cases_eq u v) [ inl is ↦ is | inr other ↦ absurd (apart.apart u v other on_u on_v same) ]
 
   one_receiver : (to other : To) → ((v : ℕ) → to ≡ One v → on v ≡ true) → ((v : ℕ) → other ≡ One v → on v ≡ true)
-      → destination_held held to ≡ destination_held held other → to ≡ other
+      → destination_at held to ≡ destination_at held other → to ≡ other
   one_receiver ToAll ToAll on_to on_other same = refl
   one_receiver ToAll (One v) on_to on_other same = absurd (let low = apart.range v (on_other v refl) in omega (arith, low, same))
   one_receiver (One v) ToAll on_to on_other same = absurd (let low = apart.range v (on_to v refl) in omega (arith, low, same))
   one_receiver (One u) (One v) on_to on_other same = ap One (one_unit u v (on_to u refl) (on_other v refl) same)
 
-  few : (to : To) → ((v : ℕ) → to ≡ One v → on v ≡ true) → destination_held held to < 256
+  few : (to : To) → ((v : ℕ) → to ≡ One v → on v ≡ true) → destination_at held to < 256
   few ToAll known = omega arith
   few (One v) known = let low = apart.range v (known v refl) in omega (arith, low)
 
@@ -83,15 +84,15 @@ module _ (plan : Plan) (clean : Clean plan) (on : ℕ → Bool) (held : ℕ → 
     }))
 
   module _ (f h : ℕ) (flow other : FlowPlan) (group second : GroupPlan) (is : IsShortFlow plan on f flow group)
-      (its : IsShortFlow plan on h other second) (same : frame_ident held group flow ≡ frame_ident held second other) where
+      (its : IsShortFlow plan on h other second) (same : group_ident held group flow ≡ group_ident held second other) where
     told : (group.pgn ≡ second.pgn) × (held flow.sender ≡ held other.sender)
-        × (is_pdu2 group.pgn ≡ false → destination_held held flow.to ≡ destination_held held other.to)
+        × (is_pdu2 group.pgn ≡ false → destination_at held flow.to ≡ destination_at held other.to)
     told =
         let can = planned flow.group group is.sent in
         let may = planned other.group second its.sent in
         let low = apart.range flow.sender is.sender in
         let less = apart.range other.sender its.sender in
-        tells group.priority second.priority group.pgn second.pgn (destination_held held flow.to) (destination_held held other.to) (held flow.sender)
+        tells group.priority second.priority group.pgn second.pgn (destination_at held flow.to) (destination_at held other.to) (held flow.sender)
         (held other.sender) can.page may.page (few flow.to is.receiver) (few other.to its.receiver) (omega (arith, low)) (omega (arith, less))
         can.group.low may.group.low same
 
@@ -148,7 +149,7 @@ module _ (plan : Plan) (clean : Clean plan) (on : ℕ → Bool) (held : ℕ → 
         })
 
   pub different : (f h : ℕ) (flow other : FlowPlan) (group second : GroupPlan) → f ≢ h → IsShortFlow plan on f flow group
-      → IsShortFlow plan on h other second → frame_ident held group flow ≢ frame_ident held second other
+      → IsShortFlow plan on h other second → group_ident held group flow ≢ group_ident held second other
   different f h flow other group second apart is its same = elim (cases_lt f h) [
     | inl before ↦ clean (FlowRepeated f h) (record {
       first = flow;

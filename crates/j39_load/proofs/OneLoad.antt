@@ -48,16 +48,16 @@ module _ (plan : Plan) (timing : Timing) (stays other : UnitPlan → Bool) (tell
     pub unit_same : (v : ℕ) → of_unit plan.units.items (λ x. by (stays x) x) v ≡ of_unit plan.units.items (λ x. by (other x) x) v
     unit_same v = read_same (slice_get plan.units.items v) (λ x is. same v x is) v refl
 
-    destination_same : (to : To) → destination_at plan.units.items (λ x. by (stays x) x) to ≡ destination_at plan.units.items (λ x. by (other x) x) to
+    destination_same : (to : To) → destination_at (of_unit plan.units.items (λ x. by (stays x) x)) to ≡ destination_at (of_unit plan.units.items (λ x. by (other x) x)) to
     destination_same ToAll = refl
     destination_same (One v) = unit_same v
 
     pub group_same : (group : GroupPlan) (flow : FlowPlan)
-        → group_ident plan.units.items (λ x. by (stays x) x) group flow ≡ group_ident plan.units.items (λ x. by (other x) x) group flow
+        → group_ident (of_unit plan.units.items (λ x. by (stays x) x)) group flow ≡ group_ident (of_unit plan.units.items (λ x. by (other x) x)) group flow
     group_same group flow = rw (destination_same flow.to, unit_same flow.sender) refl
 
     pub packet_same : (flow : FlowPlan)
-        → packet_ident plan.units.items (λ x. by (stays x) x) flow ≡ packet_ident plan.units.items (λ x. by (other x) x) flow
+        → packet_ident (of_unit plan.units.items (λ x. by (stays x) x)) flow ≡ packet_ident (of_unit plan.units.items (λ x. by (other x) x)) flow
     packet_same flow = rw (destination_same flow.to, unit_same flow.sender) refl
 
   abbrev least_by : Bool → UnitPlan → ℕ

@@ -16,7 +16,7 @@ use Rattle.j39_findings.specs.declared.plan.to.To.{To}
 use Rattle.j39_findings.specs.declared.plan.to.To.TheVariants.{All as ToAll, One}
 use Rattle.j39_findings.specs.declared.plan.unit_plan.UnitPlan.{UnitPlan}
 use Rattle.j39_load.specs.Loads.{destination_at, greatest_address, least_address, may_move, of_unit}
-use Rattle.j39_load.specs.Ranks.{AreHeldByPlan, AreUnitsPlanned, LieBetween, destination_held}
+use Rattle.j39_load.specs.Ranks.{AreHeldByPlan, AreUnitsPlanned, LieBetween}
 use Rattle.j39_load.specs.Standing.{TellsWhoStays}
 use Rattle.j39_load.proofs.WhoStays.{placed}
 use Rattle.j39_claim.specs.ClaimRule.{PlannedUnit}
@@ -73,15 +73,15 @@ module _ (plan : Plan) (stays : UnitPlan → Bool) (tells : TellsWhoStays plan s
 
   module _ (flow : FlowPlan) (known : AreUnitsPlanned plan flow) where
     destination_between : (to : To) → flow.to ≡ to
-        → (destination_at units (least_address stays) to ≤ destination_held held to) × (destination_held held to ≤ destination_at units (greatest_address stays) to)
+        → (destination_at (of_unit units (least_address stays)) to ≤ destination_at held to) × (destination_at held to ≤ destination_at (of_unit units (greatest_address stays)) to)
     destination_between ToAll is = (omega arith, omega arith)
     destination_between (One v) is = unit_between v (known.receiver v is)
 
     between : (priority pgn : ℕ)
-        → (identifier_of priority pgn (destination_at units (least_address stays) flow.to) (of_unit units (least_address stays) flow.sender)
-        ≤ identifier_of priority pgn (destination_held held flow.to) (held flow.sender))
-        × (identifier_of priority pgn (destination_held held flow.to) (held flow.sender)
-        ≤ identifier_of priority pgn (destination_at units (greatest_address stays) flow.to) (of_unit units (greatest_address stays) flow.sender))
+        → (identifier_of priority pgn (destination_at (of_unit units (least_address stays)) flow.to) (of_unit units (least_address stays) flow.sender)
+        ≤ identifier_of priority pgn (destination_at held flow.to) (held flow.sender))
+        × (identifier_of priority pgn (destination_at held flow.to) (held flow.sender)
+        ≤ identifier_of priority pgn (destination_at (of_unit units (greatest_address stays)) flow.to) (of_unit units (greatest_address stays) flow.sender))
     between priority pgn =
         let source = unit_between flow.sender known.sender in
         let destination = destination_between flow.to refl in (

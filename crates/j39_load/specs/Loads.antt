@@ -91,19 +91,18 @@ least_address stays unit = if may_move stays unit then min unit.address pool_fir
 abbrev pub greatest_address : (UnitPlan → Bool) → UnitPlan → ℕ
 greatest_address stays unit = if may_move stays unit then max unit.address pool_last else unit.address
 
-abbrev pub destination_at : List UnitPlan → (UnitPlan → ℕ) → To → ℕ
-destination_at units address All = global_address
-destination_at units address (One v) = of_unit units address v
+-- the address that a message goes to, where the units hold these
+abbrev pub destination_at : (ℕ → ℕ) → To → ℕ
+destination_at held All = global_address
+destination_at held (One v) = held v
 
--- the identifier of frames of the group, where the units hold these addresses
-abbrev pub group_ident : List UnitPlan → (UnitPlan → ℕ) → GroupPlan → FlowPlan → ℕ
-group_ident units address group flow =
-    identifier_of group.priority group.pgn (destination_at units address flow.to) (of_unit units address flow.sender)
+-- the identifier of a flow's frames of its group
+abbrev pub group_ident : (ℕ → ℕ) → GroupPlan → FlowPlan → ℕ
+group_ident held group flow = identifier_of group.priority group.pgn (destination_at held flow.to) (held flow.sender)
 
 -- that of the data packets of a long message, by which it counts
-abbrev pub packet_ident : List UnitPlan → (UnitPlan → ℕ) → FlowPlan → ℕ
-packet_ident units address flow =
-    identifier_of transport_priority data_transfer (destination_at units address flow.to) (of_unit units address flow.sender)
+abbrev pub packet_ident : (ℕ → ℕ) → FlowPlan → ℕ
+packet_ident held flow = identifier_of transport_priority data_transfer (destination_at held flow.to) (held flow.sender)
 
 -- ---- flows
 
@@ -119,16 +118,16 @@ load_of stream period = div_ceil (1000 * (stream.frames * stream.bits)) period
 abbrev pub single_frames : Timing → List UnitPlan → (UnitPlan → Bool) → FlowPlan → ℕ → GroupPlan → FlowFrames
 single_frames timing units stays flow period group = record {
   stream = single_stream timing group period;
-  least_ident = group_ident units (least_address stays) group flow;
-  greatest_ident = group_ident units (greatest_address stays) group flow;
+  least_ident = group_ident (of_unit units (least_address stays)) group flow;
+  greatest_ident = group_ident (of_unit units (greatest_address stays)) group flow;
 }
 
 -- those of its long messages, each of so many packets
 abbrev pub packet_frames : Timing → List UnitPlan → (UnitPlan → Bool) → FlowPlan → ℕ → ℕ → FlowFrames
 packet_frames timing units stays flow period packets = record {
   stream = packet_stream timing units packets flow.to period;
-  least_ident = packet_ident units (least_address stays) flow;
-  greatest_ident = packet_ident units (greatest_address stays) flow;
+  least_ident = packet_ident (of_unit units (least_address stays)) flow;
+  greatest_ident = packet_ident (of_unit units (greatest_address stays)) flow;
 }
 
 -- the frames of a flow, by its longest messages

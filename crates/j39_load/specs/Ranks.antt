@@ -2,16 +2,14 @@
 use Rattle.std.specs.Prelude.{◌≡◌, ◌≢◌, ℕ, ◌<◌, ◌≤◌, ◌⊎◌, Bool, true, length, Some}
 use Rattle.std.specs.List.{slice_get}
 use Rattle.j39_id.specs.Addresses.{global_address, in_pool}
-use Rattle.j39_id.specs.Ident.{identifier_of}
 use Rattle.j39_id.specs.Name.{is_arbitrary}
-use Rattle.j39_id.specs.Services.{data_transfer, transport_priority}
 use Rattle.j39_findings.specs.declared.plan.Plan.{Plan}
 use Rattle.j39_findings.specs.declared.plan.flow_plan.FlowPlan.{FlowPlan}
 use Rattle.j39_findings.specs.declared.plan.group_plan.GroupPlan.{GroupPlan}
 use Rattle.j39_findings.specs.declared.plan.to.To.{To}
-use Rattle.j39_findings.specs.declared.plan.to.To.TheVariants.{All, One}
+use Rattle.j39_findings.specs.declared.plan.to.To.TheVariants.{One}
 use Rattle.j39_findings.specs.declared.plan.unit_plan.UnitPlan.{UnitPlan}
-use Rattle.j39_load.specs.Loads.{greatest_address, group_ident, is_always_short, least_address, packet_ident}
+use Rattle.j39_load.specs.Loads.{greatest_address, group_ident, is_always_short, least_address, of_unit, packet_ident}
 use Rattle.j39_world.specs.PlannedUnits.{unit_at, units_of}
 use Rattle.j39_world.specs.Staying.{Stays}
 
@@ -21,19 +19,6 @@ AreHeldByPlan plan held = (u : ℕ) → u < length plan.units.items
     → (held u ≡ (unit_at (units_of plan) u).preferred)
     ⊎ ((in_pool (held u) ≡ true) × (is_arbitrary (unit_at (units_of plan) u).name ≡ true) × ¬ Stays (units_of plan) u)
 
--- the address that a message goes to
-abbrev pub destination_held : (ℕ → ℕ) → To → ℕ
-destination_held held All = global_address
-destination_held held (One v) = held v
-
--- the identifier of a flow's frames of its group
-abbrev pub frame_ident : (ℕ → ℕ) → GroupPlan → FlowPlan → ℕ
-frame_ident held group flow = identifier_of group.priority group.pgn (destination_held held flow.to) (held flow.sender)
-
--- the identifier of the packets of a flow's long messages
-abbrev pub data_ident : (ℕ → ℕ) → FlowPlan → ℕ
-data_ident held flow = identifier_of transport_priority data_transfer (destination_held held flow.to) (held flow.sender)
-
 -- the units of a flow are those of the plan
 pub record AreUnitsPlanned (plan : Plan) (flow : FlowPlan) : Type 0 where
   pub sender : flow.sender < length plan.units.items
@@ -41,10 +26,10 @@ pub record AreUnitsPlanned (plan : Plan) (flow : FlowPlan) : Type 0 where
 
 -- the identifiers of a flow's frames lie between the least and the greatest one: those of single frames, and those of packets
 pub record LieBetween (plan : Plan) (stays : UnitPlan → Bool) (held : ℕ → ℕ) (group : GroupPlan) (flow : FlowPlan) : Type 0 where
-  pub least : group_ident plan.units.items (least_address stays) group flow ≤ frame_ident held group flow
-  pub greatest : frame_ident held group flow ≤ group_ident plan.units.items (greatest_address stays) group flow
-  pub least_packet : packet_ident plan.units.items (least_address stays) flow ≤ data_ident held flow
-  pub greatest_packet : data_ident held flow ≤ packet_ident plan.units.items (greatest_address stays) flow
+  pub least : group_ident (of_unit plan.units.items (least_address stays)) group flow ≤ group_ident held group flow
+  pub greatest : group_ident held group flow ≤ group_ident (of_unit plan.units.items (greatest_address stays)) group flow
+  pub least_packet : packet_ident (of_unit plan.units.items (least_address stays)) flow ≤ packet_ident held flow
+  pub greatest_packet : packet_ident held flow ≤ packet_ident (of_unit plan.units.items (greatest_address stays)) flow
 
 -- of the units that are on each holds an address, and no two of them one
 pub record AreHeldApart (on : ℕ → Bool) (held : ℕ → ℕ) : Type 0 where

@@ -6,6 +6,7 @@ use Rattle.j39_id.specs.Addresses.{in_pool}
 use Rattle.j39_id.specs.Name.{is_arbitrary}
 use Rattle.j39_findings.specs.declared.plan.Plan.{Plan}
 use Rattle.j39_findings.specs.declared.plan.unit_plan.UnitPlan.{UnitPlan}
+use Rattle.j39_load.specs.declared.standing.Standing.{Standing}
 use Rattle.j39_world.specs.PlannedUnits.{units_of}
 use Rattle.j39_world.specs.Staying.{Stays}
 
@@ -35,6 +36,10 @@ is_first_by firsts unit = is_least (slice_index_or firsts unit.address None) uni
 
 abbrev pub stays_by : List (Option ℕ) → Option ℕ → UnitPlan → Bool
 stays_by firsts mover unit = is_first_by firsts unit && (not (in_pool unit.address) || is_least mover unit.name)
+
+-- whether a unit stays, as a call tells it
+abbrev pub stays_of : Standing → UnitPlan → Bool
+stays_of standing = stays_by standing.firsts standing.mover
 
 -- the least NAME at each address, of the first so many units
 pub record AreFirsts (units : List UnitPlan) (count : ℕ) (firsts : List (Option ℕ)) : Type 0 where

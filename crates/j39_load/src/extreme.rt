@@ -1,6 +1,6 @@
 //! The least and the greatest of the addresses that a unit may come to hold.
 ghost use Rattle.std.specs.Prelude.{◌≡◌};
-ghost use Rattle.j39_load.specs.Standing.{stays_by};
+ghost use Rattle.j39_load.specs.Standing.{stays_of};
 ghost use Rattle.j39_load.specs.inside.Extremes.{extreme_address};
 
 use crate::standing::Standing;
@@ -17,7 +17,7 @@ pub(crate) enum Extreme {
 impl Extreme {
     /// The unit's address at this end.
     pub fn address(self, standing: &Standing, unit: &UnitPlan) -> u8
-        ensures { result ≡ extreme_address self (stays_by standing.now.firsts standing.now.mover) unit.now }
+        ensures { result ≡ extreme_address self (stays_of standing.now) unit.now }
     {
         let planned = unit.address.number();
         if !standing.may_move(unit) {

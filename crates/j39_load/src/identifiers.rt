@@ -2,8 +2,8 @@
 ghost use Rattle.std.specs.Prelude.{◌≡◌, ◌<◌, ℕ, length};
 ghost use Rattle.j39_id.specs.Ident.{identifier_of};
 ghost use Rattle.j39_findings.specs.declared.plan.to.To.TheVariants.{One};
-ghost use Rattle.j39_load.specs.Loads.{destination_at, group_ident, packet_ident};
-ghost use Rattle.j39_load.specs.Standing.{stays_by};
+ghost use Rattle.j39_load.specs.Loads.{destination_at, group_ident, of_unit, packet_ident};
+ghost use Rattle.j39_load.specs.Standing.{stays_of};
 ghost use Rattle.j39_load.specs.inside.Extremes.{extreme_address};
 
 use crate::extreme::Extreme;
@@ -27,7 +27,7 @@ fn identifier(priority: u8, pgn: u32, destination: u8, source: u8) -> u64
 
 fn destination(units: &[UnitPlan], standing: &Standing, extreme: Extreme, to: To) -> u8
     requires { (v : ℕ) → to ≡ One v → v < length units.now }
-    ensures { result ≡ destination_at units.now (extreme_address extreme (stays_by standing.now.firsts standing.now.mover)) to }
+    ensures { result ≡ destination_at (of_unit units.now (extreme_address extreme (stays_of standing.now))) to }
 {
     match to {
         To::All => GLOBAL_ADDRESS,
@@ -45,7 +45,7 @@ pub(crate) fn group_ident(
 ) -> u64
     requires sender { flow.now.sender < length units.now }
     requires receiver { (v : ℕ) → flow.now.to ≡ One v → v < length units.now }
-    ensures { result ≡ group_ident units.now (extreme_address extreme (stays_by standing.now.firsts standing.now.mover)) group.now flow.now }
+    ensures { result ≡ group_ident (of_unit units.now (extreme_address extreme (stays_of standing.now))) group.now flow.now }
 {
     identifier(
         group.priority,
@@ -64,7 +64,7 @@ pub(crate) fn packet_ident(
 ) -> u64
     requires sender { flow.now.sender < length units.now }
     requires receiver { (v : ℕ) → flow.now.to ≡ One v → v < length units.now }
-    ensures { result ≡ packet_ident units.now (extreme_address extreme (stays_by standing.now.firsts standing.now.mover)) flow.now }
+    ensures { result ≡ packet_ident (of_unit units.now (extreme_address extreme (stays_of standing.now))) flow.now }
 {
     identifier(
         TRANSPORT_PRIORITY,

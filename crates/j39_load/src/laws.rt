@@ -8,10 +8,10 @@ ghost use Rattle.j39_findings.specs.declared.plan.timing.Timing.{Timing as Timin
 ghost use Rattle.j39_findings.specs.declared.plan.unit_plan.UnitPlan.{UnitPlan as PlannedUnits};
 ghost use Rattle.j39_load.specs.declared.delay.Delay.{Delay as Delays};
 ghost use Rattle.j39_load.specs.LoadFindings.{AreLoadFindings, AsksOfBus, load_findings, without_period};
-ghost use Rattle.j39_load.specs.Loads.{loads_of, total_load};
+ghost use Rattle.j39_load.specs.Loads.{group_ident, loads_of, total_load};
 ghost use Rattle.j39_load.specs.Places.{told_from};
 ghost use Rattle.j39_load.specs.PlannedFrames.{AreDelaysBounds, AreShortFlowsBounded, ArePlannedFramesInTime};
-ghost use Rattle.j39_load.specs.Ranks.{AreHeldApart, AreHeldByPlan, AreUnitsPlanned, IsShortFlow, LieBetween, frame_ident};
+ghost use Rattle.j39_load.specs.Ranks.{AreHeldApart, AreHeldByPlan, AreUnitsPlanned, IsShortFlow, LieBetween};
 ghost use Rattle.j39_load.specs.Standing.{TellsWhoStays};
 
 /// The delays of a plan bound the time of its frames. Where each flow has a period, a delay that `Loads::delays` tells holds in every
@@ -40,5 +40,5 @@ pub fn identifiers_lie_between()
 pub fn short_flows_have_different_identifiers()
     ensures { (plan : Plans) → Clean plan → (on : ℕ → Bool) (held : ℕ → ℕ) → AreHeldApart on held
         → (f h : ℕ) (flow other : PlannedFlows) (group second : PlannedGroups) → f ≢ h → IsShortFlow plan on f flow group
-        → IsShortFlow plan on h other second → frame_ident held group flow ≢ frame_ident held second other }
+        → IsShortFlow plan on h other second → group_ident held group flow ≢ group_ident held second other }
 {}

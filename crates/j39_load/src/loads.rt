@@ -5,7 +5,7 @@ ghost use Rattle.j39_findings.specs.declared.plan.to.To.TheVariants.{One};
 ghost use Rattle.j39_findings.specs.declared.plan.unit_plan.UnitPlan.{UnitPlan as APlannedUnit};
 ghost use Rattle.j39_load.specs.Delays.{HasDelay, TellDelays};
 ghost use Rattle.j39_load.specs.Loads.{flow_load, frames_of, time_limit, load_of_flow, loads_of, packet_frames, single_frames, singles_of, total_load};
-ghost use Rattle.j39_load.specs.Standing.{TellsWhoStays, stays_by};
+ghost use Rattle.j39_load.specs.Standing.{TellsWhoStays, stays_of};
 ghost use Rattle.std.proofs.Props.{props};
 ghost use Rattle.std.specs.Option.{option_map_or};
 ghost use Rattle.j39_load.specs.SoundLoads.{IsSoundIfKnown, IsSoundLoad};
@@ -44,7 +44,7 @@ fn single_frames(
     requires sender { flow.now.sender < length units.now }
     requires receiver { (v : ℕ) → flow.now.to ≡ One v → v < length units.now }
     requires period { 1 ≤ period }
-    ensures frames { result ≡ single_frames timing units.now (stays_by standing.now.firsts standing.now.mover) flow.now period group.now }
+    ensures frames { result ≡ single_frames timing units.now (stays_of standing.now) flow.now period group.now }
     ensures fits { IsStream result.stream }
     ensures few { result.stream.frames ≤ 512 }
 {
@@ -67,7 +67,7 @@ fn packet_frames(
     requires sender { flow.now.sender < length units.now }
     requires receiver { (v : ℕ) → flow.now.to ≡ One v → v < length units.now }
     requires period { 1 ≤ period }
-    ensures frames { result ≡ packet_frames timing units.now (stays_by standing.now.firsts standing.now.mover) flow.now period packets }
+    ensures frames { result ≡ packet_frames timing units.now (stays_of standing.now) flow.now period packets }
     ensures fits { IsStream result.stream }
     ensures few { result.stream.frames ≤ 512 }
 {
@@ -90,8 +90,8 @@ fn frames_of(
     requires sender { flow.now.sender < length units.now }
     requires receiver { (v : ℕ) → flow.now.to ≡ One v → v < length units.now }
     requires period { 1 ≤ period }
-    ensures frames { result.0 ≡ frames_of timing units.now (stays_by standing.now.firsts standing.now.mover) flow.now period group.now }
-    ensures singles { result.1 ≡ singles_of timing units.now (stays_by standing.now.firsts standing.now.mover) flow.now period group.now }
+    ensures frames { result.0 ≡ frames_of timing units.now (stays_of standing.now) flow.now period group.now }
+    ensures singles { result.1 ≡ singles_of timing units.now (stays_of standing.now) flow.now period group.now }
     ensures fits { IsStream result.0.stream }
     ensures single_fits { IfSome result.1 (λ singles. IsStream singles.stream) }
     ensures few { result.0.stream.frames ≤ 512 }
@@ -118,7 +118,7 @@ fn flow_load(
 ) -> FlowLoad
     requires sender { flow.now.sender < length units.now }
     requires receiver { (v : ℕ) → flow.now.to ≡ One v → v < length units.now }
-    ensures load { result ≡ flow_load timing units.now (stays_by standing.now.firsts standing.now.mover) flow.now pace group.now }
+    ensures load { result ≡ flow_load timing units.now (stays_of standing.now) flow.now pace group.now }
     ensures sound { IsSoundLoad result }
 {
     let (frames, singles) = frames_of(timing, units, standing, flow, pace.period, group);
@@ -141,7 +141,7 @@ fn load_of_flow(
     requires group { flow.now.group < length plan.now.groups.items }
     requires sender { flow.now.sender < length plan.now.units.items }
     requires receiver { (v : ℕ) → flow.now.to ≡ One v → v < length plan.now.units.items }
-    ensures load { result ≡ load_of_flow timing plan.now (stays_by standing.now.firsts standing.now.mover) flow.now }
+    ensures load { result ≡ load_of_flow timing plan.now (stays_of standing.now) flow.now }
     ensures sound { IsSoundIfKnown result }
 {
     match flow.pace {
@@ -161,7 +161,7 @@ fn loads_of(
     plan: &Plan,
     standing: &Standing,
 ) -> Result<Vec<Option<FlowLoad>>, AllocError>
-    ensures loads { IfOk result (λ loads. loads.items ≡ loads_of timing plan.now (stays_by standing.now.firsts standing.now.mover)) }
+    ensures loads { IfOk result (λ loads. loads.items ≡ loads_of timing plan.now (stays_of standing.now)) }
     ensures count { IfOk result (λ loads. length loads.items ≡ length plan.now.flows.items) }
     ensures sound { IfOk result (λ loads. All IsSoundIfKnown loads.items) }
 {

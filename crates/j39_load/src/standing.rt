@@ -1,7 +1,7 @@
 //! Which units of a plan hold their planned addresses, whatever the others do.
 ghost use Rattle.std.specs.Prelude.{◌≡◌, length, IsTrue};
 ghost use Rattle.j39_load.specs.Loads.{may_move};
-ghost use Rattle.j39_load.specs.Standing.{AreFirsts, TellsWhoStays, IsMover, is_first_by, is_least, is_mover_by, smaller, stays_by};
+ghost use Rattle.j39_load.specs.Standing.{AreFirsts, TellsWhoStays, IsMover, is_first_by, is_least, is_mover_by, smaller, stays_of};
 
 use j39_findings::{Plan, UnitPlan};
 use j39_id::Name;
@@ -76,7 +76,7 @@ pub struct Standing {
 
 impl Standing {
     pub fn new(plan: &Plan) -> Self
-        ensures { TellsWhoStays plan.now (stays_by result.firsts result.mover) }
+        ensures { TellsWhoStays plan.now (stays_of result) }
     {
         let firsts = firsts_of(plan.units.as_slice());
         let mover = mover_of(plan.units.as_slice(), &firsts);
@@ -84,7 +84,7 @@ impl Standing {
     }
 
     pub fn stays(&self, unit: &UnitPlan) -> bool
-        ensures { result ≡ stays_by self.now.firsts self.now.mover unit.now }
+        ensures { result ≡ stays_of self.now unit.now }
     {
         is_first(&self.firsts, unit)
             && (!is_in_pool(unit.address.number()) || is_least(self.mover, unit.name))
@@ -92,7 +92,7 @@ impl Standing {
 
     /// Whether the unit may come to hold another address than its planned one.
     pub(crate) fn may_move(&self, unit: &UnitPlan) -> bool
-        ensures { result ≡ may_move (stays_by self.now.firsts self.now.mover) unit.now }
+        ensures { result ≡ may_move (stays_of self.now) unit.now }
     {
         unit.name.is_arbitrary() && !self.stays(unit)
     }

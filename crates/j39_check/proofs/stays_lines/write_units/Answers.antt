@@ -1,14 +1,14 @@
 use Rattle.std.proofs.Common.{append_assoc}
 use Rattle.std.proofs.lemmas.List.{append-nil, drop_all}
 use Rattle.j39_check.specs.AddressesText.{staying_lines}
-use Rattle.j39_load.specs.Standing.{stays_by}
+use Rattle.j39_load.specs.Standing.{stays_of}
 use Rattle.j39_check.proofs.UnitLists.{lines_from}
 use Rattle.j39_check.proofs.stays_lines.write_units.Goals as goal
 
 pub loop-unit-preserved : goal.loop-unit-preserved
 loop-unit-preserved c =
     let standing = c.args.standing.now in
-    let next = lines_from (stays_by standing.firsts standing.mover) c.args.units.now c.loop-unit.unit-index c.unit-item.result c.unit-item.is c.loop-unit-test.true in
+    let next = lines_from (stays_of standing) c.args.units.now c.loop-unit.unit-index c.unit-item.result c.unit-item.is c.loop-unit-test.true in
     rw (c.in_ok-write_unit.ensures, append_assoc) (rw next at c.loop-unit.invariant)
 
 pub returns : goal.returns
