@@ -13,7 +13,7 @@ use Rattle.j39_world.specs.declared.flow.Flow.{Flow}
 use Rattle.j39_world.specs.declared.wired.Wired.{Wired}
 use Rattle.j39_world.specs.Flows.{flows_of, is_short}
 use Rattle.j39_world.specs.Resting.{is_of_sender, is_of_receiver}
-use Rattle.j39_world.specs.Run.{count_of, begin_refusal, refusal, Follows, Run}
+use Rattle.j39_world.specs.Run.{count_of, begin_refusal, refusal, Follows}
 use Rattle.j39_world.specs.Sound.{reported}
 use Rattle.j39_world.specs.Transfers.{Outgoing, is_among}
 use Rattle.j39_world.specs.TransferSteps.{outgoing, begins}
@@ -32,12 +32,24 @@ pub record HasArrived (before after : World) (u : ℕ) (message : Outgoing) (out
 abbrev pub IsUnanswered : Flow → List ℕ → Type 0
 IsUnanswered flow bytes = (flow.to ≡ tos.All) ⊎ (is_short (length bytes) ≡ true)
 
--- nothing that u sends these units is lost by the step, by it none of them hears nothing of u in time, and u isn't idle by it
-abbrev pub Spares : ℕ → List ℕ → Step → Type 0
-Spares u targets (Lose s t) = s ≡ u → is_among targets t ≡ true → ⊥
-Spares u targets (LateReceiver s t) = s ≡ u → is_among targets t ≡ true → ⊥
-Spares u targets (Rest s) = s ≢ u
-Spares u targets _ = Unit {0}
+-- the oldest of these, if there is one, passes
+abbrev pub oldest_passes : (Wired → Bool) → List Wired → Bool
+oldest_passes test [] = true
+oldest_passes test (item ∷ rest) = test item
+
+-- by the step nothing of u's message to these units is lost, none of them hears nothing of u in time, and u isn't idle; what u answers them
+-- may be lost
+abbrev pub Spares : World → ℕ → List ℕ → Step → Type 0
+Spares w u targets (Lose s t) = s ≡ u → is_among targets t ≡ true → oldest_passes is_of_receiver (w.wire u t) ≡ true
+Spares w u targets (LateReceiver s t) = s ≡ u → is_among targets t ≡ true → ⊥
+Spares w u targets (Rest s) = s ≢ u
+Spares w u targets _ = Unit {0}
+
+-- a run of steps that spare it
+abbrev pub RunSparing : Plan → ℕ → List ℕ → World → List Step → World → Type 0
+RunSparing plan u targets w [] new = new ≡ w
+RunSparing plan u targets w (step ∷ steps) new =
+    Spares w u targets step × ((mid : World) × Follows plan w step mid × RunSparing plan u targets mid steps new)
 
 -- u can't send more, and none of these units can take more of it
 pub record IsThrough (plan : Plan) (w : World) (u : ℕ) (targets : List ℕ) : Type 0 where
@@ -50,17 +62,11 @@ abbrev pub ArrivesUnanswered : Plan → World → Type 0
 ArrivesUnanswered plan w =
     (f : ℕ) (flow : Flow) (bytes : List ℕ) (steps : List Step) (after : World)
     → slice_get (flows_of plan) f ≡ Some flow → IsUnanswered flow bytes → begin_refusal (count_of plan) w (Some flow) bytes ≡ None
-    → All (Spares flow.sender (outgoing (count_of plan) w.stations f flow bytes).targets) steps
-    → Run plan (begins (count_of plan) w f flow bytes) steps after
+    → RunSparing plan flow.sender (outgoing (count_of plan) w.stations f flow bytes).targets (begins (count_of plan) w f flow bytes) steps after
     → IsThrough plan after flow.sender (outgoing (count_of plan) w.stations f flow bytes).targets
     → HasArrived w after flow.sender (outgoing (count_of plan) w.stations f flow bytes) Sent
 
 -- ---- a message of several frames to one unit
-
--- the oldest of these, if there is one, passes
-abbrev pub oldest_passes : (Wired → Bool) → List Wired → Bool
-oldest_passes test [] = true
-oldest_passes test (item ∷ rest) = test item
 
 -- by the step nothing is lost of u's message to v nor of what answers it, neither of the two hears nothing of it in time, and u isn't idle
 abbrev pub SparesBetween : World → ℕ → ℕ → Step → Type 0

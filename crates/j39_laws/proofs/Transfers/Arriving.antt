@@ -3,10 +3,8 @@ use Rattle.std.proofs.Common.{◌≡◌, ℕ, suc, ◌==◌, ◌<◌, ◌⊎◌,
 use Rattle.std.proofs.Common.{Option, Some, None}
 use Rattle.std.specs.Bool.{MatchBool}
 use Rattle.std.specs.Prelude.{slice_get}
-use Rattle.std.specs.List.{All}
 use Rattle.std.specs.Option.{is_some}
 use Rattle.std.proofs.lemmas.Bool.{and_from, cases_Bool, cond-true, cond-false, eq-eqb, leb-false, true≢false}
-use Rattle.std.proofs.lemmas.List.Elements.{All-head, All-tail}
 use Rattle.j39_tp.specs.Chunks.{packets_of}
 use Rattle.j39_tp.specs.Sender as sender
 use Rattle.j39_tp.specs.declared.sending.outcome.Outcome.TheVariants.{Sent}
@@ -22,9 +20,9 @@ use Rattle.j39_world.specs.declared.flow.Flow.{Flow}
 use Rattle.j39_world.specs.declared.step_error.StepError.{StepError}
 use Rattle.j39_world.specs.declared.wired.Wired.{Wired}
 use Rattle.j39_world.specs.declared.wired.Wired.TheVariants as wired
-use Rattle.j39_world.specs.Arriving.{IsUnanswered, Spares, IsThrough, HasArrived, ArrivesUnanswered}
+use Rattle.j39_world.specs.Arriving.{IsUnanswered, Spares, RunSparing, IsThrough, HasArrived, ArrivesUnanswered}
 use Rattle.j39_world.specs.Flows.{flows_of, windows_of, dest_of, is_short}
-use Rattle.j39_world.specs.Run.{count_of, begin_refusal, begin_refusals, refusal, StepsTo, Follows, Run}
+use Rattle.j39_world.specs.Run.{count_of, begin_refusal, begin_refusals, refusal, StepsTo, Follows}
 use Rattle.j39_world.specs.Sound.{reported}
 use Rattle.j39_world.specs.SoundPlan.{Always}
 use Rattle.j39_world.specs.Transfers.{Outgoing, Begun, is_among}
@@ -51,7 +49,7 @@ module _ (plan : Plan) (u : ℕ) (o : Outgoing) (before : ℕ → List Begun) (u
     none_claims : (step : Step) → IsOfClaims step → refusal plan w step ≡ None → ⊥
     none_claims = claims_refused plan w kept u (at_stage plan u o before unanswered c.stage) c.session
 
-    step_keeps : (step : Step) → Spares u o.targets step → refusal plan w step ≡ None → (new : World) → StepsTo plan w step new → Coming new
+    step_keeps : (step : Step) → Spares w u o.targets step → refusal plan w step ≡ None → (new : World) → StepsTo plan w step new → Coming new
     step_keeps (Up v) spares allowed new leads = absurd (none_claims (Up v) tt allowed)
     step_keeps (Down v) spares allowed new leads = absurd (none_claims (Down v) tt allowed)
     step_keeps (Ask v) spares allowed new leads = absurd (none_claims (Ask v) tt allowed)
@@ -68,7 +66,7 @@ module _ (plan : Plan) (u : ℕ) (o : Outgoing) (before : ℕ → List Begun) (u
     step_keeps (Rest s) spares allowed new e = subst Coming (sym e) (coming.rest_keeps plan u o before unanswered w kept.transfers kept.accounted c s spares)
 
     -- a world that follows, by a step that is refused or not
-    next_keeps : (step : Step) → Spares u o.targets step → (new : World) → Follows plan w step new → IsKept plan new × Coming new
+    next_keeps : (step : Step) → Spares w u o.targets step → (new : World) → Follows plan w step new → IsKept plan new × Coming new
     next_keeps step spares new =
         elim (refusal plan w step)
         as (λ (x : Option StepError). refusal plan w step ≡ x → MatchBool (is_some x) (new ≡ w) (StepsTo plan w step new) → IsKept plan new × Coming new) [
@@ -76,11 +74,11 @@ module _ (plan : Plan) (u : ℕ) (o : Outgoing) (before : ℕ → List Begun) (u
           | None ↦ λ allowed leads. (keeps plan w kept step allowed new leads, step_keeps step spares allowed new leads)
         ] refl
 
-  run_keeps : (steps : List Step) (w new : World) → IsKept plan w → Coming w → All (Spares u o.targets) steps → Run plan w steps new → IsKept plan new × Coming new
-  run_keeps [] w new kept c spares same = (subst (IsKept plan) (sym same) kept, subst Coming (sym same) c)
-  run_keeps (step ∷ steps) w new kept c spares (mid, follows, more) =
-      let next = next_keeps w kept c step (All-head (Spares u o.targets) step steps spares) mid follows in
-      run_keeps steps mid new next.0 next.1 (All-tail (Spares u o.targets) step steps spares) more
+  run_keeps : (steps : List Step) (w new : World) → IsKept plan w → Coming w → RunSparing plan u o.targets w steps new → IsKept plan new × Coming new
+  run_keeps [] w new kept c same = (subst (IsKept plan) (sym same) kept, subst Coming (sym same) c)
+  run_keeps (step ∷ steps) w new kept c (spares, (mid, follows, more)) =
+      let next = next_keeps w kept c step spares mid follows in
+      run_keeps steps mid new next.0 next.1 more
 
   -- ---- nothing is left of it
 
@@ -180,10 +178,10 @@ module _ (plan : Plan) (w : World) (kept : IsKept plan w) (f : ℕ) (flow : Flow
   begun_kept : IsKept plan begun
   begun_kept = begin_kept plan w kept f flow bytes allowed
 
-  has_arrived : (steps : List Step) (after : World) → All (Spares flow.sender message.targets) steps → Run plan begun steps after
+  has_arrived : (steps : List Step) (after : World) → RunSparing plan flow.sender message.targets begun steps after
       → IsThrough plan after flow.sender message.targets → HasArrived w after flow.sender message Sent
-  has_arrived steps after spares run through =
-      let (here, c) = run_keeps plan flow.sender message earlier unanswered steps begun after begun_kept begun_comes spares run in
+  has_arrived steps after run through =
+      let (here, c) = run_keeps plan flow.sender message earlier unanswered steps begun after begun_kept begun_comes run in
       record {
         rests = (
           at_stage plan flow.sender message earlier unanswered c.stage,
@@ -194,5 +192,5 @@ module _ (plan : Plan) (w : World) (kept : IsKept plan w) (f : ℕ) (flow : Flow
       }
 
 pub arrives_unanswered : (plan : Plan) → Always plan (ArrivesUnanswered plan)
-arrives_unanswered plan before w run f flow bytes steps after is unanswered allowed spares more through =
-    has_arrived plan w (all_kept plan before w run) f flow bytes unanswered allowed steps after spares more through
+arrives_unanswered plan before w run f flow bytes steps after is unanswered allowed more through =
+    has_arrived plan w (all_kept plan before w run) f flow bytes unanswered allowed steps after more through

@@ -1,8 +1,8 @@
 -- A message that no receiver answers is coming, as something is taken or lost, or a receiver hears nothing in time.
-use Rattle.std.proofs.Common.{◌≡◌, ℕ, ◌⊎◌, inl, inr, true, List, [], ◌∷◌, ◌++◌, refl, sym, ap, ◌∙◌, subst, Option, Some}
+use Rattle.std.proofs.Common.{◌≡◌, ℕ, zero, suc, ◌⊎◌, inl, inr, true, List, [], ◌∷◌, ◌++◌, refl, sym, ap, ◌∙◌, subst, Option, Some}
 use Rattle.std.specs.Prelude.{map}
 use Rattle.std.specs.List.{AllByRecursion}
-use Rattle.std.proofs.lemmas.Bool.{cases_eq}
+use Rattle.std.proofs.lemmas.Bool.{cases_eq, true≢false}
 use Rattle.j39_tp.specs.Receiver as receiver
 use Rattle.j39_tp.specs.declared.packet.Packet.{Packet}
 use Rattle.j39_tp.specs.declared.receiving.heard.Heard.{Heard}
@@ -14,7 +14,9 @@ use Rattle.j39_findings.specs.declared.plan.Plan.{Plan}
 use Rattle.j39_findings.specs.declared.plan.to.To.TheVariants as tos
 use Rattle.j39_world.specs.declared.wired.Wired.{Wired}
 use Rattle.j39_world.specs.declared.wired.Wired.TheVariants as wired
+use Rattle.j39_world.specs.Arriving.{oldest_passes}
 use Rattle.j39_world.specs.Flows.{window_at}
+use Rattle.j39_world.specs.Resting.{is_of_receiver}
 use Rattle.j39_world.specs.Sound.{reported}
 use Rattle.j39_world.specs.Transfers.{Outgoing, Begun, Reported, Wire, is_among, closed_if_complete}
 use Rattle.j39_world.specs.TransferSteps.{session_after, reaction_of, receiver_replies, sender_replies, flow_in, report, hearing, Reports}
@@ -28,8 +30,14 @@ use Rattle.j39_laws.proofs.Reports.TransferInvariant.{TransferInvariant}
 use Rattle.j39_laws.proofs.Runs.Changed.{IsElsewhere, changed_here, changed_elsewhere, pair_here, pair_elsewhere, pair_here_or_elsewhere}
 use Rattle.j39_laws.proofs.Runs.Elements.{all-append}
 use Rattle.j39_laws.proofs.Transfers.FitSteps.{receiver_answers}
-use Rattle.j39_laws.proofs.Transfers.Flights.{is_whole, InFlight, sent_most, HasTaken, IsUnderWay, grown_under_way, short_heard, HearsOn, packet_heard}
+use Rattle.j39_laws.proofs.Transfers.Flights.{is_whole, IsItem, InFlight, sent_most, HasTaken, IsUnderWay, grown_under_way, short_heard, HearsOn, packet_heard}
 use Rattle.j39_laws.proofs.Transfers.Coming.{answers_grow, reports_nothing, none_apart, reports_apart, message_reported, at_stage, IsComing, stage_kept}
+
+-- no item of the message is an answer
+no_item_answers : (o : Outgoing) (k : ℕ) (item : Wired) → IsItem o k item → is_of_receiver item ≡ true → ⊥
+no_item_answers o zero item (inl whole) answers = true≢false (sym (subst (λ (x : Wired). is_of_receiver x ≡ true) whole.1 answers))
+no_item_answers o zero item (inr long) answers = true≢false (sym (subst (λ (x : Wired). is_of_receiver x ≡ true) long.1 answers))
+no_item_answers o (suc k) item (seven, is) answers = true≢false (sym (subst (λ (x : Wired). is_of_receiver x ≡ true) is answers))
 
 module _ (plan : Plan) (u : ℕ) (o : Outgoing) (before : ℕ → List Begun) (unanswered : (o.to ≡ tos.All) ⊎ (is_whole o ≡ true)) where
   abbrev Coming : World → Type 0
@@ -61,16 +69,32 @@ module _ (plan : Plan) (u : ℕ) (o : Outgoing) (before : ℕ → List Begun) (u
 
     -- ---- something is lost, or a receiver hears nothing in time, elsewhere
 
-    pub lose_keeps : (x y : ℕ) → (x ≡ u → is_among o.targets y ≡ true → ⊥) → (list : List Wired) → w.wire x y ≡ list → (new : World)
-        → LostFrom w x y list new → Coming new
+    -- an answer of u is lost
+    answer_lost : (x y : ℕ) (item : Wired) (rest : List Wired) → w.wire x y ≡ item ∷ rest → x ≡ u → is_among o.targets y ≡ true
+        → oldest_passes is_of_receiver (w.wire u y) ≡ true → WayAt coming.sent (record w { wire = changed_pair w.wire x y rest }) x y
+    answer_lost x y item rest is same among passes =
+        let way : WayAt coming.sent w x y = way_at x y same among in
+        let here : oldest_passes is_of_receiver (w.wire x y) ≡ true =
+        subst (λ k. oldest_passes is_of_receiver (w.wire k y) ≡ true) (sym same) passes in
+        let oldest : is_of_receiver item ≡ true = subst (λ (xs : List Wired). oldest_passes is_of_receiver xs ≡ true) is here in
+        let left : InFlight o rest way.taken coming.sent =
+        elim (subst (λ (xs : List Wired). InFlight o xs way.taken coming.sent) is way.flight) [
+          | inl beside ↦ beside.1
+          | inr next ↦ absurd (no_item_answers o way.taken item next.0 oldest)
+        ] in
+        subst (λ (xs : List Wired). IsUnderWay o coming.sent xs (w.receivers y x) (reported w.reports y x) (before y))
+        (sym (pair_here w.wire x y rest)) (record { taken = way.taken; flight = left; receiver = way.receiver })
+
+    pub lose_keeps : (x y : ℕ) → (x ≡ u → is_among o.targets y ≡ true → oldest_passes is_of_receiver (w.wire u y) ≡ true) → (list : List Wired)
+        → w.wire x y ≡ list → (new : World) → LostFrom w x y list new → Coming new
     lose_keeps x y spares [] is new never = absurd never
     lose_keeps x y spares (item ∷ rest) is new e =
         let lost : World = record w { wire = changed_pair w.wire x y rest } in
-        let apart : (s t : ℕ) → s ≡ u → is_among o.targets t ≡ true → IsElsewhere x y s t =
-        λ s t same among to_x to_y. spares (sym to_x ∙ same) (subst (λ k. is_among o.targets k ≡ true) to_y among) in
-        let ways : (s t : ℕ) → s ≡ u → is_among o.targets t ≡ true → WayAt coming.sent lost s t =
-        λ s t same among. same_way lost s t (pair_elsewhere w.wire x y rest s t (apart s t same among)) refl refl same among in
-        subst Coming (sym e) (comes lost coming.session ways)
+        let Way : ℕ → ℕ → Type 0 = λ s t. s ≡ u → is_among o.targets t ≡ true → WayAt coming.sent lost s t in
+        let here : Way x y = λ same among. answer_lost x y item rest is same among (spares same among) in
+        let elsewhere : (s t : ℕ) → IsElsewhere x y s t → Way s t =
+        λ s t apart. same_way lost s t (pair_elsewhere w.wire x y rest s t apart) refl refl in
+        subst Coming (sym e) (comes lost coming.session (pair_here_or_elsewhere Way x y here elsewhere))
 
     pub late_receiver_keeps : (windows : List ℕ) (x y : ℕ) → (x ≡ u → is_among o.targets y ≡ true → ⊥) → Coming (receiver_timed_out windows w x y)
     late_receiver_keeps windows x y spares =
