@@ -17,14 +17,7 @@ pub fn planned_frames_are_in_time()
 /// The premises can be met, and the bound is the best there is: there is a legal schedule of planned traffic in which a
 /// frame waits for exactly as long as it says.
 pub fn a_bound_is_reached()
-<<<<<<< ours
     ensures { (s : Schedule) × (traffic : Traffic) × (others : Others) × (planned : ℕ → Bool) × (of : Origins) × IsLegal s
-        × IsPlannedTraffic s traffic others 160 planned of × HasRoom traffic others 160 0 160 × (1 < s.count) × (planned 1 ≡ true)
-=======
-    ensures reached { (s : Schedule) × IsLegal s × IsAnalysed s 0 1000 160 160 160 × (1 < s.count) × (s.ident 1 ≡ 0)
-        × (s.queued 1 + 160 < s.now) × (s.start 1 ≡ s.queued 1 + 160) }
-    ensures by_planned { (s : Schedule) × (traffic : Traffic) × (others : Others) × (planned : ℕ → Bool) × (of : Origins) × IsLegal s
         × IsPlannedTraffic s traffic others 160 planned of 0 × HasRoom traffic others 160 0 160 × (1 < s.count) × (planned 1 ≡ true)
->>>>>>> theirs
         × (of.source 1 ≡ 0) × (s.queued 1 + 160 < s.now) × (s.start 1 ≡ s.queued 1 + 160) }
 {}
