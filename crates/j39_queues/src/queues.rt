@@ -1,7 +1,7 @@
 //! A queue from each unit to each.
-ghost use Rattle.std.specs.Prelude.{◌≡◌, ℕ, ◌+◌, ◌<◌, ◌≤◌, ◌↔◌, [], ◌∷◌, ◌++◌, drop, length, nat_eq, IsTrue, IfOk, IfSome, IfNone, OnOk, OnErr};
+ghost use Rattle.std.specs.Prelude.{◌≡◌, ℕ, ◌+◌, ◌<◌, ◌≤◌, ◌↔◌, [], ◌∷◌, ◌++◌, drop, length, map, nat_eq, replicate, IsTrue, IfOk, IfSome, IfNone, OnOk, OnErr};
 ghost use Rattle.std.specs.List.{list_all};
-ghost use Rattle.j39_queues.specs.inside.Rows.{one_if_some};
+ghost use Rattle.j39_queues.specs.inside.Rows.{items, one_if_some};
 ghost use Rattle.j39_queues.specs.Queued.{IsTable, KeepsRoom, one_at, pair_in, room_at, changed_in, without_column};
 
 use std::alloc::{AllocError, Global};
@@ -44,6 +44,17 @@ fn are_zero(counts: &[usize]) -> bool
     counts.iter().all(|count| *count == 0)
 }
 
+// The queues of one unit, with nothing in them.
+fn empty_row<T: Drop>(alloc: Global, units: usize) -> Result<Vec<VecDeque<T>>, AllocError>
+    ensures { IfOk result (λ row. map items row.items ≡ replicate units []) }
+{
+    let mut row = Vec::with_capacity(alloc, units)?;
+    for _ in 0..units {
+        row.push_reserved(VecDeque::new(alloc));
+    }
+    Ok(row)
+}
+
 impl<T: Drop> Queues<T> {
     /// Empty queues between each two of so many units.
     pub fn new(alloc: Global, units: usize) -> Result<Self, AllocError>
@@ -53,12 +64,8 @@ impl<T: Drop> Queues<T> {
         let mut rows = Vec::with_capacity(alloc, units)?;
         let mut filled = Vec::with_capacity(alloc, units)?;
         for _ in 0..units {
-            let mut row = Vec::with_capacity(alloc, units)?;
-            for _ in 0..units {
-                row.push(VecDeque::new(alloc))?;
-            }
-            rows.push(row)?;
-            filled.push(0)?;
+            rows.push_reserved(empty_row(alloc, units)?);
+            filled.push_reserved(0);
         }
         Ok(Queues { rows, filled })
     }
