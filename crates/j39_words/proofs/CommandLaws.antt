@@ -19,13 +19,21 @@ pub is_simple_and_free_commands : is_simple_and_free commands ≡ true
 unfolding commands
 is_simple_and_free_commands = refl
 
--- a subcommand was added
-pub added : {E : Type 0} (program wanted : App) (made sub : Result Command E) → IfOk sub (λ s. app_of s ≡ wanted)
-    → IfOk made (λ c. IsOkAnd sub (λ s. app_of c ≡ with_subcommand program (app_of s).top))
-    → IfOk made (λ c. app_of c ≡ with_subcommand program wanted.top)
-added program wanted (Ok c) (Ok s) is adds = adds ∙ ap (λ (a : App). with_subcommand program a.top) is
-added program wanted (Ok c) (Err e) is adds = absurd adds
-added program wanted (Err e) sub is adds = tt
+-- a subcommand that is known was added
+pub added : {E : Type 0} (program made sub : Result Command E) (wanted : App) → IfOk sub (λ s. app_of s ≡ wanted)
+    → IfOk made (λ c. IsOkAnd program (λ p. IsOkAnd sub (λ s. app_of c ≡ with_subcommand (app_of p) (app_of s).top)))
+    → IfOk made (λ c. IsOkAnd program (λ p. app_of c ≡ with_subcommand (app_of p) wanted.top))
+added (Ok p) (Ok c) (Ok s) wanted is adds = adds ∙ ap (λ (a : App). with_subcommand (app_of p) a.top) is
+added (Ok p) (Ok c) (Err e) wanted is adds = absurd adds
+added (Err e) (Ok c) sub wanted is adds = absurd adds
+added program (Err e) sub wanted is adds = tt
+
+-- so it was to a program that is known
+pub known : {E : Type 0} (program made : Result Command E) (a sub : App) → IfOk program (λ p. app_of p ≡ a)
+    → IfOk made (λ c. IsOkAnd program (λ p. app_of c ≡ with_subcommand (app_of p) sub.top)) → IfOk made (λ c. app_of c ≡ with_subcommand a sub.top)
+known (Ok p) (Ok c) a sub is adds = adds ∙ ap (λ (b : App). with_subcommand b sub.top) is
+known (Err e) (Ok c) a sub is adds = absurd adds
+known program (Err e) a sub is adds = tt
 
 -- what is told of words is a fault of theirs, or want of memory
 pub has_fault : (a : App) (words : List Text) (e : Error) → a ≡ commands → HasKind (fault_of a words) e → HasKind (faults_of_words words) e

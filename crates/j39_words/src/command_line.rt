@@ -1,5 +1,5 @@
 //! The words of the command line, read.
-ghost use Rattle.std.specs.Prelude.{◌≡◌, Err, None, true, false, [], IfOk, Some, map, string_bytes};
+ghost use Rattle.std.specs.Prelude.{◌≡◌, Err, None, true, false, [], IfOk, Some, codes, map, string_bytes};
 ghost use Rattle.clap.specs.Words.{first_of, found_of, kind_of, rows_of, subcommand_of, subcommand_rows_of};
 ghost use Rattle.j39_words.specs.Commands.{commands};
 ghost use Rattle.j39_words.specs.Orders.{IsOrdered, AreRefused, AsksHelp, IsHelp, Orders, OrdersNothing, asks_for_text};
@@ -23,6 +23,25 @@ fn value(alloc: Global, values: &ArgMatches, name: &str) -> Result<String, Words
     }
 }
 
+// What a command orders whose first value is a plan.
+fn of_plan(alloc: Global, name: &str, values: &ArgMatches) -> Result<Order, WordsFault>
+    requires { name.now ≡ codes "frame" → ⊥ }
+    ensures ordered { IfOk result (Orders (Some (name.now, rows_of (found_of values.now)))) }
+    ensures named { IfOk result (λ o. IsHelp o → ⊥) }
+    ensures refused { result ≡ Err Bad → OrdersNothing (Some (name.now, rows_of (found_of values.now))) }
+{
+    let plan = value(alloc, values, "PLAN")?;
+    match name {
+        "check" => Ok(Order::Check(plan)),
+        "addresses" => Ok(Order::Addresses(plan)),
+        "load" => Ok(Order::Load(plan)),
+        "run" => Ok(Order::Run(plan, value(alloc, values, "SCHEDULE")?)),
+        "read" => Ok(Order::Read(plan, value(alloc, values, "LOG")?)),
+        "follow" => Ok(Order::Follow(plan, value(alloc, values, "LOG")?)),
+        _ => Err(WordsFault::Bad),
+    }
+}
+
 fn command(alloc: Global, name: &str, values: &ArgMatches) -> Result<Order, WordsFault>
     ensures ordered { IfOk result (Orders (Some (name.now, rows_of (found_of values.now)))) }
     ensures named { IfOk result (λ o. IsHelp o → ⊥) }
@@ -30,16 +49,7 @@ fn command(alloc: Global, name: &str, values: &ArgMatches) -> Result<Order, Word
 {
     match name {
         "frame" => Ok(Order::Frame(value(alloc, values, "LINE")?)),
-        "check" => Ok(Order::Check(value(alloc, values, "PLAN")?)),
-        "addresses" => Ok(Order::Addresses(value(alloc, values, "PLAN")?)),
-        "load" => Ok(Order::Load(value(alloc, values, "PLAN")?)),
-        "run" => Ok(Order::Run(
-            value(alloc, values, "PLAN")?,
-            value(alloc, values, "SCHEDULE")?,
-        )),
-        "read" => Ok(Order::Read(value(alloc, values, "PLAN")?, value(alloc, values, "LOG")?)),
-        "follow" => Ok(Order::Follow(value(alloc, values, "PLAN")?, value(alloc, values, "LOG")?)),
-        _ => Err(WordsFault::Bad),
+        _ => of_plan(alloc, name, values),
     }
 }
 

@@ -73,156 +73,121 @@ fn two_values<'a>(
     one_value(alloc, name, about, first, first_help)?.arg(value(alloc, second, second_help))
 }
 
-// Adds a subcommand, if it could be made.
+// Adds a subcommand, if both could be made.
 fn with<'a>(
-    program: Command<'a>,
+    program: Result<Command<'a>, AllocError>,
     subcommand: Result<Command<'a>, AllocError>,
 ) -> Result<Command<'a>, AllocError>
     requires { IfOk subcommand (λ c. (fields_of c).has_globals ≡ false) }
-    ensures { IfOk result (λ c. IsOkAnd subcommand.entry (λ s. app_of c ≡ with_subcommand (app_of program.entry) (app_of s).top)) }
+    ensures { IfOk result (λ c. IsOkAnd program.entry (λ p. IsOkAnd subcommand.entry (λ s. app_of c ≡ with_subcommand (app_of p) (app_of s).top))) }
 {
-    program.subcommand(subcommand?)
+    program?.subcommand(subcommand?)
 }
 
-fn with_frame<'a>(alloc: Global, program: Command<'a>) -> Result<Command<'a>, AllocError>
-    ensures { IfOk result (λ c. app_of c ≡ with_subcommand (app_of program.entry) (one_value (codes "frame") (codes "LINE")).top) }
+// Adds one that takes one value.
+fn with_one<'a>(
+    program: Result<Command<'a>, AllocError>,
+    alloc: Global,
+    name: &'a str,
+    about: &'a str,
+    first: &'a str,
+    help: &'a str,
+) -> Result<Command<'a>, AllocError>
+    ensures { IfOk result (λ c. IsOkAnd program.entry (λ p. app_of c ≡ with_subcommand (app_of p) (one_value name.entry.now first.entry.now).top)) }
+{
+    with(program, one_value(alloc, name, about, first, help))
+}
+
+// Adds one that takes two values.
+fn with_two<'a>(
+    program: Result<Command<'a>, AllocError>,
+    alloc: Global,
+    name: &'a str,
+    about: &'a str,
+    first: &'a str,
+    first_help: &'a str,
+    second: &'a str,
+    second_help: &'a str,
+) -> Result<Command<'a>, AllocError>
+    ensures { IfOk result (λ c. IsOkAnd program.entry (λ p.
+        app_of c ≡ with_subcommand (app_of p) (two_values name.entry.now first.entry.now second.entry.now).top)) }
 {
     with(
         program,
-        one_value(
-            alloc,
-            "frame",
-            "Shows what the frame line LINE says",
-            "LINE",
-            "A line of a CAN log; its last word is the frame, as 18EEFF00#0100800C00000010",
-        ),
+        two_values(alloc, name, about, first, first_help, second, second_help),
     )
-}
-
-fn with_check<'a>(alloc: Global, program: Command<'a>) -> Result<Command<'a>, AllocError>
-    ensures { IfOk result (λ c. app_of c ≡ with_subcommand (app_of program.entry) (one_value (codes "check") (codes "PLAN")).top) }
-{
-    with(
-        program,
-        one_value(
-            alloc,
-            "check",
-            "Shows what is wrong with the plan of the file PLAN",
-            "PLAN",
-            "The name of a plan file. tools/where.py, installed as j39plan-where, shows the line of the file before each answer",
-        ),
-    )
-}
-
-fn with_addresses<'a>(alloc: Global, program: Command<'a>) -> Result<Command<'a>, AllocError>
-    ensures { IfOk result (λ c. app_of c ≡ with_subcommand (app_of program.entry) (one_value (codes "addresses") (codes "PLAN")).top) }
-{
-    with(
-        program,
-        one_value(
-            alloc,
-            "addresses",
-            "Shows which units of the plan keep their planned addresses, whatever happens",
-            "PLAN",
-            "The name of a plan file",
-        ),
-    )
-}
-
-fn with_load<'a>(alloc: Global, program: Command<'a>) -> Result<Command<'a>, AllocError>
-    ensures { IfOk result (λ c. app_of c ≡ with_subcommand (app_of program.entry) (one_value (codes "load") (codes "PLAN")).top) }
-{
-    with(
-        program,
-        one_value(
-            alloc,
-            "load",
-            "Shows within which time the frames of each flow of the plan are on the bus, and how full it is",
-            "PLAN",
-            "The name of a plan file with the table timing and a period of each flow. A time counts from when the frame is ready \
-            in its controller, and holds where no frame is damaged or lost; messages of one flow are queued at least its period \
-            apart, and a long one ends before the next; each controller offers its queued frame of the smallest identifier \
-            first; no claim and no request is under way, and no unit changes its address while a frame of it waits; and other \
-            frames have priority 6 or 7 and 8 bytes at most, and at most as many as unplanned says go before one that waits",
-        ),
-    )
-}
-
-fn with_run<'a>(alloc: Global, program: Command<'a>) -> Result<Command<'a>, AllocError>
-    ensures { IfOk result (λ c. app_of c ≡ with_subcommand (app_of program.entry) (two_values (codes "run") (codes "PLAN") (codes "SCHEDULE")).top) }
-{
-    with(
-        program,
-        two_values(
-            alloc,
-            "run",
-            "Shows what happens on the bus of the plan by the schedule",
-            "PLAN",
-            "The name of a plan file",
-            "SCHEDULE",
-            "The name of a schedule file",
-        ),
-    )
-}
-
-fn with_read<'a>(alloc: Global, program: Command<'a>) -> Result<Command<'a>, AllocError>
-    ensures { IfOk result (λ c. app_of c ≡ with_subcommand (app_of program.entry) (two_values (codes "read") (codes "PLAN") (codes "LOG")).top) }
-{
-    with(
-        program,
-        two_values(
-            alloc,
-            "read",
-            "Shows what the log says of the plan's groups",
-            "PLAN",
-            "The name of a plan file",
-            "LOG",
-            "The name of a file as candump -L writes it. If the last line counts bad lines, words behind the data, as R or T, \
-            are the usual cause: sed -E 's/ [RT]\\r?$//' LOG takes them away",
-        ),
-    )
-}
-
-fn with_follow<'a>(alloc: Global, program: Command<'a>) -> Result<Command<'a>, AllocError>
-    ensures { IfOk result (λ c. app_of c ≡ with_subcommand (app_of program.entry) (two_values (codes "follow") (codes "PLAN") (codes "LOG")).top) }
-{
-    with(
-        program,
-        two_values(
-            alloc,
-            "follow",
-            "Shows who sent what in the log, by the claims of the log itself",
-            "PLAN",
-            "The name of a plan file",
-            "LOG",
-            "The name of a file as candump -L writes it, of one interface, with R or T behind the data or without",
-        ),
-    )
-}
-
-// The commands that read a plan alone.
-fn with_plans<'a>(alloc: Global, program: Command<'a>) -> Result<Command<'a>, AllocError>
-    ensures { IfOk result (λ c. app_of c ≡ with_subcommand (with_subcommand (with_subcommand (app_of program.entry)
-        (one_value (codes "check") (codes "PLAN")).top) (one_value (codes "addresses") (codes "PLAN")).top)
-        (one_value (codes "load") (codes "PLAN")).top) }
-{
-    with_load(alloc, with_addresses(alloc, with_check(alloc, program)?)?)
-}
-
-// Those that read a plan and another file.
-fn with_files<'a>(alloc: Global, program: Command<'a>) -> Result<Command<'a>, AllocError>
-    ensures { IfOk result (λ c. app_of c ≡ with_subcommand (with_subcommand (with_subcommand (app_of program.entry)
-        (two_values (codes "run") (codes "PLAN") (codes "SCHEDULE")).top) (two_values (codes "read") (codes "PLAN") (codes "LOG")).top)
-        (two_values (codes "follow") (codes "PLAN") (codes "LOG")).top) }
-{
-    with_follow(alloc, with_read(alloc, with_run(alloc, program)?)?)
 }
 
 /// The commands.
-#[tactic(auto, unfolding(crate::specs::Commands::commands))]
 pub(super) fn commands<'a>(alloc: Global) -> Result<Command<'a>, AllocError>
     ensures { IfOk result (λ c. app_of c ≡ commands) }
 {
-    let lines = with_frame(alloc, program(alloc)?)?;
-    with_files(alloc, with_plans(alloc, lines)?)
+    let no_commands = program(alloc);
+    let frames = with_one(
+        no_commands,
+        alloc,
+        "frame",
+        "Shows what the frame line LINE says",
+        "LINE",
+        "A line of a CAN log; its last word is the frame, as 18EEFF00#0100800C00000010",
+    );
+    let checks = with_one(
+        frames,
+        alloc,
+        "check",
+        "Shows what is wrong with the plan of the file PLAN",
+        "PLAN",
+        "The name of a plan file. tools/where.py, installed as j39plan-where, shows the line of the file before each answer",
+    );
+    let addresses = with_one(
+        checks,
+        alloc,
+        "addresses",
+        "Shows which units of the plan keep their planned addresses, whatever happens",
+        "PLAN",
+        "The name of a plan file",
+    );
+    let loads = with_one(
+        addresses,
+        alloc,
+        "load",
+        "Shows within which time the frames of each flow of the plan are on the bus, and how full it is",
+        "PLAN",
+        "The name of a plan file with the table timing and a period of each flow. A time counts from when the frame is ready \
+        in its controller, and holds where no frame is damaged or lost; messages of one flow are queued at least its period \
+        apart, and a long one ends before the next; each controller offers its queued frame of the smallest identifier \
+        first; no claim and no request is under way, and no unit changes its address while a frame of it waits; and other \
+        frames have priority 6 or 7 and 8 bytes at most, and at most as many as unplanned says go before one that waits",
+    );
+    let runs = with_two(
+        loads,
+        alloc,
+        "run",
+        "Shows what happens on the bus of the plan by the schedule",
+        "PLAN",
+        "The name of a plan file",
+        "SCHEDULE",
+        "The name of a schedule file",
+    );
+    let reads = with_two(
+        runs,
+        alloc,
+        "read",
+        "Shows what the log says of the plan's groups",
+        "PLAN",
+        "The name of a plan file",
+        "LOG",
+        "The name of a file as candump -L writes it. If the last line counts bad lines, words behind the data, as R or T, \
+        are the usual cause: sed -E 's/ [RT]\\r?$//' LOG takes them away",
+    );
+    with_two(
+        reads,
+        alloc,
+        "follow",
+        "Shows who sent what in the log, by the claims of the log itself",
+        "PLAN",
+        "The name of a plan file",
+        "LOG",
+        "The name of a file as candump -L writes it, of one interface, with R or T behind the data or without",
+    )
 }
