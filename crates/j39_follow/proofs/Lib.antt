@@ -19,5 +19,4 @@ pub mod Splitting
 pub mod Tables
 pub mod Tallied
 pub mod Times
-pub mod Untouched
 pub mod Ways

@@ -1,12 +1,12 @@
 //! Who stands behind each address.
-ghost use Rattle.std.specs.Prelude.{◌≡◌, ◌≢◌, ◌<◌, [], ◌∷◌, ◌++◌, ℕ, List, Some, false, IfSome};
+ghost use Rattle.std.specs.Prelude.{◌≡◌, [], ◌∷◌, ◌++◌, List, IfSome};
 ghost use Rattle.j39_id.specs.declared.frame.Frame.{Frame as AFrame};
 ghost use Rattle.j39_findings.specs.declared.plan.Plan.{Plan as APlan};
 ghost use Rattle.j39_follow.specs.Who.{IsWho, who_text};
-ghost use Rattle.j39_follow.specs.inside.Recounting.{ArePartiesOf, HasNames, HasNameAt, IsUntouched, Knows, PrefersElsewhere, Recounts, StandsStill, is_touched, party_at};
+ghost use Rattle.j39_follow.specs.inside.Recounting.{ArePartiesOf, HasNames, Knows, Recounts, party_at};
 
-use crate::holders::{Holders, cannot_claim, carried_name, claims_address};
-use crate::naming::{names_of, renamed};
+use crate::holders::Holders;
+use crate::naming::names_of;
 use crate::who::{Who, who_at};
 use j39_findings::Plan;
 use j39_id::Frame;
@@ -34,88 +34,6 @@ fn parties_of(plan: &Plan, holders: &Holders) -> [Who; ADDRESSES]
         parties[address] = who_at(plan, holders, address as u8);
     }
     parties
-}
-
-// Marks an address as one behind which another may stand.
-fn touch(touched: &mut [bool; ADDRESSES], address: u8)
-    ensures { (a : ℕ) → is_touched touched.new a ≡ false → (is_touched touched.old a ≡ false) × (a ≢ address) }
-{
-    touched[usize::from(address)] = true;
-}
-
-// Marks the address that the NAME holds.
-fn touch_held(touched: &mut [bool; ADDRESSES], holders: &Holders, name: u64)
-    ensures { (plan : APlan) (frames : List AFrame) → Recounts plan holders.now frames → (a : ℕ) → is_touched touched.new a ≡ false
-        → (is_touched touched.old a ≡ false) × (¬ HasNameAt holders.now a name) }
-{
-    if let Some(held) = holders.address(name) {
-        touch(touched, held);
-    }
-}
-
-// Marks the address that is claimed.
-fn touch_claimed(touched: &mut [bool; ADDRESSES], place: Option<u8>)
-    ensures { (a : ℕ) → is_touched touched.new a ≡ false → (is_touched touched.old a ≡ false) × (place ≢ Some a) }
-{
-    if let Some(claimed) = place {
-        touch(touched, claimed);
-    }
-}
-
-// Marks the addresses that the units of the NAME prefer.
-fn touch_preferred(touched: &mut [bool; ADDRESSES], plan: &Plan, name: u64)
-    ensures { (a : ℕ) → is_touched touched.new a ≡ false → (is_touched touched.old a ≡ false) × PrefersElsewhere plan.now name a }
-{
-    for place in 0..plan.units.len() {
-        let unit = &plan.units[place];
-        if unit.name.to_bits() == name {
-            touch(touched, unit.address.number());
-        }
-    }
-}
-
-// The addresses behind which another may stand once the NAME is told to stand at this place, or at none.
-fn touched(plan: &Plan, holders: &Holders, name: u64, place: Option<u8>) -> [bool; ADDRESSES]
-    ensures { (frames : List AFrame) → Recounts plan.now holders.now frames → (a : ℕ) → is_touched result a ≡ false
-        → IsUntouched plan.now holders.now name place a }
-{
-    let mut touched = [false; ADDRESSES];
-    touch_held(&mut touched, holders, name);
-    touch_claimed(&mut touched, place);
-    touch_preferred(&mut touched, plan, name);
-    touched
-}
-
-// The addresses behind which another may stand once the frame was sent.
-fn touched_by(plan: &Plan, holders: &Holders, frame: &Frame) -> [bool; ADDRESSES]
-    ensures { (frames : List AFrame) → Recounts plan.now holders.now frames
-        → StandsStill plan.now frames (frames ++ frame.now ∷ []) result }
-{
-    if claims_address(frame) {
-        return touched(plan, holders, carried_name(frame), Some(frame.ident.sa));
-    }
-    if cannot_claim(frame) {
-        return touched(plan, holders, carried_name(frame), None);
-    }
-    [false; ADDRESSES]
-}
-
-// Looks again who stands behind the touched addresses.
-fn look_again(
-    parties: &mut [Who; ADDRESSES],
-    plan: &Plan,
-    holders: &Holders,
-    touched: &[bool; ADDRESSES],
-)
-    ensures parties { (before after : List AFrame) → Recounts plan.now holders.now after → ArePartiesOf plan.now before parties.old
-        → StandsStill plan.now before after touched.now → ArePartiesOf plan.now after parties.new }
-    ensures others { (a : ℕ) → is_touched touched.now a ≡ false → party_at parties.new a ≡ party_at parties.old a }
-{
-    for address in 0..ADDRESSES {
-        if touched[address] {
-            parties[address] = who_at(plan, holders, address as u8);
-        }
-    }
 }
 
 // The texts of who stands behind each address, if there is memory for them.
@@ -189,10 +107,8 @@ impl Directory {
     pub fn hear(&mut self, plan: &Plan, frame: &Frame)
         ensures { (frames : List AFrame) → Knows plan.now self.old frames → Knows plan.now self.new (frames ++ frame.now ∷ []) }
     {
-        let touched = touched_by(plan, &self.holders, frame);
         self.holders.hear(plan, frame);
-        look_again(&mut self.parties, plan, &self.holders, &touched);
-        let names = self.names.take();
-        self.names = renamed(self.alloc, plan, &self.parties, &touched, names);
+        self.parties = parties_of(plan, &self.holders);
+        self.names = kept_names(self.alloc, plan, &self.parties);
     }
 }

@@ -83,25 +83,3 @@ pub record Knows (plan : Plan) (directory : Directory) (frames : List Frame) : T
   pub recounts : Recounts plan directory.holders frames
   pub parties : ArePartiesOf plan frames directory.parties
   pub names : HasNames plan directory.parties directory.names
-
--- ---- a frame after which most addresses have whom they had
-
--- another may stand behind the address
-abbrev pub is_touched : List Bool → ℕ → Bool
-is_touched touched address = slice_index_or touched address false
-
--- no unit of the NAME prefers the address
-abbrev pub PrefersElsewhere : Plan → ℕ → ℕ → Type 0
-PrefersElsewhere plan name address = (u : ℕ) (unit : UnitPlan) → slice_get plan.units.items u ≡ Some unit → unit.name ≡ name
-    → unit.address ≢ address
-
--- the NAME neither held the address nor is told to stand there, and no unit of it prefers it
-pub record IsUntouched (plan : Plan) (holders : Holders) (name : ℕ) (place : Option ℕ) (address : ℕ) : Type 0 where
-  pub held : ¬ HasNameAt holders address name
-  pub claimed : place ≢ Some address
-  pub preferred : PrefersElsewhere plan name address
-
--- who stood behind an address after the first frames stands there after the second, where the address wasn't touched
-abbrev pub StandsStill : Plan → List Frame → List Frame → List Bool → Type 0
-StandsStill plan before after touched = (address : ℕ) (who : Who) → is_touched touched address ≡ false
-    → IsWho plan before address who → IsWho plan after address who
