@@ -4,3 +4,4 @@ pub mod Schedule
 pub mod Streams
 pub mod Waits
 pub mod Traffic
+pub mod Ages

@@ -2,6 +2,7 @@
 ghost use Rattle.std.specs.Prelude.{◌≡◌, ℕ, Bool, true, ◌+◌, ◌<◌, ◌≤◌};
 ghost use Rattle.j39_timing.specs.Schedule.{Schedule, IsLegal};
 ghost use Rattle.j39_timing.specs.Streams.{Origins};
+ghost use Rattle.j39_timing.specs.Ages.{KeepsComing, IsFresh};
 ghost use Rattle.j39_timing.specs.Traffic.{Traffic, Others, IsPlannedTraffic, IsSingle, HasRoom, IsStreamInTime};
 
 /// Of planned frames among all that are on a bus, whose identifiers may change from one to the next: in every legal schedule of such
@@ -12,6 +13,14 @@ pub fn planned_frames_are_in_time()
         → (i wait : ℕ) → IsPlannedTraffic s traffic others longest planned of i
         → ((j : ℕ) → j < traffic.count → 0 < (traffic.stream j).period) → IsSingle (traffic.stream i) → HasRoom traffic others longest i wait
         → wait + (traffic.stream i).bits ≤ (traffic.stream i).period → IsStreamInTime s planned of i (traffic.stream i).bits wait }
+{}
+
+/// Who needs a stream's newest value has one that is never older than the longest pause of its frames and their delay together, from
+/// the first one's delay on.
+pub fn ages_are_bounded()
+    ensures fresh { (s : Schedule) (planned : ℕ → Bool) (of : Origins) (i bits wait pause from to : ℕ) → IsStreamInTime s planned of i bits wait
+        → KeepsComing s planned of i pause from to → to + wait < s.now
+        → IsFresh s planned of i (pause + (wait + bits)) (from + (wait + bits)) (to + (wait + bits)) }
 {}
 
 /// The premises can be met, and the bound is the best there is: there is a legal schedule of planned traffic in which a

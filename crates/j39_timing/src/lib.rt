@@ -9,6 +9,6 @@ mod stream;
 mod waiting;
 
 pub use frame_length::frame_bits;
-pub use laws::{a_bound_is_reached, planned_frames_are_in_time};
+pub use laws::{a_bound_is_reached, ages_are_bounded, planned_frames_are_in_time};
 pub use stream::Stream;
 pub use waiting::least_wait;

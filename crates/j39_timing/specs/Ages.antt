@@ -1,0 +1,14 @@
+-- How old the newest of a stream's frames is that has ended.
+use Rattle.std.specs.Prelude.{◌≡◌, ℕ, ◌+◌, ◌<◌, ◌≤◌, Bool, true}
+use Rattle.j39_timing.specs.Schedule.{Schedule}
+use Rattle.j39_timing.specs.Streams.{Origins}
+
+-- from one bit to another, a frame of the stream has been queued less than `pause` bits ago
+abbrev pub KeepsComing : Schedule → (ℕ → Bool) → Origins → ℕ → ℕ → ℕ → ℕ → Type 0
+KeepsComing s planned of i pause from to = (t : ℕ) → from ≤ t → t ≤ to
+    → (p : ℕ) × (p < s.count) × (planned p ≡ true) × (of.source p ≡ i) × (s.queued p ≤ t) × (t < s.queued p + pause)
+
+-- from one bit to another, a frame of the stream has ended that was queued less than `age` bits ago
+abbrev pub IsFresh : Schedule → (ℕ → Bool) → Origins → ℕ → ℕ → ℕ → ℕ → Type 0
+IsFresh s planned of i age from to = (t : ℕ) → from ≤ t → t ≤ to
+    → (p : ℕ) × (p < s.count) × (planned p ≡ true) × (of.source p ≡ i) × (s.start p + s.bits p ≤ t) × (t < s.queued p + age)
