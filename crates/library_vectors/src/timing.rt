@@ -1,7 +1,7 @@
 //! Lengths of frames, and waits that were counted by hand: eight-byte frames at 250,000 bits a second, where 10 ms are 2,500 bits.
 use j39_timing::{
-    Stream, a_bound_is_reached, a_wait_with_room_is_a_bound, frame_bits, frames_are_in_time,
-    frames_beside_streams_are_in_time, least_wait,
+    Stream, a_bound_is_reached, ages_are_bounded, frame_bits, least_wait,
+    planned_frames_are_in_time,
 };
 use std::test::Fail;
 
@@ -36,9 +36,8 @@ fn a_frame_has_eighty_bits_and_ten_for_each_byte(rt: HostRuntime) {
 
 #[test]
 fn a_frame_waits_for_the_one_on_the_bus_and_for_each_flow_before_it(rt: HostRuntime) {
-    frames_are_in_time();
-    frames_beside_streams_are_in_time();
-    a_wait_with_room_is_a_bound();
+    planned_frames_are_in_time();
+    ages_are_bounded();
     a_bound_is_reached();
     // 1,280, 1,920 and 2,560 us, each with the 160 bits of the frame itself
     assert_eq!(rt; least_wait(160, &[], MOST), Some(160));
