@@ -23,9 +23,10 @@ class Edits(unittest.TestCase):
         edits = glob.glob(f"{TOP}/crates/*/must-fail/*.edit")
         self.assertGreater(len(edits), 100)
         for edit in edits:
-            text = text_of(edit)
-            crate, file = os.path.dirname(os.path.dirname(edit)), re.search(r"^file: (.*)", text, re.MULTILINE)[1]
-            self.assertEqual(unknown(text, text_of(os.path.join(crate, file))), [], edit)
+            text, crate = text_of(edit), os.path.dirname(os.path.dirname(edit))
+            files = re.findall(r"^file: (.*)", text, re.MULTILINE)
+            self.assertTrue(files, edit)
+            self.assertEqual(unknown(text, "\n".join(text_of(os.path.join(crate, file)) for file in files)), [], edit)
 
     def test_a_name_that_a_file_lacks_is_found(self):
         code = "ensures { IsQuiet w.claims }  // as in the first world, all.off"
