@@ -18,10 +18,7 @@ import signal
 import subprocess
 import sys
 import tempfile
-import threading
 import time
-from concurrent.futures import FIRST_COMPLETED, ThreadPoolExecutor, wait
-from typing import Callable
 
 sys.dont_write_bytecode = True
 import crates
@@ -47,39 +44,30 @@ def clock(start: float) -> str:
     return f"{passed // 60}:{passed % 60:02}"
 
 
-def free_memory() -> int | None:
-    """Returns how many bytes of memory are free, if the system tells it."""
+def jobs_of_memory() -> int:
+    """Returns for how many processors there is memory, or many where the system doesn't tell."""
     with open("/proc/meminfo", encoding="ascii") as lines:
         free = re.search(r"MemAvailable:\s+(\d+)", lines.read())
-    return 1024 * int(free[1]) if free else None
+    return 1024 * int(free[1]) // JOB_BYTES if free else 1000
 
 
-def processors() -> int:
-    """Returns how many processors there is memory for, at least one."""
-    found, free = len(os.sched_getaffinity(0)), free_memory()
-    return found if free is None else max(min(found, free // JOB_BYTES), 1)
+def read_kit() -> subprocess.Popen | None:
+    """Reads the toolchain's libraries that the program stands on once from end to end, where there is memory to keep them: a check
+    reads them here and there, which takes minutes where they lie on a disk that wasn't read yet."""
+    doc = subprocess.run(["rt", "doc"], stdin=subprocess.DEVNULL, capture_output=True, text=True, check=False).stdout.strip()
+    names = dict.fromkeys(["core", "std", *(it for name in crates.needed(PROGRAM) for it in crates.kit_libraries(name))])
+    folders = [it for it in (f"{os.path.dirname(doc)}/rlibs/{name}.rlib" for name in names) if os.path.isdir(it)]
+    if not folders or jobs_of_memory() < 4:
+        return None
+    words = ["nice", "-n", "19", "find", *folders, "-type", "f", "-exec", "cat", "{}", "+"]
+    return subprocess.Popen(words, stdin=subprocess.DEVNULL, stdout=subprocess.DEVNULL, stderr=subprocess.DEVNULL, preexec_fn=os.setpgrp)
 
 
-def kit_folders() -> list[str]:
-    """Returns the folders of the toolchain's libraries that the program stands on, in the order in which they are needed."""
-    said = subprocess.run(["rt", "doc"], stdin=subprocess.DEVNULL, stdout=subprocess.PIPE, stderr=subprocess.DEVNULL, text=True, check=False)
-    top = f"{os.path.dirname(said.stdout.strip())}/rlibs"
-    names = ["core", "std"] + [it for name in crates.needed(PROGRAM) for it in crates.kit_libraries(name)]
-    return [it for it in (f"{top}/{name}.rlib" for name in dict.fromkeys(names)) if os.path.isdir(it)]
-
-
-def read_kit(stopped: threading.Event) -> None:
-    """Reads the toolchain's libraries once from end to end while there is memory to keep them: a check reads them here and there,
-    which takes minutes where they lie on a disk that wasn't read yet."""
-    for folder in kit_folders():
-        for at, _, names in os.walk(folder):
-            for name in names:
-                free = free_memory()
-                if stopped.is_set() or free is not None and free < 2 * JOB_BYTES:
-                    return
-                with open(f"{at}/{name}", "rb", buffering=0) as file:
-                    while file.read(1 << 20):
-                        pass
+def stop(child: subprocess.Popen) -> None:
+    """Ends a child, with what it has started, if it runs."""
+    if child.poll() is None:
+        os.killpg(child.pid, signal.SIGTERM)
+        child.wait()
 
 
 def is_built() -> bool:
@@ -88,9 +76,7 @@ def is_built() -> bool:
     if not os.access(program, os.X_OK):
         return False
     made = os.path.getmtime(program)
-    files = [f"{crates.TOP}/crates.txt"]
-    for name in crates.needed(PROGRAM):
-        files += crates.sources(name)
+    files = [f"{crates.TOP}/crates.txt", *(it for name in crates.needed(PROGRAM) for it in crates.sources(name))]
     return all(os.path.getmtime(it) <= made for it in files)
 
 
@@ -121,30 +107,35 @@ def link(old, new):
 
 
 class Room:
-    """A copy of a crate and of what it stands on. rt holds all of these folders while it builds the crate, so crates
-    are built side by side only in copies."""
+    """A copy of a crate and of what it stands on, in which the crate is built. rt holds all of these folders while it builds the
+    crate, so crates are built side by side only in copies."""
 
-    def __init__(self, name: str) -> None:
-        self.name = name
+    def __init__(self, name: str, jobs: int) -> None:
+        self.name, self.jobs, self.child = name, jobs, None
         git = f"{crates.TOP}/.git"
         self.top = tempfile.mkdtemp(prefix=ROOM, dir=git if os.path.isdir(git) else None)
         self.folder = f"{self.top}/crates/{name}"
-        copy(name, self.top)
-        if os.path.isdir(f"{crates.folder(name)}/out"):
-            shutil.move(f"{crates.folder(name)}/out", f"{self.folder}/out")
+
+    def start(self, nice: int, log: str) -> None:
+        """Begins to build the crate, over what was kept of it."""
+        copy(self.name, self.top)
+        if os.path.isdir(f"{crates.folder(self.name)}/out"):
+            shutil.move(f"{crates.folder(self.name)}/out", f"{self.folder}/out")
+        words = ["nice", "-n", str(nice), "rt"]
+        words += ["run", "--jobs", str(self.jobs), "--", "--version"] if crates.is_program(self.name) else ["lib", "--jobs", str(self.jobs)]
+        with open(log, "wb") as file:
+            # a group of its own, so that it can be stopped with what it starts; in a session of its own nice would mean little
+            how = {"stdin": subprocess.DEVNULL, "stdout": file, "stderr": file, "preexec_fn": os.setpgrp}
+            self.child = subprocess.Popen(words, cwd=self.folder, **how)
 
     def close(self) -> None:
-        """Gives the crate what was built, and removes the copies."""
+        """Ends the build, gives the crate what was built, and removes the copy."""
+        if self.child:
+            stop(self.child)
         out = f"{crates.folder(self.name)}/out"
         if os.path.isdir(f"{self.folder}/out") and not os.path.isdir(out):
             shutil.move(f"{self.folder}/out", out)
         shutil.rmtree(self.top, ignore_errors=True)
-
-
-def remove_stale_rooms() -> None:
-    """Removes what builds that were killed have left."""
-    for it in glob.glob(f"{crates.TOP}/.git/{ROOM}*"):
-        shutil.rmtree(it, ignore_errors=True)
 
 
 class Build:
@@ -153,58 +144,69 @@ class Build:
     def __init__(self, lanes: int) -> None:
         self.lanes = lanes
         # a check begins and ends on one processor, so some more are started where memory allows
-        self.places = lanes if lanes == 1 else max(lanes, min(3 * lanes, (free_memory() or 0) // JOB_BYTES))
-        self.start = time.monotonic()
-        self.running = {}
-        self.lock = threading.Lock()
-        self.stopped = threading.Event()
+        self.places = lanes if lanes == 1 else max(lanes, min(3 * lanes, jobs_of_memory()))
+        self.start = self.shown = time.monotonic()
+        self.named = crates.below()
+        needed = crates.needed(PROGRAM, self.named)
+        self.total = len(needed)
+        self.behind = crates.behind({it: self.named[it] for it in needed})
+        self.left = sorted(needed, key=self.behind.get, reverse=True)
+        self.running: list[Room] = []
+        self.done: set[str] = set()
         self.logs = tempfile.mkdtemp(prefix="j39plan-logs-")
 
-    def build(self, name: str, jobs: int, nice: int) -> bool:
-        """Builds one crate and returns whether that went well."""
-        room = Room(name)
-        words = ["nice", "-n", str(nice), "rt"]
-        words += ["run", "--jobs", str(jobs), "--", "--version"] if crates.is_program(name) else ["lib", "--jobs", str(jobs)]
-        try:
-            with open(f"{self.logs}/{name}", "wb") as log:
-                # a group of its own, so that it can be stopped with what it starts; in a session of its own nice would mean little
-                how = {"stdin": subprocess.DEVNULL, "stdout": log, "stderr": log, "preexec_fn": os.setpgrp}
-                with self.lock:
-                    if self.stopped.is_set():
-                        return False
-                    child = subprocess.Popen(words, cwd=room.folder, **how)
-                    self.running[name] = child
-                status = child.wait()
-            with self.lock:
-                del self.running[name]
-            return status == 0
-        finally:
-            room.close()
+    def start_more(self) -> None:
+        """Begins each crate of which those below are done, where there is a processor for it. Those with the longest chain of others
+        above them come first; the shorter that chain is than the longest of what isn't built, the lower their priority."""
+        longest = max(self.behind[it] for it in [*self.left, *(room.name for room in self.running)])
+        for name in [it for it in self.left if self.done.issuperset(self.named[it])]:
+            nice = int(20 * (1 - self.behind[name] / longest))
+            most = CRATE_JOBS if nice < NEARLY else OTHER_JOBS
+            jobs = min(most, self.lanes, self.places - sum(room.jobs for room in self.running))
+            if jobs > 0:
+                self.left.remove(name)
+                self.running.append(Room(name, jobs))
+                self.running[-1].start(nice, f"{self.logs}/{name}")
 
-    def stop(self) -> None:
-        """Ends what runs."""
-        with self.lock:
-            self.stopped.set()
-            for child in self.running.values():
-                try:
-                    os.killpg(child.pid, signal.SIGTERM)
-                except ProcessLookupError:
-                    pass
-
-    def show(self, count: Callable[[], int], total: int) -> None:
-        """Says what is being built and for how long, until the build ends: on a terminal in place, else every half minute."""
-        shown = self.start
-        while not self.stopped.wait(1):
-            with self.lock:
-                names = ", ".join(sorted(self.running))
-            text = f"{clock(self.start)} building {names} ({count()} of {total} crates built)"
-            if sys.stderr.isatty():
-                print(f"\r{PROGRAM}: {text}\033[K", end="", file=sys.stderr, flush=True)
-            elif time.monotonic() - shown >= 30:
-                shown = time.monotonic()
-                say(text)
+    def show(self) -> None:
+        """Says what is being built and for how long: on a terminal in place, else every half minute."""
+        names = ", ".join(sorted(room.name for room in self.running))
+        text = f"{clock(self.start)} building {names} ({len(self.done)} of {self.total} crates built)"
         if sys.stderr.isatty():
-            print("\r\033[K", end="", file=sys.stderr, flush=True)
+            print(f"\r{PROGRAM}: {text}\033[K", end="", file=sys.stderr, flush=True)
+        elif time.monotonic() - self.shown >= 30:
+            self.shown = time.monotonic()
+            say(text)
+
+    def build_all(self) -> str | None:
+        """Builds the crates that are left, until one has failed, and returns its name."""
+        while self.left or self.running:
+            self.start_more()
+            time.sleep(0.25)
+            self.show()
+            for room in [it for it in self.running if it.child.poll() is not None]:
+                room.close()
+                self.running.remove(room)
+                if room.child.returncode:
+                    return room.name
+                self.done.add(room.name)
+        return None
+
+    def run(self) -> str | None:
+        """Builds all crates, and returns the name of one that has failed, if one has. Nothing runs behind it."""
+        reading = read_kit()
+        try:
+            failed = self.build_all()
+        finally:
+            for room in self.running:
+                room.close()
+            if reading:
+                stop(reading)
+            if sys.stderr.isatty():
+                print("\r\033[K", end="", file=sys.stderr, flush=True)
+        if not failed:
+            shutil.rmtree(self.logs, ignore_errors=True)
+        return failed
 
     def complain(self, name: str) -> None:
         log = f"{self.logs}/{name}"
@@ -213,49 +215,6 @@ class Build:
         told = [it for it in said if re.search(r"error|no proof|^rt:", it)] or said[-20:]
         print("\n".join(told[:40]), file=sys.stderr)
         say(f"building {name} failed; its output is in {log}")
-
-    def run(self) -> bool:
-        """Builds all crates and returns whether that went well."""
-        named = crates.below()
-        left = crates.needed(PROGRAM, named)
-        done, failed, total = set(), [], len(left)
-        shower = threading.Thread(target=self.show, args=(lambda: len(done), total))
-        shower.start()
-        threading.Thread(target=read_kit, args=(self.stopped,), daemon=True).start()
-        with ThreadPoolExecutor(total) as pool:
-            try:
-                self.build_all(pool, named, left, done, failed)
-            finally:
-                self.stop()
-        shower.join()
-        if failed:
-            self.complain(failed[0])
-        else:
-            shutil.rmtree(self.logs, ignore_errors=True)
-        return not failed
-
-    def build_all(
-        self, pool: ThreadPoolExecutor, named: dict[str, list[str]], left: list[str], done: set[str], failed: list[str]
-    ) -> None:
-        """Builds the crates that are left, each once those below it are done, until one has failed. Those with the longest chain of
-        others above them come first; the shorter that chain is than the longest of what isn't built, the lower their priority."""
-        behind, running = crates.behind({it: named[it] for it in left}), {}
-        left.sort(key=behind.get, reverse=True)
-        while (left or running) and not failed:
-            longest = max(behind[it] for it in [*left, *(name for name, _ in running.values())])
-            for name in [it for it in left if done.issuperset(named[it])]:
-                nice = int(20 * (1 - behind[name] / longest))
-                most = CRATE_JOBS if nice < NEARLY else OTHER_JOBS
-                jobs = min(most, self.lanes, self.places - sum(jobs for _, jobs in running.values()))
-                if jobs > 0:
-                    left.remove(name)
-                    running[pool.submit(self.build, name, jobs, nice)] = name, jobs
-            for it in wait(running, return_when=FIRST_COMPLETED).done:
-                name = running.pop(it)[0]
-                if it.result():
-                    done.add(name)
-                else:
-                    failed.append(name)
 
 
 def main(words: list[str]) -> int:
@@ -269,24 +228,25 @@ def main(words: list[str]) -> int:
         except BlockingIOError:
             say("another run is building the program; waiting for it")
             fcntl.flock(lock, fcntl.LOCK_EX)
-        remove_stale_rooms()
-        if is_built():
-            os.utime(f"{crates.folder(PROGRAM)}/out/{PROGRAM}")
-            return 0
-        lanes = int(words[0]) if words else processors()
-        say(f"the program is built first, with its proofs ({NEEDS}); {lanes} processors are used")
-        build = Build(lanes)
-        for number in (signal.SIGTERM, signal.SIGHUP):
-            signal.signal(number, lambda *_: sys.exit(FAILED))
-        try:
-            if not build.run():
+        # what builds that were killed have left
+        for it in glob.glob(f"{crates.TOP}/.git/{ROOM}*"):
+            shutil.rmtree(it, ignore_errors=True)
+        if not is_built():
+            lanes = int(words[0]) if words else max(min(len(os.sched_getaffinity(0)), jobs_of_memory()), 1)
+            say(f"the program is built first, with its proofs ({NEEDS}); {lanes} processors are used")
+            build = Build(lanes)
+            for number in (signal.SIGTERM, signal.SIGHUP):
+                signal.signal(number, lambda *_: sys.exit(FAILED))
+            try:
+                failed = build.run()
+            except (KeyboardInterrupt, SystemExit):
+                say("the build was stopped")
                 return FAILED
-        except (KeyboardInterrupt, SystemExit):
-            build.stop()
-            say("the build was stopped")
-            return FAILED
+            if failed:
+                build.complain(failed)
+                return FAILED
+            say(f"built in {clock(build.start)}")
         os.utime(f"{crates.folder(PROGRAM)}/out/{PROGRAM}")
-        say(f"built in {clock(build.start)}")
     return 0
 
 
