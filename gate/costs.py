@@ -1,13 +1,15 @@
 #!/usr/bin/env python3
-"""Tells what a crate costs to prove, by function and lemma: it is checked from nothing, with one job, in a copy, over what ./j39plan
-has built below it. What counts is processor time, which other work on the machine lengthens less than time by the clock.
+"""Tells what the functions and lemmas of a crate cost to prove. The crate is checked from nothing, with one job, in a copy, over what
+./j39plan has built below it. What counts is processor time, which other work on the machine lengthens less than time by the clock.
 
-usage: costs.py CRATE [COUNT]    proves the library, or builds the program; the dearest COUNT functions and lemmas, else 20
-       costs.py --test CRATE     proves the crate with its tests, and runs them
-       costs.py --edits CRATE    tries its edits that must fail, and tells what each of them takes
+usage: costs.py CRATE [COUNT]           proves the library, or builds the program; shows the dearest COUNT, else 20
+       costs.py --test CRATE [COUNT]    the same of the crate with its tests, which are run
+       costs.py --edits CRATE           tries its edits that must fail; shows each
+       costs.py --kept CRATE [COUNT]    checks nothing: shows how much was written of each function when the crate was last checked
 
-The checker writes a file for each module as it has checked it, and with one job it checks them one after another: so what its
-processes took between two files is what the later one's module takes. The compiler's work ahead of the first module is a line of its own.
+The checker writes a file for each module once it has checked it, and with one job it checks one after another: so what its processes
+took between two files is what the module of the later one takes. A function has several modules: `Lts` follows its borrows and moves step
+by step, `Proof` and `Answers` prove its goals, `Tie` and `Code` tie it to what is compiled. Nothing else may check in the copy.
 """
 
 from __future__ import annotations
@@ -29,13 +31,17 @@ import times
 
 LOOK_SECONDS = 0.05
 COUNT = 20
-# A module of a crate, by its file: the library that it is of (definitions or proofs), and its path.
-FILE = re.compile(r"Rattle-(\w+)-(specs|proofs)\.(.+?)(?:\.decls)?\.oantt")
+KEPT = "out/incremental"
+# A module of a crate, by its file: its path below the crate's definitions or proofs.
+FILE = re.compile(r"Rattle-\w+-(?:specs|proofs)\.(?:contracts\.)?(.+?)(?:\.decls)?\.oantt")
 LABEL = re.compile(r"must-fail \w+/(.*)\.edit: ")
+MODES = {"--test": ["rt", "test", "--jobs", "1"], "library": ["rt", "lib", "--jobs", "1"], "program": ["rt", "run", "--jobs", "1", "--", "--version"]}
+
+Costs = list[tuple[str, float]]
 
 
 class Clock:
-    """Looks at what runs below a command: how much processor time its checks had taken, and when."""
+    """Looks at the checks below a command: how much processor time they had taken, and when."""
 
     def __init__(self, parent: int) -> None:
         self.watch = times.Watch(parent)
@@ -50,14 +56,14 @@ class Clock:
     def seconds(self, moment: float) -> float:
         """Returns the processor time that was taken by then."""
         place = bisect_left(self.at, moment)
-        if place in (0, len(self.at)):
-            return self.taken[place and -1] if self.at else 0.0
+        if place == 0 or place == len(self.at):
+            return self.taken[-1] if place else 0.0
         part = (moment - self.at[place - 1]) / (self.at[place] - self.at[place - 1])
         return self.taken[place - 1] + part * (self.taken[place] - self.taken[place - 1])
 
 
 def clocked(words: list[str], folder: str) -> tuple[int, list[tuple[float, str]], Clock]:
-    """Runs a command, and returns its status, what it said and when, and its clock."""
+    """Runs a command, and returns its status, the lines that it said and when, and its clock."""
     how = {"stdin": subprocess.DEVNULL, "stdout": subprocess.PIPE, "stderr": subprocess.STDOUT}
     started = subprocess.Popen(words, cwd=folder, text=True, errors="replace", **how)
     clock, ended = Clock(started.pid), threading.Event()
@@ -75,40 +81,49 @@ def clocked(words: list[str], folder: str) -> tuple[int, list[tuple[float, str]]
     return status, said, clock
 
 
-def modules(folder: str, clock: Clock) -> tuple[float, list[tuple[str, float]]]:
-    """Returns the seconds ahead of the first module, and each module with its seconds."""
-    written = []
-    for at, _, names in os.walk(f"{folder}/out/incremental"):
-        written += [(os.stat(f"{at}/{it}").st_mtime, it) for it in names if it.endswith(".oantt")]
-    written.sort()
-    before = ahead = clock.seconds(written[0][0]) if written else 0.0
+def written(folder: str) -> list[tuple[float, int, str]]:
+    """Returns each file that the checker has written of a crate, in the order of their times: the time, the size and the name."""
     found = []
-    for moment, name in written:
-        taken = clock.seconds(moment)
-        found.append((name, taken - before))
-        before = taken
-    return ahead, found
+    for at, _, names in os.walk(f"{folder}/{KEPT}"):
+        for it in filter(FILE.fullmatch, names):
+            stat = os.stat(f"{at}/{it}")
+            found.append((stat.st_mtime, stat.st_size, it))
+    return sorted(found)
 
 
-def owners(found: list[tuple[str, float]]) -> dict[str, dict[str, float]]:
-    """Returns the seconds of each function by part, and those of each other module: a function is what has code."""
-    paths = [(match[3], seconds) for match, seconds in ((FILE.fullmatch(name), seconds) for name, seconds in found) if match]
-    functions = {path[: -len(".Code")] for path, _ in paths if path.endswith(".Code")}
-    taken: dict[str, dict[str, float]] = defaultdict(lambda: defaultdict(float))
-    for path, seconds in paths:
-        parts = path.removeprefix("contracts.").split(".")
-        heads = [".".join(parts[:end]) for end in range(len(parts), 0, -1)]
-        owner = next((it for it in heads if it in functions), path)
-        rest = parts[owner.count(".") + 1 :] if owner in functions else ["module"]
-        taken[owner][rest[0] if rest else "contract"] += seconds
-    return taken
+def by_owner(costs: Costs) -> dict[str, dict[str, float]]:
+    """Returns what each function costs, by its modules, and what each other module costs. A function is what has code."""
+    paths = [(FILE.fullmatch(name)[1], cost) for name, cost in costs]
+    functions = {path.removesuffix(".Code") for path, _ in paths if path.endswith(".Code")}
+    found: dict[str, dict[str, float]] = defaultdict(lambda: defaultdict(float))
+    for path, cost in paths:
+        parts = path.split(".")
+        owner = next((it for it in (".".join(parts[:end]) for end in range(len(parts), 0, -1)) if it in functions), path)
+        behind = path[len(owner) + 1 :].split(".")[0]
+        found[owner][behind or "Contract"] += cost
+    return found
+
+
+def show(costs: Costs, unit: str, count: int) -> None:
+    """Writes a line for each of the dearest functions and lemmas, and one for the others."""
+    rows = sorted(((sum(parts.values()), owner, parts) for owner, parts in by_owner(costs).items()), reverse=True)
+    for cost, owner, parts in rows[:count]:
+        dearest = sorted(parts.items(), key=lambda it: -it[1])[:3]
+        print(f"{cost:7.1f} {unit}  {owner}: " + ", ".join(f"{part} {of_part:.1f}" for part, of_part in dearest))
+    print(f"{sum(cost for cost, _, _ in rows[count:]):7.1f} {unit}  {len(rows[count:])} others")
+
+
+def of_kept(name: str, count: int) -> int:
+    """Shows how much was written of each function of a crate."""
+    show([(it, size / 1e6) for _, size, it in written(crates.folder(name))], "MB", count)
+    return 0
 
 
 def of_functions(name: str, words: list[str], count: int) -> int:
-    """Proves a crate, and tells what it takes."""
+    """Proves a crate, and shows what that takes."""
     lacking = [it for it in crates.needed(name) if it != name and not os.path.isdir(f"{crates.folder(it)}/out/rlib")]
     if lacking:
-        print(f"first build what {name} stands on, by ./j39plan or rt lib: {', '.join(lacking)}", file=sys.stderr)
+        print(f"what {name} stands on is to be built first, by ./j39plan or rt lib: {', '.join(lacking)}", file=sys.stderr)
         return 2
     with tempfile.TemporaryDirectory(prefix="j39plan-costs-") as top:
         build.copy(name, top)
@@ -117,43 +132,37 @@ def of_functions(name: str, words: list[str], count: int) -> int:
         if status:
             print("\n".join(line for _, line in said[-20:]), file=sys.stderr)
             return status
-        ahead, found = modules(folder, clock)
-    whole, checked = clock.taken[-1], sum(seconds for _, seconds in found)
-    print(f"{name}: {whole:.0f} s of processor time: {ahead:.0f} ahead of the first module, {checked:.0f} of modules, {whole - ahead - checked:.0f} behind them")
-    rows = sorted(((sum(parts.values()), owner, parts) for owner, parts in owners(found).items()), reverse=True)
-    for seconds, owner, parts in rows[:count]:
-        dearest = sorted(parts.items(), key=lambda it: -it[1])[:3]
-        print(f"{seconds:7.1f} s  {owner}: " + ", ".join(f"{part} {taken:.1f}" for part, taken in dearest))
-    rest = sum(seconds for seconds, _, _ in rows[count:])
-    print(f"{rest:7.1f} s  {len(rows) - len(rows[:count])} others")
+        taken = [(clock.seconds(moment), it) for moment, _, it in written(folder)]
+    ahead, last, whole = taken[0][0], taken[-1][0], clock.taken[-1]
+    print(f"{name}: {whole:.0f} s of processor time, {ahead:.0f} of them ahead of the first module and {whole - last:.0f} behind the last")
+    show([(it, now - before) for (before, _), (now, it) in zip([(ahead, ""), *taken], taken)], "s", count)
     return 0
 
 
 def of_edits(name: str) -> int:
-    """Tries the edits of a crate, and tells what each takes; the first one has the check from nothing too."""
+    """Tries the edits of a crate, and shows what each takes; the first one has the check from nothing too."""
     status, said, clock = clocked(["rt", "must-fail", name], crates.TOP)
     before = 0.0
     for moment, line in said:
         if LABEL.search(line):
-            taken = clock.seconds(moment)
-            print(f"{taken - before:7.1f} s  {line}")
-            before = taken
-    print(f"{name}: {clock.taken[-1]:.0f} s of processor time for its edits")
+            print(f"{clock.seconds(moment) - before:7.1f} s  {line}")
+            before = clock.seconds(moment)
+    print(f"{name}: {clock.taken[-1]:.0f} s of processor time")
     return status
 
 
 def main(words: list[str]) -> int:
-    flags, names = [it for it in words if it.startswith("--")], [it for it in words if not it.startswith("--")]
-    if not names or names[0] not in crates.below() or set(flags) - {"--test", "--edits"}:
+    mode = words[0] if words and words[0] in ("--test", "--edits", "--kept") else ""
+    names = words[1:] if mode else words
+    if not names or names[0] not in crates.below():
         print(__doc__, file=sys.stderr)
         return 2
     name, count = names[0], int(names[1]) if names[1:] else COUNT
-    if "--edits" in flags:
+    if mode == "--edits":
         return of_edits(name)
-    if "--test" in flags:
-        return of_functions(name, ["rt", "test", "--jobs", "1"], count)
-    is_program = crates.is_program(name)
-    return of_functions(name, ["rt", "run", "--jobs", "1", "--", "--version"] if is_program else ["rt", "lib", "--jobs", "1"], count)
+    if mode == "--kept":
+        return of_kept(name, count)
+    return of_functions(name, MODES[mode or ("program" if crates.is_program(name) else "library")], count)
 
 
 if __name__ == "__main__":
