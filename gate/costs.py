@@ -100,7 +100,7 @@ def by_owner(costs: Costs) -> dict[str, dict[str, float]]:
         parts = path.split(".")
         owner = next((it for it in (".".join(parts[:end]) for end in range(len(parts), 0, -1)) if it in functions), path)
         behind = path[len(owner) + 1 :].split(".")[0]
-        found[owner][behind or "Contract"] += cost
+        found[owner][behind or ("Contract" if owner in functions else "module")] += cost
     return found
 
 
