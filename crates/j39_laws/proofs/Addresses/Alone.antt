@@ -1,5 +1,5 @@
 -- A unit that is alone at its planned address: it holds it, and no other unit does.
-use Rattle.std.proofs.Common.{◌≡◌, ◌≢◌, ℕ, ◌<◌, inl, inr, arith, true, false, length, sym, ap, ◌∙◌, Some}
+use Rattle.std.proofs.Common.{◌≡◌, ◌≢◌, ℕ, ◌<◌, inl, inr, arith, true, false, length, sym, ap, ◌∙◌, subst, Some}
 use Rattle.std.proofs.lemmas.Bool.{true≢false, cases_Bool}
 use Rattle.std.specs.FinSet.{contains}
 use Rattle.j39_id.specs.Name.{is_arbitrary}
@@ -10,13 +10,16 @@ use Rattle.j39_world.specs.PlannedUnits.{units_of, unit_at}
 use Rattle.j39_world.specs.SoundPlan.{Always}
 use Rattle.j39_world.specs.Staying.{EachOther, HoldsAlone, HoldsPlanned, IsAloneThere, IsFirstThere, Stays}
 use Rattle.j39_world.specs.World.{World}
-use Rattle.j39_laws.proofs.Addresses.CleanUnits.{clean_units}
+use Rattle.j39_laws.proofs.Addresses.CleanUnits.{clean_units, unkept}
 use Rattle.j39_laws.proofs.Addresses.SoundAddresses.{addresses_sound, kept_free}
 use Rattle.j39_laws.proofs.Addresses.Staying.{stay, stand}
 
 module _ (plan : Plan) (clean : Clean plan) (u : ℕ) (alone : IsAloneThere plan.keep_free (units_of plan) u) where
   another : (v : ℕ) → (unit_at (units_of plan) v).name < (unit_at (units_of plan) u).name → u ≢ v
-  another v smaller same = let below : (unit_at (units_of plan) u).name < (unit_at (units_of plan) u).name = rw same smaller in omega arith
+  another v smaller same =
+      let below : (unit_at (units_of plan) v).name < (unit_at (units_of plan) v).name =
+          subst (λ k. (unit_at (units_of plan) v).name < (unit_at (units_of plan) k).name) same smaller in
+      omega arith
 
   first : IsFirstThere (units_of plan) u
   first v in_v smaller = alone.planned v in_v (another v smaller)
@@ -25,8 +28,8 @@ module _ (plan : Plan) (clean : Clean plan) (u : ℕ) (alone : IsAloneThere plan
   fixed : contains plan.keep_free (unit_at (units_of plan) u).preferred ≡ true → is_arbitrary (unit_at (units_of plan) u).name ≡ false
   fixed kept = elim (cases_Bool (is_arbitrary (unit_at (units_of plan) u).name)) [
     | inl arbitrary ↦
-        let c = clean_units plan clean in
-        let free = ap (λ k. contains k (unit_at (units_of plan) u).preferred) (sym (c.kept u alone.inside)) ∙ c.unkept u alone.inside arbitrary in
+        let free : contains plan.keep_free (unit_at (units_of plan) u).preferred ≡ false =
+            unkept plan clean u alone.inside arbitrary in
         absurd (true≢false (sym kept ∙ free))
     | inr is_fixed ↦ is_fixed
   ]
