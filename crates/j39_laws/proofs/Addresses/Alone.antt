@@ -18,7 +18,7 @@ module _ (plan : Plan) (clean : Clean plan) (u : ℕ) (alone : IsAloneThere plan
   another : (v : ℕ) → (unit_at (units_of plan) v).name < (unit_at (units_of plan) u).name → u ≢ v
   another v smaller same =
       let below : (unit_at (units_of plan) v).name < (unit_at (units_of plan) v).name =
-          subst (λ k. (unit_at (units_of plan) v).name < (unit_at (units_of plan) k).name) same smaller in
+      subst (λ k. (unit_at (units_of plan) v).name < (unit_at (units_of plan) k).name) same smaller in
       omega arith
 
   first : IsFirstThere (units_of plan) u
@@ -29,7 +29,7 @@ module _ (plan : Plan) (clean : Clean plan) (u : ℕ) (alone : IsAloneThere plan
   fixed kept = elim (cases_Bool (is_arbitrary (unit_at (units_of plan) u).name)) [
     | inl arbitrary ↦
         let free : contains plan.keep_free (unit_at (units_of plan) u).preferred ≡ false =
-            unkept plan clean u alone.inside arbitrary in
+        unkept plan clean u alone.inside arbitrary in
         absurd (true≢false (sym kept ∙ free))
     | inr is_fixed ↦ is_fixed
   ]
