@@ -8,3 +8,4 @@ pub mod AddressSteps
 pub mod SoundAddresses
 pub mod Staying
 pub mod PlannedApart
+pub mod Alone

@@ -17,7 +17,7 @@ use Rattle.j39_world.specs.Ending.{TransfersEnd}
 use Rattle.j39_world.specs.Arriving.{ArrivesUnanswered, ArrivesAnswered}
 use Rattle.j39_world.specs.Sound.{AreAddressesSound, AreAddressesDifferent, AreNotesRight, AreKeptFree, IsQuiet, AreReportsSound, IsAcknowledgedReported}
 use Rattle.j39_world.specs.SoundPlan.{IsSound}
-use Rattle.j39_world.specs.Staying.{ArePlannedApart, HoldsPlanned}
+use Rattle.j39_world.specs.Staying.{ArePlannedApart, HoldsAlone, HoldsPlanned, IsAloneThere}
 use Rattle.j39_laws.proofs.Addresses.CleanUnits.{clean_units}
 
 none_in : (x : Item) → ¬ Contains [] x
@@ -34,6 +34,8 @@ pub sound_by_laws : (plan : Plan) → Clean plan
     → ((p : Plan) (steps : List Step) (w : World) → Clean p → Run p all_off steps w → AreAddressesSound p w)
     → ((p : Plan) (steps : List Step) (w : World) → Clean p → Run p all_off steps w → IsQuiet w.claims → AreAddressesDifferent w)
     → ((p : Plan) (steps : List Step) (w : World) → ArePlannedApart (units_of p) → Run p all_off steps w → (u : ℕ) → HoldsPlanned (units_of p) w u)
+    → ((p : Plan) (steps : List Step) (w : World) → Clean p → Run p all_off steps w
+    → (u : ℕ) → IsAloneThere p.keep_free (units_of p) u → HoldsAlone (units_of p) w u)
     → ((p : Plan) (steps : List Step) (w : World) → AreNamesDistinct (units_of p) → Run p all_off steps w → IsQuiet w.claims → AreNotesRight p w)
     → ((p : Plan) (steps : List Step) (w : World) → Clean p → Run p all_off steps w → AreKeptFree p w)
     → ((p : Plan) (steps : List Step) (w : World) → AreNamesDistinct (units_of p) → Run p all_off steps w → Settles p w)
@@ -44,11 +46,12 @@ pub sound_by_laws : (plan : Plan) → Clean plan
     → ((p : Plan) (steps : List Step) (w : World) → Run p all_off steps w → ArrivesUnanswered p w)
     → ((p : Plan) (steps : List Step) (w : World) → Run p all_off steps w → ArrivesAnswered p w)
     → IsSound plan
-sound_by_laws plan clean addresses different planned notes kept settles signals reports acknowledged ends arrives arrives_answered = record {
+sound_by_laws plan clean addresses different planned alone notes kept settles signals reports acknowledged ends arrives arrives_answered = record {
   addresses = λ steps w run. addresses plan steps w clean run;
   quiet = λ steps w run. different plan steps w clean run;
   sending = λ steps w run (u, o, is). different plan steps w clean run (quiet_where_empty w.claims ((reports plan steps w run).delivered u o is));
   planned = λ apart steps w run. planned plan steps w apart run;
+  alone = λ steps w run. alone plan steps w clean run;
   notes = λ steps w run. notes plan steps w (clean_units plan clean).names run;
   kept = λ steps w run. kept plan steps w clean run;
   settles = λ steps w run. settles plan steps w (clean_units plan clean).names run;

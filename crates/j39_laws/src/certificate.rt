@@ -2,22 +2,23 @@
 ghost use Rattle.j39_world.specs.SoundPlan.{IsSound};
 
 use crate::laws::{
-    acknowledged_messages_were_reported, addresses_are_sound, answered_messages_arrive,
-    claims_die_down, every_transfer_ends, kept_addresses_stay_free, planned_addresses_stay,
-    quiet_notes_are_right, reports_are_sound, unanswered_messages_arrive,
+    acknowledged_messages_were_reported, addresses_are_sound, alone_units_are_undisturbed,
+    answered_messages_arrive, claims_die_down, every_transfer_ends, kept_addresses_stay_free,
+    planned_addresses_stay, quiet_notes_are_right, reports_are_sound, unanswered_messages_arrive,
 };
 use j39_findings::{CheckedPlan, signals_are_sound};
 
 /// A checked plan is sound: in every world of every run of it, with all lawful choices and whatever is lost, addresses and reports
-/// are sound, planned addresses stay where they differ, units that have heard all know one another's addresses, what it keeps free
-/// stays free, claims die down, messages come to their end, those of which nothing is lost arrive, and its signals read back what they were
-/// last given. It does nothing when it runs; it rests on the laws that it calls.
+/// are sound, planned addresses stay where they differ, a unit that is alone at its own is undisturbed, units that have heard all know
+/// where the others are, what it keeps free stays free, claims die down, messages come to their end, those of which nothing is lost
+/// arrive, and its signals read back what they were last given. It does nothing when it runs; it rests on the laws that it calls.
 pub fn certify(checked: &CheckedPlan)
     ensures sound { IsSound checked.now }
 {
     let _plan = checked.plan();
     addresses_are_sound();
     planned_addresses_stay();
+    alone_units_are_undisturbed();
     quiet_notes_are_right();
     kept_addresses_stay_free();
     claims_die_down();

@@ -21,8 +21,8 @@ mod transfers;
 pub use arrivals::{answered_messages_arrive, unanswered_messages_arrive};
 pub use lengths::flows_have_one_length;
 pub use staying::{
-    planned_addresses_stay, smaller_names_are_undisturbed, units_hold_planned_or_pool_addresses,
-    who_stays,
+    alone_units_are_undisturbed, planned_addresses_stay, smaller_names_are_undisturbed,
+    units_hold_planned_or_pool_addresses, who_stays,
 };
 pub use transfers::{every_transfer_ends, steps_lead_somewhere};
 

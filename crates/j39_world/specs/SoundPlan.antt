@@ -13,7 +13,7 @@ use Rattle.j39_world.specs.Settling.{Settles}
 use Rattle.j39_world.specs.Ending.{TransfersEnd}
 use Rattle.j39_world.specs.Arriving.{ArrivesUnanswered, ArrivesAnswered}
 use Rattle.j39_world.specs.Sound.{AreAddressesSound, AreAddressesDifferent, AreNotesRight, AreKeptFree, IsQuiet, AreReportsSound, IsAcknowledgedReported}
-use Rattle.j39_world.specs.Staying.{ArePlannedApart, HoldsPlanned}
+use Rattle.j39_world.specs.Staying.{ArePlannedApart, HoldsAlone, HoldsPlanned, IsAloneThere}
 
 -- it holds in every world of every run of the plan, with all lawful choices and whatever is lost
 abbrev pub Always : Plan → (World → Type 0) → Type 0
@@ -31,6 +31,8 @@ pub record IsSound (plan : Plan) : Type 0 where
   pub sending : Always plan (λ w. IsSending w → AreAddressesDifferent w)
   -- where no two units are planned with one address, each that is on holds its planned address
   pub planned : ArePlannedApart (units_of plan) → Always plan (λ w. (u : ℕ) → HoldsPlanned (units_of plan) w u)
+  -- a unit that is alone at its planned address holds it while it is on, and no other one that is on does
+  pub alone : Always plan (λ w. (u : ℕ) → IsAloneThere plan.keep_free (units_of plan) u → HoldsAlone (units_of plan) w u)
   -- where no claim is undelivered, what a unit has noted of another that is on is the address that this one holds
   pub notes : Always plan (λ w. IsQuiet w.claims → AreNotesRight plan w)
   -- no arbitrary unit holds an address that is kept free

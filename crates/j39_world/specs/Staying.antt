@@ -1,6 +1,8 @@
 -- Where units stand: which of them hold their planned addresses, whatever the others do (SAE J1939-81, address claim procedures). Units
 -- are named by place.
 use Rattle.std.specs.Prelude.{◌≡◌, ◌≢◌, ℕ, ◌<◌, ◌≤◌, true, false, ◌⊎◌, List, length, Some}
+use Rattle.std.specs.FinSet.{FinSet, contains}
+use Rattle.std.specs.Ordering.{nat_cmp}
 use Rattle.j39_id.specs.Addresses.{in_pool}
 use Rattle.j39_id.specs.Name.{is_arbitrary}
 use Rattle.j39_claim.specs.ClaimRule.{PlannedUnit}
@@ -45,3 +47,22 @@ pub record Stays (units : List PlannedUnit) (u : ℕ) : Type 0 where
 abbrev pub StaysByOthers : List PlannedUnit → ℕ → Type 0
 StaysByOthers units u =
     IsFirstThere units u × (IsOutsidePool units u ⊎ EachSmaller units u (λ v. is_arbitrary (unit_at units v).name ≡ true → Stays units v))
+
+-- ---- who is alone at its address
+
+-- this holds of each other unit
+abbrev pub EachOther : List PlannedUnit → ℕ → (ℕ → Type 0) → Type 0
+EachOther units u Holds = (v : ℕ) → v < length units → u ≢ v → Holds v
+
+-- a unit is alone at its planned address, if no other one is planned there, and none moves there: it is none to which units move, or is
+-- kept free, or each other unit that may choose stays at its own
+pub record IsAloneThere (keep_free : FinSet nat_cmp) (units : List PlannedUnit) (u : ℕ) : Type 0 where
+  pub inside : u < length units
+  pub planned : EachOther units u (λ v. (unit_at units v).preferred ≢ (unit_at units u).preferred)
+  pub unreached : IsOutsidePool units u ⊎ ((contains keep_free (unit_at units u).preferred ≡ true)
+      ⊎ EachOther units u (λ v. is_arbitrary (unit_at units v).name ≡ true → Stays units v))
+
+-- the unit, while it is on, holds its planned address, and no other one that is on does
+pub record HoldsAlone (units : List PlannedUnit) (w : World) (u : ℕ) : Type 0 where
+  pub held : HoldsPlanned units w u
+  pub alone : EachOther units u (λ v. (w.stations v).on ≡ true → (w.stations v).address ≢ Some (unit_at units u).preferred)

@@ -82,6 +82,22 @@ fixed_in_order plan none i j below inside fixed_i fixed_j same =
       );
     })
 
+-- no arbitrary unit prefers an address that is kept free
+pub unkept : (plan : Plan) → Clean plan → (i : ℕ) → i < length (units_of plan) → is_arbitrary (unit_at (units_of plan) i).name ≡ true
+    → contains plan.keep_free (unit_at (units_of plan) i).preferred ≡ false
+unkept plan clean i inside arbitrary =
+    let (p, is, at) = placed plan.keep_free plan.units.items i inside in
+    let free : contains plan.keep_free p.address ≡ false =
+    elim (cases_Bool (contains plan.keep_free p.address)) [
+      | inl kept ↦ absurd (clean (KeptAddress i) (record {
+        value = p;
+        value_is = is;
+        meets = (sym (ap (λ (c : PlannedUnit). is_arbitrary c.name) at) ∙ arbitrary, kept);
+      }))
+      | inr free ↦ free
+    ] in
+    ap (λ (c : PlannedUnit). contains plan.keep_free c.preferred) at ∙ free
+
 pub clean_units : (plan : Plan) → Clean plan → IsClean (units_of plan)
 clean_units plan clean = record {
   range = names_in_range plan;
@@ -111,14 +127,5 @@ clean_units plan clean = record {
       ];
   unkept = λ i inside arbitrary.
       let (p, is, at) = placed plan.keep_free plan.units.items i inside in
-      let free : contains plan.keep_free p.address ≡ false =
-      elim (cases_Bool (contains plan.keep_free p.address)) [
-        | inl kept ↦ absurd (clean (KeptAddress i) (record {
-          value = p;
-          value_is = is;
-          meets = (sym (ap (λ (c : PlannedUnit). is_arbitrary c.name) at) ∙ arbitrary, kept);
-        }))
-        | inr free ↦ free
-      ] in
-      ap (λ (c : PlannedUnit). contains c.kept c.preferred) at ∙ free;
+      ap (λ (c : PlannedUnit). contains c.kept (unit_at (units_of plan) i).preferred) at ∙ unkept plan clean i inside arbitrary;
 }

@@ -3,13 +3,13 @@ ghost use Rattle.std.specs.Prelude.{◌≡◌, ◌<◌, ◌≤◌, ◌⊎◌, �
 ghost use Rattle.j39_id.specs.Addresses.{in_pool};
 ghost use Rattle.j39_id.specs.Name.{is_arbitrary};
 ghost use Rattle.j39_claim.specs.ClaimRule.{PlannedUnit as PlannedUnits};
-ghost use Rattle.j39_findings.specs.Findings.{Holds};
+ghost use Rattle.j39_findings.specs.Findings.{Clean, Holds};
 ghost use Rattle.j39_findings.specs.declared.plan.Plan.{Plan as Plans};
 ghost use Rattle.j39_findings.specs.declared.checking.finding.Finding.TheVariants.{SameFixedAddress};
 ghost use Rattle.j39_findings.specs.declared.steps.Step.{Step as Steps};
 ghost use Rattle.j39_world.specs.PlannedUnits.{units_of, unit_at};
 ghost use Rattle.j39_world.specs.Run.{Run};
-ghost use Rattle.j39_world.specs.Staying.{ArePlannedApart, ArePlannedApartTo, HoldsPlanned, Stays, StaysByOthers};
+ghost use Rattle.j39_world.specs.Staying.{ArePlannedApart, ArePlannedApartTo, HoldsAlone, HoldsPlanned, IsAloneThere, Stays, StaysByOthers};
 ghost use Rattle.j39_world.specs.World.{World, all_off};
 
 /// In every world of every run of each plan, with all lawful choices, a unit that stays holds its planned address while it is on. Whether
@@ -44,4 +44,11 @@ pub fn units_hold_planned_or_pool_addresses()
         → (u a : ℕ) → (w.stations u).on ≡ true → (w.stations u).address ≡ Some a
         → (a ≡ (unit_at (units_of plan) u).preferred)
         ⊎ ((in_pool a ≡ true) × (is_arbitrary (unit_at (units_of plan) u).name ≡ true) × ¬ Stays (units_of plan) u) }
+{}
+
+/// In every world of every run of a plan without findings, with all lawful choices, a unit that is alone at its planned address holds it
+/// while it is on, and no other unit that is on ever holds it.
+pub fn alone_units_are_undisturbed()
+    ensures { (plan : Plans) (steps : List Steps) (w : World) → Clean plan → Run plan all_off steps w
+        → (u : ℕ) → IsAloneThere plan.keep_free (units_of plan) u → HoldsAlone (units_of plan) w u }
 {}
