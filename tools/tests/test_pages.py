@@ -58,7 +58,7 @@ class Shown(InFolder):
         return ended.stdout.replace(self.folder + "/", "/tmp/")
 
     def test_commands_write_what_is_shown(self):
-        for name, least in (("README.md", 12), ("docs/GUIDE.md", 7), ("docs/TOOLS.md", 3)):
+        for name, least in (("README.md", 7), ("docs/GUIDE.md", 17), ("docs/TOOLS.md", 9)):
             commands = [(command, shown) for command, shown in blocks(page(name)) if COMMAND.search(command)]
             self.assertGreaterEqual(len(commands), least)
             for command, shown in commands:
