@@ -59,7 +59,7 @@ class Shown(InFolder):
         return ended.stdout.replace(self.folder + "/", "/tmp/")
 
     def test_commands_write_what_is_shown(self):
-        for name, least in (("README.md", 7), ("docs/PROMISES.md", 3), ("docs/GUIDE.md", 20), ("docs/TOOLS.md", 11)):
+        for name, least in (("README.md", 7), ("docs/PROMISES.md", 3), ("docs/PLAN.md", 1), ("docs/GUIDE.md", 20), ("docs/TOOLS.md", 11)):
             commands = [(command, shown) for command, shown in blocks(page(name)) if COMMAND.search(command)]
             self.assertGreaterEqual(len(commands), least)
             for command, shown in commands:
