@@ -1,5 +1,5 @@
 """What the pages claim: each command that they show writes what is shown, each file that they show is that file, each name of
-docs/PROOFS.md is there, and each link leads somewhere."""
+docs/PROOFS.md is there, each link leads somewhere, and the README stays short."""
 
 import glob
 import importlib.util
@@ -7,6 +7,7 @@ import os
 import re
 import shutil
 import subprocess
+import unittest
 
 import program
 from tests.support import TOP, InFolder, example, text_of
@@ -58,7 +59,7 @@ class Shown(InFolder):
         return ended.stdout.replace(self.folder + "/", "/tmp/")
 
     def test_commands_write_what_is_shown(self):
-        for name, least in (("README.md", 12), ("docs/GUIDE.md", 7), ("docs/TOOLS.md", 3)):
+        for name, least in (("README.md", 7), ("docs/PROMISES.md", 3), ("docs/PLAN.md", 1), ("docs/GUIDE.md", 20), ("docs/TOOLS.md", 11)):
             commands = [(command, shown) for command, shown in blocks(page(name)) if COMMAND.search(command)]
             self.assertGreaterEqual(len(commands), least)
             for command, shown in commands:
@@ -86,6 +87,26 @@ class Shown(InFolder):
             for file, text in shown:
                 whole = text_of(example(file))
                 self.assertTrue(whole == text or (file.endswith(".toml") and whole.endswith(text)), f"{name}: {file}")
+
+
+class Form(unittest.TestCase):
+    def test_the_readme_ends_where_a_newcomer_has_an_answer(self):
+        text = page("README.md")
+        self.assertLessEqual(len(text.splitlines()), 330)
+        self.assertLessEqual(len(text.split()), 3500)
+        self.assertEqual([sentence for sentence in sentences(text) if len(sentence.split()) > 40], [])
+
+    def test_sentences_are_told_apart(self):
+        text = "# One\n\nTwo [a b](c d) `e f`. (Three\nfour.) Five\n- six\n- seven. Eight\n\n    code. Here\n\n| nine. | ten |\n"
+        shown = ["# One", "Two [a b] CODE.", "(Three four.)", "Five", "- six", "- seven.", "Eight", "nine.", "ten"]
+        self.assertEqual(list(sentences(text)), shown)
+
+    def test_prose_is_within_120_columns(self):
+        """But for tables, pictures and code; of the pages that are written by hand from one line to the next."""
+        for name in ("README.md", *(f"docs/{page}.md" for page in ("PROMISES", "GUIDE", "PLAN", "PROOFS", "ARCHITECTURE", "DECISIONS"))):
+            lines = [line for line in without_code(page(name)).splitlines() if not line.startswith(("|", "![", "#"))]
+            self.assertGreaterEqual(len(lines), 60)
+            self.assertEqual([line for line in lines if len(line) > 120], [], name)
 
 
 class Names(InFolder):
@@ -211,6 +232,23 @@ def laws_of(crate):
     handed_out = " ".join(re.findall(r"pub use [^;]+;", text_of(lib))) if os.path.exists(lib) else ""
     empty = re.findall(r"^pub fn (\w+)\([^)]*\)\n(?:    .*\n)*\{\}\n", source_of(crate), re.MULTILINE)
     return [name for name in empty if re.search(rf"\b{name}\b", handed_out)]
+
+
+def without_code(text):
+    """A page without its blocks of code and its pictures."""
+    return re.sub(r"```.*?```|^    .*?$|^!\[.*?$", "", text, flags=re.DOTALL | re.MULTILINE)
+
+
+def sentences(text):
+    """The sentences of a page, each cell of a table, each heading and each item for itself; code is one word, and a link its text."""
+    for block in re.split(r"\n\s*\n", without_code(text)):
+        if block.startswith("|"):
+            parts = [cell for row in block.splitlines() for cell in re.split(r"(?<!\\)\|", row) if cell.strip(" -")]
+        else:
+            parts = re.split(r"\n(?=\s*(?:-|\d+\.) )", block)
+        for part in parts:
+            words = " ".join(re.sub(r"`[^`]*`", "CODE", re.sub(r"\]\([^)]*\)", "]", part)).split())
+            yield from filter(None, re.split(r"(?:(?<=[.!?])|(?<=[.!?]\))) (?=[(A-Z*\[])", words))
 
 
 def anchors(text):

@@ -201,7 +201,7 @@ bytes = 5
         """The bytes of further records aren't free, but for those before them; other signals among them are shown."""
         rows = self.page(example("trouble_codes.toml")).rows
         at = rows.index(["Byte", *(f"bit {bit}" for bit in range(8, 0, -1))])
-        self.assertEqual(rows[at + 2:at + 8], [["2", "free"], *([str(byte), "DTC[1]"] for byte in range(3, 7)), ["7 to 1730", "further records"]])
+        self.assertEqual(rows[at + 2:at + 8], [["2", "free"], *([str(byte), "DTC[1]"] for byte in range(3, 7)), ["7 to 1782", "further records"]])
         rows = self.page(self.write("plan.toml", """version = 3
 [[group]]
 label = "G"

@@ -9,9 +9,10 @@ use crate::laws::{
 use j39_findings::{CheckedPlan, signals_are_sound};
 
 /// A checked plan is sound: in every world of every run of it, with all lawful choices and whatever is lost, addresses and reports
-/// are sound, planned addresses stay where they differ, a unit that is alone at its own is undisturbed, units that have heard all know
-/// where the others are, what it keeps free stays free, claims die down, messages come to their end, those of which nothing is lost
-/// arrive, and its signals read back what they were last given. It does nothing when it runs; it rests on the laws that it calls.
+/// are sound, planned addresses stay where they differ, a unit that is alone at its own is undisturbed, what units have noted of one
+/// another is right where no claim is undelivered, what it keeps free stays free, claims die down, messages come to their end, those of
+/// which nothing is lost arrive, and its signals read back what they were last given. `docs/PROMISES.md` has it in plain words. It does
+/// nothing when it runs; it rests on the laws that it calls.
 pub fn certify(checked: &CheckedPlan)
     ensures sound { IsSound checked.now }
 {

@@ -29,7 +29,8 @@ pub fn delays_are_bounds()
 {}
 
 /// Where each unit holds its planned address, or one of 128 to 247 if it may choose and isn't one that stays, the identifiers of a flow's
-/// frames lie between the least and the greatest one that are told of the flow, and so do those of a long message's packets.
+/// frames in one piece lie between the least and the greatest one that are told of the flow, and so do those of a long message's data
+/// packets.
 pub fn identifiers_lie_between()
     ensures { (plan : Plans) (stays : PlannedUnits → Bool) (held : ℕ → ℕ) → TellsWhoStays plan stays → AreHeldByPlan plan held
         → (flow : PlannedFlows) → AreUnitsPlanned plan flow → (group : PlannedGroups) → LieBetween plan stays held group flow }

@@ -45,11 +45,12 @@ abbrev pub others_queued : Schedule → (ℕ → Bool) → ℕ → ℕ → ℕ �
 others_queued s planned c from to = total s.count (λ p. cond (is_other_queued s planned c from to p) 1 0)
 
 -- the planned frames of a schedule are those of the streams, and what else is in it keeps within what is foreseen of others while frames of
--- stream i wait
+-- stream i wait: `to_greatest`, `own_identifier` and `few_others` are asked of frames of stream i alone, all else of all frames
 pub record IsPlannedTraffic (s : Schedule) (traffic : Traffic) (others : Others) (longest : ℕ) (planned : ℕ → Bool) (of : Origins) (i : ℕ) : Type 0 where
   -- no frame is longer
   pub longest_at_most : (p : ℕ) → p < s.count → s.bits p ≤ longest
-  -- a planned frame is one of a stream, as long as its frames at most, and has its turn in a message
+  -- a planned frame is one of a stream, as long as its frames at most, and has its turn in a message: no message has more frames than the
+  -- stream says
   pub known : (p : ℕ) → p < s.count → planned p ≡ true → of.source p < traffic.count
   pub bits_at_most : (p : ℕ) → p < s.count → planned p ≡ true → s.bits p ≤ (traffic.stream (of.source p)).bits
   pub turns : (p : ℕ) → p < s.count → planned p ≡ true → of.turn p < (traffic.stream (of.source p)).frames
@@ -61,7 +62,7 @@ pub record IsPlannedTraffic (s : Schedule) (traffic : Traffic) (others : Others)
   pub spaced : (p q : ℕ) → p < s.count → q < s.count → p ≢ q → planned p ≡ true → planned q ≡ true → of.source p ≡ of.source q
       → of.turn p ≡ of.turn q
       → (of.since p + (traffic.stream (of.source p)).period ≤ of.since q) ⊎ (of.since q + (traffic.stream (of.source p)).period ≤ of.since p)
-  -- its identifier is one of the stream's
+  -- its identifier is one of the stream's: none is below the least, and of stream i none above the greatest
   pub from_least : (p : ℕ) → p < s.count → planned p ≡ true → traffic.least (of.source p) ≤ s.ident p
   pub to_greatest : (p : ℕ) → p < s.count → planned p ≡ true → of.source p ≡ i → s.ident p ≤ traffic.greatest i
   -- while a frame of this stream is queued, nothing that is queued too has its identifier but frames of the stream

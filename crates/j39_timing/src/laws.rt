@@ -5,9 +5,11 @@ ghost use Rattle.j39_timing.specs.Streams.{Origins};
 ghost use Rattle.j39_timing.specs.Ages.{KeepsComing, IsFresh};
 ghost use Rattle.j39_timing.specs.Traffic.{Traffic, Others, IsPlannedTraffic, IsSingle, HasRoom, IsStreamInTime};
 
-/// Of planned frames among all that are on a bus, whose identifiers may change from one to the next: in every legal schedule of such
-/// traffic, where a wait has room for the frame that has begun, for others, and for all streams of which a frame may go before,
-/// each frame of a stream of single frames begins within it.
+/// Of planned frames among all that are on a bus, whose identifiers may change from one to the next. In every legal schedule whose frames
+/// keep the premises, where a wait has room for the frame that has begun, for others, and for all streams of which a frame may go before,
+/// and is with a frame's length no longer than the stream's period, each frame of a stream of single frames that was queued more than this
+/// wait ago has begun within it. What other frames have the identifier of one that is queued, how great that is, and how many others may go
+/// before, is asked of the frames of this stream alone.
 pub fn planned_frames_are_in_time()
     ensures in_time { (s : Schedule) (traffic : Traffic) (others : Others) (longest : ℕ) (planned : ℕ → Bool) (of : Origins) → IsLegal s
         → (i wait : ℕ) → IsPlannedTraffic s traffic others longest planned of i

@@ -1,5 +1,5 @@
 -- How messages arrive of which nothing is lost (SAE J1939-21, transport protocol functions): one that no receiver answers, to all or of
--- one frame, whatever other messages go beside it, and one of several frames to one unit, which answers it.
+-- one frame, whatever other messages go beside it and whatever is lost of them; and one of several frames to one unit, which answers it.
 use Rattle.std.specs.Prelude.{◌≡◌, ◌≢◌, ℕ, Bool, true, false, ◌⊎◌, List, [], ◌∷◌, ◌++◌, length, Option, None, Some}
 use Rattle.std.specs.List.{All, slice_get}
 use Rattle.j39_tp.specs.declared.sending.outcome.Outcome.{Outcome}
@@ -51,13 +51,13 @@ RunSparing plan u targets w [] new = new ≡ w
 RunSparing plan u targets w (step ∷ steps) new =
     Spares w u targets step × ((mid : World) × Follows plan w step mid × RunSparing plan u targets mid steps new)
 
--- u can't send more, and none of these units can take more of it
+-- u can't send more, and none of these units can take more of u
 pub record IsThrough (plan : Plan) (w : World) (u : ℕ) (targets : List ℕ) : Type 0 where
   pub sent : refusal plan w (Emit u) ≢ None
   pub taken : (v : ℕ) → is_among targets v ≡ true → refusal plan w (Take u v) ≢ None
 
--- a message that is begun here and that no receiver answers has arrived in each world to which steps lead that spare it, once all of it
--- was sent and taken
+-- a message that is begun here and that no receiver answers has arrived in each world to which steps lead that spare it, once its sender
+-- can send no more and its receivers can take no more of its sender
 abbrev pub ArrivesUnanswered : Plan → World → Type 0
 ArrivesUnanswered plan w =
     (f : ℕ) (flow : Flow) (bytes : List ℕ) (steps : List Step) (after : World)
@@ -104,7 +104,7 @@ pub record Answered (plan : Plan) (w : World) : Type 0 where
   pub runs : SparingRun plan flow.sender receiver (begins (count_of plan) w place flow bytes) steps after
   pub through : IsThroughBetween plan after flow.sender receiver
 
--- what v sends, if anything, is no message of this group to u alone
+-- what v sends, if anything, is no message of this group to u alone: one that has ended counts until its rest
 abbrev pub SendsOther : Option Outgoing → ℕ → ℕ → Type 0
 SendsOther None u pgn = Unit {0}
 SendsOther (Some s) u pgn = s.to ≡ tos.One u → s.pgn ≢ pgn
@@ -115,8 +115,9 @@ BeginsOther plan v u pgn (Begin f bytes) =
     (flow : Flow) → slice_get (flows_of plan) f ≡ Some flow → flow.sender ≡ v → flow.to ≡ tos.One u → flow.pgn ≢ pgn
 BeginsOther plan v u pgn _ = Unit {0}
 
--- its receiver sends its sender no message of its group while it is on its way: an Abort names a group and may be of either direction,
--- so one of such a message would end this one
+-- from its beginning on its receiver isn't between the beginning and the rest of a message of its group to its sender alone, not even of
+-- one that has ended: an Abort names a group and may be of either direction, so one of such a message, which may still be under way,
+-- would end this one
 pub record IsAlone (plan : Plan) (w : World) (m : Answered plan w) : Type 0 where
   pub first : SendsOther (w.sessions m.receiver) m.flow.sender m.flow.pgn
   pub since : All (BeginsOther plan m.receiver m.flow.sender m.flow.pgn) m.steps
@@ -128,8 +129,8 @@ HasArrivedAnswered plan w m = HasArrived w m.after m.flow.sender (outgoing (coun
 abbrev pub ArrivesAnswered : Plan → World → Type 0
 ArrivesAnswered plan w = (m : Answered plan w) → IsAlone plan w m → HasArrivedAnswered plan w m
 
--- each such message that can be begun here, while its receiver sends its sender none of its group, can arrive: some run spares it, and
--- all of it is taken
+-- each such message that can be begun here, while its receiver has none of its group for its sender alone between its beginning and its
+-- rest, can arrive: some run spares it, and all of it is taken
 abbrev pub CanArriveAnswered : Plan → World → Type 0
 CanArriveAnswered plan w =
     (f : ℕ) (flow : Flow) (v : ℕ) (bytes : List ℕ)

@@ -1,6 +1,6 @@
--- What a plan without findings has: its addresses, its signals and its reports are sound, planned addresses that differ stay, units
--- that have heard all know one another, what it keeps free stays free, its claims die down, and its messages come to their end; one
--- of which nothing is lost arrives.
+-- What a plan without findings has: its addresses, its signals and its reports are sound, planned addresses that differ stay, what units
+-- have noted of one another is right where no claim is undelivered, what it keeps free stays free, its claims die down, and its messages
+-- come to their end; one of which nothing is lost arrives.
 use Rattle.std.specs.Prelude.{◌≡◌, ℕ, List, Some}
 use Rattle.j39_findings.specs.SoundSignals.{SoundSignals}
 use Rattle.j39_findings.specs.declared.plan.Plan.{Plan}
@@ -49,6 +49,6 @@ pub record IsSound (plan : Plan) : Type 0 where
   pub ends : Always plan (TransfersEnd plan)
   -- a message to all or of one frame of which nothing is lost is reported once by each receiver
   pub arrives : Always plan (ArrivesUnanswered plan)
-  -- one of several frames to one unit of which nothing is lost is reported once and acknowledged, where its receiver sends its sender
-  -- none of its group meanwhile
+  -- one of several frames to one unit of which nothing is lost is reported once and acknowledged, where its receiver has none of its group
+  -- for its sender alone between its beginning and its rest
   pub arrives_answered : Always plan (ArrivesAnswered plan)
