@@ -18,6 +18,9 @@ LINES = [line for line in text_of(LOG).splitlines() if not line.endswith(" R")]
 
 GUIDE = text_of(os.path.join(TOP, "docs", "GUIDE.md"))
 
+# Its sentences, wherever their lines break.
+PROSE = " ".join(GUIDE.split())
+
 
 class ShownLines(InFolder):
     def shown(self, line):
@@ -90,7 +93,7 @@ class NotShown(InFolder):
 
     def test_an_abort_of_either_direction_ends_a_message(self):
         """From 1 to 2 goes a message of 9 bytes. An Abort of its group that 2 sends, or 1, hides it; of another group it doesn't."""
-        self.assertIn("- **A message to one unit during which an Abort of its group went either way between the two.**", GUIDE)
+        self.assertIn("- **A message to one unit during which an Abort of its group went either way between the two.**", PROSE)
         plan, packets = self.GROUP.format(65260, 9), ["1CEC0201#10090002FFECFE00", "1CEB0201#0100112233445566", "1CEB0201#027788FFFFFFFFFF"]
         report = "group G from 1 to 2 bytes 001122334455667788\n"
         for abort, shown in (("1CEC0102#FF01FFFFFFECFE00", ""), ("1CEC0201#FF01FFFFFFECFE00", ""), ("1CEC0102#FF01FFFFFFEBFE00", report)):
@@ -98,7 +101,7 @@ class NotShown(InFolder):
             self.assertEqual(answer, shown + "frames 4 skipped 0 bad 0\n")
 
     def test_proprietary_frames_have_the_planned_layout_whoever_sent_them(self):
-        self.assertIn("Its frames are decoded by the one layout that is planned, whoever sent them", GUIDE)
+        self.assertIn("Its frames are decoded by the one layout that is planned, whoever sent them", PROSE)
         answer = self.read(self.GROUP.format(65300, 1) + self.SIGNAL, "18FF1400#0A", "18FF140B#0B")
         shown = "group G from 0 to all bytes 0A\n  S value 10\ngroup G from 11 to all bytes 0B\n  S value 11\n"
         self.assertEqual(answer, shown + "frames 2 skipped 0 bad 0\n")
