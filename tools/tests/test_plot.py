@@ -11,6 +11,7 @@ import xml.etree.ElementTree as ElementTree
 
 import program
 from curves import Held, Timeline, curves_of
+from logs import Log
 from readings import Choice, Rows
 from reports import Counts, follow, tables_of
 from tests.support import TOOLS, InFolder, example, needs, run
@@ -37,8 +38,8 @@ class Told(WithLog):
         """The curves of a log, and who held which address."""
         tables = tables_of(PLAN)
         timeline = Timeline(tables.units)
-        with open(log, "rb") as file:
-            curves = curves_of(Rows(Choice(tables, names)).of(timeline.passed(follow(PLAN, file, tables, Counts()))))
+        with Log([log]) as file:
+            curves = curves_of(Rows(Choice(tables, names)).of(timeline.passed(follow(PLAN, file, tables, Counts()))), timeline.clock)
         return {(curve.group, curve.signal, curve.sender): curve for curve in curves}, timeline.held()
 
     def test_curves_have_gaps(self):
@@ -55,7 +56,7 @@ class Told(WithLog):
         _, held = self.told(self.log)
         self.assertEqual([part for part in held if part.address in (0, 128, 129)], [
             Held(0, "ENGINE", 100.0, 110.0, True), Held(128, "SPRAYER", 100.0, 105.0, False),
-            Held(128, "0000000012345678", 105.0, 110.0, True), Held(129, "SPRAYER", 105.5, 107.0, True),
+            Held(128, "#0000000012345678", 105.0, 110.0, True), Held(129, "SPRAYER", 105.5, 107.0, True),
         ])
         self.assertEqual([part for part in held if part.address == 3], [Held(3, "TRANSMISSION", 100.0, 110.0, False)])
 
@@ -108,17 +109,17 @@ class Drawn(WithLog):
 
     def test_an_svg_of_addresses(self):
         texts = self.texts(self.drawn("a.svg", "--addresses"))
-        for text in ("address", "129", "SPRAYER", "0000000012345678", "ENGINE"):
+        for text in ("address", "129", "SPRAYER", "#0000000012345678", "ENGINE"):
             self.assertIn(text, texts)
 
     def test_what_the_axis_counts(self):
         """Seconds, and lines in a log without times."""
-        self.assertIn("seconds from the first frame that is drawn", self.texts(self.drawn("a.svg", "SPN110")))
+        self.assertIn("seconds from 100.000000, the log's first time", self.texts(self.drawn("a.svg", "SPN110")))
         bare = self.write("bare.log", "".join(f"{line.split()[-1]}\n" for line in LINES))
         for words in (["SPN110"], ["--addresses"]):
             texts = self.texts(self.drawn("b.svg", *words, log=bare))
-            self.assertIn("lines from the first frame that is drawn", texts)
-            self.assertNotIn("seconds from the first frame that is drawn", texts)
+            self.assertIn("lines of the log", texts)
+            self.assertNotIn("seconds", "".join(texts))
 
     def test_what_is_not_in_the_log(self):
         status, _, said = run("plot.py", PLAN, self.log, "SPN544", "-o", self.path("a.svg"))
@@ -142,7 +143,8 @@ class Drawn(WithLog):
 
     def test_an_empty_log_and_an_empty_plan(self):
         empty = self.write("empty.log", "")
-        self.drawn("a.svg", "--addresses", log=empty)
+        self.assertEqual(run("plot.py", PLAN, empty, "--addresses", "-o", self.path("a.svg")), (0, "", f"plot: {empty} has no frame\n"))
+        self.assertTrue(os.path.exists(self.path("a.svg")))
         self.drawn("b.svg", "--addresses", plan=self.write("plan.toml", "version = 1\n"))
 
     def test_what_cannot_be_read_or_written(self):

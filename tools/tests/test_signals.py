@@ -11,7 +11,7 @@ import sys
 import unittest
 
 import program
-from tests.support import MARKED, NEWER, TOOLS, InFolder, example, run, signal
+from tests.support import MARKED, NEWER, TOOLS, InFolder, example, needs, run, signal
 from tests.test_report import large_plan
 
 PLAN, LOG = example("tractor_and_implement.toml"), example("tractor_and_implement.start.log")
@@ -78,9 +78,9 @@ class Signals(InFolder):
     def test_the_example(self):
         rows = self.rows(PLAN, LOG)
         said = [(row["line"], row["from"], row["group"], row["signal"], row["state"], row["value"], row["unit"]) for row in rows]
-        self.assertIn(("1", "ENGINE", "EEC1", "SPN190", "value", "800", "rpm"), said)
-        self.assertIn(("5", "ENGINE", "CCVS", "SPN70", "absent", "", ""), said)
-        self.assertIn(("17", "ENGINE", "EC1", "SPN544", "value", "900", "Nm"), said)
+        self.assertIn(("1", "ENGINE?", "EEC1", "SPN190", "value", "800", "rpm"), said)
+        self.assertIn(("5", "ENGINE?", "CCVS", "SPN70", "absent", "", ""), said)
+        self.assertIn(("17", "ENGINE?", "EC1", "SPN544", "value", "900", "Nm"), said)
         self.assertEqual([row["detail"] for row in rows if row["state"] == "fault"], ["65024"])
         self.assertEqual({row["time"] for row in rows if row["line"] == "5"}, {"1764230400.050000"})
 
@@ -105,11 +105,17 @@ class Signals(InFolder):
         self.assertGreater(met, 80)
 
     def test_who_sends_is_who_holds_the_address(self):
-        """A unit that moved is called by its label, and an address that nobody planned by its number."""
-        log = self.write("a.log", "18EFFF80#01FFFF\n18EEFF81#0200000000000080\n18EFFF80#01FFFF\n18EF0081#01FFFF\n18EFFF25#01FFFF\n")
-        rows = self.rows(self.write("plan.toml", UNITS + ONE), log)
-        self.assertEqual([(row["line"], row["from"], row["to"]) for row in rows],
-                         [("1", "PUMP", "all"), ("3", "128", "all"), ("4", "PUMP", "ENGINE"), ("5", "37", "all")])
+        """A unit that moved is called by its label, with `?` where only the plan tells who it is; who isn't planned by the NAME, and by the
+        address where nothing is known."""
+        log = self.write("a.log", "18EFFF80#01FFFF\n18EEFF81#0200000000000080\n18EFFF80#01FFFF\n18EF0081#01FFFF\n18EFFF25#01FFFF\n"
+                                  "18EEFF25#0300000000000000\n18EF2581#01FFFF\n")
+        plan = self.write("plan.toml", UNITS + ONE)
+        self.assertEqual([tuple(row[key] for key in ("line", "from", "source", "to", "destination")) for row in self.rows(plan, log)], [
+            ("1", "PUMP?", "128", "all", "255"), ("3", "128", "128", "all", "255"), ("4", "PUMP", "129", "ENGINE?", "0"),
+            ("5", "37", "37", "all", "255"), ("7", "PUMP", "129", "#0000000000000003", "37")])
+        objects = [json.loads(line) for line in run("signals.py", "--json", plan, log)[1].splitlines()]
+        self.assertEqual([(told["from"], told["source"], told["to"], told["destination"]) for told in objects[2::2]],
+                         [("PUMP", 129, "ENGINE?", 0), ("PUMP", 129, "#0000000000000003", 37)])
 
     def test_private_groups_are_told_by_their_flows(self):
         """As `follow` has it: where a unit sends one by a flow."""
@@ -141,6 +147,7 @@ class Signals(InFolder):
         ])
         wide = self.rows(plan, log, "--wide", "T")
         self.assertEqual([row["G.T"] for row in wide], ["Hi", "\\x22\\x5C"])
+        self.assertNotIn("G.T state", wide[0])
         objects = [json.loads(line) for line in run("signals.py", "--json", plan, log, "G.T")[1].splitlines()]
         self.assertEqual([(told["state"], told["detail"]) for told in objects], [("text", "Hi"), ("text", "\\x22\\x5C")])
 
@@ -152,22 +159,46 @@ class Signals(InFolder):
                  "spn 520192 fmi 31 count 1"]
         several = [("7", f"DTC[{place}]", "dtc", code) for place, code in enumerate(codes, 1)]
         self.assertEqual(said, [("1", "DTC[1]", "none", ""), ("2", "DTC[1]", "dtc", codes[1]), *several])
-        wide = [row["DM1.DTC"] for row in self.rows(plan, log, "--wide", "DM1.DTC")]
-        self.assertEqual(wide, ["none", f"dtc {codes[1]}", "; ".join(f"dtc {code}" for code in codes)])
+        wide = [(row["DM1.DTC"], row["DM1.DTC state"]) for row in self.rows(plan, log, "--wide", "DM1.DTC")]
+        self.assertEqual(wide, [("", "none"), (codes[1], ""), ("; ".join(codes), "")])
+
+    def test_codes_in_json(self):
+        """A code is told by its parts, as numbers, and a record by its own."""
+        plan, log = example("trouble_codes.toml"), example("trouble_codes.drive.log")
+        objects = [json.loads(line) for line in run("signals.py", "--json", plan, log, "DTC")[1].splitlines()]
+        self.assertEqual({told["signal"] for told in objects}, {"DTC"})
+        said = [(told["record"], told["state"], told.get("spn"), told.get("fmi"), told.get("count"), told.get("detail")) for told in objects]
+        self.assertEqual(said[:4], [(1, "none", None, None, None, None), (1, "dtc", 110, 0, 3, None), (1, "dtc", 100, 1, 2, None),
+                                    (2, "dtc", 110, 0, 3, None)])
 
     def test_all_forms_say_the_same(self):
         plan = self.write("plan.toml", KINDS)
         log = self.write("a.log", "(1.50) can0 18FEEE00#E12E07FF6E000305\n(2.5) can0 18FEEE80#00FF07800000FFFF\n")
         rows = self.rows(plan, log)
         objects = [json.loads(line) for line in run("signals.py", "--json", plan, log)[1].splitlines()]
-        self.assertEqual([{key: str(text) for key, text in found.items() if key not in ("value", "time")} for found in objects],
-                         [{key: text for key, text in row.items() if text and key not in ("value", "time")} for row in rows])
+        others = ("value", "time", "detail", "spn", "fmi", "raw", "count")
+        self.assertEqual([{key: str(text) for key, text in found.items() if key not in others} for found in objects],
+                         [{key: text for key, text in row.items() if text and key not in others} for row in rows])
         self.assertEqual([float(row["value"]) for row in rows if row["value"]], [found["value"] for found in objects if "value" in found])
         self.assertEqual([found["time"] for found in objects], [1.5] * 4 + [2.5] * 4)
         first, second = csv.DictReader(io.StringIO(run("signals.py", "--wide", plan, log)[1]))
-        self.assertEqual(first, {"time": "1.50", "line": "1", "from": "ENGINE", "to": "all", "group": "G", "G.SPEED [rpm]": "1500.125",
-                                 "G.THIRD [1/3 l]": "7", "G.TURN [deg/s]": "-0.25", "G.CODE": "dtc spn 110 fmi 3 count 5"})
-        self.assertEqual((second["from"], second["G.SPEED [rpm]"]), ("PUMP", "absent"))
+        self.assertEqual(first, {
+            "time": "1.50", "line": "1", "from": "ENGINE?", "source": "0", "to": "all", "destination": "255", "group": "G",
+            "G.SPEED [rpm]": "1500.125", "G.SPEED state": "", "G.THIRD [1/3 l]": "7", "G.THIRD state": "", "G.TURN [deg/s]": "-0.25",
+            "G.TURN state": "", "G.CODE": "spn 110 fmi 3 count 5", "G.CODE state": ""})
+        self.assertEqual((second["from"], second["G.SPEED [rpm]"], second["G.SPEED state"]), ("PUMP?", "", "absent"))
+
+    @needs("pandas", "python3-pandas")
+    def test_pandas_reads_numbers(self):
+        """Each column of values, though it has states in between; and the lines that docs/TOOLS.md shows do what they say."""
+        import pandas
+
+        plan = self.write("plan.toml", KINDS)
+        log = self.write("a.log", "(1.50) can0 18FEEE00#E12E07FF6E000305\n(2.5) can0 18FEEE80#00FF07800000FFFF\n(3.5) can0 18FEEE80#00FE0780FFFFFFFF\n")
+        frame = pandas.read_csv(io.StringIO(run("signals.py", "--wide", plan, log)[1]))
+        self.assertEqual([str(frame[column].dtype) for column in ("time", "source", "destination", "G.SPEED [rpm]", "G.TURN [deg/s]")],
+                         ["float64", "int64", "int64", "float64", "float64"])
+        self.assertEqual(list(frame["G.SPEED state"].fillna("")), ["", "absent", "fault 65024"])
 
     def test_what_is_chosen(self):
         log = LOG
@@ -191,10 +222,11 @@ class Signals(InFolder):
         log = self.write("a.log", "".join(frames))
         rows = self.rows(plan, log, "S1")
         self.assertEqual([(row["line"], row["from"], row["group"], row["value"]) for row in rows],
-                         [(str(number + 1), f"U{number}", f"G{number}", str(number)) for number in range(128)])
+                         [(str(number + 1), f"U{number}?", f"G{number}", str(number)) for number in range(128)])
 
     def test_what_is_passed_over_is_said(self):
-        self.assertEqual(run("signals.py", PLAN, self.write("a.log", "1\n(1.0) can0 x\n"))[2], "signals: 2 lines spell no frame\n")
+        log = self.write("a.log", "1\n(1.0) can0 x\n(1.0) can0 18FEEE00#7DFFFFFFFFFFFFFF\n")
+        self.assertEqual(run("signals.py", PLAN, log)[2], "signals: 2 lines spell no frame\n")
         log = self.write("a.log", "(1.0) can0 18FEEE00#7DFFFFFFFFFFFFFF\n(1.0) can1 18FEEE00#7EFFFFFFFFFFFFFF\n")
         status, answer, said = run("signals.py", PLAN, log, "SPN110")
         self.assertEqual((status, answer.count("\n")), (0, 2))
@@ -215,7 +247,7 @@ class Signals(InFolder):
             for value in ("7D", "7E"):
                 tool.stdin.write(f"(1.0) can0 18FEEE00#{value}FFFFFFFFFFFFFF\n")
                 tool.stdin.flush()
-                self.assertEqual(tool.stdout.readline().split(",")[7], str(int(value, 16) - 40))
+                self.assertEqual(tool.stdout.readline().split(",")[9], str(int(value, 16) - 40))
             tool.stdin.close()
             self.assertEqual(tool.stdout.read(), "")
 
