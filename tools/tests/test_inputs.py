@@ -119,7 +119,9 @@ class OtherFiles(InFolder):
         each line is counted as `follow` counts it, and what is put is whole."""
         for name in self.files:
             what = lines_without_frames(name)
-            for words in (["against.py"], ["signals.py"], ["signals.py", "--json"], ["plot.py", "--addresses", "-o", self.path("a.svg")]):
+            picture = self.path(f"{os.path.basename(name)}.svg")
+            pictures = [["plot.py", "--addresses", "-o", picture]] if name.endswith(("random", "log")) else []
+            for words in (["against.py"], ["signals.py"], *pictures):
                 tool = words[0][:-3]
                 status, answer, said = run(*words, PLAN, name)
                 if what is not None:
@@ -132,7 +134,7 @@ class OtherFiles(InFolder):
                 elif tool == "signals":
                     self.assertEqual((status, said), (0, passed_over(tool, name)), name)
                     self.assertEqual(answer.count("\n") <= 1, not name.endswith("log"))
-            self.assertFalse(what is not None and os.path.exists(self.path("a.svg")))
+            self.assertEqual(os.path.exists(picture), bool(pictures) and what is None)
 
     def test_formats_of_other_programs(self):
         """ASC, TRC, CSV and the lines that candump writes without -L are no log, and the way to one is told."""
