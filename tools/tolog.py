@@ -52,7 +52,7 @@ def messages_of(name: str) -> Iterator["Message"]:
         pass
     try:
         reader = LogReader(name)
-    except (KeyError, ValueError, IndexError, OSError, ImportError, NotImplementedError) as fault:
+    except Exception as fault:  # as below
         raise program.Refused(program.UNREADABLE, f"{name}: {why(name, fault)}") from None
     count = 0
     try:
@@ -62,16 +62,16 @@ def messages_of(name: str) -> Iterator["Message"]:
     except (GeneratorExit, KeyboardInterrupt, BrokenPipeError):
         raise
     except Exception as fault:  # whatever a reader makes of bytes that aren't of its format
-        raise program.Refused(program.UNREADABLE, f"{name}: can't be read behind {count} frames: {fault or type(fault).__name__}") from None
+        raise program.Refused(program.UNREADABLE, f"{name}: can't be read behind {count} frames: {why(name, fault)}") from None
     finally:
         reader.stop()
 
 
 def why(name: str, fault: Exception) -> str:
-    """Why python-can has no reader for a file."""
-    if name.lower().endswith(MEASUREMENTS):
+    """Why python-can can't read a file."""
+    if isinstance(fault, ValueError) and name.lower().endswith(MEASUREMENTS):
         return "python-can reads MF4 from version 4.3 on, with asammdf: pip install 'python-can[mf4]'"
-    return str(fault) or type(fault).__name__
+    return " ".join(str(fault).split()) or type(fault).__name__
 
 
 def lines_of(messages: Iterable["Message"], channels: list[str], written: Counter[str], dropped: Counter[str]) -> Iterator[str]:

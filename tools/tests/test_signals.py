@@ -11,7 +11,12 @@ import sys
 import unittest
 
 import program
-from tests.support import MARKED, NEWER, TOOLS, InFolder, example, needs, run, signal
+from cut_plan import cut
+from cut_plan import shorter as shorter_of
+from plan_tables import Tables
+from readings import Choice
+from reports import tables_of
+from tests.support import MARKED, NEWER, TOOLS, InFolder, example, needs, run, signal, text_of
 from tests.test_report import large_plan
 
 PLAN, LOG = example("tractor_and_implement.toml"), example("tractor_and_implement.start.log")
@@ -209,6 +214,60 @@ class Signals(InFolder):
         said = "signals: no group or signal is called SPN1900; did you mean SPN190?\n"
         self.assertEqual(run("signals.py", PLAN, log, "SPN1900"), (2, "", said))
         self.assertEqual(self.rows(PLAN, log, "VI"), [])
+
+    def test_the_plan_is_cut(self):
+        """`follow` is asked for what is chosen alone; what is told of that is the same, whatever the log carries beside it."""
+        rng, told = random.Random(11), 0
+        for groups in (LONG + OTHER + ONE, ONE + LONG + LONG.replace('"LONG"', '"AGAIN"') + OTHER):
+            plan = self.write("plan.toml", UNITS + groups + '[[flow]]\ngroup = "ONE"\nfrom = "PUMP"\nto = "all"\n')
+            lines = random_log(rng, 150)
+            for claim in ("18EEFF80#0200000000000080", "18EEFF25#0900000000000000", "18EEFF81#0200000000000080"):
+                lines.insert(rng.randrange(len(lines)), f"(1.5) can0 {claim}")
+            log = self.write("a.log", "\n".join(lines) + "\n")
+            whole = self.rows(plan, log)
+            for name in ("LONG", "OTHER", "ONE"):
+                chosen = self.rows(plan, log, name)
+                self.assertEqual(chosen, [row for row in whole if row["group"] == name])
+                told += len(chosen)
+            tables = tables_of(plan)
+            with cut(plan, tables, Choice(tables, ["LONG"])) as (shorter, parts):
+                self.assertEqual([group.label for group in parts.groups], [group.label for group in tables.groups if group.pgn == 65260])
+                self.assertEqual((len(parts.units), len(parts.flows)), (2, 0))
+                self.assertNotIn("ONE", text_of(shorter))
+        self.assertGreater(told, 60)
+
+    def test_plans_that_are_not_cut(self):
+        """One whose groups are no tables with headers, and one in which a code is told with a signal's label: all of it stays."""
+        inline = UNITS + 'group = [{ label = "ET1", pgn = 65262, priority = 6, length = 8 }]\n'
+        for text in (inline.replace("[[unit]]", "", 0), NEWER):
+            plan = self.write("plan.toml", text if text is NEWER else text.replace(UNITS, "version = 3\n"))
+            tables = tables_of(plan)
+            with cut(plan, tables, Choice(tables, [], nothing=True)) as (shorter, parts):
+                self.assertEqual((shorter, parts), (plan, tables))
+        text = text_of(example("trouble_codes.toml"))
+        tables = Tables.of(text.encode())
+        self.assertIsNotNone(shorter_of(text, tables, Choice(tables, ["DTC"])))
+        self.assertIsNone(shorter_of(text + "spn = 110\n", tables, Choice(tables, ["DTC"])))
+
+    def test_signals_of_a_group_are_cut(self):
+        """Those that aren't wanted, but none that is repeated, and no parts of a group's own."""
+        plan = example("tractor_and_implement.toml")
+        tables = tables_of(plan)
+        with cut(plan, tables, Choice(tables, ["EEC1.SPN190"])) as (shorter, parts):
+            self.assertEqual([[signal.label for signal in group.signals] for group in parts.groups], [["SPN190"]])
+            self.assertEqual(program.call(["follow", shorter, LOG])[1].splitlines()[1], "  SPN190 value 6400 1/8 rpm")
+
+    def test_several_logs(self):
+        """One drive: each row has its log and its line there. What is no name of a group or signal is a log where it is a file."""
+        lines = text_of(LOG).splitlines()
+        first, second = self.write("a.log", "\n".join(lines[:9])), self.write("b, 2.log", "\n".join(lines[9:]) + "\n")
+        whole, rows = self.rows(PLAN, LOG, "SPN190", "EC1"), self.rows(PLAN, first, second, "SPN190", "EC1")
+        self.assertEqual([{**row, "line": "", "log": ""} for row in rows], [{**row, "line": "", "log": ""} for row in whole])
+        places = [(first, row["line"]) if int(row["line"]) <= 9 else (second, str(int(row["line"]) - 9)) for row in whole]
+        self.assertEqual([(row["log"], row["line"]) for row in rows], places)
+        objects = [json.loads(line) for line in run("signals.py", "--json", PLAN, first, "EC1", second)[1].splitlines()]
+        self.assertEqual({told["log"] for told in objects}, {second})
+        self.assertEqual(run("signals.py", PLAN, first, self.path("none.log"))[0], 2)
 
     def test_plans_of_every_form(self):
         """Also those whose groups have no signals, and one without groups: there is nothing to tell."""
