@@ -15,7 +15,7 @@ complete -c j39plan -n '__fish_seen_subcommand_from check addresses load run rea
 complete -c j39plan -n '__fish_seen_subcommand_from help' -a 'check addresses load run read follow frame'
 
 # The tools.
-for tool in where startup dbc2plan plan2dbc against report signals plot check-plans
+for tool in where startup dbc2plan plan2dbc against report signals plot tolog check-plans
     complete -c j39plan-$tool -l help -s h -d 'print the help'
     complete -c j39plan-$tool -l version -d 'print the version'
 end
@@ -27,9 +27,14 @@ complete -c j39plan-dbc2plan -l bus -x -d 'which bus of the file'
 complete -c j39plan-dbc2plan -l version -a '2 3' -d 'the version of the plan'
 complete -c j39plan-dbc2plan -l strict -d 'keep signals that lie outside or overlap'
 complete -c j39plan-report -l output -s o -r -F -d 'the name of the HTML file'
-complete -c j39plan-against -l jitter -x -d 'by how much messages may come nearer than their period, in ms'
+complete -c j39plan-against -l jitter -x -d 'by how much messages may come nearer than their period, as 2.5 (ms) or 10%'
+complete -c j39plan-against -l silence -x -d 'after how many periods without a message a flow is silent'
+complete -c j39plan-against -l table -d 'a table of the flows first'
 complete -c j39plan-signals -l csv -d 'a row a signal'
 complete -c j39plan-signals -l json -d 'a JSON object a signal'
-complete -c j39plan-signals -l wide -d 'a row a message, a column a signal'
+complete -c j39plan-signals -l wide -d 'a row a message, two columns a signal'
 complete -c j39plan-plot -l output -s o -r -F -d 'the name of the picture'
 complete -c j39plan-plot -l addresses -d 'draw who held which address when, too'
+complete -c j39plan-plot -l from -x -d 'where the picture begins, in seconds'
+complete -c j39plan-plot -l to -x -d 'where the picture ends, in seconds'
+complete -c j39plan-tolog -l channel -x -d 'only this channel, as can1'
