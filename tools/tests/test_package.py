@@ -18,7 +18,7 @@ from tests.support import TOOLS, TOP, InFolder, text_of
 
 PACKAGE = os.path.join(TOOLS, "package")
 COMMANDS = ["check", "addresses", "load", "run", "read", "follow", "frame", "help"]
-INSTALLED = ["where", "startup", "dbc2plan", "plan2dbc", "against", "report", "signals", "plot", "check-plans"]
+INSTALLED = ["where", "startup", "dbc2plan", "plan2dbc", "join", "compare", "against", "report", "signals", "plot", "check-plans"]
 PAGE = text_of(os.path.join(TOP, "docs", "TOOLS.md"))
 
 # Whose package it is in these tests.

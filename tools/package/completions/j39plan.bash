@@ -38,4 +38,4 @@ _j39plan_tool() {
     _j39plan_files toml "$word"
   fi
 }
-complete -F _j39plan_tool j39plan-where j39plan-startup j39plan-dbc2plan j39plan-plan2dbc j39plan-against j39plan-report j39plan-signals j39plan-plot j39plan-check-plans
+complete -F _j39plan_tool j39plan-where j39plan-startup j39plan-dbc2plan j39plan-plan2dbc j39plan-join j39plan-compare j39plan-against j39plan-report j39plan-signals j39plan-plot j39plan-check-plans

@@ -15,7 +15,7 @@ complete -c j39plan -n '__fish_seen_subcommand_from check addresses load run rea
 complete -c j39plan -n '__fish_seen_subcommand_from help' -a 'check addresses load run read follow frame'
 
 # The tools.
-for tool in where startup dbc2plan plan2dbc against report signals plot check-plans
+for tool in where startup dbc2plan plan2dbc join compare against report signals plot check-plans
     complete -c j39plan-$tool -l help -s h -d 'print the help'
     complete -c j39plan-$tool -l version -d 'print the version'
 end
@@ -26,6 +26,8 @@ complete -c j39plan-dbc2plan -l group -x -d 'only this group, by name or PGN'
 complete -c j39plan-dbc2plan -l bus -x -d 'which bus of the file'
 complete -c j39plan-dbc2plan -l version -a '2 3' -d 'the version of the plan'
 complete -c j39plan-dbc2plan -l strict -d 'keep signals that lie outside or overlap'
+complete -c j39plan-join -l first -d 'write the plan with what the earliest file says'
+complete -c j39plan-compare -l json -d 'as a JSON object'
 complete -c j39plan-report -l output -s o -r -F -d 'the name of the HTML file'
 complete -c j39plan-against -l jitter -x -d 'by how much messages may come nearer than their period, in ms'
 complete -c j39plan-signals -l csv -d 'a row a signal'
