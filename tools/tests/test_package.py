@@ -164,8 +164,8 @@ class Built(InFolder):
         for package in self.packages:
             if package.endswith(".deb"):
                 said = subprocess.run(["lintian", "--allow-root", package], capture_output=True, text=True, check=False).stdout
-                name = os.path.basename(package).partition("_")[0]
-                self.assertEqual([line for line in said.splitlines() if line[:2] in ("E:", "W:")], [f"E: {name}: no-copyright-file"])
+                missed = [] if os.path.basename(package).startswith("python3-") else ["E: j39plan: no-copyright-file"]
+                self.assertEqual([line for line in said.splitlines() if line[:2] in ("E:", "W:")], missed)
 
 
 class Pages(unittest.TestCase):
