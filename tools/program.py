@@ -85,6 +85,15 @@ def copied(name: str) -> Iterator[str]:
         yield copy.name
 
 
+@contextlib.contextmanager
+def file_of(text: str) -> Iterator[str]:
+    """The name of a file that has this text as long as it is needed."""
+    with tempfile.NamedTemporaryFile(suffix=".toml") as file:
+        file.write(text.encode())
+        file.flush()
+        yield file.name
+
+
 class Version(argparse.Action):
     """Prints the tool's name, and the version of the program and thus of all this."""
 

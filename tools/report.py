@@ -2,13 +2,16 @@
 """Writes a plan as one HTML page: units and their NAMEs, groups as maps of their bytes, flows as a matrix, load, and the findings.
 
 The page has no script and loads nothing. It follows the reader's dark or light screen, can be printed, and every table has a caption
-and headers, so that a screen reader finds its way.
+and headers, so that a screen reader finds its way. With --watch it is served on this machine and drawn anew as the plan is saved.
 """
 
+import argparse
 import os
+import re
 import sys
 from collections.abc import Iterator
 
+import page_server
 import program
 import where
 from left_out import plain
@@ -62,15 +65,45 @@ def page_of(plan: str, title: str) -> str:
     return page(title, Tables(told.places), found, stands(addresses), load, program.call(["--version"])[1].strip())
 
 
+def page_of_file(name: str) -> str:
+    """The page of a plan's file, which may be a pipe."""
+    with program.copied(name) as plan:
+        return page_of(plan, plain(os.fsencode(name).decode(errors="replace")))
+
+
+def drawn(name: str) -> str:
+    """The page of a plan's file; of one that can't be read it is said with its line why."""
+    with program.copied(name) as plan:
+        status, answer = program.call(["check", "--", plan])
+        if status == program.UNREADABLE and answer:
+            with open(plan, "rb") as file:
+                raise program.Refused(status, "\n".join(where.annotate(name, file.read(), answer, where.compiler_message)))
+        return page_of(plan, plain(os.fsencode(name).decode(errors="replace")))
+
+
+def port_of(text: str) -> int:
+    """A port."""
+    if not re.fullmatch(r"\d{1,5}", text) or int(text) >= 1 << 16:
+        raise argparse.ArgumentTypeError(f"{text} is no port")
+    return int(text)
+
+
 def main(words: list[str] | None = None) -> int:
     """Writes the page, whatever findings the plan has."""
     parser = program.parser(__doc__)
     parser.epilog = "example: %(prog)s plan.toml -o plan.html"
     parser.add_argument("plan", metavar="PLAN", help="the name of a plan file")
-    parser.add_argument("-o", "--output", metavar="FILE", help="the name of the HTML file; standard output, if none is named")
+    forms = parser.add_mutually_exclusive_group()
+    forms.add_argument("-o", "--output", metavar="FILE", help="the name of the HTML file; standard output, if none is named")
+    forms.add_argument("--watch", action="store_true", help="serve the page, drawn anew as the plan is saved, and print where it is")
+    parser.add_argument("--address", help="at which address of this machine the page is served (127.0.0.1)")
+    parser.add_argument("--port", type=port_of, help="at which port (any that is free)")
     given = parser.parse_args(words)
-    with program.copied(given.plan) as plan:
-        text = page_of(plan, plain(os.fsencode(given.plan).decode(errors="replace")))
+    if given.watch:
+        page_server.serve(given.plan, lambda: drawn(given.plan), given.address or "127.0.0.1", given.port or 0)
+    elif given.address is not None or given.port is not None:
+        parser.error("--address and --port go with --watch")
+    text = page_of_file(given.plan)
     if given.output is None:
         sys.stdout.buffer.write(text.encode())
         return 0

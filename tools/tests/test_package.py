@@ -18,7 +18,8 @@ from tests.support import TOOLS, TOP, InFolder, text_of
 
 PACKAGE = os.path.join(TOOLS, "package")
 COMMANDS = ["check", "addresses", "load", "run", "read", "follow", "frame", "help"]
-INSTALLED = ["where", "startup", "dbc2plan", "plan2dbc", "against", "report", "signals", "plot", "tolog", "check-plans"]
+INSTALLED = ["where", "startup", "dbc2plan", "plan2dbc", "join", "compare", "against", "fleet", "report", "signals", "plot", "tolog",
+             "check-plans"]
 PAGE = text_of(os.path.join(TOP, "docs", "TOOLS.md"))
 
 # Whose package it is in these tests.
@@ -60,6 +61,8 @@ class Built(InFolder):
 
     def test_what_is_installed_works(self):
         for package in self.packages:
+            if os.path.basename(package).startswith("python3-"):
+                continue
             root = self.path("root" + package[-3:])
             os.mkdir(root)
             if package.endswith(".deb"):
@@ -91,6 +94,11 @@ class Built(InFolder):
         self.assertEqual(drawn.returncode, 0 if importlib.util.find_spec("matplotlib") else 69)
         made = subprocess.run(["j39plan-tolog", self.write("a.csv", "")], env=environment, capture_output=True, check=False)
         self.assertEqual(made.returncode, 2 if importlib.util.find_spec("can") else 69)
+        self.assertEqual(lines_of("j39plan-join", f"{examples}/axle.toml", f"{examples}/first_plan.toml", env=environment)[1], "version = 3")
+        self.assertEqual(lines_of("j39plan-compare", f"{examples}/axle.toml", f"{examples}/axle.toml", env=environment), ["changes 0 breaks 0"])
+        followed = f"{examples}/two_units_one_address"
+        self.assertEqual(lines_of("j39plan-fleet", f"{followed}.toml", f"{followed}.drive.log", env=environment)[-1],
+                         "logs 1 with deviations 0 failed 0")
         self.assertIn("load 32160 of 250000", lines_of("j39plan", "load", f"{examples}/axle.toml", env=environment))
         for tool in ("", *(f"-{tool}" for tool in INSTALLED)):
             self.assertTrue(os.path.exists(f"{prefix}/share/man/man1/j39plan{tool}.1.gz"), tool)
@@ -99,6 +107,22 @@ class Built(InFolder):
         self.does_the_jobs_of_the_page(environment)
         self.assertIn("/usr/share/j39plan/tools/plan.schema.json", PAGE)
         self.assertTrue(os.path.exists(f"{prefix}/share/j39plan/tools/plan.schema.json"))
+
+    def test_the_python_module_is_found(self):
+        """Where its package puts it, and where the tarball has it; without the modules of the tools beside it."""
+        root, tar = self.path("root"), self.path("tar")
+        os.mkdir(tar)
+        for package in self.packages:
+            if package.endswith(".deb"):
+                subprocess.run(["dpkg-deb", "-x", package, root], check=True)
+            else:
+                subprocess.run(["tar", "-C", tar, "-xzf", package, "--strip-components=1"], check=True)
+        for folder, prefix in ((f"{root}/usr/lib/python3/dist-packages", f"{root}/usr"), (f"{tar}/share/j39plan/python", tar)):
+            if os.path.isdir(folder):
+                plan = f"{prefix}/share/doc/j39plan/examples/axle.toml"
+                script = f"import j39plan, sys; print(j39plan.read_plan('{plan}').load().taken, 'program' in sys.modules)"
+                self.assertEqual(lines_of("python3", "-c", script, env={"PATH": f"{prefix}/bin:/usr/bin:/bin", "PYTHONPATH": folder}, cwd=self.folder),
+                                 ["(32160, 250000) False"], folder)
 
     def does_the_jobs_of_the_page(self, environment):
         """What docs/TOOLS.md has jobs of CI do, on a plan that has to be mended."""
@@ -140,8 +164,11 @@ class Built(InFolder):
 
     @unittest.skipUnless(shutil.which("lintian"), "lintian isn't there: apt-get install lintian")
     def test_lintian_misses_the_licence_alone(self):
-        said = subprocess.run(["lintian", "--allow-root", self.package(".deb")], capture_output=True, text=True, check=False).stdout
-        self.assertEqual([line for line in said.splitlines() if line[:2] in ("E:", "W:")], ["E: j39plan: no-copyright-file"])
+        for package in self.packages:
+            if package.endswith(".deb"):
+                said = subprocess.run(["lintian", "--allow-root", package], capture_output=True, text=True, check=False).stdout
+                missed = [] if os.path.basename(package).startswith("python3-") else ["E: j39plan: no-copyright-file"]
+                self.assertEqual([line for line in said.splitlines() if line[:2] in ("E:", "W:")], missed)
 
 
 class Pages(unittest.TestCase):
@@ -199,7 +226,8 @@ class Completions(InFolder):
             self.write(name, "")
         for words, name in ((("j39plan", "check"), "a.toml"), (("j39plan", "run", "a.toml"), "a.schedule"),
                             (("j39plan", "read", "a.toml"), "a.log"), (("j39plan-where",), "a.toml"), (("j39plan-startup",), "a.toml"),
-                            (("j39plan-against", "a.toml"), "a.log"), (("j39plan-signals", "a.toml"), "a.log"),
+                            (("j39plan-against", "a.toml"), "a.log"), (("j39plan-fleet", "a.toml", "a.log"), "a.log"), (("j39plan-join", "a.toml"), "a.toml"),
+                            (("j39plan-compare", "a.toml"), "a.toml"), (("j39plan-signals", "a.toml"), "a.log"),
                             (("j39plan-plot", "a.toml"), "a.log"), (("j39plan-dbc2plan",), "a.dbc"),
                             (("j39plan-check-plans", "a.toml"), "a.toml")):
             self.assertEqual(self.complete_bash(*words, "a", cwd=self.folder), [name], words)

@@ -15,7 +15,7 @@ complete -c j39plan -n '__fish_seen_subcommand_from check addresses load run rea
 complete -c j39plan -n '__fish_seen_subcommand_from help' -a 'check addresses load run read follow frame'
 
 # The tools.
-for tool in where startup dbc2plan plan2dbc against report signals plot tolog check-plans
+for tool in where startup dbc2plan plan2dbc join compare against fleet report signals plot tolog check-plans
     complete -c j39plan-$tool -l help -s h -d 'print the help'
     complete -c j39plan-$tool -l version -d 'print the version'
 end
@@ -26,10 +26,20 @@ complete -c j39plan-dbc2plan -l group -x -d 'only this group, by name or PGN'
 complete -c j39plan-dbc2plan -l bus -x -d 'which bus of the file'
 complete -c j39plan-dbc2plan -l version -a '2 3' -d 'the version of the plan'
 complete -c j39plan-dbc2plan -l strict -d 'keep signals that lie outside or overlap'
+complete -c j39plan-join -l first -d 'write the plan with what the earliest file says'
+complete -c j39plan-compare -l json -d 'as a JSON object'
 complete -c j39plan-report -l output -s o -r -F -d 'the name of the HTML file'
+complete -c j39plan-report -l watch -d 'serve the page, drawn anew as the plan is saved'
+complete -c j39plan-report -l address -x -d 'at which address of this machine the page is served'
+complete -c j39plan-report -l port -x -d 'at which port the page is served'
 complete -c j39plan-against -l jitter -x -d 'by how much messages may come nearer than their period, as 2.5 (ms) or 10%'
 complete -c j39plan-against -l silence -x -d 'after how many periods without a message a flow is silent'
 complete -c j39plan-against -l table -d 'a table of the flows first'
+complete -c j39plan-report -l watch -d 'serve the page, drawn anew as the plan is saved'
+complete -c j39plan-report -l address -x -d 'at which address of this machine the page is served'
+complete -c j39plan-report -l port -x -d 'at which port the page is served'
+complete -c j39plan-fleet -l processes -x -d 'how many logs are read at once'
+complete -c j39plan-fleet -l scheduler -x -d 'the scheduler of a Dask cluster'
 complete -c j39plan-signals -l csv -d 'a row a signal'
 complete -c j39plan-signals -l json -d 'a JSON object a signal'
 complete -c j39plan-signals -l wide -d 'a row a message, two columns a signal'

@@ -1,0 +1,111 @@
+#!/usr/bin/python3
+"""Compares many logs with a plan, at once: deviations by log, flow and unit, silences, NAMEs and signals, in one table of the fleet.
+
+Each log is a task for a processor of this machine, or for a worker of a Dask cluster. A log that can't be read is named, and the others
+are done.
+"""
+
+import argparse
+import json
+import os
+import re
+import sys
+from collections.abc import Iterable, Iterator
+
+import program
+from drives import AGAINST, Drive, answered
+from fleet_table import Fleet
+from plan_tables import Tables
+from workers import Task, team
+
+# How wide the bar of progress is.
+WIDTH = 40
+
+SCHEDULER = re.compile(r"(?:\w+://)?\S+:\d+")
+
+
+def processes_of(text: str) -> int:
+    """A number of processes."""
+    if not re.fullmatch(r"[1-9]\d{0,3}", text):
+        raise argparse.ArgumentTypeError(f"{text} is no number of processes")
+    return int(text)
+
+
+def scheduler_of(text: str) -> str:
+    """The address of a scheduler."""
+    if not SCHEDULER.fullmatch(text):
+        raise argparse.ArgumentTypeError(f"{text} is no address of a scheduler, as tcp://192.0.2.1:8786")
+    return text
+
+
+def different(names: list[str]) -> list[str]:
+    """The logs, each once; of the same twice it is said."""
+    found: dict[object, str] = {}
+    for name in names:
+        try:
+            known = os.stat(name)
+            key: object = (known.st_dev, known.st_ino)
+        except OSError:
+            key = os.path.abspath(name)
+        other = found.setdefault(key, name)
+        if other is not name:
+            program.say(f"{name}: the same log as {other}, so it is read once")
+    return list(found.values())
+
+
+def progressing(drives: Iterable[Drive], count: int) -> Iterator[Drive]:
+    """The tables of logs as they come, with a bar of how many are there, on a terminal alone; a log that failed is named at once."""
+    is_shown = sys.stderr.isatty()
+    for number, drive in enumerate(drives, 1):
+        if is_shown:
+            print("\r\033[K", end="", file=sys.stderr)
+        if drive["failed"]:
+            program.say(f"{drive['log']}: {drive['failed']}")
+        if is_shown:
+            done = WIDTH * number // count
+            bar = f"[{'#' * done}{'-' * (WIDTH - done)}] {number}/{count} {drive['log']}"
+            print(bar[:os.get_terminal_size(sys.stderr.fileno()).columns - 1], end="", file=sys.stderr, flush=True)
+        yield drive
+    if is_shown:
+        print("\r\033[K", end="", file=sys.stderr, flush=True)
+
+
+def plan_of(name: str, options: list[str]) -> str:
+    """The text of a plan by which `against` can read logs, with these options; of another one it says why."""
+    with program.copied(name) as plan:
+        status, answer, said = answered([sys.executable, AGAINST, *options, "--", plan, os.devnull])
+        if not answer:
+            raise program.Refused(status, said.strip().rpartition("\n")[2].partition(": ")[2])
+        with open(plan, "rb") as file:
+            return file.read().decode(errors="replace")
+
+
+def main(words: list[str] | None = None) -> int:
+    """Writes the table; 0 where no log has a deviation, 1 where one has, and the status of a log that failed where one did."""
+    parser = program.parser(__doc__)
+    parser.epilog = "example: %(prog)s plan.toml drives/*.log"
+    parser.add_argument("plan", metavar="PLAN", help="the name of a plan file")
+    parser.add_argument("logs", metavar="LOG", nargs="+", help="the name of a file as candump -L writes it")
+    parser.add_argument("--jitter", metavar="TIME", help="by how much messages may come nearer than their flow's period, as of against")
+    parser.add_argument("--json", action="store_true", help="as a JSON object with an array for each table")
+    who = parser.add_mutually_exclusive_group()
+    who.add_argument("--processes", metavar="N", type=processes_of, help="how many logs are read at once (as many as there are processors)")
+    who.add_argument("--scheduler", metavar="ADDRESS", type=scheduler_of, help="the scheduler of a Dask cluster, whose workers read the logs "
+                     "by the same names")
+    given = parser.parse_args(words)
+    options = [] if given.jitter is None else ["--jitter", given.jitter]
+    plan, logs = plan_of(given.plan, options), different(given.logs)
+    tasks: list[Task] = [(plan, log, os.path.abspath(log), options) for log in logs]
+    found = {drive["log"]: drive for drive in progressing(team(given.processes, given.scheduler)(tasks), len(tasks))}
+    fleet = Fleet(Tables.of(plan.encode()), [found[log] for log in logs])
+    if given.json:
+        json.dump(fleet.tables_of(), sys.stdout, indent=1)
+        print()
+    else:
+        for line in fleet.lines():
+            print(line)
+    return max((drive["status"] for drive in fleet.failed), default=int(any(drive["deviations"] for drive in fleet.drives)))
+
+
+if __name__ == "__main__":
+    program.end(main)

@@ -1,0 +1,272 @@
+"""The table of a fleet: each log a task, on this machine's processors and on a Dask cluster; what fails is named, and nothing is lost."""
+
+import contextlib
+import importlib.util
+import json
+import os
+import pty
+import re
+import signal
+import subprocess
+import sys
+import time
+import unittest
+
+import program
+from tests.support import TOOLS, InFolder, example, run, text_of
+
+PLAN, LOG = example("two_units_one_address.toml"), example("two_units_one_address.drive.log")
+
+# A claim by a NAME that no unit of the plan has, behind the drive: its one deviation.
+FOREIGN = "(17.7) can0 18EEFF05#0100000000000080\n"
+
+# So long is waited for what is to come, in seconds: machines may be busy.
+PATIENCE = 120
+
+
+class Fleets(InFolder):
+    def setUp(self):
+        super().setUp()
+        self.early = self.write("early.log", text_of(LOG))
+        self.late = self.write("late.log", text_of(LOG).replace("(10.5", "(17.5") + FOREIGN)
+
+    def fleet(self, *words, plan=PLAN, environment=None):
+        """Status, answer and what is said, without the folder."""
+        ended = subprocess.run([sys.executable, os.path.join(TOOLS, "fleet.py"), *words[:-1], plan, *words[-1]], capture_output=True, text=True,
+                               check=False, timeout=PATIENCE * 3, env={**os.environ, "J39PLAN": os.path.abspath(program.path()), **(environment or {})})
+        return ended.returncode, *(text.replace(self.folder + "/", "") for text in (ended.stdout, ended.stderr))
+
+    def tables(self, *words, **more):
+        """The status, the tables by their names, and what is said."""
+        status, answer, said = self.fleet("--json", *words, **more)
+        return status, json.loads(answer), said
+
+    def deadly(self, log=""):
+        """A program that ends, when it follows a log, who called it: of a log with this name always, else the first time alone."""
+        once = "" if log else f"mkdir {self.path('ended')} 2> /dev/null && "
+        script = self.write("deadly", f"""#!/bin/sh
+case "$*" in
+  follow*{log or 'drive.log'}) {once}kill -9 $PPID ;;
+esac
+exec {os.path.abspath(program.path())} "$@"
+""")
+        os.chmod(script, 0o755)
+        return script
+
+
+class Table(Fleets):
+    def test_text(self):
+        status, answer, said = self.fleet([self.early, self.late])
+        self.assertEqual((status, said), (1, ""))
+        parts = answer.split("\n\n")
+        self.assertEqual([part.splitlines()[0].split()[0] for part in parts],
+                         ["log", "deviation", "flow", "unit", "NAME", "signal", "logs"])
+        self.assertEqual(parts[0].splitlines()[1:], ["early.log       7    0          1           0", "late.log        8    0          1           1"])
+        self.assertEqual(parts[-1], "logs 2 with deviations 1 failed 0\n")
+
+    def test_flows_and_silences(self):
+        """By the times of the log: EEC1 at 10.000 alone, RIGHT's EBC2 at 10.25 and 10.56, in the other log at 17.56."""
+        _, tables, _ = self.tables([self.early, self.late])
+        self.assertEqual([(row["group"], row["from"], row["sent"], row["logs"]) for row in tables["flows"]],
+                         [("EEC1", "ENGINE", 2, 2), ("EBC2", "LEFT", 2, 2), ("EBC2", "RIGHT", 4, 2)])
+        self.assertEqual([(round(row["silence"], 6), row["silence_log"], row["silence_line"]) for row in tables["flows"]],
+                         [(7.7, "late.log", None), (7.55, "late.log", 6), (7.31, "late.log", 7)])
+
+    def test_names(self):
+        """RIGHT claimed 128 and then 129, LEFT 128, each in both logs; and one that isn't planned 5, in one of them."""
+        _, tables, _ = self.tables([self.early, self.late])
+        self.assertEqual([(row["unit"], row["addresses"], row["logs"], row["claims"]) for row in tables["names"]],
+                         [("LEFT", [128], 2, 2), ("RIGHT", [128, 129], 2, 4), (None, [5], 1, 1)])
+        self.assertEqual((tables["names"][-1]["name"], tables["names"][-1]["first"]), ("8000000000000001", "late.log"))
+
+    def test_deviations_are_those_of_against(self):
+        """By log, flow and unit, with how often each was met."""
+        logs = [example(name) for name in ("tractor_and_implement.start.log", "truck.drive.log", "two_units_one_address.drive.log")]
+        plan = example("tractor_and_implement.toml")
+        _, tables, _ = self.tables(logs, plan=plan)
+        for log in logs:
+            *lines, count = run("against.py", plan, log)[1].splitlines()
+            rows = [row for row in tables["deviations"] if row["log"] == log]
+            self.assertEqual(len(rows), int(count.split()[1]), log)
+            for row in rows:
+                self.assertTrue(any(f": {row['text']}" in line for line in lines), row)
+        flows = [row for row in tables["deviations"] if row["text"].startswith("flow 2,")]
+        self.assertTrue(flows)
+        self.assertEqual({(row["flow"], row["unit"]) for row in flows}, {(2, "ENGINE")})
+        units = {row["unit"]: row["deviations"] for row in tables["units"]}
+        self.assertEqual(units["ENGINE"], len({row["text"] for row in tables["deviations"] if row["unit"] == "ENGINE"}))
+
+    def test_signals(self):
+        """Between which values each was, in which log and where: the same as by `signals`."""
+        log = example("tractor_and_implement.start.log")
+        _, tables, _ = self.tables([log], plan=example("tractor_and_implement.toml"))
+        rows = {row["signal"]: row for row in tables["signals"]}
+        self.assertEqual((rows["EEC1.SPN190"]["least"], rows["EEC1.SPN190"]["most"], rows["EEC1.SPN190"]["most_line"]), (800, 800, 1))
+        self.assertEqual(rows["CCVS.SPN84"], {"signal": "CCVS.SPN84", "states": {"fault": 1}, "least": None, "least_log": None, "least_line": None,
+                                              "most": None, "most_log": None, "most_line": None})
+
+    def test_options_of_against(self):
+        plan = self.write("plan.toml", text_of(PLAN).replace("version = 1", "version = 3", 1).replace('to = "all"\n', 'to = "all"\nperiod = 1000\n'))
+        self.assertTrue(any("its period is 1000 ms" in row["text"] for row in self.tables([self.early], plan=plan)[1]["deviations"]))
+        self.assertFalse(any("its period is 1000 ms" in row["text"] for row in self.tables("--jitter", "999", [self.early], plan=plan)[1]["deviations"]
+                             if " behind " in row["text"]))
+        self.assertEqual(self.fleet("--jitter", "x", [self.early], plan=plan)[0], 2)
+
+
+class Tasks(Fleets):
+    def test_how_many_at_once_makes_no_difference(self):
+        logs = [self.write(f"{number}.log", text_of(LOG) * (1 + number % 3) + FOREIGN) for number in range(7)]
+        first = self.fleet("--processes", "1", logs)
+        self.assertEqual(first[0], 1)
+        for words in (["--processes", "3"], []):
+            self.assertEqual(self.fleet(*words, logs), first)
+
+    def test_a_log_that_fails_is_named(self):
+        """One that isn't there, a folder, a pipe and one without a frame; the others are done."""
+        os.mkfifo(self.path("fifo"))
+        none = self.write("drive.asc", "date Mon\nbase hex\n")
+        status, answer, said = self.fleet("--processes", "1", [self.path("no.log"), self.late, self.folder, self.path("fifo"), none])
+        self.assertEqual(status, 4)
+        self.assertEqual(sorted(said.replace(self.folder, "folder").splitlines()), sorted([
+            "fleet: no.log: No such file or directory", "fleet: folder: it is no regular file", "fleet: fifo: it is no regular file",
+            "fleet: drive.asc: none of its lines spells a frame: is it a log of candump -L?"]))
+        self.assertIn("failed drive.asc: none of its lines spells a frame", answer)
+        self.assertTrue(answer.endswith("logs 1 with deviations 1 failed 4\n"))
+        self.assertEqual(self.fleet([self.early, none])[0], 2)
+
+    def test_the_same_twice_is_said(self):
+        os.symlink(self.early, self.path("link.log"))
+        status, tables, said = self.tables([self.early, self.path("link.log"), self.early])
+        self.assertEqual((status, len(tables["logs"])), (0, 1))
+        self.assertEqual(said, "fleet: link.log: the same log as early.log, so it is read once\n"
+                               "fleet: early.log: the same log as early.log, so it is read once\n")
+
+    def test_a_plan_that_is_none(self):
+        self.assertEqual(self.fleet([self.early], plan=self.write("none.toml", "version = 9\n")),
+                         (2, "", "fleet: refused Range top key version\n"))
+        bad = example("findings/f07_signal_outside.toml")
+        self.assertEqual(self.fleet([self.early], plan=bad)[0], 1)
+        missing = self.path("missing.toml")
+        self.assertEqual(self.fleet([self.early], plan=missing), (4, "", "fleet: missing.toml: No such file or directory\n"))
+
+    def test_a_process_that_is_ended_loses_nothing(self):
+        """What it was at is done again; a log on which it is ended each time is named, and the others are done."""
+        logs = [self.write(f"{number}.drive.log", text_of(LOG)) for number in range(4)]
+        expected = self.fleet(logs)
+        script = self.deadly()
+        self.assertEqual(self.fleet("--processes", "2", logs, environment={"J39PLAN": script}), expected)
+        self.assertTrue(os.path.isdir(self.path("ended")))
+        status, tables, said = self.tables("--processes", "2", logs, environment={"J39PLAN": self.deadly("2.drive.log")})
+        self.assertEqual((status, said), (70, "fleet: 2.drive.log: the process that read it was ended, 3 times\n"))
+        self.assertEqual([row["log"] for row in tables["logs"]], ["0.drive.log", "1.drive.log", "3.drive.log"])
+
+    def test_a_bar_on_a_terminal(self):
+        """How many logs are done is shown there alone, and what fails stands on a line of its own."""
+        ours, theirs = pty.openpty()
+        words = [sys.executable, os.path.join(TOOLS, "fleet.py"), PLAN, self.early, self.path("no.log"), self.late]
+        started = subprocess.Popen(words, stdout=subprocess.DEVNULL, stderr=theirs, env={**os.environ, "J39PLAN": os.path.abspath(program.path())})
+        os.close(theirs)
+        shown = b""
+        with contextlib.suppress(OSError):
+            while piece := os.read(ours, 4096):
+                shown += piece
+        os.close(ours)
+        self.assertEqual(started.wait(), 4)
+        self.assertIn(b"1/3", shown)
+        self.assertIn(b"[" + b"#" * 40 + b"] 3/3", shown)
+        self.assertIn(b"\r\x1b[Kfleet: " + self.path("no.log").encode() + b": No such file or directory\r\n", shown)
+        self.assertTrue(shown.endswith(b"\r\x1b[K"))
+
+    def test_an_interrupt_ends_all(self):
+        """Without a word, and no process is left."""
+        script = self.write("slow", f"#!/bin/sh\n[ \"$1\" = follow ] && [ -s \"$4\" ] && sleep 60\nexec {os.path.abspath(program.path())} \"$@\"\n")
+        os.chmod(script, 0o755)
+        words = [sys.executable, os.path.join(TOOLS, "fleet.py"), "--processes", "2", PLAN, self.early, self.late]
+        started = subprocess.Popen(words, stdout=subprocess.PIPE, stderr=subprocess.PIPE, env={**os.environ, "J39PLAN": script}, text=True,
+                                   start_new_session=True, preexec_fn=lambda: signal.signal(signal.SIGINT, signal.SIG_DFL))
+        end = time.monotonic() + PATIENCE
+        while len(self.processes(started.pid)) < 5 and time.monotonic() < end:
+            time.sleep(0.1)
+        os.killpg(started.pid, signal.SIGINT)
+        answer, said = started.communicate(timeout=PATIENCE)
+        self.assertEqual((started.returncode, answer, said), (-signal.SIGINT, "", ""))
+        end = time.monotonic() + 10
+        while self.processes(started.pid) and time.monotonic() < end:
+            time.sleep(0.1)
+        self.assertEqual(self.processes(started.pid), [])
+
+    @staticmethod
+    def processes(session):
+        """The processes of a session that aren't ended."""
+        found = subprocess.run(["ps", "-o", "pid=,stat=", "-s", str(session)], capture_output=True, text=True, check=False).stdout
+        return [line for line in found.splitlines() if " Z" not in line]
+
+
+@unittest.skipUnless(importlib.util.find_spec("distributed"), "distributed isn't there: apt-get install python3-distributed")
+class OnACluster(Fleets):
+    @contextlib.contextmanager
+    def cluster(self, workers=2, **environment):
+        """A scheduler and workers on the loopback; its address."""
+        for name in ("package/j39plan", "scheduler.json"):
+            with contextlib.suppress(FileNotFoundError):
+                os.remove(self.path(name))
+        os.makedirs(self.path("package"), exist_ok=True)
+        os.symlink(os.path.join(TOOLS, "j39plan"), self.path("package/j39plan"))
+        there = {**os.environ, "J39PLAN": os.path.abspath(program.path()), "PYTHONPATH": self.path("package"), **environment}
+        started = []
+
+        def start(name, *words):
+            with open(self.path(f"{len(started)}.said"), "wb") as said:
+                started.append(subprocess.Popen([sys.executable, "-m", f"distributed.cli.{name}", *words], cwd=self.folder, env=there,
+                                                stdin=subprocess.DEVNULL, stdout=said, stderr=said))
+
+        try:
+            start("dask_scheduler", "--host", "127.0.0.1", "--port", "0", "--no-dashboard", "--scheduler-file", self.path("scheduler.json"))
+            end = time.monotonic() + PATIENCE
+            while not os.path.exists(self.path("scheduler.json")):
+                self.assertLess(time.monotonic(), end, text_of(self.path("0.said")))
+                time.sleep(0.2)
+            address = json.loads(text_of(self.path("scheduler.json")))["address"]
+            for _ in range(workers):
+                start("dask_worker", address, "--host", "127.0.0.1", "--no-nanny", "--nthreads", "1", "--no-dashboard", "--local-directory", self.folder)
+            yield address
+        finally:
+            for process in started[::-1]:
+                process.kill()
+                process.wait()
+
+    def test_the_same_as_here(self):
+        logs = [self.write(f"{number}.log", text_of(LOG) * (1 + number % 3)) for number in range(6)] + [self.path("no.log")]
+        here = self.fleet(logs)
+        with self.cluster() as address:
+            self.assertEqual(self.fleet("--scheduler", address, logs), here)
+
+    def test_a_worker_that_is_ended_in_mid_log_loses_nothing(self):
+        logs = [self.write(f"{number}.drive.log", text_of(LOG)) for number in range(6)]
+        here = self.fleet(logs)
+        with self.cluster(J39PLAN=self.deadly()) as address:
+            self.assertEqual(self.fleet("--scheduler", address, logs), here)
+            self.assertTrue(os.path.isdir(self.path("ended")))
+
+    def test_what_cannot_do_tasks(self):
+        """No scheduler, a worker without the package, one without the program."""
+        status, answer, said = self.fleet("--scheduler", "tcp://127.0.0.1:9", [self.early])
+        self.assertEqual((status, answer), (4, ""))
+        self.assertRegex(said, r"^fleet: tcp://127\.0\.0\.1:9: no scheduler with a worker answers")
+        with self.cluster(1, PYTHONPATH="/nowhere") as address:
+            status, answer, said = self.fleet("--scheduler", address, [self.early])
+            self.assertEqual((status, answer), (69, ""))
+            self.assertIn("it needs python3-j39plan and the program", said)
+        with self.cluster(1, J39PLAN="/nowhere") as address:
+            status, answer, said = self.fleet("--scheduler", address, [self.early])
+            self.assertEqual((status, answer), (69, ""))
+            self.assertRegex(said, r"^fleet: tcp://\S+ has no program, and here is j39plan \d")
+
+    def test_words(self):
+        for words in (["--scheduler", "here"], ["--scheduler", "tcp://127.0.0.1:9", "--processes", "2"], ["--processes", "0"]):
+            status, answer, said = self.fleet(*words, [self.early])
+            self.assertEqual((status, answer, said[:6]), (2, "", "usage:"), words)
+
+
+if __name__ == "__main__":
+    unittest.main()
