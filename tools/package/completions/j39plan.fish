@@ -21,11 +21,18 @@ for tool in where startup dbc2plan plan2dbc against report signals plot check-pl
 end
 complete -c j39plan-where -l lint -d 'with hints that are no findings'
 complete -c j39plan-where -l github -d 'as annotations of GitHub\'s CI'
+complete -c j39plan-where -l gitlab -r -F -d 'write a code quality report of GitLab\'s CI, too'
 complete -c j39plan-dbc2plan -l sender -x -d 'only groups that this unit sends'
 complete -c j39plan-dbc2plan -l group -x -d 'only this group, by name or PGN'
 complete -c j39plan-dbc2plan -l bus -x -d 'which bus of the file'
 complete -c j39plan-dbc2plan -l version -a '2 3' -d 'the version of the plan'
 complete -c j39plan-dbc2plan -l strict -d 'keep signals that lie outside or overlap'
+complete -c j39plan-dbc2plan -l kind -x -a 'dbc arxml kcd sym' -d 'of which kind the files are'
+complete -c j39plan-dbc2plan -l encoding -x -d 'in which encoding their lines are'
+for tool in dbc2plan plan2dbc
+    complete -c j39plan-$tool -l notes -r -F -d 'write the notes as JSON, too'
+    complete -c j39plan-$tool -l fail-on-notes -d 'status 1 where there is a note'
+end
 complete -c j39plan-report -l output -s o -r -F -d 'the name of the HTML file'
 complete -c j39plan-against -l jitter -x -d 'by how much messages may come nearer than their period, in ms'
 complete -c j39plan-signals -l csv -d 'a row a signal'
