@@ -6,6 +6,8 @@ import os
 import re
 from typing import Any
 
+import program
+
 # Line, text and the lines that belong to it.
 Issue = tuple[int, str, list[str]]
 
@@ -46,15 +48,20 @@ def read(name: str) -> list[dict[str, Any]]:
     """The entries of a report, none where there is no such file yet."""
     if not os.path.exists(name) or os.path.getsize(name) == 0:
         return []
-    with open(name, encoding="utf-8") as file:
-        report = json.load(file)
-    return [entry for entry in report if isinstance(entry, dict)] if isinstance(report, list) else []
+    try:
+        with open(name, encoding="utf-8") as file:
+            report = json.load(file)
+    except ValueError:
+        report = None
+    if not isinstance(report, list) or not all(isinstance(one, dict) and isinstance(one.get("location"), dict) for one in report):
+        raise program.Refused(program.DEVICE, f"{name}: it is no code quality report, and stays as it is")
+    return report
 
 
 def write(name: str, path: str, issues: list[Issue]) -> None:
     """Writes the entries of a plan into a report, in place of those that it has of the same plan."""
     path = os.path.normpath(path)
-    others = [entry for entry in read(name) if entry.get("location", {}).get("path") != path]
+    others = [one for one in read(name) if one["location"].get("path") != path]
     report = json.dumps([*others, *entries(path, issues)], indent=1)
     with open(name, "w", encoding="utf-8") as file:
         file.write(report + "\n")

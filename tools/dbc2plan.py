@@ -58,6 +58,8 @@ def plan_of(given: argparse.Namespace, notes: Notes) -> Plan:
     plan.add_frames(sent)
     if not plan.units and not plan.groups:
         raise LeftOut("there is nothing in it that a plan can have")
+    if not plan.units:
+        notes.say("units", "no node has an address, so there are neither units nor flows")
     return plan
 
 

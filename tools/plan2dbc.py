@@ -94,7 +94,7 @@ class Dbc:
 
     def told(self, place: Place, key: str = "label") -> remarks.Remark:
         """What stands behind the first key of a table."""
-        found = COMMENT.search(self.lines[self.places.line(place + (key,)) - 1].partition(key)[2])
+        found = COMMENT.match(self.lines[self.places.line(place + (key,)) - 1].partition(key)[2])
         return remarks.read(found.group(1) if found else "", self.places.texts[place + (key,)])
 
     def add_messages(self) -> None:

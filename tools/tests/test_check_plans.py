@@ -86,6 +86,15 @@ class CheckPlans(InFolder):
         with open(report, encoding="utf-8") as file:
             self.assertEqual([entry["location"]["path"] for entry in json.load(file)], [FOUND])
 
+    def test_a_file_that_is_no_report(self):
+        """It stays as it is, and that is no fault of the plan."""
+        for text in ("hello", "{}", "[1]", '[{"location": 5}]'):
+            report = self.write("report.json", text)
+            ended = subprocess.run([sys.executable, os.path.join(TOOLS, "where.py"), "--gitlab", report, FOUND], capture_output=True, text=True,
+                                   check=False, env={**os.environ, "J39PLAN": program.path()})
+            self.assertEqual((ended.returncode, ended.stderr), (4, f"where: {report}: it is no code quality report, and stays as it is\n"))
+            self.assertEqual(text_of(report), text)
+
     def test_a_hook_of_pre_commit(self):
         """The file at the top names the command that a package installs."""
         text = text_of(os.path.join(TOP, ".pre-commit-hooks.yaml"))

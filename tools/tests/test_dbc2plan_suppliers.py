@@ -86,6 +86,11 @@ class Suppliers(WithFiles):
         plan, _, _ = self.joined(first, second)
         self.assertEqual([unit["name"]["identity"] for unit in plan["unit"]], [2, 3, 1, 4])
 
+    def test_a_file_without_addresses(self):
+        plan, flows, said = self.joined(self.write("file.dbc", message(EEC1, "EEC1", "Vector__XXX")))
+        self.assertEqual((plan.get("unit"), flows, said), (None, set(), [
+            "units: no node has an address, so there are neither units nor flows", "0 units 1 groups 0 flows, notes 1"]))
+
     def test_the_same_file_twice(self):
         copy = self.write("copy.dbc", text_of(ENGINE))
         plan, _, said = self.joined(ENGINE, copy)
