@@ -6,7 +6,7 @@ import os
 from collections import defaultdict
 from collections.abc import Iterable, Iterator
 from dataclasses import dataclass, field
-from itertools import count
+from itertools import count, takewhile
 from typing import TYPE_CHECKING, Any
 
 from dbc_names import (
@@ -109,10 +109,9 @@ def called(frame: canmatrix.Frame) -> str:
 
 def common_name(names: Iterable[str]) -> str:
     """What the names of a group's messages have in common: the words, between `_`, with which all of them begin; else the first name."""
-    parts = [name.split("_") for name in names]
-    common = [words[0] for words in zip(*parts) if len(set(words)) == 1]
-    length = next((at for at, words in enumerate(zip(*parts)) if len(set(words)) > 1), len(common))
-    return "_".join(parts[0][:length]) or "_".join(parts[0])
+    first, *others = (name.split("_") for name in names)
+    common = takewhile(lambda words: len(set(words)) == 1, zip(first, *others))
+    return "_".join(words[0] for words in common) or "_".join(first)
 
 
 def names_of_groups(frames: Iterable[canmatrix.Frame]) -> dict[int, str]:

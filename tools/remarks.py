@@ -103,9 +103,8 @@ def _take(found: re.Match[str], told: Remark) -> None:
 
 def is_label_of(label: str, name: str) -> bool:
     """Whether a name is one of which this label was made, maybe with a number behind it."""
-    whole = Labels().label(name)
-    cut = re.sub(r"_\d+\Z", "", label)
-    return whole == label or (cut != label and whole.startswith(cut) and len(cut) >= min(len(whole), 32 - 1 - (len(label) - len(cut) - 1)))
+    whole, found = Labels().label(name), re.fullmatch(r"(.*)_(\d+)", label)
+    return whole == label or (found is not None and found[1] == whole[:31 - len(found[2])])
 
 
 def read(text: str, label: str) -> Remark:

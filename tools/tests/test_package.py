@@ -217,7 +217,7 @@ class Completions(InFolder):
             shown = sorted(set(re.findall(r"--[a-z][a-z-]*", "\n".join(lines_of(name, "--help")))))
             self.assertIn("--help", shown)
             self.assertEqual(self.complete_bash(f"j39plan-{tool}", "-"), shown)
-        self.assertEqual(self.complete_bash("j39plan-where", "--g"), ["--github"])
+        self.assertEqual(self.complete_bash("j39plan-where", "--g"), ["--github", "--gitlab"])
 
     @unittest.skipUnless(shutil.which("fish"), "fish isn't there: apt-get install fish")
     def test_fish(self):
