@@ -19,10 +19,10 @@ import crates
 
 # The parts behind rt ci: a name, its words from the top, and the minutes that it may take.
 PARTS = (
-    ("launcher", [sys.executable, "gate/launcher.py"], 10),
-    ("tools", ["tools/test", "--install"], 20),
-    ("faults", [sys.executable, "gate/faults.py"], 10),
-    ("memory", [sys.executable, "gate/memory.py"], 10),
+    ("launcher", [sys.executable, "gate/launcher.py"], 20),
+    ("tools", ["tools/test", "--install"], 45),
+    ("faults", [sys.executable, "gate/faults.py"], 20),
+    ("memory", [sys.executable, "gate/memory.py"], 20),
 )
 COUNTS = re.compile(r"(\d+) passed, (\d+) failed")
 
