@@ -5,7 +5,8 @@
 usage: costs.py CRATE [COUNT]           proves the library, or builds the program; shows the dearest COUNT, else 20
        costs.py --test CRATE [COUNT]    the same of the crate with its tests, which are run
        costs.py --edits CRATE           tries its edits that must fail; shows each
-       costs.py --kept CRATE [COUNT]    checks nothing: shows how much was written of each function when the crate was last checked
+       costs.py --kept CRATE [COUNT]    checks nothing: shows how much earlier checks have written of each function. What they wrote of
+                                        forms that a function no longer has counts too, until a build from nothing
 
 The checker writes a file for each module once it has checked it, and with one job it checks one after another: so what its processes
 took between two files is what the module of the later one takes. A function has several modules: `Lts` follows its borrows and moves step
