@@ -5,7 +5,8 @@
 usage: costs.py CRATE [COUNT]           proves the library, or builds the program; shows the dearest COUNT, else 20
        costs.py --test CRATE [COUNT]    the same of the crate with its tests, which are run
        costs.py --edits CRATE           tries its edits that must fail; shows each
-       costs.py --kept CRATE [COUNT]    checks nothing: shows how much was written of each function when the crate was last checked
+       costs.py --kept CRATE [COUNT]    checks nothing: shows how much earlier checks have written of each function, also of forms that it
+                                        no longer has, and at the end what of all this stands in the library that was built last
 
 The checker writes a file for each module once it has checked it, and with one job it checks one after another: so what its processes
 took between two files is what the module of the later one takes. A function has several modules: `Lts` follows its borrows and moves step
@@ -114,8 +115,11 @@ def show(costs: Costs, unit: str, count: int) -> None:
 
 
 def of_kept(name: str, count: int) -> int:
-    """Shows how much was written of each function of a crate."""
+    """Shows how much was written of each function of a crate, and how much of it stands in the library that was built last."""
     show([(it, size / 1e6) for _, size, it in written(crates.folder(name))], "MB", count)
+    library = f"{crates.folder(name)}/out/rlib/{name}.rlib/toolchain/checked.a"
+    if os.path.isfile(library):
+        print(f"{os.path.getsize(library) / 1e6:7.1f} MB  in the library")
     return 0
 
 
