@@ -1,27 +1,28 @@
 #!/usr/bin/python3
-"""Says where a log isn't as a plan has it: senders, NAMEs and addresses, groups, lengths, priorities, flows and their periods.
+"""Says where a log isn't as a plan has it: senders, NAMEs and addresses, groups, lengths, priorities, flows, their periods and silences.
 
-The log is one of candump -L. Who sent what, and which flow it was, is what `j39plan follow` reports. Each deviation is told once, at
-its first line, with how often it was met; services of the network, and proprietary groups that aren't planned, are none.
+The log is one of candump -L, or several of one drive. Who sent what, and which flow it was, is what `j39plan follow` reports. Each deviation
+is told once, at its first line, with how often it was met; services of the network, and proprietary groups that aren't planned, are none.
 """
 
 import argparse
-import re
 from collections.abc import Iterator
-from typing import NamedTuple
+from dataclasses import dataclass
 
 import program
-from j1939 import ADDRESS_CLAIMED, NULL_ADDRESS, OTHER_SERVICES, PROPRIETARY, SERVICES
-from marks import Feed, Mark
-from plan_tables import Flow, Group, Tables
+from clock import Clock, nanoseconds
+from distances import SILENCE, Deviation, Distances, Tolerance
+from hands import Hands
+from j1939 import ADDRESS_CLAIMED, GLOBAL_ADDRESS, NULL_ADDRESS, OTHER_SERVICES, PROPRIETARY, REQUEST, SERVICES
+from logs import Log
+from marks import Feed, Kind, Mark
+from plan_tables import NAME_FIELDS, Group, Tables
 from reports import Claim, Counts, Message, Report, Request, Who, follow, tables_of
+from transfers import Pair, Route, Transfers, pair_of
+from unplanned import Bound, Unplanned, bounds_of
 
 # Groups that nobody plans.
 UNPLANNED = SERVICES | OTHER_SERVICES | PROPRIETARY
-
-# A time in seconds, as a log spells it, and nanoseconds in a second and a millisecond.
-TIME = re.compile(r"\((\d+)(?:\.(\d*))?\)")
-SECOND, MILLISECOND = 10**9, 10**6
 
 # The most bytes of a message that comes in one frame.
 FRAME = 8
@@ -30,33 +31,23 @@ FRAME = 8
 Way = tuple[str, str, str]
 
 
-class Begun(NamedTuple):
-    """An announced message: the line and the time of its announcement, and what it is and from whom to whom."""
+@dataclass
+class Begun:
+    """An announced message: the line and the time of its announcement, what it is and from whom to whom, and what has come in between."""
 
     line: int
-    time: str
+    at: int | None
     text: str
+    between: str = ""
 
 
-class Nearest(NamedTuple):
-    """The least distance of two messages of a flow in nanoseconds, the line of the second one, and how often messages came nearer
-    than they may."""
+@dataclass
+class Met:
+    """A deviation: its first line, how often it was met, and what is said of the first time alone."""
 
-    distance: int
     line: int
     count: int
-
-
-def nanoseconds(time: str) -> int | None:
-    """A time of a log; None where there is none."""
-    found = TIME.fullmatch(time)
-    return int(found.group(1)) * SECOND + int(f"{found.group(2) or '':0<9.9}") if found else None
-
-
-def milliseconds(duration: int) -> str:
-    """A duration in nanoseconds, in ms."""
-    text = f"{duration // MILLISECOND}.{duration % MILLISECOND:06}"
-    return text.rstrip("0").rstrip(".")
+    detail: str
 
 
 def lengths_of(group: Group) -> str:
@@ -64,90 +55,91 @@ def lengths_of(group: Group) -> str:
     return str(group.length) if group.length == group.most else f"{group.length} to {group.most}"
 
 
-class Distances:
-    """How near messages of flows with a period come. What a flow has begun in the order of the log counts; where times go back, from
-    there on."""
-
-    def __init__(self, flows: list[Flow], jitter: int) -> None:
-        self._flows, self._jitter = flows, jitter
-        self._last: dict[int, int] = {}
-        self.nearest: dict[int, Nearest] = {}
-        self.without_time = False
-
-    def sent(self, number: int, line: int, time: str) -> None:
-        """A message of a flow, by when it began."""
-        period = self._flows[number - 1].period
-        if period is None:
-            return
-        at = nanoseconds(time)
-        if at is None:
-            self.without_time = True
-            return
-        last = self._last.get(number)
-        self._last[number] = at
-        if last is None or not 0 <= at - last < period * MILLISECOND - self._jitter:
-            return
-        known = self.nearest.get(number, Nearest(at - last, line, 0))
-        if at - last < known.distance:
-            known = Nearest(at - last, line, known.count)
-        self.nearest[number] = known._replace(count=known.count + 1)
+def fields_of(name: str) -> str:
+    """The fields of a NAME that tell what it is."""
+    number = int(name, 16)
+    return ", ".join(f"{key} {number >> first & (1 << width) - 1}" for key, first, width in NAME_FIELDS
+                     if key in ("manufacturer", "function", "identity"))
 
 
 class Comparison:
     """What was met in a log that isn't as the plan has it."""
 
-    def __init__(self, tables: Tables, jitter: int = 0) -> None:
-        self.flows = tables.flows
+    def __init__(self, tables: Tables, distances: Distances, bounds: list[Bound]) -> None:
+        self.flows, self.timing = tables.flows, tables.timing
         self.units = {unit.label: unit for unit in tables.units}
         self.groups: dict[int, list[Group]] = {}
         for group in tables.groups:
             self.groups.setdefault(group.pgn, []).append(group)
-        self.priorities = {group.label: group.priority for group in tables.groups}
+        self.planned = {group.label: group for group in tables.groups}
         self.sent: dict[Way, int] = {(flow.group, flow.sender, flow.to): 0 for flow in tables.flows}
-        self.distances = Distances(tables.flows, jitter)
-        self.met: dict[str, tuple[int, int]] = {}
-        self._begun: dict[tuple[Who, Who], Begun] = {}
+        self.distances, self.hands, self.clock = distances, Hands(tables.units), Clock()
+        self.transfers, self.unplanned = Transfers(tables.timing), Unplanned(tables, bounds)
+        self.met: dict[str, Met] = {}
+        self._begun: dict[Pair, Begun] = {}
         self._reported = 0  # the line of the last message that came without an announcement
 
-    def tell(self, line: int, text: str) -> None:
-        """Notes a deviation, or that it was met again."""
-        first, count = self.met.get(text, (line, 0))
-        self.met[text] = min(first, line), count + 1
+    def tell(self, line: int, text: str, detail: str = "") -> None:
+        """Notes a deviation, or that it was met again; the detail is of the first time."""
+        known = self.met.get(text)
+        if known is None:
+            self.met[text] = Met(line, 1, detail)
+        else:
+            known.count += 1
+            if line < known.line:
+                known.line, known.detail = line, detail
 
-    def claim(self, line: int, who: Who) -> None:
+    def claim(self, line: int, at: int | None, who: Who) -> None:
         """A claim of an address, or that none was found."""
+        for address in self.hands.claim(line, at, who):
+            for (sender, to), begun in self._begun.items():
+                if address in (sender[2], to[2]) and not begun.between:
+                    begun.between = f"address {address} changed hands at line {line}"
+        self.unplanned.came(line, at, 6 << 26 | (ADDRESS_CLAIMED | GLOBAL_ADDRESS) << 8)
         claims = "could not claim an address" if who.address is None else f"claims address {who.address}"
         unit = self.units.get(who.label or "")
         if unit is None:
-            self.tell(line, f"NAME {who.name} {claims}: no unit has it")
+            self.tell(line, f"NAME {who.name} ({fields_of(who.name or '0')}) {claims}: no unit has it")
         elif who.address is None:
             self.tell(line, f"{unit.label} {claims}")
         elif who.address != unit.address and not unit.may_choose:
             self.tell(line, f"{unit.label} {claims}, planned is {unit.address}")
 
-    def sender(self, line: int, sender: Who) -> None:
-        """Who sent something."""
+    def sender(self, line: int, at: int | None, sender: Who, group: str = "") -> None:
+        """Who sent something, as a message of a planned group."""
+        for where, text, _ in self.hands.sends(line, at, sender):
+            self.tell(where, text)
         if sender.label is None:
-            self.tell(line, f"address {sender.address} sends: no unit has it")
+            self.tell(line, f"{sender.spelled} sends {f'{group}, a planned group' if group else ''}".rstrip() + ": no unit has it")
 
-    def message(self, message: Message) -> None:
+    def message(self, line: int, at: int | None, message: Message) -> None:
         """A message of a planned group."""
-        line, time, group, sender, to = message[:5]
-        begun = self._begun.pop((sender, to), None) if len(message.data) > 2 * FRAME else None
-        if begun:
-            line, time = begun.line, begun.time
-        else:
+        group, sender, to = message.group, message.sender, message.to
+        begun = self._begun.pop(pair_of(sender, to), None) if len(message.data) > 2 * FRAME else None
+        began = begun.at if begun else at
+        if begun is None:
             self._reported = line
-            self.sender(line, sender)
+            self.sender(line, at, sender, group)
+        priority = self.planned[group].priority if message.priority is None else message.priority
         if message.priority is not None:
-            planned = self.priorities[group]
-            self.tell(line, f"{group} from {sender.shown} has priority {message.priority}, planned is {planned}")
+            self.tell(begun.line if begun else line, f"{group} from {sender.shown} has priority {priority}, planned is {self.planned[group].priority}")
         if message.flow:
             flow = self.flows[message.flow - 1]
             self.sent[flow.group, flow.sender, flow.to] += 1
-            self.distances.sent(message.flow, line, time)
-        elif sender.label:
-            self.tell(line, f"{group} from {sender.label} to {to.shown}: no flow")
+            self.distances.sent(message.flow, begun.line if begun else line, began)
+            return
+        if sender.label:
+            self.tell(begun.line if begun else line, f"{group} from {sender.label} to {to.shown}: no flow")
+        if begun is None:
+            self.passes(line, at, priority << 26 | self.planned[group].pgn << 8, f"{group} from {sender.shown}")
+
+    def passes(self, line: int, at: int | None, identifier: int, what: str) -> None:
+        """A frame of no flow goes by."""
+        if self.timing:
+            self.unplanned.came(line, at, identifier)
+            if identifier >> 26 < self.timing.unplanned_priority:
+                limit = f"by 'load' what no flow has is of {self.timing.unplanned_priority} or more"
+                self.tell(line, f"{what} has priority {identifier >> 26}: {limit}")
 
     def group_of(self, mark: Mark, sender: Who, to: Who) -> Group | None:
         """The group of a message: of those of its number one of its length, else the first; a private one only where a flow sends it
@@ -156,97 +148,160 @@ class Comparison:
                   if not group.private or (group.label, sender.label, to.shown) in self.sent]
         return next((group for group in groups if group.length <= mark.length <= group.most), groups[0] if groups else None)
 
-    def marked(self, request: Request, mark: Mark) -> None:
-        """A frame that isn't surely reported, or the announcement of a message; the request says who sent it."""
-        line, time, _, sender, to = request
-        if mark.is_announcement and mark.is_sound:
-            self.end(self._begun.pop((sender, to), None))
-        elif line == self._reported:
-            return
-        self.request(request)
-        group = self.group_of(mark, sender, to)
-        if group is None:
-            if mark.pgn not in UNPLANNED:
-                self.tell(line, f"PGN {mark.pgn} from {sender.shown}: no group has it")
-        elif not group.length <= mark.length <= group.most:
-            self.tell(line, f"{group.label} from {sender.shown} has {mark.length} bytes, planned are {lengths_of(group)}")
-            way = group.label, sender.label or "", to.shown
-            if way in self.sent and not mark.is_announcement:
-                self.sent[way] += 1
+    def marked(self, line: int, at: int | None, request: Request, mark: Mark) -> None:
+        """A frame that isn't surely reported, or of a long message; the request says who sent it."""
+        sender, to = request.sender, request.to
+        if mark.kind is Kind.SHORT:
+            self.tell(line, "a frame with an 11-bit identifier, which may go before each planned one")
+            self.unplanned.came(line, at, mark.identifier)
+        elif mark.kind is Kind.OTHER:
+            self.passes(line, at, mark.identifier, f"PGN {mark.pgn} from {sender.shown}")
+        elif mark.kind in (Kind.CONTROL, Kind.PACKET):
+            self.sender(line, at, sender)
+            if not self.transfers.came(line, at, mark, sender, to):
+                self.passes(line, at, mark.identifier, f"PGN {mark.pgn} from {sender.shown}")
         elif mark.is_announcement:
-            begun = Begun(line, time, f"{group.label} from {sender.shown} to {to.shown}")
+            self.announced(line, at, mark, sender, to)
+        elif line != self._reported:
+            self.single(line, at, request, mark)
+
+    def single(self, line: int, at: int | None, request: Request, mark: Mark) -> None:
+        """A frame that may be none of a planned group."""
+        sender, to = request.sender, request.to
+        self.asks(line, at, request)
+        group = self.group_of(mark, sender, to)
+        self.passes(line, at, mark.identifier, f"PGN {mark.pgn} from {sender.shown}")
+        if group is None:
+            self.nobody(line, mark, sender)
+        elif not group.length <= mark.length <= group.most:
+            self.another_length(line, group, mark, sender)
+            way = group.label, sender.label or "", to.shown
+            if way in self.sent:
+                self.sent[way] += 1
+
+    def nobody(self, line: int, mark: Mark, sender: Who) -> None:
+        """A message of no group."""
+        if mark.pgn not in UNPLANNED:
+            self.tell(line, f"PGN {mark.pgn} from {sender.shown}: no group has it")
+
+    def another_length(self, line: int, group: Group, mark: Mark, sender: Who) -> None:
+        """A message of a group that isn't as long as it may be."""
+        self.tell(line, f"{group.label} from {sender.shown} has {mark.length} bytes, planned are {lengths_of(group)}")
+
+    def announced(self, line: int, at: int | None, mark: Mark, sender: Who, to: Who) -> None:
+        """A long message is announced."""
+        pair = pair_of(sender, to)
+        if mark.is_sound:
+            self.end(self._begun.pop(pair, None))
+        group = self.group_of(mark, sender, to)
+        is_planned = group is not None and (group.label, sender.label, to.shown) in self.sent
+        self.sender(line, at, sender, group.label if group else "")
+        route = Route(f"{group.label if group else f'PGN {mark.pgn}'} from {sender.shown} to {to.shown}", is_planned)
+        if mark.is_sound:
+            self.transfers.announced(line, at, route, mark, sender, to)
+        if not is_planned:
+            self.passes(line, at, mark.identifier, f"PGN {mark.pgn} from {sender.shown}")
+        if group is None:
+            self.nobody(line, mark, sender)
+        elif not group.length <= mark.length <= group.most:
+            self.another_length(line, group, mark, sender)
+        else:
+            begun = Begun(line, at, route.text)
             if mark.is_sound:
-                self._begun[sender, to] = begun
+                self._begun[pair] = begun
             else:
                 self.end(begun)
 
-    def request(self, request: Request) -> None:
-        """A request: of claims one may be from a unit without an address."""
+    def asks(self, line: int, at: int | None, request: Request) -> None:
+        """Somebody sends what may be a request: of claims one may be from a unit without an address."""
         if (request.sender.address, request.pgn) != (NULL_ADDRESS, ADDRESS_CLAIMED):
-            self.sender(request.line, request.sender)
+            self.sender(line, at, request.sender)
+
+    def request(self, line: int, at: int | None, request: Request) -> None:
+        """A request."""
+        if request.pgn == ADDRESS_CLAIMED:
+            self.hands.asked(at)
+        self.asks(line, at, request)
+        self.unplanned.came(line, at, 6 << 26 | (REQUEST | GLOBAL_ADDRESS) << 8)
 
     def end(self, begun: Begun | None) -> None:
         """A message that comes to nothing, if there is one."""
-        if begun:
+        if begun is None:
+            return
+        if begun.between:
+            address, _, where = begun.between.partition(" at ")
+            self.tell(begun.line, f"{begun.text}: announced, and not put together, since {address}", f" at {where}")
+        else:
             self.tell(begun.line, f"{begun.text}: announced, and not carried whole")
 
-    def report(self, report: Report, mark: Mark | None) -> None:
-        """A report, of a frame of the log or of a mark."""
+    def report(self, line: int, report: Report, mark: Mark | None) -> None:
+        """A report, of a frame of this line of the log or of its mark."""
+        at = self.clock.see(line, report.time)
+        if self.clock.is_set and at is not None:
+            self.distances.anew(line, at)
         if isinstance(report, Claim):
-            self.claim(report.line, report.who)
+            self.claim(line, at, report.who)
         elif isinstance(report, Message):
-            self.message(report)
+            self.message(line, at, report)
         elif mark:
-            self.marked(report, mark)
+            self.marked(line, at, report, mark)
         else:
-            self.request(report)
+            self.request(line, at, report)
 
-    def deviations(self) -> Iterator[tuple[int | None, str, int]]:
-        """Line, text and count of each deviation, in the order of the lines; a flow that was never met has no line."""
+    def deviations(self, last: int | None, has_frames: bool) -> Iterator[Deviation]:
+        """Line, text and count of each deviation, in the order of the lines, where the last time of the log is this one; what was never met
+        has no line."""
         for begun in self._begun.values():
             self.end(begun)
-        found = [(line, text, count) for text, (line, count) in self.met.items()]
-        for number, nearest in self.distances.nearest.items():
-            flow = self.flows[number - 1]
-            text = f"{milliseconds(nearest.distance)} ms behind the one before, its period is {flow.period} ms"
-            found.append((nearest.line, f"flow {number}, {flow.group} from {flow.sender} to {flow.to}: {text}", nearest.count))
-        yield from sorted(found, key=lambda deviation: deviation[0])
+        found = [*self.hands.end(last), *self.distances.end(last), *self.transfers.end(), *self.unplanned.end()]
+        found += [(met.line, text + met.detail, met.count) for text, met in self.met.items()]
+        yield from sorted(found, key=lambda deviation: deviation[0] or 0)
         for number, flow in enumerate(self.flows, 1):
             if self.sent[flow.group, flow.sender, flow.to] == 0:
-                yield None, f"flow {number}, {flow.group} from {flow.sender} to {flow.to}: never sent", 0
+                yield None, f"{self.distances.name(number)}: never sent", 0
+        for label in self.units:
+            if has_frames and label not in self.hands.seen:
+                yield None, f"unit {label}: neither claimed an address nor sent anything", 0
 
 
-def jitter_of(text: str) -> int:
-    """A duration in ms, as nanoseconds."""
-    found = re.fullmatch(r"(\d{1,9})(?:\.(\d{1,6}))?", text)
-    if found is None:
-        raise argparse.ArgumentTypeError(f"{text} is no time in ms")
-    return int(found.group(1)) * MILLISECOND + int(f"{found.group(2) or '':0<6}")
+def words_of(words: list[str] | None) -> argparse.Namespace:
+    """The words of the command line."""
+    parser = program.parser(__doc__)
+    parser.epilog = "example: %(prog)s --jitter 10%% plan.toml drive.log"
+    parser.add_argument("--jitter", metavar="TIME", type=Tolerance.of, default=Tolerance(0, 0, ""),
+                        help="by how much messages may come nearer than their flow's period: in ms, as 2.5, or a share of it, as 10%% (0)")
+    parser.add_argument("--silence", metavar="N", type=int, default=SILENCE,
+                        help=f"after how many periods without a message a flow is silent; 0: silences aren't told ({SILENCE})")
+    parser.add_argument("--table", action="store_true", help="a table of the flows first: how often each was sent, and how far apart")
+    parser.add_argument("plan", metavar="PLAN", help="the name of a plan file")
+    parser.add_argument("logs", metavar="LOG", nargs="+", help="names of files as candump -L writes them, in the order of the drive")
+    return parser.parse_args(words)
 
 
 def main(words: list[str] | None = None) -> int:
     """Writes the deviations; 0 where there is none, 1 where there is one."""
-    parser = program.parser(__doc__)
-    parser.epilog = "example: %(prog)s --jitter 2.5 plan.toml drive.log"
-    parser.add_argument("--jitter", metavar="MS", type=jitter_of, default=0,
-                        help="by how much messages may come nearer than their flow's period, in ms (0)")
-    parser.add_argument("plan", metavar="PLAN", help="the name of a plan file")
-    parser.add_argument("log", metavar="LOG", help="the name of a file as candump -L writes it")
-    given = parser.parse_args(words)
-    counts = Counts()
-    with program.copied(given.plan) as plan, open(given.log, "rb") as file:
+    given, counts = words_of(words), Counts()
+    with program.copied(given.plan) as plan, Log(given.logs) as log:
         tables = tables_of(plan)
-        feed, comparison = Feed(tables.groups), Comparison(tables, given.jitter)
-        for report in follow(plan, file, tables, counts, feed.pieces):
+        distances = Distances(tables.flows, given.jitter, given.silence, given.table)
+        feed, comparison = Feed(tables.groups, tables.timing), Comparison(tables, distances, bounds_of(plan, tables))
+        for report in follow(plan, log, tables, counts, feed.pieces):
             line, mark = feed.place(report)
-            comparison.report(report._replace(line=line), mark)
+            comparison.report(line, report, mark)
     counts.elsewhere -= feed.unread
+    counts.refuse_without_frames(log)
     counts.say()
-    if comparison.distances.without_time:
+    comparison.clock.say(log)
+    if distances.without_time:
         program.say("the log has no times by which the periods of flows could be compared")
-    found = list(comparison.deviations())
+    if given.jitter.spelled and distances.passed_over:
+        flows = ", ".join(map(str, distances.passed_over))
+        program.say(f"--jitter {given.jitter.spelled} is no less than the period of flow {flows}: how near messages come isn't told there")
+    for row in distances.table() if given.table else ():
+        print(row)
+    found = list(comparison.deviations(nanoseconds(feed.last_time), counts.frames > 0))
     for line, text, count in found:
-        place = given.plan if line is None else f"{given.log}:{line}"
+        place = given.plan if line is None else "{}:{}".format(*log.place(line))
         print(f"{place}: {text}" + (f"  ({count} times)" if count > 1 else ""))
     print(f"deviations {len(found)}")
     return 1 if found else 0

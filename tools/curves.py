@@ -1,24 +1,15 @@
 """What of a log is drawn: curves of signals, and who held which address when."""
 
 import math
-import re
 from array import array
 from collections.abc import Iterable, Iterator
 from dataclasses import dataclass, field
 from typing import NamedTuple
 
+from clock import SECOND, Clock
 from plan_tables import Unit
 from readings import Row
-from reports import Claim, Message, Report, Who
-
-# A time in seconds, as logs spell it.
-SECONDS = re.compile(r"\(?(\d+(?:\.\d+)?)\)?")
-
-
-def seconds(line: int, time: str) -> float:
-    """The time of a line in seconds; where it has none, its number."""
-    found = SECONDS.fullmatch(time)
-    return float(found.group(1)) if found else float(line)
+from reports import Claim, Report, Request, Who
 
 
 @dataclass
@@ -40,28 +31,34 @@ class Curve:
             self.states.setdefault(state, array("d")).append(time)
 
 
-def curves_of(rows: Iterable[Row]) -> list[Curve]:
-    """The curves of a log, by their first points."""
+def curves_of(rows: Iterable[Row], clock: Clock) -> list[Curve]:
+    """The curves of a log, by their first points; the clock has seen each row, and none behind it."""
     curves: dict[tuple[str, str, str], Curve] = {}
     for origin, group, readings in rows:
-        time = seconds(origin.line, origin.time)
+        time, sender = clock.seconds(origin.line), origin.sender.shown
         for label, reading in readings:
-            key = group, label, origin.sender
+            key = group, label, sender
             curve = curves.get(key)
             if curve is None:
-                curve = curves[key] = Curve(group, label, origin.sender)
+                curve = curves[key] = Curve(group, label, sender)
             curve.add(time, reading.state, reading.value)
     return list(curves.values())
 
 
 class Held(NamedTuple):
-    """That a unit, by its label or NAME, held an address from one time to another; whether it claimed it, or is only planned there."""
+    """That a unit, by its label or `#` and its NAME, held an address from one time to another; whether it claimed it, or is only planned
+    there."""
 
     address: int
     holder: str
     start: float
     end: float
     is_claimed: bool
+
+    @property
+    def is_foreign(self) -> bool:
+        """Whether the plan doesn't have the holder."""
+        return self.holder.startswith("#")
 
 
 class Span:
@@ -86,8 +83,8 @@ class Timeline:
         for unit in sorted(units, key=lambda unit: unit.name):
             self._planned.setdefault(unit.address, []).append(unit.label)
             self._preferred[unit.label] = unit.address
-        self._messages, self._claims = Span(), Span()
-        self.has_times = False
+        self._seen = Span()
+        self.clock = Clock()
         self._at: dict[str, int] = {}  # where each holder is that claimed an address
         self._open: dict[int, tuple[str, float, bool]] = {}
         self._held: list[Held] = []
@@ -97,17 +94,24 @@ class Timeline:
     def passed(self, reports: Iterable[Report]) -> Iterator[Report]:
         """The reports, of which the times are seen, if there are any, and the claims heard."""
         for report in reports:
-            self.has_times = self.has_times or SECONDS.fullmatch(report.time) is not None
+            self.clock.see(report.line, report.time)
             if isinstance(report, Claim):
-                self._claim(report.who, seconds(report.line, report.time))
-            elif isinstance(report, Message):
-                self._messages.see(seconds(report.line, report.time))
+                self._claim(report.who, self.clock.seconds(report.line))
+            if not isinstance(report, Request):
+                self._seen.see(self.clock.seconds(report.line))
             yield report
+
+    def span(self, first: int | None, last: int | None) -> tuple[float, float]:
+        """From when to when a picture of the log goes, whatever of it is drawn: from its first time to its last, in nanoseconds; where its clock
+        was set, to what was seen last. Of a log without times from line 0."""
+        if not self.clock.has_times or first is None or last is None:
+            return 0.0, max(self._seen.last, 1.0)
+        end = self._seen.last if self.clock.shift else last / SECOND
+        return min(first / SECOND, self._seen.first), max(end, self._seen.last)
 
     def held(self) -> list[Held]:
         """Who held which address, to the end of the log."""
-        first = min(self._messages.first, self._claims.first)
-        last = max(self._messages.last, self._claims.last)
+        first, last = self._seen.first, self._seen.last
         if not math.isfinite(first):
             first = last = 0.0
         for address in list(self._open):
@@ -117,8 +121,7 @@ class Timeline:
 
     def _claim(self, who: Who, time: float) -> None:
         """Hears a claim, or that there was no address to claim."""
-        self._claims.see(time)
-        holder = who.label or who.name or ""
+        holder = who.shown
         was_planned, was_at = self._preferred.pop(holder, None), self._at.get(holder)
         if was_at is not None and was_at == who.address and self._open[was_at][0] == holder:
             return

@@ -110,12 +110,28 @@ class Group:
 
 @dataclass(frozen=True)
 class Flow:
-    """Who sends which group to whom, and at least how far apart, in ms; None where that isn't said."""
+    """Who sends which group to whom, and at least how far apart, in ms; None where that isn't said. Where the plan says it, also by how
+    much a message may be late, how far apart messages come at most, and that they only answer requests."""
 
     group: str
     sender: str
     to: str
     period: int | None
+    jitter: int = 0
+    pause: int | None = None
+    on_request: bool = False
+
+
+@dataclass(frozen=True)
+class Timing:
+    """What a plan says of its bus: how many frames that aren't planned go before one that waits, of which priority they are at most, and
+    that of the transport protocol; and how far apart packets to all are, in ms."""
+
+    unplanned: int
+    unplanned_priority: int
+    transport_priority: int
+    broadcast_gap: int
+    broadcast_gap_most: int
 
 
 class Tables:
@@ -128,6 +144,7 @@ class Tables:
         self.units = [self._unit(place) for place in places.elements(("unit",))]
         self.groups = [self._group(place) for place in places.elements(("group",))]
         self.flows = [self._flow(place) for place in places.elements(("flow",))]
+        self.timing = self._timing(("timing",)) if ("timing",) in places.lines else None
 
     @classmethod
     def of(cls, text: bytes) -> "Tables":
@@ -161,7 +178,13 @@ class Tables:
 
     def _flow(self, place: Place) -> Flow:
         group, sender, to = (self._text(place, key) for key in ("group", "from", "to"))
-        return Flow(group, sender, to, self._places.number(place + ("period",)))
+        period, pause = (self._places.number(place + (key,)) for key in ("period", "pause"))
+        on_request = self._places.spelled.get(place + ("on_request",)) == "true"
+        return Flow(group, sender, to, period, self._number(place, "jitter"), pause, on_request)
+
+    def _timing(self, place: Place) -> Timing:
+        keys = (("unplanned", 0), ("unplanned_priority", 6), ("transport_priority", 7), ("broadcast_gap", 50), ("broadcast_gap_most", 200))
+        return Timing(*(self._number(place, key, default) for key, default in keys))
 
     def _text_of(self, place: Place) -> Text:
         return Text(self._text(place, "label"), self._number(place, "byte"), self._places.number(place + ("bytes",)))

@@ -4,15 +4,20 @@
 What the frames say, and who sent them, is what `j39plan follow` reports of them. Where a signal is absent or faulty its line has a gap and a mark.
 """
 
+import argparse
+import datetime
 import importlib.util
 import os
 from collections import defaultdict
 from collections.abc import Iterable
 
 import program
+from clock import SECOND, ends_of
 from curves import Curve, Timeline, curves_of
+from logs import Log
 from plan_tables import Tables
-from readings import Choice, Column, Rows
+from cut_plan import cut
+from readings import Choice, Column, Rows, parted
 from reports import Counts, follow, tables_of
 
 ENDINGS = (".png", ".svg")
@@ -21,16 +26,32 @@ ENDINGS = (".png", ".svg")
 MOST = 24
 
 
-def drawn(given_log: str, plan: str, tables: Tables, choice: Choice) -> tuple[dict[Column, list[Curve]], Timeline]:
+# Times from this one on are those of a calendar, in seconds since 1970.
+CALENDAR = 10**8
+
+
+def drawn(log: Log, plan: str, tables: Tables, choice: Choice) -> tuple[dict[Column, list[Curve]], Timeline]:
     """The curves of each chosen signal, those of each sender apart, and what tells who held which address."""
     counts, timeline = Counts(), Timeline(tables.units)
-    with open(given_log, "rb") as file:
-        curves = curves_of(Rows(choice).of(timeline.passed(follow(plan, file, tables, counts))))
+    curves = curves_of(Rows(choice).of(timeline.passed(follow(plan, log, tables, counts))), timeline.clock)
+    counts.refuse_without_frames(log)
     counts.say()
+    timeline.clock.say(log)
     by_signal = defaultdict(list)
     for curve in curves:
         by_signal[curve.group, curve.signal].append(curve)
     return by_signal, timeline
+
+
+def counted(first: int | None) -> str:
+    """What the axis counts, where that is the first time of a log."""
+    if first is None:
+        return "lines of the log"
+    text = f"seconds from {first // SECOND}.{first % SECOND // 1000:06}, the log's first time"
+    if first < CALENDAR * SECOND:
+        return text
+    day = datetime.datetime.fromtimestamp(first // SECOND, datetime.UTC)
+    return f"{text} ({day:%Y-%m-%d %H:%M:%S} UTC)"
 
 
 def in_order(columns: dict[Column, str], names: list[str]) -> dict[Column, str]:
@@ -60,33 +81,49 @@ def refuse_unless_possible(names: Iterable[str], addresses: bool, output: str) -
         raise program.Refused(program.MISSING, "matplotlib isn't there: apt-get install python3-matplotlib")
 
 
-def main(words: list[str] | None = None) -> int:
-    """Draws the picture."""
+def words_of(words: list[str] | None) -> argparse.Namespace:
+    """The words of the command line."""
     parser = program.parser(__doc__)
     parser.epilog = "example: %(prog)s plan.toml drive.log SPN190 SPN110 -o drive.png"
     parser.add_argument("plan", metavar="PLAN", help="the name of a plan file")
     parser.add_argument("log", metavar="LOG", help="the name of a file as candump -L writes it")
-    parser.add_argument("names", metavar="SIGNAL", nargs="*", help="signals, GROUP.SIGNAL, or groups with all their signals")
+    parser.add_argument("names", metavar="SIGNAL", nargs="*",
+                        help="signals, GROUP.SIGNAL, or groups with all their signals; any other name is that of a further log of the drive")
     parser.add_argument("-o", "--output", metavar="FILE", required=True,
                         help="the name of the picture, which ends in .png or .svg")
     parser.add_argument("--addresses", action="store_true", help="draw who held which address when, too")
-    given = parser.parse_intermixed_args(words)
+    parser.add_argument("--from", dest="begin", metavar="TIME", type=float, help="the picture's begin, in seconds as the axis counts them")
+    parser.add_argument("--to", dest="end", metavar="TIME", type=float, help="the picture's end")
+    return parser.parse_intermixed_args(words)
+
+
+def main(words: list[str] | None = None) -> int:
+    """Draws the picture."""
+    given = words_of(words)
     refuse_unless_possible(given.names, given.addresses, given.output)
     with program.copied(given.plan) as plan:
         tables = tables_of(plan)
-        choice = Choice(tables, given.names, nothing=not given.names)
+        names, logs = parted(tables, given.names, given.log)
+        choice = Choice(tables, names, nothing=not names)
         choice.columns = curved(tables, choice.columns)
         if len(choice.columns) > MOST:
             raise program.Refused(program.UNREADABLE, f"{len(choice.columns)} signals are chosen, and {MOST} can be drawn")
         if not choice.columns and not given.addresses:
             raise program.Refused(program.UNREADABLE, "nothing to draw")
-        curves, timeline = drawn(given.log, plan, tables, choice)
+        with Log(logs) as log, cut(plan, tables, choice) as shorter:
+            curves, timeline = drawn(log, *shorter, choice)
+            first, last = ends_of(log)
     import picture
 
-    columns, title = in_order(choice.columns, given.names), os.path.basename(given.log)
+    columns, title = in_order(choice.columns, names), ", ".join(map(os.path.basename, logs))
     held = timeline.held() if given.addresses else None
-    figure = picture.figure_of(columns, curves, held, title, "seconds" if timeline.has_times else "lines")
-    picture.save(figure, given.output)
+    begin, end = timeline.span(first, last)
+    zero = begin if timeline.clock.has_times else 0.0
+    window = picture.Window(begin if given.begin is None else zero + given.begin, end if given.end is None else zero + given.end, zero)
+    if window.begin >= window.end and (given.begin is not None or given.end is not None):
+        raise program.Refused(program.UNREADABLE, "nothing to draw: --from is not before --to, or the log has nothing there")
+    axis = counted(first if timeline.clock.has_times else None)
+    picture.save(picture.figure_of(columns, curves, held, title, axis, window), given.output)
     for group, signal in choice.columns:
         if (group, signal) not in curves:
             program.say(f"{group}.{signal} isn't in the log")

@@ -1,6 +1,7 @@
 """What a signal says in a message: its state, value, unit of measurement."""
 
 import difflib
+import os
 import re
 from collections.abc import Iterable, Iterator
 from decimal import Context, Decimal
@@ -8,7 +9,7 @@ from typing import NamedTuple
 
 import program
 from plan_tables import Tables
-from reports import Message, Report
+from reports import Message, Report, Who
 
 # A unit of measurement that has the fraction of a value, as `1/8 rpm`.
 PARTS = re.compile(r"1/([1-9]\d{0,11})(?: (.*))?")
@@ -33,17 +34,17 @@ class Reading(NamedTuple):
 
 
 class Origin(NamedTuple):
-    """Where a message comes from: the line and its time as it is spelled, and who sent it to whom: labels, else addresses."""
+    """Where a message comes from: the line and its time as it is spelled, and who sent it to whom."""
 
     line: int
     time: str
-    sender: str
-    to: str
+    sender: Who
+    to: Who
 
 
 def origin_of(message: Message) -> Origin:
     """Where a message comes from."""
-    return Origin(message.line, message.time.strip("()-"), message.sender.shown, message.to.shown)
+    return Origin(message.line, message.time.strip("()-"), message.sender, message.to)
 
 
 class Row(NamedTuple):
@@ -91,6 +92,23 @@ def reading_of(said: str, scale: Scale) -> Reading:
     return Reading(state, divided(number, scale.parts), scale.unit, behind.removeprefix(scale.planned).strip())
 
 
+def names_of(tables: Tables) -> set[str]:
+    """The names by which groups, signals and texts are chosen."""
+    known = {group.label for group in tables.groups}
+    for group in tables.groups:
+        for part in (*group.signals, *group.texts):
+            known.update((part.label, f"{group.label}.{part.label}"))
+    return known
+
+
+def parted(tables: Tables, names: Iterable[str], log: str) -> tuple[list[str], list[str]]:
+    """The names of groups and signals among some, and those of logs: the first one, and files of no such name."""
+    known, chosen, logs = names_of(tables), [], [log]
+    for name in names:
+        (logs if name not in known and os.path.exists(name) else chosen).append(name)
+    return chosen, logs
+
+
 class Choice:
     """The signals and texts that are wanted, each by its group and label, with the unit that is shown; where no name is given all, or nothing."""
 
@@ -99,13 +117,13 @@ class Choice:
         for group in tables.groups:
             self.scales.update(((group.label, signal.label), scale_of(signal.unit)) for signal in group.signals)
             self.scales.update(((group.label, text.label), scale_of("")) for text in group.texts)
+        self.texts = {(group.label, text.label) for group in tables.groups for text in group.texts}
         wanted = set(names)
         self.columns = {
             column: scale.unit for column, scale in self.scales.items()
             if not wanted and not nothing or wanted.intersection((*column, ".".join(column)))
         }
-        known = {name for column in self.scales for name in (*column, ".".join(column))}
-        known.update(group.label for group in tables.groups)
+        known = names_of(tables)
         for name in sorted(wanted - known):
             close = difflib.get_close_matches(name, known, 1, 0.7)
             hint = f"; did you mean {close[0]}?" if close else ""

@@ -275,8 +275,14 @@ def in_milliseconds(microseconds: int) -> str:
     return f"{text.rstrip('0').rstrip('.')} ms"
 
 
-def delay_row(delay: Delay, flow: Flow, link: str) -> str:
-    """A flow with its delay, in words where it has none."""
+def bits_of(group: Group) -> int:
+    """The bits of a frame of a group at most, with those that are stuffed (ISO 11898-1: 80, and 10 a byte)."""
+    return 80 + 10 * group.most
+
+
+def delay_row(delay: Delay, flow: Flow, group: Group, link: str, bitrate: int) -> str:
+    """A flow with what it takes of the bus and its delay, in words where it has none. What long messages take `load` alone knows."""
+    taken = f"{100 * 1000 * bits_of(group) / (flow.period * bitrate):.1f} %" if flow.period and delay.limit is not None else "–"
     if delay.limit is None:
         cells = [f"no bound: {delay.frames} frames a message", "–", "–"]
     elif delay.within is None:
@@ -284,7 +290,7 @@ def delay_row(delay: Delay, flow: Flow, link: str) -> str:
     else:
         share = f"{100 * delay.within / delay.limit:.1f} %"
         cells = [in_milliseconds(delay.within), in_milliseconds(delay.limit), share]
-    return row(str(delay.flow), [link, escape(flow.sender), escape(flow.to), f"{flow.period} ms", *cells])
+    return row(str(delay.flow), [link, escape(flow.sender), escape(flow.to), f"{flow.period} ms", taken, *cells])
 
 
 def load_section(tables: Tables, load: Load) -> str:
@@ -294,12 +300,13 @@ def load_section(tables: Tables, load: Load) -> str:
     taken, bitrate = load.taken
     full = " <strong>That is more than the bus carries.</strong>" if taken > bitrate else ""
     parts = [f"<p>{taken} of {bitrate} bits a second at most, {100 * taken / bitrate:.1f} % of the bitrate.{full}</p>"]
-    links = links_of(tables)
-    rows = [delay_row(delay, flow, links[flow.group]) for delay in load.delays for flow in [tables.flows[delay.flow - 1]]]
+    links, groups = links_of(tables), {group.label: group for group in tables.groups}
+    rows = [delay_row(delay, flow, groups[flow.group], links[flow.group], bitrate)
+            for delay in load.delays for flow in [tables.flows[delay.flow - 1]]]
     if rows:
         parts.append("<p>The times count from when a frame is ready in its controller, and hold where the bus keeps the premises of "
                      "<code>load</code>.</p>")
-        heads = ("Flow", "Group", "From", "To", "Period", "On the bus within", "Limit", "Share")
+        heads = ("Flow", "Group", "From", "To", "Period", "bus load", "On the bus within", "Limit", "of its limit")
         parts.append(table("Delays of the flows", heads, rows))
     return section("load", "Load", parts)
 

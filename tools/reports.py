@@ -2,7 +2,7 @@
 
 import io
 import os
-import stat
+import signal
 import subprocess
 from collections.abc import Callable, Iterable, Iterator
 from functools import cache, lru_cache
@@ -11,21 +11,33 @@ from threading import Thread
 from typing import IO, BinaryIO, NamedTuple
 
 import program
+from logs import Log
 from plan_tables import Tables
 
 
 class Who(NamedTuple):
     """Somebody on the bus: the label of a planned unit, else None; the NAME where it is told and not planned, as 16 hex digits, else
-    None; and the address, None of `all` and of who holds none."""
+    None; the address, None of `all` and of who holds none; and whether only the plan tells who it is, or a claim that is contested."""
 
     label: str | None
     name: str | None
     address: int | None
+    is_guess: bool = False
 
     @property
     def shown(self) -> str:
-        """The label, else the address; `all` of all."""
-        return self.label or ("all" if self.address is None else str(self.address))
+        """The label, else the NAME, else the address; `all` of all."""
+        return self.label or (f"#{self.name}" if self.name else "all" if self.address is None else str(self.address))
+
+    @property
+    def told(self) -> str:
+        """The same with `?` behind a label or NAME that isn't sure."""
+        return f"{self.shown}?" if self.is_guess and (self.label or self.name) else self.shown
+
+    @property
+    def spelled(self) -> str:
+        """The label, else the NAME and the address, as far as they are known, in words."""
+        return self.label or (f"NAME {self.name} at address {self.address}" if self.name else f"address {self.address}")
 
 
 class Message(NamedTuple):
@@ -64,17 +76,30 @@ class Request(NamedTuple):
 Report = Message | Claim | Request
 
 
+# What makes a log of those of other programs.
+CONVERTER = "record it by candump -L, or make a log of ASC, BLF, TRC, MF4 or CSV by tolog.py (j39plan-tolog)"
+
+
 class Counts:
-    """How many lines of a log weren't read: those that spell no frame, and those of other interfaces than the first one."""
+    """How many lines of a log have a frame, also one with an 11-bit identifier; and how many weren't read: those that spell no frame,
+    and those of other interfaces than the first one."""
 
     def __init__(self) -> None:
-        self.bad = self.elsewhere = 0
+        self.frames = self.bad = self.elsewhere = 0
 
     def take(self, line: str) -> None:
         """Takes them from the line with which `follow` ends."""
         words = line.split()
         if words[0] == "frames":
-            self.bad, self.elsewhere = int(words[5]), int(words[7])
+            self.frames, self.bad, self.elsewhere = int(words[1]) + int(words[3]), int(words[5]), int(words[7])
+
+    def refuse_without_frames(self, log: Log) -> None:
+        """Refuses what is no log at all: it has lines, and none of them spells a frame. An empty log is said."""
+        name = log.names[0] if len(log.names) == 1 else "the log"
+        if self.frames == 0 and self.bad:
+            raise program.Refused(program.UNREADABLE, f"{name} has no frame, and {self.bad} lines that spell none: {CONVERTER}")
+        if self.frames == 0:
+            program.say(f"{name} has no frame")
 
     def say(self) -> None:
         """Says on standard error what wasn't read."""
@@ -90,10 +115,10 @@ def who_of(spelled: str) -> Who:
     if spelled == "all":
         return Who(None, None, None)
     name, _, address = spelled.partition("@")
-    at = int(address) if address else None
-    if name[0] == "#":
-        return Who(None, name[1:], at)
-    return Who(name.rstrip("?") or None, None, at)
+    at, is_guess, name = int(address) if address else None, name.endswith("?"), name.rstrip("?")
+    if name.startswith("#"):
+        return Who(None, name[1:], at, is_guess)
+    return Who(name or None, None, at, is_guess)
 
 
 def message_of(words: list[str], signals: list[str]) -> Message:
@@ -121,11 +146,6 @@ def reports_of(lines: Iterator[str], tables: Tables, counts: Counts) -> Iterator
             yield Request(int(words[0]), words[1], int(words[3]), who_of(words[5]), who_of(words[7]))
         else:
             yield Claim(int(words[0]), words[1], who_of(words[3]))
-
-
-def is_live(file: BinaryIO) -> bool:
-    """Whether a log is no regular file, so that somebody may wait for what has come of it."""
-    return not stat.S_ISREG(os.fstat(file.fileno()).st_mode)
 
 
 class Writer(Thread):
@@ -156,13 +176,13 @@ class Writer(Thread):
             raise self.fault
 
 
-def as_it_comes(file: BinaryIO) -> Iterator[bytes]:
-    """What comes from a pipe, which can be opened only once, as soon as it is there."""
-    while piece := os.read(file.fileno(), 1 << 16):
+def as_it_comes(log: BinaryIO) -> Iterator[bytes]:
+    """What comes of a log, as soon as it is there."""
+    while piece := log.read1(1 << 16):  # type: ignore[attr-defined]
         yield piece
 
 
-def started(plan: str, log: BinaryIO | int) -> subprocess.Popen[bytes]:
+def started(plan: str, log: IO[bytes] | int) -> subprocess.Popen[bytes]:
     """The program that follows a log."""
     try:
         return subprocess.Popen([program.path(), "follow", "--", plan, "/dev/stdin"], stdin=log, stdout=subprocess.PIPE)
@@ -170,17 +190,27 @@ def started(plan: str, log: BinaryIO | int) -> subprocess.Popen[bytes]:
         raise program.Refused(program.MISSING, f"j39plan can't be run: {program.path()}: {fault.strerror}") from None
 
 
-def follow(plan: str, file: BinaryIO, tables: Tables, counts: Counts,
+def started_for(plan: str, log: Log, is_piped: bool) -> subprocess.Popen[bytes]:
+    """The program that follows a log, which an interrupt doesn't end where it is to end the log alone."""
+    source = subprocess.PIPE if is_piped else log.files[0]
+    if not log.is_live or signal.getsignal(signal.SIGINT) is signal.SIG_IGN:
+        return started(plan, source)
+    signal.signal(signal.SIGINT, signal.SIG_IGN)
+    try:
+        return started(plan, source)
+    finally:
+        signal.signal(signal.SIGINT, log.interrupt)
+
+
+def follow(plan: str, log: Log, tables: Tables, counts: Counts,
            changed: Callable[[BinaryIO], Iterable[bytes]] | None = None) -> Iterator[Report]:
     """The reports of a log, as it is read; what is read is what `changed` makes of the log, if it is given."""
-    at_once = changed is None and is_live(file)
-    pieces_of = as_it_comes if at_once else changed
-    reader = started(plan, subprocess.PIPE if pieces_of else file)
+    is_piped = changed is not None or log.is_live or len(log.files) > 1
+    reader = started_for(plan, log, is_piped)
     assert reader.stdout is not None
     writer = None
-    if pieces_of and reader.stdin:
-        # The writer has a file object of its own: closing one waits for who reads it, and that may be a pipe where nothing comes.
-        writer = Writer(pieces_of(os.fdopen(os.dup(file.fileno()), "rb")), reader.stdin, at_once)
+    if reader.stdin:
+        writer = Writer((changed or as_it_comes)(io.BufferedReader(log, 1 << 16)), reader.stdin, log.is_live and changed is None)
     try:
         if writer:
             writer.start()

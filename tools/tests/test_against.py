@@ -119,7 +119,7 @@ class Against(InFolder):
 
     def test_an_unknown_name(self):
         self.assertEqual(self.deviations("18EEFF05#0300000000000000"),
-                         ["L:1: NAME 0000000000000003 claims address 5: no unit has it"])
+                         ["L:1: NAME 0000000000000003 (identity 3, manufacturer 0, function 0) claims address 5: no unit has it"])
 
     def test_the_name_that_claimed_last_holds_an_address(self):
         """Also where the smaller NAME claimed before: it would have defended its address, had it been on."""
@@ -134,21 +134,24 @@ class Against(InFolder):
         self.assertEqual(self.compared(RIVALS % "VALVE", [frame for frame in frames if "#" in frame]), [])
 
     def test_without_claims_the_smallest_name_has_an_address(self):
-        self.assertEqual(self.compared(RIVALS % "PUMP", [ET1]), [])
+        self.assertEqual(self.compared(RIVALS % "PUMP", [ET1]), ["P: unit VALVE: neither claimed an address nor sent anything"])
         self.assertEqual(self.compared(RIVALS % "VALVE", [ET1])[0], "L:1: ET1 from PUMP to all: no flow")
 
     def test_a_claim_elsewhere_leaves_an_address_to_the_next(self):
         """PUMP claims 129, so that VALVE is the one of those that prefer 128 of which no claim came."""
         self.assertEqual(self.compared(RIVALS % "VALVE", ["18EEFF81#0100000000000080", ET1]), [])
         both = ["18EEFF81#0100000000000080", "18EEFF82#0200000000000080", ET1]
-        self.assertEqual(self.compared(RIVALS % "VALVE", both)[0], "L:3: address 128 sends: no unit has it")
+        self.assertEqual(self.compared(RIVALS % "VALVE", both)[0], "L:3: address 128 sends ET1, a planned group: no unit has it")
 
     def test_a_name_that_is_not_planned_takes_an_address(self):
         for name in ("0000000000000000", "0300000000000000"):
             found = self.deviations(f"18EEFF00#{name}", "18FEEE00#7DFFFFFFFFFFFFFF")
             told = "".join(reversed(re.findall("..", name)))
-            self.assertEqual(found[:2], [f"L:1: NAME {told} claims address 0: no unit has it",
-                                         "L:2: address 0 sends: no unit has it  (3 times)"])
+            self.assertEqual(found[:4], [
+                f"L:1: NAME {told} (identity {int(told, 16)}, manufacturer 0, function 0) claims address 0: no unit has it",
+                f"L:2: NAME {told} at address 0 sends ET1, a planned group: no unit has it  (2 times)",
+                f"L:4: TSC1 from DISPLAY to #{told}: no flow",
+                f"L:5: NAME {told} at address 0 sends VI, a planned group: no unit has it"])
 
     def test_a_claim_of_the_global_address_tells_nothing(self):
         self.assertEqual(self.deviations("18EEFFFF#0100000000000000", *CLAIMS), [])
@@ -159,7 +162,7 @@ class Against(InFolder):
 
     def test_a_unit_that_moved_keeps_its_flows(self):
         self.assertEqual(self.deviations("18EEFF81#0200000000000080", "0C000081#FFFFFFFFFFFFFFFF")[:1],
-                         ["L:4: address 128 sends: no unit has it"])
+                         ["L:4: address 128 sends TSC1, a planned group: no unit has it"])
 
     def test_a_unit_without_an_address(self):
         self.assertEqual(self.deviations("18EEFFFE#0200000000000080", "18EEFF80#0200000000000080"),
@@ -208,7 +211,7 @@ class Against(InFolder):
         frames = [frame.replace("FF00#", "FF80#") for frame in VI]
         self.assertEqual(self.deviations(*frames), ["L:1: VI from DISPLAY to all: no flow"])
         found = self.deviations(*frames[:2], "18EEFF80#0000000000000000", *frames[2:])
-        self.assertEqual(found[0], "L:1: VI from DISPLAY to all: announced, and not carried whole")
+        self.assertEqual(found[0], "L:1: VI from DISPLAY to all: announced, and not put together, since address 128 changed hands at line 3")
         self.assertNotIn("no flow", "".join(found))
 
     def test_messages_are_carried_whole_where_follow_reports_them(self):
@@ -246,11 +249,13 @@ class Against(InFolder):
         plan = PLAN.replace("version = 1", "version = 3") + group % ("OWN", 4) + group % ("THEIRS", 8) + flow % ("OWN", "ENGINE")
         third = '[[unit]]\nlabel = "TOOL"\naddress = 249\nname = { identity = 3 }\n'
         plan += flow % ("THEIRS", "DISPLAY") + third
+        silent = "P: unit TOOL: neither claimed an address nor sent anything"
         sent = ["18FF1400#00112233", "18FF1480#0011223344556677"]
         self.assertEqual(self.compared(plan, [*CLAIMS, *FLOWS, *sent, "18FF14F9#00"]), [])
-        self.assertEqual(self.compared(plan, [*FLOWS, *sent, "18FF1400#0011223344556677"]), ["L:9: OWN from ENGINE has 8 bytes, planned are 4"])
+        self.assertEqual(self.compared(plan, [*FLOWS, *sent, "18FF1400#0011223344556677"]), [
+            "L:9: OWN from ENGINE has 8 bytes, planned are 4", silent])
         self.assertEqual(self.compared(plan, [*FLOWS, sent[0], "18FF1480#00112233"]), [
-            "L:8: THEIRS from DISPLAY has 4 bytes, planned are 8"])
+            "L:8: THEIRS from DISPLAY has 4 bytes, planned are 8", silent])
 
     def test_groups_of_several_lengths(self):
         """A message may have each length from the least to the greatest."""
@@ -279,7 +284,7 @@ class Against(InFolder):
         plan, log = self.write("plan.toml", PLAN), self.write("drive.log", "")
         found = [f"{plan}: flow {flow}: never sent" for flow in
                  ("1, ET1 from ENGINE to all", "2, TSC1 from DISPLAY to ENGINE", "3, VI from ENGINE to all")]
-        self.assertEqual(run("against.py", plan, log), (1, "\n".join([*found, "deviations 3\n"]), ""))
+        self.assertEqual(run("against.py", plan, log), (1, "\n".join([*found, "deviations 3\n"]), f"against: {log} has no frame\n"))
 
     def test_flows_have_the_numbers_of_the_plan(self):
         """One that stands twice (F11) counts twice, as `check` counts it."""
@@ -340,7 +345,7 @@ class Against(InFolder):
         frames = [*CLAIMS, *FLOWS, "18FEF100#00", "18FEF100#0011", "18FEEE00#7DFF", "18FEEE00#7DFFFFFFFFFFFFFF"]
         answers = []
         for ending in ("", " R", "  T", "\tR\r"):
-            log = self.write("drive.log", "".join(f"(1.0) can0 {frame}{ending}\n" for frame in frames))
+            log = self.write("drive.log", "".join(f"({number}.0) can0 {frame}{ending}\n" for number, frame in enumerate(frames)))
             answers.append(run("against.py", plan, log))
         self.assertEqual(answers[0][2], "")
         self.assertIn("deviations 2\n", answers[0][1])
@@ -383,10 +388,129 @@ class Against(InFolder):
         for jitter in ("-1", "x", "1e3", ""):
             self.assertEqual(run("against.py", f"--jitter={jitter}", self.path("plan.toml"), log)[0], 2)
 
+    def test_silences(self):
+        """The longest time without a message of a flow, with the line behind it, and that one has stopped, by the log's last time."""
+        times = ["1.000", "1.010", "1.061", "1.100", "1.200", "1.250"]
+        log = [(time, FLOWS[0]) for time in times] + [("1.250", FLOWS[1])]
+        said = "flow 1, ET1 from ENGINE to all: not sent "
+        self.assertEqual(self.told(log, "not sent"), [f"L:5: {said}for 100 ms before, its period is 10 ms  (2 times)"])
+        self.assertEqual(self.told(log + [("1.300001", FLOWS[1])], "not sent")[1:], [
+            f"L:6: {said}any more, for 50.001 ms to the log's end, its period is 10 ms"])
+        self.assertEqual(self.told(log + [("1.300", FLOWS[1])], "not sent", "--silence", "10"), [])
+        self.assertEqual(self.told(log + [("9.0", FLOWS[1])], "not sent", "--silence", "0"), [])
+        self.assertEqual(self.told(log, "not sent", period=90), [])
+
+    def test_silences_of_clocks_that_are_set(self):
+        """Distances begin anew behind a clock that jumps or is set back, which is said once."""
+        times = ["12.0", "12.01", "1764230400.0", "1764230400.01", "1764230400.02", "9.0", "9.02", "9.1"]
+        lines = "".join(f"({time}) can0 {FLOWS[0]}\n" for time in times)
+        log = self.write("drive.log", lines)
+        status, answer, said = run("against.py", self.timed(10), log)
+        self.assertEqual(said, f"against: {log}:3: time jumps by 20419.3 days; times go back or jump 2 times in all\n")
+        self.assertEqual([line for line in answer.splitlines() if "not sent" in line], [
+            f"{log}:8: flow 1, ET1 from ENGINE to all: not sent for 80 ms before, its period is 10 ms"])
+
+    def test_tolerances(self):
+        """In percent of each period, or in ms; of which flows nothing is left is said."""
+        log = [(f"{time:.4f}", FLOWS[0]) for time in (1, 1.0095, 1.019, 1.0279)]
+        for words, found in ((["--jitter", "5%"], 1), (["--jitter", "11%"], 0), (["--jitter", "0.5"], 1), (["--jitter", "0.5ms"], 1), ([], 3)):
+            told = self.told(log, "behind the one before", *words)
+            self.assertEqual([re.search(r"\((\d) times\)", line) and line[-8:] for line in told] or [0],
+                             {0: [0], 1: [None], 3: ["3 times)"]}[found], words)
+        name, plan = self.path("drive.log"), self.timed(10)
+        said = "is no less than the period of flow 1, 3: how near messages come isn't told there\n"
+        self.assertEqual(run("against.py", "--jitter", "60", plan, name)[2], f"against: --jitter 60 ms {said}")
+        self.assertEqual(run("against.py", "--jitter", "100%", plan, name)[2], f"against: --jitter 100% {said}")
+        self.assertEqual(run("against.py", "--jitter", "9.9", plan, name)[2], "")
+        self.assertEqual(run("against.py", "--jitter", "5 %", plan, name)[0], 2)
+
+    def test_the_table_of_flows(self):
+        """Of each flow how often it was sent and how far apart, one without a period too."""
+        log = [(f"{time:.4f}", FLOWS[0]) for time in (1, 1.0095, 1.0195, 1.03, 1.3)] + [("1.4", FLOWS[1]), ("1.9", FLOWS[1])]
+        name = self.write("drive.log", "".join(f"({time}) can0 {frame}\n" for time, frame in log))
+        rows = [line.split() for line in run("against.py", "--table", self.timed(10), name)[1].splitlines()]
+        self.assertEqual(rows[:4], [
+            ["flow", "group", "from", "to", "period", "count", "least", "median", "greatest"],
+            ["1", "ET1", "ENGINE", "all", "10", "5", "9.50", "10.00", "270.00"],
+            ["2", "TSC1", "DISPLAY", "ENGINE", "-", "2", "500.00", "500.00", "500.00"],
+            ["3", "VI", "ENGINE", "all", "10", "0", "-", "-", "-"]])
+        self.assertEqual(rows[-1][0], "deviations")
+
+    def test_an_address_that_changes_hands(self):
+        """From three times on it is told, with how near two of these came; a contest that is settled isn't."""
+        plan = RIVALS % "PUMP"
+        fight = [f"({1 + 0.005 * number:.3f}) can0 {(VALVE_CLAIMS, PUMP_CLAIMS)[number % 2]}\n" for number in range(2001)]
+        log, plan = self.write("drive.log", "".join(fight) + f"(12.0) can0 {ET1}\n"), self.write("plan.toml", plan)
+        told = f"{log}:2: address 128 changed hands 2000 times, first from VALVE to PUMP, the nearest 5 ms apart\n"
+        self.assertIn(told, run("against.py", plan, log)[1])
+        settled = [PUMP_CLAIMS, VALVE_CLAIMS, PUMP_CLAIMS, "18EEFF81#0200000000000080", ET1]
+        self.assertEqual(self.compared(RIVALS % "PUMP", settled), [])
+
+    def test_an_address_that_is_not_defended(self):
+        """Of a unit that is on and has the smaller NAME; within 250 ms it claims again, or moves."""
+        def told(*log):
+            name = self.write("drive.log", "".join(f"({time}) can0 {frame}\n" for time, frame in log))
+            answer = run("against.py", self.write("plan.toml", RIVALS % "PUMP"), name)[1]
+            return [line.replace(name, "L") for line in answer.splitlines() if "defend" in line]
+        begin = [("1.0", PUMP_CLAIMS), ("2.0", ET1), ("2.5", VALVE_CLAIMS)]
+        said = ["L:3: VALVE claims address 128, and PUMP doesn't defend it, whose NAME is smaller"]
+        self.assertEqual(told(*begin, ("2.75", "18FEEE05#7DFFFFFFFFFFFFFF")), said)
+        self.assertEqual(told(*begin, ("2.749", "18FEEE05#7DFFFFFFFFFFFFFF")), [])
+        self.assertEqual(told(*begin, ("2.7", PUMP_CLAIMS), ("9.0", ET1)), [])
+        self.assertEqual(told(*begin[:2], ("3.0", VALVE_CLAIMS), ("9.0", ET1)), [])  # it may have been switched off
+        self.assertEqual(told(("1.0", VALVE_CLAIMS), ("1.5", PUMP_CLAIMS), ("9.0", ET1)), [])  # the smaller NAME needn't wait for the larger
+
+    def test_who_sends_too_soon_behind_a_claim(self):
+        """A claim of one of the addresses that may be chosen may be contested for 250 ms, unless the unit holds it already."""
+        def told(*log):
+            name = self.write("drive.log", "".join(f"({time}) can0 {frame}\n" for time, frame in log))
+            answer = run("against.py", self.write("plan.toml", RIVALS % "PUMP"), name)[1]
+            return [line.replace(name, "L") for line in answer.splitlines() if "before 250" in line]
+        said = ["L:2: PUMP sends before 250 ms have passed behind its claim of address 128"]
+        self.assertEqual(told(("5.0", PUMP_CLAIMS), ("5.249", ET1), ("5.2495", ET1)), said)
+        self.assertEqual(told(("5.0", PUMP_CLAIMS), ("5.25", ET1)), [])
+        self.assertEqual(told(("4.9", ET1), ("5.0", PUMP_CLAIMS), ("5.1", ET1)), [])
+        self.assertEqual(told(("4.9", "18EAFFFE#00EE00"), ("5.0", PUMP_CLAIMS), ("5.1", ET1)), [])
+
+    def test_units_that_are_not_there(self):
+        """Who neither claimed an address nor sent anything; who only answers does send."""
+        plan = PLAN + '[[unit]]\nlabel = "GHOST"\naddress = 5\nname = { identity = 9 }\n'
+        said = ["P: unit GHOST: neither claimed an address nor sent anything"]
+        self.assertEqual(self.compared(plan, FLOWS), said)
+        for frame in ("18EEFF05#0900000000000000", "18EAFF05#00EE00", "18FF1005#00", "1CEC0005#110301FFFFECFE00"):
+            self.assertEqual(self.compared(plan, [*FLOWS, frame]), [], frame)
+
+    def test_an_abort(self):
+        """Who gives a message up, and why."""
+        plan = PLAN.replace('from = "ENGINE"\nto = "all"\n', 'from = "ENGINE"\nto = "DISPLAY"\n')
+        sent = ["1CEC8000#10110003FFECFE00", "1CEC0080#FF03FFFFFFECFE00"]
+        self.assertIn("L:2: VI from ENGINE to DISPLAY: given up by DISPLAY, reason 3 (timeout)", self.compared(plan, sent))
+
+    def test_several_logs(self):
+        """One drive in several files: lines are those of their own file, and what goes over their border is whole."""
+        lines = [f"(1.{number}) can0 {frame}" for number, frame in enumerate([*FLOWS, "18FEF100#00", "18FEF105#00"])]
+        first, second = self.write("a.log", "\n".join(lines[:4])), self.write("b.log", "\n".join(lines[4:]))
+        plan = self.write("plan.toml", PLAN)
+        self.assertEqual(run("against.py", plan, first, second, self.write("c.log", "")), (1, "".join([
+            f"{second}:3: PGN 65265 from ENGINE: no group has it\n", f"{second}:4: address 5 sends: no unit has it\n",
+            f"{second}:4: PGN 65265 from 5: no group has it\n", "deviations 3\n"]), ""))
+
+    def timed(self, period):
+        """A plan of ET1 and VI with a period."""
+        plan = PLAN.replace("version = 1", "version = 3").replace('from = "ENGINE"\n', f'from = "ENGINE"\nperiod = {period}\n')
+        return self.write("plan.toml", plan)
+
+    def told(self, log, what, *words, period=10):
+        """The deviations of a log that say this."""
+        name = self.write("drive.log", "".join(f"({time}) can0 {frame}\n" for time, frame in log))
+        answer = run("against.py", *words, self.timed(period), name)[1]
+        return [line.replace(name, "L") for line in answer.splitlines() if what in line]
+
     def test_plans_of_toml_1_1(self):
         for text in (NEWER, MARKED):
             plan, log = self.write("plan.toml", text), self.write("drive.log", "(1.0) can0 18FEEE00#7DFFFFFFFFFFFFFF\n")
-            self.assertEqual(run("against.py", plan, log), (0, "deviations 0\n", ""))
+            silent = f"{plan}: unit B: neither claimed an address nor sent anything\n"
+            self.assertEqual(run("against.py", plan, log), (1, f"{silent}deviations 1\n", ""))
 
     def test_what_cannot_be_compared(self):
         log = self.write("drive.log", "")

@@ -1,5 +1,6 @@
 """What the tools make of files that aren't what they want, and of those that aren't regular ones."""
 
+import importlib.util
 import os
 import random
 import re
@@ -11,6 +12,7 @@ import time
 import unittest
 
 import program
+from reports import CONVERTER
 from tests.support import TOOLS, InFolder, example, run, text_of
 
 PLAN, LOG = example("tractor_and_implement.toml"), example("tractor_and_implement.start.log")
@@ -112,19 +114,42 @@ class OtherFiles(InFolder):
                 self.assertEqual((status, said, answer.count("\n")), (2, "", 1), name)
                 self.assertIn(refused, answer)
 
-    def test_as_a_log_of_signals(self):
-        for name in self.files:
-            _, answer, said = run("signals.py", "--json", PLAN, name)
-            self.assertEqual(said, passed_over("signals", name), name)
-            self.assertEqual(answer == "", not name.endswith("log"))
-
     def test_as_a_log(self):
-        """Each line is counted as `follow` counts it, and what is put is whole."""
+        """What has lines, and none of them a frame, is refused as no log, and nothing is put; an empty file is a log without frames. Of a log
+        each line is counted as `follow` counts it, and what is put is whole."""
         for name in self.files:
-            status, answer, said = run("against.py", PLAN, name)
-            self.assertEqual(said, passed_over("against", name), name)
-            *found, count = answer.splitlines()
-            self.assertEqual((status, count), (1, f"deviations {len(found)}"), name)
+            what = lines_without_frames(name)
+            picture = self.path(f"{os.path.basename(name)}.svg")
+            pictures = [["plot.py", "--addresses", "-o", picture]] if name.endswith(("random", "log")) else []
+            for words in (["against.py"], ["signals.py"], *pictures):
+                tool = words[0][:-3]
+                status, answer, said = run(*words, PLAN, name)
+                if what is not None:
+                    self.assertEqual((status, answer), (2, ""), name)
+                    self.assertEqual(said, f"{tool}: {name} has no frame, and {what} lines that spell none: {CONVERTER}\n")
+                elif tool == "against":
+                    *found, count = answer.splitlines()
+                    self.assertEqual((status, count), (1, f"deviations {len(found)}"), name)
+                    self.assertEqual(said, passed_over(tool, name), name)
+                elif tool == "signals":
+                    self.assertEqual((status, said), (0, passed_over(tool, name)), name)
+                    self.assertEqual(answer.count("\n") <= 1, not name.endswith("log"))
+            self.assertEqual(os.path.exists(picture), bool(pictures) and what is None)
+
+    def test_formats_of_other_programs(self):
+        """ASC, TRC, CSV and the lines that candump writes without -L are no log, and the way to one is told."""
+        for name, text in {
+            "drive.asc": " 0.004000 1  18FEEE00x       Rx   d 8 8A FF 00 30 FF FF FF FF\n",
+            "drive.trc": "     1         4.0 Rx 18FEEE00  8    8A FF 00 30 FF FF FF FF\n",
+            "drive.csv": "timestamp,arbitration_id,extended,remote,error,dlc,data\n0.004,0x18feee00,1,0,0,8,iv8AMP////8=\n",
+            "drive.txt": "  can0  18FEEE00   [8]  8A FF 00 30 FF FF FF FF\n",
+        }.items():
+            log = self.write(name, text)
+            for words in (["against.py", PLAN, log], ["signals.py", PLAN, log], ["plot.py", PLAN, log, "SPN110", "-o", self.path("a.svg")]):
+                status, answer, said = run(*words)
+                self.assertEqual((status, answer), (2, ""), words)
+                self.assertIn(f"has no frame, and {text.count(chr(10))} lines that spell none: {CONVERTER}\n", said)
+            self.assertFalse(os.path.exists(self.path("a.svg")))
 
     def test_names_of_any_bytes(self):
         """A name that is no text, or has a line feed, is no fault of a plan."""
@@ -138,10 +163,17 @@ class OtherFiles(InFolder):
             self.assertEqual(program.call(["run", PLAN, self.write("start.schedule", answer)])[0], 0)
 
 
+def lines_without_frames(log):
+    """How many lines of a log spell no frame, where it has such and none with one; else None."""
+    *_, frames, _, skipped, _, bad, _, _ = program.call(["follow", PLAN, log])[1].split()
+    return bad if (frames, skipped) == ("0", "0") and bad != "0" else None
+
+
 def passed_over(tool, log):
-    """What a tool says of the lines of a log that `follow` counts as bad or elsewhere."""
-    *_, bad, _, elsewhere = program.call(["follow", PLAN, log])[1].split()
-    texts = [f"{bad} lines spell no frame"] * (bad != "0")
+    """What a tool says of the lines of a log that `follow` counts as bad or elsewhere, and of one without a frame."""
+    *_, frames, _, _, _, bad, _, elsewhere = program.call(["follow", PLAN, log])[1].split()
+    texts = [f"{log} has no frame"] * (frames == "0")
+    texts += [f"{bad} lines spell no frame"] * (bad != "0")
     texts += [f"the first interface is read; {elsewhere} lines of others are passed over"] * (elsewhere != "0")
     return "".join(f"{tool}: {text}\n" for text in texts)
 
@@ -150,18 +182,55 @@ class Interrupted(InFolder):
     def test_an_interrupt_has_no_traceback(self):
         """A tool that waits for its input ends by the signal, as a shell's other commands do."""
         os.mkfifo(self.path("fifo"))
-        for words in (["where.py", "fifo"], ["startup.py", "fifo"], ["against.py", "fifo", LOG], ["against.py", PLAN, "fifo"]):
-            started = subprocess.Popen(
-                [sys.executable, os.path.join(TOOLS, words[0]), *words[1:]], cwd=self.folder, text=True,
-                stdout=subprocess.PIPE, stderr=subprocess.PIPE, env={**os.environ, "J39PLAN": os.path.abspath(program.path())},
-                preexec_fn=lambda: signal.signal(signal.SIGINT, signal.SIG_DFL),
-            )
-            writer = os.open(self.path("fifo"), os.O_WRONLY)  # once it reads
-            time.sleep(0.1)
+        for words in (["where.py", "fifo"], ["startup.py", "fifo"], ["against.py", "fifo", LOG]):
+            ended, answer, said = self.ended(words, interrupts=1)
+            self.assertEqual((ended, answer, said), (-signal.SIGINT, "", ""), words)
+
+    def test_an_interrupt_ends_a_log_and_not_the_tool(self):
+        """Where the log is a pipe, the first interrupt is its end: what came is told, as of a file. It ends also where who writes it goes on."""
+        os.mkfifo(self.path("fifo"))
+        lines = text_of(LOG)
+        for words in (["against.py", PLAN, "fifo"], ["signals.py", PLAN, "fifo"]):
+            ended, answer, said = self.ended(words, interrupts=1, lines=lines)
+            status, whole, said_of_file = run(*words[:2], LOG)
+            self.assertEqual((ended, answer.replace("fifo", LOG), said), (status, whole, said_of_file), words)
+        if importlib.util.find_spec("matplotlib"):
+            ended, answer, said = self.ended(["plot.py", PLAN, "fifo", "SPN190", "-o", "a.svg"], interrupts=1, lines=lines)
+            self.assertEqual((ended, answer, said), (0, "", run("plot.py", PLAN, LOG, "SPN190", "-o", self.path("b.svg"))[2]))
+            self.assertIn("EEC1.SPN190", text_of(self.path("a.svg")))
+
+    def test_a_second_interrupt_ends_the_tool(self):
+        os.mkfifo(self.path("fifo"))
+        ended, answer, said = self.ended(["against.py", PLAN, "fifo"], interrupts=2, lines="")
+        self.assertEqual((ended, answer, said), (-signal.SIGINT, "", ""))
+
+    def test_an_interrupt_that_is_passed_over_by_the_shell(self):
+        """As `trap '' INT` has it: what came is told when the log ends."""
+        os.mkfifo(self.path("fifo"))
+        ended, answer, _ = self.ended(["against.py", PLAN, "fifo"], interrupts=3, lines=text_of(LOG), handler=signal.SIG_IGN)
+        self.assertEqual((ended, answer.replace("fifo", LOG)), run("against.py", PLAN, LOG)[:2])
+
+    def ended(self, words, interrupts, lines=None, handler=signal.SIG_DFL):
+        """How a tool ends that reads a FIFO, into which these lines are written, and that is interrupted then: its status, standard output and
+        standard error. The FIFO stays open until the tool has ended, or where it passes over interrupts until these were sent."""
+        started = subprocess.Popen(
+            [sys.executable, os.path.join(TOOLS, words[0]), *words[1:]], cwd=self.folder, text=True,
+            stdout=subprocess.PIPE, stderr=subprocess.PIPE, env={**os.environ, "J39PLAN": os.path.abspath(program.path())},
+            preexec_fn=lambda: signal.signal(signal.SIGINT, handler),
+        )
+        writer = os.open(self.path("fifo"), os.O_WRONLY)  # once it reads
+        if lines is not None:  # more than a pipe holds, so that the tool has begun with the log behind it
+            os.write(writer, lines.encode() + b"\n" * 200000)
+        time.sleep(0.1)
+        for _ in range(interrupts):
             started.send_signal(signal.SIGINT)
-            answer, said = started.communicate(timeout=60)
+            time.sleep(0.1)
+        if handler is signal.SIG_IGN:
             os.close(writer)
-            self.assertEqual((started.returncode, answer, said), (-signal.SIGINT, "", ""), words)
+        answer, said = started.communicate(timeout=60)
+        if handler is not signal.SIG_IGN:
+            os.close(writer)
+        return started.returncode, answer, said
 
 
 if __name__ == "__main__":

@@ -18,7 +18,7 @@ from tests.support import TOOLS, TOP, InFolder, text_of
 
 PACKAGE = os.path.join(TOOLS, "package")
 COMMANDS = ["check", "addresses", "load", "run", "read", "follow", "frame", "help"]
-INSTALLED = ["where", "startup", "dbc2plan", "plan2dbc", "join", "compare", "against", "fleet", "report", "signals", "plot", "check-plans"]
+INSTALLED = ["where", "startup", "dbc2plan", "plan2dbc", "join", "compare", "against", "fleet", "report", "signals", "plot", "tolog", "check-plans"]
 PAGE = text_of(os.path.join(TOP, "docs", "TOOLS.md"))
 
 # Whose package it is in these tests.
@@ -87,7 +87,7 @@ class Built(InFolder):
         compared = subprocess.run(["j39plan-against", plan, log], env=environment, capture_output=True, text=True, check=False)
         self.assertEqual((compared.returncode, compared.stdout.splitlines()[-1][:11]), (1, "deviations "), compared.stderr)
         self.assertIn("</html>", lines_of("j39plan-report", plan, env=environment))
-        self.assertIn("1764230400.000000,1,ENGINE,all,EEC1,SPN190,value,800,rpm,", lines_of("j39plan-signals", plan, log, env=environment))
+        self.assertIn("1764230400.000000,1,ENGINE?,0,all,255,EEC1,SPN190,value,800,rpm,", lines_of("j39plan-signals", plan, log, env=environment))
         self.assertIn("BU_: ENGINE CLUSTER", lines_of("j39plan-plan2dbc", f"{examples}/first_plan.toml", env=environment))
         drawn = subprocess.run(["j39plan-plot", plan, log, "SPN190", "-o", self.path("plot.png")], env=environment, check=False)
         self.assertEqual(drawn.returncode, 0 if importlib.util.find_spec("matplotlib") else 69)
@@ -96,6 +96,8 @@ class Built(InFolder):
         followed = f"{examples}/two_units_one_address"
         self.assertEqual(lines_of("j39plan-fleet", f"{followed}.toml", f"{followed}.drive.log", env=environment)[-1],
                          "logs 1 with deviations 0 failed 0")
+        made = subprocess.run(["j39plan-tolog", self.write("a.csv", "")], env=environment, capture_output=True, check=False)
+        self.assertEqual(made.returncode, 2 if importlib.util.find_spec("can") else 69)
         self.assertIn("load 32160 of 250000", lines_of("j39plan", "load", f"{examples}/axle.toml", env=environment))
         for tool in ("", *(f"-{tool}" for tool in INSTALLED)):
             self.assertTrue(os.path.exists(f"{prefix}/share/man/man1/j39plan{tool}.1.gz"), tool)

@@ -1,5 +1,6 @@
 """Pictures of a log: what is drawn, where nothing is, and what is refused."""
 
+import importlib.util
 import math
 import os
 import random
@@ -10,10 +11,12 @@ import unittest
 import xml.etree.ElementTree as ElementTree
 
 import program
+from clock import ends_of
 from curves import Held, Timeline, curves_of
+from logs import Log
 from readings import Choice, Rows
 from reports import Counts, follow, tables_of
-from tests.support import TOOLS, InFolder, example, needs, run
+from tests.support import TOOLS, InFolder, example, needs, run, signal
 
 PLAN = example("tractor_and_implement.toml")
 
@@ -37,8 +40,8 @@ class Told(WithLog):
         """The curves of a log, and who held which address."""
         tables = tables_of(PLAN)
         timeline = Timeline(tables.units)
-        with open(log, "rb") as file:
-            curves = curves_of(Rows(Choice(tables, names)).of(timeline.passed(follow(PLAN, file, tables, Counts()))))
+        with Log([log]) as file:
+            curves = curves_of(Rows(Choice(tables, names)).of(timeline.passed(follow(PLAN, file, tables, Counts()))), timeline.clock)
         return {(curve.group, curve.signal, curve.sender): curve for curve in curves}, timeline.held()
 
     def test_curves_have_gaps(self):
@@ -55,7 +58,7 @@ class Told(WithLog):
         _, held = self.told(self.log)
         self.assertEqual([part for part in held if part.address in (0, 128, 129)], [
             Held(0, "ENGINE", 100.0, 110.0, True), Held(128, "SPRAYER", 100.0, 105.0, False),
-            Held(128, "0000000012345678", 105.0, 110.0, True), Held(129, "SPRAYER", 105.5, 107.0, True),
+            Held(128, "#0000000012345678", 105.0, 110.0, True), Held(129, "SPRAYER", 105.5, 107.0, True),
         ])
         self.assertEqual([part for part in held if part.address == 3], [Held(3, "TRANSMISSION", 100.0, 110.0, False)])
 
@@ -63,6 +66,30 @@ class Told(WithLog):
         """The lines count."""
         bare = self.write("bare.log", "\n18FEEE00#7DFFFFFFFFFFFFFF\n18FEEE00#7DFFFFFFFFFFFFFF\n")
         self.assertEqual(list(self.told(bare, "SPN110")[0]["ET1", "SPN110", "ENGINE"].times), [2.0, 3.0])
+
+    def test_clocks_that_are_set(self):
+        """A curve goes on as if they weren't, and the addresses with it; that is said once."""
+        lines = ["(12.0) can0 18FEEE00#7DFFFFFFFFFFFFFF", "(13.0) can0 18FEEE00#7EFFFFFFFFFFFFFF",
+                 "(1764230400.0) can0 18FEEE00#7FFFFFFFFFFFFFFF", "(1764230401.5) can0 18EEFF80#7856341200000000",
+                 "(5.0) can0 18FEEE00#80FFFFFFFFFFFFFF", "(7.0) can0 18FEEE00#81FFFFFFFFFFFFFF"]
+        log = self.write("jump.log", "".join(f"{line}\n" for line in lines))
+        curves, held = self.told(log, "SPN110")
+        self.assertEqual(list(curves["ET1", "SPN110", "ENGINE"].times), [12.0, 13.0, 13.0, 14.5, 16.5])
+        self.assertIn(Held(128, "#0000000012345678", 14.5, 16.5, True), held)
+        if importlib.util.find_spec("matplotlib"):
+            said = f"plot: {log}:3: time jumps by 20419.3 days; times go back or jump 2 times in all\n"
+            self.assertEqual(run("plot.py", PLAN, log, "SPN110", "-o", self.path("a.svg")), (0, "", said))
+
+    def test_several_logs(self):
+        """One behind the other, also where the first ends without a line feed."""
+        first, second = self.write("a.log", "\n".join(LINES[:4])), self.write("b.log", "\n".join(LINES[4:]))
+        tables = tables_of(PLAN)
+        timeline = Timeline(tables.units)
+        with Log([first, second]) as log:
+            curves = curves_of(Rows(Choice(tables, ["SPN110"])).of(timeline.passed(follow(PLAN, log, tables, Counts()))), timeline.clock)
+            self.assertEqual(ends_of(log), (100_000_000_000, 110_000_000_000))
+            self.assertEqual([log.place(line) for line in (1, 4, 5, 11)], [(first, 1), (first, 4), (second, 1), (second, 7)])
+        self.assertEqual(list(curves[0].times), [101.0, 102.0, 103.0, 104.0])
 
     def test_what_is_refused(self):
         for words, status, said in (
@@ -108,17 +135,17 @@ class Drawn(WithLog):
 
     def test_an_svg_of_addresses(self):
         texts = self.texts(self.drawn("a.svg", "--addresses"))
-        for text in ("address", "129", "SPRAYER", "0000000012345678", "ENGINE"):
+        for text in ("address", "129", "SPRAYER", "#0000000012345678", "ENGINE"):
             self.assertIn(text, texts)
 
     def test_what_the_axis_counts(self):
         """Seconds, and lines in a log without times."""
-        self.assertIn("seconds from the first frame that is drawn", self.texts(self.drawn("a.svg", "SPN110")))
+        self.assertIn("seconds from 100.000000, the log's first time", self.texts(self.drawn("a.svg", "SPN110")))
         bare = self.write("bare.log", "".join(f"{line.split()[-1]}\n" for line in LINES))
         for words in (["SPN110"], ["--addresses"]):
             texts = self.texts(self.drawn("b.svg", *words, log=bare))
-            self.assertIn("lines from the first frame that is drawn", texts)
-            self.assertNotIn("seconds from the first frame that is drawn", texts)
+            self.assertIn("lines of the log", texts)
+            self.assertNotIn("seconds", "".join(texts))
 
     def test_what_is_not_in_the_log(self):
         status, _, said = run("plot.py", PLAN, self.log, "SPN544", "-o", self.path("a.svg"))
@@ -142,7 +169,8 @@ class Drawn(WithLog):
 
     def test_an_empty_log_and_an_empty_plan(self):
         empty = self.write("empty.log", "")
-        self.drawn("a.svg", "--addresses", log=empty)
+        self.assertEqual(run("plot.py", PLAN, empty, "--addresses", "-o", self.path("a.svg")), (0, "", f"plot: {empty} has no frame\n"))
+        self.assertTrue(os.path.exists(self.path("a.svg")))
         self.drawn("b.svg", "--addresses", plan=self.write("plan.toml", "version = 1\n"))
 
     def test_what_cannot_be_read_or_written(self):
@@ -164,6 +192,78 @@ class Drawn(WithLog):
             with open(self.path(name), "rb") as file:
                 head = file.read(24)
             self.assertEqual((head[:8], int.from_bytes(head[16:20], "big")), (b"\x89PNG\r\n\x1a\n", width))
+
+    def test_lines_end_where_nothing_came(self):
+        """For ten times the usual distance and a second: there no line is drawn, and one begins anew."""
+        from picture import broken
+
+        times = [0.0, 0.1, 0.2, 0.3, 1.3, 1.4, 2.5, 2.6]
+        values = [1.0, 2.0, 3.0, 4.0, 5.0, 6.0, 7.0, 8.0]
+        line, heights = broken(list(range(8)), times, values)
+        self.assertEqual(line, [0.0, 0.1, 0.2, 0.3, 1.3, 1.4, 1.4, 2.5, 2.6])
+        self.assertEqual([None if math.isnan(height) else height for height in heights], [1, 2, 3, 4, 5, 6, None, 7, 8])
+        self.assertEqual(broken([0, 3, 4, 7], times, values)[0], [0.0, 0.3, 1.3, 2.6])  # what was left out to draw less is no silence
+        slow = [0.0, 60.0, 120.0, 500.0]
+        self.assertEqual(broken([0, 1, 2, 3], slow, values)[0], slow)
+
+    def test_claims_narrower_than_a_column_are_one_box(self):
+        from picture import merged
+
+        fight = [Held(128, ("PUMP", "#0000000000000003")[number % 2], 5 + number / 100, 5 + (number + 1) / 100, True) for number in range(500)]
+        held = [Held(128, "PUMP", 0.0, 5.0, True), *fight, Held(128, "PUMP", 10.0, 20.0, True), Held(129, "PUMP", 0.0, 0.01, True)]
+        self.assertEqual(merged(held, 0.05), [(held[0], 1), (Held(128, "PUMP", 5.0, 10.0, True), 500), (held[-2], 1), (held[-1], 1)])
+        self.assertEqual(merged(held, 0.001), [(part, 1) for part in held])
+
+    def test_an_address_fight_is_drawn(self):
+        """Ten thousand claims are a box with their number, and no work for each."""
+        lines = [f"({1 + number / 200:.3f}) can0 {('18EEFF80#1240A05B00800CA0', '18EEFF80#7856341200000000')[number % 2]}\n" for number in range(10000)]
+        log = self.write("fight.log", "".join(lines) + "(200.0) can0 18FEEE00#7DFFFFFFFFFFFFFF\n")
+        self.assertIn("9999 times claimed", self.texts(self.drawn("a.svg", "--addresses", log=log)))
+
+    def test_units_have_one_colour(self):
+        """In each signal and in their boxes, ten of them before lines are dashed."""
+        from picture import Colours
+
+        colours = Colours()
+        units = [f"U{number}" for number in range(25)]
+        given = [colours.of(unit) for unit in units]
+        self.assertEqual(len(set(given)), 25)
+        self.assertEqual([line for _, line in given], ["-"] * 10 + ["--"] * 10 + ["-."] * 5)
+        self.assertEqual(colours.of("U3"), given[3])
+
+    def test_strangers_are_named(self):
+        """By `#` and the NAME, in the legend and at their boxes, also where these are narrow."""
+        lines = ["(1.0) can0 18EEFF25#04000007D0210003", "(1.1) can0 18FEEE25#7DFFFFFFFFFFFFFF", "(1.5) can0 18EEFF25#1120C32600000000",
+                 "(90.0) can0 18FEEE00#7DFFFFFFFFFFFFFF"]
+        texts = self.texts(self.drawn("a.svg", "SPN110", "--addresses", log=self.write("a.log", "".join(f"{line}\n" for line in lines))))
+        self.assertEqual(texts.count("#030021D007000004"), 2)
+
+    def test_pictures_of_one_log_agree(self):
+        """Whatever is drawn: the axis begins with the log and ends with it."""
+        lines = ["(1000.0) can0 18FF1000#00\n", *(f"{line}\n" for line in LINES), "(2000.0) can0 18FF1000#00\n"]
+        log = self.write("b.log", "".join(lines[:1] + [line.replace("(1", "(11") for line in lines[1:-1]] + lines[-1:]))
+        axes = []
+        for words in (["SPN110"], ["SPN190"], ["--addresses"]):
+            texts = self.texts(self.drawn("a.svg", *words, log=log))
+            self.assertIn("seconds from 1000.000000, the log's first time", texts)
+            axes.append(texts[:texts.index("seconds from 1000.000000, the log's first time")])
+        self.assertEqual(axes, [["0", "200", "400", "600", "800", "1000"]] * 3)
+
+    def test_a_part_of_a_log(self):
+        """By times as the axis has them, with no other labels than the whole."""
+        texts = self.texts(self.drawn("a.svg", "SPN110", "--from", "2", "--to", "4"))
+        self.assertEqual([text for text in texts if text in ("2.0", "2.00", "4.0", "4.00", "10")], ["2.00", "4.00"])
+        self.assertEqual(run("plot.py", PLAN, self.log, "SPN110", "--from", "4", "--to", "4", "-o", self.path("b.svg"))[:2], (2, ""))
+        self.assertEqual(run("plot.py", PLAN, self.log, "SPN110", "--from", "x", "-o", self.path("b.svg"))[0], 2)
+
+    def test_axes_have_no_offsets(self):
+        """Values that differ little beside what they have in common are labelled whole."""
+        group = '[[group]]\nlabel = "G"\npgn = 65267\npriority = 6\nlength = 8\n' + signal("LAT", 1, 32, "raw")
+        plan = self.write("plan.toml", "version = 1\n" + group)
+        log = self.write("a.log", "".join(f"({number}.0) can0 18FEF300#{(520000000 + number).to_bytes(4, 'little').hex()}00000000\n" for number in range(9)))
+        texts = self.texts(self.drawn("a.svg", "LAT", log=log, plan=plan))
+        self.assertIn("520000000", texts)
+        self.assertFalse([text for text in texts if "e" in text and text[0] in "+1"])
 
     def test_many_points_keep_their_extremes(self):
         from picture import thinned

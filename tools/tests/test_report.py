@@ -244,9 +244,9 @@ length = 20
         """The delays and the load are those that `load` prints; a plan that says nothing of the bus has no such section."""
         for name in ("axle.toml", "findings/f17_overload.toml", "findings/f18_late_flow.toml"):
             answer = program.call(["load", example(name)])[1]
-            rows = {int(row[0]): row for row in self.page(example(name)).rows if len(row) == 8 and row[0].isdigit()}
+            rows = {int(row[0]): row for row in self.page(example(name)).rows if len(row) == 9 and row[0].isdigit()}
             for number, word, first, last in re.findall(r"^flow (\d+) .* (within|late)(?: (\d+))? of (\d+) us$", answer, re.MULTILINE):
-                shown = rows.pop(int(number))[5:7]
+                shown = rows.pop(int(number))[6:8]
                 self.assertEqual(shown[1], f"{int(last) / 1000:g} ms")
                 self.assertEqual(shown[0], f"{int(first) / 1000:g} ms" if word == "within" else "not shown to be in time")
             self.assertEqual(rows, {})
@@ -255,11 +255,18 @@ length = 20
         self.assertIn(full, run("report.py", example("findings/f17_overload.toml"))[1])
         self.assertNotIn('id="load"', run("report.py", PLAN)[1])
 
+    def test_what_a_flow_takes_of_the_bus(self):
+        """Its own bits of a second beside the load of all, and the delay beside its limit; neither is called by the other's name."""
+        rows = self.page(example("axle.toml")).rows
+        self.assertIn(["Flow", "Group", "From", "To", "Period", "bus load", "On the bus within", "Limit", "of its limit"], rows)
+        self.assertIn(["1", "TSC1", "RETARDER", "ENGINE", "10 ms", "6.4 %", "1.28 ms", "10 ms", "12.8 %"], rows)
+        self.assertIn(["3", "ET1", "ENGINE", "all", "1000 ms", "0.1 %", "3.2 ms", "50 ms", "6.4 %"], rows)
+
     def test_load_of_other_plans(self):
         """A long message has no bound; findings before that leave the load unknown; a plan without flows takes nothing."""
         text = text_of(example("axle.toml"))
         long = self.page(self.write("long.toml", text.replace("pgn = 65262\npriority = 6\nlength = 8", "pgn = 65262\npriority = 6\nlength = 39")))
-        self.assertIn(["3", "ET1", "ENGINE", "all", "1000 ms", "no bound: 7 frames a message", "–", "–"], long.rows)
+        self.assertIn(["3", "ET1", "ENGINE", "all", "1000 ms", "–", "no bound: 7 frames a message", "–", "–"], long.rows)
         self.page(example("findings/f16_no_period.toml"))
         self.assertIn("Not known: the plan has findings", run("report.py", example("findings/f16_no_period.toml"))[1])
         bare = self.write("bare.toml", "version = 3\n[timing]\nbitrate = 500000\nunplanned = 0\n")

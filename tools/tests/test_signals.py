@@ -11,7 +11,12 @@ import sys
 import unittest
 
 import program
-from tests.support import MARKED, NEWER, TOOLS, InFolder, example, run, signal
+from cut_plan import cut
+from cut_plan import shorter as shorter_of
+from plan_tables import Tables
+from readings import Choice
+from reports import tables_of
+from tests.support import MARKED, NEWER, TOOLS, InFolder, example, needs, run, signal, text_of
 from tests.test_report import large_plan
 
 PLAN, LOG = example("tractor_and_implement.toml"), example("tractor_and_implement.start.log")
@@ -78,9 +83,9 @@ class Signals(InFolder):
     def test_the_example(self):
         rows = self.rows(PLAN, LOG)
         said = [(row["line"], row["from"], row["group"], row["signal"], row["state"], row["value"], row["unit"]) for row in rows]
-        self.assertIn(("1", "ENGINE", "EEC1", "SPN190", "value", "800", "rpm"), said)
-        self.assertIn(("5", "ENGINE", "CCVS", "SPN70", "absent", "", ""), said)
-        self.assertIn(("17", "ENGINE", "EC1", "SPN544", "value", "900", "Nm"), said)
+        self.assertIn(("1", "ENGINE?", "EEC1", "SPN190", "value", "800", "rpm"), said)
+        self.assertIn(("5", "ENGINE?", "CCVS", "SPN70", "absent", "", ""), said)
+        self.assertIn(("17", "ENGINE?", "EC1", "SPN544", "value", "900", "Nm"), said)
         self.assertEqual([row["detail"] for row in rows if row["state"] == "fault"], ["65024"])
         self.assertEqual({row["time"] for row in rows if row["line"] == "5"}, {"1764230400.050000"})
 
@@ -105,11 +110,17 @@ class Signals(InFolder):
         self.assertGreater(met, 80)
 
     def test_who_sends_is_who_holds_the_address(self):
-        """A unit that moved is called by its label, and an address that nobody planned by its number."""
-        log = self.write("a.log", "18EFFF80#01FFFF\n18EEFF81#0200000000000080\n18EFFF80#01FFFF\n18EF0081#01FFFF\n18EFFF25#01FFFF\n")
-        rows = self.rows(self.write("plan.toml", UNITS + ONE), log)
-        self.assertEqual([(row["line"], row["from"], row["to"]) for row in rows],
-                         [("1", "PUMP", "all"), ("3", "128", "all"), ("4", "PUMP", "ENGINE"), ("5", "37", "all")])
+        """A unit that moved is called by its label, with `?` where only the plan tells who it is; who isn't planned by the NAME, and by the
+        address where nothing is known."""
+        log = self.write("a.log", "18EFFF80#01FFFF\n18EEFF81#0200000000000080\n18EFFF80#01FFFF\n18EF0081#01FFFF\n18EFFF25#01FFFF\n"
+                                  "18EEFF25#0300000000000000\n18EF2581#01FFFF\n")
+        plan = self.write("plan.toml", UNITS + ONE)
+        self.assertEqual([tuple(row[key] for key in ("line", "from", "source", "to", "destination")) for row in self.rows(plan, log)], [
+            ("1", "PUMP?", "128", "all", "255"), ("3", "128", "128", "all", "255"), ("4", "PUMP", "129", "ENGINE?", "0"),
+            ("5", "37", "37", "all", "255"), ("7", "PUMP", "129", "#0000000000000003", "37")])
+        objects = [json.loads(line) for line in run("signals.py", "--json", plan, log)[1].splitlines()]
+        self.assertEqual([(told["from"], told["source"], told["to"], told["destination"]) for told in objects[2::2]],
+                         [("PUMP", 129, "ENGINE?", 0), ("PUMP", 129, "#0000000000000003", 37)])
 
     def test_private_groups_are_told_by_their_flows(self):
         """As `follow` has it: where a unit sends one by a flow."""
@@ -141,6 +152,7 @@ class Signals(InFolder):
         ])
         wide = self.rows(plan, log, "--wide", "T")
         self.assertEqual([row["G.T"] for row in wide], ["Hi", "\\x22\\x5C"])
+        self.assertNotIn("G.T state", wide[0])
         objects = [json.loads(line) for line in run("signals.py", "--json", plan, log, "G.T")[1].splitlines()]
         self.assertEqual([(told["state"], told["detail"]) for told in objects], [("text", "Hi"), ("text", "\\x22\\x5C")])
 
@@ -152,22 +164,46 @@ class Signals(InFolder):
                  "spn 520192 fmi 31 count 1"]
         several = [("7", f"DTC[{place}]", "dtc", code) for place, code in enumerate(codes, 1)]
         self.assertEqual(said, [("1", "DTC[1]", "none", ""), ("2", "DTC[1]", "dtc", codes[1]), *several])
-        wide = [row["DM1.DTC"] for row in self.rows(plan, log, "--wide", "DM1.DTC")]
-        self.assertEqual(wide, ["none", f"dtc {codes[1]}", "; ".join(f"dtc {code}" for code in codes)])
+        wide = [(row["DM1.DTC"], row["DM1.DTC state"]) for row in self.rows(plan, log, "--wide", "DM1.DTC")]
+        self.assertEqual(wide, [("", "none"), (codes[1], ""), ("; ".join(codes), "")])
+
+    def test_codes_in_json(self):
+        """A code is told by its parts, as numbers, and a record by its own."""
+        plan, log = example("trouble_codes.toml"), example("trouble_codes.drive.log")
+        objects = [json.loads(line) for line in run("signals.py", "--json", plan, log, "DTC")[1].splitlines()]
+        self.assertEqual({told["signal"] for told in objects}, {"DTC"})
+        said = [(told["record"], told["state"], told.get("spn"), told.get("fmi"), told.get("count"), told.get("detail")) for told in objects]
+        self.assertEqual(said[:4], [(1, "none", None, None, None, None), (1, "dtc", 110, 0, 3, None), (1, "dtc", 100, 1, 2, None),
+                                    (2, "dtc", 110, 0, 3, None)])
 
     def test_all_forms_say_the_same(self):
         plan = self.write("plan.toml", KINDS)
         log = self.write("a.log", "(1.50) can0 18FEEE00#E12E07FF6E000305\n(2.5) can0 18FEEE80#00FF07800000FFFF\n")
         rows = self.rows(plan, log)
         objects = [json.loads(line) for line in run("signals.py", "--json", plan, log)[1].splitlines()]
-        self.assertEqual([{key: str(text) for key, text in found.items() if key not in ("value", "time")} for found in objects],
-                         [{key: text for key, text in row.items() if text and key not in ("value", "time")} for row in rows])
+        others = ("value", "time", "detail", "spn", "fmi", "raw", "count")
+        self.assertEqual([{key: str(text) for key, text in found.items() if key not in others} for found in objects],
+                         [{key: text for key, text in row.items() if text and key not in others} for row in rows])
         self.assertEqual([float(row["value"]) for row in rows if row["value"]], [found["value"] for found in objects if "value" in found])
         self.assertEqual([found["time"] for found in objects], [1.5] * 4 + [2.5] * 4)
         first, second = csv.DictReader(io.StringIO(run("signals.py", "--wide", plan, log)[1]))
-        self.assertEqual(first, {"time": "1.50", "line": "1", "from": "ENGINE", "to": "all", "group": "G", "G.SPEED [rpm]": "1500.125",
-                                 "G.THIRD [1/3 l]": "7", "G.TURN [deg/s]": "-0.25", "G.CODE": "dtc spn 110 fmi 3 count 5"})
-        self.assertEqual((second["from"], second["G.SPEED [rpm]"]), ("PUMP", "absent"))
+        self.assertEqual(first, {
+            "time": "1.50", "line": "1", "from": "ENGINE?", "source": "0", "to": "all", "destination": "255", "group": "G",
+            "G.SPEED [rpm]": "1500.125", "G.SPEED state": "", "G.THIRD [1/3 l]": "7", "G.THIRD state": "", "G.TURN [deg/s]": "-0.25",
+            "G.TURN state": "", "G.CODE": "spn 110 fmi 3 count 5", "G.CODE state": ""})
+        self.assertEqual((second["from"], second["G.SPEED [rpm]"], second["G.SPEED state"]), ("PUMP?", "", "absent"))
+
+    @needs("pandas", "python3-pandas")
+    def test_pandas_reads_numbers(self):
+        """Each column of values, though it has states in between; and the lines that docs/TOOLS.md shows do what they say."""
+        import pandas
+
+        plan = self.write("plan.toml", KINDS)
+        log = self.write("a.log", "(1.50) can0 18FEEE00#E12E07FF6E000305\n(2.5) can0 18FEEE80#00FF07800000FFFF\n(3.5) can0 18FEEE80#00FE0780FFFFFFFF\n")
+        frame = pandas.read_csv(io.StringIO(run("signals.py", "--wide", plan, log)[1]))
+        self.assertEqual([str(frame[column].dtype) for column in ("time", "source", "destination", "G.SPEED [rpm]", "G.TURN [deg/s]")],
+                         ["float64", "int64", "int64", "float64", "float64"])
+        self.assertEqual(list(frame["G.SPEED state"].fillna("")), ["", "absent", "fault 65024"])
 
     def test_what_is_chosen(self):
         log = LOG
@@ -178,6 +214,61 @@ class Signals(InFolder):
         said = "signals: no group or signal is called SPN1900; did you mean SPN190?\n"
         self.assertEqual(run("signals.py", PLAN, log, "SPN1900"), (2, "", said))
         self.assertEqual(self.rows(PLAN, log, "VI"), [])
+
+    def test_the_plan_is_cut(self):
+        """`follow` is asked for what is chosen alone; what is told of that is the same, whatever the log carries beside it."""
+        rng, told = random.Random(11), 0
+        for groups in (LONG + OTHER + ONE, ONE + LONG + LONG.replace('"LONG"', '"AGAIN"') + OTHER):
+            plan = self.write("plan.toml", UNITS + groups + '[[flow]]\ngroup = "ONE"\nfrom = "PUMP"\nto = "all"\n')
+            lines = random_log(rng, 150)
+            for claim in ("18EEFF80#0200000000000080", "18EEFF25#0900000000000000", "18EEFF81#0200000000000080"):
+                lines.insert(rng.randrange(len(lines)), f"(1.5) can0 {claim}")
+            log = self.write("a.log", "\n".join(lines) + "\n")
+            head, *whole = run("signals.py", plan, log)[1].splitlines()
+            for name in ("LONG", "OTHER", "ONE"):
+                status, answer, _ = run("signals.py", plan, log, name)
+                chosen = answer.splitlines()[1:]
+                self.assertEqual((status, chosen), (0, [row for row in whole if row.split(",")[head.split(",").index("group")] == name]))
+                told += len(chosen)
+            tables = tables_of(plan)
+            with cut(plan, tables, Choice(tables, ["LONG"])) as (shorter, parts):
+                self.assertEqual([group.label for group in parts.groups], [group.label for group in tables.groups if group.pgn == 65260])
+                self.assertEqual((len(parts.units), len(parts.flows)), (2, 0))
+                self.assertNotIn("ONE", text_of(shorter))
+        self.assertGreater(told, 60)
+
+    def test_plans_that_are_not_cut(self):
+        """One whose groups are no tables with headers, and one in which a code is told with a signal's label: all of it stays."""
+        inline = UNITS + 'group = [{ label = "ET1", pgn = 65262, priority = 6, length = 8 }]\n'
+        for text in (inline.replace("[[unit]]", "", 0), NEWER):
+            plan = self.write("plan.toml", text if text is NEWER else text.replace(UNITS, "version = 3\n"))
+            tables = tables_of(plan)
+            with cut(plan, tables, Choice(tables, [], nothing=True)) as (shorter, parts):
+                self.assertEqual((shorter, parts), (plan, tables))
+        text = text_of(example("trouble_codes.toml"))
+        tables = Tables.of(text.encode())
+        self.assertIsNotNone(shorter_of(text, tables, Choice(tables, ["DTC"])))
+        self.assertIsNone(shorter_of(text + "spn = 110\n", tables, Choice(tables, ["DTC"])))
+
+    def test_signals_of_a_group_are_cut(self):
+        """Those that aren't wanted, but none that is repeated, and no parts of a group's own."""
+        plan = example("tractor_and_implement.toml")
+        tables = tables_of(plan)
+        with cut(plan, tables, Choice(tables, ["EEC1.SPN190"])) as (shorter, parts):
+            self.assertEqual([[signal.label for signal in group.signals] for group in parts.groups], [["SPN190"]])
+            self.assertEqual(program.call(["follow", shorter, LOG])[1].splitlines()[1], "  SPN190 value 6400 1/8 rpm")
+
+    def test_several_logs(self):
+        """One drive: each row has its log and its line there. What is no name of a group or signal is a log where it is a file."""
+        lines = text_of(LOG).splitlines()
+        first, second = self.write("a.log", "\n".join(lines[:9])), self.write("b, 2.log", "\n".join(lines[9:]) + "\n")
+        whole, rows = self.rows(PLAN, LOG, "SPN190", "EC1"), self.rows(PLAN, first, second, "SPN190", "EC1")
+        self.assertEqual([{**row, "line": "", "log": ""} for row in rows], [{**row, "line": "", "log": ""} for row in whole])
+        places = [(first, row["line"]) if int(row["line"]) <= 9 else (second, str(int(row["line"]) - 9)) for row in whole]
+        self.assertEqual([(row["log"], row["line"]) for row in rows], places)
+        objects = [json.loads(line) for line in run("signals.py", "--json", PLAN, first, "EC1", second)[1].splitlines()]
+        self.assertEqual({told["log"] for told in objects}, {second})
+        self.assertEqual(run("signals.py", PLAN, first, self.path("none.log"))[0], 2)
 
     def test_plans_of_every_form(self):
         """Also those whose groups have no signals, and one without groups: there is nothing to tell."""
@@ -191,10 +282,11 @@ class Signals(InFolder):
         log = self.write("a.log", "".join(frames))
         rows = self.rows(plan, log, "S1")
         self.assertEqual([(row["line"], row["from"], row["group"], row["value"]) for row in rows],
-                         [(str(number + 1), f"U{number}", f"G{number}", str(number)) for number in range(128)])
+                         [(str(number + 1), f"U{number}?", f"G{number}", str(number)) for number in range(128)])
 
     def test_what_is_passed_over_is_said(self):
-        self.assertEqual(run("signals.py", PLAN, self.write("a.log", "1\n(1.0) can0 x\n"))[2], "signals: 2 lines spell no frame\n")
+        log = self.write("a.log", "1\n(1.0) can0 x\n(1.0) can0 18FEEE00#7DFFFFFFFFFFFFFF\n")
+        self.assertEqual(run("signals.py", PLAN, log)[2], "signals: 2 lines spell no frame\n")
         log = self.write("a.log", "(1.0) can0 18FEEE00#7DFFFFFFFFFFFFFF\n(1.0) can1 18FEEE00#7EFFFFFFFFFFFFFF\n")
         status, answer, said = run("signals.py", PLAN, log, "SPN110")
         self.assertEqual((status, answer.count("\n")), (0, 2))
@@ -215,7 +307,7 @@ class Signals(InFolder):
             for value in ("7D", "7E"):
                 tool.stdin.write(f"(1.0) can0 18FEEE00#{value}FFFFFFFFFFFFFF\n")
                 tool.stdin.flush()
-                self.assertEqual(tool.stdout.readline().split(",")[7], str(int(value, 16) - 40))
+                self.assertEqual(tool.stdout.readline().split(",")[9], str(int(value, 16) - 40))
             tool.stdin.close()
             self.assertEqual(tool.stdout.read(), "")
 

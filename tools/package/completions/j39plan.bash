@@ -32,10 +32,12 @@ _j39plan_tool() {
     mapfile -t COMPREPLY < <(compgen -W "$("${COMP_WORDS[0]}" --help 2> /dev/null | grep -oE -- '--[a-z]+' | sort -u)" -- "$word")
   elif [ "$tool" = j39plan-dbc2plan ]; then
     _j39plan_files dbc "$word"
+  elif [ "$tool" = j39plan-tolog ]; then
+    _j39plan_files blf "$word"
   elif [[ $tool =~ ^j39plan-(against|fleet|signals|plot)$ ]] && [ "$COMP_CWORD" -gt 1 ]; then
     _j39plan_files log "$word"
   else
     _j39plan_files toml "$word"
   fi
 }
-complete -F _j39plan_tool j39plan-where j39plan-startup j39plan-dbc2plan j39plan-plan2dbc j39plan-join j39plan-compare j39plan-against j39plan-fleet j39plan-report j39plan-signals j39plan-plot j39plan-check-plans
+complete -F _j39plan_tool j39plan-where j39plan-startup j39plan-dbc2plan j39plan-plan2dbc j39plan-join j39plan-compare j39plan-against j39plan-fleet j39plan-report j39plan-signals j39plan-plot j39plan-tolog j39plan-check-plans

@@ -15,7 +15,7 @@ complete -c j39plan -n '__fish_seen_subcommand_from check addresses load run rea
 complete -c j39plan -n '__fish_seen_subcommand_from help' -a 'check addresses load run read follow frame'
 
 # The tools.
-for tool in where startup dbc2plan plan2dbc join compare against fleet report signals plot check-plans
+for tool in where startup dbc2plan plan2dbc join compare against fleet report signals plot tolog check-plans
     complete -c j39plan-$tool -l help -s h -d 'print the help'
     complete -c j39plan-$tool -l version -d 'print the version'
 end
@@ -32,13 +32,18 @@ complete -c j39plan-report -l output -s o -r -F -d 'the name of the HTML file'
 complete -c j39plan-report -l watch -d 'serve the page, drawn anew as the plan is saved'
 complete -c j39plan-report -l address -x -d 'at which address of this machine the page is served'
 complete -c j39plan-report -l port -x -d 'at which port the page is served'
-complete -c j39plan-against -l jitter -x -d 'by how much messages may come nearer than their period, in ms'
+complete -c j39plan-against -l jitter -x -d 'by how much messages may come nearer than their period, as 2.5 (ms) or 10%'
+complete -c j39plan-against -l silence -x -d 'after how many periods without a message a flow is silent'
+complete -c j39plan-against -l table -d 'a table of the flows first'
 complete -c j39plan-fleet -l jitter -x -d 'by how much messages may come nearer than their period'
 complete -c j39plan-fleet -l json -d 'as a JSON object with an array for each table'
 complete -c j39plan-fleet -l processes -x -d 'how many logs are read at once'
 complete -c j39plan-fleet -l scheduler -x -d 'the scheduler of a Dask cluster'
 complete -c j39plan-signals -l csv -d 'a row a signal'
 complete -c j39plan-signals -l json -d 'a JSON object a signal'
-complete -c j39plan-signals -l wide -d 'a row a message, a column a signal'
+complete -c j39plan-signals -l wide -d 'a row a message, two columns a signal'
 complete -c j39plan-plot -l output -s o -r -F -d 'the name of the picture'
 complete -c j39plan-plot -l addresses -d 'draw who held which address when, too'
+complete -c j39plan-plot -l from -x -d 'where the picture begins, in seconds'
+complete -c j39plan-plot -l to -x -d 'where the picture ends, in seconds'
+complete -c j39plan-tolog -l channel -x -d 'only this channel, as can1'

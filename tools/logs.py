@@ -1,0 +1,103 @@
+"""A log as the tools read it: one file, or several of one drive behind one another, from a disk or from a pipe."""
+
+import bisect
+import io
+import os
+import select
+import signal
+import stat
+import time
+from collections.abc import Sequence
+from types import FrameType
+from typing import Self
+
+# So much of the begin and of the end of a log is kept, to see its first and its last time.
+KEPT = 1 << 16
+
+# So long is waited, in seconds, for what is still on its way in a pipe when an interrupt has come.
+GRACE = 0.5
+
+
+def is_live(file: io.FileIO) -> bool:
+    """Whether a file is no regular one, so that somebody may wait for what has come of it."""
+    return not stat.S_ISREG(os.fstat(file.fileno()).st_mode)
+
+
+class Log(io.RawIOBase):
+    """The files of a log as one, each of whose lines ends. An interrupt from the keyboard ends what records the log, too, and what came
+    of it is to be told: so where a file is a pipe, the first interrupt ends the log, and no more."""
+
+    def __init__(self, names: Sequence[str]) -> None:
+        super().__init__()
+        self.names = list(names)
+        self.files = [open(name, "rb", buffering=0) for name in names]
+        self.is_live = any(map(is_live, self.files))
+        self._at, self._lines, self._starts, self._is_cut = 0, 0, [0], False
+        self._head = self._tail = b""
+        self._woken, self._wake = os.pipe()
+        self._end: float | None = None
+
+    def __enter__(self) -> Self:
+        return self
+
+    def close(self) -> None:
+        """Closes the files."""
+        for file in self.files:
+            file.close()
+        super().close()
+
+    def readable(self) -> bool:
+        """It is there to be read."""
+        return True
+
+    def place(self, line: int) -> tuple[str, int]:
+        """The file of a line of the whole, and its line there."""
+        at = bisect.bisect_left(self._starts, line) - 1
+        return self.names[at], line - self._starts[at]
+
+    def readinto(self, buffer: "memoryview | bytearray") -> int:  # type: ignore[override]
+        """Reads what comes next; a line feed behind a file that ends without one."""
+        while self._at < len(self.files):
+            file = self.files[self._at]
+            count = (file.readinto(buffer) or 0) if not self.is_live or self._comes(file) else 0
+            if count:
+                self._keep(bytes(buffer[:count]))
+                return count
+            self._at = self._at + 1 if self._end is None else len(self.files)
+            if self._is_cut and self._at < len(self.files):
+                buffer[:1], self._is_cut = b"\n", False
+                self._lines += 1
+                self._starts.append(self._lines)
+                return 1
+            self._starts.append(self._lines)
+        return 0
+
+    def _keep(self, piece: bytes) -> None:
+        """Counts the lines of a piece, and keeps what is the log's begin or end."""
+        self._lines += piece.count(b"\n")
+        self._is_cut = not piece.endswith(b"\n")
+        if len(self._head) < KEPT:
+            self._head += piece[:KEPT]
+        self._tail = piece if len(piece) >= KEPT else (self._tail + piece)[-KEPT:]
+
+    def ends(self) -> tuple[bytes, bytes]:
+        """The begin and the end of a log that was read."""
+        if self._head:
+            return self._head, self._tail
+        file, size = self.files[0].fileno(), os.fstat(self.files[0].fileno()).st_size
+        return os.pread(file, KEPT, 0), os.pread(file, KEPT, max(size - KEPT, 0))
+
+    def _comes(self, file: io.FileIO) -> bool:
+        """Waits until more of a file is there, or it ends; behind an interrupt not for long."""
+        if self._end is None:
+            select.select([file, self._woken], [], [])
+        if self._end is None:
+            return True
+        left = self._end - time.monotonic()
+        return left > 0 and bool(select.select([file], [], [], left)[0])
+
+    def interrupt(self, *_: int | FrameType | None) -> None:
+        """Ends the log. A second interrupt ends the tool."""
+        signal.signal(signal.SIGINT, signal.default_int_handler)
+        self._end = time.monotonic() + GRACE
+        os.write(self._wake, b"!")

@@ -1,0 +1,142 @@
+"""What the bounds of `load` rest on, as far as a log can refute it."""
+
+import unittest
+
+from tests.support import InFolder, run
+
+# EEC1 waits for one unplanned frame at most by its bound, 1,920 us: a frame that has begun, an unplanned one, and itself.
+PLAN = """version = 3
+timing = { bitrate = 250000, unplanned = 1 }
+[[unit]]
+label = "ENGINE"
+address = 0
+name = { identity = 1 }
+[[unit]]
+label = "TOOL"
+address = 249
+name = { identity = 2 }
+[[group]]
+label = "ET1"
+pgn = 65262
+priority = 6
+length = 8
+[[group]]
+label = "VI"
+pgn = 65260
+priority = 6
+length = 17
+[[flow]]
+group = "ET1"
+from = "ENGINE"
+to = "all"
+period = 10
+[[flow]]
+group = "VI"
+from = "ENGINE"
+to = "all"
+period = 5000
+[[flow]]
+group = "VI"
+from = "ENGINE"
+to = "TOOL"
+period = 5000
+"""
+
+ET1, STRANGE = "18FEEE00#7DFFFFFFFFFFFFFF", "18FF10F9#0000000000000000"
+BAM = ["1CECFF00#20110003FFECFE00", *(f"1CEBFF00#0{number}AAAAAAAAAAAAAA" for number in (1, 2, 3))]
+RTS, CLEAR, PACKETS, WHOLE = "1CECF900#10110003FFECFE00", "1CEC00F9#110301FFFFECFE00", [
+    f"1CEBF900#0{number}AAAAAAAAAAAAAA" for number in (1, 2, 3)], "1CEC00F9#13110003FFECFE00"
+
+
+class Premises(InFolder):
+    def told(self, *log, plan=PLAN):
+        """What is told of a log but of flows and units that aren't there."""
+        name = self.write("drive.log", "".join(f"({time}) can0 {frame}\n" for time, frame in log))
+        _, answer, said = run("against.py", "--silence", "0", self.write("plan.toml", plan), name)
+        self.assertEqual(said, "")
+        return [line.replace(name, "L") for line in answer.splitlines()[:-1] if line.startswith(name)]
+
+    def broadcast(self, *times, frames=None):
+        """A broadcast by the times of its frames."""
+        return list(zip(times, frames or BAM))
+
+    def test_a_log_that_keeps_them(self):
+        log = [("1.0", ET1), ("1.0005", STRANGE), *self.broadcast("2.00", "2.05", "2.15", "2.35"), ("3.0", RTS), ("3.2", CLEAR),
+               ("3.4", PACKETS[0]), ("3.401", PACKETS[1]), ("3.402", PACKETS[2]), ("3.602", WHOLE), ("4.0", "18EAFFF9#00EE00"),
+               ("4.1", "18EEFF00#0100000000000000"), ("4.2", "18EEFFF9#0200000000000000")]
+        self.assertEqual(self.told(*log), [])
+
+    def test_priorities_of_what_is_not_planned(self):
+        """Each kind of frame: of makers' own groups, services, requests, claims, the extended page, a group without a flow."""
+        said = "priority {}: by 'load' what no flow has is of 6 or more"
+        for frame, what in (("0CFF10F9#00", "PGN 65296 from TOOL"), ("0CE8FFF9#00FFFFFFFFECFE00", "PGN 59392 from TOOL"),
+                            ("0CEA00F9#ECFE00", "PGN 59904 from TOOL"), ("0CEEFFF9#0200000000000000", "PGN 60928 from TOOL"),
+                            ("0EFF10F9#00", "PGN 196368 from TOOL"), ("0CECFFF9#20090002FF10FF00", "PGN 65296 from TOOL")):
+            self.assertIn(f"L:1: {what} has {said.format(3)}", self.told(("1.0", frame), ("9.0", ET1)), frame)
+            self.assertEqual([line for line in self.told(("1.0", "18" + frame[2:]), ("9.0", ET1)) if "load" in line], [], frame)
+        self.assertIn(f"L:1: ET1 from TOOL has {said.format(3)}", self.told(("1.0", ET1.replace("18FEEE00", "0CFEEEF9"))))
+        self.assertEqual(self.told(("1.0", "0CFF10F9#00"), ("9.0", ET1), plan=PLAN.replace("timing = { bitrate = 250000, unplanned = 1 }", "")), [])
+
+    def test_frames_with_11_bits(self):
+        """They win against each planned frame; those of another interface don't."""
+        said = "L:2: a frame with an 11-bit identifier, which may go before each planned one  (2 times)"
+        self.assertEqual(self.told(("1.0", ET1), ("1.1", "123#00"), ("1.2", "7FF#"), ("1.3", ET1))[:1], [said])
+        log = self.write("two.log", f"(1.0) can0 {ET1}\n(1.1) can1 123#00\n")
+        self.assertNotIn("11-bit", run("against.py", self.write("plan.toml", PLAN), log)[1])
+
+    def test_more_unplanned_frames_than_the_plan_allows(self):
+        """More than that within the bound of a flow before which they may go; what may not isn't counted."""
+        # ET1 is on the bus within 1,920 us by `load`, and its identifiers are below those of group 65296.
+        before = "18FE10F9#0000000000000000"
+        plan = PLAN.replace("period = 10\n", "period = 10\n", 1)
+        bound = next(line for line in self.load(plan) if line.startswith("flow 1 "))
+        within = int(bound.split()[6])
+        span = within / 1e6
+        found = self.told(("1.0", before), (f"{1 + span:.6f}", before), ("9.0", ET1))
+        said = f"2 frames that no flow has came within {within / 1000:g} ms, in which they may all go before flow 1, ET1 from ENGINE to all"
+        self.assertIn(f"L:2: {said}: `unplanned` is 1", found)
+        self.assertNotIn(said, "".join(self.told(("1.0", before), (f"{1 + span + 0.000001:.6f}", before), ("9.0", ET1))))
+        self.assertNotIn("frames that no flow has", "".join(self.told(("1.0", STRANGE), ("1.0001", STRANGE), ("9.0", ET1))))
+
+    def load(self, plan):
+        """What `load` says of a plan."""
+        import program
+
+        return program.call(["load", self.write("plan.toml", plan)])[1].splitlines()
+
+    def test_the_priority_of_the_transport_protocol(self):
+        """That of a planned message; one that isn't planned has that of all others."""
+        log = self.broadcast("2.00", "2.05", "2.15", "2.35", frames=[frame.replace("1C", "18", 1) for frame in BAM])
+        said = "L:1: VI from ENGINE to all: frames of the transport protocol have priority 6, by 'load' 7  (4 times)"
+        self.assertIn(said, self.told(*log))
+        own = PLAN.replace("unplanned = 1", "unplanned = 1, transport_priority = 6").replace("version = 3", "version = 4")
+        self.assertTrue(self.reads(own) is None or said not in self.told(*log, plan=own))
+        other = [(time, frame.replace("ECFE00", "10FF00")) for time, frame in log]
+        self.assertNotIn("transport protocol", "".join(self.told(*other)))
+
+    def reads(self, plan):
+        """The plan, where the program knows its keys."""
+        return plan if not self.load(plan)[:1] or not self.load(plan)[0].startswith("refused") else None
+
+    def test_the_pace_of_broadcasts(self):
+        """Frames nearer than 50 ms, the announcement too, or further apart than 200, by the nearest and the furthest."""
+        near = "VI from ENGINE to all: frames {} ms apart, at least 50 ms are between two"
+        self.assertIn("L:2: " + near.format("49.999") , self.told(*self.broadcast("2.0", "2.049999", "2.1", "2.2")))
+        self.assertIn("L:4: " + near.format("1") + "  (2 times)", self.told(*self.broadcast("2.0", "2.1", "2.102", "2.103")))
+        far = "VI from ENGINE to all: frames {} ms apart, at most 200 ms are between two"
+        self.assertIn("L:3: " + far.format("300"), self.told(*self.broadcast("2.0", "2.2", "2.5", "2.7")))
+
+    def test_answers_that_are_late(self):
+        """Behind an announcement, behind a clear to send, and behind the last packet."""
+        times = [3.0, 3.1, 3.2, 3.201, 3.202, 3.3]
+        frames = [RTS, CLEAR, *PACKETS, WHOLE]
+        said = "VI from ENGINE to TOOL: an answer after {} ms, by the standard within 200"
+        self.assertEqual(self.told(*zip(times, frames)), [])
+        for at, line in ((1, 2), (2, 3), (5, 6)):
+            late = [time + (0.3 if number >= at else 0) for number, time in enumerate(times)]
+            duration = 1000 * (late[at] - late[at - 1])
+            self.assertEqual(self.told(*zip([f"{time:.6f}" for time in late], frames)), [f"L:{line}: {said.format(f'{duration:.6g}')}"])
+
+
+if __name__ == "__main__":
+    unittest.main()

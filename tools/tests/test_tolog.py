@@ -1,0 +1,105 @@
+"""Logs of other formats: what comes of ASC, BLF, TRC and CSV, by channels, and what is refused."""
+
+import os
+import subprocess
+import sys
+import unittest
+
+import program
+from tests.support import TOOLS, InFolder, example, needs, run, text_of
+
+LOG = example("truck.drive.log")
+
+# The frames of the log.
+FRAMES = [line.split()[-1] for line in text_of(LOG).splitlines()]
+
+
+@needs("can", "python3-can")
+class Converted(InFolder):
+    def recorded(self, name, messages):
+        """A file that python-can writes."""
+        import can
+
+        with can.Logger(self.path(name)) as logger:
+            for message in messages:
+                logger(message)
+        return self.path(name)
+
+    def messages(self, **more):
+        """The messages of the log."""
+        import can
+
+        read = list(can.LogReader(LOG))
+        for message in read:
+            for key, value in more.items():
+                setattr(message, key, value)
+        return read
+
+    def test_each_format(self):
+        """Each frame comes through, with its time, and `follow` says the same of it."""
+        _, whole = program.call(["follow", example("truck.toml"), LOG])
+        for ending in ("asc", "blf", "trc", "csv", "db"):
+            status, answer, said = run("tolog.py", self.recorded(f"drive.{ending}", self.messages()))
+            self.assertEqual((status, said), (0, ""), ending)
+            self.assertEqual([line.split()[2] for line in answer.splitlines()], FRAMES, ending)
+            log = self.write("drive.log", answer)
+            told = program.call(["follow", example("truck.toml"), log])[1]
+            self.assertEqual([line.split(maxsplit=2)[2:] for line in told.splitlines()], [line.split(maxsplit=2)[2:] for line in whole.splitlines()])
+            times = [float(line.split()[0].strip("()")) for line in answer.splitlines()]
+            expected = [float(line.split()[0].strip("()")) for line in text_of(LOG).splitlines()]
+            for time, there in zip(times, expected, strict=True):
+                self.assertAlmostEqual(time - times[0], there - expected[0], delta=0.0011)
+
+    def test_channels(self):
+        """Each is an interface; how many frames each has is said, and one is taken by its name or number."""
+        first, second = self.messages(channel=0), self.messages(channel=1)
+        file = self.recorded("drive.blf", [message for both in zip(first, second[:3] + first[3:]) for message in both])
+        status, answer, said = run("tolog.py", file)
+        self.assertEqual(status, 0)
+        self.assertEqual(said, "tolog: drive.blf has several channels, and 'follow' reads the first of a log: 13 of can0, 3 of can1 frames; see --channel\n")
+        self.assertEqual({line.split()[1] for line in answer.splitlines()}, {"can0", "can1"})
+        for channel in ("can1", "1"):
+            status, answer, said = run("tolog.py", "--channel", channel, file)
+            self.assertEqual((status, said, [line.split()[1:] for line in answer.splitlines()]), (0, "", [["can1", frame] for frame in FRAMES[:3]]))
+        self.assertEqual(run("tolog.py", "--channel", "can7", file), (2, "", f"tolog: {file} has no frame of can7; it has can0, can1\n"))
+
+    def test_what_has_no_place_in_a_log(self):
+        """Error frames, remote frames and those of CAN FD are counted; an 11-bit identifier has three digits."""
+        import can
+
+        messages = [can.Message(arbitration_id=0x123, is_extended_id=False, data=b"\x01"), can.Message(is_error_frame=True),
+                    can.Message(arbitration_id=0x18FEEE00, is_remote_frame=True)]
+        status, answer, said = run("tolog.py", self.recorded("drive.csv", messages))
+        self.assertEqual((status, [line.split()[-1] for line in answer.splitlines()]), (0, ["123#01"]))
+        self.assertEqual(said, "tolog: 1 error frames are left out\ntolog: 1 remote frames are left out\n")
+
+    def test_what_is_refused(self):
+        """One line, and status 2: a file without frames, of another format than its ending says, cut in its midst, of no known ending."""
+        blf = self.recorded("drive.blf", self.messages())
+        with open(blf, "rb") as file:
+            data = file.read()
+        for name, content in {"empty.asc": b"", "empty.blf": b"", "other.blf": b"no such file" * 100, "cut.blf": data[:len(data) // 2],
+                              "random.trc": os.urandom(3000), "random.csv": os.urandom(3000), "drive.xyz": data, "drive.mf4": data}.items():
+            with open(self.path(name), "wb") as file:
+                file.write(content)
+            status, answer, said = run("tolog.py", self.path(name))
+            self.assertEqual((status, answer, said.count("\n")), (2, "", 1), (name, said))
+            self.assertTrue(said.startswith(f"tolog: {self.path(name)}"), said)
+        missing = self.path("none.asc")
+        self.assertEqual(run("tolog.py", missing), (4, "", f"tolog: {missing}: No such file or directory\n"))
+
+    def test_a_pipe_that_ends(self):
+        file = self.recorded("drive.asc", self.messages())
+        ended = subprocess.run(["sh", "-c", f"{sys.executable} {TOOLS}/tolog.py {file} | head -1"], capture_output=True, text=True, check=False)
+        self.assertEqual((ended.stdout.split()[-1], ended.stderr), (FRAMES[0], ""))
+
+
+class Missing(InFolder):
+    def test_without_python_can(self):
+        ended = subprocess.run([sys.executable, "-S", os.path.join(TOOLS, "tolog.py"), self.write("drive.asc", "")], capture_output=True, text=True,
+                               check=False, env={**os.environ, "J39PLAN": program.path(), "PYTHONPATH": ""})
+        self.assertEqual((ended.returncode, ended.stderr), (69, "tolog: python-can isn't there: apt-get install python3-can\n"))
+
+
+if __name__ == "__main__":
+    unittest.main()
