@@ -1,6 +1,8 @@
-"""What of a file isn't in the plan that is made of it, and why."""
+"""What of a file isn't in what is made of it, and why."""
 
+import json
 import sys
+from typing import NamedTuple
 
 
 class LeftOut(Exception):
@@ -12,13 +14,36 @@ def plain(text: object) -> str:
     return "".join(char if char.isprintable() else "?" for char in " ".join(str(text).split()))
 
 
+class Note(NamedTuple):
+    """What could not be carried over as it is in a file, where there are several its name, and the reason."""
+
+    file: str
+    what: str
+    why: str
+
+
 class Notes:
-    """What could not be carried over as it is in the file, each with its reason, on standard error."""
+    """What could not be carried over as it is, each with its reason, on standard error. `file` is the one that is looked at, where
+    there are several."""
 
     def __init__(self) -> None:
-        self.count = 0
+        self.file = ""
+        self.said: list[Note] = []
+
+    @property
+    def count(self) -> int:
+        """How many there are."""
+        return len(self.said)
 
     def say(self, what: str, why: object) -> None:
         """Lists a thing with its reason."""
-        self.count += 1
-        print(f"{plain(what)}: {plain(why)}", file=sys.stderr)
+        note = Note(plain(self.file), plain(what), plain(why))
+        self.said.append(note)
+        print(": ".join(filter(None, note)), file=sys.stderr)
+
+    def write(self, name: str) -> None:
+        """Writes them into a file as JSON objects, each on a line."""
+        with open(name, "w", encoding="utf-8") as file:
+            for note in self.said:
+                parts = {key: part for key, part in note._asdict().items() if part}
+                file.write(json.dumps(parts, ensure_ascii=False) + "\n")

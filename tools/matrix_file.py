@@ -7,7 +7,7 @@ import contextlib
 import io
 import logging
 from collections.abc import Iterator
-from typing import TYPE_CHECKING
+from typing import TYPE_CHECKING, NamedTuple
 
 import program
 from left_out import LeftOut, Notes, plain
@@ -80,8 +80,10 @@ def heard(lines: Lines) -> Iterator[None]:
         log.removeHandler(handler)
 
 
-def in_utf8(line: bytes) -> bytes:
-    """A line of UTF-8, or of Windows' cp1252 where it isn't that, as UTF-8."""
+def in_utf8(line: bytes, encoding: str | None) -> bytes:
+    """A line of an encoding as UTF-8; where none is named it is UTF-8, or Windows' cp1252 where it isn't that."""
+    if encoding:
+        return line.decode(encoding, "replace").encode()
     try:
         line.decode()
     except UnicodeDecodeError:
@@ -101,22 +103,30 @@ def import_canmatrix() -> None:
         raise program.Refused(program.MISSING, why) from None
 
 
-def kind_of(name: str) -> str:
-    """What kind of file it is, by its ending."""
+def kind_of(name: str, kind: str | None) -> str:
+    """What kind of file it is: the one that is named, else the one of its ending."""
     import canmatrix.formats
-    kind = name.rpartition(".")[2].lower()
+    kind = kind or name.rpartition(".")[2].lower()
     if kind not in KINDS:
-        raise LeftOut("it is none of .dbc, .arxml, .kcd and .sym by its ending")
+        raise LeftOut("it is none of .dbc, .arxml, .kcd and .sym by its ending: name its kind by --kind")
     if kind not in canmatrix.formats.loadedFormats:
         raise LeftOut(f"canmatrix doesn't read .{kind}: apt-get install python3-lxml")
     return kind
 
 
-def buses_of(kind: str, data: bytes, notes: Notes) -> dict[str, canmatrix.CanMatrix]:
+def lines_of(data: bytes, encoding: str | None) -> bytes:
+    """The lines of a file in UTF-8. One whose units are of several bytes is decoded whole, since its line ends have more bytes too."""
+    data = data.removeprefix(codecs.BOM_UTF8)
+    if encoding and "\n".encode(encoding) != b"\n":
+        data, encoding = data.decode(encoding, "replace").encode(), None
+    return b"\n".join(in_utf8(line, encoding) for line in data.splitlines())
+
+
+def buses_of(kind: str, data: bytes, encoding: str | None, notes: Notes) -> dict[str, canmatrix.CanMatrix]:
     """The buses of a file by their names, as canmatrix reads it."""
     import canmatrix.formats
     if KINDS[kind]:
-        data = b"\n".join(map(in_utf8, data.removeprefix(codecs.BOM_UTF8).splitlines()))
+        data = lines_of(data, encoding)
     lines = Lines(data, notes)
     file = lines if kind == "dbc" else io.BytesIO(data)
     try:
@@ -144,9 +154,15 @@ def chosen_bus(buses: dict[str, canmatrix.CanMatrix], bus: str | None) -> canmat
     raise LeftOut(f"--bus {plain(bus)}: " + (f"its buses are {there}" if there else "its only bus has no name"))
 
 
-def load(name: str, bus: str | None, notes: Notes) -> canmatrix.CanMatrix:
-    """The file's bus: the one of this name, or its only one."""
+class Form(NamedTuple):
+    """What is said of a file beside its name: which of its buses is wanted, of which kind it is, and in which encoding its lines are."""
+
+    bus: str | None = None
+    kind: str | None = None
+    encoding: str | None = None
+
+
+def load(name: str, data: bytes, form: Form, notes: Notes) -> canmatrix.CanMatrix:
+    """The bus of a file of this name, which holds these bytes: the one that is wanted, or its only one."""
     import_canmatrix()
-    with open(name, "rb") as file:
-        data = file.read()
-    return chosen_bus(buses_of(kind_of(name), data, notes), bus)
+    return chosen_bus(buses_of(kind_of(name, form.kind), data, form.encoding, notes), form.bus)

@@ -3,16 +3,19 @@
 from __future__ import annotations
 
 import re
-from collections import Counter
-from collections.abc import Hashable
+from collections.abc import Callable, Iterable
 from decimal import Decimal
 from fractions import Fraction
+from functools import lru_cache
 from math import lcm
 from typing import TYPE_CHECKING, NamedTuple
 
-from dbc_names import KIND_ATTRIBUTE, SIGNAL_ATTRIBUTE
+from dbc_names import (
+    BYTES_ATTRIBUTE, CODE_CONTENT, CONTENT_ATTRIBUTE, KIND_ATTRIBUTE, REPEATED_ATTRIBUTE, SIGNAL_ATTRIBUTE, SPN_ATTRIBUTE, TEXT_CONTENT,
+)
 from left_out import LeftOut, Notes, plain
-from plan_text import Labels, Table, milliseconds, quoted, remark
+from plan_text import Labels, Table
+from remarks import milliseconds, named_values, quoted, received_by, remark
 
 if TYPE_CHECKING:
     import canmatrix
@@ -34,6 +37,15 @@ NO_VALUE = re.compile(
 # Words for the two greatest raw numbers of states: that below all ones, and all ones.
 FAULTY = re.compile(r"error|fault|fail|invalid", re.IGNORECASE)
 ABSENT = re.compile(r"not.?avail|unavail|n/?a\b|take.?no.?action|don.?t.?care|sna", re.IGNORECASE)
+
+
+def values_of(kind: str, bits: int) -> tuple[int, int]:
+    """The least and the greatest raw number that is a value of this kind."""
+    if kind == "signed":
+        return -(1 << (bits - 1)), (1 << (bits - 1)) - 1
+    most = (1 << bits) - 1
+    reserved = {"measured": 5 << (bits - 8) if bits >= 8 else 0, "discrete": 2, "states": 2}
+    return 0, max(0, most - reserved.get(kind, 0))
 
 
 class Scale(NamedTuple):
@@ -63,9 +75,13 @@ class Layout:
         self.taken.append((start, start + size, label))
 
 
+@lru_cache(4096)
 def exactly(value: object) -> Fraction | None:
-    """A factor or an offset, unless it has more digits than a plan could say."""
-    number = Decimal(str(value))
+    """A factor, an offset or the end of a range, unless it is none or has more digits than a plan could say."""
+    try:
+        number = Decimal(str(value))
+    except ArithmeticError:
+        return None
     _, digits, exponent = number.as_tuple()
     if isinstance(exponent, str) or len(digits) > 40 or abs(exponent) > 40:  # a word where it is no number
         return None
@@ -115,12 +131,22 @@ def told_kind(signal: canmatrix.Signal) -> str:
         "measured": signal.size in (8, 16, 32), "discrete": signal.size == 2, "raw": True, "states": 2 <= signal.size <= 8,
         "dtc": signal.size == 32 and plainly and signal.get_startbit(bit_numbering=1, start_little=True) % 8 == 0,
     }
-    kind = str(signal.attributes.get(KIND_ATTRIBUTE, ""))
+    content = "dtc" if signal.attributes.get(CONTENT_ATTRIBUTE) == CODE_CONTENT else ""
+    kind = str(signal.attributes.get(KIND_ATTRIBUTE, content))
     return kind if not signal.is_signed and fitting.get(kind) else ""
 
 
-def kind_of(signal: canmatrix.Signal, version: int) -> str:
-    """Which raw numbers of a signal are values, by what the file calls it, else by its sign, its width and its table of values."""
+def goes_to_all_ones(signal: canmatrix.Signal) -> bool:
+    """Whether the file says by its range, and not otherwise by its table of values, that each raw number is a value."""
+    most, factor, offset = (exactly(number) for number in (signal.max, signal.factor, signal.offset))
+    if most is None or factor is None or offset is None or factor <= 0:
+        return False
+    return most >= offset + factor * (2**signal.size - 1) and not any(NO_VALUE.search(str(name)) for name in (signal.values or {}).values())
+
+
+def kind_of(signal: canmatrix.Signal, version: int, is_private: bool = False) -> str:
+    """Which raw numbers of a signal are values, by what the file calls it, else by its sign, its width and its table of values. The
+    standard's ranges are those of its own groups: in a maker's own one a range that goes to all ones counts."""
     named, told = signal.values or {}, told_kind(signal)
     if told:
         return told if version >= 3 or told not in ("states", "dtc") else "raw"
@@ -128,11 +154,19 @@ def kind_of(signal: canmatrix.Signal, version: int) -> str:
         return "signed"
     if is_selector(signal):
         return "raw"
+    if is_private and signal.size in (8, 16, 32) and goes_to_all_ones(signal):
+        return "raw"
     if signal.size in (8, 16, 32) and all(raw >> (signal.size - 8) > 0xFA for raw in named):
         return "measured"
     if signal.size == 2 and all(NO_VALUE.search(str(named[raw])) for raw in (2, 3) if raw in named):
         return "discrete"
     return "states" if version >= 3 and are_states(signal) else "raw"
+
+
+def is_text(signal: canmatrix.Signal) -> bool:
+    """Whether it is made of characters: so the file says, or its unit of measurement where it is wider than a number."""
+    return bool(signal.is_ascii or signal.attributes.get(CONTENT_ATTRIBUTE) == TEXT_CONTENT
+                or (signal.size > BITS and (signal.unit or "").upper() == "ASCII"))
 
 
 def check_sent_always(signal: canmatrix.Signal) -> None:
@@ -144,8 +178,8 @@ def check_sent_always(signal: canmatrix.Signal) -> None:
 def place_of(signal: canmatrix.Signal, version: int) -> int:
     """At which bit of the data, from 0, a signal's least significant one is, if the others follow behind it."""
     check_sent_always(signal)
-    if signal.is_float or signal.is_ascii:
-        raise LeftOut("it is text" if signal.is_ascii else "it is a floating point number")
+    if signal.is_float or is_text(signal):
+        raise LeftOut("it is a floating point number" if signal.is_float else "it is text")
     if signal.is_signed and signal.size > 1 and version < 3:
         raise LeftOut("it is signed")
     if not 1 <= signal.size <= BITS:
@@ -174,92 +208,197 @@ def long_name(part: canmatrix.Ecu | canmatrix.Signal) -> str:
     return plain(part.attributes.get("LongName") or part.name or "")
 
 
-def remarks_of(signal: canmatrix.Signal, label: str) -> list[str]:
+def range_of(signal: canmatrix.Signal, kind: str) -> str:
+    """The range of a signal as a remark, unless the file says none, as by `[0|0]`, or it is that of the signal's values anyway."""
+    least, greatest, factor, offset = (exactly(number) for number in (signal.min, signal.max, signal.factor, signal.offset))
+    if None in (least, greatest, factor, offset) or least == greatest:
+        return ""
+    values = values_of(kind, signal.size)
+    if (least, greatest) == tuple(offset + factor * raw for raw in values):
+        return ""
+    return f"range {signal.min}..{signal.max}"
+
+
+def remarks_of(signal: canmatrix.Signal, label: str, kind: str, receivers: str) -> list[str]:
     """What a file says of a signal for which a plan has no key."""
-    number = signal.attributes.get("SPN")
-    values = (f'{raw} = "{plain(name)}"' for raw, name in sorted((signal.values or {}).items()))
-    return remark(long_name(signal), label, "" if number is None else f"SPN {plain(number)}",
-                  milliseconds(signal.cycle_time), quoted(signal.comment), *values)
+    number = signal.attributes.get(SPN_ATTRIBUTE)
+    return remark(long_name(signal), label, "" if number is None else f"SPN {plain(number)}", milliseconds(signal.cycle_time),
+                  range_of(signal, kind), receivers, quoted(signal.comment), *named_values((signal.values or {}).items()))
+
+
+class Said(NamedTuple):
+    """Where a signal lies and what its bits mean, but for its name, as far as files have to agree on it."""
+
+    place: tuple[int, int, bool]
+    scale: tuple[object, object]
+    sign: bool
+    content: tuple[bool, bool, str]
+    unit: str
+    kind: str
+
+    @classmethod
+    def of(cls, signal: canmatrix.Signal, kind: str) -> Said:
+        """What is said of a signal of this kind. Units of measurement are compared without case and blanks."""
+        unit = re.sub(r"\s", "", plain(signal.unit or "").translate(SPELLED)).casefold()
+        return cls((signal.start_bit, signal.size, signal.is_little_endian), (signal.factor, signal.offset), signal.is_signed,
+                   (signal.is_float, is_text(signal), f"{signal.multiplex} {signal.mux_val_grp}"), unit, kind)
+
+    def other(self, another: Said) -> str:
+        """What isn't the same of two."""
+        names = ("place", "factor or offset", "sign", "way of coding", "unit of measurement", "kind of numbers that are values")
+        return " and another ".join(name for name, one, two in zip(names, self, another, strict=True) if one != two)
+
+
+def bits_of(signal: canmatrix.Signal) -> int:
+    """The bits of a signal in its message, the first one as 1, the next one as 2, 4 and so on; 0 where it lies nowhere in a message."""
+    start, size = int(signal.start_bit), int(signal.size)
+    if start < 0 or size < 0 or start + size > 8 * BYTES:
+        return 0
+    if signal.is_little_endian:
+        return ((1 << size) - 1) << start
+    return sum(1 << (bit ^ 7) for bit in range(start, start + size))
+
+
+class Known(NamedTuple):
+    """A signal that a message of a group has, in the plan or not."""
+
+    signal: canmatrix.Signal
+    said: Said
+    bits: int
+    message: str
+
+
+class Kept(NamedTuple):
+    """A signal or text that is in the plan: its table, and who receives it by the names of nodes."""
+
+    signal: canmatrix.Signal
+    said: Said
+    table: Table
+    receivers: dict[str, None]
 
 
 class Signals:
-    """The signals of a group in the making."""
+    """The signals and texts of a group in the making, of one message of it or of several."""
 
-    def __init__(self, frame: canmatrix.Frame, notes: Notes, strict: bool, version: int) -> None:
-        self.frame, self.notes, self.strict, self.version = frame, notes, strict, version
-        self.labels, self.layout = Labels(), Layout(frame.size)
-        self.tables: list[Table] = []
-        self.texts: list[Table] = []
+    def __init__(self, length: int, notes: Notes, strict: bool, version: int, is_private: bool = False, has_records: bool = False) -> None:
+        self.length, self.notes, self.strict, self.version = length, notes, strict, version
+        self.is_private, self.has_records = is_private, has_records
+        self.labels, self.layout = Labels(), Layout(length)
+        self.known: list[Known] = []
+        self.signals: list[Kept] = []
+        self.texts: list[Kept] = []
 
-    def say(self, signal: canmatrix.Signal, why: object) -> None:
+    @property
+    def kept(self) -> list[Kept]:
+        """All that is in the plan."""
+        return self.signals + self.texts
+
+    def tables(self, received: Callable[[Iterable[str]], list[str]]) -> list[Table]:
+        """The tables of the signals, then those of the texts. Receivers are named where not all have the same; those of nodes are turned
+        into those of the plan."""
+        told = {tuple(kept.receivers) for kept in self.kept}
+        for kept in self.kept:
+            receivers = received_by(received(kept.receivers)) if len(told) > 1 else ""
+            keys = kept.table.keys
+            kept.table.remarks[:] = remarks_of(kept.signal, keys["label"], keys.get("kind", ""), receivers)
+        return [kept.table for kept in self.kept]
+
+    def said_of(self, signal: canmatrix.Signal) -> Said:
+        """Where a signal lies, and what it means."""
+        return Said.of(signal, kind_of(signal, self.version, self.is_private))
+
+    def are_those_of(self, frame: canmatrix.Frame) -> bool:
+        """Whether a message has the same length, and signals at the same places that mean the same."""
+        return self.length == frame.size and {known.said for known in self.known} == set(map(self.said_of, frame.signals))
+
+    def take(self, frame: canmatrix.Frame, message: str) -> list[str]:
+        """Takes the signals of a message, which is called so: those that are there already, and new ones where no other one lies. Answers
+        the names of those that another one contradicts."""
+        earlier, contradicted = list(self.known), []
+        for signal in frame.signals:
+            try:
+                if self.contradicts(signal, frame, earlier, message):
+                    contradicted.append(plain(signal.name))
+            except LeftOut as why:
+                self.say(signal, frame, why)
+        return contradicted
+
+    def contradicts(self, signal: canmatrix.Signal, frame: canmatrix.Frame, earlier: list[Known], message: str) -> bool:
+        """Takes a signal, unless one of an earlier message contradicts it, and says whether one does."""
+        said, bits = self.said_of(signal), bits_of(signal)
+        others = [known for known in earlier if known.said == said] or [known for known in earlier if known.bits & bits]
+        if not others:
+            self.known.append(Known(signal, said, bits, message))
+            self.add(signal, frame, said)
+            return False
+        other = others[0]
+        if other.said != said:
+            what = "lies over it" if other.said.place != said.place else f"has another {said.other(other.said)}"
+            self.say(signal, frame, f"{other.signal.name} of {other.message} {what}, and is in the plan alone")
+            return True
+        self.agree(signal, frame, other)
+        return False
+
+    def agree(self, signal: canmatrix.Signal, frame: canmatrix.Frame, other: Known) -> None:
+        """Takes what a message says anew of a signal that is known."""
+        for kept in self.kept:
+            if kept.said == other.said:
+                kept.receivers.update(dict.fromkeys(signal.receivers))
+        units = [plain(one.unit or "").translate(SPELLED) for one in (signal, other.signal)]
+        if units[0] != units[1]:
+            self.say(signal, frame, f"its unit {units[0]!r} is {units[1]!r} in {other.message}, as in the plan")
+        if signal.values and other.signal.values and signal.values != other.signal.values:
+            self.say(signal, frame, f"its table of values isn't that of {other.signal.name} of {other.message}, which is kept")
+
+    def say(self, signal: canmatrix.Signal, frame: canmatrix.Frame, why: object) -> None:
         """Notes what isn't in the plan of a signal."""
-        self.notes.say(f"signal {signal.name} of {self.frame.name}", why)
+        self.notes.say(f"signal {signal.name} of {frame.name}", why)
 
-    def check_place(self, signal: canmatrix.Signal, start: int) -> None:
+    def check_place(self, signal: canmatrix.Signal, frame: canmatrix.Frame, start: int) -> None:
         """Leaves out a signal that lies outside or over an earlier one, unless it is to be kept."""
         fault = self.layout.fault(start, signal.size)
         if fault and not self.strict:
             raise LeftOut(fault)
         if fault:
-            self.say(signal, f"{fault}, and is kept")
+            self.say(signal, frame, f"{fault}, and is kept")
 
     def label(self, signal: canmatrix.Signal) -> str:
         """The label of a signal or a text."""
         return self.labels.label(plain(signal.attributes.get(SIGNAL_ATTRIBUTE) or signal.name or ""))
 
-    def add_text(self, signal: canmatrix.Signal) -> None:
-        """Adds a text, as far as a plan has it. It may lie over signals."""
+    def add(self, signal: canmatrix.Signal, frame: canmatrix.Frame, said: Said) -> None:
+        """Adds a signal or a text, as far as a plan has it."""
+        receivers = dict.fromkeys(signal.receivers)
+        if is_text(signal) and self.version >= 3:
+            self.texts.append(Kept(signal, said, self.text(signal, frame), receivers))
+        else:
+            self.signals.append(Kept(signal, said, self.number(signal, frame), receivers))
+
+    def text(self, signal: canmatrix.Signal, frame: canmatrix.Frame) -> Table:
+        """The table of a text. It may lie over signals."""
         if len(self.texts) == TEXTS:
             raise LeftOut(f"a group has at most {TEXTS} texts")
         byte, count = bytes_of(signal)
-        if byte + count - 1 > self.frame.size:
-            self.check_place(signal, 8 * byte - 8)
-        label = self.label(signal)
-        self.texts.append(Table("group.text", {"label": label, "byte": byte, "bytes": count}, remarks_of(signal, label)))
+        if byte + count - 1 > self.length:
+            self.check_place(signal, frame, 8 * byte - 8)
+        told = signal.attributes.get(BYTES_ATTRIBUTE)
+        count = int(told) if told is not None and str(told).isdecimal() and int(told) <= BYTES else count
+        return Table("group.text", {"label": self.label(signal), "byte": byte, **({"bytes": count} if count else {})})
 
-    def add(self, signal: canmatrix.Signal) -> None:
-        """Adds a signal, as far as a plan has it."""
-        if len(self.tables) == SIGNALS:
+    def number(self, signal: canmatrix.Signal, frame: canmatrix.Frame) -> Table:
+        """The table of a signal."""
+        if len(self.signals) == SIGNALS:
             raise LeftOut(f"a group has at most {SIGNALS} signals")
         start, scale = place_of(signal, self.version), scale_of(signal)
         per = scale.parts if self.version >= 3 and scale.parts <= PER else 1
         unit = unit_of(signal, scale.parts // per)
-        self.check_place(signal, start)
+        self.check_place(signal, frame, start)
         if in_ascii(unit) != unit:
-            self.say(signal, f"its unit {unit!r} is written {in_ascii(unit)!r}")
+            self.say(signal, frame, f"its unit {unit!r} is written {in_ascii(unit)!r}")
         label = self.label(signal)
         self.layout.take(start, signal.size, label)
-        self.tables.append(Table("group.signal", {
+        return Table("group.signal", {
             "label": label, "byte": start // 8 + 1, "bit": start % 8 + 1, "bits": signal.size,
-            "kind": kind_of(signal, self.version), "step": scale.step, "per": per, "offset": scale.offset, "unit": in_ascii(unit),
-        }, remarks_of(signal, label)))
-
-
-def signals_of(frame: canmatrix.Frame, notes: Notes, strict: bool, version: int) -> list[Table]:
-    """The signals and texts of a frame, as far as a plan has them; one that lies outside, and a signal over an earlier one, only where
-    that is kept."""
-    signals = Signals(frame, notes, strict, version)
-    for signal in frame.signals:
-        try:
-            if signal.is_ascii and version >= 3:
-                signals.add_text(signal)
-            else:
-                signals.add(signal)
-        except LeftOut as why:
-            signals.say(signal, why)
-    return signals.tables + signals.texts
-
-
-def layout_of(frame: canmatrix.Frame) -> Hashable:
-    """Where the signals of a frame lie: all that the frames of one group have in common, with what these mean."""
-    places = Counter((signal.start_bit, signal.size, signal.is_little_endian) for signal in frame.signals)
-    return frame.size, frozenset(places.items())
-
-
-def meaning_of(frame: canmatrix.Frame, version: int) -> Hashable:
-    """What the bits of a frame mean, but for the names of its signals."""
-    return frozenset(Counter(
-        (signal.start_bit, signal.size, signal.is_signed, signal.is_float, signal.is_ascii, str(signal.multiplex),
-         signal.factor, signal.offset, plain(signal.unit or "").translate(SPELLED), kind_of(signal, version))
-        for signal in frame.signals
-    ).items())
+            "kind": kind_of(signal, self.version, self.is_private), "step": scale.step, "per": per, "offset": scale.offset,
+            "unit": in_ascii(unit), "repeated": self.has_records and str(signal.attributes.get(REPEATED_ATTRIBUTE)) == "1",
+        })

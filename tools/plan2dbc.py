@@ -10,81 +10,62 @@ from __future__ import annotations
 import argparse
 import re
 import sys
-from collections.abc import Iterable, Iterator
+from collections.abc import Iterator
 from dataclasses import dataclass, field
-from decimal import Decimal, localcontext
 
 import program
+import remarks
 from dbc_names import (
-    ADDRESS_ATTRIBUTE, ARBITRARY_ATTRIBUTE, CYCLE_ATTRIBUTE, GROUP_ATTRIBUTE, IDENTITY_ATTRIBUTE, KIND_ATTRIBUTE, NAME_ATTRIBUTES, NOBODY,
-    SIGNAL_ATTRIBUTE, UNIT_ATTRIBUTE,
+    ADDRESS_ATTRIBUTE, ARBITRARY_ATTRIBUTE, BITRATE_ATTRIBUTE, BYTES_ATTRIBUTE, CODE_CONTENT, CONTENT_ATTRIBUTE, CONTENTS, CYCLE_ATTRIBUTE,
+    DELAY_ATTRIBUTE, EVERY_ATTRIBUTE, FAST_ATTRIBUTE, GROUP_ATTRIBUTE, IDENTITY_ATTRIBUTE, KIND_ATTRIBUTE, LONG_MESSAGE, LONG_SIGNAL,
+    MOST_ATTRIBUTE, NAME_ATTRIBUTES, NOBODY, REPEATED_ATTRIBUTE, SEND_ATTRIBUTE, SIGNAL_ATTRIBUTE, SIGNAL_CYCLE_ATTRIBUTE, SPN_ATTRIBUTE,
+    TEXT_CONTENT, UNIT_ATTRIBUTE,
 )
+from dbc_text import Names, decimal, definitions, in_quotes
 from j1939 import GLOBAL_ADDRESS, NULL_ADDRESS
-from left_out import Notes, plain
-from plan_text import Labels
+from left_out import Notes
+from matrix_signals import values_of
+from readings import scale_of
 from toml_places import Place, Places
 
-# Words that a DBC has for itself.
-WORDS = frozenset((
-    "VERSION", "NS_", "BS_", "BU_", "BO_", "SG_", "CM_", "BA_", "BA_DEF_", "BA_DEF_DEF_", "VAL_", "VAL_TABLE_", "EV_", "BO_TX_BU_",
-    "SIG_VALTYPE_", "SIG_GROUP_", "SGTYPE_", "ENVVAR_DATA_", "CAT_", "CAT_DEF_", "FILTER", "NOBODY", NOBODY,
-))
+# What stands behind the text of a key on its line.
+COMMENT = re.compile(r"""["']?\s*=\s*(?:"[^"]*"|'[^']*')\s*#\s*(.*?)\s*$""")
 
-# What stands behind the text of a label on its line.
-COMMENT = re.compile(r"""label["']?\s*=\s*(?:"[^"]*"|'[^']*')\s*#\s*(.*?)\s*$""")
+# What a file said of the bus, in a plan without a table for it.
+BITRATE = re.compile(r"# bitrate = (\d+)")
+
+# How a DBC spells a number.
+NUMBER = re.compile(r"[0-9.+\-eE]+")
 
 EXTENDED = 1 << 31
-
-# The attributes of units with the most that each may be, and its default.
-UNIT_ATTRIBUTES = [(ADDRESS_ATTRIBUTE, NULL_ADDRESS, NULL_ADDRESS), (ARBITRARY_ATTRIBUTE, 1, 0), (*IDENTITY_ATTRIBUTE, 0),
-                   *((*attribute, 0) for attribute in NAME_ATTRIBUTES.values())]
-
-
-class Names(Labels):
-    """Names of a DBC: labels that begin with no digit, are none of its words, and have two characters, as canmatrix wants it."""
-
-    def __init__(self) -> None:
-        super().__init__(WORDS)
-
-    def label(self, name: str) -> str:
-        """A name like a label."""
-        return super().label(f"_{name}" if name[:1].isdigit() or len(name) == 1 else name)
 
 
 @dataclass
 class Message:
-    """A message of the DBC: its identifier, its group's place and label, its name, who sends it, whom it goes to, and how far apart its
-    flows are sent, in ms."""
+    """A message of the DBC: its identifier, its group's place and label, its name and the one that is too long for a name, who sends it,
+    whom it goes to, and who else receives it, how far apart its flows are sent, in ms, and what is said beside them."""
 
     identifier: int
     group: Place
     label: str
     name: str
+    long: str = ""
     senders: list[str] = field(default_factory=list)
     receivers: list[str] = field(default_factory=list)
     periods: set[int] = field(default_factory=set)
+    told: list[remarks.Remark] = field(default_factory=list)
 
 
-def decimal(number: int, per: int) -> str:
-    """A fraction, whose divisor is a product of 2s and 5s, exactly."""
-    with localcontext() as context:
-        context.prec = 60
-        text = f"{Decimal(number) / Decimal(per):f}"
-    return text.rstrip("0").rstrip(".") if "." in text else text
+@dataclass
+class Part:
+    """A signal or a text of a message: its place, its name and the one that is too long for a name, and what is said beside it."""
 
-
-def in_quotes(text: str) -> str:
-    """A text of a DBC, which has no sign for a quote in it."""
-    return '"' + plain(text).replace('"', "'").replace("\\", "/") + '"'
-
-
-def values_of(kind: str, bits: int) -> tuple[int, int]:
-    """The least and the greatest raw number that is a value of this kind."""
-    if kind == "signed":
-        return -(1 << bits - 1), (1 << bits - 1) - 1
-    most = (1 << bits) - 1
-    reserved = {"measured": 5 << bits - 8 if bits >= 8 else 0, "discrete": 2, "states": 2}
-    return 0, max(0, most - reserved.get(kind, 0))
+    place: Place
+    label: str
+    name: str
+    long: str
+    told: remarks.Remark
+    is_text: bool
 
 
 class Dbc:
@@ -98,6 +79,9 @@ class Dbc:
         self.addresses = {self.label(unit): self.places.integer(unit + ("address",)) for unit in self.units}
         self.messages: dict[int, Message] = {}
         self.used: set[Place] = set()  # groups that have a message
+        self.attributes: list[str] = []
+        self.ways: dict[str, int] = {}  # by what messages are sent
+        self.parts: dict[Place, list[Part]] = {}
         self.add_messages()
 
     def label(self, place: Place) -> str:
@@ -108,55 +92,73 @@ class Dbc:
         """The integer of a key, or its default."""
         return self.places.integer(place + (key,)) if place + (key,) in self.places.spelled else default
 
+    def told(self, place: Place, key: str = "label") -> remarks.Remark:
+        """What stands behind the first key of a table."""
+        found = COMMENT.match(self.lines[self.places.line(place + (key,)) - 1].partition(key)[2])
+        return remarks.read(found.group(1) if found else "", self.places.texts[place + (key,)])
+
     def add_messages(self) -> None:
         """The messages of all groups: those of each group's flows, or one that stands for the group alone."""
         flows: dict[str, list[Place]] = {}
         for flow in self.places.elements(("flow",)):
             flows.setdefault(self.places.texts[flow + ("group",)], []).append(flow)
         groups = self.places.elements(("group",))
-        first = {self.label(group): self.taken.label(self.label(group)) for group in groups}
+        wanted = {self.label(group): self.wanted(group, flows.get(self.label(group), [])) for group in groups}
+        first = {label: self.taken.label(wanted[label]) for label in sorted(wanted, key=lambda label: not Names.fits(wanted[label]))}
         for group in groups:
             label = self.label(group)
-            for text in self.places.elements(group + ("text",)):
-                self.notes.say(f"text {self.label(text)} of {label}", "a DBC has no texts")
-            for signal in self.places.elements(group + ("signal",)):
-                if self.is_repeated(signal):
-                    self.notes.say(f"signal {self.label(signal)} of {label}", "a DBC has no signals that are repeated")
             for flow in flows.get(label, []):
                 self.add_flow(group, first[label], flow)
             if label not in flows:
                 self.add(group, first[label], NULL_ADDRESS, GLOBAL_ADDRESS)
 
+    def wanted(self, group: Place, flows: list[Place]) -> str:
+        """What the first message of a group is called: by its first flow, else as the group."""
+        named = self.told(flows[0], "group").messages if flows else []
+        return next(iter([*named, *self.told(group).names]), self.label(group))
+
     def add_flow(self, group: Place, name: str, flow: Place) -> None:
         """The message of a flow."""
         sender, receiver = (self.places.texts[flow + (key,)] for key in ("from", "to"))
-        destination = self.addresses.get(receiver, GLOBAL_ADDRESS)
-        message = self.add(group, name, self.addresses[sender], destination)
+        told = self.told(flow, "group")
+        destination = self.addresses.get(receiver, GLOBAL_ADDRESS if told.address is None else told.address)
+        message = self.add(group, name, self.addresses[sender], destination, told)
         if message is None:
             self.notes.say(f"flow of {self.label(group)} from {sender} to {receiver}", "another group's message has its identifier")
             return
         if self.names[sender] not in message.senders:
             message.senders.append(self.names[sender])
-        if receiver != "all" and self.names[receiver] not in message.receivers:
-            message.receivers.append(self.names[receiver])
+        named = [receiver] if receiver != "all" else []
+        for label in named if told.receivers is None else told.receivers:
+            if label in self.names and self.names[label] not in message.receivers:
+                message.receivers.append(self.names[label])
         message.periods.update([self.number(flow, "period", 0)] if flow + ("period",) in self.places.spelled else [])
         if flow + ("deadline",) in self.places.spelled:
             self.notes.say(f"flow of {self.label(group)} from {sender} to {receiver}", "a DBC has no deadline")
         if receiver != "all" and message.identifier >> 16 & 0xFF >= 240:
             self.notes.say(f"flow of {self.label(group)} from {sender} to {receiver}", "its identifier names no destination")
 
-    def add(self, group: Place, name: str, source: int, destination: int) -> Message | None:
+    def add(self, group: Place, name: str, source: int, destination: int, told: remarks.Remark | None = None) -> Message | None:
         """The message of a group with this source and destination, unless one of another group has its identifier."""
         pgn, priority = (self.places.integer(group + (key,)) for key in ("pgn", "priority"))
         identifier = priority << 26 | (pgn & 0x3FFFF) << 8 | source
         if pgn >> 8 & 0xFF < 240:
             identifier |= destination << 8
+        told = told or remarks.Remark()
         if identifier not in self.messages:
-            other = self.taken.label(name) if group in self.used else name
+            wanted = next(iter(told.messages), "" if group in self.used else self.long_name(group))
+            other = self.taken.label(wanted or name) if group in self.used else name
             self.used.add(group)
-            self.messages[identifier] = Message(identifier, group, self.label(group), other)
+            long = wanted if wanted and not Names.fits(wanted) else ""
+            self.messages[identifier] = Message(identifier, group, self.label(group), other, long)
         message = self.messages[identifier]
+        if message.group == group:
+            message.told.append(told)
         return message if message.group == group else None
+
+    def long_name(self, group: Place) -> str:
+        """The name of a group where its label is another."""
+        return next(iter(self.told(group).names), "")
 
     def text(self) -> str:
         """The DBC."""
@@ -166,57 +168,101 @@ class Dbc:
             lines += [*self.message_lines(message), ""]
         lines += [f"BO_TX_BU_ {message.identifier | EXTENDED} : {','.join(message.senders)};"
                   for message in messages if len(message.senders) > 1]
-        return "\n".join([*lines, *self.comments(), *definitions(), *self.unit_attributes(), *self.message_attributes()]) + "\n"
+        attributes = [*self.bus_attributes(), *self.unit_attributes(), *self.message_attributes()]
+        return "\n".join([*lines, *self.comments(), *definitions(list(self.ways)), *attributes, *self.values()]) + "\n"
 
-    def signals(self, message: Message) -> Iterator[tuple[Place, str]]:
-        """The signals of a message that aren't repeated, with their names."""
-        names = Names()
-        for signal in self.places.elements(message.group + ("signal",)):
-            if not self.is_repeated(signal):
-                yield signal, names.label(self.label(signal))
+    def parts_of(self, group: Place) -> list[Part]:
+        """The signals and texts of a group that its shortest messages have, with their names."""
+        if group not in self.parts:
+            found = [(place, False) for place in self.places.elements(group + ("signal",))]
+            found += [(place, True) for place in self.places.elements(group + ("text",)) if self.is_in_shortest(group, place)]
+            parts = [self.part(place, is_text) for place, is_text in found]
+            names = Names()
+            for part in sorted(parts, key=lambda part: not Names.fits(part.name)):  # those first that can be names as they are
+                part.long = "" if part.name == part.label or Names.fits(part.name) else part.name
+                part.name = names.label(part.name)
+            self.parts[group] = parts
+        return self.parts[group]
 
-    def is_repeated(self, signal: Place) -> bool:
-        """Whether a signal comes again in further records."""
-        return self.places.spelled.get(signal + ("repeated",)) == "true"
+    def is_in_shortest(self, group: Place, text: Place) -> bool:
+        """Whether the shortest messages of a group have something of a text; else that is said."""
+        if self.places.integer(text + ("byte",)) <= self.places.integer(group + ("length",)):
+            return True
+        self.notes.say(f"text {self.label(text)} of {self.label(group)}", "the group's shortest messages have nothing of it")
+        return False
+
+    def part(self, place: Place, is_text: bool) -> Part:
+        """A signal or text with the name that it is to have: that beside its label, if there is one."""
+        told, label = self.told(place), self.label(place)
+        return Part(place, label, next(iter(told.names), label), "", told, is_text)
 
     def message_lines(self, message: Message) -> Iterator[str]:
-        """A message and its signals."""
+        """A message and its signals. Its length is that of the shortest messages, which go in one frame if any does."""
         sender = message.senders[0] if message.senders else NOBODY
-        length = self.places.number(message.group + ("most",)) or self.places.integer(message.group + ("length",))
-        yield f"BO_ {message.identifier | EXTENDED} {message.name}: {length} {sender}"
-        for signal, name in self.signals(message):
-            yield f" SG_ {name} : {self.signal(signal)} {','.join(message.receivers) or NOBODY}"
+        yield f"BO_ {message.identifier | EXTENDED} {message.name}: {self.places.integer(message.group + ('length',))} {sender}"
+        for part in self.parts_of(message.group):
+            spelled = self.spelled_text(message.group, part) if part.is_text else self.spelled_signal(part)
+            yield f" SG_ {part.name} : {spelled} {','.join(self.receivers(message, part)) or NOBODY}"
 
-    def signal(self, place: Place) -> str:
-        """Where a signal lies, and what it means."""
+    def receivers(self, message: Message, part: Part) -> list[str]:
+        """Who receives a signal: of those who receive the message the ones that are named beside the signal, if some are."""
+        if part.told.receivers is None:
+            return message.receivers
+        named = [self.names[label] for label in part.told.receivers if label in self.names]
+        return [name for name in named if name in message.receivers or not message.receivers]
+
+    def spelled_signal(self, part: Part) -> str:
+        """Where a signal lies, and what it means: in a unit of measurement without a fraction."""
+        place, scale = part.place, scale_of(self.places.texts.get(part.place + ("unit",), ""))
         byte, bits = (self.places.integer(place + (key,)) for key in ("byte", "bits"))
-        step, per, offset, kind = *(self.number(place, *key) for key in (("step", 1), ("per", 1), ("offset", 0))), self.kind(place)
+        step, per, offset, kind = *(self.number(place, *key) for key in (("step", 1), ("per", 1), ("offset", 0))), self.kind(part)
+        per *= scale.parts
         least, greatest = (decimal(offset + step * raw, per) for raw in values_of(kind, bits))
+        if part.told.range and all(map(NUMBER.fullmatch, part.told.range)):
+            least, greatest = part.told.range
         start, sign = 8 * (byte - 1) + self.number(place, "bit", 1) - 1, "-" if kind == "signed" else "+"
-        unit = in_quotes(self.places.texts.get(place + ("unit",), ""))
-        return f"{start}|{bits}@1{sign} ({decimal(step, per)},{decimal(offset, per)}) [{least}|{greatest}] {unit}"
+        return f"{start}|{bits}@1{sign} ({decimal(step, per)},{decimal(offset, per)}) [{least}|{greatest}] {in_quotes(scale.unit)}"
 
-    def kind(self, place: Place) -> str:
-        """The kind of a signal."""
-        return self.places.texts[place + ("kind",)]
+    def bytes_in_shortest(self, group: Place, part: Part) -> int:
+        """How many bytes of a text the shortest messages of its group have."""
+        byte = self.places.integer(part.place + ("byte",))
+        there = self.places.integer(group + ("length",)) - byte + 1
+        return min(there, self.number(part.place, "bytes", there))
 
-    def comment(self, place: Place) -> str:
-        """What stands behind a label."""
-        found = COMMENT.search(self.lines[self.places.line(place + ("label",)) - 1])
-        return in_quotes(found.group(1)) if found and found.group(1) else ""
+    def spelled_text(self, group: Place, part: Part) -> str:
+        """Where a text lies in the shortest messages of its group."""
+        start = 8 * (self.places.integer(part.place + ("byte",)) - 1)
+        return f'{start}|{8 * self.bytes_in_shortest(group, part)}@1+ (1,0) [0|0] ""'
+
+    def kind(self, part: Part) -> str:
+        """The kind of a signal; none of a text."""
+        return self.places.texts.get(part.place + ("kind",), "")
 
     def comments(self) -> Iterator[str]:
-        """The comments behind the labels of units, groups and signals."""
+        """The comments behind the first keys of units, groups, flows and signals."""
         for unit in self.units:
-            if comment := self.comment(unit):
-                yield f"CM_ BU_ {self.names[self.label(unit)]} {comment};"
+            yield from self.comment(f"BU_ {self.names[self.label(unit)]}", self.told(unit))
         for message in self.messages.values():
             identifier = message.identifier | EXTENDED
-            if comment := self.comment(message.group):
-                yield f"CM_ BO_ {identifier} {comment};"
-            for signal, name in self.signals(message):
-                if comment := self.comment(signal):
-                    yield f"CM_ SG_ {identifier} {name} {comment};"
+            told = [one for one in message.told if one.comments] or [self.told(message.group)]
+            yield from self.comment(f"BO_ {identifier}", told[0])
+            for part in self.parts_of(message.group):
+                yield from self.comment(f"SG_ {identifier} {part.name}", part.told)
+
+    def comment(self, what: str, told: remarks.Remark) -> Iterator[str]:
+        """The comment of something, if there is one."""
+        if told.comments:
+            yield f"CM_ {what} {in_quotes('; '.join(told.comments))};"
+
+    def bus_attributes(self) -> Iterator[str]:
+        """What is known of the bus, as far as a DBC can say it."""
+        told = next(filter(None, map(BITRATE.fullmatch, self.lines)), None)
+        if ("timing",) in self.places.lines or told:
+            yield f'BA_ "{BITRATE_ATTRIBUTE}" {self.places.number(("timing", "bitrate")) or told.group(1)};'
+        if ("timing",) in self.places.lines:
+            self.notes.say("timing", "a DBC has no count of unplanned frames")
+        if self.places.elements(("keep_free",)):
+            self.notes.say("keep_free", "a DBC has no addresses that are kept free")
 
     def unit_attributes(self) -> Iterator[str]:
         """Addresses and NAMEs of the units; what a DBC can't say of them is noted."""
@@ -233,53 +279,78 @@ class Dbc:
                 self.notes.say(f"unit {label}", "a DBC has no chooser")
             if self.number(unit, "window", 255) != 255:
                 self.notes.say(f"unit {label}", "a DBC has no window")
-        if self.places.elements(("keep_free",)):
-            self.notes.say("keep_free", "a DBC has no addresses that are kept free")
-        if ("timing",) in self.places.lines:
-            self.notes.say("timing", "a DBC has nothing of the bus for it")
 
     def message_attributes(self) -> Iterator[str]:
-        """Of which groups the messages are, how far apart they are sent, and the kinds of their signals."""
+        """Of which groups the messages are, of which lengths, how far apart they are sent, and what their signals are."""
         for message in self.messages.values():
-            identifier = message.identifier | EXTENDED
+            what = f"BO_ {message.identifier | EXTENDED}"
             if message.name != message.label:
-                yield f'BA_ "{GROUP_ATTRIBUTE}" BO_ {identifier} "{message.label}";'
-            if message.periods:
-                yield f'BA_ "{CYCLE_ATTRIBUTE}" BO_ {identifier} {min(message.periods)};'
-            if len(message.periods) > 1:
-                told = ", ".join(map(str, sorted(message.periods)))
-                self.notes.say(f"message {message.name}", f"its flows have the periods {told} ms: the least one is its cycle time")
-            for signal, name in self.signals(message):
-                if name != self.label(signal):
-                    yield f'BA_ "{SIGNAL_ATTRIBUTE}" SG_ {identifier} {name} "{self.label(signal)}";'
-                yield f'BA_ "{KIND_ATTRIBUTE}" SG_ {identifier} {name} "{self.kind(signal)}";'
+                yield f'BA_ "{GROUP_ATTRIBUTE}" {what} "{message.label}";'
+            if message.long:
+                yield f'BA_ "{LONG_MESSAGE}" {what} {in_quotes(message.long)};'
+            for attribute, key in ((MOST_ATTRIBUTE, "most"), (EVERY_ATTRIBUTE, "every")):
+                if number := self.places.number(message.group + (key,)):
+                    yield f'BA_ "{attribute}" {what} {number};'
+            yield from (f'BA_ "{attribute}" {what} {number};' for attribute, number in self.times(message))
+            for part in self.parts_of(message.group):
+                yield from self.part_attributes(message, part)
 
+    def times(self, message: Message) -> Iterator[tuple[str, int]]:
+        """The attributes on how far apart a message's frames are."""
+        if len(message.periods) > 1:
+            told = ", ".join(map(str, sorted(message.periods)))
+            self.notes.say(f"message {message.name}", f"its flows have the periods {told} ms: the least one is its cycle time")
+        period = min(message.periods, default=0)
+        sent, cycle = (next(filter(None, words), "") for words in zip(*((told.sent, told.cycle) for told in message.told)))
+        if sent:
+            yield SEND_ATTRIBUTE, self.ways.setdefault(sent, len(self.ways) + 1)
+        times = {CYCLE_ATTRIBUTE: int(cycle or 0) or (0 if sent else period), DELAY_ATTRIBUTE: period if sent else 0,
+                 FAST_ATTRIBUTE: period if cycle and not sent else 0}
+        yield from ((attribute, time) for attribute, time in times.items() if time)
 
-def definitions() -> Iterable[str]:
-    """The definitions of the attributes."""
-    yield from (f'BA_DEF_ BU_ "{name}" INT 0 {most};' for name, most, _ in UNIT_ATTRIBUTES)
-    texts = {UNIT_ATTRIBUTE: "BU_", GROUP_ATTRIBUTE: "BO_", SIGNAL_ATTRIBUTE: "SG_", KIND_ATTRIBUTE: "SG_"}
-    yield from (f'BA_DEF_ {table} "{name}" STRING ;' for name, table in texts.items())
-    yield f'BA_DEF_ BO_ "{CYCLE_ATTRIBUTE}" INT 0 65535;'
-    yield 'BA_DEF_ BO_ "VFrameFormat" ENUM "StandardCAN","ExtendedCAN","reserved","J1939PG";'
-    yield 'BA_DEF_ "ProtocolType" STRING ;'
-    yield from (f'BA_DEF_DEF_ "{name}" {default};' for name, _, default in UNIT_ATTRIBUTES)
-    yield from (f'BA_DEF_DEF_ "{name}" "";' for name in texts)
-    yield f'BA_DEF_DEF_ "{CYCLE_ATTRIBUTE}" 0;'
-    yield 'BA_DEF_DEF_ "VFrameFormat" "J1939PG";'
-    yield 'BA_DEF_DEF_ "ProtocolType" "J1939";'
+    def part_attributes(self, message: Message, part: Part) -> Iterator[str]:
+        """The attributes of a signal or text."""
+        what = f"SG_ {message.identifier | EXTENDED} {part.name}"
+        if part.name != part.label:
+            yield f'BA_ "{SIGNAL_ATTRIBUTE}" {what} "{part.label}";'
+        if part.long:
+            yield f'BA_ "{LONG_SIGNAL}" {what} {in_quotes(part.long)};'
+        if part.told.spn:
+            yield f'BA_ "{SPN_ATTRIBUTE}" {what} {part.told.spn};'
+        if part.told.cycle:
+            yield f'BA_ "{SIGNAL_CYCLE_ATTRIBUTE}" {what} {part.told.cycle};'
+        if part.is_text:
+            yield f'BA_ "{CONTENT_ATTRIBUTE}" {what} {CONTENTS.index(TEXT_CONTENT)};'
+            count = self.number(part.place, "bytes", 0)
+            if count != self.bytes_in_shortest(message.group, part):
+                yield f'BA_ "{BYTES_ATTRIBUTE}" {what} {count};'
+            return
+        yield f'BA_ "{KIND_ATTRIBUTE}" {what} "{self.kind(part)}";'
+        if self.kind(part) == "dtc":
+            yield f'BA_ "{CONTENT_ATTRIBUTE}" {what} {CONTENTS.index(CODE_CONTENT)};'
+        if self.places.spelled.get(part.place + ("repeated",)) == "true":
+            yield f'BA_ "{REPEATED_ATTRIBUTE}" {what} 1;'
+
+    def values(self) -> Iterator[str]:
+        """The tables of values."""
+        for message in self.messages.values():
+            for part in self.parts_of(message.group):
+                if part.told.values:
+                    named = " ".join(f"{raw} {in_quotes(name)}" for raw, name in sorted(part.told.values.items()))
+                    yield f"VAL_ {message.identifier | EXTENDED} {part.name} {named} ;"
 
 
 def options(words: list[str] | None) -> argparse.Namespace:
     """What the command line asks for."""
     parser = program.parser(__doc__)
     parser.add_argument("plan", metavar="PLAN", help="the name of a plan file")
+    program.note_options(parser)
     parser.epilog = "example: %(prog)s plan.toml > network.dbc"
     return parser.parse_args(words)
 
 
 def main(words: list[str] | None = None) -> int:
-    """Writes the DBC; 0, or the program's status where it can't read the plan."""
+    """Writes the DBC; 0, or the program's status where it can't read the plan, or 1 where there are notes and there were to be none."""
     given, notes = options(words), Notes()
     with program.copied(given.plan) as plan:
         status, answer = program.call(["check", "--", plan])
@@ -291,7 +362,7 @@ def main(words: list[str] | None = None) -> int:
     sys.stdout.reconfigure(encoding="utf-8")
     sys.stdout.write(text)
     print(f"{len(dbc.units)} nodes {len(dbc.messages)} messages, notes {notes.count}", file=sys.stderr)
-    return 0
+    return program.noted(given, notes)
 
 
 if __name__ == "__main__":

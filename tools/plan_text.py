@@ -11,7 +11,7 @@ from left_out import plain
 VERSIONS = (2, 3)
 
 # What a key is where it isn't there (docs/PLAN.md), so that it needn't be written.
-DEFAULTS = {"bit": 1, "step": 1, "per": 1, "offset": 0, "unit": "", "private": False}
+DEFAULTS = {"bit": 1, "step": 1, "per": 1, "offset": 0, "unit": "", "private": False, "repeated": False}
 
 
 @dataclass
@@ -41,23 +41,6 @@ class Labels:
         return label
 
 
-def remark(name: str, label: str, *facts: str) -> list[str]:
-    """What is kept of a thing beside its keys, if there is anything: its name where its label is another, and facts of it."""
-    kept = [fact for fact in (plain(name) if name != label else "", *facts) if fact]
-    return [", ".join(kept)] if kept else []
-
-
-def quoted(text: str | None) -> str:
-    """A text of the file as a remark, if there is one."""
-    line = plain(text or "")
-    return f'"{line}"' if line else ""
-
-
-def milliseconds(cycle_time: int | None) -> str:
-    """A cycle time as a remark, if there is one."""
-    return f"{cycle_time} ms" if cycle_time else ""
-
-
 def spelled(value: Any) -> str:
     """A value as TOML spells it."""
     if isinstance(value, bool):
@@ -82,9 +65,17 @@ def lines_of(table: Table) -> Iterator[str]:
         yield from lines_of(part)
 
 
-def text_of(tables: Iterable[Table], source: str, version: int = VERSIONS[-1]) -> str:
+def timing_of(bitrate: int) -> list[str]:
+    """What a file says of the bus as a comment that can be made a table: how many frames come unplanned it doesn't say."""
+    return ["", "# For load and delays: make this a table, with how many frames come unplanned, and give each flow a period.",
+            "# [timing]", f"# bitrate = {bitrate}", "# unplanned = 1"]
+
+
+def text_of(tables: Iterable[Table], source: str, version: int = VERSIONS[-1], bitrate: int | None = None) -> str:
     """The plan's file."""
     lines = [f"# From {plain(source)}: look it through.", f"version = {version}"]
+    if bitrate and version >= 3:
+        lines += timing_of(bitrate)
     for table in tables:
         lines += lines_of(table)
     return "\n".join(lines) + "\n"

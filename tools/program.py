@@ -13,6 +13,8 @@ import traceback
 from collections.abc import Callable, Iterable, Iterator, Sequence
 from typing import NoReturn
 
+from left_out import Notes
+
 # Exit statuses (docs/TOOLS.md has all of them); those below 5 are the program's own.
 UNREADABLE, MEMORY, DEVICE, TOO_LONG, MISSING, FAULT = 2, 3, 4, 5, 69, 70
 
@@ -112,6 +114,19 @@ def parser(description: str, own_version: bool = False) -> argparse.ArgumentPars
         return words
     words.add_argument("--version", action=Version, nargs=0, help="print the version and exit")
     return words
+
+
+def note_options(words: argparse.ArgumentParser) -> None:
+    """The options on notes of a tool that makes them."""
+    words.add_argument("--notes", metavar="FILE", help="write the notes into a file too, as JSON objects, each on a line")
+    words.add_argument("--fail-on-notes", action="store_true", help="exit status 1 where there is a note; what is written stays")
+
+
+def noted(given: argparse.Namespace, notes: Notes) -> int:
+    """Writes the notes where that is wanted, and answers the exit status."""
+    if given.notes:
+        notes.write(given.notes)
+    return 1 if given.fail_on_notes and notes.count else 0
 
 
 def tool() -> str:

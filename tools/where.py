@@ -12,7 +12,9 @@ from collections.abc import Callable, Iterable, Iterator
 from decimal import Decimal
 from fractions import Fraction
 from math import lcm
+from typing import NamedTuple
 
+import code_quality
 import program
 from lint import Lint
 from toml_places import MARK, Place, Places, fault_of, places_of
@@ -320,7 +322,14 @@ def of_one(plan: Plan, number: str, words: list[str]) -> Told:
         place = plan.labelled(("group",), words[0])
         if kind in ("signal", "text"):
             place = plan.labelled(place + (kind,), words[1])
-    return plan.line(place + (key,)), f"key {key}: {hint}"
+    named = f"{flow_named(plan, place)}: " if kind == "flow" else ""
+    return plan.line(place + (key,)), f"{named}key {key}: {hint}"
+
+
+def flow_named(plan: Plan, flow: Place) -> str:
+    """A flow by what is sent, by whom and to whom, as answers have flows by their numbers alone."""
+    group, sender, receiver = (plan.places.texts.get(flow + (key,), "?") for key in ("group", "from", "to"))
+    return f"{group} from {sender} to {receiver}"
 
 
 def of_two(plan: Plan, number: str, words: list[str]) -> Told:
@@ -335,7 +344,8 @@ def of_two(plan: Plan, number: str, words: list[str]) -> Told:
         other = "itself" if first == second else f"{words[2]} at line {plan.line(second)}"
         return plan.line(first + ("repeated",)), f"key repeated: in a later record {words[1]} and {other} share a bit"
     if number == "F11":
-        return plan.line(("flow", int(words[1]))), f"the same as at line {plan.line(('flow', int(words[0])))}"
+        flow = ("flow", int(words[1]))
+        return plan.line(flow), f"{flow_named(plan, flow)}: the same as at line {plan.line(('flow', int(words[0])))}"
     kind, key = PAIR_KEYS[number]
     first, second = (plan.labelled((kind,), label) + (key,) for label in words[:2])
     return plan.line(second), f"key {key}: the same as of {words[0]} at line {plan.line(first)}"
@@ -384,8 +394,16 @@ def github_annotation(file: str, line: int, text: str, below: list[str]) -> list
     return [f"::error file={name},line={line}::{whole}"]
 
 
-def annotate(name: str, data: bytes, answer: str, form: Form) -> Iterator[str]:
-    """The answer's lines; those that say what is wrong with their place in the file."""
+class Placed(NamedTuple):
+    """A part of an answer: its line of the file, None where it says nothing of one, its text with a hint, and the lines that belong to it."""
+
+    line: int | None
+    text: str
+    below: list[str]
+
+
+def placed(data: bytes, answer: str) -> Iterator[Placed]:
+    """The answer's parts; those that say what is wrong with their place in the file."""
     plan = Plan(data.decode(errors="replace"))
     for line, *below in parted(answer):
         if line.startswith("refused "):
@@ -393,11 +411,19 @@ def annotate(name: str, data: bytes, answer: str, form: Form) -> Iterator[str]:
         elif re.match(r"F\d+ ", line):
             at, hint = finding(plan, line)
         else:
-            yield line
-            yield from below
+            yield Placed(None, line, below)
             continue
-        shown = f"{line}  ({hint})" if hint else line
-        yield from form(name, at, shown, below)
+        yield Placed(at, f"{line}  ({hint})" if hint else line, below)
+
+
+def annotate(name: str, parts: Iterable[Placed], form: Form) -> Iterator[str]:
+    """The lines of an answer's parts, those that have a place in this form."""
+    for part in parts:
+        if part.line is None:
+            yield part.text
+            yield from part.below
+        else:
+            yield from form(name, part.line, part.text, part.below)
 
 
 def github_notice(file: str, line: int, text: str, _: list[str]) -> list[str]:
@@ -405,11 +431,9 @@ def github_notice(file: str, line: int, text: str, _: list[str]) -> list[str]:
     return [f"::notice file={escaped(file, NAME_SIGNS)},line={line}::{escaped(text, TEXT_SIGNS)}"]
 
 
-def linted(name: str, plan: str, github: bool) -> Iterator[str]:
-    """The hints at a plan that can be read, each with its place in the file."""
-    form = github_notice if github else compiler_message
-    for line, text in Lint(places_of(plan)).hints():
-        yield from form(name, line, f"hint {text}", [])
+def hints_of(plan: str) -> list[Placed]:
+    """The hints at a plan that can be read."""
+    return [Placed(line, f"hint {text}", []) for line, text in Lint(places_of(plan)).hints()]
 
 
 def main(words: list[str] | None = None) -> int:
@@ -418,19 +442,26 @@ def main(words: list[str] | None = None) -> int:
     parser.epilog = "example: %(prog)s --lint plan.toml"
     parser.add_argument("plan", metavar="PLAN", help="the name of a plan file")
     parser.add_argument("--github", action="store_true", help="as annotations of GitHub's CI")
+    parser.add_argument("--gitlab", metavar="FILE", help="write them into a file too, as a code quality report of GitLab's CI, in which "
+                        "those of other plans stay")
     parser.add_argument("--lint", action="store_true", help="with hints that are no findings, as FILE:LINE: hint ANSWER, for example "
                         "of a group that no flow sends; they don't change the status")
     given = parser.parse_args(words)
+    hints: list[Placed] = []
+    parts: list[Placed] = []
     with program.copied(given.plan) as plan:
         status, answer = program.call(["check", "--", plan])
-        if status in (1, 2) and answer:
+        if answer:
             with open(plan, "rb") as file:
-                data = file.read()
-            form = github_annotation if given.github else compiler_message
-            answer = "".join(f"{line}\n" for line in annotate(given.plan, data, answer, form))
+                parts = list(placed(file.read(), answer))
         if status in (0, 1) and given.lint:
-            answer = "".join(f"{line}\n" for line in linted(given.plan, plan, given.github)) + answer
-    sys.stdout.write(answer)
+            hints = hints_of(plan)
+    lines = annotate(given.plan, hints, github_notice if given.github else compiler_message)
+    lines = [*lines, *annotate(given.plan, parts, github_annotation if given.github else compiler_message)]
+    sys.stdout.write("".join(f"{line}\n" for line in lines))
+    if given.gitlab and status in (0, 1, 2):
+        issues = [issue for part in (*hints, *parts) if part.line is not None for issue in [(part.line, part.text, part.below)]]
+        code_quality.write(given.gitlab, given.plan, issues)
     return status
 
 

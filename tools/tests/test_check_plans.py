@@ -1,12 +1,14 @@
 """The example for CI."""
 
+import json
 import os
+import shutil
 import subprocess
 import sys
 import unittest
 
 import program
-from tests.support import TOOLS, InFolder, example, text_of
+from tests.support import TOOLS, TOP, InFolder, example, text_of
 
 CLEAN, FOUND = example("first_plan.toml"), example("findings/f10_flow_to_self.toml")
 
@@ -32,8 +34,78 @@ class CheckPlans(InFolder):
     def test_its_help_and_its_version(self):
         version = program.call(["--version"])[1].split()[1]
         self.assertEqual(self.status("--version"), (0, f"check-plans (j39plan) {version}\n"))
-        usage = "usage: check-plans PLAN.. | --help | --version\n"
-        self.assertEqual(self.status("--help"), (0, f"{usage}\nexample: check-plans plans/*.toml\n"))
+        usage = "usage: check-plans PLAN.. | -h | --help | --version\n"
+        for word in ("--help", "-h"):
+            self.assertEqual(self.status(word), (0, f"{usage}\nexample: check-plans plans/*.toml\n"))
+
+    def said(self, *plans):
+        """The exit status over these plans, and what is said on standard error."""
+        ended = subprocess.run([os.path.join(TOOLS, "check-plans"), *plans], cwd=self.folder, capture_output=True, text=True, check=False,
+                               env={**os.environ, "J39PLAN": os.path.abspath(program.path()), "CHECK": ""})
+        return ended.returncode, ended.stderr
+
+    def test_a_file_that_can_not_be_checked_is_named(self):
+        """Whichever of several it is; the others are checked."""
+        missing, folder = self.path("none.toml"), self.folder
+        self.assertEqual(self.said(CLEAN, missing, FOUND), (2, f"check-plans: {missing} isn't there\n"))
+        self.assertEqual(self.said(folder), (2, f"check-plans: {folder} is a folder\n"))
+        self.assertIn("findings 1", self.status(missing, FOUND)[1])
+
+    def test_a_fault_of_the_check_names_the_plan(self):
+        tool = self.write("tool.sh", "exit 70\n")
+        ended = subprocess.run([os.path.join(TOOLS, "check-plans"), CLEAN], capture_output=True, text=True, check=False,
+                               env={**os.environ, "CHECK": f"sh {tool}"})
+        self.assertEqual((ended.returncode, ended.stderr), (2, f"check-plans: {CLEAN} could not be checked, status 70\n"))
+
+    def test_an_option_that_there_is_not(self):
+        """It is no plan, unless a file is called so; behind -- it is one."""
+        usage = "usage: check-plans PLAN.. | -h | --help | --version\n"
+        for words in (("--quiet",), ("--quiet", CLEAN), (CLEAN, "-q")):
+            option = next(word for word in words if word.startswith("-"))
+            self.assertEqual(self.said(*words), (2, f"check-plans: there is no option {option}\n{usage}"))
+        self.assertEqual(self.said("--", "--quiet"), (2, "check-plans: --quiet isn't there\n"))
+        self.write("--quiet", text_of(CLEAN))
+        self.assertEqual(self.said("--quiet"), (0, ""))
+        self.assertEqual(self.status("--", "--quiet"), (0, "--quiet\nok 2 units 1 groups 1 flows\n"))
+
+    def test_a_report_for_gitlab(self):
+        """Of all plans in one file; of a plan that is checked anew its entries are new."""
+        report, refused = self.path("report.json"), self.write("refused.toml", "version = 4\n")
+        check = f"{os.path.join(TOOLS, 'where.py')} --gitlab {report}"
+        for _ in range(2):
+            self.assertEqual(self.status(FOUND, refused, CLEAN, check=check)[0], 1)
+            with open(report, encoding="utf-8") as file:
+                entries = json.load(file)
+            self.assertEqual([(entry["location"]["path"], entry["location"]["lines"]["begin"], entry["check_name"], entry["severity"])
+                              for entry in entries],
+                             [(FOUND, 25, "FlowToSelf", "major"), (refused, 1, "refused Range", "critical")])
+        self.assertEqual(len({entry["fingerprint"] for entry in entries}), 2)
+        self.assertTrue(entries[0]["description"].startswith("F10 FlowToSelf 1  (TSC1 from ENGINE to ENGINE: key to: "), entries)
+        os.replace(self.write("mended.toml", text_of(CLEAN)), refused)
+        self.assertEqual(self.status(refused, check=check)[0], 0)
+        with open(report, encoding="utf-8") as file:
+            self.assertEqual([entry["location"]["path"] for entry in json.load(file)], [FOUND])
+
+    def test_a_file_that_is_no_report(self):
+        """It stays as it is, and that is no fault of the plan."""
+        for text in ("hello", "{}", "[1]", '[{"location": 5}]'):
+            report = self.write("report.json", text)
+            ended = subprocess.run([sys.executable, os.path.join(TOOLS, "where.py"), "--gitlab", report, FOUND], capture_output=True, text=True,
+                                   check=False, env={**os.environ, "J39PLAN": program.path()})
+            self.assertEqual((ended.returncode, ended.stderr), (4, f"where: {report}: it is no code quality report, and stays as it is\n"))
+            self.assertEqual(text_of(report), text)
+
+    def test_a_hook_of_pre_commit(self):
+        """The file at the top names the command that a package installs."""
+        text = text_of(os.path.join(TOP, ".pre-commit-hooks.yaml"))
+        self.assertRegex(text, r"(?m)^- id: j39plan-check-plans$")
+        self.assertRegex(text, r"(?m)^  entry: j39plan-check-plans$")
+        self.assertRegex(text, r"(?m)^  language: system$")
+        self.assertRegex(text_of(os.path.join(TOP, "docs", "TOOLS.md")), r"(?m)^ +- id: j39plan-check-plans$")
+        if shutil.which("pre-commit"):
+            ended = subprocess.run(["pre-commit", "validate-manifest", os.path.join(TOP, ".pre-commit-hooks.yaml")],
+                                   capture_output=True, text=True, check=False, env={**os.environ, "HOME": self.folder})
+            self.assertEqual(ended.returncode, 0, ended.stdout + ended.stderr)
 
     def test_it_finds_the_program_through_a_link(self):
         os.symlink(os.path.join(TOOLS, "check-plans"), self.path("linked"))

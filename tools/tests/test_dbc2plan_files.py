@@ -124,7 +124,7 @@ class NoPlan(WithDbc):
                 self.assertTrue(self.refused(f"file.{ending}", data).startswith("canmatrix can't read it: XMLSyntaxError: "))
         self.assertEqual(self.refused("file.kcd", b"<?xml version='1.0'?><a/>"), "there is no bus in it")
         for name in ("file.txt", "file", "dbc", "file.toml"):
-            self.assertEqual(self.refused(name, DBC.encode()), "it is none of .dbc, .arxml, .kcd and .sym by its ending")
+            self.assertEqual(self.refused(name, DBC.encode()), "it is none of .dbc, .arxml, .kcd and .sym by its ending: name its kind by --kind")
 
     def test_a_file_of_which_nothing_can_be_carried_over(self):
         data = "BU_: ENGINE\nBO_ 291 SHORT: 8 ENGINE\n" + message(0x18FF1000, "MAKER", "Vector__XXX")

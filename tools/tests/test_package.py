@@ -190,11 +190,11 @@ class Pages(unittest.TestCase):
         for tool in INSTALLED:
             name = tool if tool == "check-plans" else f"{tool}.py"
             shown = "\n".join(lines_of(os.path.join(TOOLS, name), "--help"))
-            options = set(re.findall(r"--[a-z]+", shown))
+            options = set(re.findall(r"--[a-z][a-z-]*", shown))
             page = text_of(os.path.join(PACKAGE, "man", f"j39plan-{tool}.1")).replace("\\-", "-")
             synopsis = page[page.index(".SH SYNOPSIS"):page.index(".SH DESCRIPTION")]
-            self.assertEqual(options - {"--output"}, set(re.findall(r"--[a-z]+", synopsis)), tool)
-            self.assertEqual(options - set(re.findall(r"--[a-z]+", page)), set(), tool)
+            self.assertEqual(options - {"--output"}, set(re.findall(r"--[a-z][a-z-]*", synopsis)), tool)
+            self.assertEqual(options - set(re.findall(r"--[a-z][a-z-]*", page)), set(), tool)
             self.assertRegex(shown, rf"\nexample: {re.escape(name)} ", tool)
             example = page[page.index(".SH EXAMPLE"):].splitlines()[1]
             self.assertEqual(example.removeprefix(".B ").removeprefix("j39plan-"),
@@ -231,14 +231,22 @@ class Completions(InFolder):
                             (("j39plan-check-plans", "a.toml"), "a.toml")):
             self.assertEqual(self.complete_bash(*words, "a", cwd=self.folder), [name], words)
 
+    def test_bash_of_files_of_several_kinds(self):
+        """Of what dbc2plan reads all endings, in capitals too, behind another file too."""
+        files = ["a.arxml", "a.dbc", "a.DBC", "a.kcd", "a.sym", "a.SYM"]
+        for name in (*files, "a.toml", "a.txt"):
+            self.write(name, "")
+        for words in (("j39plan-dbc2plan",), ("j39plan-dbc2plan", "a.dbc")):
+            self.assertEqual(sorted(self.complete_bash(*words, "a", cwd=self.folder)), sorted(files))
+
     def test_bash_of_tools(self):
         """The options of each are those of its help."""
         for tool in INSTALLED:
             name = os.path.join(TOOLS, tool if tool == "check-plans" else f"{tool}.py")
-            shown = sorted(set(re.findall(r"--[a-z]+", "\n".join(lines_of(name, "--help")))))
+            shown = sorted(set(re.findall(r"--[a-z][a-z-]*", "\n".join(lines_of(name, "--help")))))
             self.assertIn("--help", shown)
             self.assertEqual(self.complete_bash(f"j39plan-{tool}", "-"), shown)
-        self.assertEqual(self.complete_bash("j39plan-where", "--g"), ["--github"])
+        self.assertEqual(self.complete_bash("j39plan-where", "--g"), ["--github", "--gitlab"])
 
     @unittest.skipUnless(shutil.which("fish"), "fish isn't there: apt-get install fish")
     def test_fish(self):
@@ -252,7 +260,7 @@ class Completions(InFolder):
     def test_fish_of_tools(self):
         script = f"source {PACKAGE}/completions/j39plan.fish; complete -C '{{}}'"
         for tool in INSTALLED:
-            shown = re.findall(r"--[a-z]+", "\n".join(lines_of(os.path.join(TOOLS, tool if tool == "check-plans" else f"{tool}.py"), "--help")))
+            shown = re.findall(r"--[a-z][a-z-]*", "\n".join(lines_of(os.path.join(TOOLS, tool if tool == "check-plans" else f"{tool}.py"), "--help")))
             offered = [line.split("\t")[0] for line in lines_of("fish", "--no-config", "-c", script.format(f"j39plan-{tool} --"), cwd=TOOLS)]
             self.assertLessEqual(set(shown), set(offered), tool)
 
@@ -271,8 +279,8 @@ class Completions(InFolder):
         with ThreadPoolExecutor() as pool:
             offered = dict(zip(INSTALLED, pool.map(self.complete_zsh, [f"j39plan-{tool} --" for tool in INSTALLED])))
         for tool, text in offered.items():
-            shown = set(re.findall(r"--[a-z]+", "\n".join(lines_of(self.path(f"j39plan-{tool}"), "--help"))))
-            self.assertEqual(set(re.findall(r"^\s*(--[a-z]+) +-- ", text, re.MULTILINE)), shown, tool)
+            shown = set(re.findall(r"--[a-z][a-z-]*", "\n".join(lines_of(self.path(f"j39plan-{tool}"), "--help"))))
+            self.assertEqual(set(re.findall(r"^\s*(--[a-z][a-z-]*) +-- ", text, re.MULTILINE)), shown, tool)
 
     def complete_zsh(self, typed):
         """What zsh offers behind what was typed: only on a terminal, so it has one here."""

@@ -36,7 +36,7 @@ def blocks(text):
 
 def missing(command):
     """What a command needs that isn't there."""
-    if "vehicle" in command and importlib.util.find_spec("canmatrix") is None:
+    if re.search("vehicle|dbc2plan", command) and importlib.util.find_spec("canmatrix") is None:
         return "canmatrix isn't there: apt-get install python3-canmatrix"
     if "asc2log" in command and shutil.which("asc2log") is None:
         return "asc2log isn't there: apt-get install can-utils"

@@ -24,20 +24,21 @@ UNITS = ["", "rpm", "1/8 rpm", "%", "degC", "km/h"]
 
 
 def scale(signal):
-    """Step, offset and divisor of a signal in the smallest numbers."""
-    numbers = signal.get("step", 1), signal.get("offset", 0), signal.get("per", 1)
-    return tuple(number // gcd(*numbers) for number in numbers)
+    """Step, offset and divisor of a signal in the smallest numbers, and its unit of measurement, without a fraction of it."""
+    parts, _, unit = signal.get("unit", "").rpartition(" ") if signal.get("unit", "").startswith("1/") else ("", "", signal.get("unit", ""))
+    numbers = signal.get("step", 1), signal.get("offset", 0), signal.get("per", 1) * int(parts.removeprefix("1/") or 1)
+    return *(number // gcd(*numbers) for number in numbers), unit
 
 
 def said(plan):
-    """What of a plan a DBC can say: of a group of several lengths the longest, and no signal that is repeated."""
+    """What of a plan a DBC can say."""
     addresses = {unit["label"]: unit["address"] for unit in plan.get("unit", [])}
     units = {unit["label"]: (unit["address"], {key: part for key, part in unit["name"].items() if part})
              for unit in plan.get("unit", [])}
     groups = {
-        group["label"]: (group["pgn"], group["priority"], group.get("most", group["length"]), group.get("private", False), [
-            (signal["label"], signal["byte"], signal.get("bit", 1), signal["bits"], signal["kind"], scale(signal), signal.get("unit", ""))
-            for signal in group.get("signal", []) if not signal.get("repeated")])
+        group["label"]: (group["pgn"], group["priority"], group["length"], group.get("most"), group.get("every"), group.get("private", False), [
+            (signal["label"], signal["byte"], signal.get("bit", 1), signal["bits"], signal["kind"], scale(signal), signal.get("repeated", False))
+            for signal in group.get("signal", [])], [(text["label"], text["byte"], text.get("bytes")) for text in group.get("text", [])])
         for group in plan.get("group", [])
     }
     to_all = {label for label, group in groups.items() if group[0] >> 8 & 0xFF >= 240}
@@ -177,7 +178,8 @@ class RoundTrip(WithPlans):
                     raw = int.from_bytes(data, "little") >> 8 * (signal["byte"] - 1) + signal["bit"] - 1 & (1 << signal["bits"]) - 1
                     if signal["kind"] == "signed" and raw >> signal["bits"] - 1:
                         raw -= 1 << signal["bits"]
-                    value = Fraction(signal.get("offset", 0) + signal.get("step", 1) * raw, signal.get("per", 1))
+                    step, offset, per, _ = scale(signal)
+                    value = Fraction(offset + step * raw, per)
                     found = Fraction(str(decoded[signal["label"]].phys_value))
                     self.assertLessEqual(abs(found - value), abs(value) / 10**24)
                     values += 1
@@ -241,7 +243,7 @@ to = "DISPLAY"
         lines = text_of(dbc).splitlines()
         for line in ("BU_: _A DISPLAY", f"BO_ {0x8C040905} _G: 8 _A",
                      " SG_ SPN190 : 24|16@1+ (0.125,0) [0|8031.875] \"r'p'm\" DISPLAY", f"BO_ {0x98F004FE} ALONE: 8 Vector__XXX",
-                     "CM_ BU_ _A \"The 'first' one\";", f'CM_ SG_ {0x8C040905} SPN190 "SPN 190";',
+                     "CM_ BU_ _A \"The 'first' one\";", f'BA_ "SPN" SG_ {0x8C040905} SPN190 190;',
                      'BA_ "NmStationAddress" BU_ _A 5;', 'BA_ "NmJ1939IdentityNumber" BU_ DISPLAY 8;',
                      f'BA_ "PlanGroup" BO_ {0x8C040905} "G";'):
             self.assertIn(line, lines)
@@ -256,20 +258,95 @@ to = "DISPLAY"
         self.assertIn(f'BA_ "GenMsgCycleTime" BO_ {0x8CF00400} 10;\n', text_of(dbc))
         self.assertEqual(told.splitlines(), [
             "flow of ET1 from ENGINE to all: a DBC has no deadline",
-            "flow of ET1 from ENGINE to RETARDER: its identifier names no destination", "timing: a DBC has nothing of the bus for it",
+            "flow of ET1 from ENGINE to RETARDER: its identifier names no destination", "timing: a DBC has no count of unplanned frames",
             "message ET1: its flows have the periods 500, 1000 ms: the least one is its cycle time", "2 nodes 3 messages, notes 4"])
 
-    def test_texts_are_noted(self):
-        _, dbc, said = run("plan2dbc.py", example("identification.toml"))
-        self.assertIn("text SPN237 of VI: a DBC has no texts", said)
-        self.assertIn("SG_ SPN965 ", dbc)
-        self.assertNotIn("SPN234", dbc)
+    def test_texts(self):
+        """They are as long as the shortest messages have them; how long they are is an attribute where that isn't so."""
+        dbc, told = self.made(example("identification.toml"))
+        self.assertEqual(told, "2 nodes 3 messages, notes 0\n")
+        for line in (f"BO_ {0x98FEEC00} VI: 18 ENGINE", ' SG_ SPN237 : 0|136@1+ (1,0) [0|0] "" Vector__XXX', f'BA_ "SigType" SG_ {0x98FEEC00} SPN237 3;',
+                     f"BO_ {0x98FEDA00} SOFT: 8 ENGINE", ' SG_ SPN234 : 8|56@1+ (1,0) [0|0] "" Vector__XXX',
+                     f'BA_ "PlanMost" BO_ {0x98FEDA00} 201;', f'BA_ "PlanBytes" SG_ {0x98FEDA00} SPN234 0;'):
+            self.assertIn(line, text_of(dbc).splitlines())
 
-    def test_signals_that_are_repeated_are_noted(self):
-        _, dbc, said = run("plan2dbc.py", example("trouble_codes.toml"))
-        self.assertIn("signal DTC of DM1: a DBC has no signals that are repeated", said)
-        self.assertIn("SG_ SPN624 ", dbc)
-        self.assertNotIn("DTC", dbc)
+    def test_a_text_that_the_shortest_messages_have_nothing_of(self):
+        text = text_of(example("identification.toml")).replace("length = 8\nmost = 201", "length = 1\nmost = 201")
+        dbc, told = self.made(self.write("plan.toml", text))
+        self.assertIn("text SPN234 of SOFT: the group's shortest messages have nothing of it\n", told)
+        self.assertNotIn("SPN234", text_of(dbc))
+
+    def test_a_group_of_several_lengths(self):
+        """Its message has the least one, so that others decode what goes in one frame; its first record is an ordinary signal."""
+        dbc, told = self.made(example("trouble_codes.toml"))
+        self.assertEqual(told, "1 nodes 1 messages, notes 0\n")
+        for line in (f"BO_ {0x98FECA00} DM1: 8 ENGINE", ' SG_ DTC : 16|32@1+ (1,0) [0|4294967295] "" Vector__XXX',
+                     f'BA_ "PlanMost" BO_ {0x98FECA00} 1730;', f'BA_ "PlanEvery" BO_ {0x98FECA00} 4;',
+                     f'BA_ "PlanRepeated" SG_ {0x98FECA00} DTC 1;', f'BA_ "SigType" SG_ {0x98FECA00} DTC 7;'):
+            self.assertIn(line, text_of(dbc).splitlines())
+        import_canmatrix()
+        import canmatrix.formats
+        frame = canmatrix.formats.loadp_flat(dbc).frames[0]
+        self.assertEqual(frame.decode(bytes.fromhex("04FF6E000301FFFF"))["DTC"].raw_value, 0x0103006E)
+
+    def test_units_of_measurement_have_no_fraction(self):
+        """So others decode what the plan says."""
+        dbc, _ = self.made(example("tractor_and_implement.toml"))
+        self.assertRegex(text_of(dbc), r'SG_ SPN190 : 24\|16@1\+ \(0\.125,0\) \[0\|8031\.875\] "rpm" ')
+        import_canmatrix()
+        import canmatrix.formats
+        frame = next(frame for frame in canmatrix.formats.loadp_flat(dbc).frames if frame.name.startswith("EEC1"))
+        self.assertEqual(frame.decode(bytes.fromhex("F07D8C0019FFFFFF"))["SPN190"].phys_value, 800)
+        per = "step = 12207\nunit = \"1/100000000 rad/s\"\n"
+        plan = self.write("plan.toml", "version = 1\n" + written("group", {"label": "G", "pgn": 61444, "priority": 3, "length": 8}) + written(
+            "group.signal", {"label": "S", "byte": 1, "bits": 16, "kind": "measured"}) + per)
+        self.assertIn('(0.00012207,0) [0|7.84360785] "rad/s"', text_of(self.made(plan)[0]))
+        self.assertEqual(said(self.back(plan)), said(tomllib.loads(text_of(plan))))
+
+    def test_what_dbc2plan_wrote_beside(self):
+        """Numbers of parameters, tables of values, ranges, receivers, comments, names and times come back as what a DBC has for them."""
+        number = 0x8CF00400
+        text = (f'BU_: ENGINE CLUSTER TOOL\nBO_ {number} EEC1_ENGINE: 8 ENGINE\n'
+                ' SG_ SPEED : 24|16@1+ (0.125,0) [0|3000] "rpm" CLUSTER\n SG_ MODE : 0|4@1+ (1,0) [0|15] "" Vector__XXX\n'
+                f'BO_ {0x8CF00417} EEC1_CLUSTER: 8 CLUSTER\n SG_ MODE : 0|4@1+ (1,0) [0|15] "" ENGINE\n'
+                f'CM_ BU_ ENGINE "Six; 12 l, \\"D13\\"";\nCM_ BO_ {number} "Controller 1";\nCM_ SG_ {number} SPEED "Actual speed, = 5";\n'
+                'BA_DEF_ BU_ "NmStationAddress" INT 0 254;\nBA_DEF_ BO_ "GenMsgCycleTime" INT 0 65535;\nBA_DEF_ BO_ "GenMsgDelayTime" INT 0 65535;\n'
+                'BA_DEF_ BO_ "GenMsgSendType" ENUM "cyclic","OnChange";\nBA_DEF_ "Baudrate" INT 0 1000000;\nBA_DEF_ SG_ "SPN" INT 0 524287;\n'
+                'BA_DEF_ SG_ "SystemSignalLongSymbol" STRING ;\nBA_ "Baudrate" 250000;\nBA_ "NmStationAddress" BU_ CLUSTER 23;\n'
+                f'BA_ "GenMsgCycleTime" BO_ {number} 1000;\nBA_ "GenMsgDelayTime" BO_ {number} 50;\nBA_ "GenMsgSendType" BO_ {number} 1;\n'
+                f'BA_ "SPN" SG_ {number} SPEED 190;\nBA_ "SystemSignalLongSymbol" SG_ {number} SPEED "Speed_of_the_engine_at_its_crankshaft_now";\n'
+                f'VAL_ {number} MODE 0 "idle" 14 "not \\"so\\"" ;\n')
+        status, plan, _ = run("dbc2plan.py", self.write("file.dbc", text))
+        self.assertEqual(status, 0)
+        dbc = text_of(self.made(self.write("plan.toml", plan))[0]).splitlines()
+        for line in (f"BO_ {number} EEC1_ENGINE: 8 ENGINE", f"BO_ {0x8CF00417} EEC1_CLUSTER: 8 CLUSTER",
+                     ' SG_ Speed_of_the_engine_at_its_crank : 24|16@1+ (0.125,0) [0|3000] "rpm" CLUSTER',
+                     ' SG_ MODE : 0|4@1+ (1,0) [0|15] "" ENGINE', "CM_ BU_ ENGINE \"Six; 12 l, 'D13'\";", f'CM_ BO_ {number} "Controller 1";',
+                     f'CM_ SG_ {number} Speed_of_the_engine_at_its_crank "Actual speed, = 5";', 'BA_ "Baudrate" 250000;',
+                     f'BA_ "SystemSignalLongSymbol" SG_ {number} Speed_of_the_engine_at_its_crank "Speed_of_the_engine_at_its_crankshaft_now";',
+                     f'BA_ "SPN" SG_ {number} Speed_of_the_engine_at_its_crank 190;', f'BA_ "GenMsgCycleTime" BO_ {number} 1000;',
+                     f'BA_ "GenMsgDelayTime" BO_ {number} 50;', f'BA_ "GenMsgSendType" BO_ {number} 1;',
+                     f'VAL_ {number} MODE 0 "idle" 14 "not \'so\'" ;'):
+            self.assertIn(line, dbc)
+        self.assertIn('BA_DEF_ BO_ "GenMsgSendType" ENUM "cyclic","OnChange";', dbc)
+        self.assertEqual(said(self.back(self.path("plan.toml"))), said(tomllib.loads(plan)))
+
+    def test_a_destination_that_no_unit_has(self):
+        """It is that of the file again."""
+        name = self.write("file.dbc", f'BU_: GEARBOX\nBO_ {0x8C000003} TSC1: 8 GEARBOX\n SG_ S : 0|8@1+ (1,0) [0|0] "" Vector__XXX\n')
+        plan = self.write("plan.toml", run("dbc2plan.py", name)[1])
+        self.assertIn(f"BO_ {0x8C000003} TSC1: 8 GEARBOX", text_of(self.made(plan)[0]).splitlines())
+
+    def test_comments_of_another_form(self):
+        """What isn't as dbc2plan.py writes it is a comment as a whole."""
+        for comment, wanted in (("The engine's speed", '"The engine\'s speed"'), ("SPN 190 and more", '"SPN 190 and more"'),
+                                ('SPN 190, see "here"', "\"SPN 190, see 'here'\""), ("SPN 190, ok", '"SPN 190, ok"'), ('0 = "off", the rest is open', "\"0 = 'off', the rest is open\""),
+                                ("S, SPN 190", None), ("X", '"X"'), ("for CLUSTER, later more", '"for CLUSTER, later more"')):
+            plan = self.write("plan.toml", "version = 1\n" + written("group", {"label": "G", "pgn": 61444, "priority": 3, "length": 8}) + (
+                f'[[group.signal]]\nlabel = "S"  # {comment}\nbyte = 1\nbits = 8\nkind = "raw"\n'))
+            dbc = text_of(self.made(plan)[0])
+            told = [line.split(" ", 4)[4] for line in dbc.splitlines() if line.startswith("CM_ SG_ ")]
+            self.assertEqual(told, [] if wanted is None else [f"{wanted};"], comment)
 
     def test_two_messages_of_one_identifier(self):
         """The second one, which check finds, is left out."""

@@ -201,14 +201,26 @@ class Where(InFolder):
         early = "12: refused UnknownKey group 1  (key text: only from version = 3 on)"
         self.assertEqual(self.answer(plan.replace("version = 3", "version = 2")), (2, [early]))
 
+    def test_flows_are_named(self):
+        """Answers have them by their numbers alone: who sends what to whom, in the hint of each finding on one."""
+        for name, found in (
+            ("f09_flow_to_one", "42: F9 FlowToOne 2  (ET1 from ENGINE to CLUSTER: key to: a frame of this group goes to all)"),
+            ("f10_flow_to_self", "25: F10 FlowToSelf 1  (TSC1 from ENGINE to ENGINE: key to: the sender itself)"),
+            ("f11_flow_repeated", "37: F11 FlowRepeated 1 3  (EEC1 from ENGINE to all: the same as at line 27)"),
+            ("f16_no_period", "31: F16 NoPeriod 2  (ET1 from ENGINE to all: key period: "),
+            ("f18_late_flow", "35: F18 LateFlow 2  (ET1 from ENGINE to all: key period: "),
+        ):
+            plan = example(f"findings/{name}.toml")
+            self.assertTrue(run("where.py", plan)[1].startswith(f"{plan}:{found}"), name)
+
     def test_loads(self):
         """Which flow has no period or is late, where the bitrate stands, and from which version on these keys are known."""
         head = 'version = 3\n[timing]\nbitrate = 250000\nunplanned = 0\n[[unit]]\nlabel = "A"\naddress = 0\nname = { identity = 1 }\n'
         group = '[[group]]\nlabel = "G"\npgn = 61444\npriority = 3\nlength = 8\n'
         flow = '[[flow]]\ngroup = "G"\nfrom = "A"\nto = "all"\n'
-        none = "14: F16 NoPeriod 1  (key period: it isn't there, and a plan with timing asks for it)"
+        none = "14: F16 NoPeriod 1  (G from A to all: key period: it isn't there, and a plan with timing asks for it)"
         self.assertEqual(self.answer(head + group + flow), (1, [none, "findings 1"]))
-        late = ("18: F18 LateFlow 1  (key period: within the deadline, or the period, there isn't room for all that may go before it: "
+        late = ("18: F18 LateFlow 1  (G from A to all: key period: within the deadline, or the period, there isn't room for all that may go before it: "
                 "load shows the delays)")
         self.assertEqual(self.answer(f"{head}{group}{flow}period = 1\n"), (1, [late, "findings 1"]))
         both = f"{head}{group}{flow}period = 1\n{flow.replace('all', 'B')}period = 1\n".replace(
@@ -460,7 +472,7 @@ class Where(InFolder):
                 text = "".join(lines[:at] + [instead] + lines[at + 1:])
                 name = self.write("plan.toml", text)
                 status, answer = program.call(["check", name])
-                shown = list(where.annotate("P", text.encode(), answer, where.compiler_message))
+                shown = list(where.annotate("P", where.placed(text.encode(), answer), where.compiler_message))
                 self.assertEqual([part.split(": ", 1)[-1].split("  (")[0] for part in shown], answer.splitlines())
                 for part in shown:
                     if found := re.match(r"P:(\d+): ", part):

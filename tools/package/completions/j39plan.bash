@@ -1,10 +1,12 @@
 # Completions of j39plan and its tools for bash.
 
-# Files with an ending, and folders; where there are none, all files.
+# Files with one of the endings behind the word, in capitals too, and folders; where there are none, all files.
 _j39plan_files() {
+  local word=$1 ending
+  shift
   compopt -o filenames 2> /dev/null
-  mapfile -t COMPREPLY < <(compgen -f -X "!*.$1" -- "$2"; compgen -d -- "$2")
-  [ "${#COMPREPLY[@]}" -gt 0 ] || mapfile -t COMPREPLY < <(compgen -f -- "$2")
+  mapfile -t COMPREPLY < <(for ending in "$@" "${@^^}"; do compgen -f -X "!*.$ending" -- "$word"; done; compgen -d -- "$word")
+  [ "${#COMPREPLY[@]}" -gt 0 ] || mapfile -t COMPREPLY < <(compgen -f -- "$word")
 }
 
 _j39plan() {
@@ -14,9 +16,9 @@ _j39plan() {
     mapfile -t COMPREPLY < <(compgen -W 'check addresses load run read follow frame help --help --version' -- "$word")
   elif [[ ${COMP_WORDS[1]} =~ ^(check|addresses|load|run|read|follow)$ ]]; then
     case "$COMP_CWORD ${COMP_WORDS[1]}" in
-      '3 run') _j39plan_files schedule "$word" ;;
-      '3 read' | '3 follow') _j39plan_files log "$word" ;;
-      *) _j39plan_files toml "$word" ;;
+      '3 run') _j39plan_files "$word" schedule ;;
+      '3 read' | '3 follow') _j39plan_files "$word" log ;;
+      *) _j39plan_files "$word" toml ;;
     esac
   elif [ "${COMP_WORDS[1]}" = help ]; then
     mapfile -t COMPREPLY < <(compgen -W 'check addresses load run read follow frame' -- "$word")
@@ -29,15 +31,15 @@ _j39plan_tool() {
   local word=${COMP_WORDS[COMP_CWORD]} tool=${COMP_WORDS[0]##*/}
   COMPREPLY=()
   if [[ $word == -* ]]; then
-    mapfile -t COMPREPLY < <(compgen -W "$("${COMP_WORDS[0]}" --help 2> /dev/null | grep -oE -- '--[a-z]+' | sort -u)" -- "$word")
+    mapfile -t COMPREPLY < <(compgen -W "$("${COMP_WORDS[0]}" --help 2> /dev/null | grep -oE -- '--[a-z][a-z-]*' | sort -u)" -- "$word")
   elif [ "$tool" = j39plan-dbc2plan ]; then
-    _j39plan_files dbc "$word"
+    _j39plan_files "$word" dbc arxml kcd sym
   elif [ "$tool" = j39plan-tolog ]; then
-    _j39plan_files blf "$word"
+    _j39plan_files "$word" blf
   elif [[ $tool =~ ^j39plan-(against|fleet|signals|plot)$ ]] && [ "$COMP_CWORD" -gt 1 ]; then
-    _j39plan_files log "$word"
+    _j39plan_files "$word" log
   else
-    _j39plan_files toml "$word"
+    _j39plan_files "$word" toml
   fi
 }
 complete -F _j39plan_tool j39plan-where j39plan-startup j39plan-dbc2plan j39plan-plan2dbc j39plan-join j39plan-compare j39plan-against j39plan-fleet j39plan-report j39plan-signals j39plan-plot j39plan-tolog j39plan-check-plans

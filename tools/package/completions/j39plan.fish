@@ -21,6 +21,7 @@ for tool in where startup dbc2plan plan2dbc join compare against fleet report si
 end
 complete -c j39plan-where -l lint -d 'with hints that are no findings'
 complete -c j39plan-where -l github -d 'as annotations of GitHub\'s CI'
+complete -c j39plan-where -l gitlab -r -F -d 'write a code quality report of GitLab\'s CI, too'
 complete -c j39plan-dbc2plan -l sender -x -d 'only groups that this unit sends'
 complete -c j39plan-dbc2plan -l group -x -d 'only this group, by name or PGN'
 complete -c j39plan-dbc2plan -l bus -x -d 'which bus of the file'
@@ -28,6 +29,12 @@ complete -c j39plan-dbc2plan -l version -a '2 3' -d 'the version of the plan'
 complete -c j39plan-dbc2plan -l strict -d 'keep signals that lie outside or overlap'
 complete -c j39plan-join -l first -d 'write the plan with what the earliest file says'
 complete -c j39plan-compare -l json -d 'as a JSON object'
+complete -c j39plan-dbc2plan -l kind -x -a 'dbc arxml kcd sym' -d 'of which kind the files are'
+complete -c j39plan-dbc2plan -l encoding -x -d 'in which encoding their lines are'
+for tool in dbc2plan plan2dbc
+    complete -c j39plan-$tool -l notes -r -F -d 'write the notes as JSON, too'
+    complete -c j39plan-$tool -l fail-on-notes -d 'status 1 where there is a note'
+end
 complete -c j39plan-report -l output -s o -r -F -d 'the name of the HTML file'
 complete -c j39plan-report -l watch -d 'serve the page, drawn anew as the plan is saved'
 complete -c j39plan-report -l address -x -d 'at which address of this machine the page is served'
