@@ -218,7 +218,7 @@ class Drawn(WithLog):
         """Ten thousand claims are a box with their number, and no work for each."""
         lines = [f"({1 + number / 200:.3f}) can0 {('18EEFF80#1240A05B00800CA0', '18EEFF80#7856341200000000')[number % 2]}\n" for number in range(10000)]
         log = self.write("fight.log", "".join(lines) + "(200.0) can0 18FEEE00#7DFFFFFFFFFFFFFF\n")
-        self.assertIn("9999 times claimed", self.texts(self.drawn("a.svg", "--addresses", log=log)))
+        self.assertIn("10000 times claimed", self.texts(self.drawn("a.svg", "--addresses", log=log)))
 
     def test_units_have_one_colour(self):
         """In each signal and in their boxes, ten of them before lines are dashed."""
