@@ -16,11 +16,10 @@ from collections.abc import Iterator
 from typing import NamedTuple, TypedDict
 
 import program
-from against import nanoseconds
+from clock import nanoseconds
 from plan_tables import Tables
 from readings import reading_of, scale_of
 
-AGAINST = os.path.join(os.path.dirname(os.path.realpath(__file__)), "against.py")
 
 SECOND = 10**9
 
@@ -81,6 +80,11 @@ class Drive(TypedDict):
     signals: dict[str, Spread]
 
 
+def command(tool: str) -> str:
+    """The file of a tool."""
+    return os.path.join(os.path.dirname(os.path.realpath(__file__)), f"{tool}.py")
+
+
 def answered(words: list[str]) -> tuple[int, str, str]:
     """Status, standard output and standard error of a command."""
     try:
@@ -92,7 +96,7 @@ def answered(words: list[str]) -> tuple[int, str, str]:
 
 def compared(plan: str, log: str, options: list[str]) -> tuple[list[Deviation], list[str]]:
     """The deviations that `against` writes, and what it says beside them. It is a process of its own, so that tasks may be threads of one."""
-    status, answer, said = answered([sys.executable, AGAINST, *options, "--", plan, log])
+    status, answer, said = answered([sys.executable, command("against"), *options, "--", plan, log])
     notes = [line.partition(": ")[2] for line in said.splitlines()]
     if status not in (0, 1) or not answer.startswith((log, plan, "deviations ")):
         raise program.Refused(status or program.FAULT, notes[-1] if notes else f"against ended with {status}")

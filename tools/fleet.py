@@ -13,7 +13,7 @@ import sys
 from collections.abc import Iterable, Iterator
 
 import program
-from drives import AGAINST, Drive, answered
+from drives import Drive, answered, command
 from fleet_table import Fleet
 from plan_tables import Tables
 from workers import Task, team
@@ -73,7 +73,7 @@ def progressing(drives: Iterable[Drive], count: int) -> Iterator[Drive]:
 def plan_of(name: str, options: list[str]) -> str:
     """The text of a plan by which `against` can read logs, with these options; of another one it says why."""
     with program.copied(name) as plan:
-        status, answer, said = answered([sys.executable, AGAINST, *options, "--", plan, os.devnull])
+        status, answer, said = answered([sys.executable, command("against"), *options, "--", plan, os.devnull])
         if not answer:
             raise program.Refused(status, said.strip().rpartition("\n")[2].partition(": ")[2])
         with open(plan, "rb") as file:

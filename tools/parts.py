@@ -9,7 +9,7 @@ import functools
 import json
 import os
 import re
-from collections.abc import Iterable, Iterator
+from collections.abc import Iterable
 
 import program
 import where
@@ -146,26 +146,19 @@ def spelled(value: Value) -> str:
     return json.dumps(value)
 
 
-def answers_to(name: str, copy: str) -> Iterator[str]:
-    """Why a file is no plan, with its name and line; nothing where it is one."""
-    status, answer = program.call(["check", "--", copy])
+def text_of(name: str) -> str:
+    """The text of a plan's file, which may be a pipe. One that `check` can't read is refused, with the line where it is no plan."""
+    with program.copied(name) as copy:
+        status, answer = program.call(["check", "--", copy])
+        with open(copy, "rb") as file:
+            data = file.read()
+    text = data.decode(errors="replace")
     if status in (0, 1):
-        return
-    with open(copy, "rb") as file:
-        data = file.read()
+        return text
     if status != program.UNREADABLE or not answer:
         raise program.Refused(status, f"{name}: it can't be read as a plan")
-    yield from where.annotate(name, data, answer, where.compiler_message)
-
-
-def source_of(name: str) -> Source:
-    """The plan of a file, which `check` can read, whatever it finds."""
-    with program.copied(name) as copy:
-        faults = list(answers_to(name, copy))
-        if faults:
-            raise program.Refused(program.UNREADABLE, "\n".join(faults))
-        with open(copy, "rb") as file:
-            return Source(name, file.read().decode(errors="replace"))
+    line, hint = where.refusal(where.Plan(text), data, answer.strip())
+    raise program.Refused(status, f"{name}:{line}: {answer.strip()}" + (f"  ({hint})" if hint else ""))
 
 
 def sources_of(names: Iterable[str]) -> list[Source]:
@@ -173,7 +166,7 @@ def sources_of(names: Iterable[str]) -> list[Source]:
     sources, worst = [], 0
     for name in names:
         try:
-            sources.append(source_of(name))
+            sources.append(Source(name, text_of(name)))
         except program.Refused as refused:
             program.say(refused)
             worst = max(worst, refused.status)

@@ -12,6 +12,7 @@ import sys
 from collections.abc import Iterator
 
 import page_server
+import parts
 import program
 import where
 from left_out import plain
@@ -73,11 +74,7 @@ def page_of_file(name: str) -> str:
 
 def drawn(name: str) -> str:
     """The page of a plan's file; of one that can't be read it is said with its line why."""
-    with program.copied(name) as plan:
-        status, answer = program.call(["check", "--", plan])
-        if status == program.UNREADABLE and answer:
-            with open(plan, "rb") as file:
-                raise program.Refused(status, "\n".join(where.annotate(name, file.read(), answer, where.compiler_message)))
+    with program.file_of(parts.text_of(name)) as plan:
         return page_of(plan, plain(os.fsencode(name).decode(errors="replace")))
 
 

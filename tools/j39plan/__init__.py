@@ -17,20 +17,22 @@ from __future__ import annotations
 
 import contextlib
 import io
+import json
 import os
 import subprocess
+import sys
 from collections.abc import Iterable, Iterator
 from typing import Any
 
-from j39plan._tools import drives, plan_tables, program, readings, report, report_page, reports, where
+from j39plan._tools import drives, parts, plan_tables, program, report, report_page, reports, where
 
 Unit, Group, Signal, Text, Flow = plan_tables.Unit, plan_tables.Group, plan_tables.Signal, plan_tables.Text, plan_tables.Flow
 Finding, Stand, Delay, Load = report_page.Finding, report_page.Stand, report_page.Delay, report_page.Load
 Who, Message, Claim, Request = reports.Who, reports.Message, reports.Claim, reports.Request
-Reading, Refused, Deviation, Drive = readings.Reading, program.Refused, drives.Deviation, drives.Drive
+Refused, Deviation, Drive = program.Refused, drives.Deviation, drives.Drive
 
 __all__ = [
-    "Claim", "Delay", "Deviation", "Drive", "Finding", "Flow", "Group", "Load", "Message", "Plan", "Reading", "Refused", "Request", "Signal",
+    "Claim", "Delay", "Deviation", "Drive", "Finding", "Flow", "Group", "Load", "Message", "Plan", "Refused", "Request", "Signal",
     "Stand", "Text", "Unit", "Who", "deviations", "drive", "follow", "read_plan", "signals",
 ]
 
@@ -83,14 +85,8 @@ def read_plan(name: str | os.PathLike[str]) -> Plan:
     Raises `Refused`, whose text begins with file and line, where the file is no plan; `OSError` where it can't be opened.
     """
     name = os.fspath(name)
-    with _with_program(), program.copied(name) as copy:
-        status, answer = program.call(["check", "--", copy])
-        with open(copy, "rb") as file:
-            data = file.read()
-    if status in (0, 1):
-        return Plan(name, data.decode(errors="replace"))
-    lines = where.annotate(name, data, answer, where.compiler_message)
-    raise Refused(status, "\n".join(lines) or f"{name}: it can't be read as a plan")
+    with _with_program():
+        return Plan(name, parts.text_of(name))
 
 
 def follow(plan: Plan, log: str | os.PathLike[str]) -> Iterator[Message | Claim | Request]:
@@ -117,20 +113,20 @@ def follow(plan: Plan, log: str | os.PathLike[str]) -> Iterator[Message | Claim 
 def signals(plan: Plan, log: str | os.PathLike[str], names: Iterable[str] = ()) -> Iterator[dict[str, Any]]:
     """The signals of a log, a row each, for `pandas.DataFrame`: all, or those of `names`: groups, signals or `GROUP.SIGNAL`.
 
-    The keys are the columns of `j39plan-signals`: `time` (seconds, as a float, None in a log without times), `line`, `from`, `to`,
-    `group`, `signal`, `state` (`value`, `absent`, `fault` ..), `value` (a float in the unit of measurement, None where the state isn't
-    `value`), `unit` and `detail`. Raises as `follow` does, and `Refused` for a name that the plan doesn't have.
+    A row is an object that `j39plan-signals --json` writes: `time` (seconds, as a float), `line`, `from`, `to`, `group`, `signal`,
+    `state` (`value`, `absent`, `fault` ..), `value` (a number in the unit of measurement, where the state is `value`), `unit` and what else
+    that tool has. A key is left out where there is nothing to say. Raises as `follow` does, and `Refused` for a name that the plan
+    doesn't have.
     """
-    choice = readings.Choice(plan.tables, names)
-    for row in readings.Rows(choice).of(follow(plan, log)):
-        line, time, sender, to = row.origin
-        try:
-            at = float(time)
-        except ValueError:
-            at = None
-        for label, reading in row.readings:
-            yield {"time": at, "line": line, "from": sender, "to": to, "group": row.group, "signal": label, "state": reading.state,
-                   "value": float(reading.value) if reading.state == "value" else None, "unit": reading.unit, "detail": reading.detail}
+    log = os.fspath(log)
+    with open(log, "rb"), _with_program(), program.file_of(plan.text) as copy:
+        words = [sys.executable, drives.command("signals"), "--json", "--", copy, log, *names]
+        with subprocess.Popen(words, stdin=subprocess.DEVNULL, stdout=subprocess.PIPE, stderr=subprocess.PIPE) as process:
+            assert process.stdout is not None and process.stderr is not None
+            yield from map(json.loads, process.stdout)
+            said = process.stderr.read().decode(errors="replace").strip()
+        if process.returncode:
+            raise Refused(process.returncode, said.partition(": ")[2])
 
 
 def deviations(plan: Plan, log: str | os.PathLike[str], options: Iterable[str] = ()) -> list[Deviation]:

@@ -43,7 +43,8 @@ class Module(InFolder):
     @unittest.skipUnless(importlib.util.find_spec("pandas"), "pandas isn't there: apt-get install python3-pandas")
     def test_the_lines_of_the_page(self):
         """They are ten at most, and write what is shown."""
-        lines, shown = re.search(r"```python\n(.*?)```\n\n```text\n(.*?)```", PAGE, re.DOTALL).groups()
+        section = PAGE.partition("## A Python module")[2]
+        lines, shown = re.search(r"```python\n(.*?)```\n\n```text\n(.*?)```", section, re.DOTALL).groups()
         self.assertLessEqual(len([line for line in lines.splitlines() if line]), 10)
         self.assertEqual(self.script(lines, cwd=TOP), shown)
 
@@ -98,12 +99,15 @@ class Logs(InFolder):
         self.plan = j39plan.read_plan(PLAN)
 
     def test_signals_are_those_of_the_tool(self):
-        """The same rows, with numbers in place of decimals."""
+        """The same rows, as it writes them for programs."""
         for names in ([], ["SPN190", "CCVS"], ["EC1.SPN544"]):
             rows = list(j39plan.signals(self.plan, LOG, names))
             told = [json.loads(line) for line in run("signals.py", "--json", PLAN, LOG, *names)[1].splitlines()]
             self.assertTrue(rows)
-            self.assertEqual([{key: value for key, value in row.items() if value not in (None, "")} for row in rows], told)
+            self.assertEqual(rows, told)
+        speed = next(j39plan.signals(self.plan, LOG, ["SPN190"]))
+        self.assertEqual((speed["time"], speed["line"], speed["group"], speed["state"], speed["value"], speed["unit"]),
+                         (1764230400.0, 1, "EEC1", "value", 800, "rpm"))
         text = list(j39plan.signals(j39plan.read_plan(example("identification.toml")), example("identification.start.log")))
         self.assertIn("text", {row["state"] for row in text})
 
