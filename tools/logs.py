@@ -52,7 +52,7 @@ class Log(io.RawIOBase):
 
     def place(self, line: int) -> tuple[str, int]:
         """The file of a line of the whole, and its line there."""
-        at = bisect.bisect_left(self._starts, line) - 1
+        at = bisect.bisect_left(self._starts, line, hi=min(len(self._starts), len(self.names))) - 1
         return self.names[at], line - self._starts[at]
 
     def readinto(self, buffer: "memoryview | bytearray") -> int:  # type: ignore[override]

@@ -3,11 +3,15 @@ midst is done again by another one."""
 
 from __future__ import annotations
 
+import signal
+
+if __name__ == "__main__":  # an interrupt ends this process without a word, also while it starts
+    signal.signal(signal.SIGINT, signal.SIG_DFL)
+
 import contextlib
 import logging
 import os
 import pickle
-import signal
 import subprocess
 import sys
 import threading
@@ -47,15 +51,13 @@ class Worker:
         return pickle.load(self._process.stdout)
 
     def end(self) -> None:
-        """Ends the process."""
+        """Ends the process. Its pipes are left to the thread that may wait for them."""
         self._process.kill()
-        with contextlib.suppress(OSError):
-            self._process.communicate()
+        self._process.wait()
 
 
 def work() -> None:
-    """Does the tasks that come by standard input, until it ends. An interrupt ends it without a word."""
-    signal.signal(signal.SIGINT, signal.SIG_DFL)
+    """Does the tasks that come by standard input, until it ends."""
     with contextlib.suppress(EOFError, BrokenPipeError):
         while True:
             drive = drive_of(*pickle.load(sys.stdin.buffer))
@@ -93,7 +95,7 @@ class Processors:
                 self._workers.append(worker)
             try:
                 return worker.do(task)
-            except (EOFError, OSError, pickle.UnpicklingError):
+            except (EOFError, OSError, ValueError, pickle.UnpicklingError):
                 worker.end()
                 self._mine.worker = None
         return lost(task, f"the process that read it was ended, {TRIES} times")

@@ -17,7 +17,7 @@ from tests.support import TOOLS, InFolder, example, run, text_of
 
 PLAN, LOG = example("two_units_one_address.toml"), example("two_units_one_address.drive.log")
 
-# A claim by a NAME that no unit of the plan has, behind the drive: its one deviation.
+# A claim by a NAME that no unit of the plan has, behind the drive. The drive has a deviation of its own: RIGHT sends 240 ms behind its claim.
 FOREIGN = "(17.7) can0 18EEFF05#0100000000000080\n"
 
 # So long is waited for what is to come, in seconds: machines may be busy.
@@ -61,16 +61,16 @@ class Table(Fleets):
         parts = answer.split("\n\n")
         self.assertEqual([part.splitlines()[0].split()[0] for part in parts],
                          ["log", "deviation", "flow", "unit", "NAME", "signal", "logs"])
-        self.assertEqual(parts[0].splitlines()[1:], ["early.log       7    0          1           0", "late.log        8    0          1           1"])
-        self.assertEqual(parts[-1], "logs 2 with deviations 1 failed 0\n")
+        self.assertEqual(parts[0].splitlines()[1:], ["early.log       7    0          1           1", "late.log        8    0          1           2"])
+        self.assertEqual(parts[-1], "logs 2 with deviations 2 failed 0\n")
 
     def test_flows_and_silences(self):
-        """By the times of the log: EEC1 at 10.000 alone, RIGHT's EBC2 at 10.25 and 10.56, in the other log at 17.56."""
+        """By the times of the log: EEC1 at 10.000 alone, RIGHT's EBC2 at 10.27 and 10.56, in the other log at 17.56."""
         _, tables, _ = self.tables([self.early, self.late])
         self.assertEqual([(row["group"], row["from"], row["sent"], row["logs"]) for row in tables["flows"]],
                          [("EEC1", "ENGINE", 2, 2), ("EBC2", "LEFT", 2, 2), ("EBC2", "RIGHT", 4, 2)])
         self.assertEqual([(round(row["silence"], 6), row["silence_log"], row["silence_line"]) for row in tables["flows"]],
-                         [(7.7, "late.log", None), (7.55, "late.log", 6), (7.31, "late.log", 7)])
+                         [(7.7, "late.log", None), (7.55, "late.log", 6), (7.29, "late.log", 7)])
 
     def test_names(self):
         """RIGHT claimed 128 and then 129, LEFT 128, each in both logs; and one that isn't planned 5, in one of them."""
@@ -137,7 +137,7 @@ class Tasks(Fleets):
     def test_the_same_twice_is_said(self):
         os.symlink(self.early, self.path("link.log"))
         status, tables, said = self.tables([self.early, self.path("link.log"), self.early])
-        self.assertEqual((status, len(tables["logs"])), (0, 1))
+        self.assertEqual((status, len(tables["logs"])), (1, 1))
         self.assertEqual(said, "fleet: link.log: the same log as early.log, so it is read once\n"
                                "fleet: early.log: the same log as early.log, so it is read once\n")
 

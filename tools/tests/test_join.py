@@ -5,7 +5,7 @@ import tomllib
 import unittest
 
 import program
-from tests.support import InFolder, example, run, signal, text_of
+from tests.support import InFolder, example, needs, run, signal, text_of
 
 ENGINE = """# The engine maker's part.
 version = 1
@@ -238,7 +238,7 @@ class Contradictions(Joined):
         """Two examples of one truck: another length of DM1, and another code where its codes lie."""
         found, _ = self.contradicted(text_of(example("trouble_codes.toml")), text_of(example("truck.toml")))
         self.assertEqual([line.partition(": ")[2] for line in found], [
-            "group DM1: most = none, and 1730 at a.toml:15", "group DM1: every = none, and 4 at a.toml:16",
+            "group DM1: most = none, and 1782 at a.toml:15", "group DM1: every = none, and 4 at a.toml:16",
             "signal DM1.CODE (3.1, 32 bits) shares a bit with DTC (3.1, 32 bits) at a.toml:46",
         ])
 
@@ -268,6 +268,23 @@ class Contradictions(Joined):
         text = '[[group.text]]\nlabel = "S"\nbyte = 3\n'
         first, other = ("version = 3\n" + group("G", 65262, more, False) for more in (signal("S", 1, 8, "raw"), text))
         self.assertEqual(self.contradicted(first, other)[0], ["b.toml:9: text G.S is a signal at a.toml:8"])
+
+
+    @needs("canmatrix", "python3-canmatrix")
+    def test_the_suppliers_of_a_truck(self):
+        """A plan of each one's DBC: of what is in several of them the rest agrees. The brakes' maker has another cycle time of EEC1, the cab's
+        another offset of a temperature; and each has a number of its own for NAMEs that its file doesn't know."""
+        plans = [run("dbc2plan.py", example(f"suppliers/{name}.dbc"))[1] for name in ("engine", "gearbox", "brakes", "cab")]
+        found, text = self.contradicted(*plans)
+        texts = [line.partition(": ")[2] for line in found]
+        others = [told.rpartition(" at ")[0] for told in texts if " name." not in told and " has the NAME " not in told]
+        self.assertEqual(others, ["flow EEC1 from ENGINE to all: period = 20, and 10", "signal ET1.SPN174: offset = 0 by default, and -40"])
+        self.assertTrue(all(line[:7] in ("b.toml:", "c.toml:", "d.toml:") for line in found))
+        joined = tomllib.loads(text)
+        self.assertEqual([unit["label"] for unit in joined["unit"]], ["ENGINE", "GEARBOX", "BRAKES", "RETARDER", "CLUSTER"])
+        signals = [{signal["label"] for group in plan.get("group", []) for signal in group.get("signal", [])}
+                   for plan in (joined, *map(tomllib.loads, plans))]
+        self.assertEqual(signals[0], set().union(*signals[1:]))
 
 
 class BadInput(Joined):

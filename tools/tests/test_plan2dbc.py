@@ -281,7 +281,7 @@ to = "DISPLAY"
         dbc, told = self.made(example("trouble_codes.toml"))
         self.assertEqual(told, "1 nodes 1 messages, notes 0\n")
         for line in (f"BO_ {0x98FECA00} DM1: 8 ENGINE", ' SG_ DTC : 16|32@1+ (1,0) [0|4294967295] "" Vector__XXX',
-                     f'BA_ "PlanMost" BO_ {0x98FECA00} 1730;', f'BA_ "PlanEvery" BO_ {0x98FECA00} 4;',
+                     f'BA_ "PlanMost" BO_ {0x98FECA00} 1782;', f'BA_ "PlanEvery" BO_ {0x98FECA00} 4;',
                      f'BA_ "PlanRepeated" SG_ {0x98FECA00} DTC 1;', f'BA_ "SigType" SG_ {0x98FECA00} DTC 7;'):
             self.assertIn(line, text_of(dbc).splitlines())
         import_canmatrix()

@@ -157,8 +157,8 @@ pub(super) fn commands<'a>(alloc: Global) -> Result<Command<'a>, AllocError>
         in its controller, and holds where no frame is damaged or lost, none has an 11-bit identifier, and nobody sends \
         overload frames; messages of one flow are queued at least its period apart; a long one ends before the next, takes \
         no more frames than load counts, and has priority 7 in its announcement, answers and packets; each controller \
-        offers its queued frame of the smallest identifier first; no claim and no request for claims (group 60928) is under \
-        way, and no unit changes its address while a frame of it waits; and other frames have priority 6 or 7 and 8 bytes \
+        offers its queued frame of the smallest identifier first; no claim and no request for claims is under way, and no \
+        unit changes its address while a frame of it waits; and other frames have priority 6 or 7 and 8 bytes \
         at most, and at most as many as unplanned says go before one that waits",
     );
     let runs = with_two(
