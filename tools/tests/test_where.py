@@ -248,7 +248,7 @@ class Where(InFolder):
         plan = (
             'version = 3\n[[group]]\nlabel = "G"\npgn = 65226\npriority = 6\nlength = 8\nevery = 3\n'
             '[[group.signal]]\nlabel = "S"\nbyte = 1\nbits = 32\nkind = "raw"\nrepeated = true\n'
-            '[[group.signal]]\nlabel = "T"\nbyte = 8\nbits = 8\nkind = "raw"\n'
+            '[[group.signal]]\nlabel = "T"\nbyte = 7\nbits = 8\nkind = "raw"\n'
         )
         itself = "13: F14 RecordOverlap G S S  (key repeated: in a later record S and itself share a bit)"
         other = "13: F14 RecordOverlap G S T  (key repeated: in a later record S and T at line 14 share a bit)"

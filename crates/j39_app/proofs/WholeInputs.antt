@@ -5,7 +5,7 @@ use Rattle.std.specs.Prelude.{unwrap_or}
 use Rattle.std.specs.Io.KnownBytes.{Consumes, IsAtEnd}
 use Rattle.j39_app.specs.Known.{AreLeft, AreOf}
 
-some_same : (xs ys : List ℕ) → Some xs ≡ Some ys → xs ≡ ys
+pub some_same : (xs ys : List ℕ) → Some xs ≡ Some ys → xs ≡ ys
 some_same xs ys is = ap (λ (o : Option (List ℕ)). unwrap_or o []) is
 
 read_all : (left end : Option (List ℕ)) (bytes : List ℕ) → Consumes left end bytes → IsAtEnd end → (all : List ℕ) → left ≡ Some all → bytes ≡ all
@@ -15,9 +15,6 @@ read_all (Some xs) (Some ys) bytes taken over all is =
     sym (append-nil bytes) ∙ ap (λ (rest : List ℕ). bytes ++ rest) (sym over) ∙ sym taken ∙ some_same xs all is
 
 -- what was read to its end is all that is known
-pub whole : (left end : Option (List ℕ)) (bytes : List ℕ) → Consumes left end bytes → IsAtEnd end → AreOf left bytes
-whole left end bytes taken over = λ all is. read_all left end bytes taken over all is
-
 pub whole_file : (known left end : Option (List ℕ)) (bytes : List ℕ) → AreLeft known left → Consumes left end bytes → IsAtEnd end → AreOf known bytes
 whole_file known left end bytes opened taken over = λ all is. read_all left end bytes taken over all (opened all is)
 

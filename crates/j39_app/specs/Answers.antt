@@ -1,13 +1,11 @@
 -- What is written for what a command line orders.
 use Rattle.std.specs.Prelude.{◌≡◌, ◌⊎◌, ℕ, List, Option, string_bytes, length}
-use Rattle.std.specs.List.{before_first}
-use Rattle.j39_app.specs.Known.{AreOf}
+use Rattle.j39_app.specs.Known.{AreFrontOf, AreOf, Names}
 use Rattle.j39_check.specs.AddressesText.{IsAddressesText}
 use Rattle.j39_check.specs.LoadText.{IsLoadText}
 use Rattle.j39_check.specs.CheckText.{IsCheckText}
-use Rattle.j39_text.specs.FrameText.{IsFrameText}
+use Rattle.j39_text.specs.FrameText.{IsFrameText, IsInputText}
 use Rattle.j39_check.specs.PlanText.{Describes, IsRefusedText}
-use Rattle.j39_id.specs.Lines.{is_line_feed}
 use Rattle.j39_follow.specs.FollowText.{IsFollowText}
 use Rattle.j39_log.specs.ReadText.{IsReadText}
 use Rattle.j39_run.specs.RunText.{IsRunText}
@@ -17,9 +15,17 @@ use Rattle.j39_stream.specs.declared.verdict.Verdict.TheVariants.{Done, Unreadab
 use Rattle.j39_words.specs.declared.orders.Order.{Order}
 use Rattle.j39_words.specs.declared.orders.Order.TheVariants.{Input, Frame, Check, Addresses, Load, Run, Read, Follow, Help}
 
--- what is known of the bytes of each name
-abbrev pub Names : Type 0
-Names = List ℕ → Option (List ℕ)
+-- for the bytes of a file, or of an input
+abbrev pub IsOfBytes : {V : Type 0} → (List ℕ → List ℕ → V → Type 0) → Option (List ℕ) → List ℕ → V → Type 0
+IsOfBytes IsText known text answer = (bytes : List ℕ) × AreOf known bytes × IsText bytes text answer
+
+-- with some answer
+abbrev pub IsOfSome : {V : Type 0} → (List ℕ → V → Type 0) → List ℕ → Type 0
+IsOfSome {V} IsText text = (answer : V) × IsText text answer
+
+-- why they describe no plan
+abbrev pub IsRefusedOf : Option (List ℕ) → List ℕ → Type 0
+IsRefusedOf known text = (bytes : List ℕ) × AreOf known bytes × IsRefusedText bytes text
 
 -- what is written for the files of two names, the first a plan's: why it describes no plan, or what is written for the plan that it
 -- describes and for the other file
@@ -43,13 +49,11 @@ IsFollowOf plan known text verdict = (log : List ℕ) × (verdict ≡ Done → A
 
 -- what is written for an order, with the verdict, where files have these names and the input is this
 abbrev pub IsAnswer : Names → Option (List ℕ) → Order → List ℕ → Verdict → Type 0
-IsAnswer files input Input text verdict =
-    (bytes : List ℕ) × AreOf input bytes × IsFrameText (before_first is_line_feed bytes) text verdict
+IsAnswer files input Input text verdict = IsOfBytes IsInputText input text verdict
 IsAnswer files input (Frame line) text verdict = IsFrameText (string_bytes line) text verdict
-IsAnswer files input (Check plan) text verdict = (bytes : List ℕ) × AreOf (files (string_bytes plan)) bytes × IsCheckText bytes text verdict
-IsAnswer files input (Addresses plan) text verdict =
-    (bytes : List ℕ) × AreOf (files (string_bytes plan)) bytes × IsAddressesText bytes text verdict
-IsAnswer files input (Load plan) text verdict = (bytes : List ℕ) × AreOf (files (string_bytes plan)) bytes × IsLoadText bytes text verdict
+IsAnswer files input (Check plan) text verdict = IsOfBytes IsCheckText (files (string_bytes plan)) text verdict
+IsAnswer files input (Addresses plan) text verdict = IsOfBytes IsAddressesText (files (string_bytes plan)) text verdict
+IsAnswer files input (Load plan) text verdict = IsOfBytes IsLoadText (files (string_bytes plan)) text verdict
 IsAnswer files input (Run plan schedule) text verdict =
     IsAnswerOfTwo IsRunOf (files (string_bytes plan)) (files (string_bytes schedule)) text verdict
 IsAnswer files input (Read plan log) text verdict =
@@ -57,3 +61,26 @@ IsAnswer files input (Read plan log) text verdict =
 IsAnswer files input (Follow plan log) text verdict =
     IsAnswerOfTwo IsFollowOf (files (string_bytes plan)) (files (string_bytes log)) text verdict
 IsAnswer files input (Help shown) text verdict = (text ≡ string_bytes shown) × (verdict ≡ Done)
+
+-- ---- what a part may stand written of
+
+-- for a schedule or a log that begins so
+abbrev pub IsRunFrontOf : Plan → Option (List ℕ) → List ℕ → Verdict → Type 0
+IsRunFrontOf plan known text verdict =
+    (schedule : List ℕ) × AreFrontOf known schedule × IsRunText plan (length plan.units.items) schedule text verdict
+
+abbrev pub IsReadFrontOf : Plan → Option (List ℕ) → List ℕ → Verdict → Type 0
+IsReadFrontOf plan known text verdict = (log : List ℕ) × AreFrontOf known log × IsReadText plan log text verdict
+
+abbrev pub IsFollowFrontOf : Plan → Option (List ℕ) → List ℕ → Verdict → Type 0
+IsFollowFrontOf plan known text verdict = (log : List ℕ) × AreFrontOf known log × IsFollowText plan log text verdict
+
+-- the text of an order, or of one whose schedule or log begins like this one's
+abbrev pub IsFrontAnswer : Names → Option (List ℕ) → Order → List ℕ → Verdict → Type 0
+IsFrontAnswer files input (Run plan schedule) text verdict =
+    IsAnswerOfTwo IsRunFrontOf (files (string_bytes plan)) (files (string_bytes schedule)) text verdict
+IsFrontAnswer files input (Read plan log) text verdict =
+    IsAnswerOfTwo IsReadFrontOf (files (string_bytes plan)) (files (string_bytes log)) text verdict
+IsFrontAnswer files input (Follow plan log) text verdict =
+    IsAnswerOfTwo IsFollowFrontOf (files (string_bytes plan)) (files (string_bytes log)) text verdict
+IsFrontAnswer files input order text verdict = IsAnswer files input order text verdict

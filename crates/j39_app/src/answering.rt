@@ -1,12 +1,14 @@
 //! What is written for an order.
-ghost use Rattle.std.specs.Prelude.{◌≡◌, ℕ, IfOk, List, OnSome};
-ghost use Rattle.std.specs.Io.KnownBytes.{Appends};
-ghost use Rattle.j39_app.specs.Answers.{IsAnswer, IsAnswerOfTwo, IsFollowOf, IsReadOf, IsRunOf};
-ghost use Rattle.j39_app.specs.Known.{AreOf};
+ghost use Rattle.std.specs.Prelude.{◌≡◌, IfOk, OnSome};
+ghost use Rattle.j39_app.specs.Answers.{IsAnswer, IsAnswerOfTwo, IsFollowFrontOf, IsFollowOf, IsFrontAnswer, IsOfBytes, IsReadFrontOf};
+ghost use Rattle.j39_app.specs.Answers.{IsOfSome, IsReadOf, IsRefusedOf, IsRunFrontOf, IsRunOf};
+ghost use Rattle.j39_app.specs.Faults.{Ends, EndsByFile, EndsByTwo, HasFileFailed, IsOfRead, PutsAtOnce};
+ghost use Rattle.j39_app.specs.Known.{MayBeTooLong};
 ghost use Rattle.j39_check.specs.AddressesText.{IsAddressesText};
 ghost use Rattle.j39_check.specs.LoadText.{IsLoadText};
 ghost use Rattle.j39_check.specs.CheckText.{IsCheckText};
 ghost use Rattle.j39_check.specs.PlanText.{IsPlanText};
+ghost use Rattle.j39_stream.specs.Streams.{HasFailed, log_limits, plan_limits};
 
 use crate::{
     Fault, Folder, Order, Sink, Source, Verdict, addresses_text, check_text, follow_text,
@@ -22,8 +24,8 @@ fn plan_of<F: Folder, W: Sink>(
     name: &str,
     sink: &mut W,
 ) -> Result<Option<Plan>, Fault>
-    ensures written { IfOk result (λ plan. (bytes : List ℕ) × (text : List ℕ) × AreOf (F.bytes_of files.now name.now) bytes
-        × IsPlanText bytes text plan × Appends (W.state sink.old).taken (W.state sink.new).taken text) }
+    ensures ends { EndsByFile (IsOfBytes IsPlanText) IsRefusedOf (Unit {0}) plan_limits
+        (F.stays_shut files.now) (F.bytes_of files.now) F.File.state name.now W.state sink.old sink.new result }
     ensures silent { IfOk result (λ plan. OnSome plan (sink.new ≡ sink.old)) }
 {
     plan_text(alloc, &mut files.open(name)?, sink)
@@ -35,8 +37,8 @@ fn check_file<F: Folder, W: Sink>(
     plan: &str,
     sink: &mut W,
 ) -> Result<Verdict, Fault>
-    ensures { IfOk result (λ verdict. (bytes : List ℕ) × (text : List ℕ) × AreOf (F.bytes_of files.now plan.now) bytes
-        × IsCheckText bytes text verdict × Appends (W.state sink.old).taken (W.state sink.new).taken text) }
+    ensures { EndsByFile (IsOfBytes IsCheckText) (λ known. IsOfSome (IsOfBytes IsCheckText known)) (Unit {0}) plan_limits
+        (F.stays_shut files.now) (F.bytes_of files.now) F.File.state plan.now W.state sink.old sink.new result }
 {
     check_text(alloc, &mut files.open(plan)?, sink)
 }
@@ -47,8 +49,8 @@ fn addresses_file<F: Folder, W: Sink>(
     plan: &str,
     sink: &mut W,
 ) -> Result<Verdict, Fault>
-    ensures { IfOk result (λ verdict. (bytes : List ℕ) × (text : List ℕ) × AreOf (F.bytes_of files.now plan.now) bytes
-        × IsAddressesText bytes text verdict × Appends (W.state sink.old).taken (W.state sink.new).taken text) }
+    ensures { EndsByFile (IsOfBytes IsAddressesText) (λ known. IsOfSome (IsOfBytes IsAddressesText known)) (Unit {0}) plan_limits
+        (F.stays_shut files.now) (F.bytes_of files.now) F.File.state plan.now W.state sink.old sink.new result }
 {
     addresses_text(alloc, &mut files.open(plan)?, sink)
 }
@@ -59,8 +61,8 @@ fn load_file<F: Folder, W: Sink>(
     plan: &str,
     sink: &mut W,
 ) -> Result<Verdict, Fault>
-    ensures { IfOk result (λ verdict. (bytes : List ℕ) × (text : List ℕ) × AreOf (F.bytes_of files.now plan.now) bytes
-        × IsLoadText bytes text verdict × Appends (W.state sink.old).taken (W.state sink.new).taken text) }
+    ensures { EndsByFile (IsOfBytes IsLoadText) (λ known. IsOfSome (IsOfBytes IsLoadText known)) (Unit {0}) plan_limits
+        (F.stays_shut files.now) (F.bytes_of files.now) F.File.state plan.now W.state sink.old sink.new result }
 {
     timing_text(alloc, &mut files.open(plan)?, sink)
 }
@@ -72,8 +74,8 @@ fn run_by<F: Folder, W: Sink>(
     schedule: &str,
     sink: &mut W,
 ) -> Result<Verdict, Fault>
-    ensures { IfOk result (λ verdict. (text : List ℕ) × IsRunOf plan.now (F.bytes_of files.now schedule.now) text verdict
-        × Appends (W.state sink.old).taken (W.state sink.new).taken text) }
+    ensures { EndsByFile (IsRunOf plan.now) (λ known. IsOfSome (IsRunFrontOf plan.now known)) ⊥ plan_limits
+        (F.stays_shut files.now) (F.bytes_of files.now) F.File.state schedule.now W.state sink.old sink.new result }
 {
     run_planned(alloc, plan, &mut files.open(schedule)?, sink)
 }
@@ -85,8 +87,8 @@ fn read_by<F: Folder, W: Sink>(
     log: &str,
     sink: &mut W,
 ) -> Result<Verdict, Fault>
-    ensures { IfOk result (λ verdict. (text : List ℕ) × IsReadOf plan.now (F.bytes_of files.now log.now) text verdict
-        × Appends (W.state sink.old).taken (W.state sink.new).taken text) }
+    ensures { EndsByFile (IsReadOf plan.now) (λ known. IsOfSome (IsReadFrontOf plan.now known)) ⊥ log_limits
+        (F.stays_shut files.now) (F.bytes_of files.now) F.File.state log.now W.state sink.old sink.new result }
 {
     read_text(alloc, plan, &mut files.open(log)?, sink)
 }
@@ -98,8 +100,8 @@ fn follow_by<F: Folder, W: Sink>(
     log: &str,
     sink: &mut W,
 ) -> Result<Verdict, Fault>
-    ensures { IfOk result (λ verdict. (text : List ℕ) × IsFollowOf plan.now (F.bytes_of files.now log.now) text verdict
-        × Appends (W.state sink.old).taken (W.state sink.new).taken text) }
+    ensures { EndsByFile (IsFollowOf plan.now) (λ known. IsOfSome (IsFollowFrontOf plan.now known)) ⊥ log_limits
+        (F.stays_shut files.now) (F.bytes_of files.now) F.File.state log.now W.state sink.old sink.new result }
 {
     follow_text(alloc, plan, &mut files.open(log)?, sink)
 }
@@ -112,9 +114,8 @@ fn run_files<F: Folder, W: Sink>(
     schedule: &str,
     sink: &mut W,
 ) -> Result<Verdict, Fault>
-    ensures { IfOk result (λ verdict. (text : List ℕ)
-        × IsAnswerOfTwo IsRunOf (F.bytes_of files.now plan.now) (F.bytes_of files.now schedule.now) text verdict
-        × Appends (W.state sink.old).taken (W.state sink.new).taken text) }
+    ensures { EndsByTwo IsRunOf IsRunFrontOf plan_limits
+        (F.stays_shut files.now) (F.bytes_of files.now) F.File.state plan.now schedule.now W.state sink.old sink.new result }
 {
     match plan_of(alloc, files, plan, sink)? {
         Some(plan) => run_by(alloc, files, &plan, schedule, sink),
@@ -130,9 +131,8 @@ fn read_files<F: Folder, W: Sink>(
     log: &str,
     sink: &mut W,
 ) -> Result<Verdict, Fault>
-    ensures { IfOk result (λ verdict. (text : List ℕ)
-        × IsAnswerOfTwo IsReadOf (F.bytes_of files.now plan.now) (F.bytes_of files.now log.now) text verdict
-        × Appends (W.state sink.old).taken (W.state sink.new).taken text) }
+    ensures { EndsByTwo IsReadOf IsReadFrontOf log_limits
+        (F.stays_shut files.now) (F.bytes_of files.now) F.File.state plan.now log.now W.state sink.old sink.new result }
 {
     match plan_of(alloc, files, plan, sink)? {
         Some(plan) => read_by(alloc, files, &plan, log, sink),
@@ -148,9 +148,8 @@ fn follow_files<F: Folder, W: Sink>(
     log: &str,
     sink: &mut W,
 ) -> Result<Verdict, Fault>
-    ensures { IfOk result (λ verdict. (text : List ℕ)
-        × IsAnswerOfTwo IsFollowOf (F.bytes_of files.now plan.now) (F.bytes_of files.now log.now) text verdict
-        × Appends (W.state sink.old).taken (W.state sink.new).taken text) }
+    ensures { EndsByTwo IsFollowOf IsFollowFrontOf log_limits
+        (F.stays_shut files.now) (F.bytes_of files.now) F.File.state plan.now log.now W.state sink.old sink.new result }
 {
     match plan_of(alloc, files, plan, sink)? {
         Some(plan) => follow_by(alloc, files, &plan, log, sink),
@@ -159,7 +158,7 @@ fn follow_files<F: Folder, W: Sink>(
 }
 
 /// Writes what is asked for by an order: of the bytes of the files that it names, of its own line, or of the first line of the
-/// input.
+/// input. A file is opened once what comes before it was read.
 pub fn answer<F: Folder, S: Source, W: Sink>(
     alloc: Global,
     files: &F,
@@ -167,8 +166,13 @@ pub fn answer<F: Folder, S: Source, W: Sink>(
     order: &Order,
     sink: &mut W,
 ) -> Result<Verdict, Fault>
-    ensures { IfOk result (λ verdict. (text : List ℕ) × IsAnswer (F.bytes_of files.now) (S.state input.old).left order.now text verdict
-        × Appends (W.state sink.old).taken (W.state sink.new).taken text) }
+    ensures { Ends (IsAnswer (F.bytes_of files.now) (S.state input.old).left order.now)
+        (IsOfSome (IsFrontAnswer (F.bytes_of files.now) (S.state input.old).left order.now)) (PutsAtOnce order.now)
+        (IsOfRead (MayBeTooLong plan_limits (S.state input.old).left) (λ limits name. MayBeTooLong limits (F.bytes_of files.now name)) (F.bytes_of files.now)
+        order.now)
+        (IsOfRead (HasFailed (S.state input.old).failures (S.state input.new).failures)
+        (λ _ name. HasFileFailed (F.stays_shut files.now) (F.bytes_of files.now) F.File.state name) (F.bytes_of files.now) order.now)
+        W.state sink.old sink.new result }
 {
     match order {
         Order::Input => input_text(alloc, input, sink),

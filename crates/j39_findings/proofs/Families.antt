@@ -16,6 +16,7 @@ use Rattle.j39_findings.specs.ListPlaces.{found_if, in_each, each, pairs, ValueA
 use Rattle.j39_claim.specs.AddressSets.{free_count}
 use Rattle.j39_findings.specs.Findings.{HaveSameName, HaveSameFixedAddress, HasBadPgn, HaveSamePgn, CannotGoToOne}
 use Rattle.j39_findings.specs.Findings.{GoesToItsSender, AreOneFlow, Holds, PrefersKept, IsPrivateUnsent, IsOutside, IsBefore, IsBelow, finding_number, places_of}
+use Rattle.j39_findings.specs.Records.{record_count}
 use Rattle.j39_findings.specs.Found.{needed_addresses, too_few_addresses, unit_findings, group_findings, has_other_width}
 use Rattle.j39_findings.specs.Found.{ends_outside, lies_outside, overlap_findings, signal_findings, flow_findings, kept_findings, unsent_findings, overlaps_of, group_overlaps, do_records_meet, record_findings, text_findings}
 use Rattle.j39_findings.proofs.Meeting.{of_signal_made, of_group_overlaps}
@@ -244,19 +245,19 @@ record IsOfSignal (g i : ℕ) (f : Finding) : Type 0 where
   pub rest : List ℕ
   pub names : Names 14 (g ∷ i ∷ rest) f
 
-of_signal_at : (every most g : ℕ) (signals : List SignalParts) (i : ℕ) (first : SignalParts) (f : Finding)
-    → Contains (overlaps_of every most g signals i first) f → IsOfSignal g i f
-of_signal_at every most g signals i first f h =
-    let o = of_signal_made every most g signals i first f h in
+of_signal_at : (every count g : ℕ) (signals : List SignalParts) (i : ℕ) (first : SignalParts) (f : Finding)
+    → Contains (overlaps_of every count g signals i first) f → IsOfSignal g i f
+of_signal_at every count g signals i first f h =
+    let o = of_signal_made every count g signals i first f h in
     subst (IsOfSignal g i) (sym o.1) (record { rest = o.0 ∷ []; names = record { number = refl; places = refl } })
 
-overlaps_rise : (every most g : ℕ) (signals : List SignalParts) (i : ℕ) (first : SignalParts) → Rises IsBefore (overlaps_of every most g signals i first)
-overlaps_rise every most g signals i first =
-    rises_if first.repeated _ (Rises-in_each IsBefore (λ t other. found_if (do_records_meet every most i t first other) (RecordOverlap g i t))
+overlaps_rise : (every count g : ℕ) (signals : List SignalParts) (i : ℕ) (first : SignalParts) → Rises IsBefore (overlaps_of every count g signals i first)
+overlaps_rise every count g signals i first =
+    rises_if first.repeated _ (Rises-in_each IsBefore (λ t other. found_if (do_records_meet every count i t first other) (RecordOverlap g i t))
     (λ k x. Rises-found_if IsBefore _ _)
     (λ k l x y f h less in_k in_l.
-    let a = of_found_if (do_records_meet every most i k first x) (RecordOverlap g i k) f in_k in
-    let b = of_found_if (do_records_meet every most i l first y) (RecordOverlap g i l) h in_l in
+    let a = of_found_if (do_records_meet every count i k first x) (RecordOverlap g i k) f in_k in
+    let b = of_found_if (do_records_meet every count i l first y) (RecordOverlap g i l) h in_l in
     let P : Finding → Type 0 = λ u. IsBefore u h in
     let Q : Finding → Type 0 = λ v. IsBefore (RecordOverlap g i k) v in
     subst P (sym a.1) (subst Q (sym b.1) (inr (refl, inr (refl, inr (refl, inl less))))))
@@ -265,11 +266,12 @@ overlaps_rise every most g signals i first =
 group_rises : (g : ℕ) (group : GroupPlan) → Rises IsBefore (group_overlaps g group)
 group_rises g group =
     let signals = group.signals.items in
-    rises_option (λ every. in_each (overlaps_of every group.most g signals) 0 signals)
-    (λ every. Rises-in_each IsBefore (overlaps_of every group.most g signals) (overlaps_rise every group.most g signals)
+    let count : ℕ = record_count group group.most in
+    rises_option (λ every. in_each (overlaps_of every count g signals) 0 signals)
+    (λ every. Rises-in_each IsBefore (overlaps_of every count g signals) (overlaps_rise every count g signals)
     (λ k l x y f h less in_k in_l.
-    let a = of_signal_at every group.most g signals k x f in_k in
-    let b = of_signal_at every group.most g signals l y h in_l in
+    let a = of_signal_at every count g signals k x f in_k in
+    let b = of_signal_at every count g signals l y h in_l in
     before 14 (g ∷ k ∷ a.rest) (g ∷ l ∷ b.rest) f h a.names b.names (inr (refl, inl less)))
     0 signals) group.every
 

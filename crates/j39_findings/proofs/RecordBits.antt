@@ -17,7 +17,7 @@ use Rattle.j39_findings.specs.Findings.{ComesOnto, HasRecordsOver}
 use Rattle.j39_findings.specs.ListPlaces.{PairAt}
 use Rattle.j39_findings.specs.Records.{single_signals, repeated_signals, record_signals, records_signals, record_count, signals_in}
 use Rattle.j39_findings.proofs.Members.{all_at}
-use Rattle.j39_findings.proofs.RecordCounts.{records_counted, signals_alone}
+use Rattle.j39_findings.proofs.RecordCounts.{longer_has, records_counted, signals_alone}
 use Rattle.j39_findings.proofs.Rising.{Rises, Rises-append, AllPairs-from_Rises, all_by_contains}
 
 -- ---- each bit is one signal's
@@ -63,9 +63,9 @@ one_record g apart i j k bit v w =
     ]
 
 -- a record behind another has no bit of the one before it
-onto : (g : GroupPlan) (every i j k l bit : ℕ) → g.every ≡ Some every → k < l → bit < 8 * g.most → (v : HasBit g i k bit) → (w : HasBit g j l bit)
-    → ComesOnto every g.most w.value v.value
-onto g every i j k l bit is less inside v w =
+onto : (g : GroupPlan) (every i j k l bit : ℕ) → g.every ≡ Some every → k < l → l < record_count g g.most → (v : HasBit g i k bit) → (w : HasBit g j l bit)
+    → ComesOnto every (record_count g g.most) w.value v.value
+onto g every i j k l bit is less stands v w =
     let same : distance g ≡ every = ap (λ (o : Option ℕ). unwrap_or o 0) is in
     let parts : k + (l - k) ≡ l = omega arith in
     let sum : distance g * l ≡ distance g * k + distance g * (l - k) = ap (λ m. distance g * m) (sym parts) ∙ mul-add (distance g) k (l - k) in
@@ -73,21 +73,21 @@ onto g every i j k l bit is less inside v w =
     record {
       behind = l - k;
       later = omega arith;
+      stands = omega (arith, stands);
       bit = bit - 8 * (distance g * k);
-      inside = omega (arith, inside);
       of_record = (omega (arith, sum, step, w.meets.0.0), omega (arith, sum, step, w.meets.0.0, w.meets.0.1, v.meets.0.0));
       of_other = (omega (arith, v.meets.0.0), omega (arith, v.meets.0.0, v.meets.0.1));
     }
 
-is_repeated : (s : SignalParts) (k l : ℕ) → k < l → (s.repeated ≡ true) ⊎ (l ≡ 0) → s.repeated ≡ true
-is_repeated s k l less (inl repeated) = repeated
-is_repeated s k l less (inr first) = absurd (omega (arith, first))
+is_later : (s : SignalParts) (count k l : ℕ) → k < l → ((s.repeated ≡ true) × (l < count)) ⊎ (l ≡ 0) → (s.repeated ≡ true) × (l < count)
+is_later s count k l less (inl later) = later
+is_later s count k l less (inr first) = absurd (omega (arith, first))
 
-two_records : (g : GroupPlan) → IsApart g → (i j k l bit : ℕ) → k < l → bit < 8 * g.most → HasBit g i k bit → HasBit g j l bit → ⊥
-two_records g apart i j k l bit less inside v w =
-    let repeated = is_repeated w.value k l less w.meets.1 in
+two_records : (g : GroupPlan) → IsApart g → (i j k l bit : ℕ) → k < l → HasBit g i k bit → HasBit g j l bit → ⊥
+two_records g apart i j k l bit less v w =
+    let (repeated, stands) = is_later w.value (record_count g g.most) k l less w.meets.1 in
     let every = given g g.every refl j w.value w.value_is repeated in
-    let meets = onto g every.0 i j k l bit every.1 less inside v w in
+    let meets = onto g every.0 i j k l bit every.1 less stands v w in
     let over : (w.value.repeated ≡ true) → ((v.value.repeated ≡ false) ⊎ ((v.value.repeated ≡ true) × (j ≤ i))) → HasRecordsOver g j i =
     λ yes other. record {
       every = every.0;
@@ -115,11 +115,11 @@ two_records g apart i j k l bit less inside v w =
     ]
 
 pub bits_once : (g : GroupPlan) → IsApart g → HasBitsOnce g
-bits_once g apart i j k l bit inside v w =
+bits_once g apart i j k l bit v w =
     elim (cases_lt k l) [
-      | inl less ↦ absurd (two_records g apart i j k l bit less inside v w)
+      | inl less ↦ absurd (two_records g apart i j k l bit less v w)
       | inr least ↦ elim (cases_lt l k) [
-        | inl more ↦ absurd (two_records g apart j i l k bit more inside w v)
+        | inl more ↦ absurd (two_records g apart j i l k bit more w v)
         | inr most ↦
             let same : k ≡ l = omega arith in
             (one_record g apart i j l bit (subst (λ m. HasBit g i m bit) same v) w, same)
@@ -134,7 +134,7 @@ record IsPlaced (g : GroupPlan) (behind : ℕ) (x : SignalParts) : Type 0 where
   signal : SignalParts
   signal_is : slice_get g.signals.items place ≡ Some signal
   x_is : x ≡ further (distance g * behind) signal
-  stands : (signal.repeated ≡ true) ⊎ (behind ≡ 0)
+  stands : ((signal.repeated ≡ true) × (behind < record_count g g.most)) ⊎ (behind ≡ 0)
 
 has_bit : (g : GroupPlan) (behind bit : ℕ) (x : SignalParts) → (p : IsPlaced g behind x) → Covers x bit → HasBit g p.place behind bit
 has_bit g behind bit x p covers = record {
@@ -168,9 +168,9 @@ single_placed g x h =
     let there = filtered (λ s. not s.repeated) g.signals.items x h in
     record { place = there.0; signal = x; signal_is = there.1.0; x_is = first_place x (distance g); stands = inr refl }
 
-record_placed : (g : GroupPlan) (every behind : ℕ) (x : SignalParts) → g.every ≡ Some every
+record_placed : (g : GroupPlan) (every behind : ℕ) (x : SignalParts) → g.every ≡ Some every → behind < record_count g g.most
     → Contains (record_signals (every * behind) g.signals.items) x → IsPlaced g behind x
-record_placed g every behind x is h =
+record_placed g every behind x is stands h =
     let moved = mapped (further (every * behind)) (repeated_signals g.signals.items) x h in
     let there = filtered (λ s. s.repeated) g.signals.items moved.0 moved.1.0 in
     let same : every ≡ distance g = sym (ap (λ (o : Option ℕ). unwrap_or o 0) is) in
@@ -179,7 +179,7 @@ record_placed g every behind x is h =
       signal = moved.0;
       signal_is = there.1.0;
       x_is = moved.1.1 ∙ ap (λ n. further (n * behind) moved.0) same;
-      stands = inl there.1.1;
+      stands = inl (there.1.1, stands);
     }
 
 records_placed : (g : GroupPlan) (every n : ℕ) (x : SignalParts) → Contains (records_signals every n g.signals.items) x
@@ -217,32 +217,28 @@ rises_further n (x ∷ xs) rises = (
   rises_further n xs rises.1,
 )
 
-placed_apart : (g : GroupPlan) (bytes k l : ℕ) (x y : SignalParts) → HasBitsOnce g → bytes ≤ g.most → IsInside bytes x → k ≢ l
-    → IsPlaced g k x → IsPlaced g l y → AreApart x y
-placed_apart g bytes k l x y once most inside other p q (bit, of_x, of_y) =
-    let below : bit < 8 * g.most = omega (arith, most, inside, of_x.1) in
-    other (once p.place q.place k l bit below (has_bit g k bit x p of_x) (has_bit g l bit y q of_y)).1
+placed_apart : (g : GroupPlan) (k l : ℕ) (x y : SignalParts) → HasBitsOnce g → k ≢ l → IsPlaced g k x → IsPlaced g l y → AreApart x y
+placed_apart g k l x y once other p q (bit, of_x, of_y) =
+    other (once p.place q.place k l bit (has_bit g k bit x p of_x) (has_bit g l bit y q of_y)).1
 
-records_rise : (g : GroupPlan) (every bytes n : ℕ) → g.every ≡ Some every → AllPairs AreApart g.signals.items → HasBitsOnce g → bytes ≤ g.most
-    → ((k : ℕ) → k < n → All (IsInside bytes) (record_signals (every * k) g.signals.items)) → Rises AreApart (records_signals every n g.signals.items)
+records_rise : (g : GroupPlan) (every n : ℕ) → g.every ≡ Some every → AllPairs AreApart g.signals.items → HasBitsOnce g
+    → ((k : ℕ) → k < n → k < record_count g g.most) → Rises AreApart (records_signals every n g.signals.items)
 unfolding records_signals
-records_rise g every bytes zero is apart once most inside = tt
-records_rise g every bytes (suc n) is apart once most inside =
+records_rise g every zero is apart once stand = tt
+records_rise g every (suc n) is apart once stand =
     let signals = g.signals.items in
     Rises-append AreApart (records_signals every n signals) (record_signals (every * n) signals)
-    (records_rise g every bytes n is apart once most (λ k less. inside k (omega (arith, less))))
+    (records_rise g every n is apart once (λ k less. stand k (omega (arith, less))))
     (rises_further (every * n) (repeated_signals signals) (rises_from (repeated_signals signals) (AllPairs-filter AreApart (λ s. s.repeated) signals apart)))
     (λ x y in_before in_last.
     let there = records_placed g every n x in_before in
-    let ends = All-contains (IsInside bytes) (record_signals (every * there.0) signals) x (inside there.0 (omega (arith, there.1.0))) there.1.1 in
-    placed_apart g bytes there.0 n x y once most ends (λ same. omega (arith, same, there.1.0))
-    (record_placed g every there.0 x is there.1.1) (record_placed g every n y is in_last))
+    placed_apart g there.0 n x y once (λ same. omega (arith, same, there.1.0))
+    (record_placed g every there.0 x is (stand there.0 (omega (arith, there.1.0))) there.1.1) (record_placed g every n y is (stand n (omega arith)) in_last))
 
-single_apart : (g : GroupPlan) (bytes k l : ℕ) (x y : SignalParts) → HasBitsOnce g → bytes ≤ g.most → IsInside bytes y → x.repeated ≡ false → y.repeated ≡ true
+single_apart : (g : GroupPlan) (k l : ℕ) (x y : SignalParts) → HasBitsOnce g → x.repeated ≡ false → y.repeated ≡ true
     → IsPlaced g k x → IsPlaced g l y → AreApart x y
-single_apart g bytes k l x y once most inside single repeated p q (bit, of_x, of_y) =
-    let below : bit < 8 * g.most = omega (arith, most, inside, of_y.1) in
-    let place = (once p.place q.place k l bit below (has_bit g k bit x p of_x) (has_bit g l bit y q of_y)).0 in
+single_apart g k l x y once single repeated p q (bit, of_x, of_y) =
+    let place = (once p.place q.place k l bit (has_bit g k bit x p of_x) (has_bit g l bit y q of_y)).0 in
     let one : p.signal ≡ q.signal = same_Some _ _ (sym p.signal_is ∙ ap (slice_get g.signals.items) place ∙ q.signal_is) in
     let first : x.repeated ≡ p.signal.repeated = ap (λ (s : SignalParts). s.repeated) p.x_is in
     let second : y.repeated ≡ q.signal.repeated = ap (λ (s : SignalParts). s.repeated) q.x_is in
@@ -280,6 +276,7 @@ records_laid g bytes every is once laid most =
     let count = record_count g bytes in
     let singles = single_signals signals in
     let records = records_signals every count signals in
+    let stands : (k : ℕ) → k < count → k < record_count g g.most = λ k less. longer_has g every bytes g.most k is most less in
     let ends : (x : SignalParts) → Contains records x → IsInside bytes x = λ x h.
     let there = records_placed g every count x h in
     All-contains (IsInside bytes) (record_signals (every * there.0) signals) x (record_inside g every bytes there.0 is there.1.0) there.1.1 in
@@ -289,18 +286,18 @@ records_laid g bytes every is once laid most =
       widths = All-append WidthFits singles records (All-filter (λ s. not s.repeated) WidthFits signals laid.widths)
           (all_by_contains WidthFits records (λ x h.
           let there = records_placed g every count x h in
-          let placed = record_placed g every there.0 x is there.1.1 in
+          let placed = record_placed g every there.0 x is (stands there.0 there.1.0) there.1.1 in
           subst WidthFits (sym placed.x_is) (fits_further placed.signal.kind placed.signal.start placed.signal.bits (distance g * there.0)
           (all_at WidthFits signals laid.widths placed.place placed.signal placed.signal_is))));
       inside = All-append (IsInside bytes) singles records (All-filter (λ s. not s.repeated) (IsInside bytes) signals laid.inside)
           (all_by_contains (IsInside bytes) records ends);
       apart = AllPairs-from_Rises AreApart (singles ++ records) (Rises-append AreApart singles records
           (rises_from singles (AllPairs-filter AreApart (λ s. not s.repeated) signals laid.apart))
-          (records_rise g every bytes count is laid.apart once most (λ k less. record_inside g every bytes k is less))
+          (records_rise g every count is laid.apart once stands)
           (λ x y in_singles in_records.
           let there = records_placed g every count y in_records in
-          single_apart g bytes 0 there.0 x y once most (ends y in_records) (is_single g x in_singles) (is_in_record g (every * there.0) y there.1.1)
-          (single_placed g x in_singles) (record_placed g every there.0 y is there.1.1)));
+          single_apart g 0 there.0 x y once (is_single g x in_singles) (is_in_record g (every * there.0) y there.1.1)
+          (single_placed g x in_singles) (record_placed g every there.0 y is (stands there.0 there.1.0) there.1.1)));
     }
 
 laid_by : (g : GroupPlan) (bytes : ℕ) (o : Option ℕ) → g.every ≡ o → HasBitsOnce g → LaysOut bytes g.signals.items → bytes ≤ g.most

@@ -4,14 +4,15 @@ use Rattle.std.specs.Option.{option_map_or}
 use Rattle.std.proofs.Math.Nat.{le-div_iff_mul-le, mul_comm}
 use Rattle.std.proofs.lemmas.Bool.{cases_Bool, eqb-false, false≢true, le-ltb, ltb-false, ne_eqb}
 use Rattle.std.proofs.lemmas.List.{append-nil}
-use Rattle.std.proofs.lemmas.List.Elements.{All-cons, All-head, All-nil, All-tail}
+use Rattle.std.proofs.lemmas.List.Elements.{All-cons, All-head, All-nil, All-tail, All-weaker}
 use Rattle.std.proofs.lemmas.Option.{none-some}
 use Rattle.j39_signal.specs.Parts.{SignalParts, HasRanges}
 use Rattle.j39_signal.specs.Places.{IsInside, end_of, further}
 use Rattle.j39_findings.specs.declared.plan.Plan.{Plan}
 use Rattle.j39_findings.specs.declared.plan.group_plan.GroupPlan.{GroupPlan}
 use Rattle.j39_findings.specs.Records.{single_signals, repeated_signals, record_signals, records_signals, last_end, first_bytes, count_inside}
-use Rattle.j39_findings.specs.Records.{record_count, signals_in, RecordsAreCounted, HasNoRecords, IsWithoutRecords}
+use Rattle.j39_findings.specs.Records.{record_count, signals_in, RecordsAreCounted}
+use Rattle.j39_findings.specs.WithoutRecords.{HasNoRecords, IsWithoutRecords}
 use Rattle.j39_findings.proofs.Members.{all_at}
 
 -- ---- where a record ends
@@ -123,6 +124,14 @@ records_counted group every bytes behind is =
           let whole : first_bytes signals + every * behind ≤ bytes = omega (arith, fits) in
           subst (λ n. behind < n) (sym count) (counted_of every (first_bytes signals) bytes behind some first whole),
     )
+
+-- a longer message has each record that a shorter one has
+pub longer_has : (group : GroupPlan) (every bytes most behind : ℕ) → group.every ≡ Some every → bytes ≤ most → behind < record_count group bytes
+    → behind < record_count group most
+longer_has group every bytes most behind is longer less =
+    let here = (records_counted group every bytes behind is).0 less in
+    (records_counted group every most behind is).1
+    (here.0, All-weaker (IsInside bytes) (IsInside most) (λ s ends. omega (arith, ends, longer)) (record_signals (every * behind) group.signals.items) here.1)
 
 -- ---- plans without records
 

@@ -7,6 +7,7 @@ use Rattle.j39_id.specs.Pgn.{IsPgn, extended_page}
 use Rattle.j39_id.specs.Services.{service_groups}
 use Rattle.j39_signal.specs.Places.{Covers, LaysOut, further}
 use Rattle.j39_findings.specs.ListPlaces.{ValueAt, SomeMeets, SoManyMeet}
+use Rattle.j39_findings.specs.Records.{record_count}
 use Rattle.j39_findings.specs.TextPlaces.{last_byte}
 use Rattle.j39_findings.specs.Findings.{IsFixed, NeedsPoolAddress, IsProprietary, IsToOne, IsOneFrameToAll, AreOneFlow, Sends, AreSentTogether}
 use Rattle.j39_findings.specs.declared.plan.Plan.{Plan}
@@ -32,14 +33,16 @@ pub record HaveOwnPgn (plan : Plan) (g h : GroupPlan) : Type 0 where
   pub second : h.private ≡ false → g.pgn ≢ h.pgn
   pub apart : g.pgn ≡ h.pgn → ¬ AreSentTogether plan.groups.items plan.flows.items g h
 
--- the bit belongs to the signal at this place of the group, in the record so many behind the first; a signal that isn't repeated stands once
+-- the bit belongs to the signal at this place of the group, in the record so many behind the first, as the longest messages have it; a
+-- signal that isn't repeated stands once
 abbrev pub HasBit : GroupPlan → ℕ → ℕ → ℕ → Type 0
 HasBit g place behind bit =
-    ValueAt (λ s. Covers (further (unwrap_or g.every 0 * behind) s) bit × ((s.repeated ≡ true) ⊎ (behind ≡ 0))) g.signals.items place
+    ValueAt (λ s. Covers (further (unwrap_or g.every 0 * behind) s) bit
+    × (((s.repeated ≡ true) × (behind < record_count g g.most)) ⊎ (behind ≡ 0))) g.signals.items place
 
--- each bit of the longest message belongs to one signal at most, and of one that is repeated in one record
+-- each bit belongs to one signal at most, and of one that is repeated in one record
 abbrev pub HasBitsOnce : GroupPlan → Type 0
-HasBitsOnce g = (i j k l bit : ℕ) → bit < 8 * g.most → HasBit g i k bit → HasBit g j l bit → (i ≡ j) × (k ≡ l)
+HasBitsOnce g = (i j k l bit : ℕ) → HasBit g i k bit → HasBit g j l bit → (i ≡ j) × (k ≡ l)
 
 -- a text begins inside the shortest message or right behind it, and ends inside the longest
 pub record LiesInside (g : GroupPlan) (t : TextPlan) : Type 0 where

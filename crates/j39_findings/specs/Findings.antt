@@ -14,6 +14,7 @@ use Rattle.std.specs.List.{slice_get}
 use Rattle.j39_signal.specs.Parts.{SignalParts}
 use Rattle.j39_signal.specs.Places.{Covers, WidthFits, IsInside, SharesBit, further}
 use Rattle.j39_findings.specs.ListPlaces.{ValueAt, PairAt, SomeMeets, SoManyMeet}
+use Rattle.j39_findings.specs.Records.{record_count}
 use Rattle.j39_findings.specs.TextPlaces.{last_byte}
 use Rattle.j39_findings.specs.declared.plan.Plan.{Plan}
 use Rattle.j39_findings.specs.declared.plan.unit_plan.UnitPlan.{UnitPlan}
@@ -117,22 +118,22 @@ IsOutside group text = (group.length + 1 < text.byte) ⊎ (group.most < last_byt
 
 -- ---- records
 
--- a later record of the first signal has a bit that is one of the longest message's and belongs to the second signal too
-pub record ComesOnto (every most : ℕ) (s t : SignalParts) : Type 0 where
+-- a later one of so many records has a bit of the first signal that belongs to the second one too
+pub record ComesOnto (every count : ℕ) (s t : SignalParts) : Type 0 where
   pub behind : ℕ
   pub later : 1 ≤ behind
+  pub stands : behind < count
   pub bit : ℕ
-  pub inside : bit < 8 * most
   pub of_record : Covers (further (every * behind) s) bit
   pub of_other : Covers t bit
 
 -- records of the signal at place i come onto that at place j: of two that are repeated this is said once, of whichever comes onto the other
 abbrev pub DoRecordsMeet : ℕ → ℕ → ℕ → ℕ → SignalParts → SignalParts → Type 0
-DoRecordsMeet every most i j s t = (s.repeated ≡ true)
-    × (((t.repeated ≡ false) × ComesOnto every most s t)
-    ⊎ ((t.repeated ≡ true) × ((i ≤ j) × (ComesOnto every most s t ⊎ ComesOnto every most t s))))
+DoRecordsMeet every count i j s t = (s.repeated ≡ true)
+    × (((t.repeated ≡ false) × ComesOnto every count s t)
+    ⊎ ((t.repeated ≡ true) × ((i ≤ j) × (ComesOnto every count s t ⊎ ComesOnto every count t s))))
 
--- so it is with those at these places of a group
+-- so it is with those at these places of a group, in its longest messages
 pub record HasRecordsOver (group : GroupPlan) (i j : ℕ) : Type 0 where
   pub every : ℕ
   pub every_is : group.every ≡ Some every
@@ -140,7 +141,7 @@ pub record HasRecordsOver (group : GroupPlan) (i j : ℕ) : Type 0 where
   pub first_is : slice_get group.signals.items i ≡ Some first
   pub second : SignalParts
   pub second_is : slice_get group.signals.items j ≡ Some second
-  pub meet : DoRecordsMeet every group.most i j first second
+  pub meet : DoRecordsMeet every (record_count group group.most) i j first second
 
 -- ---- the findings
 

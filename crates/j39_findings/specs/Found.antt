@@ -15,6 +15,7 @@ use Rattle.j39_id.specs.Services.{is_service}
 use Rattle.j39_signal.specs.Parts.{SignalParts}
 use Rattle.j39_signal.specs.Places.{width_fits, is_inside, shares_bit, end_of, further}
 use Rattle.j39_findings.specs.ListPlaces.{found_if, each, pairs, in_each}
+use Rattle.j39_findings.specs.Records.{record_count}
 use Rattle.j39_findings.specs.TextPlaces.{last_byte}
 use Rattle.j39_findings.specs.declared.plan.Plan.{Plan}
 use Rattle.j39_findings.specs.declared.plan.unit_plan.UnitPlan.{UnitPlan}
@@ -157,28 +158,24 @@ signal_findings groups = in_each width_findings 0 groups ++ (in_each outside_fin
 abbrev pub first_near : ℕ → SignalParts → SignalParts → ℕ
 first_near every s t = (t.start - end_of s) / (8 * every) + 1
 
--- whether some bit below this place belongs to both
-abbrev pub shares_below : ℕ → SignalParts → SignalParts → Bool
-shares_below place s t = nat_lt (max s.start t.start) (min place (min (end_of s) (end_of t)))
-
 -- a later record comes onto t only where this one does: each further one has left behind what this one hasn't reached
 abbrev pub comes_onto : ℕ → ℕ → SignalParts → SignalParts → Bool
-comes_onto every most s t = shares_below (8 * most) (further (every * first_near every s t) s) t
+comes_onto every count s t = nat_lt (first_near every s t) count && shares_bit (further (every * first_near every s t) s) t
 
 abbrev pub do_records_meet : ℕ → ℕ → ℕ → ℕ → SignalParts → SignalParts → Bool
-do_records_meet every most i j s t =
-    if t.repeated then nat_le i j && (comes_onto every most s t || comes_onto every most t s) else comes_onto every most s t
+do_records_meet every count i j s t =
+    if t.repeated then nat_le i j && (comes_onto every count s t || comes_onto every count t s) else comes_onto every count s t
 
 -- what is found of the signal at place s of the g-th group, against each of the group's signals
 abbrev pub overlaps_of : ℕ → ℕ → ℕ → List SignalParts → ℕ → SignalParts → List Finding
-overlaps_of every most g signals s signal =
+overlaps_of every count g signals s signal =
     if signal.repeated
-    then in_each (λ t other. found_if (do_records_meet every most s t signal other) (RecordOverlap g s t)) 0 signals
+    then in_each (λ t other. found_if (do_records_meet every count s t signal other) (RecordOverlap g s t)) 0 signals
     else []
 
 abbrev pub group_overlaps : ℕ → GroupPlan → List Finding
 group_overlaps g group =
-    option_map_or (λ every. in_each (overlaps_of every group.most g group.signals.items) 0 group.signals.items) group.every []
+    option_map_or (λ every. in_each (overlaps_of every (record_count group group.most) g group.signals.items) 0 group.signals.items) group.every []
 
 unfoldable pub record_findings : List GroupPlan → List Finding
 record_findings groups = in_each group_overlaps 0 groups

@@ -13,3 +13,4 @@ pub mod Records
 pub mod Refused
 pub mod SoundSignals
 pub mod TextPlaces
+pub mod WithoutRecords

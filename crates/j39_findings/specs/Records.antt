@@ -5,10 +5,7 @@ use Rattle.std.specs.List.{filter}
 use Rattle.std.specs.Option.{option_map_or}
 use Rattle.j39_signal.specs.Parts.{SignalParts}
 use Rattle.j39_signal.specs.Places.{end_of, further, IsInside}
-use Rattle.j39_findings.specs.declared.plan.Plan.{Plan}
 use Rattle.j39_findings.specs.declared.plan.group_plan.GroupPlan.{GroupPlan}
-use Rattle.j39_findings.specs.declared.checking.finding.Finding.TheVariants.{RecordOverlap}
-use Rattle.j39_findings.specs.Findings.{Holds}
 
 -- the signals that aren't repeated, and those that are, as the first record has them
 abbrev pub single_signals : List SignalParts → List SignalParts
@@ -54,18 +51,10 @@ signals_in group bytes =
     single_signals group.signals.items
     ++ option_map_or (λ every. records_signals every (record_count group bytes) group.signals.items) group.every []
 
--- ---- laws
+-- ---- a law
 
 -- a record is one of those of a message exactly where it has signals and all of them end inside the message
 abbrev pub RecordsAreCounted : Type 0
 RecordsAreCounted = (group : GroupPlan) (every bytes behind : ℕ) → group.every ≡ Some every
     → (behind < record_count group bytes)
     ↔ ((repeated_signals group.signals.items ≢ []) × All (IsInside bytes) (record_signals (every * behind) group.signals.items))
-
-abbrev pub HasNoRecords : Plan → Type 0
-HasNoRecords plan = All (λ group. group.every ≡ None) plan.groups.items
-
--- of a plan without records F14 says nothing, and each message has the signals of its group
-pub record IsWithoutRecords (plan : Plan) : Type 0 where
-  pub overlaps : (g s t : ℕ) → ¬ Holds plan (RecordOverlap g s t)
-  pub signals : All (λ group. (bytes : ℕ) → signals_in group bytes ≡ group.signals.items) plan.groups.items

@@ -21,23 +21,24 @@ fn bits_behind(every: u8, bits: u32) -> u32
     bits - bits % record + record
 }
 
-// Whether a later record of the first signal comes onto the second, inside the longest message.
-fn comes_onto(every: u8, most: u16, signal: &Signal, other: &Signal) -> bool
+// Whether a later one of so many records of the first signal comes onto the second.
+fn comes_onto(every: u8, count: usize, signal: &Signal, other: &Signal) -> bool
     requires { 1 ≤ every }
-    ensures { result ≡ comes_onto every most signal.now other.now }
+    ensures { result ≡ comes_onto every count signal.now other.now }
 {
     let gap = u32::from(other.start()).saturating_sub(signal.end());
+    let nearest = gap / (8 * u32::from(every)) + 1;
     let behind = bits_behind(every, gap);
     let start = u32::from(signal.start()) + behind;
-    let end = (signal.end() + behind).min(other.end());
-    start.max(u32::from(other.start())) < end.min(8 * u32::from(most))
+    let end = signal.end() + behind;
+    (nearest as usize) < count && start.max(u32::from(other.start())) < end.min(other.end())
 }
 
 // A signal that is repeated, at its place in its group.
 #[derive(Clone, Copy)]
 struct RepeatedSignal<'a> {
     every: u8,
-    most: u16,
+    count: usize,
     group: usize,
     place: usize,
     signal: &'a Signal,
@@ -45,11 +46,12 @@ struct RepeatedSignal<'a> {
 }
 
 fn do_records_meet(first: &RepeatedSignal, place: usize, second: &Signal) -> bool
-    ensures { result ≡ do_records_meet first.now.every first.now.most first.now.place place first.now.signal.now second.now }
+    ensures { result ≡ do_records_meet first.now.every first.now.count first.now.place place first.now.signal.now second.now }
 {
-    let meets = comes_onto(first.every, first.most, first.signal, second);
+    let meets = comes_onto(first.every, first.count, first.signal, second);
     if second.is_repeated() {
-        first.place <= place && (meets || comes_onto(first.every, first.most, second, first.signal))
+        first.place <= place
+            && (meets || comes_onto(first.every, first.count, second, first.signal))
     } else {
         meets
     }
@@ -59,7 +61,7 @@ impl Rule<Signal> for RepeatedSignal<'_> {
     ghost use Rattle.j39_findings.specs.declared.checking.finding.Finding.TheVariants.{RecordOverlap};
 
     ghost gives = { λ rule t other.
-        found_if (do_records_meet rule.every rule.most rule.place t rule.signal.now other) (RecordOverlap rule.group rule.place t) };
+        found_if (do_records_meet rule.every rule.count rule.place t rule.signal.now other) (RecordOverlap rule.group rule.place t) };
 
     fn find(
         &self,
@@ -79,14 +81,14 @@ impl Rule<Signal> for RepeatedSignal<'_> {
 #[derive(Clone, Copy)]
 struct RecordSignals<'a> {
     every: u8,
-    most: u16,
+    count: usize,
     group: usize,
     signals: &'a [Signal],
     ghost every_positive: { 1 ≤ every },
 }
 
 impl Rule<Signal> for RecordSignals<'_> {
-    ghost gives = { λ rule s signal. overlaps_of rule.every rule.most rule.group rule.signals.now s signal };
+    ghost gives = { λ rule s signal. overlaps_of rule.every rule.count rule.group rule.signals.now s signal };
 
     fn find(
         &self,
@@ -99,7 +101,7 @@ impl Rule<Signal> for RecordSignals<'_> {
         }
         let rule = RepeatedSignal {
             every: self.every,
-            most: self.most,
+            count: self.count,
             group: self.group,
             place,
             signal,
@@ -125,7 +127,7 @@ impl Rule<GroupPlan> for Records {
         };
         let rule = RecordSignals {
             every,
-            most: group.most,
+            count: group.record_count(usize::from(group.most)),
             group: place,
             signals: group.signals.as_slice(),
         };

@@ -1,6 +1,7 @@
 //! The laws of records.
 ghost use Rattle.j39_findings.specs.declared.plan.Plan.{Plan};
-ghost use Rattle.j39_findings.specs.Records.{HasNoRecords, IsWithoutRecords, RecordsAreCounted};
+ghost use Rattle.j39_findings.specs.Records.{RecordsAreCounted};
+ghost use Rattle.j39_findings.specs.WithoutRecords.{HasNoRecords, IsWithoutRecords};
 
 /// The records of a message are those that have signals and end inside it.
 pub fn records_are_counted()

@@ -1,14 +1,24 @@
-use Rattle.std.proofs.lemmas.Result.{IfOk-weaker}
-use Rattle.j39_app.proofs.WholeInputs.{whole}
+use Rattle.j39_app.proofs.Ending.{put_ends, whole_ends}
 use Rattle.j39_app.proofs.answering.answer.Goals as goal
 
 pub returns-in-Input : goal.returns-in-Input
 returns-in-Input g c =
     rw c.in-Input.is
-    (IfOk-weaker c.input_text.result _ _ (λ verdict said. (said.1, (said.0, whole _ _ _ said.2 said.3, said.4), said.5)) c.input_text.ensures.written)
+    (whole_ends (g.S.Source.state c.args.input.now).left _ _ (λ all is. is) (λ bytes text of part. (part.0, (bytes, of, part.1))) (λ failed. failed)
+    c.input_text.result c.input_text.ensures)
 
 pub returns-in-Frame : goal.returns-in-Frame
-returns-in-Frame g c = rw c.in-Frame.is (rw c.as_bytes.ensures.value at c.frame_text.ensures.puts.written)
+returns-in-Frame g c =
+    rw c.in-Frame.is (put_ends (λ text verdict is. (verdict, is)) c.frame_text.result (rw c.as_bytes.ensures.value at c.frame_text.ensures.puts))
+
+pub returns-in-Check : goal.returns-in-Check
+returns-in-Check g c = rw c.in-Check.is (rw c.deref.ensures at c.check_file.ensures)
+
+pub returns-in-Addresses : goal.returns-in-Addresses
+returns-in-Addresses g c = rw c.in-Addresses.is (rw c.deref-in-Addresses.ensures at c.addresses_file.ensures)
+
+pub returns-in-Load : goal.returns-in-Load
+returns-in-Load g c = rw c.in-Load.is (rw c.deref-in-Load.ensures at c.load_file.ensures)
 
 pub returns-in-Run : goal.returns-in-Run
 returns-in-Run g c = rw c.in-Run.is (rw (c.deref-in-Run.ensures, c.deref-in-Run-2.ensures) at c.run_files.ensures)

@@ -1,9 +1,12 @@
-use Rattle.std.proofs.lemmas.Result.{IfOk-weaker}
-use Rattle.j39_app.proofs.WholeInputs.{whole_file}
+use Rattle.std.proofs.Common.{rules, inl, inr}
+use Rattle.j39_app.proofs.Ending.{not_opened, whole_ends}
 use Rattle.j39_app.proofs.answering.load_file.Goals as goal
+
+pub returns-in_err-open : goal.returns-in_err-open
+returns-in_err-open g c = not_opened _ (search rules) (inl c.in_err-open.ensures.shut)
 
 pub returns : goal.returns
 returns g c =
-    IfOk-weaker c.timing_text.result _ _
-    (λ verdict said. (said.0, said.1, whole_file _ _ _ _ c.in_ok-open.ensures said.2 said.3, said.4, said.5))
-    c.timing_text.ensures.written
+    let opened = c.in_ok-open.ensures.opened in
+    whole_ends (g.F.Folder.bytes_of c.args.files.now c.args.plan.now) _ _ opened (λ bytes text of part. (part.0, (bytes, of, part.1)))
+    (λ failed. inr (c.in_ok-open.field-0, c.timing_text.new.source, opened, failed)) c.timing_text.result c.timing_text.ensures

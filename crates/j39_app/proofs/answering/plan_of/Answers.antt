@@ -1,9 +1,12 @@
-use Rattle.std.proofs.lemmas.Result.{IfOk-weaker}
-use Rattle.j39_app.proofs.WholeInputs.{whole_file}
+use Rattle.std.proofs.Common.{rules, inl, inr}
+use Rattle.j39_app.proofs.Ending.{not_opened, whole_ends}
 use Rattle.j39_app.proofs.answering.plan_of.Goals as goal
 
-pub returns-clause-written : goal.returns-clause-written
-returns-clause-written g c =
-    IfOk-weaker c.plan_text.result _ _
-    (λ plan said. (said.0, said.1, whole_file _ _ _ _ c.in_ok-open.ensures said.2 said.3, said.4, said.5))
-    c.plan_text.ensures.answers.written
+pub returns-in_err-open-clause-ends : goal.returns-in_err-open-clause-ends
+returns-in_err-open-clause-ends g c = not_opened _ (search rules) (inl c.in_err-open.ensures.shut)
+
+pub returns-clause-ends : goal.returns-clause-ends
+returns-clause-ends g c =
+    let opened = c.in_ok-open.ensures.opened in
+    whole_ends (g.F.Folder.bytes_of c.args.files.now c.args.name.now) _ _ opened (λ bytes text of part. (bytes, of, part))
+    (λ failed. inr (c.in_ok-open.field-0, c.plan_text.new.source, opened, failed)) c.plan_text.result c.plan_text.ensures.answers

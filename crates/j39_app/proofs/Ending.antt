@@ -1,0 +1,230 @@
+-- How an order ends, by how the commands end that it makes.
+use Rattle.std.proofs.Common.{◌≡◌, ◌⊎◌, ◌+◌, ◌≤◌, ℕ, List, [], ◌++◌, length, Option, Some, None, Result, Ok, Err, IfOk, inl, inr, refl, sym, ap, ◌∙◌, subst, arith, append_assoc}
+use Rattle.std.specs.Prelude.{IsErrOf}
+use Rattle.std.specs.Io.KnownBytes.{Appends, Consumes}
+use Rattle.std.proofs.lemmas.List.{length-append}
+use Rattle.j39_app.specs.Answers.{IsAnswerOfTwo, IsOfBytes, IsOfSome}
+use Rattle.j39_app.specs.Faults.{Ends}
+use Rattle.j39_app.specs.Known.{AreFrontOf, AreLeft, AreOf, AreOfPlan, MayBeTooLong}
+use Rattle.j39_app.proofs.WholeInputs.{some_same, whole_file}
+use Rattle.j39_check.specs.PlanText.{Describes, IsPlanText, IsRefusedText}
+use Rattle.j39_findings.specs.declared.plan.Plan.{Plan}
+use Rattle.j39_stream.specs.Commands.{AnswersInPieces, AnswersWhole, PutsText}
+use Rattle.j39_stream.specs.Streams.{HasFailed, PassesLimits, SinkState, SourceState}
+use Rattle.j39_stream.specs.declared.fault.Fault.{Fault}
+use Rattle.j39_stream.specs.declared.fault.Fault.TheVariants.{Memory, Device, TooLong}
+use Rattle.j39_stream.specs.declared.limits.Limits.{Limits}
+use Rattle.j39_stream.specs.declared.verdict.Verdict.{Verdict}
+use Rattle.j39_stream.specs.declared.verdict.Verdict.TheVariants.{Unreadable}
+
+-- ---- what was read of bytes that are known
+
+no_longer : (left end : Option (List ℕ)) (bytes all : List ℕ) → left ≡ Some all → Consumes left end bytes → length bytes ≤ length all
+no_longer None end bytes all is read = cc is
+no_longer (Some xs) None bytes all is read = absurd read
+no_longer (Some xs) (Some ys) bytes all is read =
+    let same : length xs ≡ length all = ap length (some_same xs all is) in
+    let parts : length xs ≡ length bytes + length ys = ap length read ∙ length-append bytes ys in
+    omega (arith, same, parts)
+
+-- what passes the limits may do so
+passed : (most : Limits) (known : Option (List ℕ)) (old new : SourceState) → AreLeft known old.left → PassesLimits most old new → MayBeTooLong most known
+passed most known old new opened (bytes, read, long) = λ all is.
+    let within : length bytes ≤ length all = no_longer old.left new.left bytes all (opened all is) read in
+    elim long [ inl more ↦ inl (omega arith) | inr calls ↦ inr (let many = calls.0 in omega arith) ]
+
+begins : (left end : Option (List ℕ)) (front rest all : List ℕ) → left ≡ Some all → Consumes left end (front ++ rest) → (more : List ℕ) × (all ≡ front ++ more)
+begins None end front rest all is read = cc is
+begins (Some xs) None front rest all is read = absurd read
+begins (Some xs) (Some ys) front rest all is read = (rest ++ ys, sym (some_same xs all is) ∙ read ∙ append_assoc front rest ys)
+
+-- what was read is the front of what is known
+front_read : (known left end : Option (List ℕ)) (front rest : List ℕ) → AreLeft known left → Consumes left end (front ++ rest) → AreFrontOf known front
+front_read known left end front rest opened read = λ all is. begins left end front rest all (opened all is) read
+
+-- ---- a command that is given one input
+
+module _ {V W : Type 0} {IsText : List ℕ → V → Type 0} {IsPart : List ℕ → Type 0} {AtOnce IsTooLong IsBroken : Type 0} {state : W → SinkState} where
+  -- its file can't be opened
+  pub not_opened : {told : W} (r : Result V Fault) → IsErrOf r Device → IsBroken → Ends IsText IsPart AtOnce IsTooLong IsBroken state told told r
+  not_opened r fails broken = rw fails record {
+    written = tt;
+    cut = inl refl;
+    at_once = λ _ _. refl;
+    long = λ e. cc e;
+    device = λ _. inl broken;
+  }
+
+  -- it puts one text
+  pub put_ends : {told ended : W} (says : (text : List ℕ) (answer : V) → IsText text answer → IsPart text) (r : Result V Fault)
+      → PutsText IsText state told ended r → Ends IsText IsPart AtOnce IsTooLong IsBroken state told ended r
+  put_ends says (Ok answer) puts = record {
+    written = puts.written;
+    cut = tt;
+    at_once = λ _ _. tt;
+    long = λ e. cc e;
+    device = λ e. cc e;
+  }
+  put_ends says (Err Memory) puts = record {
+    written = tt;
+    cut = inl (puts.memory refl);
+    at_once = λ _ _. puts.memory refl;
+    long = λ e. cc e;
+    device = λ e. cc e;
+  }
+  put_ends says (Err Device) puts =
+      let (text, answer, is, part) = puts.cut refl in
+      record {
+        written = tt;
+        cut = inr (text, says text answer is, part);
+        at_once = λ _ other. absurd (other refl);
+        long = λ e. cc e;
+        device = λ _. inr (puts.device refl);
+      }
+  put_ends says (Err TooLong) puts = absurd (puts.fits refl)
+
+-- it reads all of it before it writes
+module _ {V W : Type 0} {IsText : List ℕ → List ℕ → V → Type 0} {IsPart : List ℕ → List ℕ → Type 0} {most : Limits} {old new : SourceState}
+    {state : W → SinkState} {told ended : W} {AtOnce : Type 0} (known : Option (List ℕ)) (IsPartOf : List ℕ → Type 0) (IsBroken : Type 0)
+    (opened : AreLeft known old.left) (says : (bytes text : List ℕ) → AreOf known bytes → IsPart bytes text → IsPartOf text)
+    (breaks : HasFailed old.failures new.failures → IsBroken) where
+  pub whole_ends : (r : Result V Fault) → AnswersWhole IsText IsPart most old new state told ended r
+      → Ends (IsOfBytes IsText known) IsPartOf AtOnce (MayBeTooLong most known) IsBroken state told ended r
+  whole_ends (Ok answer) answers =
+      let (input, text, read, end, is, put) = answers.written in
+      record {
+        written = (text, (input, whole_file known old.left new.left input opened read end, is), put);
+        cut = tt;
+        at_once = λ _ _. tt;
+        long = λ e. cc e;
+        device = λ e. cc e;
+      }
+  whole_ends (Err Memory) answers = record {
+    written = tt;
+    cut = inl (answers.memory refl);
+    at_once = λ _ _. answers.memory refl;
+    long = λ e. cc e;
+    device = λ e. cc e;
+  }
+  whole_ends (Err Device) answers = record {
+    written = tt;
+    cut = elim (answers.cut refl) [
+      | inl same ↦ inl same
+      | inr (input, text, read, end, is, part) ↦ inr (text, says input text (whole_file known old.left new.left input opened read end) is, part)
+    ];
+    at_once = λ _ other. absurd (other refl);
+    long = λ e. cc e;
+    device = λ _. elim (answers.device refl) [ inl of ↦ inl (breaks of) | inr to ↦ inr to ];
+  }
+  whole_ends (Err TooLong) answers =
+      let (same, passes) = answers.long refl in
+      record {
+        written = tt;
+        cut = inl same;
+        at_once = λ _ _. same;
+        long = λ _. passed most known old new opened passes;
+        device = λ e. cc e;
+      }
+
+-- it writes while it reads
+module _ {W : Type 0} {IsText : List ℕ → List ℕ → Verdict → Type 0} {most : Limits} {old new : SourceState} {state : W → SinkState} {told ended : W}
+    (known : Option (List ℕ)) (IsTextOf : List ℕ → Verdict → Type 0) (IsPartOf : List ℕ → Type 0) (IsBroken : Type 0) (opened : AreLeft known old.left)
+    (says : (input text : List ℕ) (verdict : Verdict) → AreFrontOf known input → IsText input text verdict → IsPartOf text)
+    (breaks : HasFailed old.failures new.failures → IsBroken) where
+  pub pieces_end : (r : Result Verdict Fault)
+      → IfOk r (λ verdict. (text : List ℕ) × IsTextOf text verdict × Appends (state told).taken (state ended).taken text)
+      → AnswersInPieces IsText most old new state told ended r → Ends IsTextOf IsPartOf ⊥ (MayBeTooLong most known) IsBroken state told ended r
+  pieces_end (Ok verdict) written answers = record {
+    written = written;
+    cut = tt;
+    at_once = λ never. absurd never;
+    long = λ e. cc e;
+    device = λ e. cc e;
+  }
+  pieces_end (Err fault) written answers = record {
+    written = tt;
+    cut = elim answers.cut [
+      | inl same ↦ inl same
+      | inr (input, rest, text, verdict, read, is, part) ↦
+          inr (text, says input text verdict (front_read known old.left new.left input rest opened read) is, part)
+    ];
+    at_once = λ never. absurd never;
+    long = λ e. passed most known old new opened (answers.long e);
+    device = λ e. elim (answers.device e) [ inl of ↦ inl (breaks of) | inr to ↦ inr to ];
+  }
+
+-- ---- an order of two files
+
+-- the first one describes a plan, and the other one is read by it
+module _ {W : Type 0} {FirstLong Long FirstBroken Broken : Type 0} {state : W → SinkState} {told ended : W}
+    (IsTextFor IsFrontFor : Plan → Option (List ℕ) → List ℕ → Verdict → Type 0) (first second : Option (List ℕ)) (found : Plan) (bytes : List ℕ) (of : AreOf first bytes)
+    (described : Describes bytes found) where
+  by_plan : (r : Result Verdict Fault) → Ends (IsTextFor found second) (IsOfSome (IsFrontFor found second)) ⊥ Long Broken state told ended r
+      → Ends (IsAnswerOfTwo IsTextFor first second) (IsOfSome (IsAnswerOfTwo IsFrontFor first second)) ⊥ (FirstLong ⊎ (AreOfPlan first × Long))
+      (FirstBroken ⊎ (AreOfPlan first × Broken)) state told ended r
+  by_plan (Ok verdict) by =
+      let (text, is, put) = by.written in
+      record {
+        written = (text, inr (bytes, found, of, described, is), put);
+        cut = tt;
+        at_once = λ never. absurd never;
+        long = λ e. cc e;
+        device = λ e. cc e;
+      }
+  by_plan (Err fault) by = record {
+    written = tt;
+    cut = elim by.cut [
+      | inl same ↦ inl same
+      | inr (text, (verdict, is), part) ↦ inr (text, (verdict, inr (bytes, found, of, described, is)), part)
+    ];
+    at_once = λ never. absurd never;
+    long = λ e. inr ((bytes, found, of, described), by.long e);
+    device = λ e. elim (by.device e) [ inl broken ↦ inl (inr ((bytes, found, of, described), broken)) | inr to ↦ inr to ];
+  }
+
+module _ {W : Type 0} {AtOnce FirstLong Long FirstBroken Broken : Type 0} {state : W → SinkState} {told middle : W}
+    (IsTextFor IsFrontFor : Plan → Option (List ℕ) → List ℕ → Verdict → Type 0) (first second : Option (List ℕ)) (plan : Result (Option Plan) Fault)
+    (read : Ends (IsOfBytes IsPlanText first) (λ text. (bytes : List ℕ) × AreOf first bytes × IsRefusedText bytes text) AtOnce FirstLong FirstBroken
+    state told middle plan) where
+  -- the plan's can't be read
+  pub no_plan : (fault : Fault) (r : Result Verdict Fault) → plan ≡ Err fault → IsErrOf r fault
+      → Ends (IsAnswerOfTwo IsTextFor first second) (IsOfSome (IsAnswerOfTwo IsFrontFor first second)) ⊥ (FirstLong ⊎ (AreOfPlan first × Long))
+      (FirstBroken ⊎ (AreOfPlan first × Broken)) state told middle r
+  no_plan fault r is ends =
+      let before = rw is at read in
+      rw ends record {
+        written = tt;
+        cut = elim before.cut [
+          | inl same ↦ inl same
+          | inr (text, (bytes, of, refused), part) ↦ inr (text, (Unreadable, inl (bytes, of, refused, refl)), part)
+        ];
+        at_once = λ never. absurd never;
+        long = λ e. inl (before.long (cc e));
+        device = λ e. elim (before.device (cc e)) [ inl broken ↦ inl (inl broken) | inr to ↦ inr to ];
+      }
+
+  -- it describes none
+  pub plan_refused : plan ≡ Ok None
+      → Ends (IsAnswerOfTwo IsTextFor first second) (IsOfSome (IsAnswerOfTwo IsFrontFor first second)) ⊥ (FirstLong ⊎ (AreOfPlan first × Long))
+      (FirstBroken ⊎ (AreOfPlan first × Broken)) state told middle (Ok Unreadable)
+  plan_refused is =
+      let before = rw is at read in
+      let (text, (bytes, of, refused), put) = before.written in
+      record {
+        written = (text, inl (bytes, of, refused, refl), put);
+        cut = tt;
+        at_once = λ never. absurd never;
+        long = λ e. cc e;
+        device = λ e. cc e;
+      }
+
+  -- the other file is read by the plan
+  pub plan_known : {ended : W} (found : Plan) (r : Result Verdict Fault) → plan ≡ Ok (Some found) → middle ≡ told
+      → Ends (IsTextFor found second) (IsOfSome (IsFrontFor found second)) ⊥ Long Broken state middle ended r
+      → Ends (IsAnswerOfTwo IsTextFor first second) (IsOfSome (IsAnswerOfTwo IsFrontFor first second)) ⊥ (FirstLong ⊎ (AreOfPlan first × Long))
+      (FirstBroken ⊎ (AreOfPlan first × Broken)) state told ended r
+  plan_known {ended} found r is same by =
+      let before = rw is at read in
+      let (text, (bytes, of, described), put) = before.written in
+      by_plan IsTextFor IsFrontFor first second found bytes of described.0 r
+      (subst (λ (w : W). Ends (IsTextFor found second) (IsOfSome (IsFrontFor found second)) ⊥ Long Broken state w ended r) same by)
