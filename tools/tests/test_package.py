@@ -94,8 +94,9 @@ class Built(InFolder):
         self.assertEqual(lines_of("j39plan-join", f"{examples}/axle.toml", f"{examples}/first_plan.toml", env=environment)[1], "version = 3")
         self.assertEqual(lines_of("j39plan-compare", f"{examples}/axle.toml", f"{examples}/axle.toml", env=environment), ["changes 0 breaks 0"])
         followed = f"{examples}/two_units_one_address"
-        self.assertEqual(lines_of("j39plan-fleet", f"{followed}.toml", f"{followed}.drive.log", env=environment)[-1],
-                         "logs 1 with deviations 1 failed 0")
+        done = subprocess.run(["j39plan-fleet", f"{followed}.toml", f"{followed}.drive.log"], env=environment, capture_output=True, text=True,
+                              check=False)
+        self.assertEqual((done.returncode, done.stdout.splitlines()[-1]), (1, "logs 1 with deviations 1 failed 0"), done.stderr)
         made = subprocess.run(["j39plan-tolog", self.write("a.csv", "")], env=environment, capture_output=True, check=False)
         self.assertEqual(made.returncode, 2 if importlib.util.find_spec("can") else 69)
         self.assertIn("load 32160 of 250000", lines_of("j39plan", "load", f"{examples}/axle.toml", env=environment))
