@@ -5,7 +5,6 @@ import importlib.util
 import json
 import os
 import pty
-import re
 import signal
 import subprocess
 import sys
