@@ -1,5 +1,5 @@
 -- What the faults of an order come of, and what stands written then.
-use Rattle.std.specs.Prelude.{◌≡◌, ◌≢◌, ◌⊎◌, ℕ, List, Option, Result, Err, IfOk, OnErr, IsErrOf, string_bytes}
+use Rattle.std.specs.Prelude.{◌≡◌, ◌≢◌, ◌⊎◌, ℕ, List, Option, Result, Err, IfOk, OnOk, OnErr, IsErrOf, string_bytes}
 use Rattle.std.specs.Io.KnownBytes.{Appends}
 use Rattle.j39_app.specs.Answers.{IsAnswerOfTwo, IsOfSome}
 use Rattle.j39_app.specs.Known.{AreLeft, AreOfPlan, MayBeTooLong, Names}
@@ -46,6 +46,7 @@ PutsAtOnce _ = Unit {0}
 pub record Ends {V W : Type 0} (IsText : List ℕ → V → Type 0) (IsPart : List ℕ → Type 0) (AtOnce IsTooLong IsBroken : Type 0) (state : W → SinkState)
     (told ended : W) (result : Result V Fault) : Type 0 where
   pub written : IfOk result (λ answer. (text : List ℕ) × IsText text answer × Appends (state told).taken (state ended).taken text)
+  pub calm : OnOk result ((state ended).failures ≡ (state told).failures)
   pub cut : OnErr result ((ended ≡ told) ⊎ ((text : List ℕ) × IsPart text × AppendsPart (state told).taken (state ended).taken text))
   pub at_once : AtOnce → result ≢ Err Device → OnErr result (ended ≡ told)
   pub long : IsErrOf result TooLong → IsTooLong
@@ -56,12 +57,12 @@ abbrev pub EndsByFile : {File V W : Type 0} → (Option (List ℕ) → List ℕ 
     → (List ℕ → Type 0) → Names → (File → SourceState) → List ℕ → (W → SinkState) → W → W → Result V Fault → Type 0
 EndsByFile IsText IsPart AtOnce limits stays_shut files state_of name state told ended result =
     Ends (IsText (files name)) (IsPart (files name)) AtOnce (MayBeTooLong limits (files name)) (HasFileFailed stays_shut files state_of name) state told ended
-    result
+        result
 
 -- of what reads the file of a plan, and then another one by the plan, of which less may have come where a part of the text stands written
 abbrev pub EndsByTwo : {File W : Type 0} → (Plan → Option (List ℕ) → List ℕ → Verdict → Type 0) → (Plan → Option (List ℕ) → List ℕ → Verdict → Type 0)
     → Limits → (List ℕ → Type 0) → Names → (File → SourceState) → List ℕ → List ℕ → (W → SinkState) → W → W → Result Verdict Fault → Type 0
 EndsByTwo IsText IsFront limits stays_shut files state_of plan other state told ended result =
     Ends (IsAnswerOfTwo IsText (files plan) (files other)) (IsOfSome (IsAnswerOfTwo IsFront (files plan) (files other))) ⊥
-    (IsOfTwo (λ most name. MayBeTooLong most (files name)) files limits plan other)
-    (IsOfTwo (λ _ name. HasFileFailed stays_shut files state_of name) files limits plan other) state told ended result
+        (IsOfTwo (λ most name. MayBeTooLong most (files name)) files limits plan other)
+        (IsOfTwo (λ _ name. HasFileFailed stays_shut files state_of name) files limits plan other) state told ended result
