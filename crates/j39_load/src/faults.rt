@@ -55,10 +55,11 @@ pub fn bits_of_second(bitrate: Bitrate) -> u32
     1_000 * u32::from(bits_per_ms(bitrate))
 }
 
-/// What is wrong with what the flows of a plan ask of its bus: nothing where nothing is known of this, and no memory is asked for then.
+/// What is wrong with what the flows of a plan ask of its bus: nothing where nothing is known of this, or where there are none, and no
+/// memory is asked for then.
 pub fn check_load(alloc: Global, plan: &Plan) -> Result<Vec<LoadFinding>, AllocError>
     ensures findings { IfOk result (λ findings. AreLoadFindings plan.now plan.now.timing findings.items) }
-    ensures memory { OnErr result (plan.now.timing ≢ None) }
+    ensures memory { OnErr result ((plan.now.timing ≢ None) × (plan.now.flows.items ≢ [])) }
 {
     let Some(timing) = plan.timing else {
         return Ok(Vec::new(alloc));

@@ -1,5 +1,5 @@
 //! What the flows of a plan ask of the bus.
-ghost use Rattle.std.specs.Prelude.{◌≡◌, ◌^◌, ◌<◌, ◌≤◌, ℕ, Bool, All, length, IfOk, IfSome};
+ghost use Rattle.std.specs.Prelude.{◌≡◌, ◌≢◌, ◌^◌, ◌<◌, ◌≤◌, [], ℕ, Bool, All, length, IfOk, IfSome, OnErr};
 ghost use Rattle.j39_findings.specs.PlanLimits.{flow_limit};
 ghost use Rattle.j39_findings.specs.declared.plan.to.To.TheVariants.{One};
 ghost use Rattle.j39_findings.specs.declared.plan.unit_plan.UnitPlan.{UnitPlan as APlannedUnit};
@@ -164,6 +164,7 @@ fn loads_of(
     ensures loads { IfOk result (λ loads. loads.items ≡ loads_of timing plan.now (stays_of standing.now)) }
     ensures count { IfOk result (λ loads. length loads.items ≡ length plan.now.flows.items) }
     ensures sound { IfOk result (λ loads. All IsSoundIfKnown loads.items) }
+    ensures memory { OnErr result (plan.now.flows.items ≢ []) }
 {
     let mut loads = Vec::with_capacity(alloc, plan.flows.len())?;
     for place in 0..plan.flows.len() {
@@ -193,12 +194,13 @@ pub struct Loads {
 }
 
 impl Loads {
-    /// What the flows of a plan ask of its bus.
+    /// What the flows of a plan ask of its bus. No memory is asked for where there are none.
     pub fn new(alloc: Global, timing: Timing, plan: &Plan) -> Result<Self, AllocError>
         ensures timing { IfOk result (λ loads. loads.timing ≡ timing) }
         ensures flows { IfOk result (λ loads. (stays : APlannedUnit → Bool) × TellsWhoStays plan.now stays
             × (loads.flows.items ≡ loads_of timing plan.now stays)) }
         ensures count { IfOk result (λ loads. length loads.flows.items ≡ length plan.now.flows.items) }
+        ensures memory { OnErr result (plan.now.flows.items ≢ []) }
     {
         let standing = Standing::new(plan);
         let flows = loads_of(alloc, timing, plan, &standing)?;
@@ -232,7 +234,8 @@ impl Loads {
 
     /// The delay of each flow, in order, and none where it isn't known how often it is sent.
     pub fn delays(&self, alloc: Global) -> Result<Vec<Option<Delay>>, AllocError>
-        ensures { IfOk result (λ delays. TellDelays self.now.timing self.now.flows.items delays.items) }
+        ensures delays { IfOk result (λ delays. TellDelays self.now.timing self.now.flows.items delays.items) }
+        ensures memory { OnErr result (self.now.flows.items ≢ []) }
     {
         let mut delays = Vec::with_capacity(alloc, self.flows.len())?;
         for flow in 0..self.flows.len() {

@@ -1,5 +1,5 @@
 //! The layouts of a plan's groups, what their reports have in common, and where the groups of one number stand.
-ghost use Rattle.std.specs.Prelude.{◌≡◌, ◌<◌, List, [], ◌∷◌, ◌++◌, length, map, All, OnOk, IfOk, IfErr};
+ghost use Rattle.std.specs.Prelude.{◌≡◌, ◌≢◌, ◌<◌, List, [], ◌∷◌, ◌++◌, length, map, All, OnOk, OnErr, IfOk, IfErr};
 ghost use Rattle.j39_log.specs.inside.Listening.{extended, IsBadCatalog, IsCatalogOf, IsIndex};
 ghost use Rattle.j39_findings.specs.PlannedGroups.{IsSendable, layout_of as parts_of};
 ghost use Rattle.j39_findings.specs.declared.plan.group_plan.GroupPlan.{GroupPlan as APlannedGroup};
@@ -96,7 +96,8 @@ fn add_place(
 
 // The span of each number.
 fn spans_of(alloc: Global, groups: &[GroupPlan]) -> Result<HashMap<u32, Span>, AllocError>
-    ensures { IfOk result (IsIndex groups.now) }
+    ensures index { IfOk result (IsIndex groups.now) }
+    ensures memory { OnErr result (groups.now ≢ []) }
 {
     let mut spans = HashMap::new(alloc);
     for (place, group) in groups.iter().enumerate() {

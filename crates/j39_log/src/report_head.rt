@@ -1,5 +1,5 @@
 //! What the report of a group begins with, which is the same in each report of it.
-ghost use Rattle.std.specs.Prelude.{◌≡◌, map, IfOk};
+ghost use Rattle.std.specs.Prelude.{◌≡◌, ◌≢◌, [], map, IfOk, OnErr};
 ghost use Rattle.j39_log.specs.inside.ReportHeads.{report_head};
 
 use j39_findings::GroupPlan;
@@ -21,7 +21,8 @@ pub(crate) fn report_heads(
     alloc: Global,
     groups: &[GroupPlan],
 ) -> Result<Vec<TextBuffer>, AllocError>
-    ensures { IfOk result (λ heads. heads.items ≡ map report_head groups.now) }
+    ensures heads { IfOk result (λ heads. heads.items ≡ map report_head groups.now) }
+    ensures memory { OnErr result (groups.now ≢ []) }
 {
     let mut heads = Vec::new(alloc);
     for group in groups {

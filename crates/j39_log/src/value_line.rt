@@ -1,5 +1,5 @@
 //! What stands around the value in the line of a signal, which is the same in each report of it.
-ghost use Rattle.std.specs.Prelude.{◌≡◌, ◌++◌, map, IfOk, OnOk};
+ghost use Rattle.std.specs.Prelude.{◌≡◌, ◌≢◌, [], ◌++◌, map, IfOk, OnOk, OnErr};
 ghost use Rattle.j39_log.specs.LogReports.{signal_unit_text};
 ghost use Rattle.j39_log.specs.inside.ValueLines.{items_of, value_line_of, value_lines_of};
 
@@ -67,7 +67,8 @@ pub(crate) fn value_lines_of(
     alloc: Global,
     groups: &[GroupPlan],
 ) -> Result<Vec<Vec<ValueLine>>, AllocError>
-    ensures { IfOk result (λ lines. map items_of lines.items ≡ map value_lines_of groups.now) }
+    ensures lines { IfOk result (λ lines. map items_of lines.items ≡ map value_lines_of groups.now) }
+    ensures memory { OnErr result (groups.now ≢ []) }
 {
     let mut lines = Vec::new(alloc);
     for group in groups {

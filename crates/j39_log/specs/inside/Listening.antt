@@ -1,5 +1,5 @@
 -- What the reader of a log keeps, and what it stands for.
-use Rattle.std.specs.Prelude.{◌≡◌, ◌==◌, ◌+◌, ◌&&◌, ◌||◌, ◌<◌, ◌≤◌, ◌⊎◌, Bool, true, false, ℕ, nat_eq, List, [], length, get_or, map, All, Box, Option, Some, None}
+use Rattle.std.specs.Prelude.{◌≡◌, ◌≢◌, ◌==◌, ◌+◌, ◌&&◌, ◌||◌, ◌<◌, ◌≤◌, ◌⊎◌, Bool, true, false, ℕ, nat_eq, List, [], length, get_or, map, All, Box, Option, Some, None}
 use Rattle.std.specs.declared.alloc.Global.{Global}
 use Rattle.std.specs.declared.vec.Vec.{Vec}
 use Rattle.std.specs.HashMap.{HashMap, get}
@@ -26,7 +26,7 @@ use Rattle.j39_log.specs.inside.ValueLines.{items_of, value_lines_of}
 -- the first group that is refused, or memory is
 abbrev pub IsBadCatalog : List GroupPlan → CatalogError → Type 0
 IsBadCatalog groups (BadGroup g) = IsFirstRefused groups g
-IsBadCatalog groups Memory = Unit {0}
+IsBadCatalog groups Memory = groups ≢ []
 
 -- the span of a number with one more group behind the others
 abbrev pub extended : Option Span → ℕ → Span

@@ -21,7 +21,7 @@ returns c =
           absurd (true≢false (sym (subst (λ (n : ℕ). false ≡ (n == 0)) zero (w.if-is_empty.ensures {u = tt}))))
     ] in
     as_checked plan timing c.in-Some.is flows.0 loads delays others flows.1 flows.2
-    (rw c.in_ok-loads.ensures.timing at c.in_ok-delays.ensures)
+    (rw c.in_ok-loads.ensures.timing at c.in_ok-delays.ensures.delays)
     (rw (c.total.ensures, c.as_slice.ensures.value) at c.in_ok-others.ensures.findings)
     findings c.write_findings.new.text c.in_ok-findings.ensures.list wrong
     (rw (c.new-text.ensures, c.deref.ensures.value, c.as_slice-2.ensures.value) at c.in_ok-write_findings.ensures)

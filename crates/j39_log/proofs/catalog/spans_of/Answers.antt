@@ -14,7 +14,7 @@ loop-place-preserved c =
     subst (λ (gs : List GroupPlan). IsIndex gs c.add_place.new.spans) (sym more)
     (c.in_ok-add_place.ensures (take i groups) (length-take-le i groups (omega arith)) c.loop-place.invariant)
 
-pub returns : goal.returns
-returns c =
+pub returns-clause-index : goal.returns-clause-index
+returns-clause-index c =
     subst (λ (gs : List GroupPlan). IsIndex gs c.loop-place.spans) (take_all c.loop-place.place c.args.groups.now c.loop-place-test.false)
     c.loop-place.invariant
