@@ -49,6 +49,7 @@ module _ {V W : Type 0} {IsText : List ℕ → V → Type 0} {IsPart : List ℕ 
   pub not_opened : {told : W} (r : Result V Fault) → IsErrOf r Device → IsBroken → Ends IsText IsPart AtOnce IsTooLong IsBroken state told told r
   not_opened r fails broken = rw fails record {
     written = tt;
+    calm = tt;
     cut = inl refl;
     at_once = λ _ _. refl;
     long = λ e. cc e;
@@ -60,6 +61,7 @@ module _ {V W : Type 0} {IsText : List ℕ → V → Type 0} {IsPart : List ℕ 
       → PutsText IsText state told ended r → Ends IsText IsPart AtOnce IsTooLong IsBroken state told ended r
   put_ends says (Ok answer) puts = record {
     written = puts.written;
+    calm = puts.calm;
     cut = tt;
     at_once = λ _ _. tt;
     long = λ e. cc e;
@@ -67,6 +69,7 @@ module _ {V W : Type 0} {IsText : List ℕ → V → Type 0} {IsPart : List ℕ 
   }
   put_ends says (Err Memory) puts = record {
     written = tt;
+    calm = tt;
     cut = inl (puts.memory refl);
     at_once = λ _ _. puts.memory refl;
     long = λ e. cc e;
@@ -76,6 +79,7 @@ module _ {V W : Type 0} {IsText : List ℕ → V → Type 0} {IsPart : List ℕ 
       let (text, answer, is, part) = puts.cut refl in
       record {
         written = tt;
+        calm = tt;
         cut = inr (text, says text answer is, part);
         at_once = λ _ other. absurd (other refl);
         long = λ e. cc e;
@@ -94,6 +98,7 @@ module _ {V W : Type 0} {IsText : List ℕ → List ℕ → V → Type 0} {IsPar
       let (input, text, read, end, is, put) = answers.written in
       record {
         written = (text, (input, whole_file known old.left new.left input opened read end, is), put);
+        calm = answers.calm.1;
         cut = tt;
         at_once = λ _ _. tt;
         long = λ e. cc e;
@@ -101,6 +106,7 @@ module _ {V W : Type 0} {IsText : List ℕ → List ℕ → V → Type 0} {IsPar
       }
   whole_ends (Err Memory) answers = record {
     written = tt;
+    calm = tt;
     cut = inl (answers.memory refl);
     at_once = λ _ _. answers.memory refl;
     long = λ e. cc e;
@@ -108,6 +114,7 @@ module _ {V W : Type 0} {IsText : List ℕ → List ℕ → V → Type 0} {IsPar
   }
   whole_ends (Err Device) answers = record {
     written = tt;
+    calm = tt;
     cut = elim (answers.cut refl) [
       | inl same ↦ inl same
       | inr (input, text, read, end, is, part) ↦ inr (text, says input text (whole_file known old.left new.left input opened read end) is, part)
@@ -120,6 +127,7 @@ module _ {V W : Type 0} {IsText : List ℕ → List ℕ → V → Type 0} {IsPar
       let (same, passes) = answers.long refl in
       record {
         written = tt;
+        calm = tt;
         cut = inl same;
         at_once = λ _ _. same;
         long = λ _. passed most known old new opened passes;
@@ -136,6 +144,7 @@ module _ {W : Type 0} {IsText : List ℕ → List ℕ → Verdict → Type 0} {m
       → AnswersInPieces IsText most old new state told ended r → Ends IsTextOf IsPartOf ⊥ (MayBeTooLong most known) IsBroken state told ended r
   pieces_end (Ok verdict) written answers = record {
     written = written;
+    calm = answers.calm.1;
     cut = tt;
     at_once = λ never. absurd never;
     long = λ e. cc e;
@@ -143,6 +152,7 @@ module _ {W : Type 0} {IsText : List ℕ → List ℕ → Verdict → Type 0} {m
   }
   pieces_end (Err fault) written answers = record {
     written = tt;
+    calm = tt;
     cut = elim answers.cut [
       | inl same ↦ inl same
       | inr (input, rest, text, verdict, read, is, part) ↦
@@ -166,6 +176,7 @@ module _ {W : Type 0} {FirstLong Long FirstBroken Broken : Type 0} {state : W �
       let (text, is, put) = by.written in
       record {
         written = (text, inr (bytes, found, of, described, is), put);
+        calm = by.calm;
         cut = tt;
         at_once = λ never. absurd never;
         long = λ e. cc e;
@@ -173,6 +184,7 @@ module _ {W : Type 0} {FirstLong Long FirstBroken Broken : Type 0} {state : W �
       }
   by_plan (Err fault) by = record {
     written = tt;
+    calm = tt;
     cut = elim by.cut [
       | inl same ↦ inl same
       | inr (text, (verdict, is), part) ↦ inr (text, (verdict, inr (bytes, found, of, described, is)), part)
@@ -194,6 +206,7 @@ module _ {W : Type 0} {AtOnce FirstLong Long FirstBroken Broken : Type 0} {state
       let before = rw is at read in
       rw ends record {
         written = tt;
+        calm = tt;
         cut = elim before.cut [
           | inl same ↦ inl same
           | inr (text, (bytes, of, refused), part) ↦ inr (text, (Unreadable, inl (bytes, of, refused, refl)), part)
@@ -212,6 +225,7 @@ module _ {W : Type 0} {AtOnce FirstLong Long FirstBroken Broken : Type 0} {state
       let (text, (bytes, of, refused), put) = before.written in
       record {
         written = (text, inl (bytes, of, refused, refl), put);
+        calm = before.calm;
         cut = tt;
         at_once = λ never. absurd never;
         long = λ e. cc e;

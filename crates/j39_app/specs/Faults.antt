@@ -1,5 +1,5 @@
 -- What the faults of an order come of, and what stands written then.
-use Rattle.std.specs.Prelude.{◌≡◌, ◌≢◌, ◌⊎◌, ℕ, List, Option, Result, Err, IfOk, OnErr, IsErrOf, string_bytes}
+use Rattle.std.specs.Prelude.{◌≡◌, ◌≢◌, ◌⊎◌, ℕ, List, Option, Result, Err, IfOk, OnOk, OnErr, IsErrOf, string_bytes}
 use Rattle.std.specs.Io.KnownBytes.{Appends}
 use Rattle.j39_app.specs.Answers.{IsAnswerOfTwo, IsOfSome}
 use Rattle.j39_app.specs.Known.{AreLeft, AreOfPlan, MayBeTooLong, Names}
@@ -46,6 +46,7 @@ PutsAtOnce _ = Unit {0}
 pub record Ends {V W : Type 0} (IsText : List ℕ → V → Type 0) (IsPart : List ℕ → Type 0) (AtOnce IsTooLong IsBroken : Type 0) (state : W → SinkState)
     (told ended : W) (result : Result V Fault) : Type 0 where
   pub written : IfOk result (λ answer. (text : List ℕ) × IsText text answer × Appends (state told).taken (state ended).taken text)
+  pub calm : OnOk result ((state ended).failures ≡ (state told).failures)
   pub cut : OnErr result ((ended ≡ told) ⊎ ((text : List ℕ) × IsPart text × AppendsPart (state told).taken (state ended).taken text))
   pub at_once : AtOnce → result ≢ Err Device → OnErr result (ended ≡ told)
   pub long : IsErrOf result TooLong → IsTooLong

@@ -1,5 +1,5 @@
 //! What is written for an order.
-ghost use Rattle.std.specs.Prelude.{◌≡◌, IfOk, OnSome};
+ghost use Rattle.std.specs.Prelude.{◌≡◌, IfOk, OnOk, OnSome};
 ghost use Rattle.j39_app.specs.Answers.{IsAnswer, IsAnswerOfTwo, IsFollowFrontOf, IsFollowOf, IsFrontAnswer, IsOfBytes, IsReadFrontOf};
 ghost use Rattle.j39_app.specs.Answers.{IsOfSome, IsReadOf, IsRefusedOf, IsRunFrontOf, IsRunOf};
 ghost use Rattle.j39_app.specs.Faults.{Ends, EndsByFile, EndsByTwo, HasFileFailed, IsOfRead, PutsAtOnce};
@@ -166,13 +166,14 @@ pub fn answer<F: Folder, S: Source, W: Sink>(
     order: &Order,
     sink: &mut W,
 ) -> Result<Verdict, Fault>
-    ensures { Ends (IsAnswer (F.bytes_of files.now) (S.state input.old).left order.now)
+    ensures ends { Ends (IsAnswer (F.bytes_of files.now) (S.state input.old).left order.now)
         (IsOfSome (IsFrontAnswer (F.bytes_of files.now) (S.state input.old).left order.now)) (PutsAtOnce order.now)
         (IsOfRead (MayBeTooLong plan_limits (S.state input.old).left) (λ limits name. MayBeTooLong limits (F.bytes_of files.now name)) (F.bytes_of files.now)
         order.now)
         (IsOfRead (HasFailed (S.state input.old).failures (S.state input.new).failures)
         (λ _ name. HasFileFailed (F.stays_shut files.now) (F.bytes_of files.now) F.File.state name) (F.bytes_of files.now) order.now)
         W.state sink.old sink.new result }
+    ensures calm { OnOk result ((S.state input.new).failures ≡ (S.state input.old).failures) }
 {
     match order {
         Order::Input => input_text(alloc, input, sink),

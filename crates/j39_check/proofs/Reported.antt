@@ -23,6 +23,7 @@ module _ {W : Type 0} {Says : Plan → List ℕ → Verdict → Type 0} {most : 
         limits = tt;
         long = λ e. before.long (cc e);
         device = λ e. before.device (cc e);
+        calm = tt;
         cut = λ e. elim (before.cut (cc e)) [
           | inl same ↦ inl same
           | inr (input, text, all, end, refused, part) ↦ inr (input, text, all, end, (Unreadable, inr (refused, refl)), part)
@@ -35,7 +36,7 @@ module _ {W : Type 0} {Says : Plan → List ℕ → Verdict → Type 0} {most : 
   refused is =
       let before : AnswersWhole IsPlanText IsRefusedText most old new state told middle (Ok None) = rw is at read in
       let (input, text, all, end, line, put) = before.written in
-      answered input text Unreadable all end before.limits (inr (line, refl)) put
+      answered input text Unreadable all end before.limits (inr (line, refl)) put before.calm
 
   -- the plan is reported
   pub reported : {ended : W} (found : Plan) (r : Result Verdict Fault) → plan ≡ Ok (Some found) → middle ≡ told
@@ -47,4 +48,4 @@ module _ {W : Type 0} {Says : Plan → List ℕ → Verdict → Type 0} {most : 
       let here : PutsText (Says found) state told ended r = rw same at puts in
       read_and_put input
       (λ text verdict says. let here : IsReportedText Says input text verdict = inl (found, described.0, says) in (here, (verdict, here)))
-      r all end before.limits here
+      r all end before.limits before.calm.0 here

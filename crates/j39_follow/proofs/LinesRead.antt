@@ -172,5 +172,6 @@ so_far plan told reading written before =
           },
           refl,
         ),
+        λ _. refl,
       );
     }

@@ -97,5 +97,6 @@ so_far plan told reading written before = record {
       },
       refl,
     ),
+    λ _. refl,
   );
 }

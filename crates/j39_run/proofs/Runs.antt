@@ -191,6 +191,7 @@ so_far plan run told written has =
         closing_text plan view run.halt,
         verdict_of run.halt,
         (run.halt, closed plan run.bus run.place run.text view shows run.halt told written input has all, refl),
+        λ goes. ap verdict_of (runs_to_end run.halt goes),
       );
     }
 

@@ -1,8 +1,9 @@
 //! The run command with the choosers that a plan names.
-ghost use Rattle.std.specs.Prelude.{◌≡◌, ℕ, List, length, IfOk, Some};
+ghost use Rattle.std.specs.Prelude.{◌≡◌, ◌⊎◌, ℕ, List, length, IfOk, Some};
 ghost use Rattle.std.specs.Io.KnownBytes.{Appends};
 ghost use Rattle.j39_run.specs.RunText.{IsRunText};
 ghost use Rattle.j39_stream.specs.Commands.{AnswersInPieces};
+ghost use Rattle.j39_world.specs.Opening.{CanOpen};
 ghost use Rattle.j39_stream.specs.Streams.{plan_limits};
 
 use crate::run_text;
@@ -24,6 +25,9 @@ pub fn run_planned<S: Source, W: Sink>(
     // The text is that of all that the source had left at the call, however much of it was read.
     ensures whole { IfOk result (λ verdict. (all : List ℕ) → (S.state source.old).left ≡ Some all → (text : List ℕ)
         × IsRunText plan.now (length plan.now.units.items) all text verdict × Appends (W.state sink.old).taken (W.state sink.new).taken text) }
+
+    // Of a plan that has no bus nothing is read.
+    ensures unread { CanOpen (length plan.now.units.items) plan.now ⊎ (source.new ≡ source.old) }
 {
     let mut choosers: Vec<Box<dyn Choose>> = Vec::with_capacity(alloc, plan.units.len())?;
     for unit in &plan.units {

@@ -1,8 +1,9 @@
 //! What the run command writes.
-ghost use Rattle.std.specs.Prelude.{◌≡◌, ℕ, List, length, IfOk, Some};
+ghost use Rattle.std.specs.Prelude.{◌≡◌, ◌⊎◌, ℕ, List, length, IfOk, Some};
 ghost use Rattle.std.specs.Io.KnownBytes.{Appends};
 ghost use Rattle.j39_run.specs.RunText.{IsRefusedBy, IsRunText};
 ghost use Rattle.j39_stream.specs.Commands.{AnswersInPieces, PutsText};
+ghost use Rattle.j39_world.specs.Opening.{CanOpen};
 ghost use Rattle.j39_stream.specs.Streams.{plan_limits};
 
 use crate::refusal::plan_refusal;
@@ -46,6 +47,9 @@ pub fn run_text<S: Source, W: Sink>(
     // The text is that of all that the source had left at the call, however much of it was read.
     ensures whole { IfOk result (λ verdict. (all : List ℕ) → (S.state source.old).left ≡ Some all → (text : List ℕ)
         × IsRunText plan.now (length choosers.items) all text verdict × Appends (W.state sink.old).taken (W.state sink.new).taken text) }
+
+    // Of a plan that has no bus nothing is read.
+    ensures unread { CanOpen (length choosers.items) plan.now ⊎ (source.new ≡ source.old) }
 {
     let units = Units::new(alloc, plan)?;
     match Bus::new(alloc, plan, choosers) {

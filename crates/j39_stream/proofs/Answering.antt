@@ -23,18 +23,22 @@ module _ {V W : Type 0} {IsText : List ℕ → List ℕ → V → Type 0} {IsPar
     limits = tt;
     long = λ e. (refl, long e);
     device = λ e. inl (device e);
+    calm = tt;
     cut = λ _. inl refl;
   }
 
   -- what was read is answered
   pub answered : {told ended : W} (input text : List ℕ) (answer : V) → Consumes old.left new.left input → IsAtEnd new.left → KeepsLimits most old new
-      → IsText input text answer → Appends (state told).taken (state ended).taken text → AnswersWhole IsText IsPart most old new state told ended (Ok answer)
-  answered input text answer read end keeps is put = record {
+      → IsText input text answer → Appends (state told).taken (state ended).taken text
+      → (new.failures ≡ old.failures) × ((state ended).failures ≡ (state told).failures)
+      → AnswersWhole IsText IsPart most old new state told ended (Ok answer)
+  answered input text answer read end keeps is put calm = record {
     written = (input, text, read, end, is, put);
     memory = λ e. cc e;
     limits = keeps;
     long = λ e. cc e;
     device = λ e. cc e;
+    calm = calm;
     cut = λ e. cc e;
   }
 
@@ -43,19 +47,20 @@ module _ {V W : Type 0} {IsText : List ℕ → List ℕ → V → Type 0} {IsPar
     {old new : SourceState} {state : W → SinkState} {told ended : W} (input : List ℕ)
     (says : (text : List ℕ) (answer : V) → P text answer → IsText input text answer × IsPart input text) where
   pub read_and_put : (r : Result V Fault) → Consumes old.left new.left input → IsAtEnd new.left → KeepsLimits most old new
-      → PutsText P state told ended r → AnswersWhole IsText IsPart most old new state told ended r
-  read_and_put (Ok answer) read end keeps puts =
+      → new.failures ≡ old.failures → PutsText P state told ended r → AnswersWhole IsText IsPart most old new state told ended r
+  read_and_put (Ok answer) read end keeps calm puts =
       let (text, is, put) = puts.written in
-      answered input text answer read end keeps (says text answer is).0 put
-  read_and_put (Err Memory) read end keeps puts = record {
+      answered input text answer read end keeps (says text answer is).0 put (calm, puts.calm)
+  read_and_put (Err Memory) read end keeps calm puts = record {
     written = tt;
     memory = puts.memory;
     limits = tt;
     long = λ e. cc e;
     device = λ e. cc e;
+    calm = tt;
     cut = λ e. cc e;
   }
-  read_and_put (Err Device) read end keeps puts =
+  read_and_put (Err Device) read end keeps calm puts =
       let (text, answer, is, part) = puts.cut refl in
       record {
         written = tt;
@@ -63,9 +68,10 @@ module _ {V W : Type 0} {IsText : List ℕ → List ℕ → V → Type 0} {IsPar
         limits = tt;
         long = λ e. cc e;
         device = λ e. inr (puts.device e);
+        calm = tt;
         cut = λ e. inr (input, text, read, end, (says text answer is).1, part);
       }
-  read_and_put (Err TooLong) read end keeps puts = absurd (puts.fits refl)
+  read_and_put (Err TooLong) read end keeps calm puts = absurd (puts.fits refl)
 
 -- ---- a text that is put
 
@@ -76,17 +82,19 @@ module _ {V W : Type 0} {IsText : List ℕ → V → Type 0} {state : W → Sink
     written = tt;
     memory = λ _. refl;
     device = λ e. cc e;
+    calm = tt;
     cut = λ e. cc e;
     fits = λ e. cc e;
   }
 
   -- all of it was taken
   pub all_put : {told ended : W} (text : List ℕ) (answer : V) → IsText text answer → Appends (state told).taken (state ended).taken text
-      → PutsText IsText state told ended (Ok answer)
-  all_put text answer is put = record {
+      → (state ended).failures ≡ (state told).failures → PutsText IsText state told ended (Ok answer)
+  all_put text answer is put calm = record {
     written = (text, is, put);
     memory = λ e. cc e;
     device = λ e. cc e;
+    calm = calm;
     cut = λ e. cc e;
     fits = λ e. cc e;
   }
@@ -98,6 +106,7 @@ module _ {V W : Type 0} {IsText : List ℕ → V → Type 0} {state : W → Sink
     written = tt;
     memory = λ e. cc e;
     device = λ _. failed;
+    calm = tt;
     cut = λ _. (text, answer, is, part);
     fits = λ e. cc e;
   }
@@ -110,9 +119,11 @@ module _ {W : Type 0} {IsText : List ℕ → List ℕ → Verdict → Type 0} {m
       → AnswersInPieces IsText most old old state told told r
   not_begun r wants = rw wants record {
     written = tt;
+    pieces = tt;
     limits = tt;
     long = λ e. cc e;
     device = λ e. cc e;
+    calm = tt;
     cut = inl refl;
   }
 
@@ -125,25 +136,31 @@ module _ {W : Type 0} {IsText : List ℕ → List ℕ → Verdict → Type 0} {m
       let said = says text verdict is in
       record {
         written = ([], text, none_read old.left, said.1, said.0, put);
+        pieces = inl (none_read old.left);
         limits = ([], none_read old.left, omega arith, (0, omega arith, omega arith));
         long = λ e. cc e;
         device = λ e. cc e;
+        calm = (refl, puts.calm);
         cut = tt;
       }
   put_unread (Err Memory) says puts = record {
     written = tt;
+    pieces = tt;
     limits = tt;
     long = λ e. cc e;
     device = λ e. cc e;
+    calm = tt;
     cut = inl (puts.memory refl);
   }
   put_unread {old = old} (Err Device) says puts =
       let (text, verdict, is, part) = puts.cut refl in
       record {
         written = tt;
+        pieces = tt;
         limits = tt;
         long = λ e. cc e;
         device = λ e. inr (puts.device refl);
+        calm = tt;
         cut = inr ([], [], text, verdict, none_read old.left, (says text verdict is).0, part);
       }
   put_unread (Err TooLong) says puts = absurd (puts.fits refl)
@@ -156,16 +173,24 @@ module _ {W : Type 0} {IsText : List ℕ → List ℕ → Verdict → Type 0} {m
       let (input, text, read, end, is, put) = answers.written in
       record {
         written = (input, text, read, end, says input text verdict is, put);
+        pieces = elim answers.pieces [
+          | inl none ↦ inl none
+          | inr (front, begun, piece, done, all, within, is_front, is_done) ↦
+              inr (front, begun, piece, done, all, within, is_front, says front done Done is_done)
+        ];
         limits = answers.limits;
         long = answers.long;
         device = answers.device;
+        calm = answers.calm;
         cut = tt;
       }
   said_of (Err fault) says answers = record {
     written = tt;
+    pieces = tt;
     limits = tt;
     long = answers.long;
     device = answers.device;
+    calm = tt;
     cut = elim answers.cut [
       | inl same ↦ inl same
       | inr (input, rest, text, verdict, read, is, part) ↦ inr (input, rest, text, verdict, read, says input text verdict is, part)

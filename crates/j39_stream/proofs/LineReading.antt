@@ -1,5 +1,5 @@
 -- An input that is read line after line, by whatever reads its lines.
-use Rattle.std.proofs.Common.{◌≡◌, ◌⊎◌, ◌≤◌, ℕ, Bool, true, false, List, [], ◌++◌, Option, Some, None, Result, Ok, Err, IfErr, inr, refl, sym, ap, ◌∙◌, subst, append_assoc}
+use Rattle.std.proofs.Common.{◌≡◌, ◌⊎◌, ◌≤◌, ℕ, Bool, true, false, List, [], ◌++◌, length, Option, Some, None, Result, Ok, Err, IfErr, inr, refl, sym, ap, ◌∙◌, subst, append_assoc}
 use Rattle.std.specs.Prelude.{IsErr, IsErrOf}
 use Rattle.std.proofs.KnownBytes.{Appends-trans}
 use Rattle.std.proofs.lemmas.List.{append-nil}
@@ -9,7 +9,7 @@ use Rattle.j39_id.specs.declared.cut.Cut.{Cut}
 use Rattle.j39_id.specs.declared.cut.Cut.TheVariants as cuts
 use Rattle.j39_id.proofs.CutLines.{tells_lines, told-append}
 use Rattle.j39_stream.specs.Commands.{AnswersInPieces}
-use Rattle.j39_stream.specs.Intakes.{Counts, HasRead}
+use Rattle.j39_stream.specs.Intakes.{Counts, EndsWithItsPiece, HasRead, piece_bytes}
 use Rattle.j39_stream.specs.LineReading.{AreTextsOf, HasLines, HasReadInput, IsCutOff, IsSoFar}
 use Rattle.j39_stream.specs.Streams.{AppendsPart, HasFailed, KeepsLimits, PassesLimits, SinkState, SourceState}
 use Rattle.j39_stream.specs.declared.fault.Fault.{Fault}
@@ -131,7 +131,7 @@ module _ {X : Type 0} {IsText Whole : List ℕ → List ℕ → Verdict → Type
   cut_short (Ok x) long device seen more text written next back middle so consumed splits first second = tt
   cut_short {goes = goes} (Err fault) long device seen more text written next back middle so consumed splits first second =
       let front = front_of seen in
-      let (end, verdict, is_text) = so.begins front.0 (all_lines goes (told at_start seen) front.0 front.3) in
+      let (end, verdict, is_text, _) = so.begins front.0 (all_lines goes (told at_start seen) front.0 front.3) in
       let whole : List ℕ = written ++ (text ++ end) in
       let row : whole ≡ written ++ (next ++ (back ++ end)) =
       ap (λ (t : List ℕ). written ++ t) (ap (λ (t : List ℕ). t ++ end) splits ∙ append_assoc next back end) in
@@ -148,6 +148,26 @@ module _ {X : Type 0} {IsText Whole : List ℕ → List ℕ → Verdict → Type
         device = λ is. device (ap Err is);
       }
 
+-- a piece is read behind lines at which the reader goes on
+pub one_piece : {Read : List Line → List ℕ → Type 0} {IsText Whole : List ℕ → List ℕ → Verdict → Type 0} {goes : Bool} {next : List ℕ}
+    (says : AreTextsOf IsText Whole) (old new : Option (List ℕ)) (seen piece written : List ℕ) → goes ≡ true
+    → IsSoFar Read IsText goes next (told at_start seen) written → Consumes old new (seen ++ piece) → length piece ≤ piece_bytes
+    → EndsWithItsPiece Whole old new
+one_piece {Whole = Whole} {goes = goes} {next = next} says old new seen piece written going so read within =
+    let front = front_of seen in
+    let (end, verdict, is_text, done) = so.begins front.0 (all_lines goes (told at_start seen) front.0 front.3) in
+    let text : List ℕ = written ++ (next ++ end) in
+    inr (
+      front.0,
+      front.1,
+      piece,
+      text,
+      subst (λ (t : List ℕ). Consumes old new (t ++ piece)) front.2 read,
+      within,
+      front.3 ∙ ap (told at_start) front.2,
+      subst (Whole front.0 text) (done going) (says front.0 text verdict is_text),
+    )
+
 -- ---- the whole command
 
 module _ {W : Type 0} {IsText : List ℕ → List ℕ → Verdict → Type 0} {most : Limits} {old new : SourceState} (state : W → SinkState) (told_to ended : W) where
@@ -157,9 +177,11 @@ module _ {W : Type 0} {IsText : List ℕ → List ℕ → Verdict → Type 0} {m
   cut_answers (Ok verdict) fails cut = cc fails
   cut_answers (Err fault) fails cut = record {
     written = tt;
+    pieces = tt;
     limits = tt;
     long = λ e. cut.long (cc e);
     device = λ e. cut.device (cc e);
+    calm = tt;
     cut = inr (cut.input, cut.rest, cut.text, cut.verdict, cut.consumed, cut.is_text, cut.part);
   }
 
@@ -178,12 +200,14 @@ module _ {Read : List Line → List ℕ → Type 0} {IsText Last : List ℕ → 
   pub not_closed : {W : Type 0} (state : W → SinkState) (told_to middle : W) → x ≡ state told_to → y ≡ state middle
       → (r : Result Verdict Fault) → IsErrOf r Memory → AnswersInPieces IsText most old new state told_to middle r
   not_closed state told_to middle at here r fails =
-      let (end, verdict, is_text) = h.so_far.begins h.input all_of_it in
+      let (end, verdict, is_text, _) = h.so_far.begins h.input all_of_it in
       rw fails record {
         written = tt;
+        pieces = tt;
         limits = tt;
         long = λ e. cc e;
         device = λ e. cc e;
+        calm = tt;
         cut = inr (
           h.input,
           [],
@@ -211,8 +235,10 @@ module _ {Read : List Line → List ℕ → Type 0} {IsText Last : List ℕ → 
       not_put state told_to ended at r fails failed part =
           rw fails record {
             written = tt;
+            pieces = tt;
             limits = tt;
             long = λ e. cc e;
+            calm = tt;
             device = λ _. inr (subst (λ (n : ℕ). HasFailed n (state ended).failures) (h.calm.1 ∙ ap (λ (s : SinkState). s.failures) at) failed);
             cut = inr (
               h.input,
@@ -229,8 +255,9 @@ module _ {Read : List Line → List ℕ → Type 0} {IsText Last : List ℕ → 
 
       -- and put: the text is whole
       pub all_written : {W : Type 0} (state : W → SinkState) (told_to ended : W) → x ≡ state told_to → (verdict ≡ Done → goes ≡ true)
-          → Appends y.taken (state ended).taken closing → AnswersInPieces IsText most old new state told_to ended (Ok verdict)
-      all_written state told_to ended at done put = record {
+          → EndsWithItsPiece IsText old.left new.left → Appends y.taken (state ended).taken closing → (state ended).failures ≡ y.failures
+          → AnswersInPieces IsText most old new state told_to ended (Ok verdict)
+      all_written state told_to ended at done pieces put calm = record {
         written = (
           h.input,
           h.written ++ closing,
@@ -239,9 +266,11 @@ module _ {Read : List Line → List ℕ → Type 0} {IsText Last : List ℕ → 
           of_text h.input all_of_it,
           subst (λ (s : SinkState). Appends s.taken (state ended).taken (h.written ++ closing)) at (Appends-trans x.taken y.taken (state ended).taken h.written closing h.taken put),
         );
+        pieces = pieces;
         limits = h.limits;
         long = λ e. cc e;
         device = λ e. cc e;
+        calm = (h.calm.0, calm ∙ h.calm.1 ∙ ap (λ (s : SinkState). s.failures) at);
         cut = tt;
       }
 

@@ -2,6 +2,7 @@
 -- Of the sink clauses see its value too: where nothing was written, it is the sink that it was.
 use Rattle.std.specs.Prelude.{◌≡◌, ◌≢◌, ◌⊎◌, ◌++◌, List, ℕ, Result, Err, IfOk, OnOk, OnErr, IsErrOf}
 use Rattle.std.specs.Io.KnownBytes.{Appends, Consumes, IsAtEnd}
+use Rattle.j39_stream.specs.Intakes.{EndsWithItsPiece}
 use Rattle.j39_stream.specs.Streams.{AppendsPart, HasFailed, KeepsLimits, PassesLimits, SinkState, SourceState}
 use Rattle.j39_stream.specs.declared.fault.Fault.{Fault}
 use Rattle.j39_stream.specs.declared.fault.Fault.TheVariants.{Memory, Device, TooLong}
@@ -18,6 +19,7 @@ pub record PutsText {V W : Type 0} (IsText : List ℕ → V → Type 0) (state :
   pub written : IfOk result (λ answer. (text : List ℕ) × IsText text answer × Appends (state told).taken (state ended).taken text)
   pub memory : IsErrOf result Memory → ended ≡ told
   pub device : IsErrOf result Device → HasFailed (state told).failures (state ended).failures
+  pub calm : OnOk result ((state ended).failures ≡ (state told).failures)
   pub cut : IsErrOf result Device → (text : List ℕ) × (answer : V) × IsText text answer × AppendsPart (state told).taken (state ended).taken text
   pub fits : result ≢ Err TooLong
 
@@ -31,18 +33,21 @@ pub record AnswersWhole {V W : Type 0} (IsText : List ℕ → List ℕ → V →
   pub limits : OnOk result (KeepsLimits most old new)
   pub long : IsErrOf result TooLong → (ended ≡ told) × PassesLimits most old new
   pub device : IsErrOf result Device → HasFailed old.failures new.failures ⊎ HasFailed (state told).failures (state ended).failures
+  pub calm : OnOk result ((new.failures ≡ old.failures) × ((state ended).failures ≡ (state told).failures))
   pub cut : IsErrOf result Device → (ended ≡ told) ⊎ ((input : List ℕ) × (text : List ℕ) × Consumes old.left new.left input × IsAtEnd new.left
       × IsPart input text × AppendsPart (state told).taken (state ended).taken text)
 
 -- a command that writes while it reads: the text that is defined for what was read, with the verdict, all of the input
--- where it is done; what each fault comes of; and that what was written before one is a part of a text for an input that
--- begins like this one
+-- where it is done, and nothing behind the piece with which the text ends; what each fault comes of; and that what was
+-- written before one is a part of a text for an input that begins like this one
 pub record AnswersInPieces {W : Type 0} (IsText : List ℕ → List ℕ → Verdict → Type 0) (most : Limits) (old new : SourceState)
     (state : W → SinkState) (told ended : W) (result : Result Verdict Fault) : Type 0 where
   pub written : IfOk result (λ verdict. (input : List ℕ) × (text : List ℕ) × Consumes old.left new.left input
       × (verdict ≡ Done → IsAtEnd new.left) × IsText input text verdict × Appends (state told).taken (state ended).taken text)
+  pub pieces : OnOk result (EndsWithItsPiece IsText old.left new.left)
   pub limits : OnOk result (KeepsLimits most old new)
   pub long : IsErrOf result TooLong → PassesLimits most old new
   pub device : IsErrOf result Device → HasFailed old.failures new.failures ⊎ HasFailed (state told).failures (state ended).failures
+  pub calm : OnOk result ((new.failures ≡ old.failures) × ((state ended).failures ≡ (state told).failures))
   pub cut : OnErr result ((ended ≡ told) ⊎ ((input : List ℕ) × (rest : List ℕ) × (text : List ℕ) × (verdict : Verdict)
       × Consumes old.left new.left (input ++ rest) × IsText input text verdict × AppendsPart (state told).taken (state ended).taken text))

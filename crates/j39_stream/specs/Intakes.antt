@@ -1,8 +1,11 @@
 -- How much of an input was read, piece by piece.
-use Rattle.std.specs.Prelude.{◌≡◌, ◌≤◌, ℕ, List, length}
+use Rattle.std.specs.Prelude.{◌≡◌, ◌≤◌, ◌⊎◌, ℕ, List, [], ◌++◌, Option, length}
 use Rattle.std.specs.Io.KnownBytes.{Consumes}
+use Rattle.j39_id.specs.Lines.{at_start, lines, told}
 use Rattle.j39_stream.specs.Streams.{SourceState, after_calls}
 use Rattle.j39_stream.specs.declared.limits.Limits.{Limits}
+use Rattle.j39_stream.specs.declared.verdict.Verdict.{Verdict}
+use Rattle.j39_stream.specs.declared.verdict.Verdict.TheVariants.{Done}
 
 -- the most bytes of a piece
 abbrev pub piece_bytes : ℕ
@@ -25,3 +28,11 @@ pub record HasRead (limits : Limits) (old new : SourceState) (counts : Counts) (
   pub within : length text ≤ limits.bytes
   pub calls_gave : counts.calls ≤ length text
   pub pulls_are : new.pulls ≡ after_calls old.pulls counts.calls
+
+-- nothing was read, or what was read ends with a piece before which nothing ends the text: what stands there is an input with the verdict
+-- Done, up to a line that it only begins
+abbrev pub EndsWithItsPiece : (List ℕ → List ℕ → Verdict → Type 0) → Option (List ℕ) → Option (List ℕ) → Type 0
+EndsWithItsPiece IsText old new =
+    Consumes old new []
+    ⊎ ((front : List ℕ) × (begun : List ℕ) × (piece : List ℕ) × (text : List ℕ) × Consumes old new ((front ++ begun) ++ piece)
+    × (length piece ≤ piece_bytes) × (lines front ≡ told at_start (front ++ begun)) × IsText front text Done)

@@ -7,6 +7,7 @@ use Rattle.j39_stream.specs.declared.fault.Fault.{Fault}
 use Rattle.j39_stream.specs.declared.fault.Fault.TheVariants.{Device, TooLong}
 use Rattle.j39_stream.specs.declared.limits.Limits.{Limits}
 use Rattle.j39_stream.specs.declared.verdict.Verdict.{Verdict}
+use Rattle.j39_stream.specs.declared.verdict.Verdict.TheVariants.{Done}
 
 -- these are the lines of the input, or, where the reader stopped, some first ones of them
 abbrev pub HasLines : Bool → List Line → List ℕ → Type 0
@@ -18,11 +19,12 @@ abbrev pub AreTextsOf : (List ℕ → List ℕ → Verdict → Type 0) → (List
 AreTextsOf IsText IsOther = (input text : List ℕ) (verdict : Verdict) → IsText input text verdict → IsOther input text verdict
 
 -- these lines were read, and of what is to be written of them this much was written; a text of an input with these lines begins with it,
--- and with what is to be written next
+-- and with what is to be written next, and is Done where the reader goes on
 pub record IsSoFar (HasRead : List Line → List ℕ → Type 0) (IsText : List ℕ → List ℕ → Verdict → Type 0) (goes : Bool) (text : List ℕ)
     (told : List Line) (written : List ℕ) : Type 0 where
   pub read : HasRead told written
   pub begins : (input : List ℕ) → HasLines goes told input → (end : List ℕ) × (verdict : Verdict) × IsText input (written ++ (text ++ end)) verdict
+      × (goes ≡ true → verdict ≡ Done)
 
 -- an input was read, to its end or to where the reader stopped, and of what is to be written this much was written
 pub record HasReadInput (HasRead : List Line → List ℕ → Type 0) (IsText : List ℕ → List ℕ → Verdict → Type 0) (goes : Bool) (text : List ℕ)

@@ -3,6 +3,7 @@ ghost use Rattle.std.specs.Prelude.{◌≡◌, ◌+◌, ◌≤◌, ◌^◌, ◌+
 ghost use Rattle.std.specs.Io.KnownBytes.{Appends};
 ghost use Rattle.j39_id.specs.Lines.{Line, behind_all, told};
 ghost use Rattle.j39_stream.specs.Commands.{AnswersInPieces};
+ghost use Rattle.j39_stream.specs.Intakes.{EndsWithItsPiece};
 ghost use Rattle.j39_stream.specs.LineReading.{AreTextsOf, HasReadInput, IsCutOff, IsSoFar};
 
 use crate::{Fault, Intake, Limits, LineReader, PIECE_BYTES, Sink, Source, Verdict};
@@ -47,6 +48,7 @@ fn read_all<R: LineReader, S: Source, W: Sink>(
     requires bytes { limits.bytes ≤ 2 ^ 62 }
     ensures read { OnOk result (HasReadInput (R.has_read reader.new) (R.is_text reader.new) (R.goes reader.new) (R.text reader.new) limits
         (S.state source.old) (S.state source.new) (W.state sink.old) (W.state sink.new)) }
+    ensures pieces { OnOk result (EndsWithItsPiece (R.is_text reader.old) (S.state source.old).left (S.state source.new).left) }
     ensures texts { OnOk result (AreTextsOf (R.is_text reader.new) (R.is_text reader.old)) }
     ensures cut { IfErr result (IsCutOff (R.is_text reader.old) limits (S.state source.old) (S.state source.new) (W.state sink.old)
         (W.state sink.new)) }

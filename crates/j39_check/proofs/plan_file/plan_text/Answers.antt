@@ -1,4 +1,4 @@
-use Rattle.std.proofs.Common.{rules, List, ℕ, [], Some, Err}
+use Rattle.std.proofs.Common.{rules, List, ℕ, [], Some, Err, refl}
 use Rattle.j39_stream.proofs.Answering.{answered, not_read, read_and_put}
 use Rattle.j39_stream.proofs.Parts.{none_taken}
 use Rattle.j39_plan.specs.Described.{Reads, tree_of}
@@ -12,7 +12,7 @@ returns-in_err-input-clause-answers g c =
 pub returns-in-Ok-clause-answers : goal.returns-in-Ok-clause-answers
 returns-in-Ok-clause-answers g c =
     let read = c.in_ok-input.ensures.whole in
-    answered c.in_ok-input.input.items [] (Some c.in-Ok.plan) read.0 read.1 c.in_ok-input.ensures.limits (search rules) (none_taken _)
+    answered c.in_ok-input.input.items [] (Some c.in-Ok.plan) read.0 read.1 c.in_ok-input.ensures.limits (search rules) (none_taken _) (c.in_ok-input.ensures.calm (λ e. cc e), refl)
 
 pub returns-clause-answers : goal.returns-clause-answers
 returns-clause-answers g c =
@@ -21,4 +21,4 @@ returns-clause-answers g c =
     let reads : Reads (Err c.in-Err.error) (tree_of input) = rw c.as_slice.ensures.value at c.in-Err.ensures.reads in
     read_and_put input
     (λ text plan is. let refused : IsRefusedText input text = (c.in-Err.error, reads, is.0) in (rw is.1 refused, refused))
-    c.refuse.result read.0 read.1 c.in_ok-input.ensures.limits c.refuse.ensures
+    c.refuse.result read.0 read.1 c.in_ok-input.ensures.limits (c.in_ok-input.ensures.calm (λ e. cc e)) c.refuse.ensures

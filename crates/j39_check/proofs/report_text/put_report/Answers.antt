@@ -9,4 +9,4 @@ pub returns-in_err-put_all : goal.returns-in_err-put_all
 returns-in_err-put_all g c = part_put c.in_ok-text.text c.in_ok-text.verdict (search rules) (search rules) _ (search rules) (search rules)
 
 pub returns : goal.returns
-returns g c = all_put c.in_ok-text.text c.in_ok-text.verdict (search rules) (search rules)
+returns g c = all_put c.in_ok-text.text c.in_ok-text.verdict (search rules) (search rules) (search rules)

@@ -11,6 +11,12 @@ returns-clause-answers g c =
     omega (arith, c.loop-unit.invariant, c.loop-unit.auto.unit-index-end, c.loop-unit-test.false, ap length c.deref-unit-items.ensures.value) in
     rw count at c.run_text.ensures.answers
 
+pub returns-clause-unread : goal.returns-clause-unread
+returns-clause-unread g c =
+    let count : length c.loop-unit.choosers.items ≡ length c.args.plan.now.units.items =
+    omega (arith, c.loop-unit.invariant, c.loop-unit.auto.unit-index-end, c.loop-unit-test.false, ap length c.deref-unit-items.ensures.value) in
+    rw count at c.run_text.ensures.unread
+
 pub returns-clause-whole : goal.returns-clause-whole
 returns-clause-whole g c =
     let count : length c.loop-unit.choosers.items ≡ length c.args.plan.now.units.items =

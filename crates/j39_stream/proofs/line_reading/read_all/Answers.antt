@@ -1,13 +1,13 @@
-use Rattle.std.proofs.Common.{rules, ◌<◌, ℕ, List, [], ◌++◌, length, take, inl, inr, refl, sym, ap, ◌∙◌, subst, arith}
+use Rattle.std.proofs.Common.{rules, ◌≡◌, ◌<◌, ◌≤◌, min, ℕ, List, Option, [], ◌++◌, length, take, inl, inr, refl, sym, ap, ◌∙◌, subst, arith}
 use Rattle.std.specs.Io.KnownBytes.{Consumes}
 use Rattle.std.proofs.KnownBytes.{Appends-trans}
-use Rattle.std.proofs.lemmas.List.{append-nil, length-append}
+use Rattle.std.proofs.lemmas.List.{append-nil, length-append, length-take}
 use Rattle.j39_id.specs.Lines.{at_start, behind_all, told}
 use Rattle.j39_id.proofs.CutLines.{behind_all-append}
-use Rattle.j39_stream.specs.Intakes.{Counts}
+use Rattle.j39_stream.specs.Intakes.{Counts, piece_bytes}
 use Rattle.j39_stream.specs.declared.limits.Limits.{Limits}
 use Rattle.j39_stream.proofs.Parts.{none_read, none_taken}
-use Rattle.j39_stream.proofs.LineReading.{cut_short, more_seen, read_to_end, read_to_stop}
+use Rattle.j39_stream.proofs.LineReading.{cut_short, more_seen, one_piece, read_to_end, read_to_stop}
 use Rattle.j39_stream.proofs.line_reading.read_all.Goals as goal
 
 pub loop-cutter-init : goal.loop-cutter-init
@@ -31,6 +31,7 @@ loop-cutter-init g c =
       so_far = c.requires.begins;
       texts = λ input text verdict is. is;
       count = c.requires.count;
+      pieces = inl (none_read (g.S.Source.state c.args.source.now).left);
       taken = none_taken (g.W.Sink.state c.args.sink.now).taken;
       source = refl;
       sink = refl;
@@ -109,6 +110,9 @@ loop-cutter-preserved g c =
     let calls = ap (λ (l : Limits). l.calls) next.limits_are in
     let most = c.in_ok-count.ensures.fewer.1 in
     let text : List ℕ = g.R.LineReader.text c.read_piece.new.reader in
+    let cut : length part ≡ min c.in_ok-count.count (length c.pull.new.piece) = length-take c.in_ok-count.count c.pull.new.piece in
+    let few : c.in_ok-count.count ≤ piece_bytes = search rules in
+    let within : length part ≤ piece_bytes = omega (arith, cut, few) in
     record {
       seen = before.seen ++ part;
       written = before.written ++ text;
@@ -120,6 +124,8 @@ loop-cutter-preserved g c =
           before.texts input t verdict (c.in_ok-read_piece.ensures.texts input t verdict (c.in_ok-put.ensures.texts input t verdict is));
       count = c.in_ok-put.ensures.count (length (before.seen ++ part))
           (subst (g.R.LineReader.within c.read_piece.new.reader) (sym len) (c.in_ok-read_piece.ensures.count (length before.seen) before.count));
+      pieces = one_piece before.texts (g.S.Source.state c.args.source.now).left (g.S.Source.state c.pull.new.source).left before.seen part before.written
+          (sym c.goes_on.ensures ∙ c.loop-cutter-test.true) before.so_far next.consumed within;
       taken = Appends-trans _ _ _ before.written text before.taken c.in_ok-put.ensures.ok;
       source = c.in_ok-count.ensures.calm (λ e. cc e) ∙ before.source;
       sink = c.in_ok-put.ensures.whole ∙ before.sink;
@@ -141,6 +147,15 @@ returns-in_err-put-clause-cut g c =
     (λ e. inr (rw (← before.sink) c.in_err-put.ensures.device.1))
     (before.seen ++ part) [] text before.written text [] (g.W.Sink.state c.loop-cutter.sink).taken
     so read (sym (append-nil text)) before.taken c.in_err-put.ensures.cut
+
+pub returns-then-count-eq0-clause-pieces : goal.returns-then-count-eq0-clause-pieces
+returns-then-count-eq0-clause-pieces g c =
+    let before = c.loop-cutter.invariant in
+    let last = c.in_ok-count.ensures.last c.args.limits (g.S.Source.state c.args.source.now) before.seen before.read c.if-count-eq0.true in
+    let left : Option (List ℕ) = (g.S.Source.state c.args.source.now).left in
+    let read = subst (Consumes left (g.S.Source.state c.pull.new.source).left) (sym (append-nil before.seen)) last.0 in
+    one_piece before.texts left (g.S.Source.state c.pull.new.source).left before.seen [] before.written
+    (sym c.goes_on.ensures ∙ c.loop-cutter-test.true) before.so_far read (omega arith)
 
 pub returns-clause-read : goal.returns-clause-read
 returns-clause-read g c =

@@ -1,7 +1,7 @@
 use Rattle.std.proofs.Common.{◌≡◌, ◌-◌, ◌≤◌, ℕ, List, length}
 use Rattle.std.specs.Io.KnownBytes.{Appends}
 use Rattle.j39_id.specs.Lines.{at_start, behind_all, told}
-use Rattle.j39_stream.specs.Intakes.{HasRead}
+use Rattle.j39_stream.specs.Intakes.{EndsWithItsPiece, HasRead}
 use Rattle.j39_stream.specs.LineReading.{AreTextsOf, IsSoFar}
 use Rattle.j39_stream.proofs.line_reading.read_all.Given as goal
 
@@ -17,6 +17,7 @@ invariant-loop-cutter g l =
       so_far : IsSoFar (r.has_read l.reader) (r.is_text l.reader) (r.goes l.reader) (r.text l.reader) (told at_start seen) written;
       texts : AreTextsOf (r.is_text l.reader) (r.is_text l.fn.reader);
       count : r.within l.reader (length seen);
+      pieces : EndsWithItsPiece (r.is_text l.fn.reader) (g.S.Source.state l.fn.source).left (g.S.Source.state l.source).left;
       taken : Appends (g.W.Sink.state l.fn.sink).taken (g.W.Sink.state l.sink).taken written;
       source : (g.S.Source.state l.source).failures ≡ (g.S.Source.state l.fn.source).failures;
       sink : (g.W.Sink.state l.sink).failures ≡ (g.W.Sink.state l.fn.sink).failures;

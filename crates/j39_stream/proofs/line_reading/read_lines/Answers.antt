@@ -19,7 +19,8 @@ returns-in_err-put-clause-answers g c =
 pub returns-clause-answers : goal.returns-clause-answers
 returns-clause-answers g c =
     all_written c.in_ok-read_all.ensures.texts c.in_ok-read_all.ensures.read (g.R.LineReader.text c.close.new.self) c.in_ok-verdict.verdict
-    c.in_ok-verdict.ensures.text g.W.Sink.state c.args.sink.now c.put.new.sink refl c.in_ok-verdict.ensures.done c.in_ok-put.ensures.ok
+    c.in_ok-verdict.ensures.text g.W.Sink.state c.args.sink.now c.put.new.sink refl c.in_ok-verdict.ensures.done c.in_ok-read_all.ensures.pieces
+    c.in_ok-put.ensures.ok c.in_ok-put.ensures.whole
 
 pub returns-clause-whole : goal.returns-clause-whole
 returns-clause-whole g c =

@@ -9,4 +9,4 @@ pub returns-in_err-put_all-clause-puts : goal.returns-in_err-put_all-clause-puts
 returns-in_err-put_all-clause-puts g c = part_put c.in_ok-text.text c.in_ok-text.verdict (search rules) (search rules) _ (search rules) (search rules)
 
 pub returns-clause-puts : goal.returns-clause-puts
-returns-clause-puts g c = all_put c.in_ok-text.text c.in_ok-text.verdict (search rules) (search rules)
+returns-clause-puts g c = all_put c.in_ok-text.text c.in_ok-text.verdict (search rules) (search rules) (search rules)

@@ -15,4 +15,4 @@ returns g c =
     let line : c.first_line.result.now ≡ before_first is_line_feed input = c.first_line.ensures ∙ ap (before_first is_line_feed) c.as_slice.ensures.value in
     let read = c.in_ok-input.ensures.whole in
     read_and_put input (λ text verdict is. let here = subst (λ (xs : List ℕ). IsFrameText xs text verdict) line is in (here, (verdict, here)))
-    c.frame_text.result read.0 read.1 c.in_ok-input.ensures.limits c.frame_text.ensures.puts
+    c.frame_text.result read.0 read.1 c.in_ok-input.ensures.limits (c.in_ok-input.ensures.calm (λ e. cc e)) c.frame_text.ensures.puts
