@@ -16,6 +16,7 @@ use Rattle.j39_id.specs.declared.frame.Frame.{Frame}
 use Rattle.j39_tp.specs.Sender as sender
 use Rattle.j39_tp.specs.Receiver as receiver
 use Rattle.j39_tp.specs.declared.packet.Packet.{Packet}
+use Rattle.j39_tp.specs.declared.packet.Packet.TheVariants.{Rts, Cts, EndAck, Bam, Abort, Dt}
 use Rattle.j39_tp.specs.declared.receiving.manner.Manner.TheVariants.{Answering}
 use Rattle.j39_claim.specs.declared.item.Item.{Item}
 use Rattle.j39_claim.specs.declared.item.Item.TheVariants.{Told, Request}
@@ -52,7 +53,7 @@ use Rattle.j39_laws.proofs.Runs.Units.{in_units, names_differ}
 use Rattle.j39_laws.proofs.Addresses.CleanUnits.{names_in_range}
 use Rattle.j39_follow.specs.Holders.{HoldsByFrames}
 use Rattle.j39_follow.specs.Who.{unit_of_name}
-use Rattle.j39_traces.specs.Between.{GoesToHolder, IsKnownAt, FlowGoes, IsSentBehind, IsSentBy, MessagesGoBetweenHolders, SendsTo, tells_of_addresses}
+use Rattle.j39_traces.specs.Between.{GoesToHolder, IsKnownAt, FlowGoes, IsOfStep, IsSentBehind, IsSentBy, IsTransport, MessagesGoBetweenHolders, SendsTo, tells_of_addresses}
 use Rattle.j39_traces.specs.Telling.{HaveOwnNumbers}
 use Rattle.j39_traces.proofs.Ends.{HasEnds, IsForHolding, IsHolding, all_ends, begun_ends, ends_of}
 use Rattle.j39_traces.proofs.Identifiers.{IsOther, carries_none, sent_as}
@@ -100,27 +101,43 @@ named plan distinct u unit =
 
 -- ---- frames of messages
 
-pub record IsMessageFrame (destination source : ℕ) (x : Sent) : Type 0 where
+pub record IsMessageFrame (IsGroup : ℕ → Type 0) (destination source : ℕ) (x : Sent) : Type 0 where
   pub priority : ℕ
   pub pgn : ℕ
+  pub group : IsGroup pgn
   pub other : IsOther pgn
   pub number : x.identifier ≡ identifier_of priority pgn destination source
 
-packet_is : (d s : ℕ) (p : Packet) → IsMessageFrame d s (packet_frame d s p)
-packet_is d s p = record { priority = 7; pgn = group_of p; other = packet_group p; number = refl }
+transports : (p : Packet) → IsTransport (group_of p)
+transports (Rts size limit pgn) = inl refl
+transports (Cts count first pgn) = inl refl
+transports (EndAck size pgn) = inl refl
+transports (Bam size pgn) = inl refl
+transports (Abort reason pgn) = inl refl
+transports (Dt number chunk) = inr refl
 
-short_is : (d s : ℕ) (flow : Flow) (bytes : List ℕ) → IsOther flow.pgn → IsMessageFrame d s (short_frame d s flow bytes)
-short_is d s flow bytes other = record { priority = flow.priority; pgn = flow.pgn; other = other; number = refl }
+packet_is : (d s : ℕ) (p : Packet) → IsMessageFrame IsTransport d s (packet_frame d s p)
+packet_is d s p = record { priority = 7; pgn = group_of p; group = transports p; other = packet_group p; number = refl }
 
-packets_are : (d s : ℕ) (ps : List Packet) → AllByRecursion (IsMessageFrame d s) (map (packet_frame d s) ps)
+packets_are : (d s : ℕ) (ps : List Packet) → AllByRecursion (IsMessageFrame IsTransport d s) (map (packet_frame d s) ps)
 packets_are d s [] = tt
 packets_are d s (p ∷ ps) = (packet_is d s p, packets_are d s ps)
 
-module _ (d s : ℕ) (less_d : d < 256) (less_s : s < 256) where
-  silent_message : (f : Frame) → IsMessageFrame d s (sent_of f) → TellsNothing f
+-- the first frame of a flow's message
+abbrev IsFirst : Flow → ℕ → Type 0
+IsFirst flow pgn = (pgn ≡ flow.pgn) ⊎ IsTransport pgn
+
+short_is : (d s : ℕ) (flow : Flow) (bytes : List ℕ) → IsOther flow.pgn → IsMessageFrame (IsFirst flow) d s (short_frame d s flow bytes)
+short_is d s flow bytes other = record { priority = flow.priority; pgn = flow.pgn; group = inl refl; other = other; number = refl }
+
+announcement_is : (d s : ℕ) (flow : Flow) (p : Packet) → IsMessageFrame (IsFirst flow) d s (packet_frame d s p)
+announcement_is d s flow p = record { priority = 7; pgn = group_of p; group = inr (transports p); other = packet_group p; number = refl }
+
+module _ {IsGroup : ℕ → Type 0} (d s : ℕ) (less_d : d < 256) (less_s : s < 256) where
+  silent_message : (f : Frame) → IsMessageFrame IsGroup d s (sent_of f) → TellsNothing f
   silent_message f m = tells_nothing f (carries_none f m.priority m.pgn d s m.other less_d less_s m.number)
 
-  silent_messages : (fs : List Frame) → AllByRecursion (IsMessageFrame d s) (map sent_of fs) → AllByRecursion TellsNothing fs
+  silent_messages : (fs : List Frame) → AllByRecursion (IsMessageFrame IsGroup d s) (map sent_of fs) → AllByRecursion TellsNothing fs
   silent_messages [] all = tt
   silent_messages (f ∷ fs) all = (silent_message f all.0, silent_messages fs all.1)
 
@@ -165,23 +182,23 @@ module _ (plan : Plan) (distinct : AreNamesDistinct (units_of plan)) (own : Have
         told = (name u, then, named plan distinct u (told.standing.0 u on));
       })
 
-  between : AllHeard → (u : ℕ) (to : To) → IsHolding w.stations u → IsForHolding w.stations to
+  between : (IsGroup : ℕ → Type 0) → AllHeard → (u : ℕ) (to : To) → IsHolding w.stations u → IsForHolding w.stations to
       → (log : List Frame) (f : Frame) (earlier later : List Sent) → map sent_of log ≡ w.frames ++ earlier
-      → AllByRecursion (IsMessageFrame (destination_of w.stations to) (address_of w.stations u)) (earlier ++ sent_of f ∷ later)
-      → IsKnownAt plan w (log ++ f ∷ []) u f.ident.sa × GoesToHolder plan w (log ++ f ∷ []) to f.ident
-  between heard u to holding for log f earlier later e all =
+      → AllByRecursion (IsMessageFrame IsGroup (destination_of w.stations to) (address_of w.stations u)) (earlier ++ sent_of f ∷ later)
+      → IsGroup (pgn_of f.ident) × IsKnownAt plan w (log ++ f ∷ []) u f.ident.sa × GoesToHolder plan w (log ++ f ∷ []) to f.ident
+  between IsGroup heard u to holding for log f earlier later e all =
       let d : ℕ = destination_of w.stations to in
       let s : ℕ = address_of w.stations u in
-      let parts = all_parts (IsMessageFrame d s) earlier (sent_of f) later all in
+      let parts = all_parts (IsMessageFrame IsGroup d s) earlier (sent_of f) later all in
       let m = parts.1 in
       let i = sent_as f.ident m.priority m.pgn d s m.other (destination_below to) (below u) m.number in
       let silent : (more : List Frame) → map sent_of more ≡ earlier → AllByRecursion TellsNothing (more ++ f ∷ []) =
       λ more is. all_last TellsNothing more f
-      (silent_messages d s (destination_below to) (below u) more (subst (AllByRecursion (IsMessageFrame d s)) (sym is) parts.0))
-      (silent_message d s (destination_below to) (below u) f m) in
+      (silent_messages {IsGroup} d s (destination_below to) (below u) more (subst (AllByRecursion (IsMessageFrame IsGroup d s)) (sym is) parts.0))
+      (silent_message {IsGroup} d s (destination_below to) (below u) f m) in
       let source : IsKnownAt plan w (log ++ f ∷ []) u f.ident.sa =
       subst (IsKnownAt plan w (log ++ f ∷ []) u) (sym i.source_is) (is_at heard u holding log f earlier e silent) in
-      (source, goes m.pgn i.undirected to for i.directed silent)
+      (subst IsGroup (sym i.group_is) m.group, source, goes m.pgn i.undirected to for i.directed silent)
     where
       goes : (pgn : ℕ) → (is_pdu2 pgn ≡ true → is_pdu2 (pgn_of f.ident) ≡ true) → (x : To) → IsForHolding w.stations x
           → (is_pdu2 pgn ≡ false → f.ident.ps ≡ destination_of w.stations x)
@@ -213,12 +230,12 @@ module _ (plan : Plan) (distinct : AreNamesDistinct (units_of plan)) (own : Have
         (all_parts (λ (x : Sent). ⊥) sent.earlier (sent_of f) sent.later (all_of (λ (x : Sent). ⊥) (subst (AllByRecursion (λ (x : Sent). ⊥)) (sym none) tt))).1
 
     -- a message's
-    goes_between : AllHeard → (u : ℕ) (to : To) → IsHolding w.stations u → IsForHolding w.stations to
-        → AllByRecursion (IsMessageFrame (destination_of w.stations to) (address_of w.stations u)) added
-        → IsKnownAt plan w (log ++ f ∷ []) u f.ident.sa × GoesToHolder plan w (log ++ f ∷ []) to f.ident
-    goes_between heard u to holding for all =
-        between heard u to holding for log f sent.earlier sent.later sent.log_is
-        (all_of (IsMessageFrame (destination_of w.stations to) (address_of w.stations u)) all)
+    goes_between : (IsGroup : ℕ → Type 0) → AllHeard → (u : ℕ) (to : To) → IsHolding w.stations u → IsForHolding w.stations to
+        → AllByRecursion (IsMessageFrame IsGroup (destination_of w.stations to) (address_of w.stations u)) added
+        → IsGroup (pgn_of f.ident) × IsKnownAt plan w (log ++ f ∷ []) u f.ident.sa × GoesToHolder plan w (log ++ f ∷ []) to f.ident
+    goes_between IsGroup heard u to holding for all =
+        between IsGroup heard u to holding for log f sent.earlier sent.later sent.log_is
+        (all_of (IsMessageFrame IsGroup (destination_of w.stations to) (address_of w.stations u)) all)
 
   -- a unit's that tells of addresses
   module _ (u : ℕ) (unit : is_unit plan u ≡ true) (held : Option ℕ) (source : source_of held < 256) (items : List Item)
@@ -240,7 +257,8 @@ module _ (plan : Plan) (distinct : AreNamesDistinct (units_of plan)) (own : Have
 
   abbrev Goes : Step → World → Type 0
   Goes step after = (log : List Frame) (f : Frame) → IsSentBehind w after log f → tells_of_addresses f ≡ false
-      → (u : ℕ) × (to : To) × IsSentBy plan w step u to × IsKnownAt plan w (log ++ f ∷ []) u f.ident.sa × GoesToHolder plan w (log ++ f ∷ []) to f.ident
+      → (u : ℕ) × (to : To) × IsSentBy plan w step u to × IsOfStep plan step f.ident × IsKnownAt plan w (log ++ f ∷ []) u f.ident.sa
+      × GoesToHolder plan w (log ++ f ∷ []) to f.ident
 
   same_frames : (step : Step) (after : World) → after.frames ≡ w.frames → Goes step after
   same_frames step after is log f sent other = absurd (none_sent after log f sent [] (is ∙ sym (append-nil w.frames)) refl)
@@ -295,7 +313,8 @@ module _ (plan : Plan) (distinct : AreNamesDistinct (units_of plan)) (own : Have
 
   begin : (k : ℕ) (bytes : List ℕ) (o : Option Flow) → slice_get (flows_of plan) k ≡ o → begin_refusal (count_of plan) w o bytes ≡ None
       → (after : World) → BeginsAt (count_of plan) w k o bytes after → (log : List Frame) (f : Frame) → IsSentBehind w after log f
-      → (flow : Flow) × (o ≡ Some flow) × IsKnownAt plan w (log ++ f ∷ []) flow.sender f.ident.sa × GoesToHolder plan w (log ++ f ∷ []) flow.to f.ident
+      → (flow : Flow) × (o ≡ Some flow) × IsFirst flow (pgn_of f.ident) × IsKnownAt plan w (log ++ f ∷ []) flow.sender f.ident.sa
+      × GoesToHolder plan w (log ++ f ∷ []) flow.to f.ident
   begin k bytes None is allowed after never log f sent = absurd never
   begin k bytes (Some flow) is allowed after e log f sent =
       let d : ℕ = destination_of w.stations flow.to in
@@ -304,30 +323,30 @@ module _ (plan : Plan) (distinct : AreNamesDistinct (units_of plan)) (own : Have
       let (sendable, (on, (heard, rest))) = none_hold (begin_refusals (count_of plan) w (Some flow) bytes) allowed in
       let order = ends.kept.kept.transfers.order in
       let hold = begun_ends plan w flow bytes allowed in
-      let of : IsMessageFrame d s (first_frame w.stations flow bytes) =
+      let of : IsMessageFrame (IsFirst flow) d s (first_frame w.stations flow bytes) =
       cond_both (is_short (length bytes)) (short_frame d s flow bytes) (packet_frame d s (sender.announcement (dest_of flow.to) flow.pgn (length bytes)))
-      (IsMessageFrame d s) (λ _. short_is d s flow bytes other) (λ _. packet_is d s _) in
-      let goes = goes_between after log f sent (first_frame w.stations flow bytes ∷ []) (ap (λ (x : World). x.frames) e)
+      (IsMessageFrame (IsFirst flow) d s) (λ _. short_is d s flow bytes other) (λ _. announcement_is d s flow _) in
+      let goes = goes_between after log f sent (first_frame w.stations flow bytes ∷ []) (ap (λ (x : World). x.frames) e) (IsFirst flow)
       (all_delivered plan w.stations w.claims w.sessions order (not-false _ heard)) flow.sender flow.to hold.0 hold.1 (of, tt) in
-      (flow, refl, goes.0, goes.1)
+      (flow, refl, goes.0, goes.1, goes.2)
 
   -- a sender goes on
   goes_on : (u : ℕ) (s : Outgoing) (p : Packet) → w.sessions u ≡ Some s → (after : World)
       → after.frames ≡ w.frames ++ packet_frame (destination_of w.stations s.to) (address_of w.stations u) p ∷ []
       → (log : List Frame) (f : Frame) → IsSentBehind w after log f
-      → IsKnownAt plan w (log ++ f ∷ []) u f.ident.sa × GoesToHolder plan w (log ++ f ∷ []) s.to f.ident
+      → IsTransport (pgn_of f.ident) × IsKnownAt plan w (log ++ f ∷ []) u f.ident.sa × GoesToHolder plan w (log ++ f ∷ []) s.to f.ident
   goes_on u s p is after frames log f sent =
       let e = ends_of plan w ends u s is in
-      goes_between after log f sent (packet_frame (destination_of w.stations s.to) (address_of w.stations u) p ∷ []) frames
+      goes_between after log f sent (packet_frame (destination_of w.stations s.to) (address_of w.stations u) p ∷ []) frames IsTransport
       (heard_while u s is) u s.to e.0 e.1 (packet_is _ _ p, tt)
 
   -- v answers u
   answers_go : (u v : ℕ) → AllHeard × IsHolding w.stations u × IsHolding w.stations v → (ps : List Packet) (after : World)
       → after.frames ≡ w.frames ++ map (packet_frame (address_of w.stations u) (address_of w.stations v)) ps
       → (log : List Frame) (f : Frame) → IsSentBehind w after log f
-      → IsKnownAt plan w (log ++ f ∷ []) v f.ident.sa × GoesToHolder plan w (log ++ f ∷ []) (One u) f.ident
+      → IsTransport (pgn_of f.ident) × IsKnownAt plan w (log ++ f ∷ []) v f.ident.sa × GoesToHolder plan w (log ++ f ∷ []) (One u) f.ident
   answers_go u v hold ps after frames log f sent =
-      goes_between after log f sent (map (packet_frame (address_of w.stations u) (address_of w.stations v)) ps) frames
+      goes_between after log f sent (map (packet_frame (address_of w.stations u) (address_of w.stations v)) ps) frames IsTransport
       hold.0 v (One u) hold.2 hold.1 (packets_are _ _ ps)
 
   take : (u v : ℕ) (list : List Wired) → w.wire u v ≡ list → (after : World) → TakenFrom (windows_of plan) w u v list after → Goes (Take u v) after
@@ -343,11 +362,11 @@ module _ (plan : Plan) (distinct : AreNamesDistinct (units_of plan)) (own : Have
             (ap (map (packet_frame (address_of w.stations u) (address_of w.stations v))) none))
         | inr (inl sends) ↦
             let goes = answers_go u v (both_hold u v sends) ps after frames log f sent in
-            (v, One u, (refl, refl, inl (of_flow u (One v) sends)), goes.0, goes.1)
+            (v, One u, (refl, refl, inl (of_flow u (One v) sends)), goes.0, goes.1, goes.2)
         | inr (inr sends) ↦
             let b = both_hold v u sends in
             let goes = answers_go u v (b.0, b.2, b.1) ps after frames log f sent in
-            (v, One u, (refl, refl, inr (of_flow v (One u) sends)), goes.0, goes.1)
+            (v, One u, (refl, refl, inr (of_flow v (One u) sends)), goes.0, goes.1, goes.2)
       ]
 
   late_receiver : (u v : ℕ) (after : World) → StepsTo plan w (LateReceiver u v) after → Goes (LateReceiver u v) after
@@ -360,7 +379,7 @@ module _ (plan : Plan) (distinct : AreNamesDistinct (units_of plan)) (own : Have
             (ap (map (packet_frame (address_of w.stations u) (address_of w.stations v))) none))
         | inr sends ↦
             let goes = answers_go u v (both_hold u v sends) ps after frames log f sent in
-            (v, One u, (refl, refl, of_flow u (One v) sends), goes.0, goes.1)
+            (v, One u, (refl, refl, of_flow u (One v) sends), goes.0, goes.1, goes.2)
       ]
 
   lose : (u v : ℕ) (list : List Wired) (after : World) → LostFrom w u v list after → Goes (Lose u v) after
@@ -375,16 +394,16 @@ module _ (plan : Plan) (distinct : AreNamesDistinct (units_of plan)) (own : Have
       give u v (units_known plan u v known).1 (w.claims u v) after leads
   step_goes (Ask u) allowed after e = ask u allowed after e
   step_goes (Begin k bytes) allowed after leads = λ log f sent other.
-      let (flow, is, source, goes) = begin k bytes.items (slice_get (flows_of plan) k) refl allowed after leads log f sent in
-      (flow.sender, flow.to, (flow, is, refl, refl), source, goes)
+      let (flow, is, group, source, goes) = begin k bytes.items (slice_get (flows_of plan) k) refl allowed after leads log f sent in
+      (flow.sender, flow.to, (flow, is, refl, refl), elim group [ inl its ↦ inl (flow, is, its) | inr transport ↦ inr transport ], source, goes)
   step_goes (Emit u) allowed after (s, p, session, next, e) = λ log f sent other.
       let goes = goes_on u s p session after (ap (λ (x : World). x.frames) e) log f sent in
-      (u, s.to, (refl, of_flow u s.to (s, session, refl)), goes.0, goes.1)
+      (u, s.to, (refl, of_flow u s.to (s, session, refl)), goes.0, goes.1, goes.2)
   step_goes (Take u v) allowed after leads = take u v (w.wire u v) refl after leads
   step_goes (Lose u v) allowed after leads = lose u v (w.wire u v) after leads
   step_goes (LateSender u) allowed after (s, p, session, packet, e) = λ log f sent other.
       let goes = goes_on u s p session after (ap (λ (x : World). x.frames) e) log f sent in
-      (u, s.to, (refl, of_flow u s.to (s, session, refl)), goes.0, goes.1)
+      (u, s.to, (refl, of_flow u s.to (s, session, refl)), goes.0, goes.1, goes.2)
   step_goes (LateReceiver u v) allowed after e = late_receiver u v after e
   step_goes (Rest u) allowed after e = same_frames (Rest u) after (ap (λ (x : World). x.frames) e)
 
@@ -393,7 +412,8 @@ module _ (plan : Plan) (distinct : AreNamesDistinct (units_of plan)) (own : Have
       elim (refusal plan w step)
       as (λ (o : Option StepError). refusal plan w step ≡ o → MatchBool (is_some o) (after ≡ w) (StepsTo plan w step after)
       → IsSentBehind w after log f → tells_of_addresses f ≡ false
-      → (u : ℕ) × (to : To) × IsSentBy plan w step u to × IsKnownAt plan w (log ++ f ∷ []) u f.ident.sa × GoesToHolder plan w (log ++ f ∷ []) to f.ident) [
+      → (u : ℕ) × (to : To) × IsSentBy plan w step u to × IsOfStep plan step f.ident × IsKnownAt plan w (log ++ f ∷ []) u f.ident.sa
+      × GoesToHolder plan w (log ++ f ∷ []) to f.ident) [
         | Some e ↦ λ _ same. same_frames step after (ap (λ (x : World). x.frames) same) log f
         | None ↦ λ allowed leads. step_goes step allowed after leads log f
       ] refl follows

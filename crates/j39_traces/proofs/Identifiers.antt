@@ -1,7 +1,7 @@
 -- What an identifier that a world sends is, and whether its frame carries a NAME.
 use Rattle.std.proofs.Common.{◌≡◌, ◌≢◌, ℕ, ◌+◌, ◌*◌, ◌/◌, ◌%◌, ◌^◌, ◌<◌, ◌≤◌, ◌==◌, ◌&&◌, ◌||◌, nat_le, Bool, true, false, if◌then◌else◌, length}
 use Rattle.std.proofs.Common.{inl, inr, refl, sym, ap, ◌∙◌, arith, eqb-true}
-use Rattle.std.proofs.lemmas.Bool.{and_parts, cases_Bool, false_from_ne_true, le-leb, leb-true, ltb-true, or_cases, true≢false}
+use Rattle.std.proofs.lemmas.Bool.{and_parts, cases_Bool, false_from_ne_true, lt-leb, le-leb, leb-false, leb-true, ltb-true, or_cases, true≢false}
 use Rattle.j39_id.specs.Ident.{bits, identifier_of, pgn_of}
 use Rattle.j39_id.specs.Pgn.{is_pdu2, is_pgn, pf_of}
 use Rattle.j39_id.specs.Services.{address_claimed, is_service, request}
@@ -99,15 +99,22 @@ planned_other pgn valid own =
 
 pub record IsSentAs (i : Ident) (pgn destination source : ℕ) : Type 0 where
   pub source_is : i.sa ≡ source
+  pub group_is : pgn_of i ≡ pgn
   -- it names no destination, or this one
   pub undirected : is_pdu2 pgn ≡ true → is_pdu2 (pgn_of i) ≡ true
   pub directed : is_pdu2 pgn ≡ false → i.ps ≡ destination
 
+-- the number of a group, with the byte behind its format or without it
+number_above : (i : Ident) → 240 ≤ i.pf → pgn_of i ≡ i.edp * 131072 + i.dp * 65536 + i.pf * 256 + i.ps
+number_above i above = ap (λ (x : Bool). i.edp * 131072 + i.dp * 65536 + i.pf * 256 + (if x then i.ps else 0)) (le-leb 240 i.pf above)
+
+number_below : (i : Ident) → i.pf < 240 → pgn_of i ≡ i.edp * 131072 + i.dp * 65536 + i.pf * 256 + 0
+number_below i below = ap (λ (x : Bool). i.edp * 131072 + i.dp * 65536 + i.pf * 256 + (if x then i.ps else 0)) (lt-leb 240 i.pf below)
+
 pdu2_of : (i : Ident) → 240 ≤ i.pf → is_pdu2 (pgn_of i) ≡ true
 pdu2_of i above =
     let b = i.edp_range in let c = i.dp_range in let d = i.pf_range in let f = i.ps_range in
-    let number : pgn_of i ≡ i.edp * 131072 + i.dp * 65536 + i.pf * 256 + i.ps =
-    ap (λ (x : Bool). i.edp * 131072 + i.dp * 65536 + i.pf * 256 + (if x then i.ps else 0)) (le-leb 240 i.pf above) in
+    let number = number_above i above in
     le-leb 240 (pf_of (pgn_of i)) (omega (arith, number, above))
 
 pub sent_as : (i : Ident) (priority pgn destination source : ℕ) → IsOther pgn → destination < 256 → source < 256
@@ -119,6 +126,17 @@ sent_as i priority pgn destination source other d s number =
       source_is = elim (cases_Bool (is_pdu2 pgn)) [
         | inl two ↦ (let sum = of_two two in omega (arith, sum, s))
         | inr one ↦ (let sum = of_one one in omega (arith, sum, s))
+      ];
+      group_is = elim (cases_Bool (is_pdu2 pgn)) [
+        | inl two ↦
+            (let sum = of_two two in
+            let above : 240 ≤ pgn / 256 % 256 = leb-true 240 (pf_of pgn) two in
+            number_above i (omega (arith, sum, above, s, range)) ∙ omega (arith, sum, above, s, range))
+        | inr one ↦
+            (let sum = of_one one in
+            let low = other.low one in
+            let below : pgn / 256 % 256 < 240 = leb-false 240 (pf_of pgn) one in
+            number_below i (omega (arith, sum, low, below, s, d, range)) ∙ omega (arith, sum, low, below, s, d, range))
       ];
       undirected = λ two. pdu2_of i
           (let sum = of_two two in let above : 240 ≤ pgn / 256 % 256 = leb-true 240 (pf_of pgn) two in omega (arith, sum, above, s, range));

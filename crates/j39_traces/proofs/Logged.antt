@@ -25,7 +25,7 @@ use Rattle.j39_world.specs.World.{World, all_off}
 use Rattle.j39_laws.proofs.Runs.Always.{IsPreserved, always}
 use Rattle.j39_follow.specs.Who.{IsWho}
 use Rattle.j39_follow.specs.declared.who.Who.TheVariants.{Holder}
-use Rattle.j39_traces.specs.Between.{AreJoined, ComesTo, EachGoesBetweenUnits, GoesToHolder, FlowGoes, IsSentBehind, IsSentBy}
+use Rattle.j39_traces.specs.Between.{AreJoined, ComesTo, EachGoesBetweenUnits, GoesToHolder, FlowGoes, IsOfStep, IsSentBehind, IsSentBy}
 use Rattle.j39_traces.specs.Telling.{HaveOwnNumbers}
 use Rattle.j39_traces.proofs.Between.{step_goes}
 use Rattle.j39_traces.proofs.Ends.{HasEnds, all_ends, ends_keep}
@@ -104,22 +104,22 @@ comes_to plan w log (One v) i (a, at, inl two) = inl two
 comes_to plan w log (One v) i (a, at, inr same) = inr (subst (λ (k : ℕ). IsWho plan log k (Holder v)) (sym same) at.told)
 
 -- whoever sends by a step, a flow joins it with those that this is for
-joins : (plan : Plan) (w : World) (step : Step) (u : ℕ) (to : To) → IsSentBy plan w step u to → AreJoined plan u to
-joins plan w (Up x) u to never = absurd never
-joins plan w (Down x) u to never = absurd never
-joins plan w (Give x y) u to never = absurd never
-joins plan w (Ask x) u to never = absurd never
-joins plan w (Begin f bytes) u to flow = inl (f, flow)
-joins plan w (Emit x) u to (same, (s, session, flow)) = inl (s.flow, subst (λ (k : ℕ). FlowGoes plan s.flow k to) same flow)
-joins plan w (LateSender x) u to (same, (s, session, flow)) = inl (s.flow, subst (λ (k : ℕ). FlowGoes plan s.flow k to) same flow)
-joins plan w (Take x y) u to (same, is, inl (s, session, flow)) =
-    inr (s.flow, x, sym is, subst (λ (k : ℕ). FlowGoes plan s.flow x (One k)) same flow)
-joins plan w (Take x y) u to (same, is, inr (s, session, flow)) =
-    inl (s.flow, subst (λ (t : To). FlowGoes plan s.flow u t) is (subst (λ (k : ℕ). FlowGoes plan s.flow k (One x)) same flow))
-joins plan w (LateReceiver x y) u to (same, is, (s, session, flow)) =
-    inr (s.flow, x, sym is, subst (λ (k : ℕ). FlowGoes plan s.flow x (One k)) same flow)
-joins plan w (Lose x y) u to never = absurd never
-joins plan w (Rest x) u to never = absurd never
+joins : (plan : Plan) (w : World) (step : Step) (u : ℕ) (to : To) (i : Ident) → IsSentBy plan w step u to → IsOfStep plan step i → AreJoined plan u to i
+joins plan w (Up x) u to i never group = absurd never
+joins plan w (Down x) u to i never group = absurd never
+joins plan w (Give x y) u to i never group = absurd never
+joins plan w (Ask x) u to i never group = absurd never
+joins plan w (Begin f bytes) u to i flow group = inl (f, flow, group)
+joins plan w (Emit x) u to i (same, (s, session, flow)) group = inl (s.flow, subst (λ (k : ℕ). FlowGoes plan s.flow k to) same flow, inr group)
+joins plan w (LateSender x) u to i (same, (s, session, flow)) group = inl (s.flow, subst (λ (k : ℕ). FlowGoes plan s.flow k to) same flow, inr group)
+joins plan w (Take x y) u to i (same, is, inl (s, session, flow)) group =
+    inr (s.flow, x, sym is, subst (λ (k : ℕ). FlowGoes plan s.flow x (One k)) same flow, group)
+joins plan w (Take x y) u to i (same, is, inr (s, session, flow)) group =
+    inl (s.flow, subst (λ (t : To). FlowGoes plan s.flow u t) is (subst (λ (k : ℕ). FlowGoes plan s.flow k (One x)) same flow), inr group)
+joins plan w (LateReceiver x y) u to i (same, is, (s, session, flow)) group =
+    inr (s.flow, x, sym is, subst (λ (k : ℕ). FlowGoes plan s.flow x (One k)) same flow, group)
+joins plan w (Lose x y) u to i never group = absurd never
+joins plan w (Rest x) u to i never group = absurd never
 
 logged_keep : (plan : Plan) → AreNamesDistinct (units_of plan) → HaveOwnNumbers plan → IsPreserved plan (IsLogged plan)
 logged_keep plan distinct own w inv step allowed new leads = record {
@@ -132,12 +132,12 @@ logged_keep plan distinct own w inv step allowed new leads = record {
         | inr (earlier, later, log_is, at) ↦
             let sent : IsSentBehind w new before f =
             record { earlier = earlier; later = later; log_is = log_is; sent = is ∙ ap (λ (x : List Sent). w.frames ++ x) at } in
-            let (u, to, by, source, goes) =
+            let (u, to, by, group, source, goes) =
             step_goes plan distinct own w inv.told inv.ends step allowed new leads before f sent other in
             record {
               sender = u;
               to = to;
-              joined = joins plan w step u to by;
+              joined = joins plan w step u to f.ident by group;
               comes = source.told;
               goes = comes_to plan w (before ++ f ∷ []) to f.ident goes;
             }

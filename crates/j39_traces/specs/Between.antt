@@ -3,6 +3,7 @@ use Rattle.std.specs.Prelude.{◌≡◌, ◌⊎◌, ℕ, true, false, ◌||◌, 
 use Rattle.std.specs.List.{slice_get}
 use Rattle.j39_id.specs.Ident.{pgn_of}
 use Rattle.j39_id.specs.Pgn.{is_pdu2}
+use Rattle.j39_id.specs.Services.{connection_management, data_transfer}
 use Rattle.j39_id.specs.declared.frame.Frame.{Frame}
 use Rattle.j39_id.specs.declared.ident.Ident.{Ident}
 use Rattle.j39_findings.specs.declared.plan.Plan.{Plan}
@@ -43,6 +44,21 @@ IsSentBy plan w (Take s r) u to = (r ≡ u) × (One s ≡ to) × (SendsTo plan w
 IsSentBy plan w (LateReceiver s r) u to = (r ≡ u) × (One s ≡ to) × SendsTo plan w s (One r)
 IsSentBy plan w _ u to = ⊥
 
+-- ---- the group of a frame
+
+-- a transport frame: connection management, or data transfer
+abbrev pub IsTransport : ℕ → Type 0
+IsTransport pgn = (pgn ≡ connection_management) ⊎ (pgn ≡ data_transfer)
+
+-- a frame of the flow at this place of the plan has its group's number, or is a transport frame
+abbrev pub IsOfFlow : Plan → ℕ → Ident → Type 0
+IsOfFlow plan f i = ((flow : Flow) × (slice_get (flows_of plan) f ≡ Some flow) × (pgn_of i ≡ flow.pgn)) ⊎ IsTransport (pgn_of i)
+
+-- what a step sends that begins a message is a frame of its flow; any other step sends transport frames
+abbrev pub IsOfStep : Plan → Step → Ident → Type 0
+IsOfStep plan (Begin f bytes) i = IsOfFlow plan f i
+IsOfStep plan _ i = IsTransport (pgn_of i)
+
 -- ---- they hold addresses
 
 abbrev pub HasAddress : World → ℕ → Type 0
@@ -82,19 +98,23 @@ pub record IsSentBehind (before after : World) (log : List Frame) (f : Frame) : 
 abbrev pub tells_of_addresses : Frame → Bool
 tells_of_addresses f = carries_name f || requests_group f
 
--- each other frame that a step sends comes from the address of the unit that sends it and goes to that of the unit that it is for, and the
--- frames up to it tell that these units hold them
+-- each other frame that a step sends is of the flow's group or a transport frame; it comes from the address of the unit that sends it and
+-- goes to that of the unit that it is for, and the frames up to it tell that these units hold them
 abbrev pub MessagesGoBetweenHolders : Plan → World → Type 0
 MessagesGoBetweenHolders plan w =
     (step : Step) (after : World) (log : List Frame) (f : Frame)
     → Follows plan w step after → IsSentBehind w after log f → tells_of_addresses f ≡ false
-    → (u : ℕ) × (to : To) × IsSentBy plan w step u to × IsKnownAt plan w (log ++ f ∷ []) u f.ident.sa × GoesToHolder plan w (log ++ f ∷ []) to f.ident
+    → (u : ℕ) × (to : To) × IsSentBy plan w step u to × IsOfStep plan step f.ident × IsKnownAt plan w (log ++ f ∷ []) u f.ident.sa
+    × GoesToHolder plan w (log ++ f ∷ []) to f.ident
 
 -- ---- the frames of a log
 
--- a flow goes from the unit to these, or they are one unit, and it goes from that one to this unit alone
-abbrev pub AreJoined : Plan → ℕ → To → Type 0
-AreJoined plan u to = ((f : ℕ) × FlowGoes plan f u to) ⊎ ((f : ℕ) × (v : ℕ) × (to ≡ One v) × FlowGoes plan f v (One u))
+-- a flow goes from the unit to these, and the frame is of this flow; or they are one unit, the flow goes from that one to this unit alone,
+-- and it is a transport frame
+abbrev pub AreJoined : Plan → ℕ → To → Ident → Type 0
+AreJoined plan u to i =
+    ((f : ℕ) × FlowGoes plan f u to × IsOfFlow plan f i)
+    ⊎ ((f : ℕ) × (v : ℕ) × (to ≡ One v) × FlowGoes plan f v (One u) × IsTransport (pgn_of i))
 
 -- it goes to all, or to an address behind which the one unit stands, if its identifier names any
 abbrev pub ComesTo : Plan → List Frame → To → Ident → Type 0
@@ -105,7 +125,7 @@ ComesTo plan log (One v) i = (is_pdu2 (pgn_of i) ≡ true) ⊎ IsWho plan log i.
 pub record IsBetweenUnits (plan : Plan) (log : List Frame) (i : Ident) : Type 0 where
   pub sender : ℕ
   pub to : To
-  pub joined : AreJoined plan sender to
+  pub joined : AreJoined plan sender to i
   pub comes : IsWho plan log i.sa (Holder sender)
   pub goes : ComesTo plan log to i
 
