@@ -17,6 +17,7 @@ from __future__ import annotations
 
 import os
 import re
+import signal
 import subprocess
 import sys
 import tempfile
@@ -65,7 +66,7 @@ class Clock:
 
 def clocked(words: list[str], folder: str) -> tuple[int, list[tuple[float, str]], Clock]:
     """Runs a command, and returns its status, the lines that it said and when, and its clock."""
-    how = {"stdin": subprocess.DEVNULL, "stdout": subprocess.PIPE, "stderr": subprocess.STDOUT}
+    how = {"stdin": subprocess.DEVNULL, "stdout": subprocess.PIPE, "stderr": subprocess.STDOUT, "preexec_fn": os.setpgrp}
     started = subprocess.Popen(words, cwd=folder, text=True, errors="replace", **how)
     clock, ended = Clock(started.pid), threading.Event()
 
@@ -75,10 +76,13 @@ def clocked(words: list[str], folder: str) -> tuple[int, list[tuple[float, str]]
 
     looker = threading.Thread(target=look)
     looker.start()
-    said = [(time.time(), line.rstrip("\n")) for line in started.stdout]
-    status = started.wait()
-    ended.set()
-    looker.join()
+    try:
+        said = [(time.time(), line.rstrip("\n")) for line in started.stdout]
+        status = started.wait()
+    finally:
+        build.stop(started)
+        ended.set()
+        looker.join()
     return status, said, clock
 
 
@@ -162,6 +166,8 @@ def main(words: list[str]) -> int:
         print(__doc__, file=sys.stderr)
         return 2
     name, count = names[0], int(names[1]) if names[1:] else COUNT
+    # what is stopped ends what it has started, and removes its copy
+    signal.signal(signal.SIGTERM, lambda *_: sys.exit(1))
     if mode == "--edits":
         return of_edits(name)
     if mode == "--kept":
