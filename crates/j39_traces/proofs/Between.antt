@@ -1,5 +1,5 @@
 -- Each frame that a step sends of a message goes from the holder of its source to the holder of its destination.
-use Rattle.std.proofs.Common.{◌≡◌, ◌≢◌, ℕ, zero, suc, ◌+◌, ◌<◌, ◌==◌, true, false, List, [], ◌∷◌, ◌++◌, length, map, Option, Some, None}
+use Rattle.std.proofs.Common.{◌≡◌, ◌≢◌, ◌⊎◌, ℕ, zero, suc, ◌+◌, ◌<◌, ◌==◌, true, false, List, [], ◌∷◌, ◌++◌, length, map, Option, Some, None}
 use Rattle.std.proofs.Common.{inl, inr, refl, sym, ap, subst, ◌∙◌, arith, append_assoc}
 use Rattle.std.specs.Bool.{MatchBool}
 use Rattle.std.specs.List.{AllByRecursion, Contains, position_from, slice_get}
@@ -133,7 +133,7 @@ short_is d s flow bytes other = record { priority = flow.priority; pgn = flow.pg
 announcement_is : (d s : ℕ) (flow : Flow) (p : Packet) → IsMessageFrame (IsFirst flow) d s (packet_frame d s p)
 announcement_is d s flow p = record { priority = 7; pgn = group_of p; group = inr (transports p); other = packet_group p; number = refl }
 
-module _ {IsGroup : ℕ → Type 0} (d s : ℕ) (less_d : d < 256) (less_s : s < 256) where
+module _ (IsGroup : ℕ → Type 0) (d s : ℕ) (less_d : d < 256) (less_s : s < 256) where
   silent_message : (f : Frame) → IsMessageFrame IsGroup d s (sent_of f) → TellsNothing f
   silent_message f m = tells_nothing f (carries_none f m.priority m.pgn d s m.other less_d less_s m.number)
 
@@ -194,8 +194,8 @@ module _ (plan : Plan) (distinct : AreNamesDistinct (units_of plan)) (own : Have
       let i = sent_as f.ident m.priority m.pgn d s m.other (destination_below to) (below u) m.number in
       let silent : (more : List Frame) → map sent_of more ≡ earlier → AllByRecursion TellsNothing (more ++ f ∷ []) =
       λ more is. all_last TellsNothing more f
-      (silent_messages {IsGroup} d s (destination_below to) (below u) more (subst (AllByRecursion (IsMessageFrame IsGroup d s)) (sym is) parts.0))
-      (silent_message {IsGroup} d s (destination_below to) (below u) f m) in
+      (silent_messages IsGroup d s (destination_below to) (below u) more (subst (AllByRecursion (IsMessageFrame IsGroup d s)) (sym is) parts.0))
+      (silent_message IsGroup d s (destination_below to) (below u) f m) in
       let source : IsKnownAt plan w (log ++ f ∷ []) u f.ident.sa =
       subst (IsKnownAt plan w (log ++ f ∷ []) u) (sym i.source_is) (is_at heard u holding log f earlier e silent) in
       (subst IsGroup (sym i.group_is) m.group, source, goes m.pgn i.undirected to for i.directed silent)
