@@ -55,7 +55,7 @@ class Clock:
         self.is_set = False  # at the line that was seen last
         self.has_times = False
         self.first_line = self.back = self.on = 0
-        self._said = ""
+        self._said = self._glanced = ""
 
     def see(self, line: int, time: str) -> int | None:
         """The time of a line in nanoseconds, None where it has none."""
@@ -69,6 +69,14 @@ class Clock:
         elif step < -ORDER or step > DAY:
             self._set(line, step)
         return at
+
+    def glance(self, line: int, time: str) -> None:
+        """Sees a time, where it isn't asked what it is: one in microseconds that is spelled as long as the one before, no smaller, and with the same
+        digits up to those of ten thousand seconds, shows that the clock goes on."""
+        before, self._glanced = self._glanced, time
+        if time[-8:-7] != "." or len(time) != len(before) or time < before or time[:-12] != before[:-12]:
+            self.last = nanoseconds(before) or self.last
+            self.see(line, time)
 
     def _set(self, line: int, step: int) -> None:
         """The clock was set, or what came is out of order."""

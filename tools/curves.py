@@ -34,8 +34,8 @@ class Curve:
 def curves_of(rows: Iterable[Row], clock: Clock) -> list[Curve]:
     """The curves of a log, by their first points; the clock has seen each row, and none behind it."""
     curves: dict[tuple[str, str, str], Curve] = {}
-    for origin, group, readings in rows:
-        time, sender = clock.seconds(origin.line), origin.sender.shown
+    for message, readings in rows:
+        time, group, sender = clock.seconds(message.line), message.group, message.sender.shown
         for label, reading in readings:
             key = group, label, sender
             curve = curves.get(key)

@@ -64,12 +64,12 @@ class Log(io.RawIOBase):
                 self._keep(bytes(buffer[:count]))
                 return count
             self._at = self._at + 1 if self._end is None else len(self.files)
-            if self._is_cut and self._at < len(self.files):
-                buffer[:1], self._is_cut = b"\n", False
-                self._lines += 1
+            if self._at < len(self.files):
+                self._lines += self._is_cut
                 self._starts.append(self._lines)
-                return 1
-            self._starts.append(self._lines)
+                if self._is_cut:
+                    buffer[:1], self._is_cut = b"\n", False
+                    return 1
         return 0
 
     def _keep(self, piece: bytes) -> None:

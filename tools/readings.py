@@ -9,7 +9,7 @@ from typing import NamedTuple
 
 import program
 from plan_tables import Tables
-from reports import Message, Report, Who
+from reports import Message, Report
 
 # A unit of measurement that has the fraction of a value, as `1/8 rpm`.
 PARTS = re.compile(r"1/([1-9]\d{0,11})(?: (.*))?")
@@ -33,25 +33,10 @@ class Reading(NamedTuple):
     detail: str
 
 
-class Origin(NamedTuple):
-    """Where a message comes from: the line and its time as it is spelled, and who sent it to whom."""
-
-    line: int
-    time: str
-    sender: Who
-    to: Who
-
-
-def origin_of(message: Message) -> Origin:
-    """Where a message comes from."""
-    return Origin(message.line, message.time.strip("()-"), message.sender, message.to)
-
-
 class Row(NamedTuple):
-    """A message: where it comes from, its group, and the readings of its signals by their labels."""
+    """A message, and the readings of its signals by their labels."""
 
-    origin: Origin
-    group: str
+    message: Message
     readings: list[tuple[str, Reading]]
 
 
@@ -180,4 +165,4 @@ class Rows:
             if isinstance(report, Message) and report.group in self._known:
                 told = list(readings_in(report.signals, self._known[report.group]))
                 if told:
-                    yield Row(origin_of(report), report.group, told)
+                    yield Row(report, told)

@@ -20,7 +20,7 @@ from cut_plan import cut
 from j1939 import GLOBAL_ADDRESS
 from logs import Log
 from readings import Choice, Column, Reading, Row, Rows, parted
-from reports import Counts, Report, Who, follow, tables_of
+from reports import Counts, Message, Report, Who, follow, tables_of
 
 ENDS = ("from", "source", "to", "destination")
 HEADS = ("time", "line", *ENDS, "group", "signal", "state", "value", "unit", "detail")
@@ -31,6 +31,9 @@ WRITTEN = 1 << 14
 # A number as JSON spells it.
 NUMBER = re.compile(r"-?(?:0|[1-9]\d*)(?:\.\d+)?")
 
+
+# The readings of a message by their labels.
+Readings = list[tuple[str, Reading]]
 
 # A trouble code, or how it is spelled in older ways, and what else is said of it.
 CODE = re.compile(r"(?:spn (\d+) fmi (\d+)|raw (\d+)) count (\d+)(?: (.*))?")
@@ -109,18 +112,20 @@ class Form:
 
     def put(self, row: Row) -> None:
         """Writes the signals of a message."""
-        self.head()
-        name, line = self._log.place(row.origin.line) if self._is_of_several else ("", row.origin.line)
-        self._file.write(self._spelled(name, line, row))
+        if not self._is_headed:
+            self.head()
+        message, readings = row
+        name, line = self._log.place(message.line) if self._is_of_several else ("", message.line)
+        self._file.write(self._spelled(name, line, message, readings))
 
-    def _spelled(self, name: str, line: int, row: Row) -> str:
+    def _spelled(self, name: str, line: int, message: Message, readings: Readings) -> str:
         """A message of a line of a log, which is named where there are several."""
         raise NotImplementedError
 
-    def _cells(self, name: str, line: int, row: Row) -> str:
+    def _cells(self, name: str, line: int, message: Message) -> str:
         """What stands in front of the readings of a message: times, numbers and labels, which need no quotes."""
-        _, time, sender, to = row.origin
-        return f"{f'{quoted(name)},' if name else ''}{time},{line},{ends_of(sender, to)},{row.group}"
+        log = f"{quoted(name)}," if name else ""
+        return f"{log}{message.time.strip('()-')},{line},{ends_of(message.sender, message.to)},{message.group}"
 
 
 class Plain(Form):
@@ -134,9 +139,9 @@ class Plain(Form):
         """The heads of the columns."""
         return list(HEADS)
 
-    def _spelled(self, name: str, line: int, row: Row) -> str:
-        head = self._cells(name, line, row)
-        return "".join([f"{head},{label},{cells_of(reading)}" for label, reading in row.readings])
+    def _spelled(self, name: str, line: int, message: Message, readings: Readings) -> str:
+        head = self._cells(name, line, message)
+        return "".join([f"{head},{label},{cells_of(reading)}" for label, reading in readings])
 
 
 class Lines(Form):
@@ -145,12 +150,12 @@ class Lines(Form):
     def __init__(self, file: TextIO, log: Log, _: Choice) -> None:
         super().__init__(file, log)
 
-    def _spelled(self, name: str, line: int, row: Row) -> str:
-        _, time, sender, to = row.origin
+    def _spelled(self, name: str, line: int, message: Message, readings: Readings) -> str:
+        time = message.time.strip("()-")
         log = f'"log": {json.dumps(name)}, ' if name else ""
         at = f'"time": {time if NUMBER.fullmatch(time) else json.dumps(time)}, ' if time else ""
-        head = f'{{{log}{at}"line": {line}, {end_members_of(sender, to)}, "group": "{row.group}"'
-        return "".join([f"{head}, {name_members_of(label)}, {members_of(reading)}}}\n" for label, reading in row.readings])
+        head = f'{{{log}{at}"line": {line}, {end_members_of(message.sender, message.to)}, "group": "{message.group}"'
+        return "".join([f"{head}, {name_members_of(label)}, {members_of(reading)}}}\n" for label, reading in readings])
 
 
 @lru_cache(maxsize=WRITTEN)
@@ -182,15 +187,15 @@ class Wide(Form):
         """The heads of the columns."""
         return self._heads
 
-    def _spelled(self, name: str, line: int, row: Row) -> str:
+    def _spelled(self, name: str, line: int, message: Message, readings: Readings) -> str:
         """A message. Most columns are those of other groups, so that a row is mostly commas."""
         cells: dict[int, str] = {}
-        for label, reading in row.readings:
-            column = self._columns[row.group, label.partition("[")[0]]
+        for label, reading in readings:
+            column = self._columns[message.group, label.partition("[")[0]]
             for at, text in enumerate(cells_in_wide(reading), column):
                 if text:
                     cells[at] = f"{cells[at]}; {text}" if at in cells else text  # of a signal of several records
-        parts, last = [self._cells(name, line, row)], 0
+        parts, last = [self._cells(name, line, message)], 0
         for at, text in sorted(cells.items()):
             parts.append("," * (at - last) + quoted(text))
             last = at
@@ -211,7 +216,7 @@ def cells_in_wide(reading: Reading) -> tuple[str, str]:
 def clocked(reports: Iterable[Report], clock: Clock) -> Iterator[Report]:
     """The reports, of which a clock sees the times."""
     for report in reports:
-        clock.see(report.line, report.time)
+        clock.glance(report.line, report.time)
         yield report
 
 

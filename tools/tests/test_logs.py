@@ -3,8 +3,10 @@
 import os
 import re
 import shutil
+import signal
 import subprocess
 import sys
+import time
 import unittest
 
 import program
@@ -146,6 +148,34 @@ class Shown(ShownLines):
         self.stand_in("candump", f'[ "$*" = "-L can0" ] && cat "{LOG}"')
         self.shell(f"PATH=.:$PATH; {line} > live.txt")
         self.assertEqual(text_of(self.path("live.txt")), self.answer)
+
+    def test_an_interrupt_of_the_shell(self):
+        """What ends `candump`, and all of its pipe with it, lets `follow` tell what came: it is of a process group that is interrupted."""
+        line = "candump -L can0 | (trap '' INT; exec ./j39plan follow plan.toml /dev/stdin)"
+        self.assertIn(line, GUIDE)
+        self.stand_in("candump", f'cat "{LOG}"; exec sleep 60')
+        with open(self.path("live.txt"), "wb") as live, subprocess.Popen(
+                ["sh", "-c", f"PATH=.:$PATH; {line}"], cwd=self.folder, stdout=live, start_new_session=True,
+                preexec_fn=lambda: signal.signal(signal.SIGINT, signal.SIG_DFL)) as shell:
+            for _ in range(600):
+                time.sleep(0.1)
+                if "EC1" in text_of(self.path("live.txt")):
+                    break
+            os.killpg(shell.pid, signal.SIGINT)
+            shell.wait(60)
+            for _ in range(600):
+                if text_of(self.path("live.txt")).count("\nframes "):
+                    break
+                time.sleep(0.1)
+        self.assertEqual(text_of(self.path("live.txt")), program.call(["follow", PLAN, LOG])[1])
+
+    def test_one_interface_of_a_running_bus(self):
+        line = "candump -L can0 can1 | grep --line-buffered ' can1 ' | ./j39plan follow plan.toml /dev/stdin"
+        self.assertIn(line, GUIDE)
+        other = self.write("other.log", text_of(LOG).replace(" can0 ", " can1 "))
+        self.stand_in("candump", f'[ "$*" = "-L can0 can1" ] && paste -d "\\n" "{LOG}" "{other}"')
+        self.shell(f"PATH=.:$PATH; {line} > live.txt")
+        self.assertEqual(text_of(self.path("live.txt")), program.call(["follow", PLAN, other])[1])
 
 
 if __name__ == "__main__":

@@ -195,7 +195,7 @@ class Signals(InFolder):
 
     @needs("pandas", "python3-pandas")
     def test_pandas_reads_numbers(self):
-        """Each column of values, though it has states in between; and the lines that docs/TOOLS.md shows do what they say."""
+        """Each column of values, though it has states in between."""
         import pandas
 
         plan = self.write("plan.toml", KINDS)
@@ -204,6 +204,17 @@ class Signals(InFolder):
         self.assertEqual([str(frame[column].dtype) for column in ("time", "source", "destination", "G.SPEED [rpm]", "G.TURN [deg/s]")],
                          ["float64", "int64", "int64", "float64", "float64"])
         self.assertEqual(list(frame["G.SPEED state"].fillna("")), ["", "absent", "fault 65024"])
+
+    @needs("pandas", "python3-pandas")
+    def test_the_lines_of_the_page_on_pandas(self):
+        """What docs/TOOLS.md shows runs on the table that it names, and has the columns that it asks for."""
+        page = text_of(os.path.join(os.path.dirname(TOOLS), "docs", "TOOLS.md"))
+        lines = re.search(r"```python\n(import pandas\n.*?)```", page, re.DOTALL).group(1)
+        self.write("drive.csv", run("signals.py", "--wide", PLAN, LOG)[1])
+        ended = subprocess.run([sys.executable, "-c", lines + "print(len(speed), speed.iloc[0], len(joined))"], cwd=self.folder, capture_output=True,
+                               text=True, check=False)
+        self.assertEqual((ended.returncode, ended.stdout.splitlines()[-1]), (0, "1 800.0 2"), ended.stderr)
+        self.assertIn("fault 65024", ended.stdout)
 
     def test_what_is_chosen(self):
         log = LOG
@@ -239,9 +250,8 @@ class Signals(InFolder):
 
     def test_plans_that_are_not_cut(self):
         """One whose groups are no tables with headers, and one in which a code is told with a signal's label: all of it stays."""
-        inline = UNITS + 'group = [{ label = "ET1", pgn = 65262, priority = 6, length = 8 }]\n'
-        for text in (inline.replace("[[unit]]", "", 0), NEWER):
-            plan = self.write("plan.toml", text if text is NEWER else text.replace(UNITS, "version = 3\n"))
+        for text in ('version = 3\ngroup = [{ label = "ET1", pgn = 65262, priority = 6, length = 8 }]\n', NEWER):
+            plan = self.write("plan.toml", text)
             tables = tables_of(plan)
             with cut(plan, tables, Choice(tables, [], nothing=True)) as (shorter, parts):
                 self.assertEqual((shorter, parts), (plan, tables))
