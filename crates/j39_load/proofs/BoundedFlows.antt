@@ -12,16 +12,17 @@ use Rattle.j39_findings.specs.declared.plan.flow_plan.FlowPlan.{FlowPlan}
 use Rattle.j39_findings.specs.declared.plan.group_plan.GroupPlan.{GroupPlan}
 use Rattle.j39_findings.specs.declared.plan.pace.Pace.{Pace}
 use Rattle.j39_findings.specs.declared.plan.timing.Bitrate.{Bitrate}
-use Rattle.j39_findings.specs.declared.plan.timing.Bitrate.TheVariants.{Kbit250, Kbit500}
+use Rattle.j39_findings.specs.declared.plan.timing.Bitrate.TheVariants.{Kbit125, Kbit250, Kbit500, Mbit1}
 use Rattle.j39_findings.specs.declared.plan.timing.Timing.{Timing}
 use Rattle.j39_findings.specs.declared.plan.unit_plan.UnitPlan.{UnitPlan}
 use Rattle.j39_load.specs.declared.delay.Delay.{Delay}
 use Rattle.j39_load.specs.declared.delay.Delay.TheVariants.{Within, Late, Long}
 use Rattle.j39_load.specs.declared.flow_frames.FlowFrames.{FlowFrames}
 use Rattle.j39_load.specs.declared.flow_load.FlowLoad.{FlowLoad}
+use Rattle.j39_load.specs.Ages.{old_needs}
 use Rattle.j39_load.specs.Delays.{HasDelay, IsInTime, frames_before, going_before, streams_before}
 use Rattle.j39_load.specs.LoadFindings.{AreLoadFindings, AsksOfBus, lateness, load_findings, overload, without_period}
-use Rattle.j39_load.specs.Loads.{bits_per_ms, flow_load, has_short, is_always_short, time_limit, load_of, load_of_flow, loads_of, packet_frames, single_frames, total_load}
+use Rattle.j39_load.specs.Loads.{bits_per_ms, deadline_of, flow_load, has_short, is_always_short, time_limit, load_of, load_of_flow, loads_of, packet_frames, single_frames, total_load}
 use Rattle.j39_load.specs.Places.{told_from}
 use Rattle.j39_load.specs.PlannedFrames.{AreDelaysBounds, ArePlannedFramesInTime, AreShortFlowsBounded, IsBounded, IsInTimeOnEveryBus, frames_at, no_frames, others_of, planned_at, singles_at, traffic_of}
 use Rattle.j39_load.proofs.Before.{more}
@@ -34,11 +35,11 @@ use Rattle.j39_tp.specs.Chunks.{packets_of}
 
 -- ---- where nothing is told
 
-none_of_two : {X : Type 0} (xs ys : List X) → xs ++ ys ≡ [] → (xs ≡ []) × (ys ≡ [])
+pub none_of_two : {X : Type 0} (xs ys : List X) → xs ++ ys ≡ [] → (xs ≡ []) × (ys ≡ [])
 none_of_two [] ys none = (refl, none)
 none_of_two (x ∷ xs) ys none = absurd (let some : suc (length (xs ++ ys)) ≡ 0 = ap length none in omega arith)
 
-told_nothing : {X Y : Type 0} (tell : ℕ → X → List Y) (place : ℕ) (xs : List X) → told_from tell place xs ≡ [] → (k : ℕ) (x : X)
+pub told_nothing : {X Y : Type 0} (tell : ℕ → X → List Y) (place : ℕ) (xs : List X) → told_from tell place xs ≡ [] → (k : ℕ) (x : X)
     → slice_get xs k ≡ Some x → tell (place + k) x ≡ []
 unfolding told_from
 told_nothing tell place [] none k x at = absurd (none-some x at)
@@ -60,12 +61,16 @@ record IsOfFlow (load : FlowLoad) : Type 0 where
   pub limit : load.limit ≤ load.frames.stream.period
 
 positive_ms : (bitrate : Bitrate) (ms : ℕ) → 1 ≤ ms → 0 < ms * bits_per_ms bitrate
+positive_ms Kbit125 ms some = omega arith
 positive_ms Kbit250 ms some = omega arith
 positive_ms Kbit500 ms some = omega arith
+positive_ms Mbit1 ms some = omega arith
 
 fewer_ms : (bitrate : Bitrate) (a b : ℕ) → min a b * bits_per_ms bitrate ≤ b * bits_per_ms bitrate
+fewer_ms Kbit125 a b = omega arith
 fewer_ms Kbit250 a b = omega arith
 fewer_ms Kbit500 a b = omega arith
+fewer_ms Mbit1 a b = omega arith
 
 of_flow : (timing : Timing) (plan : Plan) (stays : UnitPlan → Bool) (flow : FlowPlan) (pace : Pace) (group : GroupPlan)
     → IsOfFlow (flow_load timing plan.units.items stays flow pace group)
@@ -74,8 +79,8 @@ of_flow timing plan stays flow pace group = by (is_always_short group) (has_shor
     pos : 0 < pace.period * bits_per_ms timing.bitrate
     pos = positive_ms timing.bitrate pace.period pace.period_positive
 
-    fewer : min pace.deadline pace.period * bits_per_ms timing.bitrate ≤ pace.period * bits_per_ms timing.bitrate
-    fewer = fewer_ms timing.bitrate pace.deadline pace.period
+    fewer : min (deadline_of pace) pace.period * bits_per_ms timing.bitrate ≤ pace.period * bits_per_ms timing.bitrate
+    fewer = fewer_ms timing.bitrate (deadline_of pace) pace.period
 
     single : FlowFrames
     single = single_frames timing plan.units.items stays flow pace.period group
@@ -310,7 +315,7 @@ module _ (plan : Plan) (timing : Timing) (stays : UnitPlan → Bool) (delays : L
       }
 
 -- where nothing is found each flow has a period, and none is late
-nothing_found : (timing : Timing) (load : ℕ) (delays : List (Option Delay)) → load_findings timing load delays ≡ []
+pub nothing_found : (timing : Timing) (load : ℕ) (delays : List (Option Delay)) → load_findings timing load delays ≡ []
     → (told_from without_period 0 delays ≡ []) × (told_from lateness 0 delays ≡ [])
 nothing_found timing load delays none =
     let two = none_of_two (told_from without_period 0 delays) (overload timing load ++ told_from lateness 0 delays) none in
@@ -337,4 +342,6 @@ short_bounded plan timing stays delays asks none flow load its short =
         absurd (true≢false (sym short ∙ ap (λ (l : FlowLoad). l.is_short) (sym same) ∙ has.2.0))
 
 pub in_time_where_checked : (plan : Plan) (timing : Timing) → AreLoadFindings plan (Some timing) [] → ArePlannedFramesInTime plan timing
-in_time_where_checked plan timing (stays, delays, asks, none) = (stays, delays, asks, short_bounded plan timing stays delays asks (sym none))
+in_time_where_checked plan timing (stays, delays, asks, none) =
+    let both = none_of_two (load_findings timing (total_load (loads_of timing plan stays)) delays) (old_needs timing plan.flows.items delays plan.needs.items) (sym none) in
+    (stays, delays, asks, short_bounded plan timing stays delays asks both.0)

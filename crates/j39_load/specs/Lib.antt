@@ -1,4 +1,6 @@
+pub mod Ages
 pub mod Delays
+pub mod FreshNeeds
 pub mod LoadFindings
 pub mod Loads
 pub mod Places

@@ -1,5 +1,5 @@
 -- What each flow of a plan asks of the bus: how many frames, how long, how often, and how urgent.
-use Rattle.std.specs.Prelude.{ℕ, ◌+◌, ◌*◌, min, max, nat_le, Bool, not, ◌&&◌, if◌then◌else◌, List, map, sum_by, Option, Some, None}
+use Rattle.std.specs.Prelude.{ℕ, ◌+◌, ◌*◌, min, max, nat_le, Bool, not, ◌&&◌, if◌then◌else◌, List, map, sum_by, Option, Some, None, unwrap_or}
 use Rattle.std.specs.Int.{div_ceil}
 use Rattle.std.specs.List.{slice_get}
 use Rattle.std.specs.Option.{option_and_then, option_map, option_map_or}
@@ -13,7 +13,7 @@ use Rattle.j39_findings.specs.declared.plan.flow_plan.FlowPlan.{FlowPlan}
 use Rattle.j39_findings.specs.declared.plan.group_plan.GroupPlan.{GroupPlan}
 use Rattle.j39_findings.specs.declared.plan.pace.Pace.{Pace}
 use Rattle.j39_findings.specs.declared.plan.timing.Bitrate.{Bitrate}
-use Rattle.j39_findings.specs.declared.plan.timing.Bitrate.TheVariants.{Kbit250, Kbit500}
+use Rattle.j39_findings.specs.declared.plan.timing.Bitrate.TheVariants.{Kbit125, Kbit250, Kbit500, Mbit1}
 use Rattle.j39_findings.specs.declared.plan.timing.Timing.{Timing}
 use Rattle.j39_findings.specs.declared.plan.to.To.{To}
 use Rattle.j39_findings.specs.declared.plan.to.To.TheVariants.{All, One}
@@ -27,8 +27,10 @@ use Rattle.j39_tp.specs.Chunks.{packets_of}
 -- ---- the bus
 
 abbrev pub bits_per_ms : Bitrate → ℕ
+bits_per_ms Kbit125 = 125
 bits_per_ms Kbit250 = 250
 bits_per_ms Kbit500 = 500
+bits_per_ms Mbit1 = 1000
 
 -- the bits that a bus carries in a second
 abbrev pub bits_of_second : Bitrate → ℕ
@@ -106,9 +108,13 @@ packet_ident held flow = identifier_of transport_priority data_transfer (destina
 
 -- ---- flows
 
+-- within so many milliseconds each frame of the flow has to be on the bus: those that are written, or its period
+abbrev pub deadline_of : Pace → ℕ
+deadline_of pace = unwrap_or pace.deadline pace.period
+
 -- within so many bits each frame of the flow has to be on the bus; never later than the next message is queued
 abbrev pub time_limit : Timing → Pace → ℕ
-time_limit timing pace = bits_of_ms timing (min pace.deadline pace.period)
+time_limit timing pace = bits_of_ms timing (min (deadline_of pace) pace.period)
 
 -- the bits that a flow takes in a second at most
 abbrev pub load_of : Stream → ℕ → ℕ

@@ -7,6 +7,7 @@ ghost use Rattle.j39_findings.specs.declared.plan.group_plan.GroupPlan.{GroupPla
 ghost use Rattle.j39_findings.specs.declared.plan.timing.Timing.{Timing as Timings};
 ghost use Rattle.j39_findings.specs.declared.plan.unit_plan.UnitPlan.{UnitPlan as PlannedUnits};
 ghost use Rattle.j39_load.specs.declared.delay.Delay.{Delay as Delays};
+ghost use Rattle.j39_load.specs.FreshNeeds.{AreNeedsFresh};
 ghost use Rattle.j39_load.specs.LoadFindings.{AreLoadFindings, AsksOfBus, load_findings, without_period};
 ghost use Rattle.j39_load.specs.Loads.{group_ident, loads_of, total_load};
 ghost use Rattle.j39_load.specs.Places.{told_from};
@@ -26,6 +27,12 @@ pub fn delays_are_bounds()
         → AsksOfBus plan timing stays delays → load_findings timing (total_load (loads_of timing plan stays)) delays ≡ []
         → AreShortFlowsBounded timing (loads_of timing plan stays) delays }
     ensures checked { (plan : Plans) (timing : Timings) → AreLoadFindings plan (Some timing) [] → ArePlannedFramesInTime plan timing }
+{}
+
+/// Of a clean plan with whose load nothing is wrong either, each need that asks for an age has a flow that meets it and brings it no older
+/// than that, in every legal schedule whose planned frames are those of the plan's flows.
+pub fn needs_stay_fresh()
+    ensures { (plan : Plans) (timing : Timings) → Clean plan → AreLoadFindings plan (Some timing) [] → AreNeedsFresh plan timing }
 {}
 
 /// Where each unit holds its planned address, or one of 128 to 247 if it may choose and isn't one that stays, the identifiers of a flow's

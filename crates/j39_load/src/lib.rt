@@ -2,6 +2,7 @@
 //! long they wait.
 #![tactic(auto)]
 
+mod ages;
 mod delay;
 mod delays;
 mod extreme;
@@ -15,13 +16,16 @@ mod loads;
 mod standing;
 mod streams;
 
+pub use ages::least_age;
 pub use delay::Delay;
-pub use faults::{bits_of_second, check_load, load_findings};
+pub use faults::{all_findings, bits_of_second, check_load};
 pub use flow_frames::FlowFrames;
 pub use flow_load::FlowLoad;
 pub use laws::{
-    delays_are_bounds, identifiers_lie_between, short_flows_have_different_identifiers,
+    delays_are_bounds, identifiers_lie_between, needs_stay_fresh,
+    short_flows_have_different_identifiers,
 };
 pub use load_finding::LoadFinding;
 pub use loads::Loads;
 pub use standing::Standing;
+pub use streams::bits_of_ms;

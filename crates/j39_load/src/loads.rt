@@ -29,7 +29,8 @@ fn limit(timing: Timing, pace: Pace) -> u32
     ensures limit { result ≡ time_limit timing pace }
     ensures few { result < 2 ^ 31 }
 {
-    bits_of_ms(timing, pace.deadline.min(pace.period))
+    let deadline = pace.deadline.unwrap_or(pace.period);
+    bits_of_ms(timing, deadline.min(pace.period))
 }
 
 // The frames of a flow's messages that go in one frame.

@@ -13,13 +13,15 @@ pub(crate) fn bits_per_ms(bitrate: Bitrate) -> u16
     ensures { result ≡ bits_per_ms bitrate }
 {
     match bitrate {
+        Bitrate::Kbit125 => 125,
         Bitrate::Kbit250 => 250,
         Bitrate::Kbit500 => 500,
+        Bitrate::Mbit1 => 1_000,
     }
 }
 
 /// How many bits the bus carries in so many milliseconds.
-pub(crate) fn bits_of_ms(timing: Timing, ms: u16) -> u32
+pub fn bits_of_ms(timing: Timing, ms: u16) -> u32
     ensures { result ≡ bits_of_ms timing ms }
 {
     u32::from(ms) * u32::from(bits_per_ms(timing.bitrate))
