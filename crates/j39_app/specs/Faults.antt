@@ -57,12 +57,12 @@ abbrev pub EndsByFile : {File V W : Type 0} → (Option (List ℕ) → List ℕ 
     → (List ℕ → Type 0) → Names → (File → SourceState) → List ℕ → (W → SinkState) → W → W → Result V Fault → Type 0
 EndsByFile IsText IsPart AtOnce limits stays_shut files state_of name state told ended result =
     Ends (IsText (files name)) (IsPart (files name)) AtOnce (MayBeTooLong limits (files name)) (HasFileFailed stays_shut files state_of name) state told ended
-        result
+    result
 
 -- of what reads the file of a plan, and then another one by the plan, of which less may have come where a part of the text stands written
 abbrev pub EndsByTwo : {File W : Type 0} → (Plan → Option (List ℕ) → List ℕ → Verdict → Type 0) → (Plan → Option (List ℕ) → List ℕ → Verdict → Type 0)
     → Limits → (List ℕ → Type 0) → Names → (File → SourceState) → List ℕ → List ℕ → (W → SinkState) → W → W → Result Verdict Fault → Type 0
 EndsByTwo IsText IsFront limits stays_shut files state_of plan other state told ended result =
     Ends (IsAnswerOfTwo IsText (files plan) (files other)) (IsOfSome (IsAnswerOfTwo IsFront (files plan) (files other))) ⊥
-        (IsOfTwo (λ most name. MayBeTooLong most (files name)) files limits plan other)
-        (IsOfTwo (λ _ name. HasFileFailed stays_shut files state_of name) files limits plan other) state told ended result
+    (IsOfTwo (λ most name. MayBeTooLong most (files name)) files limits plan other)
+    (IsOfTwo (λ _ name. HasFileFailed stays_shut files state_of name) files limits plan other) state told ended result
