@@ -1,18 +1,23 @@
 #!/usr/bin/env python3
-"""Writes a plan at its limits and a schedule for it: make_limits.py PLAN SCHEDULE
+"""Writes a plan at its limits, a schedule for it, and a plan that tells of its bus: make_limits.py PLAN SCHEDULE TIMED
 
 128 units, 256 groups with 64 signals and 512 flows. In the schedule all units start and hear one another's claims, and
-then each sends a message of 64 bytes to all others, packet by packet.
+then each sends a message of 64 bytes to all others, packet by packet. In the timed plan every second group has 8 bytes
+in 32 signals, each flow a period, a jitter and a pause, and 512 needs ask for groups, every second one for their age.
 """
 import sys
 
-UNITS, GROUPS, SIGNALS, FLOWS = 128, 256, 64, 512
+UNITS, GROUPS, SIGNALS, FLOWS, NEEDS = 128, 256, 64, 512, 512
+
+
+def units():
+    for unit in range(UNITS):
+        yield f'[[unit]]\nlabel = "U{unit}"\naddress = {unit}\nname = {{ identity = {unit + 1} }}'
 
 
 def plan():
     yield "version = 1"
-    for unit in range(UNITS):
-        yield f'[[unit]]\nlabel = "U{unit}"\naddress = {unit}\nname = {{ identity = {unit + 1} }}'
+    yield from units()
     for group in range(GROUPS):
         yield f'[[group]]\nlabel = "G{group}"\npgn = {126976 + group}\npriority = 6\nlength = {SIGNALS}'
         for signal in range(SIGNALS):
@@ -21,6 +26,27 @@ def plan():
         sender = flow % UNITS
         receiver = "all" if flow < FLOWS // 2 else f"U{(sender + 1 + flow // UNITS) % UNITS}"
         yield f'[[flow]]\ngroup = "G{flow % GROUPS}"\nfrom = "U{sender}"\nto = "{receiver}"'
+
+
+def timed():
+    yield "version = 4\n[timing]\nbitrate = 500000\nunplanned = 3\nerrors = { count = 1, every = 1000 }"
+    yield from units()
+    for group in range(GROUPS):
+        size = SIGNALS if group % 2 else 8
+        yield f'[[group]]\nlabel = "G{group}"\npgn = {126976 + group}\npriority = {group % 8}\nlength = {size}'
+        for signal in range(SIGNALS if group % 2 else SIGNALS // 2):
+            place = f"byte = {signal + 1}\nbits = 8" if group % 2 else f"byte = {signal // 4 + 1}\nbit = {signal % 4 * 2 + 1}\nbits = 2"
+            kind = 'kind = "measured"\nunit = "rpm"' if group % 2 else 'kind = "discrete"'
+            yield f'[[group.signal]]\nlabel = "S{signal}"\n{place}\n{kind}'
+    for flow in range(FLOWS):
+        sender = (flow + flow // GROUPS) % UNITS
+        receiver = "all" if flow < FLOWS // 2 or flow % 2 == 0 else f"U{(sender + 1 + flow // UNITS) % UNITS}"
+        yield f'[[flow]]\ngroup = "G{flow % GROUPS}"\nfrom = "U{sender}"\nto = "{receiver}"'
+        yield f"period = {5000 + flow}\njitter = 3\npause = {6000 + flow}"
+    for need in range(NEEDS):
+        yield f'[[need]]\nunit = "U{(need + 7) % UNITS}"\ngroup = "G{need % GROUPS}"'
+        if need % 2 == 0:
+            yield "within = 60000"
 
 
 def schedule():
@@ -40,6 +66,6 @@ def schedule():
         yield f"rest U{sender}"
 
 
-for name, lines in zip(sys.argv[1:], (plan(), schedule())):
+for name, lines in zip(sys.argv[1:], (plan(), schedule(), timed())):
     with open(name, "w") as file:
         file.writelines(f"{line}\n" for line in lines)

@@ -1,5 +1,6 @@
 #!/usr/bin/python3
-"""Says where a log isn't as a plan has it: senders, NAMEs and addresses, groups, lengths, priorities, flows, their periods and silences.
+"""Says where a log isn't as a plan has it: senders, NAMEs and addresses, groups, lengths, priorities, flows, their periods and silences, and
+needs that nothing met.
 
 The log is one of candump -L, or several of one drive. Who sent what, and which flow it was, is what `j39plan follow` reports. Each deviation
 is told once, at its first line, with how often it was met; services of the network, and proprietary groups that aren't planned, are none.
@@ -11,10 +12,11 @@ from dataclasses import dataclass
 
 import program
 from clock import Clock, nanoseconds
+from damage import Damage
 from distances import SILENCE, Deviation, Distances, Tolerance
 from hands import Hands
 from j1939 import ADDRESS_CLAIMED, GLOBAL_ADDRESS, NULL_ADDRESS, OTHER_SERVICES, PROPRIETARY, REQUEST, SERVICES
-from logs import Log
+from logs import Log, interface_option
 from marks import Feed, Kind, Mark
 from plan_tables import NAME_FIELDS, Group, Tables
 from reports import Claim, Counts, Message, Report, Request, Who, follow, tables_of
@@ -66,7 +68,7 @@ class Comparison:
     """What was met in a log that isn't as the plan has it."""
 
     def __init__(self, tables: Tables, distances: Distances, bounds: list[Bound]) -> None:
-        self.flows, self.timing = tables.flows, tables.timing
+        self.flows, self.needs, self.timing = tables.flows, tables.needs, tables.timing
         self.units = {unit.label: unit for unit in tables.units}
         self.groups: dict[int, list[Group]] = {}
         for group in tables.groups:
@@ -74,7 +76,7 @@ class Comparison:
         self.planned = {group.label: group for group in tables.groups}
         self.sent: dict[Way, int] = {(flow.group, flow.sender, flow.to): 0 for flow in tables.flows}
         self.distances, self.hands, self.clock = distances, Hands(tables.units), Clock()
-        self.transfers, self.unplanned = Transfers(tables.timing), Unplanned(tables, bounds)
+        self.transfers, self.unplanned, self.damage = Transfers(tables.timing), Unplanned(tables, bounds), Damage(tables.timing)
         self.met: dict[str, Met] = {}
         self._begun: dict[Pair, Begun] = {}
         self._reported = 0  # the line of the last message that came without an announcement
@@ -154,6 +156,8 @@ class Comparison:
         if mark.kind is Kind.SHORT:
             self.tell(line, "a frame with an 11-bit identifier, which may go before each planned one")
             self.unplanned.came(line, at, mark.identifier)
+        elif mark.kind is Kind.ERROR:
+            self.damage.came(line, at, mark)
         elif mark.kind is Kind.OTHER:
             self.passes(line, at, mark.identifier, f"PGN {mark.pgn} from {sender.shown}")
         elif mark.kind in (Kind.CONTROL, Kind.PACKET):
@@ -253,15 +257,24 @@ class Comparison:
         has no line."""
         for begun in self._begun.values():
             self.end(begun)
-        found = [*self.hands.end(last), *self.distances.end(last), *self.transfers.end(), *self.unplanned.end()]
+        found = [*self.hands.end(last), *self.distances.end(last), *self.transfers.end(), *self.unplanned.end(), *self.damage.end()]
         found += [(met.line, text + met.detail, met.count) for text, met in self.met.items()]
         yield from sorted(found, key=lambda deviation: deviation[0] or 0)
         for number, flow in enumerate(self.flows, 1):
             if self.sent[flow.group, flow.sender, flow.to] == 0:
                 yield None, f"{self.distances.name(number)}: never sent", 0
+        yield from self.unmet()
         for label in self.units:
             if has_frames and label not in self.hands.seen:
                 yield None, f"unit {label}: neither claimed an address nor sent anything", 0
+
+    def unmet(self) -> Iterator[Deviation]:
+        """The needs that nothing met in this log."""
+        for number, need in enumerate(self.needs, 1):
+            flows = [flow for flow in self.flows if need.is_met_by(flow)]
+            if not any(self.sent[flow.group, flow.sender, flow.to] for flow in flows):
+                why = "" if flows else ", and no flow of the plan does"
+                yield None, f"need {number}, {need.what} by {need.unit}: nothing met it{why}", 0
 
 
 def words_of(words: list[str] | None) -> argparse.Namespace:
@@ -269,10 +282,12 @@ def words_of(words: list[str] | None) -> argparse.Namespace:
     parser = program.parser(__doc__)
     parser.epilog = "example: %(prog)s --jitter 10%% plan.toml drive.log"
     parser.add_argument("--jitter", metavar="TIME", type=Tolerance.of, default=Tolerance(0, 0, ""),
-                        help="by how much messages may come nearer than their flow's period: in ms, as 2.5, or a share of it, as 10%% (0)")
+                        help="by how much messages may come nearer than their flow's period, beside the plan's jitter, and further apart than its pause: in "
+                        "ms, as 2.5, or a share of these, as 10%% (0)")
     parser.add_argument("--silence", metavar="N", type=int, default=SILENCE,
-                        help=f"after how many periods without a message a flow is silent; 0: silences aren't told ({SILENCE})")
+                        help=f"after how many periods without a message a flow without a pause is silent; 0: such silences aren't told ({SILENCE})")
     parser.add_argument("--table", action="store_true", help="a table of the flows first: how often each was sent, and how far apart")
+    interface_option(parser)
     parser.add_argument("plan", metavar="PLAN", help="the name of a plan file")
     parser.add_argument("logs", metavar="LOG", nargs="+", help="names of files as candump -L writes them, in the order of the drive")
     return parser.parse_args(words)
@@ -281,7 +296,7 @@ def words_of(words: list[str] | None) -> argparse.Namespace:
 def main(words: list[str] | None = None) -> int:
     """Writes the deviations; 0 where there is none, 1 where there is one."""
     given, counts = words_of(words), Counts()
-    with program.copied(given.plan) as plan, Log(given.logs) as log:
+    with program.copied(given.plan) as plan, Log(given.logs, given.interface) as log:
         tables = tables_of(plan)
         distances = Distances(tables.flows, given.jitter, given.silence, given.table)
         feed, comparison = Feed(tables.groups, tables.timing), Comparison(tables, distances, bounds_of(plan, tables))
@@ -289,8 +304,9 @@ def main(words: list[str] | None = None) -> int:
             line, mark = feed.place(report)
             comparison.report(line, report, mark)
     counts.elsewhere -= feed.unread
+    counts.bad -= comparison.damage.frames
     counts.refuse_without_frames(log)
-    counts.say()
+    counts.say(log.interface)
     comparison.clock.say(log)
     if distances.without_time:
         program.say("the log has no times by which the periods of flows could be compared")

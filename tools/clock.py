@@ -7,6 +7,7 @@ from logs import Log
 
 # A time in seconds, as a log spells it, and nanoseconds in a second and a millisecond.
 TIME = re.compile(r"\((\d+)(?:\.(\d*))?\)")
+NINES = "9999.999999)"
 SECOND, MILLISECOND = 10**9, 10**6
 
 # Times that go on by more, or back by more, are those of a clock that was set. What goes back by less is out of order; where that is a
@@ -55,7 +56,7 @@ class Clock:
         self.is_set = False  # at the line that was seen last
         self.has_times = False
         self.first_line = self.back = self.on = 0
-        self._said = self._glanced = ""
+        self._said = self._glanced = self._end = ""
 
     def see(self, line: int, time: str) -> int | None:
         """The time of a line in nanoseconds, None where it has none."""
@@ -70,13 +71,16 @@ class Clock:
             self._set(line, step)
         return at
 
-    def glance(self, line: int, time: str) -> None:
-        """Sees a time, where it isn't asked what it is: one in microseconds that is spelled as long as the one before, no smaller, and with the same
-        digits up to those of ten thousand seconds, shows that the clock goes on."""
+    def goes_on(self, time: str) -> bool:
+        """Whether a time surely goes on from the one before, so that none but who asks what it is has to `see` it: one in microseconds
+        that is spelled as long, no smaller, and with the same digits up to those of ten thousand seconds."""
         before, self._glanced = self._glanced, time
-        if time[-8:-7] != "." or len(time) != len(before) or time < before or time[:-12] != before[:-12]:
-            self.last = nanoseconds(before) or self.last
-            self.see(line, time)
+        if before <= time <= self._end and len(time) == len(self._end) and time[-8] == ".":
+            return True
+        self.last = nanoseconds(before) or self.last
+        head = time[:-len(NINES)] or "("
+        self._end = head + NINES[len(head) - len(time):] if time[-8:-7] == "." else ""
+        return False
 
     def _set(self, line: int, step: int) -> None:
         """The clock was set, or what came is out of order."""

@@ -8,8 +8,8 @@ from typing import NamedTuple
 
 from clock import SECOND, Clock
 from plan_tables import Unit
-from readings import Row
-from reports import Claim, Report, Request, Who
+from readings import Reading, Wanted
+from reports import Claim, Message, Report, Request, Who
 
 
 @dataclass
@@ -31,12 +31,14 @@ class Curve:
             self.states.setdefault(state, array("d")).append(time)
 
 
-def curves_of(rows: Iterable[Row], clock: Clock) -> list[Curve]:
-    """The curves of a log, by their first points; the clock has seen each row, and none behind it."""
+def curves_of(reports: Iterable[Report], wanted: Wanted[Reading], clock: Clock) -> list[Curve]:
+    """The curves of a log, by their first points; the clock has seen each report, and none behind it."""
     curves: dict[tuple[str, str, str], Curve] = {}
-    for message, readings in rows:
+    for message in reports:
+        if not isinstance(message, Message):
+            continue
         time, group, sender = clock.seconds(message.line), message.group, message.sender.shown
-        for label, reading in readings:
+        for label, reading in wanted.of(group, message.signals):
             key = group, label, sender
             curve = curves.get(key)
             if curve is None:

@@ -9,7 +9,6 @@ from collections.abc import Iterator
 import program
 from plan_tables import Group, Tables
 from readings import Choice
-from toml_places import Places
 
 # A header with its keys, as far as they are bare ones.
 HEADER = re.compile(r"\[\[?[ \t]*([A-Za-z0-9_-]+)[ \t]*(?:\.[ \t]*([A-Za-z0-9_-]+)[ \t]*)?(?:\.[^\]\n]*)?\]")
@@ -66,8 +65,8 @@ class Scissors:
 
 
 def shorter(text: str, tables: Tables, choice: Choice) -> str | None:
-    """The text of a plan without what isn't wanted; None where that can't be had of it."""
-    places = Places(text)
+    """The text of a plan, which has these tables, without what isn't wanted; None where that can't be had of it."""
+    places = tables.places
     kinds = {signal.kind for group in tables.groups for signal in group.signals if (group.label, signal.label) in choice.columns}
     if "dtc" in kinds and any(place[-1:] == ("spn",) for place in places.lines):
         return None  # a code is told with the signal of its number, of whatever group

@@ -51,9 +51,10 @@ def chosen(sent: list[Sent], senders: list[str], groups: list[str]) -> list[Sent
 
 def plan_of(given: argparse.Namespace, notes: Notes) -> Plan:
     """The plan that can be made of the files."""
-    network = matrix_merge.load(given.files, Form(given.bus, given.kind, given.encoding), notes)
+    form, bitrates = Form(given.bus, given.kind, given.encoding), matrix_merge.bitrates_of(given.version)
+    network = matrix_merge.load(given.files, form, notes, bitrates)
     sent = chosen(network.sent, given.sender, given.group)
-    plan = Plan(network, notes, given.strict, given.version)
+    plan = Plan(network, notes, given.strict, given.version, not given.no_needs)
     plan.add_units()
     plan.add_frames(sent)
     if not plan.units and not plan.groups:
@@ -96,6 +97,7 @@ def options(words: list[str] | None) -> argparse.Namespace:
     parser.add_argument("--encoding", type=encoding, help="in which encoding the lines of DBC and SYM files are")
     parser.add_argument("--strict", action="store_true",
                         help="keep signals that lie outside of their group or over an earlier one, which check then finds")
+    parser.add_argument("--no-needs", action="store_true", help="leave out who needs what, which version 4 has by the receivers of signals")
     program.note_options(parser)
     return parser.parse_args(words)
 
@@ -122,7 +124,8 @@ def main(words: list[str] | None = None) -> int:
     plan, text = made(given, notes)
     sys.stdout.reconfigure(encoding="utf-8")
     sys.stdout.write(text)
-    print(f"{len(plan.units)} units {len(plan.groups)} groups {len(plan.flows)} flows, notes {notes.count}", file=sys.stderr)
+    needs = f" {len(plan.needs)} needs" if plan.needs else ""
+    print(f"{len(plan.units)} units {len(plan.groups)} groups {len(plan.flows)} flows{needs}, notes {notes.count}", file=sys.stderr)
     return program.noted(given, notes)
 
 

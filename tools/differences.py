@@ -192,7 +192,8 @@ def of_answers(matched: Matched, old: Answers, new: Answers) -> Iterator[Change]
             if before is not None and now is not None and old.load and new.load:
                 told = old.delays.get(before.line()), new.delays.get(now.line())
                 if told[0] != told[1]:
-                    yield Change(name_of(now), "delay", *told, before.line(), now.line())
+                    key, *words = ("age", *(text and text.removeprefix("age ") for text in told)) if now.table == "need" else ("delay", *told)
+                    yield Change(name_of(now), key, *words, before.line(), now.line())
     if old.load != new.load:
         yield Change("bus", "load", old.load, new.load, None, None)
 

@@ -63,10 +63,10 @@ def limits_of(flow: Flow, tolerance: Tolerance, silence: int) -> Limits | None:
         return None
     least = flow.period * MILLISECOND - tolerance.at(flow.period) - flow.jitter * MILLISECOND
     if flow.pause is not None:
-        most, why = flow.pause * MILLISECOND + tolerance.at(flow.pause), f"its pause is {flow.pause} ms"
-    else:
-        most, why = silence * flow.period * MILLISECOND, f"its period is {flow.period} ms"
-    return Limits(least, None if flow.on_request or not silence else most, why)
+        most = (flow.pause + flow.jitter) * MILLISECOND + tolerance.at(flow.pause)
+        return Limits(least, most, f"its pause is {flow.pause} ms" + (f" and its jitter {flow.jitter} ms" if flow.jitter else ""))
+    most = silence * flow.period * MILLISECOND
+    return Limits(least, None if flow.on_request or not silence else most, f"its period is {flow.period} ms")
 
 
 class Distances:
@@ -128,7 +128,9 @@ class Distances:
     def end(self, last: int | None) -> Iterator[Deviation]:
         """What is told of them where the last time of the log is this one."""
         for number, nearest in self.nearest.items():
-            text = f"{milliseconds(nearest.distance)} ms behind the one before, its period is {self._flows[number - 1].period} ms"
+            flow = self._flows[number - 1]
+            jitter = f" and its jitter {flow.jitter} ms" if flow.jitter else ""
+            text = f"{milliseconds(nearest.distance)} ms behind the one before, its period is {flow.period} ms{jitter}"
             yield nearest.line, f"{self.name(number)}: {text}", nearest.count
         for number, longest in self.longest.items():
             limits = self._limits[number]

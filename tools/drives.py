@@ -13,12 +13,15 @@ import stat
 import subprocess
 import sys
 from collections.abc import Iterator
+from functools import lru_cache
 from typing import NamedTuple, TypedDict
 
 import program
 from clock import nanoseconds
+from logs import OneInterface
 from plan_tables import Tables
 from readings import reading_of, scale_of
+from reports import Writer, as_it_comes
 
 
 SECOND = 10**9
@@ -239,20 +242,36 @@ class Followed:
         drive["signals"] = self._signals.found()
 
 
-def followed(plan: str, log: str, tables: Tables) -> Followed:
-    """What `follow` says of a log."""
-    found = Followed(tables)
+def interface_in(options: list[str]) -> str | None:
+    """The interface that the options of `against` name, None where they name none."""
+    return options[options.index("--interface") + 1] if "--interface" in options else None
+
+
+def started(plan: str, log: str, source: int) -> subprocess.Popen[bytes]:
+    """The program that follows a log."""
     try:
-        started = subprocess.Popen([program.path(), "follow", "--", plan, log], stdout=subprocess.PIPE, stderr=subprocess.PIPE)
+        return subprocess.Popen([program.path(), "follow", "--", plan, log], stdin=source, stdout=subprocess.PIPE, stderr=subprocess.PIPE)
     except OSError as fault:
         raise program.Refused(program.MISSING, f"j39plan can't be run: {program.path()}: {fault.strerror}") from None
-    with started as process:
+
+
+def followed(plan: str, log: str, tables: Tables, interface: str | None) -> Followed:
+    """What `follow` says of a log, or of an interface of it."""
+    found = Followed(tables)
+    with open(log, "rb") as file, started(plan, "/dev/stdin" if interface else log, subprocess.PIPE if interface else subprocess.DEVNULL) as process:
         assert process.stdout is not None and process.stderr is not None
+        part = OneInterface(file, interface) if interface else None
+        writer = Writer(as_it_comes(part), process.stdin, False) if part and process.stdin else None
+        if writer:
+            writer.start()
         found.take(iter(process.stdout))
         said = process.stderr.read().decode(errors="replace").strip()
         status = process.wait()
+        if writer:
+            writer.close()
     if status != 0:
         raise program.Refused(status if status > 0 else program.FAULT, said.removeprefix("j39plan: ") or f"j39plan ended with {status}")
+    found.counts["elsewhere"] += part.elsewhere if part else 0
     if found.counts["frames"] == 0 and found.counts["bad"]:
         raise program.Refused(program.UNREADABLE, "none of its lines spells a frame: is it a log of candump -L?")
     return found
@@ -263,6 +282,12 @@ def empty(log: str) -> Drive:
     return Drive(log=log, status=0, failed="", notes=[], deviations=[], counts={}, sent={}, silences={}, claims={}, signals={})
 
 
+@lru_cache(maxsize=1)
+def tables_of(plan: str) -> Tables:
+    """The tables of the text of a plan, which is the same for all logs of a fleet."""
+    return Tables.of(plan.encode())
+
+
 def drive_of(plan: str, log: str, path: str, options: list[str]) -> Drive:
     """What a log has, by the text of a plan; the log is called so, and lies there. Whatever goes wrong is said in the table."""
     drive = empty(log)
@@ -270,7 +295,7 @@ def drive_of(plan: str, log: str, path: str, options: list[str]) -> Drive:
         if not stat.S_ISREG(os.stat(path).st_mode):
             raise program.Refused(program.UNREADABLE, "it is no regular file")
         with open(path, "rb"), program.file_of(plan) as copy:
-            found = followed(copy, path, Tables.of(plan.encode()))
+            found = followed(copy, path, tables_of(plan), interface_in(options))
             found.put(drive)
             drive["deviations"], drive["notes"] = compared(copy, path, options)
     except program.Refused as refused:

@@ -15,6 +15,7 @@ from collections.abc import Iterable, Iterator
 import program
 from drives import Drive, answered, command
 from fleet_table import Fleet
+from logs import interface_option
 from plan_tables import Tables
 from workers import Task, team
 
@@ -53,6 +54,11 @@ def different(names: list[str]) -> list[str]:
     return list(found.values())
 
 
+def largest_first(logs: list[str]) -> list[str]:
+    """The logs by their sizes, so that none that takes long is begun when the others are done."""
+    return sorted(logs, key=lambda log: -os.path.getsize(log) if os.path.isfile(log) else 0)
+
+
 def progressing(drives: Iterable[Drive], count: int) -> Iterator[Drive]:
     """The tables of logs as they come, with a bar of how many are there, on a terminal alone; a log that failed is named at once."""
     is_shown = sys.stderr.isatty()
@@ -87,15 +93,16 @@ def main(words: list[str] | None = None) -> int:
     parser.add_argument("plan", metavar="PLAN", help="the name of a plan file")
     parser.add_argument("logs", metavar="LOG", nargs="+", help="the name of a file as candump -L writes it")
     parser.add_argument("--jitter", metavar="TIME", help="by how much messages may come nearer than their flow's period, as of against")
+    interface_option(parser)
     parser.add_argument("--json", action="store_true", help="as a JSON object with an array for each table")
     who = parser.add_mutually_exclusive_group()
     who.add_argument("--processes", metavar="N", type=processes_of, help="how many logs are read at once (as many as there are processors)")
     who.add_argument("--scheduler", metavar="ADDRESS", type=scheduler_of, help="the scheduler of a Dask cluster, whose workers read the logs "
                      "by the same names")
     given = parser.parse_args(words)
-    options = [] if given.jitter is None else ["--jitter", given.jitter]
+    options = [word for key in ("jitter", "interface") for value in [getattr(given, key)] if value is not None for word in (f"--{key}", value)]
     plan, logs = plan_of(given.plan, options), different(given.logs)
-    tasks: list[Task] = [(plan, log, os.path.abspath(log), options) for log in logs]
+    tasks: list[Task] = [(plan, log, os.path.abspath(log), options) for log in largest_first(logs)]
     found = {drive["log"]: drive for drive in progressing(team(given.processes, given.scheduler)(tasks), len(tasks))}
     fleet = Fleet(Tables.of(plan.encode()), [found[log] for log in logs])
     if given.json:

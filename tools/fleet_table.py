@@ -94,6 +94,14 @@ class Fleet:
                 "silence_line": longest[2] if longest else None,
             }
 
+    def needs(self) -> Iterator[dict[str, Any]]:
+        """A row a need: how often it was met, by the flows that meet it, and in how many logs."""
+        for number, need in enumerate(self.tables.needs, 1):
+            flows = [at for at, flow in enumerate(self.tables.flows, 1) if need.is_met_by(flow)]
+            met = [sum(drive["sent"].get(at, 0) for at in flows) for drive in self.drives]
+            yield {"need": number, "unit": need.unit, "group": need.group, "signal": need.signal or None, "from": need.sender or None,
+                   "met": sum(met), "logs": sum(map(bool, met)), "unmet": [drive["log"] for drive, times in zip(self.drives, met) if not times]}
+
     def units(self) -> Iterator[dict[str, Any]]:
         """A row a unit: its deviations, and in how many logs it has any. Those of nobody in the plan are of none."""
         for label in [*(unit.label for unit in self.tables.units), None]:
@@ -138,8 +146,8 @@ class Fleet:
         """All tables, as plain values."""
         return {
             "logs": list(self.logs()), "failed": [{"log": drive["log"], "why": drive["failed"]} for drive in self.failed],
-            "deviations": list(self.deviations()), "flows": list(self.flows()), "units": list(self.units()), "names": list(self.names()),
-            "signals": list(self.signals()),
+            "deviations": list(self.deviations()), "flows": list(self.flows()), "needs": list(self.needs()), "units": list(self.units()),
+            "names": list(self.names()), "signals": list(self.signals()),
         }
 
     def lines(self) -> Iterator[str]:
@@ -151,6 +159,8 @@ class Fleet:
         yield from aligned(("flow", "sent", "logs", "deviations", "longest silence", "at"), (
             (flow_name(row["flow"], self.tables.flows[row["flow"] - 1]), row["sent"], row["logs"], row["deviations"],
              *silence_of(row)) for row in self.flows()))
+        yield from aligned(("need", "met", "logs", "not met"), (
+            (need_name(row), row["met"], row["logs"], more_of(row["unmet"])) for row in self.needs()))
         yield from aligned(("unit", "deviations", "logs"), (
             (row["unit"] or "not planned", row["deviations"], row["logs"]) for row in self.units()))
         yield from aligned(("NAME", "unit", "addresses", "logs", "claims", "first"), (
@@ -163,6 +173,17 @@ class Fleet:
             yield f"failed {drive['log']}: {drive['failed']}"
         logs = sum(bool(drive["deviations"]) for drive in self.drives)
         yield f"logs {len(self.drives)} with deviations {logs} failed {len(self.failed)}"
+
+
+def need_name(row: dict[str, Any]) -> str:
+    """A need by its number and what it is."""
+    what = " ".join(filter(None, (row["group"], row["signal"])))
+    return f"{row['need']} {what} by {row['unit']}" + (f" from {row['from']}" if row["from"] else "")
+
+
+def more_of(logs: list[str]) -> str:
+    """The first of some logs, and how many others there are."""
+    return "-" if not logs else logs[0] if len(logs) == 1 else f"{logs[0]} and {len(logs) - 1} others"
 
 
 def silence_of(row: dict[str, Any]) -> tuple[str, str]:

@@ -136,7 +136,7 @@ class Join:
         merged.origins.append(part)
 
     def _top(self, source: Source, number: int) -> None:
-        """Joins what stands before the first table: the version is the latest one, and kept free is what any plan keeps free."""
+        """Joins what stands before the first table: of versions the latest, of strangers the most; free is kept what any plan keeps free."""
         top, said = self.top, source.top.said
         if number == 0:
             return
@@ -144,8 +144,11 @@ class Join:
         kept = dict.fromkeys([*(top.values.get("keep_free") or []), *(said.get("keep_free") or [])])
         if kept:
             top.values["keep_free"] = list(kept)
+        strangers = max(top.values.get("strangers") or 0, said.get("strangers") or 0)
+        if strangers:
+            top.values["strangers"] = strangers
         for key in said:
-            if key in ("version", "keep_free"):
+            if key in ("version", "keep_free", "strangers"):
                 continue
             if key not in top.values:
                 top.values[key], top.keys[key] = said[key], source.top

@@ -4,6 +4,7 @@ from __future__ import annotations
 
 from collections.abc import Iterator
 
+import need_hints
 from j1939 import POOL
 from toml_places import Place, Places
 
@@ -12,7 +13,9 @@ Hint = tuple[int, str]
 
 # The priorities above that of control, which is 3 by default; that of information is 6 (SAE J1939-21).
 HIGH_PRIORITY = range(3)
-FRAME_BYTES = 8
+
+# How many bytes a frame has, how many a packet of a longer message carries, and how far apart packets to all are, in ms, where no key says it.
+FRAME_BYTES, CHUNK, GAP = 8, 7, 50
 
 
 class Lint:
@@ -21,11 +24,12 @@ class Lint:
     def __init__(self, places: Places) -> None:
         self.places = places
         self.units, self.groups = places.elements(("unit",)), places.elements(("group",))
-        self.flows = places.elements(("flow",))
+        self.flows, self.needs = places.elements(("flow",)), places.elements(("need",))
 
     def hints(self) -> list[Hint]:
         """All hints, in the order of the file."""
-        found = (self.unsent, self.idle, self.fixed_in_pool, self.short, self.urgent, self.equal_identities)
+        found = (self.unsent, self.idle, self.fixed_in_pool, self.short, self.urgent, self.equal_identities,
+                 self.unsendable, self.untaken, self.met_twice)
         return sorted({hint for part in found for hint in part()})
 
     def label(self, place: Place) -> str:
@@ -48,8 +52,9 @@ class Lint:
                 yield self.at(group + ("label",), f"group {self.label(group)}: no flow sends it")
 
     def idle(self) -> Iterator[Hint]:
-        """Units that neither send a group nor get one that goes to them."""
+        """Units that neither send a group, nor get one that goes to them, nor need one."""
         busy = {self.places.texts[flow + (end,)] for flow in self.flows for end in ("from", "to")}
+        busy |= {self.places.texts[need + ("unit",)] for need in self.needs}
         for unit in self.units:
             if self.label(unit) not in busy:
                 yield self.at(unit + ("label",), f"unit {self.label(unit)}: no flow is from it or to it alone")
@@ -97,3 +102,35 @@ class Lint:
         """The manufacturer code of a unit."""
         place = unit + ("name", "manufacturer")
         return self.places.integer(place) if place in self.places.spelled else 0
+
+    def named(self, flow: Place) -> str:
+        """A flow by its number, and by what is sent, by whom and to whom."""
+        group, sender, receiver = (self.places.texts[flow + (key,)] for key in ("group", "from", "to"))
+        return f"flow {flow[-1]}, {group} from {sender} to {receiver}"
+
+    def unsendable(self) -> Iterator[Hint]:
+        """Long messages to all that take more time than there is between two of them, in a plan that says how fast its bus is."""
+        gap = self.places.number(("timing", "broadcast_gap")) or GAP
+        groups = {self.label(group): group for group in self.groups}
+        for flow in self.flows if ("timing",) in self.places.lines else ():
+            group, period = groups[self.places.texts[flow + ("group",)]], self.places.number(flow + ("period",))
+            most = self.places.number(group + ("most",)) or self.places.integer(group + ("length",))
+            packets = -(-most // CHUNK)
+            if self.places.texts[flow + ("to",)] == "all" and most > FRAME_BYTES and period and packets * gap > period:
+                text = f"{packets} packets {gap} ms apart take {packets * gap} ms, more than its period of {period} ms"
+                yield self.at(flow + ("period",), f"{self.named(flow)}: {text}")
+
+    def untaken(self) -> Iterator[Hint]:
+        """Flows to one unit that it doesn't need, in a plan with needs."""
+        for flow in self.flows if self.needs else ():
+            receiver = self.places.texts[flow + ("to",)]
+            if receiver != "all" and not any(need_hints.meets(self.places, flow, need) for need in self.needs):
+                yield self.at(flow + ("to",), f"{self.named(flow)}: no need of {receiver} takes it")
+
+    def met_twice(self) -> Iterator[Hint]:
+        """Needs that two senders meet."""
+        for need in self.needs:
+            senders = dict.fromkeys(self.places.texts[flow + ("from",)] for flow in self.flows if need_hints.meets(self.places, flow, need))
+            if len(senders) > 1:
+                text = f"{' and '.join(senders)} meet it; from says which one is meant"
+                yield self.at(need + ("group",), f"need {need[-1]}, {need_hints.named(self.places, need)}: {text}")

@@ -1,5 +1,7 @@
-"""A log as the tools read it: one file, or several of one drive behind one another, from a disk or from a pipe."""
+"""A log as the tools read it: one file, or several of one drive behind one another, from a disk or from a pipe; of all its interfaces, or
+of one."""
 
+import argparse
 import bisect
 import io
 import os
@@ -9,13 +11,19 @@ import stat
 import time
 from collections.abc import Sequence
 from types import FrameType
-from typing import Self
+from typing import BinaryIO, Self
 
 # So much of the begin and of the end of a log is kept, to see its first and its last time.
 KEPT = 1 << 16
 
 # So long is waited, in seconds, for what is still on its way in a pipe when an interrupt has come.
 GRACE = 0.5
+
+# So many bytes of a line are looked at; `follow` reads lines of up to 8,192.
+LINE_MOST = 8000
+
+# So many interfaces are named that a log has.
+NAMED = 8
 
 
 def is_live(file: io.FileIO) -> bool:
@@ -27,9 +35,9 @@ class Log(io.RawIOBase):
     """The files of a log as one, each of whose lines ends. An interrupt from the keyboard ends what records the log, too, and what came
     of it is to be told: so where a file is a pipe, the first interrupt ends the log, and no more."""
 
-    def __init__(self, names: Sequence[str]) -> None:
+    def __init__(self, names: Sequence[str], interface: str | None = None) -> None:
         super().__init__()
-        self.names = list(names)
+        self.names, self.interface = list(names), interface
         self.files = [open(name, "rb", buffering=0) for name in names]
         self.is_live = any(map(is_live, self.files))
         self._at, self._lines, self._starts, self._is_cut = 0, 0, [0], False
@@ -101,3 +109,41 @@ class Log(io.RawIOBase):
         signal.signal(signal.SIGINT, signal.default_int_handler)
         self._end = time.monotonic() + GRACE
         os.write(self._wake, b"!")
+
+
+def interface_of(line: bytes) -> bytes | None:
+    """The interface that a line of a log names, as `follow` has it: the word before the last one, a direction passed over; a time is none."""
+    words = line.split()
+    if words[-1:] in ([b"R"], [b"T"]):
+        words.pop()
+    return words[-2] if len(words) > 1 and not words[-2].startswith(b"(") else None
+
+
+class OneInterface:
+    """What comes of a log, line by line, with empty lines in place of those of other interfaces: so each line keeps its number."""
+
+    def __init__(self, log: BinaryIO, interface: str) -> None:
+        self._log, self._interface = log, os.fsencode(interface)
+        self._is_begun = False  # whether the line was too long to be handed out whole
+        self.elsewhere = 0
+        self.others: dict[str, None] = {}
+
+    def read1(self, _: int = -1) -> bytes:
+        """The next line, as soon as it is there."""
+        return self.readline(LINE_MOST)
+
+    def readline(self, size: int) -> bytes:
+        """The next line; one that is longer in pieces."""
+        piece = self._log.readline(size)
+        was_begun, self._is_begun = self._is_begun, len(piece) == size and not piece.endswith(b"\n")
+        if was_begun or self._is_begun or interface_of(piece) in (None, self._interface):
+            return piece
+        self.elsewhere += 1
+        if len(self.others) < NAMED:
+            self.others[os.fsdecode(interface_of(piece) or b"")] = None
+        return b"\n"
+
+
+def interface_option(words: argparse.ArgumentParser) -> None:
+    """The option by which a tool reads one interface of a log."""
+    words.add_argument("--interface", metavar="NAME", help="the interface that is read of a log of several, as can1 (the first one)")

@@ -20,6 +20,10 @@ from reports import Report
 FRAME = re.compile(rb"(?:^|[ \t\r])([01][0-9A-Fa-f]{7})#((?:[0-9A-Fa-f]{2}){0,8})(?:[ \t\r]+[RT])?[ \t\r]*\n?$")
 SHORT = re.compile(rb"(?:^|[ \t\r])([0-9A-Fa-f]{3})#[^ \t\r]*(?:[ \t\r]+[RT])?[ \t\r]*\n?$")
 
+# An error frame as Linux has it: its classes in place of an identifier, behind the flag of 2^29.
+ERROR = re.compile(rb"(?:^|[ \t\r])(2[0-9A-Fa-f]{7})#((?:[0-9A-Fa-f]{2}){8})(?:[ \t\r]+[RT])?[ \t\r]*\n?$")
+ERROR_FLAG = 1 << 29
+
 # What parts words, and words that may stand behind a frame.
 BLANKS, DIRECTIONS = b" \t\r\n", (b"R", b"T")
 
@@ -37,14 +41,14 @@ NOBODY = 6 << 26 | REQUEST << 8 | GLOBAL_ADDRESS << 8 | NULL_ADDRESS
 
 class Kind(Enum):
     """What a marked line has: a message in one frame, the announcement of a long one, what else manages a connection, a packet, a frame with
-    an 11-bit identifier, or one of which only its place on the bus is looked at."""
+    an 11-bit identifier, an error frame, or one of which only its place on the bus is looked at."""
 
-    MESSAGE, ANNOUNCEMENT, CONTROL, PACKET, SHORT, OTHER = range(6)
+    MESSAGE, ANNOUNCEMENT, CONTROL, PACKET, SHORT, ERROR, OTHER = range(7)
 
 
 class Mark(NamedTuple):
     """What a marked line has: its identifier, and of what PGN and how many bytes; of an announcement those of the message, and whether it
-    keeps the rules; and of connection management the bytes."""
+    keeps the rules; and of connection management the bytes. Of an error frame these are its classes and its bytes."""
 
     kind: Kind
     identifier: int
@@ -126,7 +130,7 @@ class Feed:
             return b"\n"
         found = FRAME.search(line)
         if found is None:
-            return self._mark_of_short(number, line)
+            return self._mark_of_another(number, line)
         self._last = line
         identifier, data = int(found.group(1), 16), bytes.fromhex(found.group(2).decode())
         if self._is_reported(identifier, len(data)):
@@ -144,12 +148,16 @@ class Feed:
         self._written += 1
         return spelled
 
-    def _mark_of_short(self, number: int, line: bytes) -> bytes:
-        """The line behind one that has no 29-bit frame."""
-        found = SHORT.search(line) if self._timing else None
+    def _mark_of_another(self, number: int, line: bytes) -> bytes:
+        """The line behind one that has no 29-bit frame: an 11-bit one, or an error frame."""
+        found = (SHORT.search(line) or ERROR.search(line)) if self._timing else None
         if found is None:
             return b"\n"
-        mark = Mark(Kind.SHORT, int(found.group(1), 16) << 18, 0, 0)
+        identifier = int(found.group(1), 16)
+        if found.re is SHORT:
+            mark = Mark(Kind.SHORT, identifier << 18, 0, 0)
+        else:
+            mark = Mark(Kind.ERROR, identifier & ~ERROR_FLAG, 0, 8, data=bytes.fromhex(found.group(2).decode()))
         return self._put(number, mark, line[:found.start(1)] + b"%08X#00EE00\n" % NOBODY)
 
     def _is_reported(self, identifier: int, length: int) -> bool:

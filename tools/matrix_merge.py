@@ -17,8 +17,13 @@ if TYPE_CHECKING:
 SHARED = (*(attribute for attribute, _ in NAME_ATTRIBUTES.values()), ARBITRARY_ATTRIBUTE)
 OWN = (ADDRESS_ATTRIBUTE, IDENTITY_ATTRIBUTE[0], UNIT_ATTRIBUTE, "LongName", *SHARED)
 
-# How fast a bus of a plan is, in bits a second (docs/PLAN.md).
-BITRATES = (250_000, 500_000)
+# How fast a bus of a plan is, in bits a second, and what version 4 has beside that (docs/PLAN.md).
+BITRATES, FURTHER_BITRATES = (250_000, 500_000), (125_000, 1_000_000)
+
+
+def bitrates_of(version: int) -> tuple[int, ...]:
+    """How fast a bus of a plan of this version can be."""
+    return BITRATES if version < 4 else (*BITRATES, *FURTHER_BITRATES)
 
 
 @dataclass
@@ -43,8 +48,8 @@ class Sent(NamedTuple):
 class Network:
     """The nodes and frames of all files. A node is known by its name; each file may give what an earlier one doesn't."""
 
-    def __init__(self, notes: Notes) -> None:
-        self.notes = notes
+    def __init__(self, notes: Notes, bitrates: tuple[int, ...] = BITRATES) -> None:
+        self.notes, self.bitrates = notes, bitrates
         self.nodes: dict[str, Node] = {}
         self.sent: list[Sent] = []
         self.bitrate: int | None = None
@@ -85,9 +90,9 @@ class Network:
         told = getattr(matrix, "baudrate", 0) or matrix.attribute(BITRATE_ATTRIBUTE)
         if not told or str(told) == "0":
             return
-        bitrate = next((rate for rate in BITRATES if str(told) in (str(rate), str(rate // 1000))), None)
+        bitrate = next((rate for rate in self.bitrates if str(told) in (str(rate), str(rate // 1000))), None)
         if bitrate is None:
-            self.notes.say(f"the bus, {BITRATE_ATTRIBUTE}", f"{told} is none of {' and '.join(map(str, BITRATES))}")
+            self.notes.say(f"the bus, {BITRATE_ATTRIBUTE}", f"{told} is none of {' and '.join(map(str, self.bitrates))}")
         elif self.bitrate not in (None, bitrate):
             self.notes.say(f"the bus, {BITRATE_ATTRIBUTE}", f"{told} is passed over: {self._bitrate_file} has {self.bitrate}")
         else:
@@ -106,9 +111,9 @@ class Fault(LeftOut):
         super().__init__(f"{plain(file)}: {why}")
 
 
-def load(names: list[str], form: matrix_file.Form, notes: Notes) -> Network:
-    """The network of several files. One that holds the same as an earlier one is passed over, and that is said."""
-    network, seen = Network(notes), dict[bytes, str]()
+def load(names: list[str], form: matrix_file.Form, notes: Notes, bitrates: tuple[int, ...] = BITRATES) -> Network:
+    """The network of several files, whose bus has one of these bitrates. One that holds the same as an earlier one is passed over, and that is said."""
+    network, seen = Network(notes, bitrates), dict[bytes, str]()
     for name in names:
         with open(name, "rb") as file:
             data = file.read()

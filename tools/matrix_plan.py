@@ -25,7 +25,7 @@ if TYPE_CHECKING:
     import canmatrix
 
 # The most of each that a plan has (docs/PLAN.md).
-UNITS, GROUPS, FLOWS = 128, 256, 512
+UNITS, GROUPS, FLOWS, NEEDS = 128, 256, 512, 4096
 
 # What the period of a flow and the distance of records may be, in ms and in bytes (docs/PLAN.md).
 PERIODS, DISTANCES = range(1, 65536), range(1, 256)
@@ -156,11 +156,12 @@ class Flow:
     receivers: dict[str, None] = field(default_factory=dict)
     facts: dict[str, None] = field(default_factory=dict)
 
-    def finished(self) -> Table:
-        """Its table with its remarks."""
+    def finished(self, needed_by: Iterable[str] = ()) -> Table:
+        """Its table with its remarks, where needs say that these units receive it."""
         keys = self.table.keys
         named = [f"message {name}" for name in self.messages] if set(self.messages) - {keys["group"]} else []
-        received = received_by(self.receivers) if self.receivers and list(self.receivers) != [keys["to"]] else ""
+        is_said = list(self.receivers) in ([keys["to"]], list(needed_by))
+        received = received_by(self.receivers) if self.receivers and not is_said else ""
         self.table.remarks[:] = remark("", "", *named, received, *self.facts)
         return self.table
 
@@ -168,8 +169,10 @@ class Flow:
 class Plan:
     """A plan in the making."""
 
-    def __init__(self, network: Network, notes: Notes, strict: bool = False, version: int = VERSIONS[-1]) -> None:
+    def __init__(self, network: Network, notes: Notes, strict: bool = False, version: int = VERSIONS[-1], with_needs: bool = True) -> None:
         self.network, self.notes, self.strict, self.version = network, notes, strict, version
+        self.has_needs = with_needs and version >= 4
+        self.needs: dict[tuple[str, str], Table] = {}
         self.units: dict[str, Table] = {}
         self.groups: list[Group] = []
         self.flows: dict[tuple[str, str, str], Flow] = {}
@@ -183,7 +186,8 @@ class Plan:
         for group in self.groups:
             group.table.inside = group.signals.tables(self.labels_of)
             yield group.table
-        yield from (flow.finished() for flow in self.flows.values())
+        yield from (flow.finished(self.needed_by(*way)) for way, flow in self.flows.items())
+        yield from self.needs.values()
 
     def add_units(self) -> None:
         """The units of the network that have an address."""
@@ -382,14 +386,38 @@ class Plan:
             flow.table.keys["period"], flow.timed_by = period, file
         return flow
 
+    def add_needs(self, frame: canmatrix.Frame, group: Group) -> None:
+        """That those who receive signals of a frame need its group, from another unit than themselves."""
+        for label in self.labels_of(dict.fromkeys(name for signal in frame.signals for name in signal.receivers)):
+            if self.labels_of(frame.transmitters) == [label] or (label, group.label) in self.needs:
+                continue
+            if len(self.needs) == NEEDS:
+                self.notes.say(f"need of {group.label} by {label}", f"a plan has at most {NEEDS} needs")
+            else:
+                self.needs[label, group.label] = Table("need", {"unit": label, "group": group.label})
+
+    def needed_by(self, group: str, sender: str, to: str) -> list[str]:
+        """The units that need a group and are brought it by a flow of it."""
+        return [unit for unit, needed in self.needs if needed == group and unit != sender and to in (unit, "all")]
+
+    def say_unmet(self) -> None:
+        """Says which units are to receive a group that no flow brings them."""
+        met = {(unit, way[0]) for way in self.flows for unit in self.needed_by(*way)}
+        for unit, group in self.needs:
+            if (unit, group) not in met:
+                self.notes.say(f"need of {group} by {unit}", "no unit of the plan sends it there")
+
     def add_frames(self, sent: list[Sent]) -> None:
-        """The groups of the frames, and their flows."""
+        """The groups of the frames, their flows, and who needs them."""
         self.names = names_of_groups(one.frame for one in sent)
         for one in sent:
             self.notes.file = one.file
             try:
                 group, contradicted = self.group_of(one)
                 self.add_flows(one, group, contradicted)
+                if self.has_needs:
+                    self.add_needs(one.frame, group)
             except LeftOut as why:
                 self.notes.say(f"group {one.frame.name}", why)
         self.notes.file = ""
+        self.say_unmet()

@@ -82,7 +82,10 @@ class Dbc:
         self.attributes: list[str] = []
         self.ways: dict[str, int] = {}  # by what messages are sent
         self.parts: dict[Place, list[Part]] = {}
+        self.carried: list[tuple[Place | None, Message]] = []  # flows, None of a group without one, with their messages
+        self.needed: dict[tuple[int, str], list[str]] = {}  # who needs a message, or a signal of it
         self.add_messages()
+        self.add_needs()
 
     def label(self, place: Place) -> str:
         """The label of a table."""
@@ -109,8 +112,9 @@ class Dbc:
             label = self.label(group)
             for flow in flows.get(label, []):
                 self.add_flow(group, first[label], flow)
-            if label not in flows:
-                self.add(group, first[label], NULL_ADDRESS, GLOBAL_ADDRESS)
+            alone = self.add(group, first[label], NULL_ADDRESS, GLOBAL_ADDRESS) if label not in flows else None
+            if alone:
+                self.carried.append((None, alone))
 
     def wanted(self, group: Place, flows: list[Place]) -> str:
         """What the first message of a group is called: by its first flow, else as the group."""
@@ -126,6 +130,7 @@ class Dbc:
         if message is None:
             self.notes.say(f"flow of {self.label(group)} from {sender} to {receiver}", "another group's message has its identifier")
             return
+        self.carried.append((flow, message))
         if self.names[sender] not in message.senders:
             message.senders.append(self.names[sender])
         named = [receiver] if receiver != "all" else []
@@ -133,8 +138,9 @@ class Dbc:
             if label in self.names and self.names[label] not in message.receivers:
                 message.receivers.append(self.names[label])
         message.periods.update([self.number(flow, "period", 0)] if flow + ("period",) in self.places.spelled else [])
-        if flow + ("deadline",) in self.places.spelled:
-            self.notes.say(f"flow of {self.label(group)} from {sender} to {receiver}", "a DBC has no deadline")
+        for key in ("deadline", "jitter", "pause"):
+            if flow + (key,) in self.places.spelled:
+                self.notes.say(f"flow of {self.label(group)} from {sender} to {receiver}", f"a DBC has no {key}")
         if receiver != "all" and message.identifier >> 16 & 0xFF >= 240:
             self.notes.say(f"flow of {self.label(group)} from {sender} to {receiver}", "its identifier names no destination")
 
@@ -155,6 +161,34 @@ class Dbc:
         if message.group == group:
             message.told.append(told)
         return message if message.group == group else None
+
+    def add_needs(self) -> None:
+        """Those who need a group receive the messages of it that are for them, or the one that stands for it alone. Who is named beside the group's
+        flows or signals receives it as it stands there."""
+        for need in self.places.elements(("need",)):
+            unit, group = (self.places.texts[need + (key,)] for key in ("unit", "group"))
+            met = [message for flow, message in self.carried if message.label == group and (flow is None or self.meets(flow, need))]
+            what = f"need {need[-1]} of {group} by {unit}"
+            if not met:
+                self.notes.say(what, "no message of it goes there")
+            if unit not in self.told_receivers(group):
+                for message in met:
+                    self.needed.setdefault((message.identifier, self.places.texts.get(need + ("signal",), "")), []).append(self.names[unit])
+            lost = [key for key in ("from", "within") if need + (key,) in self.places.lines]
+            if lost:
+                self.notes.say(what, f"a DBC has no {' and no '.join(lost)} of a need")
+
+    def meets(self, flow: Place, need: Place) -> bool:
+        """Whether a flow of its group brings a need's unit what it needs."""
+        sender, to = (self.places.texts[flow + (key,)] for key in ("from", "to"))
+        unit = self.places.texts[need + ("unit",)]
+        return sender != unit and to in (unit, "all") and self.places.texts.get(need + ("from",), sender) == sender
+
+    def told_receivers(self, group: str) -> set[str]:
+        """Who is named as a receiver beside the flows or signals of a group."""
+        messages = [message for _, message in self.carried if message.label == group]
+        told = [one for message in messages for one in (*message.told, *(part.told for part in self.parts_of(message.group)))]
+        return {label for one in told for label in one.receivers or ()}
 
     def long_name(self, group: Place) -> str:
         """The name of a group where its label is another."""
@@ -205,11 +239,13 @@ class Dbc:
             yield f" SG_ {part.name} : {spelled} {','.join(self.receivers(message, part)) or NOBODY}"
 
     def receivers(self, message: Message, part: Part) -> list[str]:
-        """Who receives a signal: of those who receive the message the ones that are named beside the signal, if some are."""
-        if part.told.receivers is None:
-            return message.receivers
-        named = [self.names[label] for label in part.told.receivers if label in self.names]
-        return [name for name in named if name in message.receivers or not message.receivers]
+        """Who receives a signal: of those who receive the message the ones that are named beside the signal, if some are; and who needs it."""
+        received = message.receivers
+        if part.told.receivers is not None:
+            named = [self.names[label] for label in part.told.receivers if label in self.names]
+            received = [name for name in named if name in message.receivers or not message.receivers]
+        needed = (self.needed.get((message.identifier, label), []) for label in ("", part.label))
+        return list(dict.fromkeys([*received, *(name for names in needed for name in names)]))
 
     def spelled_signal(self, part: Part) -> str:
         """Where a signal lies, and what it means: in a unit of measurement without a fraction."""
@@ -261,8 +297,12 @@ class Dbc:
             yield f'BA_ "{BITRATE_ATTRIBUTE}" {self.places.number(("timing", "bitrate")) or told.group(1)};'
         if ("timing",) in self.places.lines:
             self.notes.say("timing", "a DBC has no count of unplanned frames")
+            for key in [key for key in self.places.keys(("timing",)) if key not in ("bitrate", "unplanned")]:
+                self.notes.say("timing", f"a DBC has no {key}")
         if self.places.elements(("keep_free",)):
             self.notes.say("keep_free", "a DBC has no addresses that are kept free")
+        if self.places.number(("strangers",)):
+            self.notes.say("strangers", "a DBC tells of no units that stand in no plan")
 
     def unit_attributes(self) -> Iterator[str]:
         """Addresses and NAMEs of the units; what a DBC can't say of them is noted."""

@@ -1,4 +1,5 @@
-"""The tables of a plan that the program has read: units, groups with their signals, and flows, with the defaults of what isn't said."""
+"""The tables of a plan that the program has read: units, groups with their signals, flows and needs, with the defaults of what isn't
+said."""
 
 from dataclasses import dataclass
 from fractions import Fraction
@@ -123,15 +124,46 @@ class Flow:
 
 
 @dataclass(frozen=True)
+class Need:
+    """Who has to hear which group, or which signal of it, by its label; from whom, where the plan says that; and how old it may be, in ms,
+    None where it doesn't."""
+
+    unit: str
+    group: str
+    signal: str = ""
+    sender: str = ""
+    within: int | None = None
+
+    def is_met_by(self, flow: Flow) -> bool:
+        """Whether a flow brings the unit what it needs."""
+        is_from = flow.sender != self.unit and self.sender in ("", flow.sender)
+        return flow.group == self.group and is_from and flow.to in (self.unit, "all")
+
+    @property
+    def what(self) -> str:
+        """What is needed, as answers have it."""
+        return f"{self.group} {self.signal}".strip()
+
+
+@dataclass(frozen=True)
+class Errors:
+    """How many frames are damaged at most in how long a time, in ms."""
+
+    count: int
+    every: int
+
+
+@dataclass(frozen=True)
 class Timing:
     """What a plan says of its bus: how many frames that aren't planned go before one that waits, of which priority they are at most, and
-    that of the transport protocol; and how far apart packets to all are, in ms."""
+    that of the transport protocol; how far apart packets to all are, in ms; and how many frames are damaged, None where none is."""
 
     unplanned: int
     unplanned_priority: int
     transport_priority: int
     broadcast_gap: int
     broadcast_gap_most: int
+    errors: Errors | None = None
 
 
 class Tables:
@@ -144,7 +176,13 @@ class Tables:
         self.units = [self._unit(place) for place in places.elements(("unit",))]
         self.groups = [self._group(place) for place in places.elements(("group",))]
         self.flows = [self._flow(place) for place in places.elements(("flow",))]
+        self.needs = [self._need(place) for place in places.elements(("need",))]
         self.timing = self._timing(("timing",)) if ("timing",) in places.lines else None
+
+    @property
+    def places(self) -> Places:
+        """Where the plan's keys and values stand."""
+        return self._places
 
     @classmethod
     def of(cls, text: bytes) -> "Tables":
@@ -182,9 +220,15 @@ class Tables:
         on_request = self._places.spelled.get(place + ("on_request",)) == "true"
         return Flow(group, sender, to, period, self._number(place, "jitter"), pause, on_request)
 
+    def _need(self, place: Place) -> Need:
+        unit, group, signal, sender = (self._text(place, key) for key in ("unit", "group", "signal", "from"))
+        return Need(unit, group, signal, sender, self._places.number(place + ("within",)))
+
     def _timing(self, place: Place) -> Timing:
         keys = (("unplanned", 0), ("unplanned_priority", 6), ("transport_priority", 7), ("broadcast_gap", 50), ("broadcast_gap_most", 200))
-        return Timing(*(self._number(place, key, default) for key, default in keys))
+        errors = place + ("errors",)
+        damaged = Errors(self._number(errors, "count"), self._number(errors, "every")) if errors in self._places.lines else None
+        return Timing(*(self._number(place, key, default) for key, default in keys), damaged)
 
     def _text_of(self, place: Place) -> Text:
         return Text(self._text(place, "label"), self._number(place, "byte"), self._places.number(place + ("bytes",)))

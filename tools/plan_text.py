@@ -7,8 +7,9 @@ from typing import Any
 
 from left_out import plain
 
-# The versions of a plan that can be written: factors go to `per` in the later one, to the unit of measurement in the earlier one.
-VERSIONS = (2, 3)
+# The versions of a plan that can be written: factors go to the unit of measurement in the first one, to `per` in the later ones; the last
+# one says who needs what.
+VERSIONS = (2, 3, 4)
 
 # What a key is where it isn't there (docs/PLAN.md), so that it needn't be written.
 DEFAULTS = {"bit": 1, "step": 1, "per": 1, "offset": 0, "unit": "", "private": False, "repeated": False}

@@ -14,10 +14,10 @@ from collections.abc import Iterable
 import program
 from clock import SECOND, ends_of
 from curves import Curve, Timeline, curves_of
-from logs import Log
+from logs import Log, interface_option
 from plan_tables import Tables
 from cut_plan import cut
-from readings import Choice, Column, Rows, parted
+from readings import Choice, Column, Wanted, parted
 from reports import Counts, follow, tables_of
 
 ENDINGS = (".png", ".svg")
@@ -33,9 +33,10 @@ CALENDAR = 10**8
 def drawn(log: Log, plan: str, tables: Tables, choice: Choice) -> tuple[dict[Column, list[Curve]], Timeline]:
     """The curves of each chosen signal, those of each sender apart, and what tells who held which address."""
     counts, timeline = Counts(), Timeline(tables.units)
-    curves = curves_of(Rows(choice).of(timeline.passed(follow(plan, log, tables, counts))), timeline.clock)
+    wanted = Wanted(choice, lambda reading: reading)
+    curves = curves_of(timeline.passed(follow(plan, log, tables, counts)), wanted, timeline.clock)
     counts.refuse_without_frames(log)
-    counts.say()
+    counts.say(log.interface)
     timeline.clock.say(log)
     by_signal = defaultdict(list)
     for curve in curves:
@@ -91,6 +92,7 @@ def words_of(words: list[str] | None) -> argparse.Namespace:
                         help="signals, GROUP.SIGNAL, or groups with all their signals; any other name is that of a further log of the drive")
     parser.add_argument("-o", "--output", metavar="FILE", required=True,
                         help="the name of the picture, which ends in .png or .svg")
+    interface_option(parser)
     parser.add_argument("--addresses", action="store_true", help="draw who held which address when, too")
     parser.add_argument("--from", dest="begin", metavar="TIME", type=float, help="the picture's begin, in seconds as the axis counts them")
     parser.add_argument("--to", dest="end", metavar="TIME", type=float, help="the picture's end")
@@ -110,7 +112,7 @@ def main(words: list[str] | None = None) -> int:
             raise program.Refused(program.UNREADABLE, f"{len(choice.columns)} signals are chosen, and {MOST} can be drawn")
         if not choice.columns and not given.addresses:
             raise program.Refused(program.UNREADABLE, "nothing to draw")
-        with Log(logs) as log, cut(plan, tables, choice) as shorter:
+        with Log(logs, given.interface) as log, cut(plan, tables, choice) as shorter:
             curves, timeline = drawn(log, *shorter, choice)
             first, last = ends_of(log)
     import picture

@@ -3,13 +3,12 @@
 import difflib
 import os
 import re
-from collections.abc import Iterable, Iterator
+from collections.abc import Callable, Iterable
 from decimal import Context, Decimal
-from typing import NamedTuple
+from typing import Generic, NamedTuple, TypeVar
 
 import program
 from plan_tables import Tables
-from reports import Message, Report
 
 # A unit of measurement that has the fraction of a value, as `1/8 rpm`.
 PARTS = re.compile(r"1/([1-9]\d{0,11})(?: (.*))?")
@@ -33,11 +32,9 @@ class Reading(NamedTuple):
     detail: str
 
 
-class Row(NamedTuple):
-    """A message, and the readings of its signals by their labels."""
-
-    message: Message
-    readings: list[tuple[str, Reading]]
+# What is made of a reading; and of the readings of a message, each behind the label of its signal.
+Made = TypeVar("Made")
+Told = list[tuple[str, Made]]
 
 
 class Scale(NamedTuple):
@@ -115,54 +112,52 @@ class Choice:
             raise program.Refused(program.UNREADABLE, f"no group or signal is called {name}{hint}")
 
 
-class Readings(dict[str, Reading]):
-    """What lines of `follow` say behind the label of a signal of this scale, as readings. So many are kept, since signals repeat themselves."""
+class Readings(dict[str, Made]):
+    """What is made of what lines of `follow` say behind the label of a signal of this scale, with the line feed. So much is kept, since signals
+    repeat themselves."""
 
-    def __init__(self, scale: Scale, most: int) -> None:
+    def __init__(self, scale: Scale, make: Callable[[Reading], Made], most: int) -> None:
         super().__init__()
-        self._scale, self._most = scale, most
+        self._scale, self._make, self._most = scale, make, most
 
-    def __missing__(self, said: str) -> Reading:
+    def __missing__(self, said: str) -> Made:
         if len(self) >= self._most:
             self.clear()
-        reading = self[said] = reading_of(said, self._scale)
-        return reading
+        made = self[said] = self._make(reading_of(said[:-1], self._scale))
+        return made
 
 
-class Known(dict[str, Readings | None]):
+class Known(dict[str, Readings[Made] | None]):
     """Of a group the readings of each label that `follow` writes, None where they aren't wanted."""
 
-    def __init__(self, group: str, choice: Choice, readings: dict[Scale, Readings]) -> None:
+    def __init__(self, group: str, choice: Choice, readings: dict[Scale, Readings[Made]]) -> None:
         super().__init__()
         self._group, self._choice, self._readings = group, choice, readings
 
-    def __missing__(self, label: str) -> Readings | None:
+    def __missing__(self, label: str) -> Readings[Made] | None:
         column = self._group, label.partition("[")[0]  # of a record its place stands behind the label
         self[label] = told = self._readings[self._choice.scales[column]] if column in self._choice.columns else None
         return told
 
 
-def readings_in(lines: Iterable[str], known: Known) -> Iterator[tuple[str, Reading]]:
-    """The readings that are wanted of the lines below that of a message, each behind its label."""
-    for line in lines:
-        label, _, said = line[2:-1].partition(" ")
-        readings = known[label]
-        if readings is not None:
-            yield label, readings[said]
+class Wanted(Generic[Made]):
+    """What is made of the readings that are wanted."""
 
-
-class Rows:
-    """The messages of a log with the readings that are wanted."""
-
-    def __init__(self, choice: Choice) -> None:
+    def __init__(self, choice: Choice, make: Callable[[Reading], Made]) -> None:
         scales = {choice.scales[column] for column in choice.columns}
-        readings = {scale: Readings(scale, KEPT // len(scales)) for scale in scales}
+        readings = {scale: Readings(scale, make, KEPT // len(scales)) for scale in scales}
         self._known = {group: Known(group, choice, readings) for group, _ in choice.columns}
 
-    def of(self, reports: Iterable[Report]) -> Iterator[Row]:
-        """The rows of messages; of none that has no signal that is wanted."""
-        for report in reports:
-            if isinstance(report, Message) and report.group in self._known:
-                told = list(readings_in(report.signals, self._known[report.group]))
-                if told:
-                    yield Row(report, told)
+    def of(self, group: str, lines: Iterable[str]) -> Told[Made]:
+        """What is made of the lines below that of a message of a group, `  LABEL SAID`, each behind the label; nothing of those that aren't
+        wanted."""
+        told: Told[Made] = []
+        known = self._known.get(group)
+        if known is None:
+            return told
+        for line in lines:
+            _, _, label, said = line.split(" ", 3)
+            readings = known[label]
+            if readings is not None:
+                told.append((label, readings[said]))
+        return told

@@ -17,7 +17,7 @@ import program
 import where
 from left_out import plain
 from plan_tables import Tables
-from report_page import Delay, Finding, Load, Stand, page
+from report_page import Age, Delay, Finding, Load, Stand, page
 
 
 def findings(plan: where.Plan, answer: str) -> Iterator[Finding]:
@@ -35,11 +35,19 @@ def stands(answer: str) -> dict[str, Stand]:
 
 
 def delay_of(line: str) -> Delay:
-    """What `load` tells of a flow: `flow N G A B within W of L us`, `late of L us` or `frames K`."""
-    _, number, _, _, _, word, *rest = line.split()
-    if word == "frames":
-        return Delay(int(number), None, None, int(rest[0]))
-    return Delay(int(number), int(rest[0]) if word == "within" else None, int(rest[-2]), 1)
+    """What `load` tells of a flow: `flow N G A B within W of L us`, `late of L us`, or `frames K`, which also `whole within W us`,
+    `whole within W of L us` or `late of L us` may follow."""
+    words = line.split()
+    number, told = int(words[1]), words[5:]
+    frames = int(told[1]) if told[0] == "frames" else 1
+    within = int(told[told.index("within") + 1]) if "within" in told else None
+    return Delay(number, within, int(told[told.index("of") + 1]) if "of" in told else None, frames)
+
+
+def age_of(line: str) -> Age:
+    """What `load` tells of a need: `need N UNIT GROUP [SIGNAL] age A of W us` or `old of W us`."""
+    words = line.split()
+    return Age(int(words[1]), int(words[-4]) if words[-5] == "age" else None, int(words[-2]))
 
 
 def load_of(answer: str) -> Load | None:
@@ -50,7 +58,8 @@ def load_of(answer: str) -> Load | None:
     words = lines[-1].split()
     if words[0] != "load":
         return Load([], None)
-    return Load([delay_of(line) for line in lines[:-1]], (int(words[1]), int(words[3])))
+    delays = [delay_of(line) for line in lines if line.startswith("flow ")]
+    return Load(delays, (int(words[1]), int(words[3])), [age_of(line) for line in lines if line.startswith("need ")])
 
 
 def page_of(plan: str, title: str) -> str:

@@ -37,7 +37,8 @@ class Stand(NamedTuple):
 
 class Delay(NamedTuple):
     """A flow by its number, and by `load` the time within which its frames are on the bus, None where that isn't shown; the time that they
-    have, None of a long message, which gets no bound; and how many frames such a message takes. Times are in us."""
+    have, None of a long message without a deadline of its own; and how many frames a message takes. A long message to all is whole within
+    that time. Times are in us."""
 
     flow: int
     within: int | None
@@ -45,11 +46,22 @@ class Delay(NamedTuple):
     frames: int
 
 
+class Age(NamedTuple):
+    """A need by its number, and by `load` how old what it asks for is at most, None where it isn't shown to be as young as it has to be, and
+    how old it may be. Times are in us."""
+
+    need: int
+    age: int | None
+    limit: int
+
+
 class Load(NamedTuple):
-    """The delays of the flows, and of how many bits a second how many are taken; None where the plan has findings before that."""
+    """The delays of the flows, of how many bits a second how many are taken, None where the plan has findings before that, and the ages of
+    what is needed."""
 
     delays: list[Delay]
     taken: tuple[int, int] | None
+    ages: list[Age] = []
 
 
 def spaced(key: str) -> str:
@@ -246,14 +258,36 @@ def links_of(tables: Tables) -> dict[str, str]:
     return {group.label: f'<a href="#group-{number}">{escape(group.label)}</a>' for number, group in enumerate(tables.groups, 1)}
 
 
+def needed(tables: Tables, flow: Flow) -> str:
+    """Which units need what a flow brings, behind its group."""
+    units = dict.fromkeys(escape(need.unit) for need in tables.needs if need.is_met_by(flow))
+    return f" for {', '.join(units)}" if units else ""
+
+
+def need_section(tables: Tables, load: Load | None) -> str:
+    """Who needs what, who brings it, and how old it is when it comes."""
+    links, ages = links_of(tables), {age.need: age for age in load.ages} if load else {}
+    rows = []
+    for number, need in enumerate(tables.needs, 1):
+        senders = dict.fromkeys(escape(flow.sender) for flow in tables.flows if need.is_met_by(flow))
+        age = ages.get(number)
+        shown = "–" if age is None else "<strong>not shown to be so young</strong>" if age.age is None else in_milliseconds(age.age)
+        rows.append(row(str(number), [
+            escape(need.unit), links[need.group], escape(need.signal) or "–", escape(need.sender) or "any unit",
+            ", ".join(senders) or "<strong>nobody</strong>", f"{need.within} ms" if need.within else "–", shown,
+        ]))
+    heads = ("Need", "Unit", "Group", "Signal", "From", "Brought by", "Not older than", "Age")
+    return section("needs", "Needs", [table("Who needs what, and who brings it", heads, rows)])
+
+
 def flow_section(tables: Tables) -> str:
-    """Who sends what to whom: a row a sender, a column a receiver."""
+    """Who sends what to whom, and which units need it: a row a sender, a column a receiver."""
     if not tables.flows:
         return section("flows", "Flows", ["<p>The plan has no flows.</p>"])
     links = links_of(tables)
     cells: dict[tuple[str, str], list[str]] = defaultdict(list)
     for flow in tables.flows:
-        cells[flow.sender, flow.to].append(links[flow.group])
+        cells[flow.sender, flow.to].append(links[flow.group] + needed(tables, flow))
     order = [unit.label for unit in tables.units]
     receivers = [label for label in ("all", *order) if any(to == label for _, to in cells)]
     parts = []
@@ -282,11 +316,13 @@ def bits_of(group: Group) -> int:
 
 def delay_row(delay: Delay, flow: Flow, group: Group, link: str, bitrate: int) -> str:
     """A flow with what it takes of the bus and its delay, in words where it has none. What long messages take `load` alone knows."""
-    taken = f"{100 * 1000 * bits_of(group) / (flow.period * bitrate):.1f} %" if flow.period and delay.limit is not None else "–"
-    if delay.limit is None:
+    taken = f"{100 * 1000 * bits_of(group) / (flow.period * bitrate):.1f} %" if flow.period and delay.frames == 1 else "–"
+    if delay.within is None and delay.limit is None:
         cells = [f"no bound: {delay.frames} frames a message", "–", "–"]
     elif delay.within is None:
-        cells = ["<strong>not shown to be in time</strong>", in_milliseconds(delay.limit), "–"]
+        cells = ["<strong>not shown to be in time</strong>", in_milliseconds(delay.limit or 0), "–"]
+    elif delay.limit is None:
+        cells = [f"{in_milliseconds(delay.within)}, the whole message", "–", "–"]
     else:
         share = f"{100 * delay.within / delay.limit:.1f} %"
         cells = [in_milliseconds(delay.within), in_milliseconds(delay.limit), share]
@@ -316,7 +352,8 @@ def page(title: str, tables: Tables, found: list[Finding], stands: dict[str, Sta
     title = escape(title)
     counts = f"{len(tables.units)} units, {len(tables.groups)} groups, {len(tables.flows)} flows, findings: {len(found)}"
     sections = {"findings": finding_section(title, found), "units": unit_section(tables, stands), "flows": flow_section(tables),
-                **({"load": load_section(tables, load)} if load else {}), "groups": group_section(tables)}
+                **({"needs": need_section(tables, load)} if tables.needs else {}),
+               **({"load": load_section(tables, load)} if load else {}), "groups": group_section(tables)}
     links = "".join(f'<li><a href="#{name}">{name.capitalize()}</a></li>' for name in sections)
     return f"""<!DOCTYPE html>
 <html lang="en">

@@ -6,12 +6,12 @@ import signal
 import subprocess
 from collections.abc import Callable, Iterable, Iterator
 from functools import cache, lru_cache
-from itertools import islice
+from itertools import islice, starmap
 from threading import Thread
-from typing import IO, BinaryIO, NamedTuple
+from typing import IO, Any, BinaryIO, NamedTuple
 
 import program
-from logs import Log
+from logs import Log, OneInterface
 from plan_tables import Tables
 
 
@@ -75,6 +75,12 @@ class Request(NamedTuple):
 
 Report = Message | Claim | Request
 
+# What `follow` writes of a report: the words of its line, and of a message the lines below it.
+Said = tuple[list[str], list[str]]
+
+# Where words of a report stand: in each the line of the log, the time, and the kind; in a message the group, and who sent it to whom.
+LINE, TIME, KIND, GROUP, FROM, TO = 0, 1, 2, 3, 5, 7
+
 
 # What makes a log of those of other programs.
 CONVERTER = "record it by candump -L, or make a log of ASC, BLF, TRC, MF4 or CSV by tolog.py (j39plan-tolog)"
@@ -86,6 +92,7 @@ class Counts:
 
     def __init__(self) -> None:
         self.frames = self.bad = self.elsewhere = 0
+        self._others: list[str] = []  # interfaces that weren't read, where one was asked for
 
     def take(self, line: str) -> None:
         """Takes them from the line with which `follow` ends."""
@@ -93,20 +100,27 @@ class Counts:
         if words[0] == "frames":
             self.frames, self.bad, self.elsewhere = int(words[1]) + int(words[3]), int(words[5]), int(words[7])
 
+    def pass_over(self, part: OneInterface) -> None:
+        """Takes what wasn't read of a log of which a part was asked for."""
+        self.elsewhere += part.elsewhere
+        self._others = [*part.others]
+
     def refuse_without_frames(self, log: Log) -> None:
         """Refuses what is no log at all: it has lines, and none of them spells a frame. An empty log is said."""
         name = log.names[0] if len(log.names) == 1 else "the log"
+        if self.frames == 0 and self._others:
+            raise program.Refused(program.UNREADABLE, f"{name} has no frame of {log.interface}; it has {', '.join(self._others)}")
         if self.frames == 0 and self.bad:
             raise program.Refused(program.UNREADABLE, f"{name} has no frame, and {self.bad} lines that spell none: {CONVERTER}")
         if self.frames == 0:
             program.say(f"{name} has no frame")
 
-    def say(self) -> None:
-        """Says on standard error what wasn't read."""
+    def say(self, interface: str | None = None) -> None:
+        """Says on standard error what wasn't read, where this interface was asked for or the first one is read."""
         if self.bad:
             program.say(f"{self.bad} lines spell no frame")
         if self.elsewhere:
-            program.say(f"the first interface is read; {self.elsewhere} lines of others are passed over")
+            program.say(f"{interface or 'the first interface'} is read; {self.elsewhere} lines of others are passed over")
 
 
 @lru_cache(maxsize=1 << 12)
@@ -125,11 +139,21 @@ def message_of(words: list[str], signals: list[str]) -> Message:
     """The message of a line `N TIME group G from WHO to WHO flow N [priority P] bytes HEX`, or `no flow`."""
     flow = int(words[9]) if words[8] == "flow" else 0
     priority = int(words[11]) if words[10] == "priority" else None
-    return Message(int(words[0]), words[1], words[3], who_of(words[5]), who_of(words[7]), flow, priority, words[-1], signals)
+    sender, to = who_of(words[FROM]), who_of(words[TO])
+    return Message(int(words[LINE]), words[TIME], words[GROUP], sender, to, flow, priority, words[-1], signals)
 
 
-def reports_of(lines: Iterator[str], tables: Tables, counts: Counts) -> Iterator[Report]:
-    """The reports in what `follow` writes, each as soon as its last line is there."""
+def report_of(words: list[str], signals: list[str]) -> Report:
+    """The report of what `follow` says."""
+    if words[KIND] == "group":
+        return message_of(words, signals)
+    if words[KIND] == "request":
+        return Request(int(words[LINE]), words[TIME], int(words[3]), who_of(words[FROM]), who_of(words[TO]))
+    return Claim(int(words[LINE]), words[TIME], who_of(words[3]))
+
+
+def said_in(lines: Iterator[str], tables: Tables, counts: Counts) -> Iterator[Said]:
+    """What `follow` writes, report by report, each as soon as its last line is there."""
     groups = {group.label: group for group in tables.groups}
 
     @cache
@@ -140,12 +164,15 @@ def reports_of(lines: Iterator[str], tables: Tables, counts: Counts) -> Iterator
         words = line.split()
         if not line[0].isdigit():
             counts.take(line)
-        elif words[2] == "group":
-            yield message_of(words, list(islice(lines, lines_of(words[3], len(words[-1]) // 2))))
-        elif words[2] == "request":
-            yield Request(int(words[0]), words[1], int(words[3]), who_of(words[5]), who_of(words[7]))
+        elif words[KIND] == "group":
+            yield words, list(islice(lines, lines_of(words[GROUP], len(words[-1]) // 2)))
         else:
-            yield Claim(int(words[0]), words[1], who_of(words[3]))
+            yield words, []
+
+
+def reports_of(lines: Iterator[str], tables: Tables, counts: Counts) -> Iterator[Report]:
+    """The reports in what `follow` writes, each as soon as its last line is there."""
+    return starmap(report_of, said_in(lines, tables, counts))
 
 
 class Writer(Thread):
@@ -176,7 +203,7 @@ class Writer(Thread):
             raise self.fault
 
 
-def as_it_comes(log: BinaryIO) -> Iterator[bytes]:
+def as_it_comes(log: BinaryIO | OneInterface) -> Iterator[bytes]:
     """What comes of a log, as soon as it is there."""
     while piece := log.read1(1 << 16):  # type: ignore[attr-defined]
         yield piece
@@ -202,19 +229,21 @@ def started_for(plan: str, log: Log, is_piped: bool) -> subprocess.Popen[bytes]:
         signal.signal(signal.SIGINT, log.interrupt)
 
 
-def follow(plan: str, log: Log, tables: Tables, counts: Counts,
-           changed: Callable[[BinaryIO], Iterable[bytes]] | None = None) -> Iterator[Report]:
-    """The reports of a log, as it is read; what is read is what `changed` makes of the log, if it is given."""
-    is_piped = changed is not None or log.is_live or len(log.files) > 1
+def said_of(plan: str, log: Log, tables: Tables, counts: Counts,
+            changed: Callable[[Any], Iterable[bytes]] | None = None) -> Iterator[Said]:
+    """What `follow` says of a log, as it is read; what is read is what `changed` makes of the log, if it is given."""
+    is_piped = changed is not None or log.is_live or len(log.files) > 1 or log.interface is not None
     reader = started_for(plan, log, is_piped)
     assert reader.stdout is not None
-    writer = None
+    writer = part = None
     if reader.stdin:
-        writer = Writer((changed or as_it_comes)(io.BufferedReader(log, 1 << 16)), reader.stdin, log.is_live and changed is None)
+        whole = io.BufferedReader(log, 1 << 16)
+        part = OneInterface(whole, log.interface) if log.interface is not None else None
+        writer = Writer((changed or as_it_comes)(part or whole), reader.stdin, log.is_live and changed is None)
     try:
         if writer:
             writer.start()
-        yield from reports_of(io.TextIOWrapper(reader.stdout, "ascii"), tables, counts)
+        yield from said_in(io.TextIOWrapper(reader.stdout, "ascii"), tables, counts)
         status = reader.wait()
     except BaseException:
         reader.kill()
@@ -222,8 +251,16 @@ def follow(plan: str, log: Log, tables: Tables, counts: Counts,
         raise
     if writer:
         writer.close()
+    if part:
+        counts.pass_over(part)
     if status != 0:
         raise program.Refused(status)
+
+
+def follow(plan: str, log: Log, tables: Tables, counts: Counts,
+           changed: Callable[[Any], Iterable[bytes]] | None = None) -> Iterator[Report]:
+    """The reports of a log, as `said_of` has them."""
+    return starmap(report_of, said_of(plan, log, tables, counts, changed))
 
 
 def tables_of(plan: str) -> Tables:

@@ -10,30 +10,27 @@ import io
 import json
 import re
 import sys
-from collections.abc import Callable, Iterable, Iterator
+from collections.abc import Callable, Iterable, Iterator, Sequence
 from functools import lru_cache
-from typing import TextIO
+from itertools import chain
+from typing import Any, Generic
 
 import program
 from clock import Clock
 from cut_plan import cut
 from j1939 import GLOBAL_ADDRESS
-from logs import Log
-from readings import Choice, Column, Reading, Row, Rows, parted
-from reports import Counts, Message, Report, Who, follow, tables_of
+from logs import Log, interface_option
+from readings import Choice, Column, Made, Reading, Told, Wanted, parted
+from reports import FROM, GROUP, LINE, TIME, TO, Counts, Said, Who, said_of, tables_of, who_of
 
 ENDS = ("from", "source", "to", "destination")
 HEADS = ("time", "line", *ENDS, "group", "signal", "state", "value", "unit", "detail")
 
-# How many readings are kept as they are written.
+# How many ends of messages, labels and names of logs are kept as they are written.
 WRITTEN = 1 << 14
 
 # A number as JSON spells it.
 NUMBER = re.compile(r"-?(?:0|[1-9]\d*)(?:\.\d+)?")
-
-
-# The readings of a message by their labels.
-Readings = list[tuple[str, Reading]]
 
 # A trouble code, or how it is spelled in older ways, and what else is said of it.
 CODE = re.compile(r"(?:spn (\d+) fmi (\d+)|raw (\d+)) count (\d+)(?: (.*))?")
@@ -45,31 +42,34 @@ def address_of(who: Who) -> int | str:
     return who.address if who.address is not None else GLOBAL_ADDRESS if who.shown == "all" else ""
 
 
+def ends_of(sender: str, to: str) -> tuple[str, int | str, str, int | str]:
+    """Who sent something to whom, each with the address."""
+    first, second = who_of(sender), who_of(to)
+    return first.told, address_of(first), second.told, address_of(second)
+
+
 @lru_cache(maxsize=WRITTEN)
-def ends_of(sender: Who, to: Who) -> str:
+def end_cells_of(sender: str, to: str) -> str:
     """Who sent something to whom, as cells of a row."""
-    return f"{sender.told},{address_of(sender)},{to.told},{address_of(to)}"
+    return ",".join(map(str, ends_of(sender, to)))
 
 
 @lru_cache(maxsize=WRITTEN)
-def end_members_of(sender: Who, to: Who) -> str:
+def end_members_of(sender: str, to: str) -> str:
     """Who sent something to whom, as members of a JSON object."""
-    told = dict(zip(ENDS, (sender.told, address_of(sender), to.told, address_of(to))))
-    return json.dumps({key: said for key, said in told.items() if said != ""})[1:-1]
+    return json.dumps({key: said for key, said in zip(ENDS, ends_of(sender, to)) if said != ""})[1:-1]
 
 
-@lru_cache(maxsize=WRITTEN)
-def cells_of(reading: Reading) -> str:
-    """A reading as cells of a row."""
-    plainly = ",".join(reading)
-    if plainly.count(",") == len(reading) - 1 and '"' not in plainly:
+def row_of(cells: Sequence[str]) -> str:
+    """Cells as a row of a table, or the end of one."""
+    plainly = ",".join(cells)
+    if plainly.count(",") == len(cells) - 1 and '"' not in plainly:
         return plainly + "\n"
     text = io.StringIO()
-    csv.writer(text, lineterminator="\n").writerow(reading)
+    csv.writer(text, lineterminator="\n").writerow(cells)
     return text.getvalue()
 
 
-@lru_cache(maxsize=WRITTEN)
 def members_of(reading: Reading) -> str:
     """A reading as members of a JSON object. A key is left out where there is nothing to say; a trouble code is told by its parts."""
     there = {key: text for key, text in reading._asdict().items() if text}
@@ -88,74 +88,58 @@ def name_members_of(label: str) -> str:
     return f'"signal": "{name}"' + (f', "record": {record[:-1]}' if record else "")
 
 
-class Form:
-    """A form of a table. Of several logs each row has the name of its own."""
+class Form(Generic[Made]):
+    """A form of a table: the heads of its columns, if it has any, and what it makes of a reading and of a message. Of several logs each row
+    has the name of its own."""
 
-    def __init__(self, file: TextIO, log: Log) -> None:
-        self._file, self._log = file, log
-        self._is_of_several = len(log.names) > 1
-        self._is_headed = False
-        if log.is_live:
-            self.head()
-            file.flush()
+    heads: Sequence[str] = ()
+    made: Callable[[Reading], Made]
 
-    @property
-    def heads(self) -> list[str]:
-        """The heads of the columns."""
-        return []
+    def __init__(self, log: Log, _: Choice) -> None:
+        self._place = log.place if len(log.names) > 1 else None
 
-    def head(self) -> None:
-        """Writes the heads of the columns, once."""
-        if not self._is_headed and self.heads:
-            csv.writer(self._file, lineterminator="\n").writerow(["log"] * self._is_of_several + self.heads)
-        self._is_headed = True
+    def head(self) -> str:
+        """The line of the heads."""
+        return row_of(["log"] * bool(self._place) + [*self.heads]) if self.heads else ""
 
-    def put(self, row: Row) -> None:
-        """Writes the signals of a message."""
-        if not self._is_headed:
-            self.head()
-        message, readings = row
-        name, line = self._log.place(message.line) if self._is_of_several else ("", message.line)
-        self._file.write(self._spelled(name, line, message, readings))
-
-    def _spelled(self, name: str, line: int, message: Message, readings: Readings) -> str:
-        """A message of a line of a log, which is named where there are several."""
+    def spelled(self, words: list[str], readings: Told[Made]) -> str:
+        """The signals of a message of these words."""
         raise NotImplementedError
 
-    def _cells(self, name: str, line: int, message: Message) -> str:
+    def _cells(self, words: list[str]) -> str:
         """What stands in front of the readings of a message: times, numbers and labels, which need no quotes."""
-        log = f"{quoted(name)}," if name else ""
-        return f"{log}{message.time.strip('()-')},{line},{ends_of(message.sender, message.to)},{message.group}"
+        log, line = "", words[LINE]
+        if self._place:
+            name, number = self._place(int(line))
+            log, line = f"{quoted(name)},", str(number)
+        return f"{log}{words[TIME].strip('()-')},{line},{end_cells_of(words[FROM], words[TO])},{words[GROUP]}"
 
 
-class Plain(Form):
+class Plain(Form[str]):
     """A row a signal, with commas between its columns."""
 
-    def __init__(self, file: TextIO, log: Log, _: Choice) -> None:
-        super().__init__(file, log)
+    heads = HEADS
+    made = staticmethod(row_of)
 
-    @property
-    def heads(self) -> list[str]:
-        """The heads of the columns."""
-        return list(HEADS)
-
-    def _spelled(self, name: str, line: int, message: Message, readings: Readings) -> str:
-        head = self._cells(name, line, message)
-        return "".join([f"{head},{label},{cells_of(reading)}" for label, reading in readings])
+    def spelled(self, words: list[str], readings: Told[str]) -> str:
+        """The signals of a message."""
+        head = self._cells(words)
+        return "".join([f"{head},{label},{cells}" for label, cells in readings])
 
 
-class Lines(Form):
+class Lines(Form[str]):
     """A JSON object a signal, each on a line."""
 
-    def __init__(self, file: TextIO, log: Log, _: Choice) -> None:
-        super().__init__(file, log)
+    made = staticmethod(members_of)
 
-    def _spelled(self, name: str, line: int, message: Message, readings: Readings) -> str:
-        time = message.time.strip("()-")
+    def spelled(self, words: list[str], readings: Told[str]) -> str:
+        """The signals of a message."""
+        name, line = self._place(int(words[LINE])) if self._place else ("", words[LINE])
+        time = words[TIME].strip("()-")
         log = f'"log": {json.dumps(name)}, ' if name else ""
         at = f'"time": {time if NUMBER.fullmatch(time) else json.dumps(time)}, ' if time else ""
-        head = f'{{{log}{at}"line": {line}, {end_members_of(message.sender, message.to)}, "group": "{message.group}"'
-        return "".join([f"{head}, {name_members_of(label)}, {members_of(reading)}}}\n" for label, reading in readings])
+        head = f'{{{log}{at}"line": {line}, {end_members_of(words[FROM], words[TO])}, "group": "{words[GROUP]}"'
+        return "".join([f"{head}, {name_members_of(label)}, {members}}}\n" for label, members in readings])
 
 
 @lru_cache(maxsize=WRITTEN)
@@ -166,44 +150,6 @@ def quoted(text: str) -> str:
     return row.getvalue()[:-1]
 
 
-class Wide(Form):
-    """A row a message, with two columns for each signal: its value, which is empty where it has none, and the word for what it has instead.
-    What isn't a number anyway has one column, a text itself, and a code by its parts."""
-
-    def __init__(self, file: TextIO, log: Log, choice: Choice) -> None:
-        self._columns: dict[Column, int] = {}
-        self._heads: list[str] = list(HEADS[:7])
-        before = len(self._heads) - 1
-        for (group, label), unit in choice.columns.items():
-            self._columns[group, label] = len(self._heads) - before
-            self._heads.append(f"{group}.{label}" + (f" [{unit}]" if unit else ""))
-            if (group, label) not in choice.texts:
-                self._heads.append(f"{group}.{label} state")
-        self._count = len(self._heads) - before - 1
-        super().__init__(file, log)
-
-    @property
-    def heads(self) -> list[str]:
-        """The heads of the columns."""
-        return self._heads
-
-    def _spelled(self, name: str, line: int, message: Message, readings: Readings) -> str:
-        """A message. Most columns are those of other groups, so that a row is mostly commas."""
-        cells: dict[int, str] = {}
-        for label, reading in readings:
-            column = self._columns[message.group, label.partition("[")[0]]
-            for at, text in enumerate(cells_in_wide(reading), column):
-                if text:
-                    cells[at] = f"{cells[at]}; {text}" if at in cells else text  # of a signal of several records
-        parts, last = [self._cells(name, line, message)], 0
-        for at, text in sorted(cells.items()):
-            parts.append("," * (at - last) + quoted(text))
-            last = at
-        parts.append("," * (self._count - last) + "\n")
-        return "".join(parts)
-
-
-@lru_cache(maxsize=WRITTEN)
 def cells_in_wide(reading: Reading) -> tuple[str, str]:
     """What stands in the columns of a signal: its value, and the state that it has instead of one."""
     if reading.state in ("value", "text"):
@@ -213,19 +159,66 @@ def cells_in_wide(reading: Reading) -> tuple[str, str]:
     return "", f"{reading.state} {reading.detail}".rstrip()
 
 
-def clocked(reports: Iterable[Report], clock: Clock) -> Iterator[Report]:
-    """The reports, of which a clock sees the times."""
-    for report in reports:
-        clock.glance(report.line, report.time)
-        yield report
+class Wide(Form[tuple[str, str]]):
+    """A row a message, with two columns for each signal: its value, which is empty where it has none, and the word for what it has instead.
+    What isn't a number anyway has one column, a text itself, and a code by its parts."""
+
+    made = staticmethod(cells_in_wide)
+
+    def __init__(self, log: Log, choice: Choice) -> None:
+        super().__init__(log, choice)
+        self._columns: dict[Column, int] = {}
+        heads = list(HEADS[:7])
+        before = len(heads) - 1
+        for (group, label), unit in choice.columns.items():
+            self._columns[group, label] = len(heads) - before
+            heads.append(f"{group}.{label}" + (f" [{unit}]" if unit else ""))
+            if (group, label) not in choice.texts:
+                heads.append(f"{group}.{label} state")
+        self._count = len(heads) - before - 1
+        self.heads = heads
+
+    def spelled(self, words: list[str], readings: Told[tuple[str, str]]) -> str:
+        """The signals of a message. Most columns are those of other groups, so that a row is mostly commas."""
+        cells: dict[int, str] = {}
+        for label, texts in readings:
+            column = self._columns[words[GROUP], label.partition("[")[0]]
+            for at, text in enumerate(texts, column):
+                if text:
+                    cells[at] = f"{cells[at]}; {text}" if at in cells else text  # of a signal of several records
+        parts, last = [self._cells(words)], 0
+        for at, text in sorted(cells.items()):
+            parts.append("," * (at - last) + quoted(text))
+            last = at
+        parts.append("," * (self._count - last) + "\n")
+        return "".join(parts)
 
 
-def put_all(rows: Iterator[Row], put: Callable[[Row], None], flush: Callable[[], None] | None) -> None:
-    """Writes rows, each at once where somebody waits for it."""
-    for row in rows:
-        put(row)
-        if flush:
-            flush()
+def with_frames(said: Iterable[Said], log: Log, counts: Counts) -> Iterator[Said]:
+    """What is said of a log. One that is none is refused at its end."""
+    yield from said
+    counts.refuse_without_frames(log)
+
+
+def lines_of(said: Iterable[Said], wanted: Wanted[Made], form: Form[Made], clock: Clock) -> Iterator[str]:
+    """The lines of a table, of each message at once. A clock sees the times of all reports."""
+    for words, signals in said:
+        if not clock.goes_on(words[TIME]):
+            clock.see(int(words[LINE]), words[TIME])
+        if signals:
+            readings = wanted.of(words[GROUP], signals)
+            if readings:
+                yield form.spelled(words, readings)
+
+
+def put_all(head: str, lines: Iterator[str], is_live: bool) -> None:
+    """Writes a table, its heads with the first line, before which a log may be refused; where somebody waits for it each at once."""
+    if is_live:
+        for text in chain([head], lines):
+            sys.stdout.write(text)
+            sys.stdout.flush()
+    else:
+        sys.stdout.writelines(chain([head + next(lines, "")], lines))
 
 
 def words_of(words: list[str] | None) -> argparse.Namespace:
@@ -240,6 +233,7 @@ def words_of(words: list[str] | None) -> argparse.Namespace:
     forms.add_argument("--csv", dest="form", action="store_const", const=Plain, help="a row a signal (the default)")
     forms.add_argument("--json", dest="form", action="store_const", const=Lines, help="a JSON object a signal, each on a line")
     forms.add_argument("--wide", dest="form", action="store_const", const=Wide, help="a row a message, two columns a signal")
+    interface_option(parser)
     parser.set_defaults(form=Plain)
     return parser.parse_intermixed_args(words)
 
@@ -251,13 +245,11 @@ def main(words: list[str] | None = None) -> int:
         tables = tables_of(plan)
         names, logs = parted(tables, given.names, given.log)
         choice = Choice(tables, names)
-        with Log(logs) as log, cut(plan, tables, choice) as (shorter, parts):
-            form = given.form(sys.stdout, log, choice)
-            rows = Rows(choice).of(clocked(follow(shorter, log, parts, counts), clock))
-            put_all(rows, form.put, sys.stdout.flush if log.is_live else None)
-    counts.refuse_without_frames(log)
-    form.head()
-    counts.say()
+        with Log(logs, given.interface) as log, cut(plan, tables, choice) as (shorter, parts):
+            form: Form[Any] = given.form(log, choice)
+            said = with_frames(said_of(shorter, log, parts, counts), log, counts)
+            put_all(form.head(), lines_of(said, Wanted(choice, form.made), form, clock), log.is_live)
+    counts.say(log.interface)
     clock.say(log)
     return 0
 

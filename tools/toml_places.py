@@ -16,6 +16,7 @@ STRING = re.compile(
     r"|'[^'\n]*'",
     re.DOTALL,
 )
+PLAIN = re.compile(r"(?:\"[^\"\\\x00-\x1F\x7F]*\"|'[^'\x00-\x1F\x7F]*')")
 KEY = re.compile(r'[A-Za-z0-9_-]+|"(?:\\.|[^"\\\n])*"|\'[^\'\n]*\'')
 OTHER = re.compile(r"[^,\]}#\r\n]+")
 ESCAPE = re.compile(r"\\(?:(e)|x([0-9A-Fa-f]{2})|.)", re.DOTALL)
@@ -41,6 +42,8 @@ def _older(escape: re.Match[str]) -> str:
 
 def text_of(spelled: str) -> str:
     """The text that a TOML string spells."""
+    if PLAIN.fullmatch(spelled):
+        return spelled[1:-1]
     if spelled.startswith('"'):
         spelled = ESCAPE.sub(_older, spelled)
     try:

@@ -15,6 +15,7 @@ from math import lcm
 from typing import NamedTuple
 
 import code_quality
+import need_hints
 import program
 from lint import Lint
 from toml_places import MARK, Place, Places, fault_of, places_of
@@ -26,16 +27,22 @@ DECIMAL = re.compile(r"[+-]?[0-9_]{1,20}(?:\.[0-9_]{1,20})?(?:[eE][+-]?[0-9]{1,2
 SCHEMA = os.path.join(os.path.dirname(os.path.realpath(__file__)), "plan.schema.json")
 
 # The versions of the format.
-VERSIONS = range(1, 4)
+VERSIONS = range(1, 5)
 
-# The keys and the kinds of signals that the first version doesn't know, each with the first that does.
+# The keys, kinds of signals and bitrates that the first version doesn't know, each with the first that does.
 SINCE: dict[object, int] = {
     (None, "keep_free"): 2, (None, "timing"): 3, ("group", "private"): 3, ("group", "most"): 3, ("group", "every"): 3, ("group", "text"): 3,
     ("signal", "per"): 3, ("signal", "repeated"): 3, ("flow", "period"): 3, ("flow", "deadline"): 3, "states": 3, "signed": 3, "dtc": 3,
+    (None, "strangers"): 4, (None, "need"): 4, ("timing", "unplanned_priority"): 4, ("timing", "transport_priority"): 4,
+    ("timing", "broadcast_gap"): 4, ("timing", "broadcast_gap_most"): 4, ("timing", "errors"): 4, ("flow", "jitter"): 4, ("flow", "pause"): 4,
+    125000: 4, 1000000: 4,
 }
 
 # What the schema can't say of a key.
-WORDS = {"per": ", a product of 2s and 5s", "most": ", at least the length"}
+WORDS = {
+    "per": ", a product of 2s and 5s", "most": ", at least the length", "broadcast_gap_most": ", at least broadcast_gap",
+    "jitter": ", below the period", "pause": ", at least the period",
+}
 
 # The keys that a trouble code can't have but with their defaults.
 SCALE = ("step", "per", "offset", "unit")
@@ -284,11 +291,20 @@ def label_fault(plan: Plan, place: Place, key: str, cause: str) -> Told:
         if place[-2] == "text" and (signal := plan.labelled(place[:-2] + ("signal",), label)) != place[:-2] + ("signal",):
             first = signal + ("label",)
         hint = f"key label: {label} is at line {plan.line(first)} too"
+    elif key == "signal":
+        group = plan.places.texts.get(place + ("group",), "")
+        others = [other for array, other in plan.labels if array == plan.labelled(("group",), group) + ("signal",)]
+        hint = f"key {key}: no signal of {group} is called {label}{likely(label, others)}"
     else:
         kind = "group" if key == "group" else "unit"
         others = [other for array, other in plan.labels if array == (kind,)] + ["all"] * (key == "to")
         hint = f"key {key}: no {kind} is called {label}{likely(label, others)}"
     return plan.line(place + (key,)), hint
+
+
+def asking(plan: Plan, flow: Place) -> str:
+    """The key of a flow that asks for a period."""
+    return "deadline" if "deadline" in plan.places.keys(flow) else "jitter"
 
 
 def refusal(plan: Plan, data: bytes, line: str) -> Told:
@@ -303,7 +319,7 @@ def refusal(plan: Plan, data: bytes, line: str) -> Told:
     if key is None:
         return plan.line(place), "a table is wanted"
     if cause == "Missing":
-        why = ", which a deadline needs" if key == "period" else ""
+        why = f", which a {asking(plan, place)} needs" if key == "period" else ""
         return plan.line(place), f"key {key} isn't there{why}: {plan.wanted(place, key)}"
     if cause in ("Repeated", "UnknownLabel") and key != "keep_free":
         return label_fault(plan, place, key, cause)
@@ -315,7 +331,7 @@ def of_one(plan: Plan, number: str, words: list[str]) -> Told:
     kind, key, hint = KEYS[number]
     place: Place
     if kind == "flow":
-        place = ("flow", int(words[0]))
+        place = (kind, int(words[0]))
     elif kind == "unit":
         place = plan.labelled(("unit",), words[0])
     else:
@@ -324,6 +340,12 @@ def of_one(plan: Plan, number: str, words: list[str]) -> Told:
             place = plan.labelled(place + (kind,), words[1])
     named = f"{flow_named(plan, place)}: " if kind == "flow" else ""
     return plan.line(place + (key,)), f"{named}key {key}: {hint}"
+
+
+def of_need(plan: Plan, number: str, need: Place) -> Told:
+    """Line and hint of a finding about a need."""
+    key, hint = need_hints.unmet(plan.places, need) if number == "F19" else ("within", need_hints.old(plan.places, need))
+    return plan.line(need + (key,)), f"{need_hints.named(plan.places, need)}: key {key}: {hint}"
 
 
 def flow_named(plan: Plan, flow: Place) -> str:
@@ -358,6 +380,11 @@ def finding(plan: Plan, line: str) -> Told:
         return plan.line(("unit", 1)), "units with arbitrary = true, and others at addresses of 128..247 that aren't kept free"
     if number == "F17":
         return plan.line(("timing", "bitrate")), "key bitrate: the flows take more at their periods; load shows how much"
+    if number == "F18" and need_hints.longest(plan.places, plan.places.texts.get(("flow", int(words[0]), "group"), "")) > need_hints.FRAME:
+        flow = ("flow", int(words[0]))
+        return plan.line(flow + ("deadline",)), f"{flow_named(plan, flow)}: key deadline: its long messages aren't shown to be whole within it"
+    if number in ("F19", "F20"):
+        return of_need(plan, number, ("need", int(words[0])))
     if number in KEYS:
         return of_one(plan, number, words)
     return of_two(plan, number, words)

@@ -27,13 +27,14 @@ from typing import Any
 from j39plan._tools import drives, parts, plan_tables, program, report, report_page, reports, where
 
 Unit, Group, Signal, Text, Flow = plan_tables.Unit, plan_tables.Group, plan_tables.Signal, plan_tables.Text, plan_tables.Flow
-Finding, Stand, Delay, Load = report_page.Finding, report_page.Stand, report_page.Delay, report_page.Load
+Need, Finding, Stand = plan_tables.Need, report_page.Finding, report_page.Stand
+Delay, Age, Load = report_page.Delay, report_page.Age, report_page.Load
 Who, Message, Claim, Request = reports.Who, reports.Message, reports.Claim, reports.Request
 Refused, Deviation, Drive = program.Refused, drives.Deviation, drives.Drive
 
 __all__ = [
-    "Claim", "Delay", "Deviation", "Drive", "Finding", "Flow", "Group", "Load", "Message", "Plan", "Refused", "Request", "Signal",
-    "Stand", "Text", "Unit", "Who", "deviations", "drive", "follow", "read_plan", "signals",
+    "Age", "Claim", "Delay", "Deviation", "Drive", "Finding", "Flow", "Group", "Load", "Message", "Need", "Plan", "Refused", "Request",
+    "Signal", "Stand", "Text", "Unit", "Who", "deviations", "drive", "follow", "read_plan", "signals",
 ]
 
 
@@ -41,8 +42,8 @@ class Plan:
     """A plan that the program can read, whatever `check` finds in it.
 
     `name` is the name of its file and `text` what that holds. `version` is that of the format; `kept` are the addresses that no unit may
-    choose; `units`, `groups` and `flows` stand in the order of the file, as `Unit`, `Group` (with its `signals` and `texts`) and `Flow`.
-    Of each the keys that aren't said have their defaults. Bytes and bits count from 1, lengths are in bytes, widths in bits, periods in
+    choose; `units`, `groups`, `flows` and `needs` stand in the order of the file, as `Unit`, `Group` (with its `signals` and `texts`),
+    `Flow` and `Need`; which flows meet a need says `need.is_met_by(flow)`. Of each the keys that aren't said have their defaults. Bytes and bits count from 1, lengths are in bytes, widths in bits, periods in
     ms; the value of a signal's raw number, in its `unit`, is `signal.value(raw)`, exactly.
     """
 
@@ -54,6 +55,7 @@ class Plan:
         self.units: list[Unit] = tables.units
         self.groups: list[Group] = tables.groups
         self.flows: list[Flow] = tables.flows
+        self.needs: list[Need] = tables.needs
         self.tables = tables
 
     def __repr__(self) -> str:
@@ -69,8 +71,8 @@ class Plan:
         return report.stands(self._answer("addresses"))
 
     def load(self) -> Load | None:
-        """What `load` tells: the `delays` of flows, in us, and of how many bits a second how many are `taken`, None where the plan has
-        findings before that. None of a plan that says nothing of its bus."""
+        """What `load` tells: the `delays` of flows and the `ages` of what is needed, in us, and of how many bits a second how many are `taken`,
+        None where the plan has findings before that. None of a plan that says nothing of its bus."""
         return report.load_of(self._answer("load"))
 
     def _answer(self, command: str) -> str:

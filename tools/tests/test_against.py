@@ -388,6 +388,21 @@ class Against(InFolder):
         for jitter in ("-1", "x", "1e3", ""):
             self.assertEqual(run("against.py", f"--jitter={jitter}", self.path("plan.toml"), log)[0], 2)
 
+    def test_needs(self):
+        """Those that nothing met in the log, by the flows that meet them; with the signal and the unit."""
+        plan = PLAN.replace("version = 1", "version = 4").replace("length = 8\n", 'length = 8\n[[group.signal]]\nlabel = "S"\nbyte = 1\nbits = 8\n'
+                                                                  'kind = "raw"\n', 1)
+        needs = ("DISPLAY ET1", "DISPLAY ET1 S", "ENGINE ET1", "ENGINE TSC1", "DISPLAY VI")
+        for number, need in enumerate(needs, 1):
+            unit, group, *signal = need.split()
+            plan += f'[[need]]\nunit = "{unit}"\ngroup = "{group}"\n' + "".join(f'signal = "{name}"\n' for name in signal)
+        plan += '[[need]]\nunit = "DISPLAY"\ngroup = "VI"\nfrom = "DISPLAY"\n'
+        none = [f"P: need {number}, {what}: nothing met it, and no flow of the plan does" for number, what in ((3, "ET1 by ENGINE"), (6, "VI by DISPLAY"))]
+        self.assertEqual(self.compared(plan, FLOWS), none)
+        found = [line for line in self.compared(plan, FLOWS[1:2]) if "need" in line]
+        self.assertEqual(found, ["P: need 1, ET1 by DISPLAY: nothing met it", "P: need 2, ET1 S by DISPLAY: nothing met it", none[0],
+                                 "P: need 5, VI by DISPLAY: nothing met it", none[1]])
+
     def test_silences(self):
         """The longest time without a message of a flow, with the line behind it, and that one has stopped, by the log's last time."""
         times = ["1.000", "1.010", "1.061", "1.100", "1.200", "1.250"]
@@ -517,7 +532,7 @@ class Against(InFolder):
         for plan, status, said in [
             (example("findings/f07_signal_outside.toml"), 1,
              program.call(["follow", example("findings/f07_signal_outside.toml"), log])[1].strip()),
-            (self.write("plan.toml", "version = 4\n"), 2, "refused Range top key version"),
+            (self.write("plan.toml", "version = 5\n"), 2, "refused Range top key version"),
         ]:
             self.assertEqual(run("against.py", plan, log), (status, "", f"against: {said}\n"))
         missing = self.path("none.log")

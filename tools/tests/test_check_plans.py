@@ -6,6 +6,7 @@ import shutil
 import subprocess
 import sys
 import unittest
+import xml.etree.ElementTree as ElementTree
 
 import program
 from tests.support import TOOLS, TOP, InFolder, example, text_of
@@ -24,7 +25,7 @@ class CheckPlans(InFolder):
         return ended.returncode, ended.stdout
 
     def test_the_worst_counts(self):
-        refused, missing = self.write("plan.toml", "version = 4\n"), self.path("none.toml")
+        refused, missing = self.write("plan.toml", "version = 5\n"), self.path("none.toml")
         for plans, status in [
             ([], 2), ([CLEAN, CLEAN], 0), ([FOUND], 1), ([refused], 1), ([missing], 2),
             ([FOUND, CLEAN], 1), ([missing, FOUND], 2), ([CLEAN, refused, missing], 2),
@@ -34,7 +35,7 @@ class CheckPlans(InFolder):
     def test_its_help_and_its_version(self):
         version = program.call(["--version"])[1].split()[1]
         self.assertEqual(self.status("--version"), (0, f"check-plans (j39plan) {version}\n"))
-        usage = "usage: check-plans PLAN.. | -h | --help | --version\n"
+        usage = "usage: check-plans [--junit FILE] PLAN.. | -h | --help | --version\n"
         for word in ("--help", "-h"):
             self.assertEqual(self.status(word), (0, f"{usage}\nexample: check-plans plans/*.toml\n"))
 
@@ -57,9 +58,27 @@ class CheckPlans(InFolder):
                                env={**os.environ, "CHECK": f"sh {tool}"})
         self.assertEqual((ended.returncode, ended.stderr), (2, f"check-plans: {CLEAN} could not be checked, status 70\n"))
 
+    def test_plans_as_tests_of_junit(self):
+        """One that has to be mended is a failure, one that couldn't be checked an error; what is written besides is the same."""
+        odd, missing, report = self.write('a<&">.toml', text_of(FOUND)), self.path("none.toml"), self.path("plans.xml")
+        bad = self.write("bad.toml", 'version = 1\n[[unit]]\nlabel = "\x01"\n')
+        plans = (CLEAN, FOUND, odd, bad, missing)
+        self.assertEqual(self.status("--junit", report, *plans), self.status(*plans))
+        suite = ElementTree.parse(report).getroot()
+        self.assertEqual((suite.tag, suite.attrib), ("testsuite", {"name": "check-plans", "tests": "5", "failures": "3", "errors": "1"}))
+        told = [(test.get("name"), [(part.tag, part.get("message")) for part in test]) for test in suite]
+        refusal = self.status(bad)[1].splitlines()[-1]
+        self.assertEqual(told, [(CLEAN, []), (FOUND, [("failure", "findings 1")]), (odd, [("failure", "findings 1")]), (bad, [("failure", refusal)]),
+                                (missing, [("error", "it isn't there")])])
+        self.assertEqual(suite[1][0].text, "F10 FlowToSelf 1\nfindings 1")
+
+    def test_a_report_that_can_not_be_written(self):
+        self.assertEqual(self.status("--junit", self.path("none/plans.xml"), CLEAN)[0], 2)
+        self.assertEqual(self.status("--junit", self.path("plans.xml"))[0], 2)
+
     def test_an_option_that_there_is_not(self):
         """It is no plan, unless a file is called so; behind -- it is one."""
-        usage = "usage: check-plans PLAN.. | -h | --help | --version\n"
+        usage = "usage: check-plans [--junit FILE] PLAN.. | -h | --help | --version\n"
         for words in (("--quiet",), ("--quiet", CLEAN), (CLEAN, "-q")):
             option = next(word for word in words if word.startswith("-"))
             self.assertEqual(self.said(*words), (2, f"check-plans: there is no option {option}\n{usage}"))
@@ -70,7 +89,7 @@ class CheckPlans(InFolder):
 
     def test_a_report_for_gitlab(self):
         """Of all plans in one file; of a plan that is checked anew its entries are new."""
-        report, refused = self.path("report.json"), self.write("refused.toml", "version = 4\n")
+        report, refused = self.path("report.json"), self.write("refused.toml", "version = 5\n")
         check = f"{os.path.join(TOOLS, 'where.py')} --gitlab {report}"
         for _ in range(2):
             self.assertEqual(self.status(FOUND, refused, CLEAN, check=check)[0], 1)

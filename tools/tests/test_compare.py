@@ -144,6 +144,19 @@ class Changes(Compared):
         self.assertIn("new.toml:9: unit CLUSTER: stands may move from 130, it was stays 130 (old.toml:9)", self.compare(
             fixed, moving + '[[unit]]\nlabel = "X"\naddress = 130\nname = { identity = 1 }\n')[1])
 
+    def test_needs(self):
+        """New, gone, otherwise; and how old what they ask for is, by `load`. They break nothing."""
+        old = text_of(example("findings/f20_need_too_old.toml")).replace("within = 21", "within = 22")
+        lines = old.count("\n")
+        status, found = self.compare(old, old.replace("within = 22", "within = 30").replace("pause = 20", "pause = 25"))
+        self.assertEqual((status, [re.sub(r"^\S+:\d+: | \(.*\)$", "", line) for line in found]), (0, [
+            "flow EEC1 from ENGINE to all: pause 25, it was 20", "need group EEC1 unit CLUSTER: within 30, it was 22",
+            "need group EEC1 unit CLUSTER: age 26280 of 30000 us, it was 21280 of 22000 us", "changes 3 breaks 0"]))
+        more = old + '\n[[need]]\nunit = "CLUSTER"\ngroup = "EEC1"\nfrom = "ENGINE"\n'
+        new = f"new.toml:{lines + 2}: need group EEC1 from ENGINE unit CLUSTER: new"
+        self.assertEqual(self.compare(old, more), (0, [new, "changes 1 breaks 0"]))
+        self.assertEqual(self.compare(more, old)[1][0], new.replace("new.toml", "old.toml").replace(": new", ": gone"))
+
 
 class Broken(Compared):
     def test_signals(self):

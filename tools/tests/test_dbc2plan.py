@@ -242,7 +242,7 @@ class Groups(WithDbc):
 
     def test_what_is_said_is_counted(self):
         _, said = self.plan()
-        self.assertEqual(said[-1], f"2 units 5 groups 7 flows, notes {len(said) - 1}")
+        self.assertEqual(said[-1], f"2 units 5 groups 7 flows 6 needs, notes {len(said) - 1}")
 
 
 @needs("canmatrix", "python3-canmatrix")
@@ -261,12 +261,37 @@ class Signals(WithDbc):
         """It has fractions in the units of measurement, and neither signed signals nor states."""
         plan, said = self.plan("--version", "2")
         signals = {signal["label"]: signal for group in plan["group"] for signal in group.get("signal", [])}
-        self.assertEqual((plan["version"], self.plan("--version", "3")), (2, self.plan()))
+        newer, older = (self.plan("--version", version)[0] for version in ("4", "3"))
+        self.assertEqual((plan["version"], older["version"], newer), (2, 3, self.plan()[0]))
+        self.assertEqual([older[key] for key in ("unit", "group", "flow")], [newer[key] for key in ("unit", "group", "flow")])
         self.assertEqual(signals["SPN190"], {"label": "SPN190", "byte": 4, "bits": 16, "kind": "measured", "unit": "1/8 rpm"})
         self.assertEqual((signals["SPN175"]["offset"], signals["SPN175"]["unit"]), (-8736, "1/32 degC"))
         self.assertIn("signal SIGNED of ODD: it is signed", said)
         states, _ = self.plan("--version", "2", data=STATES)
         self.assertEqual({signal["kind"] for signal in states["group"][0]["signal"]}, {"raw", "discrete"})
+
+    def test_needs(self):
+        """Of each unit and group one, where the unit receives a signal of it from another one; none in an earlier version."""
+        plan, said = self.plan()
+        needs = [("RETARDER", "EEC1"), ("RETARDER", "ET1"), ("ENGINE", "TSC1"), ("RETARDER", "ODD"), ("RETARDER", "MAKER"), ("ENGINE", "EEC1")]
+        self.assertEqual([(need.pop("unit"), need.pop("group"), need) for need in plan["need"]], [(*need, {}) for need in needs])
+        self.assertEqual(said[-1], "2 units 5 groups 7 flows 6 needs, notes 8")
+        for words in (("--no-needs",), ("--version", "3"), ("--version", "2")):
+            less, said = self.plan(*words)
+            self.assertEqual(("need" in less, "needs" in said[-1]), (False, False), words)
+
+    def test_a_need_that_nothing_meets(self):
+        """Nobody sends it, or it goes to somebody else: that is said, and check finds it. What only its receiver sends is no need."""
+        signal = 'S : 0|8@1+ (1,0) [0|0] "" {}'
+        for identifier, sender, receiver, unmet in (
+            (FROM_0, "Vector__XXX", "RETARDER", True), (FROM_0, "ENGINE", "RETARDER", False), (0x0C000F00, "ENGINE", "RETARDER", False),
+            (FROM_0, "ENGINE", "ENGINE", None), (0x0C000F00, "ENGINE", "ENGINE", None),
+        ):
+            data = NODES + 'BA_ "NmStationAddress" BU_ ENGINE 0;\n' + message(identifier, "G", sender, signal.format(receiver))
+            plan, said = self.plan(data=data)
+            self.assertEqual(plan.get("need", []), [] if unmet is None else [{"unit": receiver, "group": "G"}], (identifier, sender))
+            told = f"need of G by {receiver}: no unit of the plan sends it there"
+            self.assertEqual((told in said, "F19 NeedUnmet 1\n" in program.call(["check", self.path("plan.toml")])[1]), (bool(unmet), bool(unmet)))
 
     def test_what_is_left_out_of_a_group_of_a_maker(self):
         _, said = self.plan(data=NODES + message(FROM_0, "EEC1", "ENGINE") + message(0x18FF1000, "ONE", "ENGINE") + (
@@ -275,7 +300,7 @@ class Signals(WithDbc):
         self.assertIn("group THREE: PGN 65297 is proprietary, and no unit in the plan sends it to another one", said)
 
     def test_a_version_that_there_is_not(self):
-        for version in ("1", "4", "x"):
+        for version in ("1", "5", "x"):
             status, plan, said = self.made("--version", version)
             self.assertEqual((status, plan), (2, ""), said)
         self.assertRegex(run("dbc2plan.py", "--version")[1], r"\Adbc2plan \(j39plan\) [\d.]+\n\Z")
@@ -471,7 +496,7 @@ class Remarks(WithDbc):
             f'BA_ "SystemSignalLongSymbol" SG_ {number} SPEED "Actual speed";\n'))
         for line in ('"ENGINE"  # The engine', '"Controller_1"  # Controller 1', '"Actual_speed"  # Actual speed'):
             self.assertIn(f"label = {line}", text.splitlines())
-        self.assertEqual(said[-1], "2 units 1 groups 1 flows, notes 2")
+        self.assertEqual(said[-1], "2 units 1 groups 1 flows 1 needs, notes 2")
 
     def test_a_plan_that_is_too_long(self):
         """The program takes a file of at most 16 MiB."""
@@ -495,9 +520,9 @@ class Whole(WithDbc):
         """Files of random nodes, frames and signals, of which much can't be carried over; no signal of them is at a wrong place."""
         import_canmatrix()
         import canmatrix
-        chance, flows = random.Random(1939), 0
+        chance, flows, needed = random.Random(1939), 0, 0
         for round_ in range(60):
-            version = 2 + round_ % 2
+            version = 2 + round_ % 3
             db = canmatrix.CanMatrix()
             for number in range(chance.randrange(4)):
                 db.add_ecu(random_ecu(canmatrix, chance, number))
@@ -510,11 +535,13 @@ class Whole(WithDbc):
                 plan = matrix_plan.Plan(network, network.notes, version=version)
                 plan.add_units()
                 plan.add_frames(network.sent)
+            needed += len(plan.needs)
             self.checked(text_of(plan.tables(), "random", version))
             _, answer = program.call(["check", self.path("plan.toml")])
             self.assertNotRegex(answer, r"(?m)^(?:F[4-9]|F1[013]) ")
             flows += len(plan.flows)
         self.assertGreater(flows, 10)
+        self.assertGreater(needed, 5)
 
     @unittest.skipUnless(os.path.exists(CANMATRIX_J1939), "canmatrix's j1939.dbc isn't there")
     def test_the_groups_of_canmatrix(self):

@@ -53,9 +53,10 @@ class Suppliers(WithFiles):
             f"{BRAKES}: flow of EEC1 from ENGINE to all: its cycle times are 10 ms in {ENGINE} and 20 ms: the lesser one is its period",
             f"{CAB}: signal SPN174 of ET1: SPN174 of ET1 in {ENGINE} has another factor or offset, and is in the plan alone",
             f"{CAB}: signal SPN183 of LFE1: its unit 'L/h' is 'l/h' in LFE1 in {ENGINE}, as in the plan",
-            "5 units 14 groups 18 flows, notes 5"])
+            "5 units 14 groups 18 flows 20 needs, notes 5"])
         self.assertEqual(program.call(["check", self.path("plan.toml")]), (0, "ok 5 units 14 groups 18 flows\n"))
-        self.assertIn('group = "ET1"  # for CLUSTER, "laid out otherwise in cab.dbc: SPN174"\n', text_of(self.path("plan.toml")))
+        self.assertIn('group = "ET1"  # "laid out otherwise in cab.dbc: SPN174"\n', text_of(self.path("plan.toml")))
+        self.assertEqual([need["unit"] for need in tomllib.loads(text_of(self.path("plan.toml")))["need"] if need["group"] == "ET1"], ["CLUSTER"])
 
     def test_signals_of_one_group_are_joined(self):
         """Whichever file comes first, and that has a part of them."""
@@ -154,7 +155,11 @@ class OneGroup(WithFiles):
         """The flow has all that receive something of it, a signal those that receive it, where not all receive all."""
         signals = ('A : 0|8@1+ (1,0) [0|0] "" RETARDER,TOOL', 'B : 8|8@1+ (1,0) [0|0] "" Vector__XXX', 'C : 16|8@1+ (1,0) [0|0] "" RETARDER')
         text, _ = self.text(data=NODES + message(EEC1, "EEC1", "ENGINE", *signals))
-        for line in ('label = "A"  # for RETARDER', 'label = "B"  # for nobody', 'label = "C"  # for RETARDER', 'group = "EEC1"  # for RETARDER'):
+        parts = ('label = "A"  # for RETARDER', 'label = "B"  # for nobody', 'label = "C"  # for RETARDER')
+        for line in (*parts, '[[need]]\nunit = "RETARDER"\ngroup = "EEC1"', '[[flow]]\ngroup = "EEC1"\n'):
+            self.assertIn(line, text)
+        text, _ = self.text("--no-needs", data=NODES + message(EEC1, "EEC1", "ENGINE", *signals))
+        for line in (*parts, 'group = "EEC1"  # for RETARDER'):
             self.assertIn(line, text.splitlines())
 
 
@@ -220,10 +225,14 @@ class WhatAFileSays(WithFiles):
     def test_how_fast_the_bus_is(self):
         """A comment that can be made a table."""
         define, beside = 'BA_DEF_ "Baudrate" INT 0 1000000;\n', NODES + message(EEC1, "EEC1", "ENGINE")
-        for told, bitrate in (("500000", 500000), ("250", 250000), ("125000", None), ("0", None)):
-            text, said = self.text(data=beside + define + f'BA_ "Baudrate" {told};\n')
-            self.assertEqual(f"# [timing]\n# bitrate = {bitrate}\n# unplanned = 1\n" in text, bitrate is not None)
-            self.assertEqual("the bus, Baudrate: 125000 is none of 250000 and 500000" in said, told == "125000")
+        for told, bitrate, words in (
+            ("500000", 500000, ()), ("250", 250000, ()), ("125000", 125000, ()), ("1000", 1000000, ()), ("125000", None, ("--version", "3")),
+            ("800000", None, ()), ("0", None, ()),
+        ):
+            text, said = self.text(*words, data=beside + define + f'BA_ "Baudrate" {told};\n')
+            self.assertEqual(f"# [timing]\n# bitrate = {bitrate}\n# unplanned = 1\n" in text, bitrate is not None, told)
+            rates = "250000 and 500000" if words else "250000 and 500000 and 125000 and 1000000"
+            self.assertEqual(f"the bus, Baudrate: {told} is none of {rates}" in said, told != "0" and bitrate is None, told)
         text, _ = self.text(data=beside + define + f'BA_ "Baudrate" 500000;\n{TIMES}BA_ "GenMsgCycleTime" BO_ {EEC1 | 1 << 31} 10;\n')
         whole = text.replace("# [timing]", "[timing]").replace("# bitrate", "bitrate").replace("# unplanned", "unplanned")
         name = self.write("timed.toml", whole)
@@ -257,7 +266,7 @@ class NotesAndForms(WithFiles):
     def test_standard_input_has_a_kind(self):
         whole = text_of(example("vehicle.dbc"))
         status, plan, said = run("dbc2plan.py", "--kind", "dbc", "/dev/stdin", text=whole)
-        self.assertEqual((status, said), (0, "group ERC1: its identifier has the source address 15, RETARDER has 0\n3 units 4 groups 4 flows, notes 1\n"))
+        self.assertEqual((status, said), (0, "group ERC1: its identifier has the source address 15, RETARDER has 0\n3 units 4 groups 4 flows 5 needs, notes 1\n"))
         self.assertEqual(plan.splitlines()[1:], run("dbc2plan.py", example("vehicle.dbc"))[1].splitlines()[1:])
         self.assertEqual(run("dbc2plan.py", "/dev/stdin", text=whole)[0], 2)
 

@@ -13,9 +13,9 @@ OWNER = re.compile(r"(?<![\w.'\"])([a-z_]\w*)\.(?=[a-z_])")
 
 
 def unknown(edit: str, code: str) -> list[str]:
-    """The names of which an edit takes a part, and that the code doesn't have."""
+    """The names of which an edit takes a part, and that neither the code has nor a closure of the edit gives."""
     known = set(re.findall(r"\w+", re.sub(r"//.*", "", code)))
-    return [name for new in NEW.findall(edit) for name in OWNER.findall(new) if name not in known]
+    return [name for new in NEW.findall(edit) for name in OWNER.findall(new) if name not in known | set(re.findall(r"\|(\w+)\|", new))]
 
 
 class Edits(unittest.TestCase):
@@ -31,6 +31,7 @@ class Edits(unittest.TestCase):
     def test_a_name_that_a_file_lacks_is_found(self):
         code = "ensures { IsQuiet w.claims }  // as in the first world, all.off"
         self.assertEqual(unknown("new: IsQuiet first.claims × IsQuiet w.claims × all.off\n", code), ["first", "all"])
+        self.assertEqual(unknown("new: w.claims.map(|claim| claim.name + other.name)\n", code), ["other"])
 
 
 if __name__ == "__main__":

@@ -5,6 +5,7 @@ import importlib.util
 import json
 import os
 import pty
+import re
 import signal
 import subprocess
 import sys
@@ -70,6 +71,21 @@ class Table(Fleets):
                          [("EEC1", "ENGINE", 2, 2), ("EBC2", "LEFT", 2, 2), ("EBC2", "RIGHT", 4, 2)])
         self.assertEqual([(round(row["silence"], 6), row["silence_log"], row["silence_line"]) for row in tables["flows"]],
                          [(7.7, "late.log", None), (7.55, "late.log", 6), (7.29, "late.log", 7)])
+
+    def test_needs(self):
+        """How often each was met, in how many logs, and in which one it wasn't: LEFT hears EEC1 once a log, and RIGHT's EBC2 in the first one."""
+        needs = "".join(f'\n[[need]]\nunit = "{unit}"\ngroup = "{group}"\n' for unit, group in (("LEFT", "EEC1"), ("LEFT", "EBC2"), ("ENGINE", "EEC1")))
+        text = text_of(PLAN)
+        plan = self.write("plan.toml", re.sub(r"^version = \d", "version = 4", text, flags=re.MULTILINE) + needs)
+        silent = self.write("silent.log", "".join(line for line in text_of(LOG).splitlines(keepends=True) if "EEFF" in line))
+        _, tables, _ = self.tables([self.early, silent], plan=plan)
+        self.assertEqual([(row["need"], row["unit"], row["group"], row["signal"], row["met"], row["logs"], row["unmet"]) for row in tables["needs"]], [
+            (1, "LEFT", "EEC1", None, 1, 1, ["silent.log"]), (2, "LEFT", "EBC2", None, 2, 1, ["silent.log"]),
+            (3, "ENGINE", "EEC1", None, 0, 0, ["early.log", "silent.log"])])
+        lines = self.fleet([self.early, silent], plan=plan)[1].split("\n\n")
+        self.assertEqual([line.split() for line in lines[3].splitlines()], [
+            ["need", "met", "logs", "not", "met"], ["1", "EEC1", "by", "LEFT", "1", "1", "silent.log"],
+            ["2", "EBC2", "by", "LEFT", "2", "1", "silent.log"], ["3", "EEC1", "by", "ENGINE", "0", "0", "early.log", "and", "1", "others"]])
 
     def test_names(self):
         """RIGHT claimed 128 and then 129, LEFT 128, each in both logs; and one that isn't planned 5, in one of them."""

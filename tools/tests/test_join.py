@@ -168,6 +168,10 @@ class Agreement(Joined):
             {"group": "TSC1", "from": "ABS", "to": "all", "period": 10},
         ])
 
+    def test_of_strangers_the_most_may_come(self):
+        plans = ["version = 4\nstrangers = 2\n", "version = 3\nkeep_free = [240]\n", "version = 4\nstrangers = 3\n", "version = 4\n"]
+        self.assertEqual(self.joined(*plans), {"version": 4, "keep_free": [240], "strangers": 3})
+
     def test_it_says_where_each_part_is_from(self):
         """Above each table, with the comments of the files; and by notes what is called otherwise. (The one flow without a period is F16,
         since one of the plans says how fast the bus is.)"""
@@ -263,6 +267,20 @@ class Contradictions(Joined):
         bus = "version = 3\n[timing]\nbitrate = 250000\nunplanned = 1\n"
         self.assertEqual(self.contradicted(bus, bus.replace("25", "50"))[0],
                          ["b.toml:2: timing: { bitrate = 500000, unplanned = 1 }, and { bitrate = 250000, unplanned = 1 } at a.toml:2"])
+
+    def test_needs(self):
+        """The same need is one; what only one of them asks for is taken; two ages of one need contradict."""
+        engine = ENGINE.replace("version = 1", "version = 4")
+        needs = engine + '\n[[need]]\nunit = "ABS"\ngroup = "EEC1"\n', engine + (
+            '\n# also\n[[need]]\nunit = "ABS"\ngroup = "EEC1"\nwithin = 50\n[[need]]\nunit = "ABS"\ngroup = "EEC1"\nsignal = "SPN190"\n')
+        names = [self.write(f"{number}.toml", text) for number, text in enumerate(needs)]
+        status, plan, said = run("join.py", *names)
+        self.assertEqual((status, tomllib.loads(plan)["need"]), (0, [
+            {"unit": "ABS", "group": "EEC1", "within": 50}, {"unit": "ABS", "group": "EEC1", "signal": "SPN190"}]), said)
+        status, plan, said = run("join.py", self.write("0.toml", needs[0] + "within = 40\n"), names[1])
+        self.assertEqual((status, plan), (1, ""))
+        line = needs[1].count("\n", 0, needs[1].index("within")) + 1
+        self.assertIn(f"{names[1]}:{line}: need group EEC1 unit ABS: within = 50, and 40 at {names[0]}:{needs[0].count(chr(10)) + 1}\n", said)
 
     def test_a_signal_and_a_text_of_one_label(self):
         text = '[[group.text]]\nlabel = "S"\nbyte = 3\n'

@@ -67,7 +67,12 @@ class Plans(InFolder):
         self.assertEqual((plan.stands(), plan.load()), ({}, None))
         axle = j39plan.read_plan(example("axle.toml"))
         self.assertEqual((axle.findings(), axle.load().taken, axle.load().delays[0].within), ([], (32160, 250000), 1280))
-        self.assertEqual(axle.stands()["RETARDER"], j39plan.Stand(True, 15))
+        self.assertEqual((axle.stands()["RETARDER"], axle.needs), (j39plan.Stand(True, 15), []))
+
+    def test_needs(self):
+        plan = j39plan.read_plan(self.write("plan.toml", text_of(example("findings/f20_need_too_old.toml")).replace("within = 21", "within = 22")))
+        self.assertEqual(plan.needs, [j39plan.Need("CLUSTER", "EEC1", "", "", 22)])
+        self.assertEqual((plan.needs[0].is_met_by(plan.flows[0]), plan.load().ages), (True, [j39plan.Age(1, 21280, 22000)]))
 
     def test_what_is_none(self):
         none = self.write("none.toml", "version = 1\n[[unit]]\nlabel = A\n")

@@ -204,6 +204,105 @@ class Wireshark(InFolder):
             self.assertIn(number, numbers)
 
 
+class Needs(WithPlans):
+    PLAN = """version = 4
+timing = { bitrate = 250000, unplanned = 0, broadcast_gap = 10, errors = { count = 1, every = 1000 } }
+[[unit]]
+label = "ENGINE"
+address = 0
+name = { identity = 1 }
+[[unit]]
+label = "BOX"
+address = 3
+name = { identity = 2 }
+[[unit]]
+label = "DASH"
+address = 23
+name = { identity = 3 }
+[[group]]
+label = "EEC1"
+pgn = 61444
+priority = 3
+length = 8
+[[group.signal]]
+label = "SPN899"%s
+byte = 1
+bits = 4
+kind = "raw"
+[[group.signal]]
+label = "SPN190"
+byte = 4
+bits = 16
+kind = "raw"
+[[group]]
+label = "ALONE"
+pgn = 65262
+priority = 6
+length = 8
+[[group.signal]]
+label = "SPN110"
+byte = 1
+bits = 8
+kind = "measured"
+[[flow]]
+group = "EEC1"
+from = "ENGINE"
+to = "all"
+period = 10
+jitter = 1
+pause = 20
+[[flow]]
+group = "EEC1"
+from = "BOX"
+to = "all"
+period = 10
+"""
+
+    def received(self, needs, beside=""):
+        """Who receives each signal in each message of the plan's DBC, and what is said."""
+        plan = self.PLAN % beside + "".join(f"[[need]]\n{need}\n" for need in needs)
+        dbc, told = self.made(self.write("plan.toml", plan))
+        found = re.findall(r"^(?:BO_ \d+ (\w+)| SG_ (\w+) .* ([\w,]+)$)", text_of(dbc), re.MULTILINE)
+        names, message = {}, ""
+        for name, signal, receivers in found:
+            message = name or message
+            if signal:
+                names[message, signal] = receivers
+        return names, told.splitlines()[:-1]
+
+    def test_receivers(self):
+        """Of each message that meets the need, by a need of one signal of that one; of a group that nobody sends too."""
+        nobody = "Vector__XXX"
+        for needs, wanted in (
+            ([], [nobody] * 5),
+            (['unit = "DASH"\ngroup = "EEC1"'], ["DASH", "DASH", "DASH", "DASH", nobody]),
+            (['unit = "BOX"\ngroup = "EEC1"', 'unit = "DASH"\ngroup = "EEC1"'], ["BOX,DASH", "BOX,DASH", "DASH", "DASH", nobody]),
+            (['unit = "DASH"\ngroup = "EEC1"\nsignal = "SPN190"\nfrom = "BOX"'], [nobody, nobody, nobody, "DASH", nobody]),
+            (['unit = "DASH"\ngroup = "ALONE"'], [nobody, nobody, nobody, nobody, "DASH"]),
+        ):
+            names, _ = self.received(needs)
+            self.assertEqual(list(names.values()), wanted, needs)
+        names, _ = self.received(['unit = "DASH"\ngroup = "EEC1"', 'unit = "BOX"\ngroup = "EEC1"'], "  # for DASH")
+        self.assertEqual(list(names.values())[:4], ["DASH,BOX", "BOX", "DASH", nobody])
+
+    def test_what_a_dbc_can_not_say(self):
+        lost = ["flow of EEC1 from ENGINE to all: a DBC has no jitter", "flow of EEC1 from ENGINE to all: a DBC has no pause"]
+        timing = ["timing: a DBC has no count of unplanned frames", "timing: a DBC has no broadcast_gap", "timing: a DBC has no errors"]
+        _, said = self.received(['unit = "DASH"\ngroup = "EEC1"\nfrom = "BOX"\nwithin = 50', 'unit = "DASH"\ngroup = "EEC1"\nfrom = "DASH"'])
+        need = "need {} of EEC1 by DASH: {}"
+        self.assertEqual(sorted(said), sorted([
+            *lost, *timing, need.format(1, "a DBC has no from and no within of a need"), need.format(2, "no message of it goes there"),
+            need.format(2, "a DBC has no from of a need")]))
+
+    @needs("canmatrix", "python3-canmatrix")
+    def test_there_and_back(self):
+        """A need of a unit and a group is one again, and so is one that nothing meets."""
+        needs = [("BOX", "EEC1"), ("DASH", "EEC1"), ("DASH", "ALONE"), ("ENGINE", "EEC1")]
+        plan = self.PLAN % "" + "".join(f'[[need]]\nunit = "{unit}"\ngroup = "{group}"\n' for unit, group in needs)
+        back = self.back(self.write("plan.toml", plan))
+        self.assertEqual(sorted((need["unit"], need["group"]) for need in back["need"]), sorted(needs))
+
+
 class Written(WithPlans):
     def test_a_message(self):
         plan = self.write("plan.toml", """version = 3

@@ -14,7 +14,7 @@ import program
 from clock import ends_of
 from curves import Held, Timeline, curves_of
 from logs import Log
-from readings import Choice, Rows
+from readings import Choice, Wanted
 from reports import Counts, follow, tables_of
 from tests.support import TOOLS, InFolder, example, needs, run, signal
 
@@ -41,7 +41,8 @@ class Told(WithLog):
         tables = tables_of(PLAN)
         timeline = Timeline(tables.units)
         with Log([log]) as file:
-            curves = curves_of(Rows(Choice(tables, names)).of(timeline.passed(follow(PLAN, file, tables, Counts()))), timeline.clock)
+            wanted = Wanted(Choice(tables, names), lambda reading: reading)
+            curves = curves_of(timeline.passed(follow(PLAN, file, tables, Counts())), wanted, timeline.clock)
         return {(curve.group, curve.signal, curve.sender): curve for curve in curves}, timeline.held()
 
     def test_curves_have_gaps(self):
@@ -86,7 +87,8 @@ class Told(WithLog):
         tables = tables_of(PLAN)
         timeline = Timeline(tables.units)
         with Log([first, second]) as log:
-            curves = curves_of(Rows(Choice(tables, ["SPN110"])).of(timeline.passed(follow(PLAN, log, tables, Counts()))), timeline.clock)
+            wanted = Wanted(Choice(tables, ["SPN110"]), lambda reading: reading)
+            curves = curves_of(timeline.passed(follow(PLAN, log, tables, Counts())), wanted, timeline.clock)
             self.assertEqual(ends_of(log), (100_000_000_000, 110_000_000_000))
             self.assertEqual([log.place(line) for line in (1, 4, 5, 11)], [(first, 1), (first, 4), (second, 1), (second, 7)])
         self.assertEqual(list(curves[0].times), [101.0, 102.0, 103.0, 104.0])

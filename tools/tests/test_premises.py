@@ -42,6 +42,13 @@ to = "TOOL"
 period = 5000
 """
 
+
+
+def timed(keys):
+    """The plan with further keys of its timing, which version 4 has."""
+    return PLAN.replace("unplanned = 1", f"unplanned = 1, {keys}").replace("version = 3", "version = 4")
+
+
 ET1, STRANGE = "18FEEE00#7DFFFFFFFFFFFFFF", "18FF10F9#0000000000000000"
 BAM = ["1CECFF00#20110003FFECFE00", *(f"1CEBFF00#0{number}AAAAAAAAAAAAAA" for number in (1, 2, 3))]
 RTS, CLEAR, PACKETS, WHOLE = "1CECF900#10110003FFECFE00", "1CEC00F9#110301FFFFECFE00", [
@@ -109,22 +116,63 @@ class Premises(InFolder):
         log = self.broadcast("2.00", "2.05", "2.15", "2.35", frames=[frame.replace("1C", "18", 1) for frame in BAM])
         said = "L:1: VI from ENGINE to all: frames of the transport protocol have priority 6, by 'load' 7  (4 times)"
         self.assertIn(said, self.told(*log))
-        own = PLAN.replace("unplanned = 1", "unplanned = 1, transport_priority = 6").replace("version = 3", "version = 4")
-        self.assertTrue(self.reads(own) is None or said not in self.told(*log, plan=own))
+        self.assertNotIn("transport protocol", "".join(self.told(*log, plan=timed("transport_priority = 6"))))
         other = [(time, frame.replace("ECFE00", "10FF00")) for time, frame in log]
         self.assertNotIn("transport protocol", "".join(self.told(*other)))
-
-    def reads(self, plan):
-        """The plan, where the program knows its keys."""
-        return plan if not self.load(plan)[:1] or not self.load(plan)[0].startswith("refused") else None
 
     def test_the_pace_of_broadcasts(self):
         """Frames nearer than 50 ms, the announcement too, or further apart than 200, by the nearest and the furthest."""
         near = "VI from ENGINE to all: frames {} ms apart, at least 50 ms are between two"
         self.assertIn("L:2: " + near.format("49.999") , self.told(*self.broadcast("2.0", "2.049999", "2.1", "2.2")))
         self.assertIn("L:4: " + near.format("1") + "  (2 times)", self.told(*self.broadcast("2.0", "2.1", "2.102", "2.103")))
-        far = "VI from ENGINE to all: frames {} ms apart, at most 200 ms are between two"
-        self.assertIn("L:3: " + far.format("300"), self.told(*self.broadcast("2.0", "2.2", "2.5", "2.7")))
+        far = "VI from ENGINE to all: frames {} ms apart, at most {} ms are between two"
+        self.assertIn("L:3: " + far.format("300", 200), self.told(*self.broadcast("2.0", "2.2", "2.5", "2.7")))
+        own = timed("broadcast_gap = 10, broadcast_gap_most = 90")
+        self.assertIn("L:4: " + far.format("100", 90), self.told(*self.broadcast("2.0", "2.010", "2.1", "2.2"), plan=own))
+        self.assertIn("L:2: " + near.format("9.999").replace("50", "10"), self.told(*self.broadcast("2.0", "2.009999", "2.1", "2.2"), plan=own))
+        self.assertEqual(self.told(*self.broadcast("2.0", "2.01", "2.02", "2.11"), plan=own), [])
+
+    def test_the_priority_that_the_plan_has_of_others(self):
+        """Where it is 3, 3 is none too small, and 2 is."""
+        log = [("1.0", "0CFF10F9#00"), ("1.1", "08FF10F9#00"), ("9.0", ET1)]
+        found = [line for line in self.told(*log, plan=timed("unplanned_priority = 3")) if "load" in line]
+        self.assertEqual(found, ["L:2: PGN 65296 from TOOL has priority 2: by 'load' what no flow has is of 3 or more"])
+
+    def test_damaged_frames(self):
+        """More of them than the plan has in its time; by a plan without errors none. Classes that tell of no damage are none."""
+        damaged, unanswered, bus, lost, overload = ("20000088#00000A0000000000", "20000020#0000000000000000", "20000080#0000000000000000",
+                                                    "20000006#0000000000000000", "20000008#0000200000000000")
+        none = "a damaged frame: by 'load' none is, since `timing` has no `errors`"
+        log = [("1.0", ET1), ("1.1", damaged), ("1.2", unanswered), ("1.3", bus), ("1.4", lost), ("9.0", ET1)]
+        self.assertEqual(self.told(*log), [f"L:2: {none}  (3 times)"])
+        for every, found in ((100, []), (101, ["L:3: 2 damaged frames within 100 ms: `errors` has 1 in 101 ms"]),
+                             (201, ["L:4: 3 damaged frames within 200 ms: `errors` has 1 in 201 ms"])):
+            self.assertEqual(self.told(*log, plan=timed(f"errors = {{ count = 1, every = {every} }}")), found)
+        self.assertEqual(self.told(*log, plan=timed("errors = { count = 3, every = 1000 }")), [])
+        for plan in (PLAN, timed("errors = { count = 1, every = 10 }")):
+            found = ["L:2: an overload frame, for which 'load' has no room"]
+            self.assertEqual(self.told(("1.0", ET1), ("1.1", overload), ("9.0", ET1), plan=plan), found)
+        self.assertEqual(run("against.py", "--silence", "0", self.write("plan.toml", PLAN.replace("timing", "# timing")), self.path("drive.log"))[2],
+                         "against: 1 lines spell no frame\n")
+
+    def test_jitter(self):
+        """Messages may come nearer by it than the period."""
+        plan = timed("broadcast_gap = 50").replace("period = 10\n", "period = 10\njitter = 2\n", 1)
+        said = "flow 1, ET1 from ENGINE to all: 7.999 ms behind the one before, its period is 10 ms and its jitter 2 ms"
+        self.assertEqual(self.told(("1.0", ET1), ("1.008", ET1), plan=plan), [])
+        self.assertEqual(self.told(("1.0", ET1), ("1.007999", ET1), plan=plan), [f"L:2: {said}"])
+
+    def test_pauses(self):
+        """The greatest distance, at the line where it ended, whatever is said of silences; the end of the log too."""
+        plan = timed("broadcast_gap = 50").replace("period = 10\n", "period = 10\npause = 20\n", 1)
+        said = "flow 1, ET1 from ENGINE to all: not sent {}, its pause is 20 ms"
+        self.assertEqual(self.told(("1.0", ET1), ("1.02", ET1), ("1.04", ET1), plan=plan), [])
+        log = [("1.0", ET1), ("1.021", ET1), ("1.051", ET1), ("1.073", ET1)]
+        self.assertEqual(self.told(*log, plan=plan), ["L:3: " + said.format("for 30 ms before") + "  (3 times)"])
+        late = plan.replace("pause = 20", "jitter = 2\npause = 20")
+        self.assertEqual(self.told(*log, plan=late), ["L:3: " + said.format("for 30 ms before") + " and its jitter 2 ms"])
+        self.assertEqual(self.told(("1.0", ET1), ("1.1", STRANGE), plan=plan), ["L:1: " + said.format("any more, for 100 ms to the log's end")])
+        self.assertEqual(self.told(*log, plan=plan.replace("period = 10\npause = 20", "period = 10\npause = 30")), [])
 
     def test_answers_that_are_late(self):
         """Behind an announcement, behind a clear to send, and behind the last packet."""

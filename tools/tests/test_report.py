@@ -240,6 +240,35 @@ length = 20
         self.assertEqual(matrix["ENGINE", "to all"], "EEC1ET1CCVSEC1")
         self.assertEqual(matrix["CLUSTER", "to ENGINE"], "–")
 
+    def test_needs(self):
+        """Beside each group in the matrix who needs it, and a row a need: who brings it, and its age as `load` has it."""
+        text = text_of(example("findings/f20_need_too_old.toml"))
+        more = '[[need]]\nunit = "CLUSTER"\ngroup = "EEC1"\nfrom = "ENGINE"\nwithin = 22\n[[need]]\nunit = "ENGINE"\ngroup = "EEC1"\n'
+        rows = self.page(self.write("plan.toml", text + more)).rows
+        self.assertNotIn("age", [cell for row in rows for cell in row])
+        self.assertIn(["ENGINE", "EEC1 for CLUSTER"], rows)
+        self.assertEqual([row for row in rows if row[0] in "123" and len(row) == 8], [
+            ["1", "CLUSTER", "EEC1", "–", "any unit", "ENGINE", "21 ms", "–"], ["2", "CLUSTER", "EEC1", "–", "ENGINE", "ENGINE", "22 ms", "–"],
+            ["3", "ENGINE", "EEC1", "–", "any unit", "nobody", "–", "–"]])
+        rows = self.page(self.write("plan.toml", text + more.partition("[[need]]\nunit = \"ENGINE\"")[0])).rows
+        self.assertEqual([row[7] for row in rows if row[0] in "12" and len(row) == 8], ["not shown to be so young", "21.28 ms"])
+        self.assertNotIn('id="needs"', run("report.py", PLAN)[1])
+
+    def test_lines_of_load(self):
+        """Each form: of one frame, of long messages without and with a time, and of needs."""
+        import report
+        from report_page import Age, Delay
+
+        for line, delay in (
+            ("flow 1 G A all within 1280 of 10000 us", Delay(1, 1280, 10000, 1)), ("flow 2 G A B late of 10000 us", Delay(2, None, 10000, 1)),
+            ("flow 3 G A all frames 7", Delay(3, None, None, 7)), ("flow 4 G A all frames 7 whole within 605760 us", Delay(4, 605760, None, 7)),
+            ("flow 5 G A all frames 7 whole within 605760 of 700000 us", Delay(5, 605760, 700000, 7)),
+            ("flow 6 G A all frames 7 late of 600000 us", Delay(6, None, 600000, 7)),
+        ):
+            self.assertEqual(report.delay_of(line), delay)
+        self.assertEqual(report.age_of("need 1 B G age 21280 of 22000 us"), Age(1, 21280, 22000))
+        self.assertEqual(report.age_of("need 2 B G S old of 21000 us"), Age(2, None, 21000))
+
     def test_load(self):
         """The delays and the load are those that `load` prints; a plan that says nothing of the bus has no such section."""
         for name in ("axle.toml", "findings/f17_overload.toml", "findings/f18_late_flow.toml"):
@@ -265,8 +294,9 @@ length = 20
     def test_load_of_other_plans(self):
         """A long message has no bound; findings before that leave the load unknown; a plan without flows takes nothing."""
         text = text_of(example("axle.toml"))
-        long = self.page(self.write("long.toml", text.replace("pgn = 65262\npriority = 6\nlength = 8", "pgn = 65262\npriority = 6\nlength = 39")))
-        self.assertIn(["3", "ET1", "ENGINE", "all", "1000 ms", "–", "no bound: 7 frames a message", "–", "–"], long.rows)
+        text_of_long = text.replace("pgn = 65262\npriority = 6\nlength = 8", "pgn = 65262\npriority = 6\nlength = 39")
+        long = self.page(self.write("long.toml", text_of_long.replace('group = "ET1"\nfrom = "ENGINE"\nto = "all"', 'group = "ET1"\nfrom = "ENGINE"\nto = "RETARDER"')))
+        self.assertIn(["3", "ET1", "ENGINE", "RETARDER", "1000 ms", "–", "no bound: 9 frames a message", "–", "–"], long.rows)
         self.page(example("findings/f16_no_period.toml"))
         self.assertIn("Not known: the plan has findings", run("report.py", example("findings/f16_no_period.toml"))[1])
         bare = self.write("bare.toml", "version = 3\n[timing]\nbitrate = 500000\nunplanned = 0\n")

@@ -30,6 +30,7 @@ def is_by_cycle(frame):
 @needs("canmatrix", "python3-canmatrix")
 class Kept(InFolder):
     known = {}  # what came back of each file
+    words = ()  # what dbc2plan.py is given beside it
 
     def matrix(self, name):
         """A file as canmatrix reads it."""
@@ -45,7 +46,7 @@ class Kept(InFolder):
 
     def made(self, name):
         """The same, made."""
-        status, plan, said = run("dbc2plan.py", name)
+        status, plan, said = run("dbc2plan.py", *self.words, name)
         self.assertEqual(status, 0, said)
         status, dbc, noted = run("plan2dbc.py", self.write("plan.toml", plan))
         self.assertEqual((status, noted.splitlines()[:-1]), (0, []), name)
@@ -138,6 +139,12 @@ class Kept(InFolder):
             self.assertTrue(frame.name in here or frame.name in groups, frame.name)
             for signal in frame.signals if frame.name in here else []:
                 self.assertTrue(line_of(signal.name) in here[frame.name] or (signal.name, frame.name) in signals, signal.name)
+
+
+class WithoutNeeds(Kept):
+    """The same where receivers stand in comments alone."""
+    known = {}
+    words = ("--no-needs",)
 
 
 if __name__ == "__main__":

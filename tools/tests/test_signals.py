@@ -258,7 +258,9 @@ class Signals(InFolder):
         text = text_of(example("trouble_codes.toml"))
         tables = Tables.of(text.encode())
         self.assertIsNotNone(shorter_of(text, tables, Choice(tables, ["DTC"])))
-        self.assertIsNone(shorter_of(text + "spn = 110\n", tables, Choice(tables, ["DTC"])))
+        text += "spn = 110\n"
+        tables = Tables.of(text.encode())
+        self.assertIsNone(shorter_of(text, tables, Choice(tables, ["DTC"])))
 
     def test_signals_of_a_group_are_cut(self):
         """Those that aren't wanted, but none that is repeated, and no parts of a group's own."""

@@ -101,6 +101,31 @@ class Lint(InFolder):
         self.assertIn(hint, self.lines(plan)[1])
         self.assertNotIn("SHORT: ", "".join(self.lines(plan.replace("length = 7", "length = 8"))[1]))
 
+    def test_hints_at_needs(self):
+        """A flow to one unit that doesn't need it, and a need that two units meet; a unit that needs something isn't idle."""
+        needs = '[[need]]\nunit = "IDLE"\ngroup = "ET1"\n[[need]]\nunit = "C"\ngroup = "SHORT"\n'
+        flow = '[[flow]]\ngroup = "SHORT"\nfrom = "A"\nto = "all"\n'
+        hints = self.lines(LINTED.replace("version = 2", "version = 4") + flow + needs)[1]
+        self.assertIn("54: hint flow 3, TSC1 from C to A: no need of A takes it", hints)
+        self.assertIn("64: hint need 2, SHORT by C: B and A meet it; from says which one is meant", hints)
+        self.assertNotIn("unit IDLE: no flow", "".join(hints))
+        taken = self.lines(LINTED.replace("version = 2", "version = 4") + flow + needs + 'from = "B"\n[[need]]\nunit = "A"\ngroup = "TSC1"\n')[1]
+        self.assertEqual([hint for hint in taken if " need" in hint], [])
+
+    def test_hints_at_broadcasts(self):
+        """Those that take longer than their period, at the gap of the plan; to one unit, and without timing, there are none."""
+        plan = LINTED.replace("version = 2", "version = 4\ntiming = { bitrate = 250000, unplanned = 0 }").replace("length = 7", "length = 8\nmost = 140")
+        plan = plan.replace('to = "all"\n', 'to = "all"\nperiod = 999\n').replace('to = "A"\n', 'to = "A"\nperiod = 999\n')
+        hint = "54: hint flow 2, SHORT from B to all: {} packets {} ms apart take {} ms, more than its period of 999 ms"
+        for text, told in (
+            (plan, [hint.format(20, 50, 1000)]), (plan.replace("999", "1000"), []), (plan.replace("140", "141"), [hint.format(21, 50, 1050)]),
+            (plan.replace("unplanned = 0", "unplanned = 0, broadcast_gap = 10"), []), (plan.replace("140", "8"), []),
+            (plan.replace("unplanned = 0", "unplanned = 0, broadcast_gap = 100"), [hint.format(20, 100, 2000)]),
+            (plan.replace("timing =", "#"), []), (plan.replace('from = "B"\nto = "all"', 'from = "B"\nto = "A"'), []),
+        ):
+            lines = self.lines(text)[1]
+            self.assertEqual([line for line in lines if "packets" in line], told, lines)
+
     def test_hints_stand_before_findings_and_leave_the_status(self):
         status, lines = self.lines(LINTED.replace('to = "A"', 'to = "C"'))
         self.assertEqual((status, lines[:6], lines[-1]), (1, HINTS, "findings 1"))
@@ -236,6 +261,91 @@ class Where(InFolder):
         missing = "2: refused Missing timing key unplanned  (key unplanned isn't there: integer 0..1000)"
         self.assertEqual(self.answer(head.replace("unplanned = 0\n", "")), (2, [missing]))
 
+    def test_needs(self):
+        """What nobody sends, what is too old, which names there are, and from which version on needs are known."""
+        head = 'version = 4\n[timing]\nbitrate = 250000\nunplanned = 0\n' + UNIT.format("A", 0, 1) + UNIT.format("B", 3, 2)
+        plan = head + '[[group]]\nlabel = "G"\npgn = 61444\npriority = 3\nlength = 8\n[[group.signal]]\nlabel = "SPN190"\nbyte = 4\nbits = 16\nkind = "raw"\n'
+        flow = '[[flow]]\ngroup = "G"\nfrom = "A"\nto = "all"\nperiod = 10\npause = 20\n'
+        need = '[[need]]\nunit = "{}"\ngroup = "G"\n'
+        lines = (plan + flow).count("\n")
+        for given, line, hint in (
+            (need.format("A"), 2, "G by A: key unit: only A itself sends it"),
+            (need.format("B") + 'from = "B"\n', 4, "G by B from B: key from: what a unit itself sends meets no need of it"),
+            (need.format("B") + 'signal = "SPN190"\nfrom = "B"\n', 5, "G SPN190 by B from B: key from: what a unit itself sends meets no need of it"),
+        ):
+            self.assertEqual(self.answer(plan + flow + given), (1, [f"{lines + line}: F19 NeedUnmet 1  ({hint})", "findings 1"]))
+        third = UNIT.format("C", 9, 3)
+        for flows, given, key, hint in (
+            ("", need.format("B"), 3, "G by B: key group: no flow sends it"),
+            (flow, need.format("B") + 'from = "C"\n', 4, "G by B from C: key from: A sends it, and C doesn't"),
+            (flow + flow.replace('"A"', '"C"'), need.format("B") + 'from = "B"\n', 4,
+             "G by B from B: key from: what a unit itself sends meets no need of it"),
+        ):
+            text = plan + third + flows + given
+            at = (plan + third + flows).count("\n") + key
+            self.assertEqual(self.answer(text), (1, [f"{at}: F19 NeedUnmet 1  ({hint})", "findings 1"]), hint)
+        narrow = (plan + third + flow.replace('"all"', '"C"')).replace("pgn = 61444", "pgn = 0")
+        at = narrow.count("\n") + 2
+        self.assertEqual(self.answer(narrow + need.format("B")), (1, [f"{at}: F19 NeedUnmet 1  (G by B: key unit: it goes to C alone)", "findings 1"]))
+
+    def test_needs_that_are_too_old(self):
+        """What is known of each flow that meets them; long messages have no age."""
+        head = 'version = 4\n[timing]\nbitrate = 250000\nunplanned = 0\n' + UNIT.format("A", 0, 1) + UNIT.format("B", 3, 2) + UNIT.format("C", 9, 3)
+        plan = head + '[[group]]\nlabel = "G"\npgn = 61444\npriority = 3\nlength = 8\n'
+        flow = '[[flow]]\ngroup = "G"\nfrom = "{}"\nto = "all"\nperiod = 10\n'
+        need = '[[need]]\nunit = "B"\ngroup = "G"\nwithin = 21\n'
+        for flows, hint in (
+            (flow.format("A") + "pause = 20\n", "flow 1 has a pause of 20 ms and its delay, which load shows"),
+            (flow.format("A") + "pause = 21\n" + flow.format("C"), "flow 1 has a pause of 21 ms alone; flow 2 has no pause"),
+            (flow.format("B") + "pause = 10\n" + flow.format("C"), "flow 2 has no pause"),
+        ):
+            at = (plan + flows).count("\n") + 4
+            self.assertEqual(self.answer(plan + flows + need), (1, [f"{at}: F20 NeedTooOld 1  (G by B: key within: {hint})", "findings 1"]))
+        for length, most in (("length = 9", 9), ("length = 8\nmost = 1730", 1730)):
+            text = plan.replace("length = 8", length) + flow.format("A") + "pause = 20\n"
+            hint = f"G by B: key within: its messages have up to {most} bytes, and those of more than 8 have no age"
+            at = text.count("\n") + 4
+            self.assertEqual(self.answer(text + need), (1, [f"{at}: F20 NeedTooOld 1  ({hint})", "findings 1"]))
+
+    def test_long_messages_that_are_late(self):
+        """They are looked at by their deadline, those of one frame by their period."""
+        import where
+
+        plan = 'version = 3\n' + UNIT.format("A", 0, 1) + '[[group]]\nlabel = "G"\npgn = 61444\npriority = 3\nlength = 8\n'
+        flow = '[[flow]]\ngroup = "G"\nfrom = "A"\nto = "all"\nperiod = 10\ndeadline = 5\n'
+        lines = plan.count("\n")
+        late = "G from A to all: key deadline: its long messages aren't shown to be whole within it"
+        for most, at, hint in (("", lines + 5, "G from A to all: key period: within the deadline, or"), ("most = 9\n", lines + 7, late)):
+            line, told = where.finding(where.Plan(plan + most + flow), "F18 LateFlow 1")
+            self.assertEqual((line, told[:len(hint)]), (at, hint))
+
+    def test_names_in_needs(self):
+        """Which there are, and from which version on needs and what comes with them are known."""
+        head = 'version = 4\n[timing]\nbitrate = 250000\nunplanned = 0\n' + UNIT.format("A", 0, 1) + UNIT.format("B", 3, 2)
+        plan = head + '[[group]]\nlabel = "G"\npgn = 61444\npriority = 3\nlength = 8\n[[group.signal]]\nlabel = "SPN190"\nbyte = 4\nbits = 16\nkind = "raw"\n'
+        flow = '[[flow]]\ngroup = "G"\nfrom = "A"\nto = "all"\nperiod = 10\npause = 20\n'
+        need = '[[need]]\nunit = "{}"\ngroup = "G"\n'
+        lines = (plan + flow).count("\n")
+        for given, key, meant in (
+            ('signal = "spn190"\n', "signal", "no signal of G is called spn190; did you mean SPN190?"), ('from = "C"\n', "from", "no unit is called C"),
+        ):
+            answer = f"{lines + 4}: refused UnknownLabel need 1 key {key}  (key {key}: {meant})"
+            self.assertEqual(self.answer(plan + flow + need.format("B") + given), (2, [answer]))
+        early = f"{lines + 1}: refused UnknownKey top  (key need: only from version = 4 on)"
+        bare = plan + flow.replace("pause = 20\n", "") + need.format("B")
+        self.assertEqual(self.answer(bare.replace("version = 4", "version = 3")), (2, [early.replace(f"{lines + 1}:", f"{lines}:")]))
+        asked = f"{lines - 5}: refused Missing flow 1 key period  (key period isn't there, which a jitter needs: integer 1..65535)"
+        self.assertEqual(self.answer(plan + flow.replace("period = 10\npause = 20", "jitter = 1")), (2, [asked]))
+        below = f"{lines + 1}: refused Range flow 1 key jitter  (jitter = 10: integer 0..65535, below the period)"
+        self.assertEqual(self.answer(plan + flow + "jitter = 10\n"), (2, [below]))
+        errors = "3: refused Missing timing errors key every  (key every isn't there: integer 1..65535)"
+        self.assertEqual(self.answer(head.replace("unplanned = 0\n", "unplanned = 0\nerrors = { count = 1 }\n")), (2, [errors.replace("3:", "5:")]))
+        wrong = "6: refused Range timing errors key count  (count = 101: integer 1..100)"
+        table = "unplanned = 0\n[timing.errors]\ncount = 101\nevery = 10\n"
+        self.assertEqual(self.answer(head.replace("unplanned = 0\n", table)), (2, [wrong]))
+        rates = '(bitrate = 100000: 250000 or 500000 or 125000 or 1000000)'
+        self.assertEqual(self.answer(head.replace("250000", "100000")), (2, [f"3: refused Range timing key bitrate  {rates}"]))
+
     def test_lengths(self):
         """What `most` can be, and from which version on it is known."""
         plan = 'version = 3\n[[group]]\nlabel = "G"\npgn = 65242\npriority = 6\nlength = 8\nmost = 7\n'
@@ -261,7 +371,7 @@ class Where(InFolder):
         self.assertEqual(self.answer(plan.replace("version = 3", "version = 2").replace("every = 3\n", "")), (2, [early]))
 
     def test_each_shown_refusal_has_its_line(self):
-        lines = [4, 2, 3, 9, 2, 8, 3, 2, 11, 3, 2, 5, 4, 15, 14, 9, 2, 16]
+        lines = [4, 2, 3, 9, 2, 8, 3, 3, 2, 11, 3, 2, 5, 4, 15, 14, 9, 2, 16]
         shown = shown_refusals()
         self.assertEqual(len(shown), len(lines))
         for (plan, refused), line in zip(shown, lines):
@@ -368,12 +478,18 @@ class Where(InFolder):
         self.assertEqual(self.answer("version = 2\nkeep_free = 240\n"), (2, [f"2: refused WrongType top key keep_free  {wanted}"]))
         hint = "(key keep_free: only from version = 2 on)"
         self.assertEqual(self.answer("version = 1\nkeep_free = []\n"), (2, [f"2: refused UnknownKey top  {hint}"]))
-        hint = "(key keep_free: only from version = 2 on, and the version is none of 1 to 3)"
-        for version in ("4", '"2"', "2.0"):
+        hint = "(key keep_free: only from version = 2 on, and the version is none of 1 to 4)"
+        for version in ("5", '"2"', "2.0"):
             self.assertEqual(self.answer(f"version = {version}\nkeep_free = []\n"), (2, [f"2: refused UnknownKey top  {hint}"]))
         unit = UNIT.format("A", 241, 1).replace("identity = 1", "identity = 1, arbitrary = true")
         hint = "(key address: kept free: a unit with arbitrary = true may not hold it)"
         self.assertEqual(self.answer(plan.format("242") + unit)[1][0], f"9: F12 KeptAddress A 241  {hint}")
+
+    def test_strangers(self):
+        hint = "(strangers = 121: integer 0..120)"
+        self.assertEqual(self.answer("version = 4\nstrangers = 121\n"), (2, [f"2: refused Range top key strangers  {hint}"]))
+        hint = "(key strangers: only from version = 4 on)"
+        self.assertEqual(self.answer("version = 3\nstrangers = 1\n"), (2, [f"2: refused UnknownKey top  {hint}"]))
 
     def test_what_only_version_3_knows_of_a_signal(self):
         signal = ('[[group]]\nlabel = "G"\npgn = 65262\npriority = 6\nlength = 8\n'
@@ -450,7 +566,7 @@ class Where(InFolder):
         self.assertEqual((status, answer.split(":", 1)[1]), (2, "3: refused Text  (byte B0 is no UTF-8)\n"))
 
     def test_annotations(self):
-        name = self.write("plan.toml", "version = 4\n")
+        name = self.write("plan.toml", "version = 5\n")
         status, answer, _ = run("where.py", "--github", name)
         self.assertEqual(status, 2)
         self.assertTrue(answer.startswith(f"::error file={name},line=1::refused Range top key version"), answer)

@@ -48,16 +48,16 @@ const REFUSED_STEP: [&str; 12] = [
 ];
 
 // The first words of lines of check, and of lines of read.
-const CHECK: [&str; 22] = [
+const CHECK: [&str; 24] = [
     "ok", "findings", "F1", "F2", "F3", "F4", "F5", "F6", "F7", "F8", "F9", "F10", "F11", "F12",
-    "F13", "F14", "F15", "F16", "F17", "F18", "", "refused",
+    "F13", "F14", "F15", "F16", "F17", "F18", "F19", "F20", "", "refused",
 ];
 
 // Those of addresses, where it doesn't answer as check does.
 const ADDRESSES: [&str; 2] = ["unit", "stay"];
 
 // Those of load.
-const LOAD: [&str; 2] = ["flow", "load"];
+const LOAD: [&str; 3] = ["flow", "need", "load"];
 
 const FRAME: [&str; 7] = [
     "frame", "priority", "claim", "cannot", "identity", "request", "refused",
@@ -83,11 +83,12 @@ fn refused(line: &str) -> Option<Verdict> {
     }
 }
 
-// Whether a line of load tells of a late flow, or of more bits than the bus carries.
+// Whether a line of load tells of a late flow, of a need that is too old, or of more bits than the bus carries.
 fn is_too_much(line: &str) -> bool {
     let number = |place| word(line, place).parse::<u64>().unwrap_or(0);
     match word(line, 0) {
-        "flow" => word(line, 5) == "late",
+        "flow" => line.contains(" late of "),
+        "need" => line.contains(" old of "),
         "load" => number(1) > number(3),
         _ => false,
     }

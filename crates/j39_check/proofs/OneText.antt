@@ -1,5 +1,5 @@
 -- Check has one text, and so has addresses.
-use Rattle.std.proofs.Common.{◌≡◌, ℕ, suc, zero, ◌+◌, Bool, true, false, cond, codes, count_by, length, List, [], ◌∷◌, ◌++◌, Option, Some, None, true≢false, inl, inr, Err, refl, subst, sym, ap, ◌∙◌}
+use Rattle.std.proofs.Common.{◌≡◌, ℕ, suc, zero, ◌+◌, Bool, cond, codes, count_by, length, List, [], ◌∷◌, ◌++◌, Option, Some, None, true≢false, inl, inr, Err, refl, subst, sym, ap, ◌∙◌}
 use Rattle.std.proofs.lemmas.List.Sums.{sum_by-cons}
 use Rattle.std.proofs.lemmas.Option.{same_Some}
 use Rattle.std.specs.List.{slice_get}
@@ -15,10 +15,9 @@ use Rattle.j39_findings.specs.declared.plan.timing.Timing.{Timing}
 use Rattle.j39_findings.specs.Found.{found}
 use Rattle.j39_findings.proofs.FoundLaws.{none_from_clean}
 use Rattle.j39_load.specs.declared.delay.Delay.{Delay}
-use Rattle.j39_load.specs.declared.flow_load.FlowLoad.{FlowLoad}
 use Rattle.j39_load.specs.declared.load_finding.LoadFinding.{LoadFinding}
-use Rattle.j39_load.specs.LoadFindings.{AreLoadFindings, load_findings}
-use Rattle.j39_load.specs.Loads.{loads_of, total_load}
+use Rattle.j39_load.specs.LoadFindings.{AreLoadFindings, all_findings}
+use Rattle.j39_load.specs.Asked.{Asked, asked_of, total_load}
 use Rattle.j39_load.proofs.OneLoad.{one_asked, told_once}
 use Rattle.j39_check.specs.AddressesText.{HasOneAddressesReport, stays_text, stays_word, staying_line, staying_lines}
 use Rattle.j39_check.specs.PlanText.{Describes, IsRefusalLine, fault_line}
@@ -35,8 +34,8 @@ pub one_list : (plan : Plan) (timing : Option Timing) (findings others : List Lo
 one_list plan None findings others are more = are ∙ sym more
 one_list plan (Some timing) findings others are more =
     let same = one_asked plan timing are.0 more.0 are.1 more.1 are.2 more.2 in
-    are.3 ∙ ap (λ (loads : List (Option FlowLoad)). load_findings timing (total_load loads) are.1) same.0
-    ∙ ap (load_findings timing (total_load (loads_of timing plan more.0))) same.1 ∙ sym more.3
+    are.3 ∙ ap (λ (asked : Asked). all_findings plan timing (total_load timing asked) are.1) same.0
+    ∙ ap (all_findings plan timing (total_load timing (asked_of timing plan more.0))) same.1 ∙ sym more.3
 
 pub one_report : (plan : Plan) → HasOneReport plan
 one_report plan text other Done Done is another = (is.3 ∙ sym another.3, refl)
@@ -53,6 +52,11 @@ one_report plan text other Findings Unreadable is another = absurd another
 one_report plan text other Refused another_verdict is another = absurd is
 one_report plan text other Unreadable another_verdict is another = absurd is
 
+-- what two trees are refused for that are one
+one_fault : {X : Type 0} (faults_of : X → List Fault) (s t : X) (f g : Fault) → s ≡ t → first (faults_of s) ≡ Some f
+    → first (faults_of t) ≡ Some g → f ≡ g
+one_fault faults_of s t f g same is another = same_Some _ _ (sym is ∙ (ap (λ x. first (faults_of x)) same ∙ another))
+
 -- two refusals of one file are one
 refused_once : (bytes : List ℕ) (e d : PlanError) (text other : List ℕ)
     → Reads (Err e) (tree_of bytes) → IsRefusalLine e text → Reads (Err d) (tree_of bytes) → IsRefusalLine d other → text ≡ other
@@ -61,7 +65,7 @@ refused_once bytes errors.Text (errors.Fault g) text other read line again anoth
 refused_once bytes (errors.Fault f) errors.Text text other read line again another = cc (read.1, again)
 refused_once bytes (errors.Fault f) (errors.Fault g) text other read line again another =
     let same : read.0 ≡ again.0 = same_Some _ _ (sym read.1 ∙ again.1) in
-    let fault : f ≡ g = same_Some _ _ (sym (rw same at read.2) ∙ again.2) in
+    let fault : f ≡ g = one_fault faults read.0 again.0 f g same read.2 again.2 in
     line ∙ ap fault_line fault ∙ sym another
 refused_once bytes errors.Memory d text other read line again another = absurd line
 refused_once bytes errors.Text errors.Memory text other read line again another = absurd another
@@ -70,14 +74,19 @@ refused_once bytes (errors.Fault f) errors.Memory text other read line again ano
 pub one_refusal : (bytes : List ℕ) → HasOneRefusal bytes
 one_refusal bytes text other is another = refused_once bytes is.0 another.0 text other is.1 is.2 another.1 another.2
 
+-- a tree without faults isn't refused
+none_refused : {X : Type 0} (faults_of : X → List Fault) (s t : X) (f : Fault) → s ≡ t → faults_of s ≡ [] → first (faults_of t) ≡ Some f → ⊥
+none_refused faults_of s t f same clean told =
+    let here : faults_of t ≡ [] = ap faults_of (sym same) ∙ clean in
+    let none : first [] ≡ Some f = subst (λ (fs : List Fault). first fs ≡ Some f) here told in
+    cc none
+
 described_only : (bytes : List ℕ) (plan : Plan) (e : PlanError) (text : List ℕ)
     → Describes bytes plan → Reads (Err e) (tree_of bytes) → IsRefusalLine e text → ⊥
 described_only bytes plan errors.Text text described read line = cc (described.1, read)
 described_only bytes plan (errors.Fault f) text described read line =
     let same : described.0 ≡ read.0 = same_Some _ _ (sym described.1 ∙ read.1) in
-    let clean : faults read.0 ≡ [] = rw same at described.2.0 in
-    let none : first [] ≡ Some f = subst (λ (fs : List Fault). first fs ≡ Some f) clean read.2 in
-    cc none
+    none_refused faults described.0 read.0 f same described.2.0 read.2
 described_only bytes plan errors.Memory text described read line = line
 
 pub not_refused : (bytes : List ℕ) → IsNotRefused bytes
@@ -131,13 +140,13 @@ one_addresses_report plan text other Unreadable another_verdict is another = abs
 -- ---- load
 
 module _ (plan : Plan) (timing : Timing) (stays other : UnitPlan → Bool) (delays others : List (Option Delay))
-    (same : loads_of timing plan stays ≡ loads_of timing plan other) (alike : delays ≡ others) (text more : List ℕ) (verdict another : Verdict) where
+    (same : asked_of timing plan stays ≡ asked_of timing plan other) (alike : delays ≡ others) (text more : List ℕ) (verdict another : Verdict) where
   one_told : TellsLoads plan timing stays delays text verdict → TellsLoads plan timing other others more another → (text ≡ more) × (verdict ≡ another)
   one_told (inl is) (inl are) = (
-    is.2 ∙ ap (λ (loads : List (Option FlowLoad)). loads_text plan timing.bitrate loads delays) same
-        ∙ ap (loads_text plan timing.bitrate (loads_of timing plan other)) alike ∙ sym are.2,
-    is.3 ∙ ap (λ (loads : List (Option FlowLoad)). load_verdict (load_findings timing (total_load loads) delays)) same
-        ∙ ap (λ (ds : List (Option Delay)). load_verdict (load_findings timing (total_load (loads_of timing plan other)) ds)) alike ∙ sym are.3,
+    is.2 ∙ ap (λ (asked : Asked). loads_text plan timing asked delays) same
+        ∙ ap (loads_text plan timing (asked_of timing plan other)) alike ∙ sym are.2,
+    is.3 ∙ ap (λ (asked : Asked). load_verdict (all_findings plan timing (total_load timing asked) delays)) same
+        ∙ ap (λ (ds : List (Option Delay)). load_verdict (all_findings plan timing (total_load timing (asked_of timing plan other)) ds)) alike ∙ sym are.3,
   )
   one_told (inl is) (inr are) = absurd (true≢false (sym is.1 ∙ ap have_periods alike ∙ are.0 is.0))
   one_told (inr is) (inl are) = absurd (true≢false (sym are.1 ∙ ap have_periods (sym alike) ∙ is.0 are.0))

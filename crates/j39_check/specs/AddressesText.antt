@@ -1,5 +1,5 @@
 -- The text that the addresses command writes for a plan file.
-use Rattle.std.specs.Prelude.{◌≡◌, ℕ, Bool, true, false, List, [], ◌∷◌, ◌++◌, codes, count_by, length}
+use Rattle.std.specs.Prelude.{◌≡◌, ◌<◌, ℕ, Bool, true, false, List, [], ◌∷◌, ◌++◌, codes, count_by, length}
 use Rattle.j39_findings.specs.declared.plan.Plan.{Plan}
 use Rattle.j39_findings.specs.declared.plan.unit_plan.UnitPlan.{UnitPlan}
 use Rattle.j39_findings.specs.declared.checking.finding.Finding.{Finding}
@@ -7,8 +7,8 @@ use Rattle.j39_findings.specs.declared.checking.finding.Finding.TheVariants.{Sam
 use Rattle.j39_findings.specs.Findings.{Holds}
 use Rattle.j39_load.specs.Standing.{TellsWhoStays}
 use Rattle.j39_world.specs.PlannedUnits.{units_of}
-use Rattle.j39_world.specs.SoundPlan.{Always}
-use Rattle.j39_world.specs.Staying.{HoldsPlanned, Stays}
+use Rattle.j39_world.specs.SoundPlan.{Always, AlwaysBeside}
+use Rattle.j39_world.specs.Staying.{HoldsPlanned, StaysBeside}
 use Rattle.j39_check.specs.CheckText.{IsReport}
 use Rattle.j39_check.specs.PlanText.{IsReportedText}
 use Rattle.j39_text.specs.Texts.{field}
@@ -25,9 +25,11 @@ is_of_addresses _ = false
 
 -- ---- who stays
 
--- a unit that stays holds its planned address whenever it is on
-abbrev pub StayingHolds : Plan → Type 0
-StayingHolds plan = (u : ℕ) → Stays (units_of plan) u → Always plan (λ w. HoldsPlanned (units_of plan) w u)
+-- a unit that stays holds its planned address whenever it is on, among the plan's units and with strangers, where the plan tells of some
+pub record StayingHolds (plan : Plan) : Type 0 where
+  pub planned : (u : ℕ) → StaysBeside plan.strangers (units_of plan) u → Always plan (λ w. HoldsPlanned (units_of plan) w u)
+  pub with_strangers : (u : ℕ) → u < length plan.units.items → StaysBeside plan.strangers (units_of plan) u
+      → AlwaysBeside plan (λ joined w. HoldsPlanned (units_of joined) w u)
 
 abbrev pub stays_word : Bool → List ℕ
 stays_word true = codes " stays "

@@ -5,7 +5,7 @@ ghost use Rattle.j39_check.specs.AddressesText.{IsAddressesReport, is_of_address
 use crate::plan_report::write_findings;
 use crate::stays_lines::write_stays;
 use j39_findings::{Finding, Plan, check};
-use j39_laws::who_stays;
+use j39_laws::{who_stays, who_stays_with_strangers};
 use j39_load::{Standing, check_load};
 use j39_stream::Verdict;
 use j39_text::TextBuffer;
@@ -35,6 +35,7 @@ pub(super) fn stays_report(alloc: Global, plan: &Plan) -> Result<(TextBuffer, Ve
         return Ok((text, Verdict::Findings));
     }
     who_stays();
+    who_stays_with_strangers();
     write_stays(&mut text, &Standing::new(plan), plan.units.as_slice())?;
     Ok((text, Verdict::Done))
 }

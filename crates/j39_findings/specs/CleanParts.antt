@@ -6,10 +6,10 @@ use Rattle.j39_id.specs.Name.{is_arbitrary}
 use Rattle.j39_id.specs.Pgn.{IsPgn, extended_page}
 use Rattle.j39_id.specs.Services.{service_groups}
 use Rattle.j39_signal.specs.Places.{Covers, LaysOut, further}
-use Rattle.j39_findings.specs.ListPlaces.{ValueAt, SomeMeets, SoManyMeet}
+use Rattle.j39_findings.specs.ListPlaces.{ValueAt, SomeMeets}
 use Rattle.j39_findings.specs.Records.{record_count}
 use Rattle.j39_findings.specs.TextPlaces.{last_byte}
-use Rattle.j39_findings.specs.Findings.{IsFixed, NeedsPoolAddress, IsProprietary, IsToOne, IsOneFrameToAll, AreOneFlow, Sends, AreSentTogether}
+use Rattle.j39_findings.specs.Findings.{IsFixed, AreNeeded, IsProprietary, IsToOne, IsOneFrameToAll, AreOneFlow, Sends, AreSentTogether, Meets}
 use Rattle.j39_findings.specs.declared.plan.Plan.{Plan}
 use Rattle.j39_findings.specs.declared.plan.group_plan.GroupPlan.{GroupPlan}
 use Rattle.j39_findings.specs.declared.plan.text_plan.TextPlan.{TextPlan}
@@ -52,7 +52,7 @@ pub record LiesInside (g : GroupPlan) (t : TextPlan) : Type 0 where
 pub record CleanParts (plan : Plan) : Type 0 where
   pub names : AllPairs (λ u v. u.name ≢ v.name) plan.units.items
   pub fixed_addresses : AllPairs HoldApart plan.units.items
-  pub addresses : (n : ℕ) → SoManyMeet (NeedsPoolAddress plan.keep_free) plan.units.items n → n ≤ free_count plan.keep_free
+  pub addresses : (n : ℕ) → AreNeeded plan n → n ≤ free_count plan.keep_free
   pub not_kept : All (λ u. is_arbitrary u.name ≡ true → contains plan.keep_free u.address ≡ false) plan.units.items
   pub groups : All CanBePlanned plan.groups.items
   pub pgns : AllPairs (HaveOwnPgn plan) plan.groups.items
@@ -63,3 +63,4 @@ pub record CleanParts (plan : Plan) : Type 0 where
   pub sent : All (λ g. g.private ≡ true → SomeMeets (Sends plan.groups.items g) plan.flows.items) plan.groups.items
   pub records : All HasBitsOnce plan.groups.items
   pub texts : All (λ g. All (LiesInside g) g.texts.items) plan.groups.items
+  pub needs : All (λ d. SomeMeets (Meets d) plan.flows.items) plan.needs.items

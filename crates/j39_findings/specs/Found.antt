@@ -21,12 +21,13 @@ use Rattle.j39_findings.specs.declared.plan.Plan.{Plan}
 use Rattle.j39_findings.specs.declared.plan.unit_plan.UnitPlan.{UnitPlan}
 use Rattle.j39_findings.specs.declared.plan.group_plan.GroupPlan.{GroupPlan}
 use Rattle.j39_findings.specs.declared.plan.flow_plan.FlowPlan.{FlowPlan}
+use Rattle.j39_findings.specs.declared.plan.need_plan.NeedPlan.{NeedPlan}
 use Rattle.j39_findings.specs.declared.plan.text_plan.TextPlan.{TextPlan}
 use Rattle.j39_findings.specs.declared.plan.to.To.{To}
 use Rattle.j39_findings.specs.declared.plan.to.To.TheVariants.{All, One}
 use Rattle.j39_findings.specs.declared.checking.finding.Finding.{Finding}
 use Rattle.j39_findings.specs.declared.checking.finding.Finding.TheVariants.{SameName, SameFixedAddress, TooFewAddresses, BadPgn, SamePgn, SignalWidth}
-use Rattle.j39_findings.specs.declared.checking.finding.Finding.TheVariants.{SignalOutside, SignalOverlap, FlowToOne, FlowToSelf, FlowRepeated, KeptAddress, PrivateUnsent, RecordOverlap, TextOutside}
+use Rattle.j39_findings.specs.declared.checking.finding.Finding.TheVariants.{SignalOutside, SignalOverlap, FlowToOne, FlowToSelf, FlowRepeated, KeptAddress, PrivateUnsent, RecordOverlap, TextOutside, NeedUnmet}
 
 -- ---- units
 
@@ -39,19 +40,21 @@ is_fixed unit = not (is_arbitrary unit.name)
 abbrev pub have_same_fixed_address : UnitPlan → UnitPlan → Bool
 have_same_fixed_address u v = is_fixed u && (is_fixed v && u.address == v.address)
 
--- whether a unit needs an address of the pool that isn't kept free, and how many do
+-- whether a unit needs an address of the pool that isn't kept free, and how many are needed
 abbrev pub needs_pool_address : FinSet nat_cmp → UnitPlan → Bool
 needs_pool_address kept unit = is_arbitrary unit.name || (in_pool unit.address && is_free kept unit.address)
 
-abbrev pub needed_addresses : FinSet nat_cmp → List UnitPlan → ℕ
-needed_addresses kept units = count_by (needs_pool_address kept) units
+-- with so many strangers, each of which needs one too
+abbrev pub needed_addresses : FinSet nat_cmp → ℕ → List UnitPlan → ℕ
+needed_addresses kept strangers units = count_by (needs_pool_address kept) units + strangers
 
-abbrev pub too_few_addresses : FinSet nat_cmp → List UnitPlan → List Finding
-too_few_addresses kept units = found_if (nat_lt (free_count kept) (needed_addresses kept units)) (TooFewAddresses (needed_addresses kept units))
+abbrev pub too_few_addresses : FinSet nat_cmp → ℕ → List UnitPlan → List Finding
+too_few_addresses kept strangers units =
+    found_if (nat_lt (free_count kept) (needed_addresses kept strangers units)) (TooFewAddresses (needed_addresses kept strangers units))
 
-unfoldable pub unit_findings : FinSet nat_cmp → List UnitPlan → List Finding
-unit_findings kept units =
-    pairs have_same_name SameName units ++ (pairs have_same_fixed_address SameFixedAddress units ++ too_few_addresses kept units)
+unfoldable pub unit_findings : FinSet nat_cmp → ℕ → List UnitPlan → List Finding
+unit_findings kept strangers units =
+    pairs have_same_name SameName units ++ (pairs have_same_fixed_address SameFixedAddress units ++ too_few_addresses kept strangers units)
 
 -- ---- units at addresses that are kept free
 
@@ -206,11 +209,30 @@ unfoldable pub flow_findings : List GroupPlan → List FlowPlan → List Finding
 flow_findings groups flows =
     each (cannot_go_to_one groups) FlowToOne 0 flows ++ (each goes_to_its_sender FlowToSelf 0 flows ++ pairs are_one_flow FlowRepeated flows)
 
+-- ---- needs that no flow meets
+
+abbrev pub is_from : Option ℕ → ℕ → Bool
+is_from None sender = true
+is_from (Some unit) sender = sender == unit
+
+abbrev pub is_reached : To → ℕ → Bool
+is_reached to unit = not (is_to_one to) || is_to to unit
+
+abbrev pub meets : NeedPlan → FlowPlan → Bool
+meets need flow =
+    flow.group == need.group && (not (flow.sender == need.unit) && (is_from need.from flow.sender && is_reached flow.to need.unit))
+
+abbrev pub is_unmet : List FlowPlan → NeedPlan → Bool
+is_unmet flows need = not (list_any (meets need) flows)
+
+unfoldable pub need_findings : List FlowPlan → List NeedPlan → List Finding
+need_findings flows needs = each (is_unmet flows) NeedUnmet 0 needs
+
 -- ---- the whole list
 
 unfoldable pub found : Plan → List Finding
 found plan =
-    unit_findings plan.keep_free plan.units.items ++ (group_findings plan.groups.items plan.flows.items ++ (signal_findings plan.groups.items
+    unit_findings plan.keep_free plan.strangers plan.units.items ++ (group_findings plan.groups.items plan.flows.items ++ (signal_findings plan.groups.items
     ++ (flow_findings plan.groups.items plan.flows.items ++ (kept_findings plan.keep_free plan.units.items
     ++ (unsent_findings plan.groups.items plan.flows.items
-    ++ (record_findings plan.groups.items ++ text_findings plan.groups.items))))))
+    ++ (record_findings plan.groups.items ++ (text_findings plan.groups.items ++ need_findings plan.flows.items plan.needs.items)))))))

@@ -1,3 +1,5 @@
+pub mod Alike
+pub mod Contested
 pub mod EndLines
 pub mod FirstWords
 pub mod FrameTexts
@@ -18,5 +20,8 @@ pub mod Recounts
 pub mod Splitting
 pub mod Tables
 pub mod Tallied
+pub mod TimeNumbers
 pub mod Times
+pub mod ToAll
 pub mod Ways
+pub mod WordPlaces

@@ -60,7 +60,7 @@ put plan told_so_far old written text empty before =
       reports = before.reports;
       read = before.read;
       recalls = record {
-        remembers = record { knows = m.knows; heard = m.heard; ranges = m.ranges; tally = m.tally; few = m.few };
+        remembers = record { knows = m.knows; contests = m.contests; frames = m.frames; heard = m.heard; ranges = m.ranges; tally = m.tally; few = m.few };
         interface_is = r.interface_is;
         number_is = r.number_is;
         frames_are = r.frames_are;
@@ -128,7 +128,7 @@ a_unit_line plan holders frames u unit of at = elim (found_from holders.names un
       unit_end_line unit (codes " none"),
       inr (inl (of.told u unit at marked, (λ a holds. nowhere a (of.holds a unit.name holds)), refl)),
     )
-    | inr unmarked ↦ (unit_end_line unit (codes " unheard"), inr (inr (of.untold u unit at unmarked, refl)))
+    | inr unmarked ↦ (unit_end_line unit (codes " unclaimed"), inr (inr (of.untold u unit at unmarked, refl)))
   ]
 ]
 

@@ -14,9 +14,10 @@ use Rattle.j39_text.specs.FrameText.{cannot_claim, claims_address, requested_gro
 use Rattle.j39_text.specs.Texts.{field}
 use Rattle.j39_tp.proofs.Tracking.{one_message, one_pgn}
 use Rattle.j39_tp.specs.declared.packet.Packet.{Packet}
+use Rattle.j39_follow.specs.Contests.{Timed}
 use Rattle.j39_follow.specs.Fits.{IsSentGroup, fitting_flow}
 use Rattle.j39_follow.specs.FollowReports.{IsGroupOfMessage, IsGrouped, IsMessageReport, IsNotice, IsSendingOf, IsWay, Message, aim_at, cannot_line, claim_line, message_line, is_to_all}
-use Rattle.j39_follow.specs.FollowText.{HeardSince, IsCarriedReport, IsFollowedAs, IsPacketReport, Parts, frames_seen, in_frame}
+use Rattle.j39_follow.specs.FollowText.{HeardSince, IsCarriedReport, IsFollowedAs, IsPacketReport, Parts, in_frame}
 use Rattle.j39_follow.specs.Who.{unit_of, who_text}
 use Rattle.j39_follow.specs.declared.message.Sort.{Sort}
 use Rattle.j39_follow.specs.declared.sending.Aim.{Aim}
@@ -24,7 +25,7 @@ use Rattle.j39_follow.specs.declared.sending.Aim.TheVariants as aims
 use Rattle.j39_follow.specs.declared.sending.Sending.{Sending}
 use Rattle.j39_follow.specs.declared.who.Who.{Who}
 use Rattle.j39_follow.proofs.Holding.{ending}
-use Rattle.j39_follow.proofs.Parties.{one_who}
+use Rattle.j39_follow.proofs.Contested.{one_taken}
 
 some_same : {A : Type 0} (x y : A) → Some x ≡ Some y → x ≡ y
 some_same x y e = cc
@@ -34,10 +35,10 @@ none_some x e = cc
 
 -- ---- from whom to whom
 
-one_way : (plan : Plan) (frames : List Frame) (i : Ident) (t u : List ℕ) → IsWay plan frames i t → IsWay plan frames i u → t ≡ u
-one_way plan frames i t u a b =
-    let sender = one_who plan frames i.sa a.sender b.sender a.sender_is b.sender_is in
-    let receiver = one_who plan frames i.ps a.receiver b.receiver a.receiver_is b.receiver_is in
+one_way : (plan : Plan) (log : List Timed) (i : Ident) (t u : List ℕ) → IsWay plan log i t → IsWay plan log i u → t ≡ u
+one_way plan log i t u a b =
+    let sender = one_taken plan log i.sa a.sender b.sender a.sender_is b.sender_is in
+    let receiver = one_taken plan log i.ps a.receiver b.receiver a.receiver_is b.receiver_is in
     a.text_is
     ∙ ap (λ (w : Who). codes " from " ++ (who_text plan w i.sa
     ++ (codes " to " ++ (if is_to_all i then codes "all" else who_text plan a.receiver i.ps)))) sender
@@ -45,14 +46,14 @@ one_way plan frames i t u a b =
     ++ (codes " to " ++ (if is_to_all i then codes "all" else who_text plan w i.ps)))) receiver
     ∙ sym b.text_is
 
-pub one_notice : (plan : Plan) (frames : List Frame) (front : List ℕ) (f : Frame) (t u : List ℕ)
-    → IsNotice plan frames front f t → IsNotice plan frames front f u → t ≡ u
-one_notice plan frames front f t u a b =
+pub one_notice : (plan : Plan) (log : List Timed) (front : List ℕ) (f : Frame) (t u : List ℕ)
+    → IsNotice plan log front f t → IsNotice plan log front f u → t ≡ u
+one_notice plan log front f t u a b =
     a.2
     ∙ ap (λ (way : List ℕ). if claims_address f then claim_line plan front f
     else if cannot_claim f then cannot_line plan front f
     else if requests_group f then front ++ (field (codes "request ") (requested_group f) ++ (way ++ 10 ∷ []))
-    else []) (one_way plan frames f.ident a.0 b.0 a.1 b.1)
+    else []) (one_way plan log f.ident a.0 b.0 a.1 b.1)
     ∙ sym b.2
 
 -- ---- messages
@@ -64,10 +65,10 @@ same_sending a b first second third =
     ap (λ (x : Aim). record { sender = b.sender; aim = x; unaddressed = a.unaddressed }) second in
     one ∙ two ∙ ap (λ (x : Bool). record b { unaddressed = x }) third
 
-one_sending : (plan : Plan) (frames : List Frame) (m : Message) (s t : Sending) → IsSendingOf plan frames m s → IsSendingOf plan frames m t → s ≡ t
-one_sending plan frames m s t a b =
-    let sender = one_who plan frames m.ident.sa a.sender b.sender a.sender_is b.sender_is in
-    let receiver = one_who plan frames m.ident.ps a.receiver b.receiver a.receiver_is b.receiver_is in
+one_sending : (plan : Plan) (log : List Timed) (m : Message) (s t : Sending) → IsSendingOf plan log m s → IsSendingOf plan log m t → s ≡ t
+one_sending plan log m s t a b =
+    let sender = one_taken plan log m.ident.sa a.sender b.sender a.sender_is b.sender_is in
+    let receiver = one_taken plan log m.ident.ps a.receiver b.receiver a.receiver_is b.receiver_is in
     same_sending s t (a.sender_unit ∙ ap unit_of sender ∙ sym b.sender_unit)
     (a.aim_is ∙ ap (λ (w : Who). if is_to_all m.ident then aims.All else aim_at (unit_of w)) receiver ∙ sym b.aim_is)
     (a.unaddressed_is ∙ sym b.unaddressed_is)
@@ -82,17 +83,17 @@ one_group plan pgn bytes sent (Some g) None x y = absurd (y g x.0)
 one_group plan pgn bytes sent None (Some h) x y = absurd (x h y.0)
 one_group plan pgn bytes sent None None x y = refl
 
-one_group_of_message : (plan : Plan) (frames : List Frame) (m : Message) (a b : Option ℕ) → IsGroupOfMessage plan frames m a
-    → IsGroupOfMessage plan frames m b → a ≡ b
-one_group_of_message plan frames m a b x y =
-    let same = one_sending plan frames m x.0 y.0 x.1 y.1 in
+one_group_of_message : (plan : Plan) (log : List Timed) (m : Message) (a b : Option ℕ) → IsGroupOfMessage plan log m a
+    → IsGroupOfMessage plan log m b → a ≡ b
+one_group_of_message plan log m a b x y =
+    let same = one_sending plan log m x.0 y.0 x.1 y.1 in
     one_group plan m.pgn (length m.bytes) y.0 a b (subst (λ (s : Sending). IsSentGroup plan m.pgn (length m.bytes) s a) same x.2) y.2
 
-one_grouped : (plan : Plan) (frames : List Frame) (front : List ℕ) (m : Message) (sent : Sending) (group : Option ℕ) (s z : Sort) (t u : List ℕ)
-    → IsGrouped plan frames front m sent group s t → IsGrouped plan frames front m sent group z u → (s ≡ z) × (t ≡ u)
-one_grouped plan frames front m sent None s z t u a b = (a.0 ∙ sym b.0, a.1 ∙ sym b.1)
-one_grouped plan frames front m sent (Some g) s z t u a b =
-    let way = one_way plan frames m.ident a.1 b.1 a.2 b.2 in
+one_grouped : (plan : Plan) (log : List Timed) (front : List ℕ) (m : Message) (sent : Sending) (group : Option ℕ) (s z : Sort) (t u : List ℕ)
+    → IsGrouped plan log front m sent group s t → IsGrouped plan log front m sent group z u → (s ≡ z) × (t ≡ u)
+one_grouped plan log front m sent None s z t u a b = (a.0 ∙ sym b.0, a.1 ∙ sym b.1)
+one_grouped plan log front m sent (Some g) s z t u a b =
+    let way = one_way plan log m.ident a.1 b.1 a.2 b.2 in
     let group = some_same a.3.value b.3.value (sym a.3.value_is ∙ b.3.value_is) in (
       a.0 ∙ sym b.0,
       a.3.meets
@@ -101,25 +102,25 @@ one_grouped plan frames front m sent (Some g) s z t u a b =
           ∙ sym b.3.meets,
     )
 
-pub one_message_report : (plan : Plan) (frames : List Frame) (front : List ℕ) (m : Message) (s z : Sort) (t u : List ℕ)
-    → IsMessageReport plan frames front m s t → IsMessageReport plan frames front m z u → (s ≡ z) × (t ≡ u)
-one_message_report plan frames front m s z t u a b =
-    let sent = one_sending plan frames m a.0 b.0 a.2 b.2 in
+pub one_message_report : (plan : Plan) (log : List Timed) (front : List ℕ) (m : Message) (s z : Sort) (t u : List ℕ)
+    → IsMessageReport plan log front m s t → IsMessageReport plan log front m z u → (s ≡ z) × (t ≡ u)
+one_message_report plan log front m s z t u a b =
+    let sent = one_sending plan log m a.0 b.0 a.2 b.2 in
     let of = subst (λ (x : Sending). IsSentGroup plan m.pgn (length m.bytes) x a.1) sent a.3 in
     let group = one_group plan m.pgn (length m.bytes) b.0 a.1 b.1 of b.3 in
-    one_grouped plan frames front m b.0 b.1 s z t u
-    (subst (λ (g : Option ℕ). IsGrouped plan frames front m b.0 g s t) group
-    (subst (λ (x : Sending). IsGrouped plan frames front m x a.1 s t) sent a.4)) b.4
+    one_grouped plan log front m b.0 b.1 s z t u
+    (subst (λ (g : Option ℕ). IsGrouped plan log front m b.0 g s t) group
+    (subst (λ (x : Sending). IsGrouped plan log front m x a.1 s t) sent a.4)) b.4
 
-pub one_heard_as : (plan : Plan) (frames : List Frame) (f : Frame) (p q : Option Packet) → IsFollowedAs plan frames f p → IsFollowedAs plan frames f q → p ≡ q
-one_heard_as plan frames f (Some p) (Some q) a b = ap Some (one_packet f p q a.1 b.1)
-one_heard_as plan frames f (Some p) None a (inl none) = absurd (none p a.1)
-one_heard_as plan frames f (Some p) None a (inr group) =
-    absurd (none_some group.0 (one_group_of_message plan frames (in_frame f) None (Some group.0) a.0 group.1))
-one_heard_as plan frames f None (Some q) (inl none) b = absurd (none q b.1)
-one_heard_as plan frames f None (Some q) (inr group) b =
-    absurd (none_some group.0 (one_group_of_message plan frames (in_frame f) None (Some group.0) b.0 group.1))
-one_heard_as plan frames f None None a b = refl
+pub one_heard_as : (plan : Plan) (log : List Timed) (f : Frame) (p q : Option Packet) → IsFollowedAs plan log f p → IsFollowedAs plan log f q → p ≡ q
+one_heard_as plan log f (Some p) (Some q) a b = ap Some (one_packet f p q a.1 b.1)
+one_heard_as plan log f (Some p) None a (inl none) = absurd (none p a.1)
+one_heard_as plan log f (Some p) None a (inr group) =
+    absurd (none_some group.0 (one_group_of_message plan log (in_frame f) None (Some group.0) a.0 group.1))
+one_heard_as plan log f None (Some q) (inl none) b = absurd (none q b.1)
+one_heard_as plan log f None (Some q) (inr group) b =
+    absurd (none_some group.0 (one_group_of_message plan log (in_frame f) None (Some group.0) b.0 group.1))
+one_heard_as plan log f None None a b = refl
 
 -- ---- what a pair heard
 
@@ -170,24 +171,24 @@ one_since plan seen s d h k a b = elim (cut_later a.before a.since b.before b.si
       a.packets_are ∙ ap (heard s d) (sym (later.2 ∙ ap (λ (t : List Seen). t ++ a.since) none)) ∙ sym b.packets_are
 ]
 
-one_carried : (plan : Plan) (frames : List Frame) (front : List ℕ) (h : List Packet) (place : ℕ) (f : Frame) (s z : List Sort) (t u : List ℕ)
-    → IsCarriedReport plan frames front h place f s t → IsCarriedReport plan frames front h place f z u → (s ≡ z) × (t ≡ u)
-one_carried plan frames front h place f s z t u (inl a) (inl b) =
+one_carried : (plan : Plan) (log : List Timed) (front : List ℕ) (h : List Packet) (place : ℕ) (f : Frame) (s z : List Sort) (t u : List ℕ)
+    → IsCarriedReport plan log front h place f s t → IsCarriedReport plan log front h place f z u → (s ≡ z) × (t ≡ u)
+one_carried plan log front h place f s z t u (inl a) (inl b) =
     let pgn : a.0 ≡ b.0 = one_pgn h place a.0 b.0 a.1 b.1 a.3 b.3 in
     let bytes : a.1 ≡ b.1 = one_message h place a.0 b.0 a.1 b.1 a.3 b.3 in
     let there = subst
-    (λ (x : List ℕ). IsMessageReport plan frames front (record { pgn = b.0; bytes = x; ident = f.ident; framed = None }) a.2 t) bytes
-    (subst (λ (n : ℕ). IsMessageReport plan frames front (record { pgn = n; bytes = a.1; ident = f.ident; framed = None }) a.2 t) pgn a.4) in
-    let same = one_message_report plan frames front (record { pgn = b.0; bytes = b.1; ident = f.ident; framed = None }) a.2 b.2 t u there b.4 in
+    (λ (x : List ℕ). IsMessageReport plan log front (record { pgn = b.0; bytes = x; ident = f.ident; framed = None }) a.2 t) bytes
+    (subst (λ (n : ℕ). IsMessageReport plan log front (record { pgn = n; bytes = a.1; ident = f.ident; framed = None }) a.2 t) pgn a.4) in
+    let same = one_message_report plan log front (record { pgn = b.0; bytes = b.1; ident = f.ident; framed = None }) a.2 b.2 t u there b.4 in
     (a.5 ∙ ap (λ (x : Sort). x ∷ []) same.0 ∙ sym b.5, same.1)
-one_carried plan frames front h place f s z t u (inl a) (inr b) = absurd (b.0 a.0 a.1 a.3)
-one_carried plan frames front h place f s z t u (inr a) (inl b) = absurd (a.0 b.0 b.1 b.3)
-one_carried plan frames front h place f s z t u (inr a) (inr b) = (a.1 ∙ sym b.1, a.2 ∙ sym b.2)
+one_carried plan log front h place f s z t u (inl a) (inr b) = absurd (b.0 a.0 a.1 a.3)
+one_carried plan log front h place f s z t u (inr a) (inl b) = absurd (a.0 b.0 b.1 b.3)
+one_carried plan log front h place f s z t u (inr a) (inr b) = (a.1 ∙ sym b.1, a.2 ∙ sym b.2)
 
-pub one_packet_report : (plan : Plan) (before : List Seen) (front : List ℕ) (f : Frame) (p : Option Packet) (s z : List Sort) (t u : List ℕ)
-    → IsPacketReport plan before front f p s t → IsPacketReport plan before front f p z u → (s ≡ z) × (t ≡ u)
-one_packet_report plan before front f None s z t u a b = (a.0 ∙ sym b.0, a.1 ∙ sym b.1)
-one_packet_report plan before front f (Some p) s z t u a b =
+pub one_packet_report : (plan : Plan) (before : List Seen) (log : List Timed) (front : List ℕ) (f : Frame) (p : Option Packet) (s z : List Sort) (t u : List ℕ)
+    → IsPacketReport plan before log front f p s t → IsPacketReport plan before log front f p z u → (s ≡ z) × (t ≡ u)
+one_packet_report plan before log front f None s z t u a b = (a.0 ∙ sym b.0, a.1 ∙ sym b.1)
+one_packet_report plan before log front f (Some p) s z t u a b =
     let same = one_since plan before f.ident.sa f.ident.ps a.0 b.0 a.1 b.1 in
-    one_carried plan (frames_seen before ++ f ∷ []) front (b.0 ++ p ∷ []) (length b.0) f s z t u
-    (subst (λ (h : List Packet). IsCarriedReport plan (frames_seen before ++ f ∷ []) front (h ++ p ∷ []) (length h) f s t) same a.2) b.2
+    one_carried plan log front (b.0 ++ p ∷ []) (length b.0) f s z t u
+    (subst (λ (h : List Packet). IsCarriedReport plan log front (h ++ p ∷ []) (length h) f s t) same a.2) b.2

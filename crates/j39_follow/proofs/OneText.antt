@@ -13,8 +13,9 @@ use Rattle.j39_stream.specs.declared.verdict.Verdict.{Verdict}
 use Rattle.j39_stream.specs.declared.verdict.Verdict.TheVariants.{Done, Findings, Refused, Unreadable}
 use Rattle.j39_text.specs.Texts.{field}
 use Rattle.j39_tp.specs.declared.packet.Packet.{Packet}
+use Rattle.j39_follow.specs.Contests.{Timed}
 use Rattle.j39_follow.specs.FollowReports.{stamp}
-use Rattle.j39_follow.specs.FollowText.{AreUnitLines, IsFollowText, IsFollowedLog, IsPacketReport, IsUnitLine, FollowedPast, FollowsFrame, FollowsLine, FollowsLines, FollowsPart, FollowsShort, frames_seen, in_frame, nothing_followed, one_line_more, line_passed_over, unit_end_line}
+use Rattle.j39_follow.specs.FollowText.{AreUnitLines, IsFollowText, IsFollowedLog, IsPacketReport, IsUnitLine, FollowedPast, FollowsFrame, FollowsLine, FollowsLines, FollowsPart, FollowsShort, frames_seen, in_frame, lines_with, nothing_followed, one_line_more, line_passed_over, unit_end_line}
 use Rattle.j39_follow.specs.Holders.{HoldsByFrames, IsTold}
 use Rattle.j39_follow.specs.LogLines.{IsElsewhere, IsReadPart, IsTimeText, NamesInterface, interface_behind}
 use Rattle.j39_follow.specs.declared.message.Sort.{Sort}
@@ -51,26 +52,28 @@ one_time line t u (inr a) (inl b) = absurd (a.0 u b)
 one_time line t u (inr a) (inr b) = a.1 ∙ sym b.1
 
 -- what came so far, with a frame
-abbrev with_frame : FollowedPast → Option (List ℕ) → Frame → Option Packet → Sort → List Sort → FollowedPast
-with_frame past named f packet sort sorts = record past {
+abbrev with_frame : FollowedPast → List ℕ → Option (List ℕ) → Frame → Option Packet → Sort → List Sort → FollowedPast
+with_frame past time named f packet sort sorts = record past {
   seen = past.seen ++ record { frame = f; packet = packet } ∷ [];
+  timed = lines_with past f time;
   interface = interface_behind past.interface named;
   sent = past.sent ++ sort ∷ sorts;
 }
 
-one_frame_read : (plan : Plan) (past : FollowedPast) (front : List ℕ) (named : Option (List ℕ)) (f : Frame) (next other : FollowedPast) (t u : List ℕ)
-    → FollowsFrame plan past front named f next t → FollowsFrame plan past front named f other u → (next ≡ other) × (t ≡ u)
-one_frame_read plan past front named f next other t u a b =
-    let frames : List Frame = frames_seen past.seen ++ f ∷ [] in
-    let packet = one_heard_as plan frames f a.packet b.packet a.heard_as b.heard_as in
-    let notice = one_notice plan frames front f a.notice b.notice a.notice_is b.notice_is in
-    let report = one_message_report plan frames front (in_frame f) a.sort b.sort a.report b.report a.report_is b.report_is in
-    let there = subst (λ (p : Option Packet). IsPacketReport plan past.seen front f p a.sorts a.carried) packet a.carried_is in
-    let carried = one_packet_report plan past.seen front f b.packet a.sorts b.sorts a.carried b.carried there b.carried_is in (
+one_frame_read : (plan : Plan) (past : FollowedPast) (time : List ℕ) (named : Option (List ℕ)) (f : Frame) (next other : FollowedPast) (t u : List ℕ)
+    → FollowsFrame plan past time named f next t → FollowsFrame plan past time named f other u → (next ≡ other) × (t ≡ u)
+one_frame_read plan past time named f next other t u a b =
+    let log : List Timed = lines_with past f time in
+    let front : List ℕ = stamp past.number time in
+    let packet = one_heard_as plan log f a.packet b.packet a.heard_as b.heard_as in
+    let notice = one_notice plan log front f a.notice b.notice a.notice_is b.notice_is in
+    let report = one_message_report plan log front (in_frame f) a.sort b.sort a.report b.report a.report_is b.report_is in
+    let there = subst (λ (p : Option Packet). IsPacketReport plan past.seen log front f p a.sorts a.carried) packet a.carried_is in
+    let carried = one_packet_report plan past.seen log front f b.packet a.sorts b.sorts a.carried b.carried there b.carried_is in (
       a.next_is
-          ∙ ap (λ (p : Option Packet). with_frame past named f p a.sort a.sorts) packet
-          ∙ ap (λ (s : Sort). with_frame past named f b.packet s a.sorts) report.0
-          ∙ ap (λ (s : List Sort). with_frame past named f b.packet b.sort s) carried.0
+          ∙ ap (λ (p : Option Packet). with_frame past time named f p a.sort a.sorts) packet
+          ∙ ap (λ (s : Sort). with_frame past time named f b.packet s a.sorts) report.0
+          ∙ ap (λ (s : List Sort). with_frame past time named f b.packet b.sort s) carried.0
           ∙ sym b.next_is,
       a.text_is
           ∙ ap (λ (x : List ℕ). x ++ (a.report ++ a.carried)) notice
@@ -84,9 +87,9 @@ one_part_read : (plan : Plan) (past : FollowedPast) (line part : List ℕ) (name
 one_part_read plan past line part named next other t u (inl a) (inl b) =
     let frame = one_spelled part a.0 b.0 a.2 b.2 in
     let time = one_time line a.1 b.1 a.3 b.3 in
-    one_frame_read plan past (stamp past.number b.1) named b.0 next other t u
-    (subst (λ (x : List ℕ). FollowsFrame plan past (stamp past.number x) named b.0 next t) time
-    (subst (λ (f : Frame). FollowsFrame plan past (stamp past.number a.1) named f next t) frame a.4)) b.4
+    one_frame_read plan past b.1 named b.0 next other t u
+    (subst (λ (x : List ℕ). FollowsFrame plan past x named b.0 next t) time
+    (subst (λ (f : Frame). FollowsFrame plan past a.1 named f next t) frame a.4)) b.4
 one_part_read plan past line part named next other t u (inl a) (inr b) = absurd (not_both part a.0 b.0 a.2 b.1)
 one_part_read plan past line part named next other t u (inr a) (inl b) = absurd (not_both part b.0 a.0 b.2 a.1)
 one_part_read plan past line part named next other t u (inr a) (inr b) =
@@ -94,10 +97,10 @@ one_part_read plan past line part named next other t u (inr a) (inr b) =
     (a.2 ∙ ap (λ (e : LineError). line_passed_over e past) same ∙ sym b.2, a.3 ∙ sym b.3)
 
 one_rest_read : (plan : Plan) (past : FollowedPast) (line part : List ℕ) (named : Option (List ℕ)) (next other : FollowedPast) (t u : List ℕ)
-    → ((IsElsewhere past.interface named × (next ≡ record past { elsewhere = past.elsewhere + 1 }) × (t ≡ []))
-    ⊎ ((¬ IsElsewhere past.interface named) × FollowsPart plan past line part named next t))
-    → ((IsElsewhere past.interface named × (other ≡ record past { elsewhere = past.elsewhere + 1 }) × (u ≡ []))
-    ⊎ ((¬ IsElsewhere past.interface named) × FollowsPart plan past line part named other u))
+    → ((IsElsewhere past.interface part named × (next ≡ record past { elsewhere = past.elsewhere + 1 }) × (t ≡ []))
+    ⊎ ((¬ IsElsewhere past.interface part named) × FollowsPart plan past line part named next t))
+    → ((IsElsewhere past.interface part named × (other ≡ record past { elsewhere = past.elsewhere + 1 }) × (u ≡ []))
+    ⊎ ((¬ IsElsewhere past.interface part named) × FollowsPart plan past line part named other u))
     → (next ≡ other) × (t ≡ u)
 one_rest_read plan past line part named next other t u (inl a) (inl b) = (a.1 ∙ sym b.1, a.2 ∙ sym b.2)
 one_rest_read plan past line part named next other t u (inl a) (inr b) = absurd (b.0 a.0)
@@ -107,8 +110,8 @@ one_rest_read plan past line part named next other t u (inr a) (inr b) = one_par
 -- what is left once the part and the interface of a line are known
 abbrev ReadsRest : Plan → FollowedPast → List ℕ → List ℕ → Option (List ℕ) → FollowedPast → List ℕ → Type 0
 ReadsRest plan past line part named next t =
-    (IsElsewhere past.interface named × (next ≡ record past { elsewhere = past.elsewhere + 1 }) × (t ≡ []))
-    ⊎ ((¬ IsElsewhere past.interface named) × FollowsPart plan past line part named next t)
+    (IsElsewhere past.interface part named × (next ≡ record past { elsewhere = past.elsewhere + 1 }) × (t ≡ []))
+    ⊎ ((¬ IsElsewhere past.interface part named) × FollowsPart plan past line part named next t)
 
 one_short_read : (plan : Plan) (past : FollowedPast) (line : List ℕ) (next other : FollowedPast) (t u : List ℕ)
     → FollowsShort plan past line next t → FollowsShort plan past line other u → (next ≡ other) × (t ≡ u)

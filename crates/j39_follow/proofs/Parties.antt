@@ -10,7 +10,7 @@ use Rattle.j39_follow.specs.Holders.{IsHolder}
 use Rattle.j39_follow.specs.Who.{IsLikeliest, IsWho, MayHold, unit_of_name}
 use Rattle.j39_follow.specs.declared.holders.Holders.{Holders}
 use Rattle.j39_follow.specs.declared.who.Who.{Who}
-use Rattle.j39_follow.specs.declared.who.Who.TheVariants.{Holder, Stranger, Likely, Unknown}
+use Rattle.j39_follow.specs.declared.who.Who.TheVariants.{Holder, Stranger, Likely, LikelyStranger, Unknown}
 use Rattle.j39_follow.specs.inside.Recounting.{Recounts, is_marked}
 use Rattle.j39_follow.proofs.HolderLaws.{same_name}
 
@@ -53,20 +53,25 @@ one_who plan frames address (Holder u) (Stranger m) x y =
     let named = same_name frames address x.0 m x.1 y.0 in
     absurd (none_some u (sym y.1 ∙ sym (ap (unit_of_name plan) named) ∙ x.2))
 one_who plan frames address (Holder u) (Likely v) x y = absurd (y.0 x.0 x.1)
+one_who plan frames address (Holder u) (LikelyStranger m) x y = absurd y
 one_who plan frames address (Holder u) Unknown x y = absurd (y.0 x.0 x.1)
 one_who plan frames address (Stranger n) (Holder v) x y =
     let named = same_name frames address n y.0 x.0 y.1 in
     absurd (none_some v (sym x.1 ∙ ap (unit_of_name plan) named ∙ y.2))
 one_who plan frames address (Stranger n) (Stranger m) x y = ap Stranger (same_name frames address n m x.0 y.0)
 one_who plan frames address (Stranger n) (Likely v) x y = absurd (y.0 n x.0)
+one_who plan frames address (Stranger n) (LikelyStranger m) x y = absurd y
 one_who plan frames address (Stranger n) Unknown x y = absurd (y.0 n x.0)
 one_who plan frames address (Likely u) (Holder v) x y = absurd (x.0 y.0 y.1)
 one_who plan frames address (Likely u) (Stranger m) x y = absurd (x.0 m y.0)
 one_who plan frames address (Likely u) (Likely v) x y = ap Likely (one_likeliest plan frames address u v x.1 y.1)
+one_who plan frames address (Likely u) (LikelyStranger m) x y = absurd y
+one_who plan frames address (LikelyStranger n) b x y = absurd x
 one_who plan frames address (Likely u) Unknown x y = absurd (y.1 u (likely_there plan frames address u x.1))
 one_who plan frames address Unknown (Holder v) x y = absurd (x.0 y.0 y.1)
 one_who plan frames address Unknown (Stranger m) x y = absurd (x.0 m y.0)
 one_who plan frames address Unknown (Likely v) x y = absurd (x.1 v (likely_there plan frames address v y.1))
+one_who plan frames address Unknown (LikelyStranger m) x y = absurd y
 one_who plan frames address Unknown Unknown x y = refl
 
 -- ---- frames of which one table tells
@@ -96,6 +101,7 @@ who_as_well plan h frames others address (Likely u) of too is = (
     first = λ v other at may less. is.1.first v other at (may_as_well plan h others frames address v other too of at may) less;
   },
 )
+who_as_well plan h frames others address (LikelyStranger n) of too is = absurd is
 who_as_well plan h frames others address Unknown of too is = (
   none_as_well plan h frames others address of too is.0,
   λ u may. is.1 u (record {

@@ -11,7 +11,7 @@ use Rattle.j39_findings.specs.declared.plan.Plan.{Plan}
 use Rattle.j39_follow.specs.inside.Recounting.{IsMoved, IsNew, Recounts, TellsPlace, is_marked}
 use Rattle.j39_follow.proofs.Holding.{held_by, holds_new, holds_on, told_by, told_new, told_on}
 
-or_left : (a b : Bool) → a ≡ true → (a || b) ≡ true
+pub or_left : (a b : Bool) → a ≡ true → (a || b) ≡ true
 or_left true b e = refl
 or_left false b e = cc
 

@@ -1,25 +1,26 @@
 -- From whom to whom a frame went, and what is written first at it.
 use Rattle.std.proofs.Common.{◌≡◌, ◌++◌, ℕ, Bool, true, false, if◌then◌else◌, List, codes, refl}
-use Rattle.j39_id.specs.declared.frame.Frame.{Frame}
 use Rattle.j39_id.specs.declared.ident.Ident.{Ident}
 use Rattle.j39_findings.specs.declared.plan.Plan.{Plan}
+use Rattle.j39_follow.specs.Contests.{Timed}
 use Rattle.j39_follow.specs.FollowReports.{IsWay, is_to_all}
 use Rattle.j39_follow.specs.Who.{who_text}
-use Rattle.j39_follow.specs.declared.directory.Directory.{Directory}
-use Rattle.j39_follow.specs.inside.Recounting.{Knows, party_at}
+use Rattle.j39_follow.specs.declared.known_parties.Parties.{Parties}
+use Rattle.j39_follow.specs.inside.Contesting.{ShowsParties}
+use Rattle.j39_follow.specs.inside.Recounting.{party_at}
 
 -- a frame has a way
-pub a_way : (plan : Plan) (directory : Directory) (frames : List Frame) (i : Ident) → Knows plan directory frames
-    → (way : List ℕ) × IsWay plan frames i way
-a_way plan directory frames i knows =
-    let sender = party_at directory.parties i.sa in
-    let receiver = party_at directory.parties i.ps in (
+pub a_way : (plan : Plan) (parties : Parties) (log : List Timed) (i : Ident) → ShowsParties plan parties log i
+    → (way : List ℕ) × IsWay plan log i way
+a_way plan parties log i shows =
+    let sender = party_at parties.all i.sa in
+    let receiver = party_at parties.all i.ps in (
       codes " from " ++ (who_text plan sender i.sa ++ (codes " to " ++ (if is_to_all i then codes "all" else who_text plan receiver i.ps))),
       record {
         sender = sender;
         receiver = receiver;
-        sender_is = knows.parties i.sa i.sa_range;
-        receiver_is = knows.parties i.ps i.ps_range;
+        sender_is = shows.source;
+        receiver_is = shows.receiver;
         text_is = refl;
       },
     )

@@ -1,6 +1,7 @@
 -- The group and the flow of a message: by its number and length, by who sent it, and to whom it went.
 use Rattle.std.specs.Prelude.{◌≡◌, ◌≢◌, ◌<◌, ◌⊎◌, ℕ, nat_le, ◌==◌, ◌&&◌, Bool, true, false, Option, Some, None}
 use Rattle.std.specs.List.{position}
+use Rattle.std.specs.Option.{option_or}
 use Rattle.j39_findings.specs.ListPlaces.{ValueAt}
 use Rattle.j39_findings.specs.declared.plan.Plan.{Plan}
 use Rattle.j39_findings.specs.declared.plan.flow_plan.FlowPlan.{FlowPlan}
@@ -27,9 +28,18 @@ is_unit (Some u) unit = u == unit
 abbrev pub fits : ℕ → Sending → FlowPlan → Bool
 fits group sent flow = flow.group == group && (is_unit sent.sender flow.sender && reaches flow.to sent.aim sent.unaddressed)
 
--- the first flow of the group that fits
+abbrev pub is_for_all : To → Bool
+is_for_all ToAll = true
+is_for_all (ToOne unit) = false
+
+-- and it goes to all
+abbrev pub fits_all : ℕ → Sending → FlowPlan → Bool
+fits_all group sent flow = is_for_all flow.to && fits group sent flow
+
+-- the first flow of the group that fits and goes to all, or where none does the first that fits; of a message that names its destination
+-- all that fit go to all, or none does
 abbrev pub fitting_flow : Plan → ℕ → Sending → Option ℕ
-fitting_flow plan group sent = position (fits group sent) plan.flows.items
+fitting_flow plan group sent = option_or (position (fits_all group sent) plan.flows.items) (position (fits group sent) plan.flows.items)
 
 -- messages of the group may have so many bytes
 abbrev pub may_have_bytes : GroupPlan → ℕ → Bool

@@ -15,8 +15,9 @@ use Rattle.j39_log.specs.LogReports.{reading_lines}
 use Rattle.j39_text.specs.FrameText.{cannot_claim, claims_address, name_in, requested_group, requests_group}
 use Rattle.j39_text.specs.Labels.{unit_label}
 use Rattle.j39_text.specs.Texts.{field, place_field}
+use Rattle.j39_follow.specs.Contests.{IsTaken, Timed}
 use Rattle.j39_follow.specs.Fits.{IsSentGroup, fitting_flow}
-use Rattle.j39_follow.specs.Who.{IsWho, name_text, unit_of_name, unit_of, who_text}
+use Rattle.j39_follow.specs.Who.{name_text, unit_of_name, unit_of, who_text}
 use Rattle.j39_follow.specs.declared.message.Sort.{Sort}
 use Rattle.j39_follow.specs.declared.message.Sort.TheVariants.{Grouped, Other}
 use Rattle.j39_follow.specs.declared.sending.Aim.{Aim}
@@ -51,19 +52,19 @@ cannot_line plan front f = cannot_text plan front (name_in f)
 abbrev pub is_to_all : Ident → Bool
 is_to_all i = is_pdu2 (pgn_of i) || i.ps == global_address
 
--- from whom to whom, by what these frames tell
-pub record IsWay (plan : Plan) (frames : List Frame) (i : Ident) (text : List ℕ) : Type 0 where
+-- from whom to whom, by what these lines tell at the last of them
+pub record IsWay (plan : Plan) (log : List Timed) (i : Ident) (text : List ℕ) : Type 0 where
   pub sender : Who
   pub receiver : Who
-  pub sender_is : IsWho plan frames i.sa sender
-  pub receiver_is : IsWho plan frames i.ps receiver
+  pub sender_is : IsTaken plan log i.sa sender
+  pub receiver_is : IsTaken plan log i.ps receiver
   pub text_is : text ≡ codes " from " ++ (who_text plan sender i.sa
       ++ (codes " to " ++ (if is_to_all i then codes "all" else who_text plan receiver i.ps)))
 
--- what is written first at a frame, these being the frames up to it
-abbrev pub IsNotice : Plan → List Frame → List ℕ → Frame → List ℕ → Type 0
-IsNotice plan frames front f text =
-    (way : List ℕ) × IsWay plan frames f.ident way
+-- what is written first at a frame, these being the lines up to it
+abbrev pub IsNotice : Plan → List Timed → List ℕ → Frame → List ℕ → Type 0
+IsNotice plan log front f text =
+    (way : List ℕ) × IsWay plan log f.ident way
     × (text ≡ (if claims_address f then claim_line plan front f
     else if cannot_claim f then cannot_line plan front f
     else if requests_group f then front ++ (field (codes "request ") (requested_group f) ++ (way ++ 10 ∷ []))
@@ -82,12 +83,12 @@ abbrev pub aim_at : Option ℕ → Aim
 aim_at (Some u) = aims.One u
 aim_at None = aims.Neither
 
--- who sent it to whom, by what these frames tell
-pub record IsSendingOf (plan : Plan) (frames : List Frame) (m : Message) (sent : Sending) : Type 0 where
+-- who sent it to whom, by what these lines tell at the last of them
+pub record IsSendingOf (plan : Plan) (log : List Timed) (m : Message) (sent : Sending) : Type 0 where
   pub sender : Who
   pub receiver : Who
-  pub sender_is : IsWho plan frames m.ident.sa sender
-  pub receiver_is : IsWho plan frames m.ident.ps receiver
+  pub sender_is : IsTaken plan log m.ident.sa sender
+  pub receiver_is : IsTaken plan log m.ident.ps receiver
   pub sender_unit : sent.sender ≡ unit_of sender
   pub aim_is : sent.aim ≡ (if is_to_all m.ident then aims.All else aim_at (unit_of receiver))
   pub unaddressed_is : sent.unaddressed ≡ (is_some m.framed && is_pdu2 m.pgn)
@@ -109,19 +110,19 @@ unfoldable pub message_line : GroupPlan → List ℕ → List ℕ → Option ℕ
 message_line group front way flow m = front ++ (codes "group " ++ (group.label.bytes ++ (way ++ sent_text group flow m)))
 
 -- the message is reported so, and counts as this
-abbrev pub IsGrouped : Plan → List Frame → List ℕ → Message → Sending → Option ℕ → Sort → List ℕ → Type 0
-IsGrouped plan frames front m sent (Some g) sort text =
-    (sort ≡ Grouped g (fitting_flow plan g sent)) × (way : List ℕ) × IsWay plan frames m.ident way
+abbrev pub IsGrouped : Plan → List Timed → List ℕ → Message → Sending → Option ℕ → Sort → List ℕ → Type 0
+IsGrouped plan log front m sent (Some g) sort text =
+    (sort ≡ Grouped g (fitting_flow plan g sent)) × (way : List ℕ) × IsWay plan log m.ident way
     × ValueAt (λ (group : GroupPlan). text ≡ message_line group front way (fitting_flow plan g sent) m ++ reading_lines group m.bytes)
     plan.groups.items g
-IsGrouped plan frames front m sent None sort text = (sort ≡ Other m.pgn) × (text ≡ [])
+IsGrouped plan log front m sent None sort text = (sort ≡ Other m.pgn) × (text ≡ [])
 
 -- the group of a message, as what was sent tells it
-abbrev pub IsGroupOfMessage : Plan → List Frame → Message → Option ℕ → Type 0
-IsGroupOfMessage plan frames m group =
-    (sent : Sending) × IsSendingOf plan frames m sent × IsSentGroup plan m.pgn (length m.bytes) sent group
+abbrev pub IsGroupOfMessage : Plan → List Timed → Message → Option ℕ → Type 0
+IsGroupOfMessage plan log m group =
+    (sent : Sending) × IsSendingOf plan log m sent × IsSentGroup plan m.pgn (length m.bytes) sent group
 
-abbrev pub IsMessageReport : Plan → List Frame → List ℕ → Message → Sort → List ℕ → Type 0
-IsMessageReport plan frames front m sort text =
-    (sent : Sending) × (group : Option ℕ) × IsSendingOf plan frames m sent × IsSentGroup plan m.pgn (length m.bytes) sent group
-    × IsGrouped plan frames front m sent group sort text
+abbrev pub IsMessageReport : Plan → List Timed → List ℕ → Message → Sort → List ℕ → Type 0
+IsMessageReport plan log front m sort text =
+    (sent : Sending) × (group : Option ℕ) × IsSendingOf plan log m sent × IsSentGroup plan m.pgn (length m.bytes) sent group
+    × IsGrouped plan log front m sent group sort text

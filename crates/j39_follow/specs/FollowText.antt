@@ -2,17 +2,19 @@
 use Rattle.std.specs.Prelude.{◌≡◌, ℕ, ◌+◌, ◌==◌, ◌⊎◌, Bool, false, if◌then◌else◌, List}
 use Rattle.std.specs.Prelude.{[], ◌∷◌, ◌++◌, length, map, count_by, codes, Some, None, Option}
 use Rattle.std.specs.List.{All, position}
-use Rattle.std.specs.Option.{option_eq}
+use Rattle.std.specs.Option.{option_eq, option_map_or}
 use Rattle.j39_id.specs.FrameLine.{Spells, HasLineFault}
 use Rattle.j39_id.specs.Ident.{pgn_of}
 use Rattle.j39_id.specs.Lines.{Line, Short, Long, lines}
 use Rattle.j39_id.specs.declared.frame.Frame.{Frame}
 use Rattle.j39_id.specs.declared.line_error.LineError.{LineError}
 use Rattle.j39_id.specs.declared.line_error.LineError.TheVariants.{Empty, ShortIdent}
+use Rattle.j39_findings.specs.Found.{meets}
 use Rattle.j39_findings.specs.PlannedGroups.{IsSendable, IsFirstRefused}
 use Rattle.j39_findings.specs.declared.plan.Plan.{Plan}
 use Rattle.j39_findings.specs.declared.plan.flow_plan.FlowPlan.{FlowPlan}
 use Rattle.j39_findings.specs.declared.plan.group_plan.GroupPlan.{GroupPlan}
+use Rattle.j39_findings.specs.declared.plan.need_plan.NeedPlan.{NeedPlan}
 use Rattle.j39_findings.specs.declared.plan.to.To.{To}
 use Rattle.j39_findings.specs.declared.plan.to.To.TheVariants.{All as ToAll, One as ToOne}
 use Rattle.j39_findings.specs.declared.plan.unit_plan.UnitPlan.{UnitPlan}
@@ -21,15 +23,16 @@ use Rattle.j39_log.specs.LogPairs.{Seen, heard}
 use Rattle.j39_log.specs.ReadText.{CarriesNone, refused_plan_line}
 use Rattle.j39_tp.specs.Carried.{Carried}
 use Rattle.j39_tp.specs.declared.packet.Packet.{Packet}
-use Rattle.j39_text.specs.Labels.{group_label, unit_label}
+use Rattle.j39_text.specs.Labels.{group_label, signal_label, unit_label}
 use Rattle.j39_text.specs.Texts.{field, place_field}
 use Rattle.j39_stream.specs.declared.verdict.Verdict.{Verdict}
 use Rattle.j39_stream.specs.declared.verdict.Verdict.TheVariants.{Done, Findings, Refused, Unreadable}
+use Rattle.j39_follow.specs.Contests.{Timed}
 use Rattle.j39_follow.specs.FollowReports.{IsGroupOfMessage, IsMessageReport, IsNotice, Message, stamp}
 use Rattle.j39_follow.specs.declared.message.Sort.{Sort}
 use Rattle.j39_follow.specs.declared.message.Sort.TheVariants.{Grouped, Other}
 use Rattle.j39_follow.specs.Holders.{HoldsByFrames, IsTold}
-use Rattle.j39_follow.specs.LogLines.{IsElsewhere, IsReadPart, IsTimeText, NamesInterface, interface_behind}
+use Rattle.j39_follow.specs.LogLines.{IsElsewhere, IsReadPart, IsTimeText, NamesInterface, interface_behind, moment_of}
 use Rattle.j39_follow.specs.Who.{ChangesHands}
 
 -- ---- what each two addresses heard
@@ -63,31 +66,33 @@ pub record HeardSince (plan : Plan) (seen : List Seen) (source destination : ℕ
 abbrev pub in_frame : Frame → Message
 in_frame f = record { pgn = pgn_of f.ident; bytes = f.payload.items; ident = f.ident; framed = Some f.ident.priority }
 
--- the transport packet that is heard of a frame, these being the frames up to it; of a frame that is a group none is
-abbrev pub IsFollowedAs : Plan → List Frame → Frame → Option Packet → Type 0
-IsFollowedAs plan frames f (Some p) = IsGroupOfMessage plan frames (in_frame f) None × IsPacket f p
-IsFollowedAs plan frames f None = ((p : Packet) → ¬ IsPacket f p) ⊎ ((g : ℕ) × IsGroupOfMessage plan frames (in_frame f) (Some g))
+-- the transport packet that is heard of a frame, these being the lines up to it; of a frame that is a group none is
+abbrev pub IsFollowedAs : Plan → List Timed → Frame → Option Packet → Type 0
+IsFollowedAs plan log f (Some p) = IsGroupOfMessage plan log (in_frame f) None × IsPacket f p
+IsFollowedAs plan log f None = ((p : Packet) → ¬ IsPacket f p) ⊎ ((g : ℕ) × IsGroupOfMessage plan log (in_frame f) (Some g))
 
 -- what is written where a packet ends a message, and what that counts as
-abbrev pub IsCarriedReport : Plan → List Frame → List ℕ → List Packet → ℕ → Frame → List Sort → List ℕ → Type 0
-IsCarriedReport plan frames front h place f sorts text =
+abbrev pub IsCarriedReport : Plan → List Timed → List ℕ → List Packet → ℕ → Frame → List Sort → List ℕ → Type 0
+IsCarriedReport plan log front h place f sorts text =
     ((pgn : ℕ) × (bytes : List ℕ) × (sort : Sort) × Carried h place pgn bytes
-    × IsMessageReport plan frames front (record { pgn = pgn; bytes = bytes; ident = f.ident; framed = None }) sort text
+    × IsMessageReport plan log front (record { pgn = pgn; bytes = bytes; ident = f.ident; framed = None }) sort text
     × (sorts ≡ sort ∷ []))
     ⊎ (CarriesNone h place × (sorts ≡ []) × (text ≡ []))
 
-abbrev pub IsPacketReport : Plan → List Seen → List ℕ → Frame → Option Packet → List Sort → List ℕ → Type 0
-IsPacketReport plan before front f None sorts text = (sorts ≡ []) × (text ≡ [])
-IsPacketReport plan before front f (Some p) sorts text =
+abbrev pub IsPacketReport : Plan → List Seen → List Timed → List ℕ → Frame → Option Packet → List Sort → List ℕ → Type 0
+IsPacketReport plan before log front f None sorts text = (sorts ≡ []) × (text ≡ [])
+IsPacketReport plan before log front f (Some p) sorts text =
     (h : List Packet) × HeardSince plan before f.ident.sa f.ident.ps h
-    × IsCarriedReport plan (frames_seen before ++ f ∷ []) front (h ++ p ∷ []) (length h) f sorts text
+    × IsCarriedReport plan log front (h ++ p ∷ []) (length h) f sorts text
 
 -- ---- a log
 
--- what came so far: how many lines, the frames, the interface of the log, what was sent, and how many lines were passed over
+-- what came so far: how many lines, the frames with what is heard of them and with their times, the interface of the log, what was sent, and
+-- how many lines were passed over
 pub record FollowedPast : Type 0 where
   pub number : ℕ
   pub seen : List Seen
+  pub timed : List Timed
   pub interface : Option (List ℕ)
   pub sent : List Sort
   pub skipped : ℕ
@@ -95,7 +100,7 @@ pub record FollowedPast : Type 0 where
   pub elsewhere : ℕ
 
 abbrev pub nothing_followed : FollowedPast
-nothing_followed = record { number = 0; seen = []; interface = None; sent = []; skipped = 0; bad = 0; elsewhere = 0 }
+nothing_followed = record { number = 0; seen = []; timed = []; interface = None; sent = []; skipped = 0; bad = 0; elsewhere = 0 }
 
 abbrev pub with_bad_line : FollowedPast → FollowedPast
 with_bad_line past = record past { bad = past.bad + 1 }
@@ -106,8 +111,12 @@ line_passed_over Empty past = past
 line_passed_over ShortIdent past = record past { skipped = past.skipped + 1 }
 line_passed_over _ past = with_bad_line past
 
+-- the lines up to this one, which spells a frame
+abbrev pub lines_with : FollowedPast → Frame → List ℕ → List Timed
+lines_with past f time = past.timed ++ record { frame = f; time = moment_of time } ∷ []
+
 -- from what came so far a frame leads to this, and this is written at it: what it tells, what it is, and what it ends
-pub record FollowsFrame (plan : Plan) (past : FollowedPast) (front : List ℕ) (named : Option (List ℕ)) (f : Frame)
+pub record FollowsFrame (plan : Plan) (past : FollowedPast) (time : List ℕ) (named : Option (List ℕ)) (f : Frame)
     (next : FollowedPast) (text : List ℕ) : Type 0 where
   pub packet : Option Packet
   pub sort : Sort
@@ -115,13 +124,14 @@ pub record FollowsFrame (plan : Plan) (past : FollowedPast) (front : List ℕ) (
   pub notice : List ℕ
   pub report : List ℕ
   pub carried : List ℕ
-  pub heard_as : IsFollowedAs plan (frames_seen past.seen ++ f ∷ []) f packet
-  pub notice_is : IsNotice plan (frames_seen past.seen ++ f ∷ []) front f notice
-  pub report_is : IsMessageReport plan (frames_seen past.seen ++ f ∷ []) front (in_frame f) sort report
-  pub carried_is : IsPacketReport plan past.seen front f packet sorts carried
+  pub heard_as : IsFollowedAs plan (lines_with past f time) f packet
+  pub notice_is : IsNotice plan (lines_with past f time) (stamp past.number time) f notice
+  pub report_is : IsMessageReport plan (lines_with past f time) (stamp past.number time) (in_frame f) sort report
+  pub carried_is : IsPacketReport plan past.seen (lines_with past f time) (stamp past.number time) f packet sorts carried
   pub text_is : text ≡ notice ++ (report ++ carried)
   pub next_is : next ≡ record past {
     seen = past.seen ++ record { frame = f; packet = packet } ∷ [];
+    timed = lines_with past f time;
     interface = interface_behind past.interface named;
     sent = past.sent ++ sort ∷ sorts;
   }
@@ -130,14 +140,14 @@ pub record FollowsFrame (plan : Plan) (past : FollowedPast) (front : List ℕ) (
 abbrev pub FollowsPart : Plan → FollowedPast → List ℕ → List ℕ → Option (List ℕ) → FollowedPast → List ℕ → Type 0
 FollowsPart plan past line part named next text =
     ((f : Frame) × (time : List ℕ) × Spells part f × IsTimeText line time
-    × FollowsFrame plan past (stamp past.number time) named f next text)
+    × FollowsFrame plan past time named f next text)
     ⊎ ((e : LineError) × HasLineFault part e × (next ≡ line_passed_over e past) × (text ≡ []))
 
 abbrev pub FollowsShort : Plan → FollowedPast → List ℕ → FollowedPast → List ℕ → Type 0
 FollowsShort plan past line next text =
     (part : List ℕ) × (named : Option (List ℕ)) × IsReadPart line part × NamesInterface part named
-    × ((IsElsewhere past.interface named × (next ≡ record past { elsewhere = past.elsewhere + 1 }) × (text ≡ []))
-    ⊎ ((¬ IsElsewhere past.interface named) × FollowsPart plan past line part named next text))
+    × ((IsElsewhere past.interface part named × (next ≡ record past { elsewhere = past.elsewhere + 1 }) × (text ≡ []))
+    ⊎ ((¬ IsElsewhere past.interface part named) × FollowsPart plan past line part named next text))
 
 -- the past, once a line more has begun
 abbrev pub one_line_more : FollowedPast → FollowedPast
@@ -217,19 +227,50 @@ abbrev pub IsUnitLine : List Frame → UnitPlan → List ℕ → Type 0
 IsUnitLine frames unit text =
     ((address : ℕ) × HoldsByFrames frames unit.name address × (text ≡ unit_end_line unit (field (codes " address ") address)))
     ⊎ (IsTold frames unit.name × ((address : ℕ) → ¬ HoldsByFrames frames unit.name address) × (text ≡ unit_end_line unit (codes " none")))
-    ⊎ ((¬ IsTold frames unit.name) × (text ≡ unit_end_line unit (codes " unheard")))
+    ⊎ ((¬ IsTold frames unit.name) × (text ≡ unit_end_line unit (codes " unclaimed")))
 
 abbrev pub AreUnitLines : List Frame → List UnitPlan → List ℕ → Type 0
 AreUnitLines frames [] text = text ≡ []
 AreUnitLines frames (unit ∷ units) text =
     (front : List ℕ) × (back : List ℕ) × IsUnitLine frames unit front × AreUnitLines frames units back × (text ≡ front ++ back)
 
+-- how often the flow at a place was sent, where it meets the need
+abbrev pub met_by : List Sort → NeedPlan → ℕ → FlowPlan → ℕ
+met_by sent need n flow = if meets need flow then count_by (is_of_flow n) sent else 0
+
+-- how often all flows together were sent that meet it
+unfoldable pub times_met : List Sort → NeedPlan → ℕ → List FlowPlan → ℕ
+times_met sent need n [] = 0
+times_met sent need n (flow ∷ flows) = met_by sent need n flow + times_met sent need (n + 1) flows
+
+-- the signal that a need names, if it names one
+unfoldable pub met_signal_text : Plan → NeedPlan → List ℕ
+met_signal_text plan need = option_map_or (λ s. codes " " ++ signal_label plan need.group s) need.signal []
+
+-- a need: its place, its unit, its group, and its signal where it names one
+unfoldable pub met_need_text : Plan → ℕ → NeedPlan → List ℕ
+met_need_text plan n need = place_field (codes "need ") n ++ (codes " " ++ (unit_label plan need.unit
+    ++ (codes " " ++ (group_label plan need.group ++ met_signal_text plan need))))
+
+-- a need that was met so often
+unfoldable pub need_met_line : Plan → ℕ → NeedPlan → ℕ → List ℕ
+need_met_line plan n need times = met_need_text plan n need ++ (field (codes " met ") times ++ 10 ∷ [])
+
+-- of each need how often it was met
+abbrev pub need_end : Plan → List Sort → ℕ → NeedPlan → List ℕ
+need_end plan sent n need = need_met_line plan n need (times_met sent need 0 plan.flows.items)
+
+unfoldable pub need_ends : Plan → List Sort → ℕ → List NeedPlan → List ℕ
+need_ends plan sent n [] = []
+need_ends plan sent n (need ∷ needs) = need_end plan sent n need ++ need_ends plan sent (n + 1) needs
+
 unfoldable pub follow_counts_line : ℕ → ℕ → ℕ → ℕ → List ℕ
 follow_counts_line frames skipped bad elsewhere =
     field (codes "frames ") frames ++ (field (codes " skipped ") skipped ++ (field (codes " bad ") bad
     ++ (field (codes " elsewhere ") elsewhere ++ 10 ∷ [])))
 
--- what is written of a log: what its lines report, then what was sent of each flow and group, where each unit stands, and the counts
+-- what is written of a log: what its lines report, then what was sent of each flow and group, where each unit stands, what met each need,
+-- and the counts
 pub record IsFollowedLog (plan : Plan) (log text : List ℕ) : Type 0 where
   pub past : FollowedPast
   pub reports : List ℕ
@@ -237,7 +278,8 @@ pub record IsFollowedLog (plan : Plan) (log text : List ℕ) : Type 0 where
   pub read : FollowsLines plan nothing_followed (lines log) past reports
   pub units_are : AreUnitLines (frames_seen past.seen) plan.units.items units
   pub text_is : text ≡ reports ++ (flow_ends plan past.sent 0 plan.flows.items ++ (group_ends plan past.sent 0 plan.groups.items
-      ++ (units ++ follow_counts_line (length past.seen) past.skipped past.bad past.elsewhere)))
+      ++ (units ++ (need_ends plan past.sent 0 plan.needs.items
+      ++ follow_counts_line (length past.seen) past.skipped past.bad past.elsewhere))))
 
 -- what is written for a plan and a log, with the verdict; of the log of a refused plan nothing is read
 abbrev pub IsFollowText : Plan → List ℕ → List ℕ → Verdict → Type 0

@@ -1,3 +1,5 @@
+pub mod Alike
+pub mod Contests
 pub mod Fits
 pub mod FollowReports
 pub mod FollowText

@@ -11,7 +11,7 @@ use Rattle.j39_text.specs.Labels.{unit_label}
 use Rattle.j39_text.specs.Texts.{field}
 use Rattle.j39_follow.specs.Holders.{HoldsByFrames, IsHolder, IsTold}
 use Rattle.j39_follow.specs.declared.who.Who.{Who}
-use Rattle.j39_follow.specs.declared.who.Who.TheVariants.{Holder, Stranger, Likely, Unknown}
+use Rattle.j39_follow.specs.declared.who.Who.TheVariants.{Holder, Stranger, Likely, LikelyStranger, Unknown}
 
 -- the first unit of this NAME
 abbrev pub unit_of_name : Plan → ℕ → Option ℕ
@@ -38,6 +38,7 @@ abbrev pub IsWho : Plan → List Frame → ℕ → Who → Type 0
 IsWho plan frames address (Holder u) = (name : ℕ) × HoldsByFrames frames name address × (unit_of_name plan name ≡ Some u)
 IsWho plan frames address (Stranger name) = HoldsByFrames frames name address × (unit_of_name plan name ≡ None)
 IsWho plan frames address (Likely u) = IsHolder frames address None × IsLikeliest plan frames address u
+IsWho plan frames address (LikelyStranger name) = ⊥
 IsWho plan frames address Unknown = IsHolder frames address None × ((u : ℕ) → ¬ ValueAt (MayHold frames address) plan.units.items u)
 
 -- the unit behind it, if it is one of the plan
@@ -49,6 +50,7 @@ unit_of _ = None
 -- the NAME behind it, if it isn't planned
 abbrev pub stranger_of : Who → Option ℕ
 stranger_of (Stranger name) = Some name
+stranger_of (LikelyStranger name) = Some name
 stranger_of _ = None
 
 -- ---- change of hands
@@ -75,6 +77,7 @@ unfoldable pub party_text : Plan → Who → List ℕ
 party_text plan (Holder u) = unit_label plan u
 party_text plan (Stranger name) = name_text name
 party_text plan (Likely u) = unit_label plan u ++ codes "?"
+party_text plan (LikelyStranger name) = name_text name ++ codes "?"
 party_text plan Unknown = codes "?"
 
 unfoldable pub who_text : Plan → Who → ℕ → List ℕ

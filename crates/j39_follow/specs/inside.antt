@@ -1,4 +1,5 @@
 -- What only private contracts and proofs need.
+pub mod Contesting
 pub mod FrameWriting
 pub mod Hearing
 pub mod Likeliest

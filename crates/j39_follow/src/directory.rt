@@ -1,11 +1,11 @@
 //! Who stands behind each address.
-ghost use Rattle.std.specs.Prelude.{◌≡◌, [], ◌∷◌, ◌++◌, List, IfSome};
+ghost use Rattle.std.specs.Prelude.{◌≡◌, [], ◌∷◌, ◌++◌, List};
 ghost use Rattle.j39_id.specs.declared.frame.Frame.{Frame as AFrame};
-ghost use Rattle.j39_findings.specs.declared.plan.Plan.{Plan as APlan};
-ghost use Rattle.j39_follow.specs.Who.{IsWho, who_text};
-ghost use Rattle.j39_follow.specs.inside.Recounting.{ArePartiesOf, HasNames, Knows, Recounts, party_at};
+ghost use Rattle.j39_follow.specs.inside.Contesting.{IsBehind, IsLikelyName, IsNameAt};
+ghost use Rattle.j39_follow.specs.inside.Recounting.{ArePartiesOf, HasNames, Knows, Recounts};
 
 use crate::holders::Holders;
+use crate::known_parties::{ADDRESSES, Parties};
 use crate::naming::names_of;
 use crate::who::{Who, who_at};
 use j39_findings::Plan;
@@ -13,16 +13,12 @@ use j39_id::Frame;
 use j39_text::TextBuffer;
 use std::alloc::Global;
 
-// The addresses of a network: 0 to 255.
-const ADDRESSES: usize = 256;
-
 /// Who stands behind each address, by the frames that were heard, and the texts of it as long as no memory was refused to them.
 #[derive(Drop)]
 pub(crate) struct Directory {
     alloc: Global,
     holders: Holders,
-    parties: [Who; ADDRESSES],
-    names: Option<Vec<TextBuffer>>,
+    parties: Parties,
 }
 
 // Who stands behind each address, as the holders tell.
@@ -46,18 +42,39 @@ fn kept_names(alloc: Global, plan: &Plan, parties: &[Who; ADDRESSES]) -> Option<
     }
 }
 
+// The NAME of the unit at a place, if there is one.
+fn name_of(plan: &Plan, place: usize) -> Option<u64>
+    ensures { IsNameAt plan.now place result }
+{
+    if place < plan.units.len() {
+        let unit = &plan.units[place];
+        Some(unit.name.to_bits())
+    } else {
+        None
+    }
+}
+
+// The NAME of the unit that is likely, if one is.
+fn likely_name(plan: &Plan, who: Who) -> Option<u64>
+    ensures { IsLikelyName plan.now who result }
+{
+    match who {
+        Who::Likely(unit) => name_of(plan, unit),
+        Who::Holder(_) | Who::Stranger(_) | Who::LikelyStranger(_) | Who::Unknown => None,
+    }
+}
+
 impl Directory {
     pub fn new(alloc: Global, plan: &Plan) -> Self
         ensures { Knows plan.now result [] }
     {
         let holders = Holders::new();
-        let parties = parties_of(plan, &holders);
-        let names = kept_names(alloc, plan, &parties);
+        let all = parties_of(plan, &holders);
+        let names = kept_names(alloc, plan, &all);
         Directory {
             alloc,
             holders,
-            parties,
-            names,
+            parties: Parties { all, names },
         }
     }
 
@@ -69,37 +86,26 @@ impl Directory {
     }
 
     /// Who stands behind each address.
-    pub fn parties(&self) -> [Who; ADDRESSES]
-        ensures { result ≡ self.now.parties }
+    pub fn parties(&self) -> &Parties
+        ensures { result.now ≡ self.now.parties }
     {
-        self.parties
+        &self.parties
     }
 
-    /// Who stands behind an address.
-    pub fn party(&self, address: u8) -> Who
-        ensures { (plan : APlan) (frames : List AFrame) → Knows plan self.now frames → IsWho plan frames address result }
+    /// Who stands behind each address, as it is now.
+    pub fn all_parties(&self) -> [Who; ADDRESSES]
+        ensures { result ≡ self.now.parties.all }
     {
-        self.parties[usize::from(address)]
+        self.parties.all
     }
 
-    /// Who stands behind an address.
-    pub fn party_at(&self, address: u8) -> Who
-        ensures { result ≡ party_at self.now.parties address }
+    /// The NAME behind an address: the one that holds it, or that of the unit that is likely.
+    pub fn name_behind(&self, plan: &Plan, address: u8) -> Option<u64>
+        ensures { (frames : List AFrame) → Knows plan.now self.now frames → IsBehind plan.now frames address result }
     {
-        self.parties[usize::from(address)]
-    }
-
-    /// The text of who stands behind an address, if it was kept.
-    pub fn name(&self, address: u8) -> Option<&[u8]>
-        ensures { IfSome result (λ name. (plan : APlan) → HasNames plan self.now.parties self.now.names
-            → name.now ≡ who_text plan (party_at self.now.parties address) address) }
-    {
-        let Some(names) = &self.names else {
-            return None;
-        };
-        match names.get(usize::from(address)) {
-            Some(name) => Some(name.as_slice()),
-            None => None,
+        match self.holders.holder(address) {
+            Some(name) => Some(name),
+            None => likely_name(plan, self.parties.party(address)),
         }
     }
 
@@ -108,7 +114,8 @@ impl Directory {
         ensures { (frames : List AFrame) → Knows plan.now self.old frames → Knows plan.now self.new (frames ++ frame.now ∷ []) }
     {
         self.holders.hear(plan, frame);
-        self.parties = parties_of(plan, &self.holders);
-        self.names = kept_names(self.alloc, plan, &self.parties);
+        let all = parties_of(plan, &self.holders);
+        let names = kept_names(self.alloc, plan, &all);
+        self.parties = Parties { all, names };
     }
 }

@@ -155,7 +155,7 @@ fn write_unit(
     if holders.is_told(place) {
         write_nowhere(text, unit, " none")
     } else {
-        write_nowhere(text, unit, " unheard")
+        write_nowhere(text, unit, " unclaimed")
     }
 }
 

@@ -1,20 +1,20 @@
 //! What is written at a frame: what it tells, what it is, and the message that it ends.
 ghost use Rattle.std.specs.Prelude.{◌≡◌, ◌++◌, ◌∷◌, [], ℕ, List, Some, IfOk, OnOk};
 ghost use Rattle.std.specs.Option.{option_to_list};
-ghost use Rattle.j39_id.specs.declared.frame.Frame.{Frame as AFrame};
 ghost use Rattle.j39_log.specs.LogPairs.{Seen};
 ghost use Rattle.j39_log.specs.inside.Listening.{AreAllInRange};
 ghost use Rattle.j39_tp.specs.Packets.{InRange};
 ghost use Rattle.j39_tp.specs.declared.receiving.progress.Progress.TheVariants.{Complete};
+ghost use Rattle.j39_follow.specs.Contests.{Timed};
 ghost use Rattle.j39_follow.specs.FollowReports.{IsMessageReport};
 ghost use Rattle.j39_follow.specs.FollowText.{IsPacketReport, in_frame as message_in_frame};
-ghost use Rattle.j39_follow.specs.inside.FrameWriting.{IsCompleted, IsFrameWritten, frames_with};
+ghost use Rattle.j39_follow.specs.inside.FrameWriting.{IsCompleted, IsFrameWritten};
 ghost use Rattle.j39_follow.specs.inside.Hearing.{HaveHeardOneMore, HaveHeardSince, listener_between};
-ghost use Rattle.j39_follow.specs.inside.Recounting.{Knows};
+ghost use Rattle.j39_follow.specs.inside.Contesting.{ShowsParties};
 ghost use Rattle.j39_follow.specs.inside.Reporting.{front_of, arrived_message};
 
-use crate::directory::Directory;
 use crate::group_line::write_message;
+use crate::known_parties::Parties;
 use crate::message::{Arrival, Sort};
 use crate::notice::write_notice;
 use crate::stamp::Stamp;
@@ -40,14 +40,14 @@ fn in_frame(frame: &Frame) -> Arrival<'_>
 fn write_completed(
     text: &mut TextBuffer,
     groups: &Groups<'_>,
-    directory: &Directory,
+    parties: &Parties,
     listeners: &Listeners,
     stamp: Stamp<'_>,
     ident: Ident,
 ) -> Result<Option<Sort>, AllocError>
     requires { (pgn : ℕ) × ((listener_between listeners.now ident.sa ident.ps).progress ≡ Complete pgn) }
-    ensures { IfOk result (λ counted. (frames : List AFrame) → Knows groups.now directory.now frames
-        → IsCompleted groups.now frames (front_of stamp.entry) (listener_between listeners.now ident.sa ident.ps) ident counted text.old text.new) }
+    ensures { IfOk result (λ counted. (log : List Timed) → ShowsParties groups.now parties.now log ident
+        → IsCompleted groups.now log (front_of stamp.entry) (listener_between listeners.now ident.sa ident.ps) ident counted text.old text.new) }
 {
     let Some(listener) = listeners.listener(ident.sa, ident.ps) else {
         return Ok(None);
@@ -60,7 +60,7 @@ fn write_completed(
                 ident,
                 framed: None,
             };
-            let sort = write_message(text, groups, directory, stamp, message)?;
+            let sort = write_message(text, groups, parties, stamp, message)?;
             Ok(Some(sort))
         }
         None => Ok(None),
@@ -72,7 +72,7 @@ fn write_packet(
     text: &mut TextBuffer,
     listeners: &mut Listeners,
     groups: &Groups<'_>,
-    directory: &Directory,
+    parties: &Parties,
     stamp: Stamp<'_>,
     frame: &Frame,
     packet: &Packet,
@@ -80,14 +80,14 @@ fn write_packet(
     requires { InRange packet.now }
     ensures heard { OnOk result ((seen : List Seen) → HaveHeardSince groups.now listeners.old seen
         → HaveHeardOneMore groups.now listeners.new seen (record { frame = frame.now; packet = Some packet.now })) }
-    ensures carried { IfOk result (λ ended. (seen : List Seen) → Knows groups.now directory.now (frames_with seen frame.now)
+    ensures carried { IfOk result (λ ended. (seen : List Seen) (log : List Timed) → ShowsParties groups.now parties.now log frame.now.ident
         → HaveHeardSince groups.now listeners.old seen → AreAllInRange seen
-        → (piece : List ℕ) × IsPacketReport groups.now seen (front_of stamp.entry) frame.now (Some packet.now) (option_to_list ended) piece
+        → (piece : List ℕ) × IsPacketReport groups.now seen log (front_of stamp.entry) frame.now (Some packet.now) (option_to_list ended) piece
         × (text.new ≡ text.old ++ piece)) }
 {
     listener_completes_what_is_carried();
     if listen(listeners, frame.ident, packet)? {
-        write_completed(text, groups, directory, listeners, stamp, frame.ident)
+        write_completed(text, groups, parties, listeners, stamp, frame.ident)
     } else {
         Ok(None)
     }
@@ -98,22 +98,22 @@ pub(crate) fn write_frame(
     text: &mut TextBuffer,
     listeners: &mut Listeners,
     groups: &Groups<'_>,
-    directory: &Directory,
+    parties: &Parties,
     stamp: Stamp<'_>,
     frame: &Frame,
 ) -> Result<(Sort, Option<Sort>), AllocError>
-    ensures { IfOk result (λ sorts. (seen : List Seen) → Knows groups.now directory.now (frames_with seen frame.now)
+    ensures { IfOk result (λ sorts. (seen : List Seen) (log : List Timed) → ShowsParties groups.now parties.now log frame.now.ident
         → HaveHeardSince groups.now listeners.old seen → AreAllInRange seen
-        → IsFrameWritten groups.now listeners.new seen (front_of stamp.entry) frame.now sorts.0 sorts.1 text.old text.new) }
+        → IsFrameWritten groups.now listeners.new seen log (front_of stamp.entry) frame.now sorts.0 sorts.1 text.old text.new) }
 {
-    write_notice(text, groups.plan(), directory, stamp, frame)?;
-    let sort = write_message(text, groups, directory, stamp, in_frame(frame))?;
+    write_notice(text, groups.plan(), parties, stamp, frame)?;
+    let sort = write_message(text, groups, parties, stamp, in_frame(frame))?;
     if sort.is_grouped() {
         return Ok((sort, None));
     }
     let Some(packet) = transport_packet(frame) else {
         return Ok((sort, None));
     };
-    let ended = write_packet(text, listeners, groups, directory, stamp, frame, &packet)?;
+    let ended = write_packet(text, listeners, groups, parties, stamp, frame, &packet)?;
     Ok((sort, ended))
 }

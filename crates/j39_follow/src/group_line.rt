@@ -1,16 +1,17 @@
 //! The report of a message: who sent which group to whom, and what it reads.
-ghost use Rattle.std.specs.Prelude.{◌≡◌, ◌++◌, ℕ, List, if◌then◌else◌, IfOk, OnOk};
-ghost use Rattle.j39_id.specs.declared.frame.Frame.{Frame as AFrame};
+ghost use Rattle.std.specs.Prelude.{◌≡◌, ◌++◌, ◌&&◌, ℕ, List, if◌then◌else◌, is_some, IfOk, OnOk};
 ghost use Rattle.j39_findings.specs.declared.plan.Plan.{Plan as APlan};
+ghost use Rattle.j39_id.specs.Pgn.{is_pdu2};
 ghost use Rattle.j39_log.specs.inside.ReportHeads.{report_head};
+ghost use Rattle.j39_follow.specs.Contests.{IsTaken, Timed};
 ghost use Rattle.j39_follow.specs.FollowReports.{IsMessageReport, IsSendingOf, IsWay, aim_at, flow_word, message_line, is_to_all as goes_to_all, priority_text, sent_text};
-ghost use Rattle.j39_follow.specs.Who.{IsWho, unit_of};
+ghost use Rattle.j39_follow.specs.Who.{unit_of};
 ghost use Rattle.j39_follow.specs.declared.sending.Aim.TheVariants as aims;
 ghost use Rattle.j39_follow.specs.declared.who.Who.{Who as AWho};
-ghost use Rattle.j39_follow.specs.inside.Recounting.{Knows};
+ghost use Rattle.j39_follow.specs.inside.Contesting.{ShowsParties};
 ghost use Rattle.j39_follow.specs.inside.Reporting.{front_of, arrived_message};
 
-use crate::directory::Directory;
+use crate::known_parties::Parties;
 use crate::message::{Arrival, Sort};
 use crate::party_text::{is_to_all, write_parties};
 use crate::sending::{Aim, Sending, flow_of, group_of};
@@ -22,28 +23,35 @@ use j39_text::TextBuffer;
 use std::alloc::AllocError;
 
 // Whom a message went to.
-fn aim_of(directory: &Directory, message: Arrival<'_>) -> Aim
-    ensures { (plan : APlan) (frames : List AFrame) → Knows plan directory.now frames
-        → (receiver : AWho) × IsWho plan frames message.entry.ident.ps receiver
+fn aim_of(parties: &Parties, message: Arrival<'_>) -> Aim
+    ensures { (plan : APlan) (log : List Timed) → ShowsParties plan parties.now log message.entry.ident
+        → (receiver : AWho) × IsTaken plan log message.entry.ident.ps receiver
         × (result ≡ (if goes_to_all message.entry.ident then aims.All else aim_at (unit_of receiver))) }
 {
     if is_to_all(message.ident) {
         return Aim::All;
     }
-    match directory.party(message.ident.ps).unit() {
+    match parties.receiver(message.ident).unit() {
         Some(unit) => Aim::One(unit),
         None => Aim::Neither,
     }
 }
 
+// Whether a message came in one frame that names no destination.
+fn is_unaddressed(message: Arrival<'_>) -> bool
+    ensures { result ≡ (is_some message.entry.framed && is_pdu2 message.entry.pgn) }
+{
+    message.framed.is_some() && pf_of(message.pgn) >= PDU2_FIRST
+}
+
 // Who sent a message, to whom.
-fn sending_of(directory: &Directory, message: Arrival<'_>) -> Sending
-    ensures { (plan : APlan) (frames : List AFrame) → Knows plan directory.now frames → IsSendingOf plan frames (arrived_message message.entry) result }
+fn sending_of(parties: &Parties, message: Arrival<'_>) -> Sending
+    ensures { (plan : APlan) (log : List Timed) → ShowsParties plan parties.now log message.entry.ident → IsSendingOf plan log (arrived_message message.entry) result }
 {
     Sending {
-        sender: directory.party(message.ident.sa).unit(),
-        aim: aim_of(directory, message),
-        unaddressed: message.framed.is_some() && pf_of(message.pgn) >= PDU2_FIRST,
+        sender: parties.source(message.ident).unit(),
+        aim: aim_of(parties, message),
+        unaddressed: is_unaddressed(message),
     }
 }
 
@@ -93,7 +101,7 @@ fn write_sent(
 fn write_group_line(
     text: &mut TextBuffer,
     plan: &Plan,
-    directory: &Directory,
+    parties: &Parties,
     stamp: Stamp<'_>,
     group: &GroupPlan,
     head: &[u8],
@@ -101,13 +109,13 @@ fn write_group_line(
     message: Arrival<'_>,
 ) -> Result<(), AllocError>
     requires { head.now ≡ report_head group.now }
-    ensures { OnOk result ((frames : List AFrame) → Knows plan.now directory.now frames
-        → (way : List ℕ) × IsWay plan.now frames message.entry.ident way
+    ensures { OnOk result ((log : List Timed) → ShowsParties plan.now parties.now log message.entry.ident
+        → (way : List ℕ) × IsWay plan.now log message.entry.ident way
         × (text.new ≡ text.old ++ message_line group.now (front_of stamp.entry) way flow (arrived_message message.entry))) }
 {
     write_stamp(text, stamp)?;
     text.bytes(head)?;
-    write_parties(text, plan, directory, message.ident)?;
+    write_parties(text, plan, parties, message.ident)?;
     write_sent(text, group, flow, message)
 }
 
@@ -115,15 +123,15 @@ fn write_group_line(
 pub(crate) fn write_message(
     text: &mut TextBuffer,
     groups: &Groups<'_>,
-    directory: &Directory,
+    parties: &Parties,
     stamp: Stamp<'_>,
     message: Arrival<'_>,
 ) -> Result<Sort, AllocError>
-    ensures { IfOk result (λ sort. (frames : List AFrame) → Knows groups.now directory.now frames
-        → (piece : List ℕ) × IsMessageReport groups.now frames (front_of stamp.entry) (arrived_message message.entry) sort piece
+    ensures { IfOk result (λ sort. (log : List Timed) → ShowsParties groups.now parties.now log message.entry.ident
+        → (piece : List ℕ) × IsMessageReport groups.now log (front_of stamp.entry) (arrived_message message.entry) sort piece
         × (text.new ≡ text.old ++ piece)) }
 {
-    let sent = sending_of(directory, message);
+    let sent = sending_of(parties, message);
     let Some(group) = group_of(groups, message.pgn, message.bytes.len(), sent) else {
         return Ok(Sort::Other(message.pgn));
     };
@@ -131,7 +139,7 @@ pub(crate) fn write_message(
     write_group_line(
         text,
         groups.plan(),
-        directory,
+        parties,
         stamp,
         groups.group(group),
         groups.head(group),

@@ -1,4 +1,5 @@
 //! Laws of what frames tell of addresses, and of the text of a log.
+ghost use Rattle.j39_follow.specs.Alike.{FollowAndReadSeeAlike};
 ghost use Rattle.j39_follow.specs.FollowText.{LogHasOneFollowText};
 ghost use Rattle.j39_follow.specs.Holders.{HasOneHolder, HoldsOneAddress};
 
@@ -11,4 +12,10 @@ pub fn holders_are_one_to_one()
 /// For a plan and a log the definition allows one text of `follow`, with one verdict.
 pub fn a_followed_log_has_one_text()
     ensures { LogHasOneFollowText }
+{}
+
+/// Of a log in which no line ends in a direction and none is of another interface `follow` and `read` see the same frames in one order,
+/// and count as many lines as skipped and as bad.
+pub fn follow_and_read_see_alike()
+    ensures { FollowAndReadSeeAlike }
 {}

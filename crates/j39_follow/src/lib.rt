@@ -1,28 +1,34 @@
 //! The follow command: who sent what, by the claims of a log itself.
 #![tactic(auto)]
 
+mod contest;
+mod contests;
 mod directory;
 mod endings;
 mod frame_report;
 mod group_line;
 mod holders;
+mod known_parties;
 mod laws;
 mod log_line;
 mod log_reader;
 mod log_text;
 mod message;
+mod moment;
 mod naming;
+mod needs;
 mod notice;
 mod parting;
 mod party_text;
 mod reading;
 mod sending;
 mod stamp;
+mod taking;
 mod tally;
 mod who;
 mod words;
 
-pub use laws::{a_followed_log_has_one_text, holders_are_one_to_one};
+pub use laws::{a_followed_log_has_one_text, follow_and_read_see_alike, holders_are_one_to_one};
 pub use log_text::follow_text;
 pub use sending::{Aim, Sending, flow_of, group_of};
 pub use who::Who;

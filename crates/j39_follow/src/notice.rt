@@ -1,14 +1,14 @@
 //! What is written first at a frame: what it tells of addresses, or what it asks for.
 ghost use Rattle.std.specs.Prelude.{◌≡◌, ◌++◌, ◌∷◌, [], ℕ, List, codes, length, OnOk};
-ghost use Rattle.j39_id.specs.declared.frame.Frame.{Frame as AFrame};
 ghost use Rattle.j39_text.specs.FrameText.{requested_group, requests_group};
 ghost use Rattle.j39_text.specs.Texts.{field};
+ghost use Rattle.j39_follow.specs.Contests.{Timed};
 ghost use Rattle.j39_follow.specs.FollowReports.{IsNotice, IsWay, cannot_text, claim_text};
-ghost use Rattle.j39_follow.specs.inside.Recounting.{Knows};
+ghost use Rattle.j39_follow.specs.inside.Contesting.{ShowsParties};
 ghost use Rattle.j39_follow.specs.inside.Reporting.{front_of};
 
-use crate::directory::Directory;
 use crate::holders::{cannot_claim, carried_name, claims_address};
+use crate::known_parties::Parties;
 use crate::party_text::{write_named, write_way};
 use crate::stamp::{Stamp, write_stamp};
 use j39_findings::Plan;
@@ -68,18 +68,18 @@ fn write_cannot(
 fn write_request(
     text: &mut TextBuffer,
     plan: &Plan,
-    directory: &Directory,
+    parties: &Parties,
     stamp: Stamp<'_>,
     frame: &Frame,
 ) -> Result<(), AllocError>
     requires { length frame.now.payload.items ≡ 3 }
-    ensures { OnOk result ((frames : List AFrame) → Knows plan.now directory.now frames
-        → (way : List ℕ) × IsWay plan.now frames frame.now.ident way
+    ensures { OnOk result ((log : List Timed) → ShowsParties plan.now parties.now log frame.now.ident
+        → (way : List ℕ) × IsWay plan.now log frame.now.ident way
         × (text.new ≡ text.old ++ (front_of stamp.entry ++ (field (codes "request ") (requested_group frame.now) ++ (way ++ 10 ∷ []))))) }
 {
     write_stamp(text, stamp)?;
     text.field("request ", requested_group(frame))?;
-    write_way(text, plan, directory, frame.ident)?;
+    write_way(text, plan, parties, frame.ident)?;
     text.end_line()
 }
 
@@ -87,19 +87,19 @@ fn write_request(
 pub(crate) fn write_notice(
     text: &mut TextBuffer,
     plan: &Plan,
-    directory: &Directory,
+    parties: &Parties,
     stamp: Stamp<'_>,
     frame: &Frame,
 ) -> Result<(), AllocError>
-    ensures { OnOk result ((frames : List AFrame) → Knows plan.now directory.now frames
-        → (piece : List ℕ) × IsNotice plan.now frames (front_of stamp.entry) frame.now piece × (text.new ≡ text.old ++ piece)) }
+    ensures { OnOk result ((log : List Timed) → ShowsParties plan.now parties.now log frame.now.ident
+        → (piece : List ℕ) × IsNotice plan.now log (front_of stamp.entry) frame.now piece × (text.new ≡ text.old ++ piece)) }
 {
     if claims_address(frame) {
         write_claim(text, plan, stamp, carried_name(frame), frame.ident.sa)
     } else if cannot_claim(frame) {
         write_cannot(text, plan, stamp, carried_name(frame))
     } else if requests_group(frame) {
-        write_request(text, plan, directory, stamp, frame)
+        write_request(text, plan, parties, stamp, frame)
     } else {
         Ok(())
     }

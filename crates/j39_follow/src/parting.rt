@@ -13,7 +13,7 @@ fn stranger(who: Who) -> Option<u64>
     ensures { result ≡ stranger_of who }
 {
     match who {
-        Who::Stranger(name) => Some(name),
+        Who::Stranger(name) | Who::LikelyStranger(name) => Some(name),
         _ => None,
     }
 }

@@ -1,11 +1,12 @@
 //! The texts of who stands behind an address.
 ghost use Rattle.std.specs.Prelude.{◌≡◌, ◌++◌, ℕ, List, OnOk, codes, if◌then◌else◌};
-ghost use Rattle.j39_id.specs.declared.frame.Frame.{Frame as AFrame};
+ghost use Rattle.j39_follow.specs.Contests.{Timed};
 ghost use Rattle.j39_follow.specs.FollowReports.{IsWay, is_to_all as goes_to_all, named_text};
 ghost use Rattle.j39_follow.specs.Who.{name_text, party_text, who_text};
-ghost use Rattle.j39_follow.specs.inside.Recounting.{HasNames, Knows, party_at};
+ghost use Rattle.j39_follow.specs.inside.Contesting.{ShowsParties};
+ghost use Rattle.j39_follow.specs.inside.Recounting.{HasNames, party_at};
 
-use crate::directory::Directory;
+use crate::known_parties::Parties;
 use crate::who::{Who, unit_named};
 use j39_findings::Plan;
 use j39_id::Ident;
@@ -43,6 +44,10 @@ fn write_party(text: &mut TextBuffer, plan: &Plan, who: Who) -> Result<(), Alloc
             text.word(unit_label(plan, unit))?;
             text.word("?")
         }
+        Who::LikelyStranger(name) => {
+            write_name(text, name)?;
+            text.word("?")
+        }
         Who::Unknown => text.word("?"),
     }
 }
@@ -72,32 +77,32 @@ pub(crate) fn is_to_all(ident: Ident) -> bool
 fn write_party_at(
     text: &mut TextBuffer,
     plan: &Plan,
-    directory: &Directory,
+    parties: &Parties,
     address: u8,
 ) -> Result<(), AllocError>
-    ensures { OnOk result (HasNames plan.now directory.now.parties directory.now.names
-        → text.new ≡ text.old ++ who_text plan.now (party_at directory.now.parties address) address) }
+    ensures { OnOk result (HasNames plan.now parties.now.all parties.now.names
+        → text.new ≡ text.old ++ who_text plan.now (party_at parties.now.all address) address) }
 {
-    match directory.name(address) {
+    match parties.name(address) {
         Some(name) => text.bytes(name),
-        None => write_who(text, plan, directory.party_at(address), address),
+        None => write_who(text, plan, parties.party(address), address),
     }
 }
 
 fn write_receiver(
     text: &mut TextBuffer,
     plan: &Plan,
-    directory: &Directory,
+    parties: &Parties,
     ident: Ident,
 ) -> Result<(), AllocError>
-    ensures { OnOk result (HasNames plan.now directory.now.parties directory.now.names → text.new ≡ text.old
-        ++ (codes " to " ++ (if goes_to_all ident then codes "all" else who_text plan.now (party_at directory.now.parties ident.ps) ident.ps))) }
+    ensures { OnOk result (HasNames plan.now parties.now.all parties.now.names → text.new ≡ text.old
+        ++ (codes " to " ++ (if goes_to_all ident then codes "all" else who_text plan.now (party_at parties.now.all ident.ps) ident.ps))) }
 {
     if is_to_all(ident) {
         text.word(" to all")
     } else {
         text.word(" to ")?;
-        write_party_at(text, plan, directory, ident.ps)
+        write_party_at(text, plan, parties, ident.ps)
     }
 }
 
@@ -105,26 +110,26 @@ fn write_receiver(
 pub(crate) fn write_parties(
     text: &mut TextBuffer,
     plan: &Plan,
-    directory: &Directory,
+    parties: &Parties,
     ident: Ident,
 ) -> Result<(), AllocError>
-    ensures { OnOk result ((frames : List AFrame) → Knows plan.now directory.now frames
-        → (parties : List ℕ) × IsWay plan.now frames ident (codes " from " ++ parties) × (text.new ≡ text.old ++ parties)) }
+    ensures { OnOk result ((log : List Timed) → ShowsParties plan.now parties.now log ident
+        → (way : List ℕ) × IsWay plan.now log ident (codes " from " ++ way) × (text.new ≡ text.old ++ way)) }
 {
-    write_party_at(text, plan, directory, ident.sa)?;
-    write_receiver(text, plan, directory, ident)
+    write_party_at(text, plan, parties, ident.sa)?;
+    write_receiver(text, plan, parties, ident)
 }
 
 /// Writes from whom to whom a frame goes.
 pub(crate) fn write_way(
     text: &mut TextBuffer,
     plan: &Plan,
-    directory: &Directory,
+    parties: &Parties,
     ident: Ident,
 ) -> Result<(), AllocError>
-    ensures { OnOk result ((frames : List AFrame) → Knows plan.now directory.now frames
-        → (way : List ℕ) × IsWay plan.now frames ident way × (text.new ≡ text.old ++ way)) }
+    ensures { OnOk result ((log : List Timed) → ShowsParties plan.now parties.now log ident
+        → (way : List ℕ) × IsWay plan.now log ident way × (text.new ≡ text.old ++ way)) }
 {
     text.word(" from ")?;
-    write_parties(text, plan, directory, ident)
+    write_parties(text, plan, parties, ident)
 }

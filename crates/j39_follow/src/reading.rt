@@ -1,25 +1,34 @@
 //! Following a log line after line.
-ghost use Rattle.std.specs.Prelude.{◌≡◌, ◌+◌, ◌-◌, ◌^◌, ◌<◌, ◌≤◌, ◌↔◌, ◌++◌, [], ℕ, List, length, IfOk, OnOk, IsTrue};
+ghost use Rattle.std.specs.Prelude.{◌≡◌, ◌+◌, ◌-◌, ◌||◌, true, ◌^◌, ◌<◌, ◌≤◌, ◌++◌, [], ℕ, List, None, length, IfOk, OnOk};
 ghost use Rattle.std.specs.Option.{option_copied};
 ghost use Rattle.j39_id.specs.Lines.{tells};
 ghost use Rattle.j39_findings.specs.declared.plan.Plan.{Plan as APlan};
 ghost use Rattle.j39_log.specs.inside.Listening.{AreAllInRange};
-ghost use Rattle.j39_follow.specs.FollowReports.{stamp};
-ghost use Rattle.j39_follow.specs.FollowText.{AreUnitLines, FollowedPast, FollowsFrame, FollowsLines, FollowsShort, follow_counts_line, frames_seen, nothing_followed, line_passed_over};
-ghost use Rattle.j39_follow.specs.LogLines.{IsElsewhere, interface_behind};
-ghost use Rattle.j39_follow.specs.inside.FrameWriting.{frames_with};
+ghost use Rattle.j39_log.specs.LogPairs.{Seen};
+ghost use Rattle.j39_text.specs.FrameText.{cannot_claim, claims_address};
+ghost use Rattle.j39_follow.specs.Contests.{Timed, frames_of};
+ghost use Rattle.j39_follow.specs.FollowText.{AreUnitLines, FollowedPast, FollowsFrame, FollowsLines, FollowsShort, follow_counts_line, frames_seen, lines_with, nothing_followed, line_passed_over};
+ghost use Rattle.j39_follow.specs.LogLines.{interface_behind, moment_of};
+ghost use Rattle.j39_follow.specs.inside.Contesting.{AreContests, IsDefender, IsTimed};
+ghost use Rattle.j39_follow.specs.inside.FrameWriting.{IsFrameWritten};
 ghost use Rattle.j39_follow.specs.inside.Hearing.{HaveHeardSince};
-ghost use Rattle.j39_follow.specs.inside.Recalling.{CountsWithin, IsFollowed, IsOneMore, IsReported, IsSameCounts, RecallsPast, Remembers, behind_reports, interface_of};
+ghost use Rattle.j39_follow.specs.inside.Recalling.{CountsWithin, IsFollowed, IsOneMore, IsReported, IsSameButWritten, IsSameCounts, RecallsPast, Remembers, behind_reports, interface_of};
 ghost use Rattle.j39_follow.specs.inside.Recounting.{Knows};
+ghost use Rattle.j39_follow.specs.inside.Reporting.{front_of};
 ghost use Rattle.j39_follow.specs.inside.Tallies.{IsTally};
 
+use crate::contests::{Contests, begun};
 use crate::directory::Directory;
 use crate::endings::write_endings;
 use crate::frame_report::write_frame;
 use crate::holders::{cannot_claim, claims_address};
-use crate::log_line::{interface, read_part, time_text};
+use crate::log_line::{interface, is_elsewhere, read_part, time_text};
+use crate::message::Sort;
+use crate::moment::moment;
+use crate::needs::write_needs;
 use crate::parting::part;
 use crate::stamp::Stamp;
+use crate::taking::taken;
 use crate::tally::Tally;
 use j39_findings::Plan;
 use j39_id::{Cut, Frame, LineError, read_frame};
@@ -33,6 +42,7 @@ pub(crate) struct Reading {
     alloc: Global,
     pub text: TextBuffer,
     directory: Directory,
+    contests: Contests,
     listeners: Listeners,
     tally: Tally,
     interface: Option<Vec<u8>>,
@@ -69,17 +79,28 @@ fn keep_interface(
     Ok(())
 }
 
-// Whether a line names another interface than the log's.
-fn is_elsewhere(log: &Option<Vec<u8>>, named: Option<&[u8]>) -> bool
-    ensures { IsTrue result ↔ IsElsewhere (interface_of log.now) (option_copied named.entry) }
+// The interface that is kept.
+fn kept_interface(kept: &Option<Vec<u8>>) -> Option<&[u8]>
+    ensures { option_copied result ≡ interface_of kept.now }
 {
-    let Some(log) = log else {
-        return false;
-    };
-    let Some(name) = named else {
-        return false;
-    };
-    log.as_slice() != name
+    match kept {
+        Some(name) => Some(name.as_slice()),
+        None => None,
+    }
+}
+
+// Whether none of the addresses of a frame is contested, these being the smaller NAMEs.
+fn is_calm(source: Option<u64>, receiver: Option<u64>) -> bool
+    ensures source { result ≡ true → source ≡ None }
+    ensures receiver { result ≡ true → receiver ≡ None }
+{
+    match source {
+        Some(_name) => false,
+        None => match receiver {
+            Some(_name) => false,
+            None => true,
+        },
+    }
 }
 
 impl Reading {
@@ -92,6 +113,7 @@ impl Reading {
             alloc,
             text: TextBuffer::new(alloc),
             directory: Directory::new(alloc, plan),
+            contests: Contests::new(),
             listeners: Listeners::new(alloc),
             tally: Tally::new(),
             interface: None,
@@ -103,45 +125,143 @@ impl Reading {
         }
     }
 
+    // Writes a frame of which an address is contested.
+    #[inline(never)]
+    fn write_taken(
+        &mut self,
+        groups: &Groups<'_>,
+        stamp: Stamp<'_>,
+        frame: &Frame,
+        time: Option<u64>,
+    ) -> Result<(Sort, Option<Sort>), AllocError>
+        ensures stays { IsSameButWritten self.old self.new }
+        ensures written { IfOk result (λ sorts. (seen : List Seen) (log : List Timed) → Knows groups.now self.old.directory (frames_of log)
+            → AreContests groups.now self.old.contests log → IsTimed log time
+            → HaveHeardSince groups.now self.old.listeners seen → AreAllInRange seen
+            → IsFrameWritten groups.now self.new.listeners seen log (front_of stamp.entry) frame.now sorts.0 sorts.1 self.old.text self.new.text) }
+    {
+        let parties = taken(
+            groups.plan(),
+            self.directory.parties(),
+            &self.contests,
+            frame.ident,
+            time,
+        );
+        write_frame(
+            &mut self.text,
+            &mut self.listeners,
+            groups,
+            &parties,
+            stamp,
+            frame,
+        )
+    }
+
+    // Writes a frame by who stands behind its addresses, none of which is contested.
+    fn write_plain(
+        &mut self,
+        groups: &Groups<'_>,
+        stamp: Stamp<'_>,
+        frame: &Frame,
+    ) -> Result<(Sort, Option<Sort>), AllocError>
+        ensures stays { IsSameButWritten self.old self.new }
+        ensures written { IfOk result (λ sorts. (seen : List Seen) (log : List Timed) → Knows groups.now self.old.directory (frames_of log)
+            → IsDefender groups.now log frame.now.ident.sa None → IsDefender groups.now log frame.now.ident.ps None
+            → HaveHeardSince groups.now self.old.listeners seen → AreAllInRange seen
+            → IsFrameWritten groups.now self.new.listeners seen log (front_of stamp.entry) frame.now sorts.0 sorts.1 self.old.text self.new.text) }
+    {
+        write_frame(
+            &mut self.text,
+            &mut self.listeners,
+            groups,
+            self.directory.parties(),
+            stamp,
+            frame,
+        )
+    }
+
+    // Writes a frame where there are contests.
+    #[inline(never)]
+    fn write_contested(
+        &mut self,
+        groups: &Groups<'_>,
+        stamp: Stamp<'_>,
+        frame: &Frame,
+    ) -> Result<(Sort, Option<Sort>), AllocError>
+        ensures stays { IsSameButWritten self.old self.new }
+        ensures written { IfOk result (λ sorts. (seen : List Seen) (log : List Timed) → Knows groups.now self.old.directory (frames_of log)
+            → AreContests groups.now self.old.contests log → IsTimed log (moment_of stamp.entry.time.now)
+            → HaveHeardSince groups.now self.old.listeners seen → AreAllInRange seen
+            → IsFrameWritten groups.now self.new.listeners seen log (front_of stamp.entry) frame.now sorts.0 sorts.1 self.old.text self.new.text) }
+    {
+        let time = moment(stamp.time);
+        let source = self.contests.defender(frame.ident.sa, time);
+        let receiver = self.contests.defender(frame.ident.ps, time);
+        if is_calm(source, receiver) {
+            self.write_plain(groups, stamp, frame)
+        } else {
+            self.write_taken(groups, stamp, frame, time)
+        }
+    }
+
+    // Writes a frame whose claim was noted.
+    fn write(
+        &mut self,
+        groups: &Groups<'_>,
+        stamp: Stamp<'_>,
+        frame: &Frame,
+    ) -> Result<(Sort, Option<Sort>), AllocError>
+        ensures stays { IsSameButWritten self.old self.new }
+        ensures written { IfOk result (λ sorts. (seen : List Seen) (log : List Timed) → Knows groups.now self.old.directory (frames_of log)
+            → AreContests groups.now self.old.contests log → IsTimed log (moment_of stamp.entry.time.now)
+            → HaveHeardSince groups.now self.old.listeners seen → AreAllInRange seen
+            → IsFrameWritten groups.now self.new.listeners seen log (front_of stamp.entry) frame.now sorts.0 sorts.1 self.old.text self.new.text) }
+    {
+        if self.contests.any() {
+            self.write_contested(groups, stamp, frame)
+        } else {
+            self.write_plain(groups, stamp, frame)
+        }
+    }
+
     // Writes and counts a frame whose claim was noted.
     fn report(&mut self, groups: &Groups<'_>, time: &[u8], frame: &Frame) -> Result<(), AllocError>
         ensures directory { self.new.directory ≡ self.old.directory }
+        ensures contests { self.new.contests ≡ self.old.contests }
         ensures counts { IsSameCounts self.old self.new }
-        ensures reported { OnOk result ((past : FollowedPast) → Knows groups.now self.old.directory (frames_with past.seen frame.now)
+        ensures reported { OnOk result ((past : FollowedPast) → Knows groups.now self.old.directory (frames_of (lines_with past frame.now time.now))
+            → AreContests groups.now self.old.contests (lines_with past frame.now time.now)
             → HaveHeardSince groups.now self.old.listeners past.seen → AreAllInRange past.seen → IsTally groups.now self.old.tally past.sent
-            → length past.sent + 2 < 2 ^ 64 → IsReported groups.now self.old self.new past (stamp self.old.number time.now) frame.now) }
+            → length past.sent + 2 < 2 ^ 64 → IsReported groups.now self.old self.new past time.now frame.now) }
     {
         let stamp = Stamp {
             number: self.number,
             time,
         };
-        let (sort, ended) = write_frame(
-            &mut self.text,
-            &mut self.listeners,
-            groups,
-            &self.directory,
-            stamp,
-            frame,
-        )?;
+        let (sort, ended) = self.write(groups, stamp, frame)?;
         self.tally.count_frame(groups, sort, ended);
         Ok(())
     }
 
-    // Follows a frame that tells of an address: the pairs of which one changes hands begin anew.
+    // Follows a frame that tells of an address: it may begin and end contests, and the pairs of which an address changes hands begin anew.
     fn follow_claim(
         &mut self,
         groups: &Groups<'_>,
         time: &[u8],
         frame: &Frame,
     ) -> Result<(), AllocError>
+        requires { (claims_address frame.now || cannot_claim frame.now) ≡ true }
         ensures counts { IsSameCounts self.old self.new }
         ensures followed { OnOk result ((past : FollowedPast) → Remembers groups.now self.old past → length past.seen ≤ 2 ^ 62 + 1
-            → IsFollowed groups.now self.old self.new past (stamp self.old.number time.now) frame.now) }
+            → IsFollowed groups.now self.old self.new past time.now frame.now) }
     {
-        let before = self.directory.parties();
+        let before = self.directory.all_parties();
+        let now = moment(time);
+        let contest = begun(groups.plan(), &self.directory, frame, now);
+        self.contests.hear(frame, contest);
         self.directory.hear(groups.plan(), frame);
         self.report(groups, time, frame)?;
-        let after = self.directory.parties();
+        let after = self.directory.all_parties();
         part(&mut self.listeners, &before, &after);
         Ok(())
     }
@@ -150,7 +270,7 @@ impl Reading {
     fn follow(&mut self, groups: &Groups<'_>, time: &[u8], frame: &Frame) -> Result<(), AllocError>
         ensures counts { IsSameCounts self.old self.new }
         ensures followed { OnOk result ((past : FollowedPast) → Remembers groups.now self.old past → length past.seen ≤ 2 ^ 62 + 1
-            → IsFollowed groups.now self.old self.new past (stamp self.old.number time.now) frame.now) }
+            → IsFollowed groups.now self.old self.new past time.now frame.now) }
     {
         if claims_address(frame) {
             return self.follow_claim(groups, time, frame);
@@ -170,7 +290,7 @@ impl Reading {
     ) -> Result<(), AllocError>
         requires { CountsWithin self.old (2 ^ 62 + 1) }
         ensures frame { OnOk result ((past : FollowedPast) → RecallsPast groups.now self.old past → (next : FollowedPast) × (piece : List ℕ)
-            × FollowsFrame groups.now past (stamp past.number time.now) (option_copied named.entry) frame.now next piece
+            × FollowsFrame groups.now past time.now (option_copied named.entry) frame.now next piece
             × RecallsPast groups.now self.new next × (self.new.text ≡ self.old.text ++ piece)) }
         ensures count { OnOk result (IsOneMore self.old self.new) }
     {
@@ -204,7 +324,7 @@ impl Reading {
         let part = read_part(line);
         let read = read_frame(part);
         let named = interface(part, &read);
-        if is_elsewhere(&self.interface, named) {
+        if is_elsewhere(kept_interface(&self.interface), part, &read, named) {
             self.elsewhere += 1;
             return Ok(());
         }
@@ -251,12 +371,13 @@ impl Reading {
         self.text.end_line()
     }
 
-    /// Writes what was sent, where each unit stands, and how many lines there were of each sort.
+    /// Writes what was sent, where each unit stands, what met each need, and how many lines there were of each sort.
     pub fn finish(&mut self, plan: &Plan) -> Result<(), AllocError>
         ensures { OnOk result ((past : FollowedPast) → RecallsPast plan.now self.old past → (units : List ℕ)
             × AreUnitLines (frames_seen past.seen) plan.now.units.items units × (self.new.text ≡ self.old.text ++ behind_reports plan.now past units)) }
     {
         write_endings(&mut self.text, plan, &self.tally, self.directory.holders())?;
+        write_needs(&mut self.text, plan, &self.tally)?;
         self.write_counts()
     }
 }

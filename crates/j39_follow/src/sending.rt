@@ -1,7 +1,10 @@
 //! A message as it was sent, and the flow that it fits.
-ghost use Rattle.std.specs.Prelude.{◌≡◌, ◌<◌, ◌↔◌, IsTrue, length};
+ghost use Rattle.std.specs.Prelude.{◌≡◌, ◌<◌, ◌↔◌, ℕ, Some, false, get_or, IsTrue, length};
+ghost use Rattle.std.specs.List.{position};
+ghost use Rattle.j39_findings.specs.declared.plan.flow_plan.FlowPlan.{FlowPlan as APlannedFlow};
 ghost use Rattle.j39_log.specs.inside.Listening.{HasAllOf};
-ghost use Rattle.j39_follow.specs.Fits.{IsSentGroup, MayBeGroup, fits, fitting_flow as first_flow, may_have_bytes, is_unit, reaches as is_reached};
+ghost use Rattle.j39_follow.specs.inside.Reporting.{is_all};
+ghost use Rattle.j39_follow.specs.Fits.{IsSentGroup, MayBeGroup, fits, fits_all, fitting_flow, is_for_all as goes_to_all, may_have_bytes, is_unit, reaches as is_reached};
 
 use j39_findings::{FlowPlan, GroupPlan, To};
 use j39_log::{Groups, Span};
@@ -54,9 +57,26 @@ fn is_fit(group: usize, sent: Sending, flow: &FlowPlan) -> bool
         && reaches(flow.to, sent.aim, sent.unaddressed)
 }
 
-/// The first flow of a group that fits what was sent, by its place.
-pub fn flow_of(groups: &Groups<'_>, group: usize, sent: Sending) -> Option<usize>
-    ensures { result ≡ first_flow groups.now group sent }
+// Whether a flow goes to all.
+fn is_for_all(flow: &FlowPlan) -> bool
+    ensures { result ≡ goes_to_all flow.now.to }
+{
+    match flow.to {
+        To::All => true,
+        To::One(_) => false,
+    }
+}
+
+// Whether a message went to all.
+fn is_to_all(aim: Aim) -> bool
+    ensures { result ≡ is_all aim }
+{
+    matches!(aim, Aim::All)
+}
+
+// The first flow of a group that fits what was sent, by its place.
+fn first_flow(groups: &Groups<'_>, group: usize, sent: Sending) -> Option<usize>
+    ensures { result ≡ position (fits group sent) groups.now.flows.items }
 {
     let plan = groups.plan();
     for place in groups.first_flow(group)..plan.flows.len() {
@@ -65,6 +85,48 @@ pub fn flow_of(groups: &Groups<'_>, group: usize, sent: Sending) -> Option<usize
         }
     }
     None
+}
+
+// The first flow of a group that goes to all and fits what was sent, by its place; none before this one fits.
+fn flow_to_all(groups: &Groups<'_>, group: usize, sent: Sending, first: usize) -> Option<usize>
+    requires { (k : ℕ) (flow : APlannedFlow) → k < first → fits group sent (get_or groups.now.flows.items k flow) ≡ false }
+    ensures { result ≡ position (fits_all group sent) groups.now.flows.items }
+{
+    let plan = groups.plan();
+    for place in first..plan.flows.len() {
+        let flow = &plan.flows[place];
+        if is_for_all(flow) && is_fit(group, sent, flow) {
+            return Some(place);
+        }
+    }
+    None
+}
+
+// The flow of a group that a message to all is of, of which this is the first that fits.
+fn flow_of_all(groups: &Groups<'_>, group: usize, sent: Sending, first: usize) -> usize
+    requires { position (fits group sent) groups.now.flows.items ≡ Some first }
+    ensures { fitting_flow groups.now group sent ≡ Some result }
+{
+    match flow_to_all(groups, group, sent, first) {
+        Some(flow) => flow,
+        None => first,
+    }
+}
+
+/// The flow of a group that what was sent is of, by its place: the first that fits and goes to all, else the first that fits.
+pub fn flow_of(groups: &Groups<'_>, group: usize, sent: Sending) -> Option<usize>
+    ensures { result ≡ fitting_flow groups.now group sent }
+{
+    match first_flow(groups, group, sent) {
+        Some(first) => {
+            if is_to_all(sent.aim) {
+                Some(flow_of_all(groups, group, sent, first))
+            } else {
+                Some(first)
+            }
+        }
+        None => None,
+    }
 }
 
 // Whether messages of a group may have so many bytes.

@@ -3,6 +3,7 @@ ghost use Rattle.std.specs.Prelude.{◌≡◌, ◌<◌, ◌+◌, ℕ, List, leng
 ghost use Rattle.j39_id.specs.declared.frame.Frame.{Frame as AFrame};
 ghost use Rattle.std.specs.List.{slice_get};
 ghost use Rattle.j39_findings.specs.declared.plan.unit_plan.UnitPlan.{UnitPlan as AUnitPlan};
+ghost use Rattle.j39_follow.specs.Contests.{likely_named as likely_who};
 ghost use Rattle.j39_follow.specs.Who.{IsWho, MayHold, unit_of_name as first_named};
 ghost use Rattle.j39_follow.specs.inside.Likeliest.{IsBelowBest, IsBestOf, IsNotBelow};
 ghost use Rattle.j39_follow.specs.inside.Recounting.{Recounts};
@@ -18,8 +19,10 @@ pub enum Who {
     Holder(usize),
     /// A NAME that isn't planned, and holds it.
     Stranger(u64),
-    /// The unit that prefers the address, of which nothing was told yet.
+    /// The unit that prefers the address, of which nothing was told yet, or that is likely to claim it again.
     Likely(usize),
+    /// A NAME that isn't planned, and is likely to claim the address again.
+    LikelyStranger(u64),
     /// Nobody that is known.
     Unknown,
 }
@@ -34,7 +37,7 @@ impl Who {
     {
         match self {
             Who::Holder(unit) | Who::Likely(unit) => Some(unit),
-            Who::Stranger(_) | Who::Unknown => None,
+            Who::Stranger(_) | Who::LikelyStranger(_) | Who::Unknown => None,
         }
     }
 }
@@ -125,5 +128,15 @@ pub(crate) fn who_at(plan: &Plan, holders: &Holders, address: u8) -> Who
     match likeliest(plan, holders, address) {
         Some(unit) => Who::Likely(unit),
         None => Who::Unknown,
+    }
+}
+
+/// The unit of a NAME, or the NAME, as one that is likely.
+pub(crate) fn likely_named(plan: &Plan, name: u64) -> Who
+    ensures { result ≡ likely_who plan.now name }
+{
+    match unit_named(plan, name) {
+        Some(unit) => Who::Likely(unit),
+        None => Who::LikelyStranger(name),
     }
 }

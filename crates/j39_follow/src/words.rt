@@ -1,9 +1,9 @@
 //! The words of a line.
-ghost use Rattle.std.specs.Prelude.{◌≡◌, ◌≢◌, ◌-◌, ◌<◌, ◌≤◌, ◌↔◌, ℕ, List, length, slice_index, true, false, IfNone, IfSome, IsTrue};
-ghost use Rattle.std.specs.List.{All, AllPass, AllWithin};
+ghost use Rattle.std.specs.Prelude.{◌≡◌, ◌≢◌, ◌==◌, not, ◌-◌, ◌<◌, ◌≤◌, ◌↔◌, ℕ, List, length, slice_index, take, true, false, IfNone, IfSome, IsTrue};
+ghost use Rattle.std.specs.List.{All, AllPass, AllWithin, list_all};
 ghost use Rattle.j39_id.specs.FrameLine.{Spells, is_separator as separates};
-ghost use Rattle.j39_follow.specs.LogLines.{BeginsWithTime, IsDirection, IsFirstWord, IsOfTime, IsTime};
-ghost use Rattle.j39_follow.specs.inside.Splitting.{IsEnclosed, SplitsLast, TellsDirection};
+ghost use Rattle.j39_follow.specs.LogLines.{BeginsWithTime, HasWord, IsDirection, IsFirstWord, IsMarkedLast, IsOfTime, IsTime};
+ghost use Rattle.j39_follow.specs.inside.Splitting.{IsEnclosed, IsWordAt, SplitsLast, TellsDirection};
 
 use j39_id::{Frame, is_separator};
 
@@ -134,6 +134,65 @@ pub(crate) fn before_frame<'a>(line: &'a [u8], frame: &Frame) -> &'a [u8]
 {
     let size = 9 + 2 * frame.payload.len();
     &line[..words_end(line) - size]
+}
+
+// Whether a line begins with these bytes.
+fn begins_with(line: &[u8], word: &[u8]) -> bool
+    ensures begins { result ≡ true → take (length word.now) line.now ≡ word.now }
+    ensures not { result ≡ false → take (length word.now) line.now ≢ word.now }
+{
+    let size = word.len();
+    if line.len() < size {
+        return false;
+    }
+    if &line[..size] == word {
+        return true;
+    }
+    false
+}
+
+// Whether a word stands in a line at a place, parted from what is beside it.
+fn is_word_at(line: &[u8], place: usize, word: &[u8]) -> bool
+    requires { place ≤ length line.now }
+    ensures { IsTrue result ↔ IsWordAt line.now place word.now }
+{
+    if !is_parted(&line[..place]) {
+        return false;
+    }
+    let rest = &line[place..];
+    if !begins_with(rest, word) {
+        return false;
+    }
+    is_ended(rest, word.len())
+}
+
+/// Whether a word stands in a line.
+pub(crate) fn has_word(line: &[u8], word: &[u8]) -> bool
+    ensures { IsTrue result ↔ HasWord line.now word.now }
+{
+    for place in 0..line.len() + 1 {
+        if is_word_at(line, place, word) {
+            return true;
+        }
+    }
+    false
+}
+
+// Whether none of these is a '#'.
+fn are_unmarked(bytes: &[u8]) -> bool
+    ensures { result ≡ list_all (λ c. not (c == 35)) bytes.now }
+{
+    bytes.iter().all(|byte| *byte != b'#')
+}
+
+/// Whether no word of a line but the last has a '#'.
+pub(crate) fn is_marked_last(line: &[u8]) -> bool
+    ensures { IsTrue result ↔ IsMarkedLast line.now }
+{
+    match split_last(line) {
+        Some((front, _word)) => are_unmarked(front),
+        None => true,
+    }
 }
 
 // Whether a time has this byte between its parentheses.

@@ -1,3 +1,4 @@
+pub mod Counting
 pub mod CleanUnits
 pub mod FreeAddress
 pub mod AddressInvariant
@@ -9,3 +10,4 @@ pub mod SoundAddresses
 pub mod Staying
 pub mod PlannedApart
 pub mod Alone
+pub mod Strangers

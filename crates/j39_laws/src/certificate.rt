@@ -2,17 +2,19 @@
 ghost use Rattle.j39_world.specs.SoundPlan.{IsSound};
 
 use crate::laws::{
-    acknowledged_messages_were_reported, addresses_are_sound, alone_units_are_undisturbed,
-    answered_messages_arrive, claims_die_down, every_transfer_ends, kept_addresses_stay_free,
-    planned_addresses_stay, quiet_notes_are_right, reports_are_sound, unanswered_messages_arrive,
+    a_needed_value_arrives, acknowledged_messages_were_reported, addresses_are_sound,
+    alone_units_are_undisturbed, answered_messages_arrive, claims_die_down, every_transfer_ends,
+    kept_addresses_stay_free, planned_addresses_stay, quiet_notes_are_right, reports_are_sound,
+    strangers_keep_addresses, unanswered_messages_arrive,
 };
-use j39_findings::{CheckedPlan, signals_are_sound};
+use j39_findings::{CheckedPlan, needs_are_met, signals_are_sound};
 
 /// A checked plan is sound: in every world of every run of it, with all lawful choices and whatever is lost, addresses and reports
-/// are sound, planned addresses stay where they differ, a unit that is alone at its own is undisturbed, what units have noted of one
-/// another is right where no claim is undelivered, what it keeps free stays free, claims die down, messages come to their end, those of
-/// which nothing is lost arrive, and its signals read back what they were last given. `docs/PROMISES.md` has it in plain words. It does
-/// nothing when it runs; it rests on the laws that it calls.
+/// are sound, addresses also with strangers, planned addresses stay where they differ, a unit that is alone at its own is undisturbed, what
+/// units have noted of one another is right where no claim is undelivered, what it keeps free stays free, claims die down, messages come to
+/// their end, those of which nothing is lost arrive, its signals read back what they were last given, and what its units need is sent to
+/// them and reads there as it was written. `docs/PROMISES.md` has it in plain words. It does nothing when it runs; it rests on the laws
+/// that it calls.
 pub fn certify(checked: &CheckedPlan)
     ensures sound { IsSound checked.now }
 {
@@ -20,6 +22,7 @@ pub fn certify(checked: &CheckedPlan)
     addresses_are_sound();
     planned_addresses_stay();
     alone_units_are_undisturbed();
+    strangers_keep_addresses();
     quiet_notes_are_right();
     kept_addresses_stay_free();
     claims_die_down();
@@ -29,4 +32,6 @@ pub fn certify(checked: &CheckedPlan)
     every_transfer_ends();
     unanswered_messages_arrive();
     answered_messages_arrive();
+    needs_are_met();
+    a_needed_value_arrives();
 }

@@ -1,6 +1,13 @@
+pub mod AgeLaws
 pub mod Before
 pub mod BoundedFlows
+pub mod Broadcasting
 pub mod Different
 pub mod OneLoad
+pub mod PositivePeriods
 pub mod Ranks
+pub mod TurnTimes
+pub mod WantedMemory
 pub mod WhoStays
+pub mod WholeMessages
+pub mod WithoutFlows

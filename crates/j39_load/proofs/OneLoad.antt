@@ -1,28 +1,38 @@
 -- What a plan asks of a bus is one: whoever tells who stays tells the same loads and the same delays.
-use Rattle.std.proofs.Common.{◌≡◌, ℕ, ◌+◌, ◌≤◌, Bool, true, false, not, ◌&&◌, if◌then◌else◌, List, [], ◌∷◌, map, min, max, inl, inr, Option, Some, None}
-use Rattle.std.proofs.Common.{refl, sym, ap, ◌∙◌, subst, arith, true≢false}
+use Rattle.std.proofs.Common.{◌≡◌, ℕ, ◌≤◌, Bool, true, false, not, ◌&&◌, if◌then◌else◌, List, [], ◌∷◌, length, map, min, max, inl, inr, Option, Some, None}
+use Rattle.std.proofs.Common.{refl, sym, ap, ◌∙◌, subst, arith}
 use Rattle.std.proofs.lemmas.Bool.{cases_lt}
 use Rattle.std.proofs.lemmas.List.{ext_get_or}
 use Rattle.std.proofs.lemmas.Option.{same_Some, none-some}
 use Rattle.std.specs.Bool.{MatchBool}
-use Rattle.std.specs.List.{slice_get}
+use Rattle.std.specs.List.{range_with_len, slice_get}
+use Rattle.std.specs.Prelude.{slice_index_or}
 use Rattle.j39_id.specs.Name.{is_arbitrary}
+use Rattle.j39_id.specs.Services.{connection_management, data_transfer}
 use Rattle.j39_findings.specs.declared.plan.Plan.{Plan}
 use Rattle.j39_findings.specs.declared.plan.flow_plan.FlowPlan.{FlowPlan}
 use Rattle.j39_findings.specs.declared.plan.group_plan.GroupPlan.{GroupPlan}
 use Rattle.j39_findings.specs.declared.plan.pace.Pace.{Pace}
 use Rattle.j39_findings.specs.declared.plan.timing.Timing.{Timing}
 use Rattle.j39_findings.specs.declared.plan.to.To.{To}
-use Rattle.j39_findings.specs.declared.plan.to.To.TheVariants.{All as ToAll, One}
+use Rattle.j39_findings.specs.declared.plan.to.To.TheVariants.{All as ToAllUnits, One}
 use Rattle.j39_findings.specs.declared.plan.unit_plan.UnitPlan.{UnitPlan}
+use Rattle.j39_load.specs.declared.broadcast.Broadcast.{Broadcast}
 use Rattle.j39_load.specs.declared.delay.Delay.{Delay}
-use Rattle.j39_load.specs.declared.delay.Delay.TheVariants.{Within, Late, Long}
+use Rattle.j39_load.specs.declared.delay.Delay.TheVariants.{Within, Late, Long, Whole}
+use Rattle.j39_load.specs.declared.flow_frames.FlowFrames.{FlowFrames}
 use Rattle.j39_load.specs.declared.flow_load.FlowLoad.{FlowLoad}
-use Rattle.j39_load.specs.Delays.{HasDelay, IsDelay, IsInTime, TellDelays, blocking, streams_before}
+use Rattle.j39_load.specs.declared.messages.Messages.{Messages}
+use Rattle.j39_load.specs.declared.messages.Messages.TheVariants.{Short, ToAll, ToOne}
+use Rattle.j39_load.specs.declared.unit_load.UnitLoad.{UnitLoad}
+use Rattle.j39_load.specs.declared.whole_time.WholeTime.{WholeTime}
+use Rattle.j39_load.specs.Asked.{Asked, asked_by, asked_of, frames_asked}
+use Rattle.j39_load.specs.Broadcasts.{broadcast_frames, broadcasts_by, known_unit_load, least_packets, unit_loads_of}
+use Rattle.j39_load.specs.Delays.{HasDelay, IsDelay, IsDelayOf, IsLeastWait, IsShortDelay, IsTurnTimeBy, IsWaitOf, IsWholeTime, TellDelays, announcements_place, known_turn_time, need_of, packets_place, whole_time}
 use Rattle.j39_load.specs.LoadFindings.{AsksOfBus}
-use Rattle.j39_load.specs.Loads.{destination_at, flow_load, group_ident, load_of_flow, loads_of, of_unit, packet_frames, packet_ident, single_frames}
+use Rattle.j39_load.specs.Loads.{destination_at, flow_load, group_ident, load_of_flow, loads_of, long_messages, of_unit, packet_frames, packet_ident, single_frames}
 use Rattle.j39_load.specs.Standing.{TellsWhoStays}
-use Rattle.j39_timing.specs.Waits.{HaveNoRoom}
+use Rattle.j39_timing.specs.Traffic.{delay_of}
 use Rattle.j39_tp.specs.Chunks.{packets_of}
 
 -- a statement is told in one way
@@ -49,7 +59,7 @@ module _ (plan : Plan) (timing : Timing) (stays other : UnitPlan → Bool) (tell
     unit_same v = read_same (slice_get plan.units.items v) (λ x is. same v x is) v refl
 
     destination_same : (to : To) → destination_at (of_unit plan.units.items (λ x. by (stays x) x)) to ≡ destination_at (of_unit plan.units.items (λ x. by (other x) x)) to
-    destination_same ToAll = refl
+    destination_same ToAllUnits = refl
     destination_same (One v) = unit_same v
 
     pub group_same : (group : GroupPlan) (flow : FlowPlan)
@@ -57,7 +67,7 @@ module _ (plan : Plan) (timing : Timing) (stays other : UnitPlan → Bool) (tell
     group_same group flow = rw (destination_same flow.to, unit_same flow.sender) refl
 
     pub packet_same : (flow : FlowPlan)
-        → packet_ident (of_unit plan.units.items (λ x. by (stays x) x)) flow ≡ packet_ident (of_unit plan.units.items (λ x. by (other x) x)) flow
+        → packet_ident timing (of_unit plan.units.items (λ x. by (stays x) x)) flow ≡ packet_ident timing (of_unit plan.units.items (λ x. by (other x) x)) flow
     packet_same flow = rw (destination_same flow.to, unit_same flow.sender) refl
 
   abbrev least_by : Bool → UnitPlan → ℕ
@@ -66,18 +76,22 @@ module _ (plan : Plan) (timing : Timing) (stays other : UnitPlan → Bool) (tell
   abbrev greatest_by : Bool → UnitPlan → ℕ
   greatest_by b x = if is_arbitrary x.name && not b then max x.address 247 else x.address
 
-  singles_same : (flow : FlowPlan) (period : ℕ) (group : GroupPlan)
-      → single_frames timing plan.units.items stays flow period group ≡ single_frames timing plan.units.items other flow period group
-  singles_same flow period group = rw (group_same least_by group flow, group_same greatest_by group flow) refl
+  singles_same : (flow : FlowPlan) (pace : Pace) (group : GroupPlan)
+      → single_frames timing plan.units.items stays flow pace group ≡ single_frames timing plan.units.items other flow pace group
+  singles_same flow pace group = rw (group_same least_by group flow, group_same greatest_by group flow) refl
 
-  packets_same : (flow : FlowPlan) (period packets : ℕ)
-      → packet_frames timing plan.units.items stays flow period packets ≡ packet_frames timing plan.units.items other flow period packets
-  packets_same flow period packets = rw (packet_same least_by flow, packet_same greatest_by flow) refl
+  packets_same : (flow : FlowPlan) (v : ℕ) (pace : Pace) (packets : ℕ)
+      → packet_frames timing plan.units.items stays flow v pace packets ≡ packet_frames timing plan.units.items other flow v pace packets
+  packets_same flow v pace packets = rw (packet_same least_by flow, packet_same greatest_by flow) refl
+
+  long_same : (flow : FlowPlan) (pace : Pace) (group : GroupPlan) (to : To)
+      → long_messages timing plan.units.items stays flow pace group to ≡ long_messages timing plan.units.items other flow pace group to
+  long_same flow pace group ToAllUnits = refl
+  long_same flow pace group (One v) = ap ToOne (packets_same flow v pace (packets_of group.most))
 
   load_same : (flow : FlowPlan) (pace : Pace) (group : GroupPlan)
       → flow_load timing plan.units.items stays flow pace group ≡ flow_load timing plan.units.items other flow pace group
-  load_same flow pace group =
-      rw (singles_same flow pace.period group, packets_same flow pace.period (packets_of group.most)) refl
+  load_same flow pace group = rw (singles_same flow pace group, long_same flow pace group flow.to) refl
 
   flow_same : (flow : FlowPlan) (pace : Option Pace) (group : Option GroupPlan) → flow.pace ≡ pace → slice_get plan.groups.items flow.group ≡ group
       → load_of_flow timing plan stays flow ≡ load_of_flow timing plan other flow
@@ -91,56 +105,134 @@ module _ (plan : Plan) (timing : Timing) (stays other : UnitPlan → Bool) (tell
       ap (λ (x : Option FlowLoad). x ∷ map (load_of_flow timing plan stays) flows) (flow_same flow flow.pace (slice_get plan.groups.items flow.group) refl refl)
       ∙ ap (λ (xs : List (Option FlowLoad)). load_of_flow timing plan other flow ∷ xs) (loads_same flows)
 
-  pub one_load : loads_of timing plan stays ≡ loads_of timing plan other
+  one_load : loads_of timing plan stays ≡ loads_of timing plan other
   one_load = loads_same plan.flows.items
+
+  broadcast_same : (pgn u gaps : ℕ)
+      → broadcast_frames timing plan.units.items stays pgn u gaps ≡ broadcast_frames timing plan.units.items other pgn u gaps
+  broadcast_same pgn u gaps = rw (unit_same least_by u, unit_same greatest_by u) refl
+
+  unit_load_same : (u : ℕ) (broadcasts : List Broadcast)
+      → known_unit_load timing plan.units.items stays u broadcasts ≡ known_unit_load timing plan.units.items other u broadcasts
+  unit_load_same u [] = refl
+  unit_load_same u (b ∷ bs) =
+      rw (broadcast_same data_transfer u 1, broadcast_same connection_management u (least_packets (b ∷ bs))) refl
+
+  units_same : (loads : List (Option FlowLoad)) (places : List ℕ)
+      → map (λ u. known_unit_load timing plan.units.items stays u (broadcasts_by u loads)) places
+      ≡ map (λ u. known_unit_load timing plan.units.items other u (broadcasts_by u loads)) places
+  units_same loads [] = refl
+  units_same loads (u ∷ us) =
+      ap (λ (x : Option UnitLoad). x ∷ map (λ v. known_unit_load timing plan.units.items stays v (broadcasts_by v loads)) us)
+      (unit_load_same u (broadcasts_by u loads))
+      ∙ ap (λ (xs : List (Option UnitLoad)). known_unit_load timing plan.units.items other u (broadcasts_by u loads) ∷ xs) (units_same loads us)
+
+  unit_loads_same : (loads : List (Option FlowLoad))
+      → unit_loads_of timing plan.units.items stays loads ≡ unit_loads_of timing plan.units.items other loads
+  unit_loads_same [] = refl
+  unit_loads_same (load ∷ loads) = units_same (load ∷ loads) (range_with_len 0 (length plan.units.items))
+
+  pub one_request : asked_of timing plan stays ≡ asked_of timing plan other
+  one_request =
+      ap (λ (loads : List (Option FlowLoad)). asked_by loads (unit_loads_of timing plan.units.items stays loads)) one_load
+      ∙ ap (λ (units : List (Option UnitLoad)). asked_by (loads_of timing plan other) units)
+      (unit_loads_same (loads_of timing plan other))
 
 -- ---- delays
 
-module _ (timing : Timing) (loads : List (Option FlowLoad)) (flow : ℕ) where
+module _ (timing : Timing) (all : List (Option FlowFrames)) (flow : ℕ) where
   -- of two least waits none is less
-  not_less : (load : FlowLoad) (wait other : ℕ) → IsInTime timing loads flow load wait
-      → HaveNoRoom (blocking timing load.frames.greatest_ident) (streams_before flow load.frames.greatest_ident loads) other → other ≤ wait
-  not_less load wait other inside least = elim (cases_lt wait other) [
-    | inl below ↦ absurd (omega (arith, least wait below, inside.room))
+  not_less : (frames : FlowFrames) (wait other : ℕ) → need_of timing all flow frames wait ≤ wait → IsLeastWait timing all flow frames other
+      → other ≤ wait
+  not_less frames wait other room least = elim (cases_lt wait other) [
+    | inl below ↦ absurd (omega (arith, least wait below, room))
     | inr above ↦ above
   ]
 
-  one_delay : (load : FlowLoad) (delay other : Delay) → IsDelay timing loads flow load delay → IsDelay timing loads flow load other → delay ≡ other
-  one_delay load (Within bits) (Within more) is another =
-      let above = not_less load is.1 another.1 is.2 another.3 in
-      let below = not_less load another.1 is.1 another.2 is.3 in
-      let waits : is.1 ≡ another.1 = omega (arith, above, below) in
-      ap Within (is.4 ∙ ap (λ (w : ℕ). w + load.frames.stream.bits) waits ∙ sym another.4)
-  one_delay load (Within bits) Late is another = absurd (another.1 is.1 is.2)
-  one_delay load (Within bits) (Long frames) is another = absurd (true≢false (sym is.0 ∙ another.0))
-  one_delay load Late (Within bits) is another = absurd (is.1 another.1 another.2)
-  one_delay load Late Late is another = refl
-  one_delay load Late (Long frames) is another = absurd (true≢false (sym is.0 ∙ another.0))
-  one_delay load (Long frames) (Within bits) is another = absurd (true≢false (sym another.0 ∙ is.0))
-  one_delay load (Long frames) Late is another = absurd (true≢false (sym another.0 ∙ is.0))
-  one_delay load (Long frames) (Long more) is another = ap Long (is.1 ∙ sym another.1)
+  one_short_delay : (frames : FlowFrames) (limit : ℕ) (delay other : Delay) → IsShortDelay timing all flow frames limit delay
+      → IsShortDelay timing all flow frames limit other → delay ≡ other
+  one_short_delay frames limit (Within bits) (Within more) is another =
+      let above = not_less frames is.0 another.0 is.1.room another.2 in
+      let below = not_less frames another.0 is.0 another.1.room is.2 in
+      let waits : is.0 ≡ another.0 = omega (arith, above, below) in
+      ap Within (is.3 ∙ ap (delay_of frames.stream) waits ∙ sym another.3)
+  one_short_delay frames limit (Within bits) Late is another = absurd (another is.0 is.1)
+  one_short_delay frames limit (Within bits) (Long count) is another = absurd another
+  one_short_delay frames limit (Within bits) (Whole whole) is another = absurd another
+  one_short_delay frames limit Late (Within bits) is another = absurd (is another.0 another.1)
+  one_short_delay frames limit Late Late is another = refl
+  one_short_delay frames limit Late (Long count) is another = absurd another
+  one_short_delay frames limit Late (Whole whole) is another = absurd another
+  one_short_delay frames limit (Long count) other is another = absurd is
+  one_short_delay frames limit (Whole whole) other is another = absurd is
 
-  one_known_delay : (delay other : Option Delay) → HasDelay timing loads flow delay → HasDelay timing loads flow other → delay ≡ other
-  one_known_delay None None is another = refl
-  one_known_delay None (Some other) is another = absurd (none-some _ (same_Some _ _ (sym is ∙ another.1)))
-  one_known_delay (Some delay) None is another = absurd (none-some _ (same_Some _ _ (sym another ∙ is.1)))
-  one_known_delay (Some delay) (Some other) is another =
+  one_wait : (frames : FlowFrames) (wait other : Option ℕ) → IsWaitOf timing all flow frames wait → IsWaitOf timing all flow frames other
+      → wait ≡ other
+  one_wait frames None None is another = refl
+  one_wait frames None (Some other) is another = absurd (let below = another.0 in let room = another.1 in omega (arith, is other (omega arith)))
+  one_wait frames (Some wait) None is another = absurd (let below = is.0 in let room = is.1 in omega (arith, another wait (omega arith)))
+  one_wait frames (Some wait) (Some other) is another =
+      let above = not_less frames wait other is.1 another.2 in
+      let below = not_less frames other wait another.1 is.2 in
+      ap Some (omega (arith, above, below))
+
+module _ (timing : Timing) (asked : Asked) where
+  one_turn_time : (u : ℕ) (load : Option UnitLoad) (time other : Option ℕ) → IsTurnTimeBy timing asked u load time
+      → IsTurnTimeBy timing asked u load other → time ≡ other
+  one_turn_time u None time other is another = is ∙ sym another
+  one_turn_time u (Some load) time other is another =
+      let announced = one_wait timing (frames_asked asked) (announcements_place asked u) load.announcements is.0 another.0 is.2 another.2 in
+      let sent = one_wait timing (frames_asked asked) (packets_place asked u) load.packets is.1 another.1 is.3 another.3 in
+      is.4 ∙ ap (λ (a : Option ℕ). known_turn_time timing load a is.1) announced
+      ∙ ap (λ (p : Option ℕ). known_turn_time timing load another.0 p) sent ∙ sym another.4
+
+  one_whole_time : (broadcast : Broadcast) (whole other : WholeTime) → IsWholeTime timing asked broadcast whole
+      → IsWholeTime timing asked broadcast other → whole ≡ other
+  one_whole_time broadcast whole other is another =
+      is.2 ∙ ap (whole_time broadcast) (one_turn_time broadcast.sender (slice_index_or asked.units broadcast.sender None) is.0 another.0 is.1 another.1)
+      ∙ sym another.2
+
+  one_delay : (flow : ℕ) (messages : Messages) (limit : ℕ) (delay other : Delay) → IsDelayOf timing asked flow messages limit delay
+      → IsDelayOf timing asked flow messages limit other → delay ≡ other
+  one_delay flow (Short frames) limit delay other is another =
+      one_short_delay timing (frames_asked asked) flow frames limit delay other is another
+  one_delay flow (ToOne frames) limit (Long count) (Long more) is another = ap Long (is ∙ sym another)
+  one_delay flow (ToOne frames) limit (Long count) (Within bits) is another = absurd another
+  one_delay flow (ToOne frames) limit (Long count) Late is another = absurd another
+  one_delay flow (ToOne frames) limit (Long count) (Whole whole) is another = absurd another
+  one_delay flow (ToOne frames) limit (Within bits) other is another = absurd is
+  one_delay flow (ToOne frames) limit Late other is another = absurd is
+  one_delay flow (ToOne frames) limit (Whole whole) other is another = absurd is
+  one_delay flow (ToAll broadcast) limit (Whole whole) (Whole more) is another = ap Whole (one_whole_time broadcast whole more is another)
+  one_delay flow (ToAll broadcast) limit (Whole whole) (Within bits) is another = absurd another
+  one_delay flow (ToAll broadcast) limit (Whole whole) Late is another = absurd another
+  one_delay flow (ToAll broadcast) limit (Whole whole) (Long count) is another = absurd another
+  one_delay flow (ToAll broadcast) limit (Within bits) other is another = absurd is
+  one_delay flow (ToAll broadcast) limit Late other is another = absurd is
+  one_delay flow (ToAll broadcast) limit (Long count) other is another = absurd is
+
+  one_known_delay : (flow : ℕ) (delay other : Option Delay) → HasDelay timing asked flow delay → HasDelay timing asked flow other → delay ≡ other
+  one_known_delay flow None None is another = refl
+  one_known_delay flow None (Some other) is another = absurd (none-some _ (same_Some _ _ (sym is ∙ another.1)))
+  one_known_delay flow (Some delay) None is another = absurd (none-some _ (same_Some _ _ (sym another ∙ is.1)))
+  one_known_delay flow (Some delay) (Some other) is another =
       let loads_are : is.0 ≡ another.0 = same_Some _ _ (same_Some _ _ (sym is.1 ∙ another.1)) in
-      ap Some (one_delay another.0 delay other (subst (λ (l : FlowLoad). IsDelay timing loads flow l delay) loads_are is.2) another.2)
+      ap Some (one_delay flow another.0.messages another.0.limit delay other
+      (subst (λ (l : FlowLoad). IsDelay timing asked flow l delay) loads_are is.2) another.2)
 
-pub delays_same : (timing : Timing) (loads : List (Option FlowLoad)) (delays others : List (Option Delay)) → TellDelays timing loads delays
-    → TellDelays timing loads others → delays ≡ others
-delays_same timing loads delays others tell another =
+pub delays_same : (timing : Timing) (asked : Asked) (delays others : List (Option Delay)) → TellDelays timing asked delays
+    → TellDelays timing asked others → delays ≡ others
+delays_same timing asked delays others tell another =
     ext_get_or None delays others (tell.count ∙ sym another.count)
-    (λ flow below. one_known_delay timing loads flow _ _ (tell.each flow below) (another.each flow (omega (arith, below, tell.count, another.count))))
+    (λ flow below. one_known_delay timing asked flow _ _ (tell.each flow below) (another.each flow (omega (arith, below, tell.count, another.count))))
 
 -- both at once
 pub one_asked : (plan : Plan) (timing : Timing) (stays other : UnitPlan → Bool) (delays others : List (Option Delay))
     → AsksOfBus plan timing stays delays → AsksOfBus plan timing other others
-    → (loads_of timing plan stays ≡ loads_of timing plan other) × (delays ≡ others)
+    → (asked_of timing plan stays ≡ asked_of timing plan other) × (delays ≡ others)
 one_asked plan timing stays other delays others asks another =
-    let same = one_load plan timing stays other asks.standing another.standing in (
+    let same = one_request plan timing stays other asks.standing another.standing in (
       same,
-      delays_same timing (loads_of timing plan other) delays others
-          (subst (λ (ls : List (Option FlowLoad)). TellDelays timing ls delays) same asks.waits) another.waits,
+      delays_same timing (asked_of timing plan other) delays others
+          (subst (λ (a : Asked). TellDelays timing a delays) same asks.waits) another.waits,
     )

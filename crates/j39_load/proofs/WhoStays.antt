@@ -13,8 +13,8 @@ use Rattle.j39_claim.specs.ClaimRule.{PlannedUnit}
 use Rattle.j39_findings.specs.declared.plan.Plan.{Plan}
 use Rattle.j39_findings.specs.declared.plan.unit_plan.UnitPlan.{UnitPlan}
 use Rattle.j39_world.specs.PlannedUnits.{planned_unit, units_of, unit_at}
-use Rattle.j39_world.specs.Staying.{EachSmaller, IsFirstThere, IsOutsidePool, Stays}
-use Rattle.j39_load.specs.Standing.{AreFirsts, TellsWhoStays, IsLeastName, IsMover, is_first_by, is_least, is_mover_by, smaller, stays_by}
+use Rattle.j39_world.specs.Staying.{EachSmaller, IsFirstThere, IsOutsidePool, Stays, StaysBeside}
+use Rattle.j39_load.specs.Standing.{AreFirsts, TellsWhoStays, IsLeastName, IsMover, is_first_by, is_least, is_mover_by, is_settled, smaller, stays_by}
 
 module _ (units : List UnitPlan) (count : ℕ) (Among : UnitPlan → Type 0) (least : Option ℕ) (old : IsLeastName units count Among least)
     (unit : UnitPlan) (at : slice_get units count ≡ Some unit) where
@@ -116,6 +116,15 @@ told_by : (b : Bool) (P Q : Type 0) → (b ≡ true → P) → (b ≡ false → 
 told_by true P Q is isnt = is refl
 told_by false P Q is isnt = isnt refl
 
+both_told : (a b : Bool) (P Q : Type 0) → MatchBool a P (¬ P) → MatchBool b Q (¬ Q) → MatchBool (a && b) (P × Q) (¬ (P × Q))
+both_told true true P Q p q = (p, q)
+both_told true false P Q p q = λ both. q both.1
+both_told false b P Q p q = λ both. p both.0
+
+pub some_come : (strangers : ℕ) → MatchBool (ltb 0 strangers) (0 < strangers) (strangers ≡ 0)
+some_come strangers =
+    told_by (ltb 0 strangers) _ _ (λ is. ltb-true 0 strangers is) (λ isnt. let most = ltb-false 0 strangers isnt in omega arith)
+
 -- a place of a unit has its plan
 pub placed : (kept : FinSet nat_cmp) (ps : List UnitPlan) (i : ℕ) → i < length (map (planned_unit kept) ps)
     → (p : UnitPlan) × (slice_get ps i ≡ Some p) × (unit_at (map (planned_unit kept) ps) i ≡ planned_unit kept p)
@@ -206,8 +215,8 @@ module _ (plan : Plan) (firsts : List (Option ℕ)) (mover : Option ℕ) (are_fi
     | inr none ↦ one_moves_told u unit at told none
   ]
 
-  pub told : TellsWhoStays plan (stays_by firsts mover)
-  told u unit at =
+  stays_told : (u : ℕ) (unit : UnitPlan) → IsAt u unit → MatchBool (stays_by firsts mover unit) (Stays (units_of plan) u) (¬ Stays (units_of plan) u)
+  stays_told u unit at =
       let (_, is_u) = planned_at plan.keep_free plan.units.items u unit at in
       let pool : in_pool (unit_at (units_of plan) u).preferred ≡ in_pool unit.address = ap (λ (c : PlannedUnit). in_pool c.preferred) is_u in
       told_by (stays_by firsts mover unit) _ _
@@ -221,3 +230,23 @@ module _ (plan : Plan) (firsts : List (Option ℕ)) (mover : Option ℕ) (are_fi
         | inl one ↦ moved_told u unit at (in_pool unit.address) pool
             (sym (ap (λ b. b && (not (in_pool unit.address) || is_least mover unit.name)) one) ∙ isnt) stays
       ])
+
+  -- none comes, or it may not choose
+  settled_told : (strangers : Bool) → MatchBool strangers (0 < plan.strangers) (plan.strangers ≡ 0) → (u : ℕ) (unit : UnitPlan) → IsAt u unit
+      → MatchBool (is_settled strangers unit) ((plan.strangers ≡ 0) ⊎ (is_arbitrary (unit_at (units_of plan) u).name ≡ false))
+      (¬ ((plan.strangers ≡ 0) ⊎ (is_arbitrary (unit_at (units_of plan) u).name ≡ false)))
+  settled_told false none u unit at = inl none
+  settled_told true some u unit at =
+      let (_, is_u) = planned_at plan.keep_free plan.units.items u unit at in
+      let name : is_arbitrary (unit_at (units_of plan) u).name ≡ is_arbitrary unit.name = ap (λ (c : PlannedUnit). is_arbitrary c.name) is_u in
+      told_by (not (is_arbitrary unit.name)) _ _
+      (λ fixed. inr (name ∙ not-true (is_arbitrary unit.name) fixed))
+      (λ chooses either. elim either [
+        | inl none ↦ absurd (let more : 0 < plan.strangers = some in omega arith)
+        | inr fixed ↦ true≢false (sym (ap not (sym name ∙ fixed)) ∙ chooses)
+      ])
+
+  pub told : (strangers : Bool) → MatchBool strangers (0 < plan.strangers) (plan.strangers ≡ 0)
+      → TellsWhoStays plan (λ unit. stays_by firsts mover unit && is_settled strangers unit)
+  told strangers come u unit at =
+      both_told (stays_by firsts mover unit) (is_settled strangers unit) _ _ (stays_told u unit at) (settled_told strangers come u unit at)

@@ -1,64 +1,153 @@
--- How long the frames of each flow wait, from when they are ready at their controller (Davis, Burns, Bril, Lukkien, Real-Time Systems 35,
--- 2007).
-use Rattle.std.specs.Prelude.{◌≡◌, ℕ, ◌+◌, ◌*◌, ◌^◌, ◌<◌, ◌≤◌, ◌==◌, true, false, nat_le, nat_lt, if◌then◌else◌, List, [], ◌∷◌, ◌++◌, length, slice_index_or, Option, Some, None}
+-- How long the messages of each flow take, from their moments: the waits of frames (Davis, Burns, Bril, Lukkien,
+-- Real-Time Systems 35, 2007), and when a long message to all is whole.
+use Rattle.std.specs.Prelude.{◌≡◌, ℕ, ◌+◌, ◌*◌, ◌^◌, ◌<◌, ◌≤◌, ◌==◌, nat_le, nat_lt, if◌then◌else◌, List, [], ◌∷◌, ◌++◌, length, slice_index_or, Option, Some, None}
 use Rattle.std.specs.List.{slice_get}
-use Rattle.std.specs.Option.{option_map_or}
+use Rattle.std.specs.Option.{option_map}
 use Rattle.j39_findings.specs.declared.plan.timing.Timing.{Timing}
+use Rattle.j39_load.specs.declared.broadcast.Broadcast.{Broadcast}
 use Rattle.j39_load.specs.declared.delay.Delay.{Delay}
-use Rattle.j39_load.specs.declared.delay.Delay.TheVariants.{Within, Late, Long}
+use Rattle.j39_load.specs.declared.delay.Delay.TheVariants.{Within, Late, Long, Whole}
 use Rattle.j39_load.specs.declared.flow_frames.FlowFrames.{FlowFrames}
 use Rattle.j39_load.specs.declared.flow_load.FlowLoad.{FlowLoad}
+use Rattle.j39_load.specs.declared.messages.Messages.{Messages}
+use Rattle.j39_load.specs.declared.messages.Messages.TheVariants.{Short, ToAll, ToOne}
+use Rattle.j39_load.specs.declared.unit_load.UnitLoad.{UnitLoad}
+use Rattle.j39_load.specs.declared.whole_time.WholeTime.{WholeTime}
+use Rattle.j39_load.specs.Asked.{Asked, frames_asked}
+use Rattle.j39_load.specs.Damage.{damage_streams}
+use Rattle.j39_load.specs.Loads.{bits_of_ms, frames_to_all}
 use Rattle.j39_load.specs.Places.{told_from}
 use Rattle.j39_timing.specs.FrameBits.{longest_frame}
+use Rattle.j39_timing.specs.Traffic.{delay_of}
 use Rattle.j39_timing.specs.Waits.{HaveNoRoom, need}
 use Rattle.j39_timing.specs.declared.stream.Stream.{Stream}
 
--- identifiers of priority 6 and 7, which is what isn't planned has
-abbrev pub unplanned_idents : ℕ
-unplanned_idents = 6 * 2 ^ 26
+-- identifiers of the priority from which on frames are that aren't planned
+abbrev pub unplanned_idents : Timing → ℕ
+unplanned_idents timing = timing.unplanned_priority * 2 ^ 26
 
 -- the frame that has begun before, and those of no planned flow that may go before this identifier
 abbrev pub blocking : Timing → ℕ → ℕ
-blocking timing ident = longest_frame 8 * (1 + (if nat_le unplanned_idents ident then timing.unplanned else 0))
+blocking timing ident = longest_frame 8 * (1 + (if nat_le (unplanned_idents timing) ident then timing.unplanned else 0))
 
 -- the stream of these frames, where one of them may go before one of this identifier, whatever addresses the units come to hold
 abbrev pub frames_before : ℕ → FlowFrames → List Stream
 frames_before ident frames = if nat_lt frames.least_ident ident then frames.stream ∷ [] else []
 
--- those of the flow at this place, where it is another flow
-abbrev pub going_before : ℕ → ℕ → ℕ → Option FlowLoad → List Stream
-going_before flow ident place None = []
-going_before flow ident place (Some load) =
-    if place == flow then [] else frames_before ident load.frames ++ option_map_or (frames_before ident) load.singles []
+-- that of the frames at this place, where they are others than those at a place
+abbrev pub going_before : ℕ → ℕ → ℕ → Option FlowFrames → List Stream
+going_before i ident place None = []
+going_before i ident place (Some frames) = if place == i then [] else frames_before ident frames
 
--- those of all flows
-abbrev pub streams_before : ℕ → ℕ → List (Option FlowLoad) → List Stream
-streams_before flow ident loads = told_from (going_before flow ident) 0 loads
+-- those of all frames, and of what comes of damage
+abbrev pub streams_before : Timing → ℕ → ℕ → List (Option FlowFrames) → List Stream
+streams_before timing i ident frames = damage_streams timing ++ told_from (going_before i ident) 0 frames
 
--- what a wait of so many bits of a flow's frame has to have room for
-abbrev pub need_of : Timing → List (Option FlowLoad) → ℕ → FlowLoad → ℕ → ℕ
-need_of timing loads flow load wait =
-    need (blocking timing load.frames.greatest_ident) (streams_before flow load.frames.greatest_ident loads) wait
+-- what a wait of so many bits of a frame of these, at their place among all, has to have room for
+abbrev pub need_of : Timing → List (Option FlowFrames) → ℕ → FlowFrames → ℕ → ℕ
+need_of timing all i frames wait = need (blocking timing frames.greatest_ident) (streams_before timing i frames.greatest_ident all) wait
 
--- the wait has room, and with the frame itself it is within the limit
-pub record IsInTime (timing : Timing) (loads : List (Option FlowLoad)) (flow : ℕ) (load : FlowLoad) (wait : ℕ) : Type 0 where
-  pub room : need_of timing loads flow load wait ≤ wait
-  pub within : wait + load.frames.stream.bits ≤ load.limit
+-- and that no shorter wait has
+abbrev pub IsLeastWait : Timing → List (Option FlowFrames) → ℕ → FlowFrames → ℕ → Type 0
+IsLeastWait timing all i frames wait = HaveNoRoom (blocking timing frames.greatest_ident) (streams_before timing i frames.greatest_ident all) wait
 
--- the delay of a flow: of a short one the least wait that is in time, with the frame itself, or none is; of a long one its frames
-abbrev pub IsDelay : Timing → List (Option FlowLoad) → ℕ → FlowLoad → Delay → Type 0
-IsDelay timing loads flow load (Within bits) = (load.is_short ≡ true) × (wait : ℕ) × IsInTime timing loads flow load wait
-    × HaveNoRoom (blocking timing load.frames.greatest_ident) (streams_before flow load.frames.greatest_ident loads) wait
-    × (bits ≡ wait + load.frames.stream.bits)
-IsDelay timing loads flow load Late = (load.is_short ≡ true) × ((wait : ℕ) → ¬ IsInTime timing loads flow load wait)
-IsDelay timing loads flow load (Long frames) = (load.is_short ≡ false) × (frames ≡ load.frames.stream.frames)
+-- the wait has room, and its delay is within the limit
+pub record IsInTime (timing : Timing) (all : List (Option FlowFrames)) (i : ℕ) (frames : FlowFrames) (limit wait : ℕ) : Type 0 where
+  pub room : need_of timing all i frames wait ≤ wait
+  pub within : delay_of frames.stream wait ≤ limit
+
+-- the delay of a flow whose messages go in one frame each, of these, with this limit, at its place: that of the least
+-- wait that is in time, or none is
+abbrev pub IsShortDelay : Timing → List (Option FlowFrames) → ℕ → FlowFrames → ℕ → Delay → Type 0
+IsShortDelay timing all flow frames limit (Within bits) = (wait : ℕ) × IsInTime timing all flow frames limit wait
+    × IsLeastWait timing all flow frames wait × (bits ≡ delay_of frames.stream wait)
+IsShortDelay timing all flow frames limit Late = (wait : ℕ) → ¬ IsInTime timing all flow frames limit wait
+IsShortDelay timing all flow frames limit _ = ⊥
+
+-- ---- long messages to all, by the unit that sends them one at a time
+
+-- no longer wait is looked for
+abbrev pub longest_wait : Timing → ℕ
+longest_wait timing = bits_of_ms timing 65535
+
+-- the least wait that has room for a frame of these, at their place among all; or none of at most that many bits has
+abbrev pub IsWaitOf : Timing → List (Option FlowFrames) → ℕ → FlowFrames → Option ℕ → Type 0
+IsWaitOf timing all i frames (Some wait) =
+    (wait ≤ longest_wait timing) × (need_of timing all i frames wait ≤ wait) × IsLeastWait timing all i frames wait
+IsWaitOf timing all i frames None = IsLeastWait timing all i frames (longest_wait timing + 1)
+
+-- where the packets of a unit's broadcasts stand among all frames, and their announcements
+abbrev pub packets_place : Asked → ℕ → ℕ
+packets_place asked u = 2 * length asked.flows + u
+
+abbrev pub announcements_place : Asked → ℕ → ℕ
+announcements_place asked u = 2 * length asked.flows + (length asked.units + u)
+
+-- the longest time from the end of one frame of a message to the end of the next packet, where packets wait for so long
+abbrev pub packet_time : Timing → UnitLoad → ℕ → ℕ
+packet_time timing load sent = bits_of_ms timing timing.broadcast_gap_most + (sent + load.packets.stream.bits)
+
+-- a receiver gives a message up of which no packet comes in 750 ms (SAE J1939-21, T1)
+abbrev pub longest_pause : Timing → ℕ
+longest_pause timing = bits_of_ms timing 750
+
+-- the time of the longest message of each flow of the unit, one behind the other, where announcements and packets wait
+-- for so long
+abbrev pub turn_time : Timing → UnitLoad → ℕ → ℕ → ℕ
+turn_time timing load announced sent =
+    load.flows * (announced + load.announcements.stream.bits) + load.all_packets * packet_time timing load sent
+
+-- where both waits are known, and no receiver gives up
+abbrev pub known_turn_time : Timing → UnitLoad → Option ℕ → Option ℕ → Option ℕ
+known_turn_time timing load (Some announced) (Some sent) =
+    if nat_le (packet_time timing load sent) (longest_pause timing) then Some (turn_time timing load announced sent)
+    else None
+known_turn_time timing load _ _ = None
+
+-- the time of the unit at a place, which asks this
+abbrev pub IsTurnTimeBy : Timing → Asked → ℕ → Option UnitLoad → Option ℕ → Type 0
+IsTurnTimeBy timing asked u None time = time ≡ None
+IsTurnTimeBy timing asked u (Some load) time = (announced sent : Option ℕ)
+    × IsWaitOf timing (frames_asked asked) (announcements_place asked u) load.announcements announced
+    × IsWaitOf timing (frames_asked asked) (packets_place asked u) load.packets sent
+    × (time ≡ known_turn_time timing load announced sent)
+
+abbrev pub IsTurnTime : Timing → Asked → ℕ → Option ℕ → Type 0
+IsTurnTime timing asked u time = IsTurnTimeBy timing asked u (slice_index_or asked.units u None) time
+
+-- where the unit's time is this, that of a flow's broadcasts, from the moment at which one is wanted: each other flow
+-- of the unit goes before it once at most
+abbrev pub whole_time : Broadcast → Option ℕ → WholeTime
+whole_time broadcast time = record {
+  frames = frames_to_all broadcast.packets;
+  bits = option_map (λ turn. broadcast.late + turn) time;
+  limit = broadcast.deadline;
+}
+
+abbrev pub IsWholeTime : Timing → Asked → Broadcast → WholeTime → Type 0
+IsWholeTime timing asked broadcast whole = (time : Option ℕ) × IsTurnTime timing asked broadcast.sender time
+    × (whole ≡ whole_time broadcast time)
+
+-- ---- flows
+
+-- the delay of a flow with these messages and this limit, at its place
+abbrev pub IsDelayOf : Timing → Asked → ℕ → Messages → ℕ → Delay → Type 0
+IsDelayOf timing asked flow (Short frames) limit delay =
+    IsShortDelay timing (frames_asked asked) flow frames limit delay
+IsDelayOf timing asked flow (ToOne frames) limit (Long count) = count ≡ frames.stream.frames
+IsDelayOf timing asked flow (ToOne frames) limit _ = ⊥
+IsDelayOf timing asked flow (ToAll broadcast) limit (Whole whole) = IsWholeTime timing asked broadcast whole
+IsDelayOf timing asked flow (ToAll broadcast) limit _ = ⊥
+
+abbrev pub IsDelay : Timing → Asked → ℕ → FlowLoad → Delay → Type 0
+IsDelay timing asked flow load delay = IsDelayOf timing asked flow load.messages load.limit delay
 
 -- the flow at a place has this delay, or none where it isn't known how often it is sent
-abbrev pub HasDelay : Timing → List (Option FlowLoad) → ℕ → Option Delay → Type 0
-HasDelay timing loads flow None = slice_get loads flow ≡ Some None
-HasDelay timing loads flow (Some delay) = (load : FlowLoad) × (slice_get loads flow ≡ Some (Some load)) × IsDelay timing loads flow load delay
+abbrev pub HasDelay : Timing → Asked → ℕ → Option Delay → Type 0
+HasDelay timing asked flow None = slice_get asked.flows flow ≡ Some None
+HasDelay timing asked flow (Some delay) = (load : FlowLoad) × (slice_get asked.flows flow ≡ Some (Some load)) × IsDelay timing asked flow load delay
 
 -- each flow has the delay that stands at its place
-pub record TellDelays (timing : Timing) (loads : List (Option FlowLoad)) (delays : List (Option Delay)) : Type 0 where
-  pub count : length delays ≡ length loads
-  pub each : (flow : ℕ) → flow < length delays → HasDelay timing loads flow (slice_index_or delays flow None)
+pub record TellDelays (timing : Timing) (asked : Asked) (delays : List (Option Delay)) : Type 0 where
+  pub count : length delays ≡ length asked.flows
+  pub each : (flow : ℕ) → flow < length delays → HasDelay timing asked flow (slice_index_or delays flow None)

@@ -1,5 +1,5 @@
--- Which units of a plan stay, and how that is told: by the least NAME that is planned at each address, and the least of those that may
--- have to move.
+-- Which units of a plan stay, and how that is told: by the least NAME that is planned at each address, the least of those that may have to
+-- move, and whether strangers come.
 use Rattle.std.specs.Prelude.{◌≡◌, ℕ, ◌<◌, ◌≤◌, Bool, true, MatchBool, not, ◌&&◌, ◌||◌, cond, nat_le, nat_lt, List, length, slice_index_or, Option, Some, None}
 use Rattle.std.specs.List.{slice_get}
 use Rattle.j39_id.specs.Addresses.{in_pool}
@@ -8,12 +8,12 @@ use Rattle.j39_findings.specs.declared.plan.Plan.{Plan}
 use Rattle.j39_findings.specs.declared.plan.unit_plan.UnitPlan.{UnitPlan}
 use Rattle.j39_load.specs.declared.standing.Standing.{Standing}
 use Rattle.j39_world.specs.PlannedUnits.{units_of}
-use Rattle.j39_world.specs.Staying.{Stays}
+use Rattle.j39_world.specs.Staying.{StaysBeside}
 
 -- of the unit at each place this tells whether it stays
 abbrev pub TellsWhoStays : Plan → (UnitPlan → Bool) → Type 0
 TellsWhoStays plan stays = (u : ℕ) (unit : UnitPlan) → slice_get plan.units.items u ≡ Some unit
-    → MatchBool (stays unit) (Stays (units_of plan) u) (¬ Stays (units_of plan) u)
+    → MatchBool (stays unit) (StaysBeside plan.strangers (units_of plan) u) (¬ StaysBeside plan.strangers (units_of plan) u)
 
 -- this is the least NAME of those of the first so many units of which it holds, if it holds of one
 pub record IsLeastName (units : List UnitPlan) (count : ℕ) (Among : UnitPlan → Type 0) (least : Option ℕ) : Type 0 where
@@ -37,9 +37,13 @@ is_first_by firsts unit = is_least (slice_index_or firsts unit.address None) uni
 abbrev pub stays_by : List (Option ℕ) → Option ℕ → UnitPlan → Bool
 stays_by firsts mover unit = is_first_by firsts unit && (not (in_pool unit.address) || is_least mover unit.name)
 
+-- no strangers come, or the unit may not choose
+abbrev pub is_settled : Bool → UnitPlan → Bool
+is_settled strangers unit = not strangers || not (is_arbitrary unit.name)
+
 -- whether a unit stays, as a call tells it
 abbrev pub stays_of : Standing → UnitPlan → Bool
-stays_of standing = stays_by standing.firsts standing.mover
+stays_of standing unit = stays_by standing.firsts standing.mover unit && is_settled standing.strangers unit
 
 -- the least NAME at each address, of the first so many units
 pub record AreFirsts (units : List UnitPlan) (count : ℕ) (firsts : List (Option ℕ)) : Type 0 where

@@ -1,14 +1,16 @@
 //! What is wrong with what a plan asks of its bus.
-ghost use Rattle.std.specs.Prelude.{◌≡◌, ◌≢◌, ◌∷◌, ◌++◌, [], None, IfOk, IfSome, IfNone, OnOk, OnErr};
-ghost use Rattle.j39_load.specs.LoadFindings.{AreLoadFindings, load_findings};
-ghost use Rattle.j39_load.specs.Loads.{bits_of_second, total_load};
+ghost use Rattle.std.specs.Prelude.{◌≡◌, ◌≢◌, ◌⊎◌, ◌∷◌, ◌++◌, [], None, length, IfOk, IfSome, IfNone, OnOk, OnErr};
+ghost use Rattle.j39_load.specs.LoadFindings.{AreLoadFindings, IsFullOfDamage, all_findings, is_whole_late, is_in_limit, load_findings};
+ghost use Rattle.j39_load.specs.Loads.{bits_of_second};
 ghost use Rattle.j39_load.specs.Places.{told_from};
 ghost use Rattle.j39_load.specs.inside.Faults.{found_at};
 
+use crate::ages::find_old_needs;
 use crate::delay::Delay;
 use crate::load_finding::LoadFinding;
 use crate::loads::Loads;
 use crate::streams::bits_per_ms;
+use crate::whole_time::WholeTime;
 use j39_findings::{Bitrate, Plan, Timing};
 use std::alloc::{AllocError, Global};
 
@@ -19,6 +21,26 @@ pub(crate) enum Fault {
     Lateness,
 }
 
+// Whether long messages to all are whole within a time that is known and so short.
+fn is_within(limit: u32, bits: Option<u64>) -> bool
+    ensures { result ≡ is_in_limit limit bits }
+{
+    match bits {
+        Some(bits) => bits <= u64::from(limit),
+        None => false,
+    }
+}
+
+// Whether their deadline is written, and they aren't.
+fn is_whole_late(whole: &WholeTime) -> bool
+    ensures { result ≡ is_whole_late whole.now }
+{
+    match whole.limit {
+        Some(limit) => !is_within(limit, whole.bits),
+        None => false,
+    }
+}
+
 fn finding_at(fault: Fault, flow: usize, delay: Option<Delay>) -> Option<LoadFinding>
     ensures some { IfSome result (λ finding. found_at fault flow delay ≡ finding ∷ []) }
     ensures none { IfNone result (found_at fault flow delay ≡ []) }
@@ -26,6 +48,9 @@ fn finding_at(fault: Fault, flow: usize, delay: Option<Delay>) -> Option<LoadFin
     match (fault, delay) {
         (Fault::WithoutPeriod, None) => Some(LoadFinding::NoPeriod(flow)),
         (Fault::Lateness, Some(Delay::Late)) => Some(LoadFinding::LateFlow(flow)),
+        (Fault::Lateness, Some(Delay::Whole(whole))) if is_whole_late(&whole) => {
+            Some(LoadFinding::LateFlow(flow))
+        }
         _ => None,
     }
 }
@@ -55,22 +80,22 @@ pub fn bits_of_second(bitrate: Bitrate) -> u32
     1_000 * u32::from(bits_per_ms(bitrate))
 }
 
-/// What is wrong with what the flows of a plan ask of its bus: nothing where nothing is known of this, or where there are none, and no
-/// memory is asked for then.
+/// What is wrong with what a plan asks of its bus: nothing where nothing is known of this, and no memory is asked for
+/// then. Nor is it of a plan without flows, unless damaged frames alone are too many for the bus.
 pub fn check_load(alloc: Global, plan: &Plan) -> Result<Vec<LoadFinding>, AllocError>
     ensures findings { IfOk result (λ findings. AreLoadFindings plan.now plan.now.timing findings.items) }
-    ensures memory { OnErr result ((plan.now.timing ≢ None) × (plan.now.flows.items ≢ [])) }
+    ensures memory { OnErr result ((plan.now.timing ≢ None) × ((plan.now.flows.items ≢ []) ⊎ IsFullOfDamage plan.now.timing)) }
 {
     let Some(timing) = plan.timing else {
         return Ok(Vec::new(alloc));
     };
     let loads = Loads::new(alloc, timing, plan)?;
     let delays = loads.delays(alloc)?;
-    load_findings(alloc, timing, loads.total(), delays.as_slice())
+    all_findings(alloc, plan, timing, loads.total(), delays.as_slice())
 }
 
-/// What is wrong with a load of so many bits in a second and with these delays of the flows. Asks for memory only where something is.
-pub fn load_findings(
+// What is wrong with a load of so many bits in a second and with these delays of the flows. Asks for memory only where something is.
+fn load_findings(
     alloc: Global,
     timing: Timing,
     load: u64,
@@ -85,5 +110,22 @@ pub fn load_findings(
         findings.push(LoadFinding::Overload(load))?;
     }
     find_each(&mut findings, Fault::Lateness, delays)?;
+    Ok(findings)
+}
+
+/// With what is wrong with the ages of what the units of the plan need.
+pub fn all_findings(
+    alloc: Global,
+    plan: &Plan,
+    timing: Timing,
+    load: u64,
+    delays: &[Option<Delay>],
+) -> Result<Vec<LoadFinding>, AllocError>
+    requires { length delays.now ≡ length plan.now.flows.items }
+    ensures findings { IfOk result (λ findings. findings.items ≡ all_findings plan.now timing load delays.now) }
+    ensures memory { OnErr result (all_findings plan.now timing load delays.now ≢ []) }
+{
+    let mut findings = load_findings(alloc, timing, load, delays)?;
+    find_old_needs(&mut findings, timing, &plan.flows, delays, &plan.needs)?;
     Ok(findings)
 }

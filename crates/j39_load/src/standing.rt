@@ -1,7 +1,7 @@
 //! Which units of a plan hold their planned addresses, whatever the others do.
 ghost use Rattle.std.specs.Prelude.{◌≡◌, length, IsTrue};
 ghost use Rattle.j39_load.specs.Loads.{may_move};
-ghost use Rattle.j39_load.specs.Standing.{AreFirsts, TellsWhoStays, IsMover, is_first_by, is_least, is_mover_by, smaller, stays_of};
+ghost use Rattle.j39_load.specs.Standing.{AreFirsts, TellsWhoStays, IsMover, is_first_by, is_least, is_mover_by, is_settled, smaller, stays_by, stays_of};
 
 use j39_findings::{Plan, UnitPlan};
 use j39_id::Name;
@@ -65,6 +65,20 @@ fn mover_of(units: &[UnitPlan], firsts: &Firsts) -> Option<Name>
     mover
 }
 
+// Of the units that the plan has: it is the first at its planned address, and none to which others move has to go there.
+fn stays_among(firsts: &Firsts, mover: Option<Name>, unit: &UnitPlan) -> bool
+    ensures { result ≡ stays_by firsts.now mover unit.now }
+{
+    is_first(firsts, unit) && (!is_in_pool(unit.address.number()) || is_least(mover, unit.name))
+}
+
+// Where strangers come a unit that may choose may have to move for one.
+fn is_settled(strangers: bool, unit: &UnitPlan) -> bool
+    ensures { result ≡ is_settled strangers unit.now }
+{
+    !strangers || !unit.name.is_arbitrary()
+}
+
 /// What tells which units of a plan stay.
 #[derive(Drop)]
 pub struct Standing {
@@ -72,6 +86,8 @@ pub struct Standing {
     pub firsts: [Option<Name>; 256],
     /// The smallest NAME of those that may have to move.
     pub mover: Option<Name>,
+    /// Whether units that stand in no plan may come.
+    pub strangers: bool,
 }
 
 impl Standing {
@@ -80,14 +96,17 @@ impl Standing {
     {
         let firsts = firsts_of(plan.units.as_slice());
         let mover = mover_of(plan.units.as_slice(), &firsts);
-        Standing { firsts, mover }
+        Standing {
+            firsts,
+            mover,
+            strangers: plan.strangers > 0,
+        }
     }
 
     pub fn stays(&self, unit: &UnitPlan) -> bool
         ensures { result ≡ stays_of self.now unit.now }
     {
-        is_first(&self.firsts, unit)
-            && (!is_in_pool(unit.address.number()) || is_least(self.mover, unit.name))
+        stays_among(&self.firsts, self.mover, unit) && is_settled(self.strangers, unit)
     }
 
     /// Whether the unit may come to hold another address than its planned one.

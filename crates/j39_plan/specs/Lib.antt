@@ -4,6 +4,7 @@ pub mod Faults
 pub mod FlowTables
 pub mod GroupTables
 pub mod Growing
+pub mod NeedTables
 pub mod OnePlan
 pub mod Outcome
 pub mod Schema
@@ -13,4 +14,5 @@ pub mod TextKinds
 pub mod TextTables
 pub mod TimingTables
 pub mod UnitTables
+pub mod Versions
 pub mod Words

@@ -1,5 +1,5 @@
 -- A frame of a greater identifier has just begun, and the frame waits for all of it.
-use Rattle.std.proofs.Common.{◌≡◌, ◌+◌, ◌*◌, ◌-◌, ◌<◌, refl, arith, inl, inr}
+use Rattle.std.proofs.Common.{◌*◌, ◌-◌, arith, inl, inr}
 use Rattle.std.proofs.lemmas.Bool.{cases_lt}
 use Rattle.j39_timing.specs.Schedule.{Schedule, IsLegal}
 

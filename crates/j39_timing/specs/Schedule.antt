@@ -1,6 +1,6 @@
 -- Frames on a CAN bus in bit times (ISO 11898-1: arbitration by the identifier, a frame that was begun is sent to its end), and how
 -- long a frame waits.
-use Rattle.std.specs.Prelude.{◌≡◌, ◌≢◌, ℕ, ◌+◌, ◌<◌, ◌≤◌, ◌⊎◌, ◌&&◌, cond, nat_lt, nat_le}
+use Rattle.std.specs.Prelude.{◌≡◌, ℕ, ◌+◌, ◌<◌, ◌≤◌, ◌&&◌, cond, nat_lt, nat_le}
 use Rattle.j39_timing.specs.Sums.{total}
 
 -- what is seen of a bus before the bit `now`; a frame that hasn't begun by then starts at `now` or later

@@ -74,6 +74,50 @@ to = \"all\"
 period = 1
 ";
 
+// A group that A sends to all each 10 ms, and a long one with a deadline; B needs the first one younger than it comes.
+const AWAITED: &str = "version = 4
+[timing]
+bitrate = 250000
+unplanned = 0
+errors = { count = 1, every = 100 }
+[[unit]]
+label = \"A\"
+address = 0
+name = { identity = 1 }
+[[unit]]
+label = \"B\"
+address = 3
+name = { identity = 2 }
+[[group]]
+label = \"EEC1\"
+pgn = 61444
+priority = 3
+length = 8
+[[group]]
+label = \"VI\"
+pgn = 65260
+priority = 6
+length = 18
+[[flow]]
+group = \"EEC1\"
+from = \"A\"
+to = \"all\"
+period = 10
+jitter = 1
+pause = 20
+[[flow]]
+group = \"VI\"
+from = \"A\"
+to = \"all\"
+period = 1000
+deadline = 620
+[[need]]
+unit = \"B\"
+group = \"EEC1\"
+from = \"A\"
+within = 22
+";
+
 // A group with one signal.
 const TEMPERATURE: &str = "version = 1
 [[group]]
@@ -155,6 +199,19 @@ const LOAD_OF_A_LATE_FLOW: Row = Row {
     input: "",
     text: "flow 1 EEC1 A all late of 1000 us
 load 160000 of 250000
+",
+    verdict: Verdict::Findings,
+};
+
+const LOAD_OF_AN_OLD_NEED: Row = Row {
+    name: "a need that is too old",
+    command: Command::Load,
+    plan: AWAITED,
+    input: "",
+    text: "flow 1 EEC1 A all within 3044 of 10000 us
+flow 2 VI A all frames 4 whole within 611376 of 620000 us
+need 1 B EEC1 old of 22000 us
+load 18550 of 250000
 ",
     verdict: Verdict::Findings,
 };
@@ -300,13 +357,14 @@ frames 4 skipped 0 bad 0
 };
 
 /// Each row.
-pub const ROWS: [Row; 13] = [
+pub const ROWS: [Row; 14] = [
     FRAME,
     CHECK_OF_NOTHING,
     CHECK_OF_A_PLAN,
     CHECK_OF_A_FINDING,
     ADDRESSES_OF_A_CONTEST,
     LOAD_OF_A_LATE_FLOW,
+    LOAD_OF_AN_OLD_NEED,
     RUN_OF_A_CONFLICT,
     RUN_OF_A_BROADCAST,
     RUN_OF_A_MESSAGE,

@@ -10,10 +10,12 @@ pub mod Resting
 pub mod Run
 pub mod Sound
 pub mod Staying
+pub mod Strangers
 pub mod Settling
 pub mod Leading
 pub mod Ending
 pub mod Conflict
 pub mod Arriving
+pub mod Needed
 pub mod SoundPlan
 pub mod Opening

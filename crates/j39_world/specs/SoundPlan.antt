@@ -1,9 +1,12 @@
--- What a plan without findings has: its addresses, its signals and its reports are sound, planned addresses that differ stay, what units
--- have noted of one another is right where no claim is undelivered, what it keeps free stays free, its claims die down, and its messages
--- come to their end; one of which nothing is lost arrives.
+-- What a plan without findings has: its addresses, its signals and its reports are sound, addresses also with strangers, planned ones that
+-- differ stay, what units have noted of one another is right where no claim is undelivered, what it keeps free stays free, its claims die
+-- down, and its messages come to their end; one of which nothing is lost arrives; and what its units need is sent to them, and reads there
+-- as it was written.
 use Rattle.std.specs.Prelude.{◌≡◌, ℕ, List, Some}
+use Rattle.j39_findings.specs.Needs.{AreNeedsMet}
 use Rattle.j39_findings.specs.SoundSignals.{SoundSignals}
 use Rattle.j39_findings.specs.declared.plan.Plan.{Plan}
+use Rattle.j39_findings.specs.declared.plan.unit_plan.UnitPlan.{UnitPlan}
 use Rattle.j39_findings.specs.declared.steps.Step.{Step}
 use Rattle.j39_world.specs.Transfers.{Outgoing}
 use Rattle.j39_world.specs.World.{World, all_off}
@@ -12,12 +15,18 @@ use Rattle.j39_world.specs.PlannedUnits.{units_of}
 use Rattle.j39_world.specs.Settling.{Settles}
 use Rattle.j39_world.specs.Ending.{TransfersEnd}
 use Rattle.j39_world.specs.Arriving.{ArrivesUnanswered, ArrivesAnswered}
+use Rattle.j39_world.specs.Needed.{NeededValuesArrive}
 use Rattle.j39_world.specs.Sound.{AreAddressesSound, AreAddressesDifferent, AreNotesRight, AreKeptFree, IsQuiet, AreReportsSound, IsAcknowledgedReported}
 use Rattle.j39_world.specs.Staying.{ArePlannedApart, HoldsAlone, HoldsPlanned, IsAloneThere}
+use Rattle.j39_world.specs.Strangers.{HasStrangers}
 
 -- it holds in every world of every run of the plan, with all lawful choices and whatever is lost
 abbrev pub Always : Plan → (World → Type 0) → Type 0
 Always plan Holds = (steps : List Step) (w : World) → Run plan all_off steps w → Holds w
+
+-- it holds in every world of every run of the plan with strangers, of which at most so many come as it tells
+abbrev pub AlwaysBeside : Plan → (Plan → World → Type 0) → Type 0
+AlwaysBeside plan Holds = (joined : Plan) (strangers : List UnitPlan) → HasStrangers plan joined strangers → Always joined (Holds joined)
 
 -- a unit is between the beginning of a message and its rest
 abbrev pub IsSending : World → Type 0
@@ -33,6 +42,9 @@ pub record IsSound (plan : Plan) : Type 0 where
   pub planned : ArePlannedApart (units_of plan) → Always plan (λ w. (u : ℕ) → HoldsPlanned (units_of plan) w u)
   -- a unit that is alone at its planned address holds it while it is on, and no other one that is on does
   pub alone : Always plan (λ w. (u : ℕ) → IsAloneThere plan.keep_free (units_of plan) u → HoldsAlone (units_of plan) w u)
+  -- with strangers, addresses are sound too, and differ where no claim is undelivered
+  pub strangers : AlwaysBeside plan AreAddressesSound
+  pub strangers_quiet : AlwaysBeside plan (λ joined w. IsQuiet w.claims → AreAddressesDifferent w)
   -- where no claim is undelivered, what a unit has noted of another that is on is the address that this one holds
   pub notes : Always plan (λ w. IsQuiet w.claims → AreNotesRight plan w)
   -- no arbitrary unit holds an address that is kept free
@@ -52,3 +64,7 @@ pub record IsSound (plan : Plan) : Type 0 where
   -- one of several frames to one unit of which nothing is lost is reported once and acknowledged, where its receiver has none of its group
   -- for its sender alone between its beginning and its rest
   pub arrives_answered : Always plan (ArrivesAnswered plan)
+  -- some flow brings each unit what it needs
+  pub needs : AreNeedsMet plan
+  -- and a message of it of which nothing is lost is reported once by this unit, and its signals read there what they were last given
+  pub needed : Always plan (NeededValuesArrive plan)

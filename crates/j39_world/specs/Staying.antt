@@ -48,6 +48,13 @@ abbrev pub StaysByOthers : List PlannedUnit → ℕ → Type 0
 StaysByOthers units u =
     IsFirstThere units u × (IsOutsidePool units u ⊎ EachSmaller units u (λ v. is_arbitrary (unit_at units v).name ≡ true → Stays units v))
 
+-- ---- who stays where strangers come
+
+-- where units may come that aren't planned, each unit that may choose may have to move for one of these: of those that stay without them
+-- the others do
+abbrev pub StaysBeside : ℕ → List PlannedUnit → ℕ → Type 0
+StaysBeside strangers units u = Stays units u × ((strangers ≡ 0) ⊎ (is_arbitrary (unit_at units u).name ≡ false))
+
 -- ---- who is alone at its address
 
 -- this holds of each other unit

@@ -1,5 +1,6 @@
 //! What is wrong with the units of a plan.
-ghost use Rattle.std.specs.Prelude.{◌≡◌};
+ghost use Rattle.std.specs.Prelude.{◌≡◌, ◌≤◌, length};
+ghost use Rattle.j39_id.specs.Limits.{unit_limit};
 ghost use Rattle.j39_findings.specs.Adding.{Adds};
 ghost use Rattle.j39_findings.specs.Found.{have_same_name, have_same_fixed_address, is_fixed, needed_addresses, needs_pool_address, unit_findings};
 
@@ -61,25 +62,30 @@ fn needs_pool_address(kept: &AddressSet, unit: &UnitPlan) -> bool
     unit.name.is_arbitrary() || is_in_pool(unit.address.number()) && !kept.has(unit.address)
 }
 
-fn needed_addresses(kept: &AddressSet, units: &[UnitPlan]) -> usize
-    ensures { result ≡ needed_addresses kept.now units.now }
+// With so many strangers, each of which may have to move to any address there.
+fn needed_addresses(kept: &AddressSet, strangers: u8, units: &[UnitPlan]) -> usize
+    requires { length units.now ≤ unit_limit }
+    ensures { result ≡ needed_addresses kept.now strangers units.now }
 {
-    units
+    let planned = units
         .iter()
         .filter(|unit| needs_pool_address(kept, unit))
-        .count()
+        .count();
+    planned + usize::from(strangers)
 }
 
 pub fn find_in_units(
     findings: &mut Vec<Finding>,
     kept: &AddressSet,
+    strangers: u8,
     units: &[UnitPlan],
 ) -> Result<(), AllocError>
-    ensures { Adds result findings.old.items findings.new.items (unit_findings kept.now units.now) }
+    requires { length units.now ≤ unit_limit }
+    ensures { Adds result findings.old.items findings.new.items (unit_findings kept.now strangers units.now) }
 {
     find_pairs(findings, &SameName, units)?;
     find_pairs(findings, &SameFixedAddress, units)?;
-    let needed = needed_addresses(kept, units);
+    let needed = needed_addresses(kept, strangers, units);
     let room = kept.free_count();
     push_if(findings, needed > room, Finding::TooFewAddresses(needed))
 }

@@ -10,6 +10,7 @@ use Rattle.j39_log.specs.inside.Listening.{IsInRange}
 use Rattle.j39_tp.specs.Receiver.{Receiving}
 use Rattle.j39_tp.specs.declared.packet.Packet.{Packet}
 use Rattle.j39_tp.specs.declared.receiving.progress.Progress.TheVariants.{Complete}
+use Rattle.j39_follow.specs.Contests.{Timed}
 use Rattle.j39_follow.specs.FollowReports.{IsMessageReport, IsNotice}
 use Rattle.j39_follow.specs.FollowText.{IsFollowedAs, IsPacketReport, frames_seen, in_frame}
 use Rattle.j39_follow.specs.declared.message.Sort.{Sort}
@@ -20,7 +21,7 @@ abbrev pub frames_with : List Seen → Frame → List Frame
 frames_with seen f = frames_seen seen ++ f ∷ []
 
 -- the report of the message that a listener holds, and what it counts as
-pub record IsCompleted (plan : Plan) (frames : List Frame) (front : List ℕ) (listener : Receiving) (i : Ident) (counted : Option Sort)
+pub record IsCompleted (plan : Plan) (log : List Timed) (front : List ℕ) (listener : Receiving) (i : Ident) (counted : Option Sort)
     (old new : List ℕ) : Type 0 where
   pub pgn : ℕ
   pub bytes : List ℕ
@@ -29,20 +30,20 @@ pub record IsCompleted (plan : Plan) (frames : List Frame) (front : List ℕ) (l
   pub counted_is : counted ≡ Some sort
   pub progress_is : listener.progress ≡ Complete pgn
   pub bytes_are : listener.bytes ≡ bytes
-  pub report : IsMessageReport plan frames front (record { pgn = pgn; bytes = bytes; ident = i; framed = None }) sort piece
+  pub report : IsMessageReport plan log front (record { pgn = pgn; bytes = bytes; ident = i; framed = None }) sort piece
   pub text_is : new ≡ old ++ piece
 
 -- what a frame tells, what it is, and what it ends
-pub record IsFrameWritten (plan : Plan) (listeners : Listeners) (seen : List Seen) (front : List ℕ) (f : Frame)
+pub record IsFrameWritten (plan : Plan) (listeners : Listeners) (seen : List Seen) (log : List Timed) (front : List ℕ) (f : Frame)
     (sort : Sort) (ended : Option Sort) (old new : List ℕ) : Type 0 where
   pub packet : Option Packet
   pub notice : List ℕ
   pub report : List ℕ
   pub carried : List ℕ
-  pub heard_as : IsFollowedAs plan (frames_with seen f) f packet
+  pub heard_as : IsFollowedAs plan log f packet
   pub range : IsInRange packet
-  pub notice_is : IsNotice plan (frames_with seen f) front f notice
-  pub report_is : IsMessageReport plan (frames_with seen f) front (in_frame f) sort report
-  pub carried_is : IsPacketReport plan seen front f packet (option_to_list ended) carried
+  pub notice_is : IsNotice plan log front f notice
+  pub report_is : IsMessageReport plan log front (in_frame f) sort report
+  pub carried_is : IsPacketReport plan seen log front f packet (option_to_list ended) carried
   pub heard : HaveHeardOneMore plan listeners seen (record { frame = f; packet = packet })
   pub text_is : new ≡ old ++ (notice ++ (report ++ carried))

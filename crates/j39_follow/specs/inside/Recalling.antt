@@ -8,10 +8,12 @@ use Rattle.j39_id.specs.declared.frame.Frame.{Frame}
 use Rattle.j39_findings.specs.declared.plan.Plan.{Plan}
 use Rattle.j39_log.specs.inside.Listening.{AreAllInRange, IsInRange}
 use Rattle.j39_tp.specs.declared.packet.Packet.{Packet}
-use Rattle.j39_follow.specs.FollowReports.{IsMessageReport, IsNotice}
-use Rattle.j39_follow.specs.FollowText.{IsFollowedAs, IsPacketReport, FollowedPast, FollowsLines, follow_counts_line, flow_ends, frames_seen, group_ends, in_frame, nothing_followed}
+use Rattle.j39_follow.specs.Contests.{frames_of}
+use Rattle.j39_follow.specs.FollowReports.{IsMessageReport, IsNotice, stamp}
+use Rattle.j39_follow.specs.FollowText.{IsFollowedAs, IsPacketReport, FollowedPast, FollowsLines, follow_counts_line, flow_ends, frames_seen, group_ends, in_frame, lines_with, nothing_followed, need_ends}
 use Rattle.j39_follow.specs.declared.message.Sort.{Sort}
 use Rattle.j39_follow.specs.declared.reading.Reading.{Reading}
+use Rattle.j39_follow.specs.inside.Contesting.{AreContests}
 use Rattle.j39_follow.specs.inside.FrameWriting.{IsFrameWritten, frames_with}
 use Rattle.j39_follow.specs.inside.Hearing.{HaveHeardSince}
 use Rattle.j39_follow.specs.inside.Recounting.{Knows}
@@ -25,6 +27,8 @@ interface_of (Some name) = Some name.items
 -- who holds what, what each pair heard and what was sent is as these tell
 pub record Remembers (plan : Plan) (reading : Reading) (past : FollowedPast) : Type 0 where
   pub knows : Knows plan reading.directory (frames_seen past.seen)
+  pub contests : AreContests plan reading.contests past.timed
+  pub frames : frames_of past.timed ≡ frames_seen past.seen
   pub heard : HaveHeardSince plan reading.listeners past.seen
   pub ranges : AreAllInRange past.seen
   pub tally : IsTally plan reading.tally past.sent
@@ -65,28 +69,36 @@ pub record IsOneMore (old new : Reading) : Type 0 where
   pub bad : new.bad ≤ old.bad + 1
   pub elsewhere : new.elsewhere ≤ old.elsewhere + 1
 
+-- nothing but the text and the listeners changed
+pub record IsSameButWritten (old new : Reading) : Type 0 where
+  pub directory : new.directory ≡ old.directory
+  pub contests : new.contests ≡ old.contests
+  pub tally : new.tally ≡ old.tally
+  pub counts : IsSameCounts old new
+
 -- the frame was written, and what was sent was counted
-pub record IsReported (plan : Plan) (old new : Reading) (past : FollowedPast) (front : List ℕ) (f : Frame) : Type 0 where
+pub record IsReported (plan : Plan) (old new : Reading) (past : FollowedPast) (time : List ℕ) (f : Frame) : Type 0 where
   pub sort : Sort
   pub ended : Option Sort
-  pub written : IsFrameWritten plan new.listeners past.seen front f sort ended old.text new.text
+  pub written : IsFrameWritten plan new.listeners past.seen (lines_with past f time) (stamp old.number time) f sort ended old.text new.text
   pub tally : IsTally plan new.tally (past.sent ++ sort ∷ option_to_list ended)
 
 -- the frame was written and counted, and what it tells was noted
-pub record IsFollowed (plan : Plan) (old new : Reading) (past : FollowedPast) (front : List ℕ) (f : Frame) : Type 0 where
+pub record IsFollowed (plan : Plan) (old new : Reading) (past : FollowedPast) (time : List ℕ) (f : Frame) : Type 0 where
   pub sort : Sort
   pub ended : Option Sort
   pub packet : Option Packet
   pub notice : List ℕ
   pub report : List ℕ
   pub carried : List ℕ
-  pub heard_as : IsFollowedAs plan (frames_with past.seen f) f packet
+  pub heard_as : IsFollowedAs plan (lines_with past f time) f packet
   pub range : IsInRange packet
-  pub notice_is : IsNotice plan (frames_with past.seen f) front f notice
-  pub report_is : IsMessageReport plan (frames_with past.seen f) front (in_frame f) sort report
-  pub carried_is : IsPacketReport plan past.seen front f packet (option_to_list ended) carried
+  pub notice_is : IsNotice plan (lines_with past f time) (stamp old.number time) f notice
+  pub report_is : IsMessageReport plan (lines_with past f time) (stamp old.number time) (in_frame f) sort report
+  pub carried_is : IsPacketReport plan past.seen (lines_with past f time) (stamp old.number time) f packet (option_to_list ended) carried
   pub text_is : new.text ≡ old.text ++ (notice ++ (report ++ carried))
   pub knows : Knows plan new.directory (frames_with past.seen f)
+  pub contests : AreContests plan new.contests (lines_with past f time)
   pub heard : HaveHeardSince plan new.listeners (past.seen ++ record { frame = f; packet = packet } ∷ [])
   pub tally : IsTally plan new.tally (past.sent ++ sort ∷ option_to_list ended)
 
@@ -102,4 +114,5 @@ pub record HasFollowedLines (plan : Plan) (told : List Line) (reading : Reading)
 abbrev pub behind_reports : Plan → FollowedPast → List ℕ → List ℕ
 behind_reports plan past units =
     flow_ends plan past.sent 0 plan.flows.items ++ (group_ends plan past.sent 0 plan.groups.items
-    ++ (units ++ follow_counts_line (length past.seen) past.skipped past.bad past.elsewhere))
+    ++ (units ++ (need_ends plan past.sent 0 plan.needs.items
+    ++ follow_counts_line (length past.seen) past.skipped past.bad past.elsewhere)))

@@ -81,5 +81,5 @@ HasNames plan parties (Some names) = AreNames plan parties 256 names.items
 -- a directory has what these frames tell
 pub record Knows (plan : Plan) (directory : Directory) (frames : List Frame) : Type 0 where
   pub recounts : Recounts plan directory.holders frames
-  pub parties : ArePartiesOf plan frames directory.parties
-  pub names : HasNames plan directory.parties directory.names
+  pub parties : ArePartiesOf plan frames directory.parties.all
+  pub names : HasNames plan directory.parties.all directory.parties.names

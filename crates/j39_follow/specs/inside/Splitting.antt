@@ -1,6 +1,6 @@
 -- How a line is taken apart.
-use Rattle.std.specs.Prelude.{◌≡◌, ◌⊎◌, ◌-◌, ◌≤◌, ℕ, List, length, slice_index}
-use Rattle.j39_id.specs.FrameLine.{IsLastWord}
+use Rattle.std.specs.Prelude.{◌≡◌, ◌⊎◌, ◌-◌, ◌<◌, ◌≤◌, ℕ, true, List, drop, length, take, slice_index}
+use Rattle.j39_id.specs.FrameLine.{IsLastWord, is_separator}
 
 -- the last word of a line, and what stands before it
 abbrev pub SplitsLast : List ℕ → List ℕ → List ℕ → Type 0
@@ -16,3 +16,9 @@ pub record IsEnclosed (word : List ℕ) : Type 0 where
   pub room : length word ≤ 32
   pub opens : slice_index word 0 ≡ 40
   pub closes : slice_index word (length word - 1) ≡ 41
+
+-- a word stands in the line at this place, parted from what is beside it
+pub record IsWordAt (line : List ℕ) (place : ℕ) (word : List ℕ) : Type 0 where
+  pub begins : 0 < place → is_separator (slice_index line (place - 1)) ≡ true
+  pub there : take (length word) (drop place line) ≡ word
+  pub ends : length word < length (drop place line) → is_separator (slice_index (drop place line) (length word)) ≡ true

@@ -1,15 +1,13 @@
 -- A unit that is alone at its planned address: it holds it, and no other unit does.
-use Rattle.std.proofs.Common.{◌≡◌, ◌≢◌, ℕ, ◌<◌, inl, inr, arith, true, false, length, sym, ap, ◌∙◌, subst, Some}
+use Rattle.std.proofs.Common.{◌≡◌, ◌≢◌, ℕ, ◌<◌, inl, inr, arith, true, false, sym, ap, ◌∙◌, subst, Some}
 use Rattle.std.proofs.lemmas.Bool.{true≢false, cases_Bool}
 use Rattle.std.specs.FinSet.{contains}
 use Rattle.j39_id.specs.Name.{is_arbitrary}
-use Rattle.j39_claim.specs.ClaimRule.{PlannedUnit}
 use Rattle.j39_findings.specs.Findings.{Clean}
 use Rattle.j39_findings.specs.declared.plan.Plan.{Plan}
 use Rattle.j39_world.specs.PlannedUnits.{units_of, unit_at}
 use Rattle.j39_world.specs.SoundPlan.{Always}
-use Rattle.j39_world.specs.Staying.{EachOther, HoldsAlone, HoldsPlanned, IsAloneThere, IsFirstThere, Stays}
-use Rattle.j39_world.specs.World.{World}
+use Rattle.j39_world.specs.Staying.{EachOther, HoldsAlone, HoldsPlanned, IsAloneThere, IsFirstThere}
 use Rattle.j39_laws.proofs.Addresses.CleanUnits.{clean_units, unkept}
 use Rattle.j39_laws.proofs.Addresses.SoundAddresses.{addresses_sound, kept_free}
 use Rattle.j39_laws.proofs.Addresses.Staying.{stay, stand}

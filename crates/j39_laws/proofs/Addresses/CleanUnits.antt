@@ -1,5 +1,5 @@
 -- What a plan without findings has of its units.
-use Rattle.std.proofs.Common.{◌≡◌, ◌≢◌, ℕ, zero, suc, ◌^◌, ◌<◌, ◌≤◌, Bool, true, false, cond, ◌&&◌, ◌||◌, List, [], ◌∷◌, length, map, inl, inr, Some, refl, sym}
+use Rattle.std.proofs.Common.{◌≡◌, ◌≢◌, ℕ, zero, suc, ◌+◌, ◌^◌, ◌<◌, ◌≤◌, Bool, true, false, cond, ◌&&◌, ◌||◌, List, [], ◌∷◌, length, map, inl, inr, Some, refl, sym}
 use Rattle.std.proofs.Common.{ap, ◌∙◌, arith}
 use Rattle.std.proofs.lemmas.Bool.{cases_Bool, cases_lt}
 use Rattle.std.proofs.lemmas.List.Sums.{sum_by-cons}
@@ -51,7 +51,7 @@ placed kept [] i inside = absurd (omega arith)
 placed kept (p ∷ ps) zero inside = (p, refl, refl)
 placed kept (p ∷ ps) (suc i) inside = placed kept ps i (omega arith)
 
-count : (kept : FinSet nat_cmp) (ps : List UnitPlan) → count_by needs_pool (map (planned_unit kept) ps) ≡ needed_addresses kept ps
+pub count : (kept : FinSet nat_cmp) (ps : List UnitPlan) → count_by needs_pool (map (planned_unit kept) ps) ≡ count_by (needs_pool_address kept) ps
 count kept [] = refl
 count kept (p ∷ ps) =
     let one = sum_by-cons (λ x. cond (needs_pool x) 1 0) (planned_unit kept p) (map (planned_unit kept) ps) in
@@ -98,6 +98,17 @@ unkept plan clean i inside arbitrary =
     ] in
     ap (λ (c : PlannedUnit). contains plan.keep_free c.preferred) at ∙ free
 
+-- the pool has an address that isn't kept free for each that needs one, and for each stranger
+pub room_told : (plan : Plan) → Clean plan → count_by (needs_pool_address plan.keep_free) plan.units.items + plan.strangers ≤ free_count plan.keep_free
+room_told plan clean =
+    let needed = needed_addresses plan.keep_free plan.strangers plan.units.items in
+    let planned = count_by (needs_pool_address plan.keep_free) plan.units.items in
+    elim (cases_lt (free_count plan.keep_free) needed) [
+      | inl too_many ↦
+          absurd (clean (TooFewAddresses needed) ((planned, passing_meet (Decides-needs_pool_address plan.keep_free) plan.units.items, refl), too_many))
+      | inr few ↦ few
+    ]
+
 pub clean_units : (plan : Plan) → Clean plan → IsClean (units_of plan)
 clean_units plan clean = record {
   range = names_in_range plan;
@@ -119,12 +130,7 @@ clean_units plan clean = record {
   kept = λ i inside.
       let (p, is, at) = placed plan.keep_free plan.units.items i inside in
       ap (λ (c : PlannedUnit). c.kept) at;
-  room =
-      let needed = needed_addresses plan.keep_free plan.units.items in
-      elim (cases_lt (free_count plan.keep_free) needed) [
-        | inl too_many ↦ absurd (clean (TooFewAddresses needed) (passing_meet (Decides-needs_pool_address plan.keep_free) plan.units.items, too_many))
-        | inr few ↦ omega (arith, count plan.keep_free plan.units.items)
-      ];
+  room = omega (arith, count plan.keep_free plan.units.items, room_told plan clean);
   unkept = λ i inside arbitrary.
       let (p, is, at) = placed plan.keep_free plan.units.items i inside in
       ap (λ (c : PlannedUnit). contains c.kept (unit_at (units_of plan) i).preferred) at ∙ unkept plan clean i inside arbitrary;

@@ -57,7 +57,7 @@ claim_steps plan clean = record {
   given = λ stations claims inv u v unit_u unit_v. given (units_of plan) clean stations claims inv u v (in_units plan u unit_u) (in_units plan v unit_v);
 }
 
-invariant : (plan : Plan) → IsClean (units_of plan) → Always plan (λ w. AddressInvariant (units_of plan) w.stations w.claims)
+pub invariant : (plan : Plan) → IsClean (units_of plan) → Always plan (λ w. AddressInvariant (units_of plan) w.stations w.claims)
 invariant plan clean =
     always plan (λ x. AddressInvariant (units_of plan) x.stations x.claims) (at_first (units_of plan))
     (claim_steps_keep plan (AddressInvariant (units_of plan)) (claim_steps plan clean))

@@ -56,7 +56,7 @@ addresses_differ units apart u v in_u in_v other fixed_u fixed_v same =
     ]
 
 -- a unit has no note of itself
-no_own : (units : List PlannedUnit) → IsClean units → (v : ℕ) → v < length units → (notes : FinMap nat_cmp ℕ) → AllNoted units v notes
+pub no_own : (units : List PlannedUnit) → IsClean units → (v : ℕ) → v < length units → (notes : FinMap nat_cmp ℕ) → AllNoted units v notes
     → get notes (unit_at units v).name ≡ None
 no_own units clean v in_v notes all =
     elim (get notes (unit_at units v).name) as (λ o. get notes (unit_at units v).name ≡ o → o ≡ None) [

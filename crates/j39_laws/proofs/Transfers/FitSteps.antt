@@ -1,6 +1,6 @@
 -- In every world of every run what is on the wire fits, no message is longer than one can be, and each receiver has gathered what
 -- it took.
-use Rattle.std.proofs.Common.{◌≡◌, ℕ, zero, suc, ◌≤◌, ◌==◌, ◌&&◌, eqb, nat_le, List, [], ◌∷◌, ◌++◌, length, refl, sym, subst, subst₂, arith, inl, inr, Option, Some, None}
+use Rattle.std.proofs.Common.{◌≡◌, ℕ, zero, suc, ◌≤◌, ◌&&◌, eqb, nat_le, List, [], ◌∷◌, ◌++◌, length, refl, sym, subst, subst₂, arith, inl, inr, Option, Some, None}
 use Rattle.std.specs.Prelude.{map, slice_get}
 use Rattle.std.specs.List.{AllByRecursion}
 use Rattle.std.specs.Option.{option_map_or}

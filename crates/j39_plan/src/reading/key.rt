@@ -6,12 +6,20 @@ ghost use Rattle.std.specs.Prelude.{◌≡◌};
 pub enum Key {
     Version,
     KeepFree,
+    Strangers,
     Timing,
     Bitrate,
     Unplanned,
+    UnplannedPriority,
+    TransportPriority,
+    BroadcastGap,
+    BroadcastGapMost,
+    Errors,
+    Count,
     Unit,
     Group,
     Flow,
+    Need,
     Label,
     Address,
     Chooser,
@@ -47,6 +55,9 @@ pub enum Key {
     To,
     Period,
     Deadline,
+    Jitter,
+    Pause,
+    Within,
 }
 
 impl Key {
@@ -59,12 +70,20 @@ impl Key {
         match self {
             Key::Version => "version",
             Key::KeepFree => "keep_free",
+            Key::Strangers => "strangers",
             Key::Timing => "timing",
             Key::Bitrate => "bitrate",
             Key::Unplanned => "unplanned",
+            Key::UnplannedPriority => "unplanned_priority",
+            Key::TransportPriority => "transport_priority",
+            Key::BroadcastGap => "broadcast_gap",
+            Key::BroadcastGapMost => "broadcast_gap_most",
+            Key::Errors => "errors",
+            Key::Count => "count",
             Key::Unit => "unit",
             Key::Group => "group",
             Key::Flow => "flow",
+            Key::Need => "need",
             Key::Label => "label",
             Key::Address => "address",
             Key::Chooser => "chooser",
@@ -100,6 +119,9 @@ impl Key {
             Key::To => "to",
             Key::Period => "period",
             Key::Deadline => "deadline",
+            Key::Jitter => "jitter",
+            Key::Pause => "pause",
+            Key::Within => "within",
         }
     }
 }

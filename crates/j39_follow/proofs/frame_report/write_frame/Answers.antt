@@ -1,29 +1,29 @@
-use Rattle.std.proofs.Common.{[], sym, subst, ◌∙◌, inl, inr, refl, Some, None}
+use Rattle.std.proofs.Common.{[], sym, ap, subst, ◌∙◌, inl, inr, refl, Some, None}
 use Rattle.std.proofs.lemmas.List.{append-nil}
 use Rattle.j39_follow.specs.FollowReports.{IsMessageReport, Message}
 use Rattle.j39_follow.specs.FollowText.{in_frame}
-use Rattle.j39_follow.specs.inside.FrameWriting.{frames_with}
+use Rattle.j39_follow.specs.inside.Contesting.{ShowsParties}
 use Rattle.j39_follow.specs.inside.Reporting.{front_of}
 use Rattle.j39_follow.proofs.FrameTexts.{is_a_group, is_no_group, three_texts}
 use Rattle.j39_follow.proofs.Heard.{unheard_more}
 use Rattle.j39_follow.proofs.frame_report.write_frame.Goals as goal
 
 pub returns-then-is_grouped : goal.returns-then-is_grouped
-returns-then-is_grouped c = λ seen knows have ranges.
+returns-then-is_grouped c = λ seen log shows have ranges.
     let plan = c.args.groups.now in
     let f = c.args.frame.now in
-    let frames = frames_with seen f in
     let front = front_of c.args.stamp in
     let sort = c.in_ok-sort.sort in
-    let notice = (rw c.plan.ensures at c.in_ok-write_notice.ensures) frames knows in
-    let message = c.in_ok-sort.ensures frames knows in
-    let report = subst (λ (m : Message). IsMessageReport plan frames front m sort message.0) c.in_frame.ensures message.1 in
+    let notice = (rw c.plan.ensures at c.in_ok-write_notice.ensures) log shows in
+    let there = subst (ShowsParties plan c.args.parties.now log) (sym (ap (λ (m : Message). m.ident) c.in_frame.ensures)) shows in
+    let message = c.in_ok-sort.ensures log there in
+    let report = subst (λ (m : Message). IsMessageReport plan log front m sort message.0) c.in_frame.ensures message.1 in
     record {
       packet = None;
       notice = notice.0;
       report = message.0;
       carried = [];
-      heard_as = inr (is_a_group plan frames front (in_frame f) sort message.0 report.0 report.1 report.2 report.3 report.4
+      heard_as = inr (is_a_group plan log front (in_frame f) sort message.0 report.0 report.1 report.2 report.3 report.4
           (sym c.is_grouped.ensures ∙ c.if-is_grouped.true));
       range = tt;
       notice_is = notice.1;
@@ -34,15 +34,15 @@ returns-then-is_grouped c = λ seen knows have ranges.
     }
 
 pub returns-in_default : goal.returns-in_default
-returns-in_default c = λ seen knows have ranges.
+returns-in_default c = λ seen log shows have ranges.
     let plan = c.args.groups.now in
     let f = c.args.frame.now in
-    let frames = frames_with seen f in
     let front = front_of c.args.stamp in
     let sort = c.in_ok-sort.sort in
-    let notice = (rw c.plan.ensures at c.in_ok-write_notice.ensures) frames knows in
-    let message = c.in_ok-sort.ensures frames knows in
-    let report = subst (λ (m : Message). IsMessageReport plan frames front m sort message.0) c.in_frame.ensures message.1 in
+    let notice = (rw c.plan.ensures at c.in_ok-write_notice.ensures) log shows in
+    let there = subst (ShowsParties plan c.args.parties.now log) (sym (ap (λ (m : Message). m.ident) c.in_frame.ensures)) shows in
+    let message = c.in_ok-sort.ensures log there in
+    let report = subst (λ (m : Message). IsMessageReport plan log front m sort message.0) c.in_frame.ensures message.1 in
     record {
       packet = None;
       notice = notice.0;
@@ -58,23 +58,23 @@ returns-in_default c = λ seen knows have ranges.
     }
 
 pub returns : goal.returns
-returns c = λ seen knows have ranges.
+returns c = λ seen log shows have ranges.
     let plan = c.args.groups.now in
     let f = c.args.frame.now in
-    let frames = frames_with seen f in
     let front = front_of c.args.stamp in
     let sort = c.in_ok-sort.sort in
-    let notice = (rw c.plan.ensures at c.in_ok-write_notice.ensures) frames knows in
-    let message = c.in_ok-sort.ensures frames knows in
-    let report = subst (λ (m : Message). IsMessageReport plan frames front m sort message.0) c.in_frame.ensures message.1 in
-    let carried = c.in_ok-ended.ensures.carried seen knows have ranges in
+    let notice = (rw c.plan.ensures at c.in_ok-write_notice.ensures) log shows in
+    let there = subst (ShowsParties plan c.args.parties.now log) (sym (ap (λ (m : Message). m.ident) c.in_frame.ensures)) shows in
+    let message = c.in_ok-sort.ensures log there in
+    let report = subst (λ (m : Message). IsMessageReport plan log front m sort message.0) c.in_frame.ensures message.1 in
+    let carried = c.in_ok-ended.ensures.carried seen log shows have ranges in
     record {
       packet = Some c.in-Some.packet;
       notice = notice.0;
       report = message.0;
       carried = carried.0;
       heard_as = (
-        is_no_group plan frames front (in_frame f) sort message.0 report.0 report.1 report.2 report.3 report.4
+        is_no_group plan log front (in_frame f) sort message.0 report.0 report.1 report.2 report.3 report.4
             (sym c.is_grouped.ensures ∙ c.if-is_grouped.false),
         c.in-Some.ensures.found.0,
       );

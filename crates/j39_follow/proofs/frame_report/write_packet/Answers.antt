@@ -6,7 +6,6 @@ use Rattle.j39_log.proofs.Completing.{carried_there, uncarried_there}
 use Rattle.j39_log.proofs.PairLists.{heard_itself}
 use Rattle.j39_log.specs.inside.Listening.{completes}
 use Rattle.j39_tp.specs.declared.packet.Packet.{Packet}
-use Rattle.j39_follow.specs.inside.FrameWriting.{frames_with}
 use Rattle.j39_follow.specs.inside.Hearing.{listener_between}
 use Rattle.j39_follow.proofs.Heard.{heard_packet, since_in_range}
 use Rattle.j39_follow.proofs.frame_report.write_packet.Goals as goal
@@ -28,9 +27,9 @@ returns-then-branch-clause-carried c =
     let new = listener_between c.listen.new.listeners i.sa i.ps in
     let told : completes old p ≡ true = sym c.in_ok-listen.ensures.told ∙ c.if-branch.true in
     IfOk-weaker c.write_completed.result _ _
-    (λ ended written. λ seen knows have ranges.
+    (λ ended written. λ seen log shows have ranges.
     let one = have i.sa i.ps i.sa_range i.ps_range in
-    let done = written (frames_with seen f) knows in (
+    let done = written log shows in (
       done.piece,
       (
         one.0,
@@ -57,7 +56,7 @@ returns-else-branch-clause-heard c = λ seen have.
     c.in_ok-listen.ensures.heard have
 
 pub returns-else-branch-clause-carried : goal.returns-else-branch-clause-carried
-returns-else-branch-clause-carried c = λ seen knows have ranges.
+returns-else-branch-clause-carried c = λ seen log shows have ranges.
     let i = c.args.frame.now.ident in
     let p : Packet = c.args.packet.now in
     let old = listener_between c.args.listeners.now i.sa i.ps in

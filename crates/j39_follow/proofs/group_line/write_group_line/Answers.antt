@@ -17,8 +17,8 @@ returns c =
     let group = c.args.group.now in
     let sent : List ℕ = sent_text group c.args.flow (arrived_message c.args.message) in
     IfOk-weaker c.write_sent.result _ _
-    (λ _ written. λ frames knows.
-    let parties = c.in_ok-write_parties.ensures frames knows in (
+    (λ _ written. λ log shows.
+    let parties = c.in_ok-write_parties.ensures log shows in (
       codes " from " ++ parties.0,
       parties.1,
       written

@@ -13,8 +13,8 @@ returns-then-claims_address c =
     let front = front_of c.args.stamp in
     let f = c.args.frame.now in
     IfOk-weaker c.write_claim.result _ _
-    (λ _ written. λ frames knows.
-    let way = a_way plan c.args.directory.now frames f.ident knows in (
+    (λ _ written. λ log shows.
+    let way = a_way plan c.args.parties.now log f.ident shows in (
       claim_line plan front f,
       (way.0, way.1, if_so (claims_address f) _ _ (sym c.claims_address.ensures ∙ c.if-claims_address.true)),
       written ∙ ap (λ (name : ℕ). c.args.text.now ++ claim_text plan front name f.ident.sa) c.carried_name.ensures,
@@ -27,8 +27,8 @@ returns-then-cannot_claim c =
     let front = front_of c.args.stamp in
     let f = c.args.frame.now in
     IfOk-weaker c.write_cannot.result _ _
-    (λ _ written. λ frames knows.
-    let way = a_way plan c.args.directory.now frames f.ident knows in (
+    (λ _ written. λ log shows.
+    let way = a_way plan c.args.parties.now log f.ident shows in (
       cannot_line plan front f,
       (
         way.0,
@@ -44,8 +44,8 @@ pub returns-then-requests_group : goal.returns-then-requests_group
 returns-then-requests_group c =
     let f = c.args.frame.now in
     IfOk-weaker c.write_request.result _ _
-    (λ _ written. λ frames knows.
-    let one = written frames knows in (
+    (λ _ written. λ log shows.
+    let one = written log shows in (
       _,
       (
         one.0,
@@ -59,9 +59,9 @@ returns-then-requests_group c =
     c.write_request.ensures
 
 pub returns-else-requests_group : goal.returns-else-requests_group
-returns-else-requests_group c = λ frames knows.
+returns-else-requests_group c = λ log shows.
     let f = c.args.frame.now in
-    let way = a_way c.args.plan.now c.args.directory.now frames c.args.frame.now.ident knows in (
+    let way = a_way c.args.plan.now c.args.parties.now log c.args.frame.now.ident shows in (
       [],
       (
         way.0,

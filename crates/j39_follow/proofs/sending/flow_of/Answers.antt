@@ -1,29 +1,31 @@
-use Rattle.std.proofs.Common.{◌≡◌, ◌<◌, List, length, get_or, sym, ap, subst, inl, inr, arith, ◌∙◌}
-use Rattle.std.proofs.lemmas.Bool.{cases_lt}
-use Rattle.j39_findings.specs.declared.plan.Plan.{Plan}
+use Rattle.std.proofs.Common.{◌≡◌, Option, ℕ, List, None, get_or, sym, ap, ◌∙◌}
+use Rattle.std.specs.List.{position}
+use Rattle.std.specs.Option.{option_or}
 use Rattle.j39_findings.specs.declared.plan.flow_plan.FlowPlan.{FlowPlan}
-use Rattle.j39_log.proofs.Indexes.{first_place, no_place}
-use Rattle.j39_follow.specs.Fits.{fits}
+use Rattle.j39_log.proofs.Indexes.{no_place}
+use Rattle.j39_follow.specs.Fits.{fits, fits_all}
+use Rattle.j39_follow.proofs.ToAll.{none_fits, none_for_all, unfit_for_all}
 use Rattle.j39_follow.proofs.sending.flow_of.Goals as goal
 
-pub returns-then-is_fit : goal.returns-then-is_fit
-returns-then-is_fit c =
-    let flows : List FlowPlan = c.args.groups.now.flows.items in
-    let place = c.loop-place.place in
-    let flow : FlowPlan = c.index.result.now in
-    let test = fits c.args.group c.args.sent in
-    let less : place < length flows = subst (λ (p : Plan). place < length p.flows.items) c.plan-plan.ensures (omega arith) in
-    let there : flow ≡ get_or flows place flow = subst (λ (p : Plan). flow ≡ get_or p.flows.items place flow) c.plan-plan.ensures c.index.ensures in
-    sym (first_place test place flows flow less (ap test (sym there) ∙ sym c.is_fit.ensures ∙ c.if-is_fit.true) c.loop-place.invariant)
+pub flow_of_all-requires : goal.flow_of_all-requires
+flow_of_all-requires c = sym c.first_flow.ensures ∙ c.in-Some.is
 
-pub returns : goal.returns
-returns c =
+pub returns-then-is_to_all : goal.returns-then-is_to_all
+returns-then-is_to_all c = sym c.flow_of_all.ensures
+
+pub returns-else-is_to_all : goal.returns-else-is_to_all
+returns-else-is_to_all c =
     let flows : List FlowPlan = c.args.groups.now.flows.items in
-    let place = c.loop-place.place in
-    sym (no_place (fits c.args.group c.args.sent) flows
-    (λ k flow less. elim (cases_lt k place) [
-      | inl before ↦ c.loop-place.invariant k flow before
-      | inr behind ↦
-          let within = subst (λ (p : Plan). k < length p.flows.items) (sym c.plan-plan.ensures) less in
-          absurd (omega (arith, behind, within))
-    ]))
+    let fit = position (fits c.args.group c.args.sent) flows in
+    let none = no_place (fits_all c.args.group c.args.sent) flows
+    (λ k flow less. none_for_all c.args.group c.args.sent (get_or flows k flow) (sym c.is_to_all.ensures ∙ c.if-is_to_all.false)) in
+    sym (ap (λ (o : Option ℕ). option_or o fit) none ∙ sym c.first_flow.ensures ∙ c.in-Some.is)
+
+pub returns-in-None : goal.returns-in-None
+returns-in-None c =
+    let flows : List FlowPlan = c.args.groups.now.flows.items in
+    let fit : Option ℕ = position (fits c.args.group c.args.sent) flows in
+    let unfit : fit ≡ None = sym c.first_flow.ensures ∙ c.in-None.is in
+    let none = no_place (fits_all c.args.group c.args.sent) flows
+    (λ k flow less. unfit_for_all c.args.group c.args.sent (get_or flows k flow) (none_fits (fits c.args.group c.args.sent) flows k flow unfit less)) in
+    sym (ap (λ (o : Option ℕ). option_or o fit) none ∙ unfit)

@@ -5,5 +5,6 @@ use Rattle.j39_laws.proofs.certificate.certify.Goals as goal
 pub returns : goal.returns
 returns c = record {
   sound = sound_by_laws c.args.checked.now (search rules) (search rules) (search rules) (search rules) (search rules) (search rules) (search rules)
-      (search rules) (search rules) (search rules) (search rules) (search rules) (search rules) (search rules);
+      (search rules) (search rules) (search rules) (search rules) (search rules) (search rules) (search rules) (search rules) (search rules)
+      (search rules) (search rules) (search rules);
 }

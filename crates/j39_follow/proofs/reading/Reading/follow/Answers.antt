@@ -1,12 +1,16 @@
 use Rattle.std.proofs.Common.{◌+◌, ◌<◌, ◌^◌, length, sym, subst, arith, ◌∙◌}
 use Rattle.std.proofs.lemmas.Result.{IfOk-weaker}
-use Rattle.j39_follow.specs.FollowText.{frames_seen}
+use Rattle.j39_follow.specs.FollowText.{frames_seen, lines_with}
+use Rattle.j39_follow.specs.LogLines.{moment_of}
+use Rattle.j39_follow.specs.declared.contests.Contests.{Contests}
 use Rattle.j39_follow.specs.declared.directory.Directory.{Directory}
+use Rattle.j39_follow.specs.inside.Contesting.{AreContests}
 use Rattle.j39_follow.specs.inside.FrameWriting.{frames_with}
 use Rattle.j39_follow.specs.inside.Recounting.{Knows}
 use Rattle.j39_follow.proofs.Heard.{heard_on}
-use Rattle.j39_follow.proofs.Knowing.{knows_on}
-use Rattle.j39_follow.proofs.Recounts.{silent}
+use Rattle.j39_follow.proofs.Contested.{contests_on}
+use Rattle.j39_follow.proofs.Knowing.{frames_as_well, knows_on}
+use Rattle.j39_follow.proofs.Recounts.{or_left, silent}
 use Rattle.j39_follow.proofs.reading.Reading.follow.Goals as goal
 
 pub returns-clause-followed : goal.returns-clause-followed
@@ -20,7 +24,9 @@ returns-clause-followed c =
     let sent = of.few in
     let room : length past.sent + 2 < 2 ^ 64 = omega (arith, few, sent) in
     let knows = knows_on plan directory (frames_seen past.seen) f nothing of.knows in
-    let told = reported past knows of.heard of.ranges of.tally room in
+    let same = frames_as_well past f c.args.time.now of.frames in
+    let contests = contests_on plan c.args.self.now.contests past.timed (record { frame = f; time = moment_of c.args.time.now }) nothing of.contests in
+    let told = reported past (subst (Knows plan directory) (sym same) knows) contests of.heard of.ranges of.tally room in
     let w = told.written in
     record {
       sort = told.sort;
@@ -36,8 +42,12 @@ returns-clause-followed c =
       carried_is = w.carried_is;
       text_is = w.text_is;
       knows = subst (λ (d : Directory). Knows plan d (frames_with past.seen f)) (sym c.report.ensures.directory) knows;
-      heard = heard_on plan past.seen (record { frame = f; packet = w.packet }) directory.parties c.report.new.self.listeners
+      contests = subst (λ (cs : Contests). AreContests plan cs (lines_with past f c.args.time.now)) (sym c.report.ensures.contests) contests;
+      heard = heard_on plan past.seen (record { frame = f; packet = w.packet }) directory.parties.all c.report.new.self.listeners
           of.knows.parties knows.parties w.heard;
       tally = told.tally;
     })
     c.report.ensures.reported
+
+pub follow_claim-requires : goal.follow_claim-requires
+follow_claim-requires c = or_left _ _ (sym c.claims_address.ensures ∙ c.if-claims_address.true)

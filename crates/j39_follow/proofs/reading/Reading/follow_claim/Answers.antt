@@ -1,8 +1,13 @@
-use Rattle.std.proofs.Common.{◌+◌, ◌<◌, ◌^◌, List, length, sym, subst, arith}
+use Rattle.std.proofs.Common.{◌+◌, ◌<◌, ◌^◌, ℕ, List, Option, length, sym, subst, arith}
 use Rattle.j39_findings.specs.declared.plan.Plan.{Plan}
-use Rattle.j39_follow.specs.FollowText.{frames_seen}
+use Rattle.j39_follow.specs.FollowText.{frames_seen, lines_with}
 use Rattle.j39_follow.specs.declared.directory.Directory.{Directory}
+use Rattle.j39_follow.specs.Contests.{Timed, frames_of}
+use Rattle.j39_follow.specs.LogLines.{moment_of}
+use Rattle.j39_follow.specs.declared.contests.Contests.{Contests}
 use Rattle.j39_follow.specs.declared.who.Who.{Who}
+use Rattle.j39_follow.specs.inside.Contesting.{AreContests, IsBegun}
+use Rattle.j39_follow.proofs.Knowing.{frames_as_well}
 use Rattle.j39_follow.specs.inside.FrameWriting.{frames_with}
 use Rattle.j39_follow.specs.inside.Recounting.{ArePartiesOf, Knows}
 use Rattle.j39_follow.proofs.Heard.{heard_anew}
@@ -12,16 +17,25 @@ pub returns-clause-followed : goal.returns-clause-followed
 returns-clause-followed c = λ past of few.
     let plan = c.args.groups.now in
     let f = c.args.frame.now in
+    let time : Option ℕ = moment_of c.args.time.now in
+    let log : List Timed = lines_with past f c.args.time.now in
     let sent = of.few in
     let room : length past.sent + 2 < 2 ^ 64 = omega (arith, few, sent) in
-    let heard : Knows plan c.hear.new.self (frames_with past.seen f) =
-    subst (λ (p : Plan). Knows p c.hear.new.self (frames_with past.seen f)) c.plan.ensures
-    (c.hear.ensures (frames_seen past.seen) (subst (λ (p : Plan). Knows p c.args.self.now.directory (frames_seen past.seen)) (sym c.plan.ensures) of.knows)) in
-    let told = c.in_ok-report.ensures.reported past heard of.heard of.ranges of.tally room in
+    let heard : Knows plan c.hear-2.new.self (frames_with past.seen f) =
+    subst (λ (p : Plan). Knows p c.hear-2.new.self (frames_with past.seen f)) c.plan-2.ensures
+    (c.hear-2.ensures (frames_seen past.seen) (subst (λ (p : Plan). Knows p c.args.self.now.directory (frames_seen past.seen)) (sym c.plan-2.ensures) of.knows)) in
+    let first = subst (Knows plan c.args.self.now.directory) (sym of.frames) of.knows in
+    let begun : IsBegun plan past.timed (record { frame = f; time = time }) c.begun-contest.result =
+    subst (λ (t : Option ℕ). IsBegun plan past.timed (record { frame = f; time = t }) c.begun-contest.result) c.moment-now.ensures
+    (subst (λ (p : Plan). IsBegun p past.timed (record { frame = f; time = c.moment-now.result }) c.begun-contest.result) c.plan.ensures
+    (c.begun-contest.ensures past.timed (subst (λ (p : Plan). Knows p c.args.self.now.directory (frames_of past.timed)) (sym c.plan.ensures) first))) in
+    let contests = c.hear.ensures plan past.timed time of.contests begun in
+    let same = frames_as_well past f c.args.time.now of.frames in
+    let told = c.in_ok-report.ensures.reported past (subst (Knows plan c.hear-2.new.self) (sym same) heard) contests of.heard of.ranges of.tally room in
     let w = told.written in
     let knows = subst (λ (d : Directory). Knows plan d (frames_with past.seen f)) (sym c.in_ok-report.ensures.directory) heard in
-    let before = subst (λ (ps : List Who). ArePartiesOf plan (frames_seen past.seen) ps) (sym c.parties-before.ensures) of.knows.parties in
-    let after = subst (λ (ps : List Who). ArePartiesOf plan (frames_with past.seen f) ps) (sym c.parties-after.ensures) knows.parties in
+    let before = subst (λ (ps : List Who). ArePartiesOf plan (frames_seen past.seen) ps) (sym c.all_parties-before.ensures) of.knows.parties in
+    let after = subst (λ (ps : List Who). ArePartiesOf plan (frames_with past.seen f) ps) (sym c.all_parties-after.ensures) knows.parties in
     record {
       sort = told.sort;
       ended = told.ended;
@@ -36,7 +50,8 @@ returns-clause-followed c = λ past of few.
       carried_is = w.carried_is;
       text_is = w.text_is;
       knows = knows;
-      heard = heard_anew plan past.seen (record { frame = f; packet = w.packet }) c.parties-before.result c.parties-after.result
+      contests = subst (λ (cs : Contests). AreContests plan cs log) (sym c.in_ok-report.ensures.contests) contests;
+      heard = heard_anew plan past.seen (record { frame = f; packet = w.packet }) c.all_parties-before.result c.all_parties-after.result
           c.report.new.self.listeners c.part.new.listeners before after c.part.ensures w.heard;
       tally = told.tally;
     }

@@ -6,9 +6,11 @@ pub returns-clause-past : goal.returns-clause-past
 returns-clause-past c = record {
   remembers = record {
     knows = c.new-2.ensures;
-    heard = nothing_heard_since c.args.plan.now c.new-3.result c.new-3.ensures;
+    contests = c.new-3.ensures c.args.plan.now;
+    frames = refl;
+    heard = nothing_heard_since c.args.plan.now c.new-4.result c.new-4.ensures;
     ranges = λ k d less. absurd (omega arith);
-    tally = c.new-4.ensures c.args.plan.now;
+    tally = c.new-5.ensures c.args.plan.now;
     few = omega arith;
   };
   interface_is = refl;

@@ -6,13 +6,13 @@ use Rattle.j39_id.specs.declared.frame.Frame.{Frame}
 use Rattle.j39_log.specs.LogPairs.{Seen}
 use Rattle.j39_log.specs.inside.Listening.{IsInRange}
 use Rattle.j39_follow.specs.FollowReports.{IsMessageReport, IsNotice, stamp}
-use Rattle.j39_follow.specs.FollowText.{IsPacketReport, FollowedPast, in_frame}
+use Rattle.j39_follow.specs.FollowText.{IsPacketReport, FollowedPast, in_frame, lines_with}
 use Rattle.j39_follow.specs.LogLines.{interface_behind}
 use Rattle.j39_follow.specs.declared.message.Sort.{Sort}
-use Rattle.j39_follow.specs.inside.FrameWriting.{frames_with}
 use Rattle.j39_follow.specs.inside.Recalling.{interface_of}
 use Rattle.j39_follow.specs.inside.Recounting.{Knows}
 use Rattle.j39_follow.proofs.Heard.{frames_more}
+use Rattle.j39_follow.proofs.Knowing.{frames_as_well}
 use Rattle.j39_follow.proofs.reading.Reading.read_frame.Goals as goal
 
 one_at_most : (o : Option Sort) → length (option_to_list o) ≤ 1
@@ -34,6 +34,7 @@ returns-clause-frame c = λ past recalls.
     let sorts : List Sort = option_to_list done.ended in
     let next : FollowedPast = record past {
       seen = past.seen ++ x ∷ [];
+      timed = lines_with past f time;
       interface = interface_behind past.interface named;
       sent = past.sent ++ done.sort ∷ sorts;
     } in
@@ -53,16 +54,18 @@ returns-clause-frame c = λ past recalls.
         report = done.report;
         carried = done.carried;
         heard_as = done.heard_as;
-        notice_is = subst (λ (n : ℕ). IsNotice plan (frames_with past.seen f) (stamp n time) f done.notice) number done.notice_is;
-        report_is = subst (λ (n : ℕ). IsMessageReport plan (frames_with past.seen f) (stamp n time) (in_frame f) done.sort done.report) number
+        notice_is = subst (λ (n : ℕ). IsNotice plan (lines_with past f time) (stamp n time) f done.notice) number done.notice_is;
+        report_is = subst (λ (n : ℕ). IsMessageReport plan (lines_with past f time) (stamp n time) (in_frame f) done.sort done.report) number
             done.report_is;
-        carried_is = subst (λ (n : ℕ). IsPacketReport plan past.seen (stamp n time) f done.packet sorts done.carried) number done.carried_is;
+        carried_is = subst (λ (n : ℕ). IsPacketReport plan past.seen (lines_with past f time) (stamp n time) f done.packet sorts done.carried) number done.carried_is;
         text_is = refl;
         next_is = refl;
       },
       record {
         remembers = record {
           knows = subst (λ (fs : List Frame). Knows plan c.follow.new.self.directory fs) (sym (frames_more past.seen x)) done.knows;
+          contests = done.contests;
+          frames = frames_as_well past f time m.frames ∙ sym (frames_more past.seen x);
           heard = done.heard;
           ranges = All-push (λ (y : Seen). IsInRange y.packet) past.seen x m.ranges done.range;
           tally = done.tally;

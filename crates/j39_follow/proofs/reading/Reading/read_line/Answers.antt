@@ -27,7 +27,7 @@ returns-then-is_elsewhere-clause-line c = λ past recalls.
         read.ensures,
         names_it read.result.now named.result named.ensures.named named.ensures.none,
         inl (
-          subst (λ (i : Option (List ℕ)). IsElsewhere i (option_copied named.result)) recalls.interface_is
+          subst (λ (i : Option (List ℕ)). IsElsewhere i read.result.now (option_copied named.result)) (c.kept_interface.ensures ∙ recalls.interface_is)
               (c.is_elsewhere.ensures.0 c.if-is_elsewhere.true),
           refl,
           refl,
@@ -56,7 +56,7 @@ returns-in-Ok-clause-line c =
           λ there.
               false_true (sym c.if-is_elsewhere.false
               ∙ c.is_elsewhere.ensures.1
-              (subst (λ (i : Option (List ℕ)). IsElsewhere i (option_copied named.result)) (sym recalls.interface_is) there)),
+              (subst (λ (i : Option (List ℕ)). IsElsewhere i read.result.now (option_copied named.result)) (sym (c.kept_interface.ensures ∙ recalls.interface_is)) there)),
           inl (c.in-Ok.frame, c.time_text.result.now, spelled, c.time_text.ensures, told.2),
         ),
       ),
@@ -80,7 +80,7 @@ returns-in-Err-clause-line c = λ past recalls.
           λ there.
               false_true (sym c.if-is_elsewhere.false
               ∙ c.is_elsewhere.ensures.1
-              (subst (λ (i : Option (List ℕ)). IsElsewhere i (option_copied named.result)) (sym recalls.interface_is) there)),
+              (subst (λ (i : Option (List ℕ)). IsElsewhere i read.result.now (option_copied named.result)) (sym (c.kept_interface.ensures ∙ recalls.interface_is)) there)),
           inr (
             c.in-Err.error,
             subst (λ (r : Result Frame LineError). IfErr r (λ e. HasLineFault read.result.now e)) c.in-Err.is c.read_frame-read.ensures.refused,

@@ -1,0 +1,258 @@
+-- The times that are told of long messages to all bound when they are whole.
+use Rattle.std.proofs.Common.{◌≡◌, ℕ, zero, suc, ◌+◌, ◌*◌, ◌<◌, ◌≤◌, Bool, true, not, leb, if◌then◌else◌, List, [], ◌∷◌, ◌++◌, length, get_or, map, sum_by, Option, Some, None}
+use Rattle.std.proofs.Common.{refl, sym, ap, ◌∙◌, subst, inl, inr, arith}
+use Rattle.std.proofs.Math.Nat.{mul-le-mul_left}
+use Rattle.std.proofs.lemmas.Bool.{cases_Bool, leb-true}
+use Rattle.std.proofs.lemmas.List.{get_or-append-add, get_or_append_left, length-map}
+use Rattle.std.proofs.lemmas.List.FromFn.{get_or-map-range_with_len, length-map-range_with_len}
+use Rattle.std.proofs.lemmas.List.Sorted.{sum_by-IsPermutation}
+use Rattle.std.proofs.lemmas.List.Sums.{sum_by-cons}
+use Rattle.std.proofs.lemmas.Option.{cond_some, none-some, same_Some, slice_get-get_or, slice_get_within}
+use Rattle.std.specs.List.{filter_map, range_with_len, slice_get}
+use Rattle.j39_findings.specs.declared.plan.Plan.{Plan}
+use Rattle.j39_findings.specs.declared.plan.timing.Timing.{Timing}
+use Rattle.j39_findings.specs.declared.plan.unit_plan.UnitPlan.{UnitPlan}
+use Rattle.j39_load.specs.declared.broadcast.Broadcast.{Broadcast}
+use Rattle.j39_load.specs.declared.delay.Delay.{Delay}
+use Rattle.j39_load.specs.declared.delay.Delay.TheVariants.{Within, Late, Long, Whole}
+use Rattle.j39_load.specs.declared.flow_frames.FlowFrames.{FlowFrames}
+use Rattle.j39_load.specs.declared.flow_load.FlowLoad.{FlowLoad}
+use Rattle.j39_load.specs.declared.load_finding.LoadFinding.TheVariants.{LateFlow}
+use Rattle.j39_load.specs.declared.messages.Messages.{Messages}
+use Rattle.j39_load.specs.declared.messages.Messages.TheVariants.{Short, ToAll, ToOne}
+use Rattle.j39_load.specs.declared.unit_load.UnitLoad.{UnitLoad}
+use Rattle.j39_load.specs.declared.whole_time.WholeTime.{WholeTime}
+use Rattle.j39_load.specs.Ages.{old_needs}
+use Rattle.j39_load.specs.Asked.{Asked, announcements_of_unit, asked_of, frames_asked, frames_of_flow, packets_of_unit, singles_of_flow, total_load}
+use Rattle.j39_load.specs.Broadcasts.{broadcasts_by, known_unit_load, unit_loads_of}
+use Rattle.j39_load.specs.Delays.{IsDelayOf, IsTurnTimeBy, IsWaitOf, IsWholeTime, announcements_place, known_turn_time, longest_pause, packet_time, packets_place, turn_time, whole_time}
+use Rattle.j39_load.specs.LoadFindings.{AreLoadFindings, AsksOfBus, is_in_limit, is_whole_late, lateness, load_findings, without_period}
+use Rattle.j39_load.specs.Loads.{bits_of_ms}
+use Rattle.j39_load.specs.Places.{told_from}
+use Rattle.j39_load.specs.PlannedFrames.{AreDeadlinesKept, AreMessagesOf, ArePlannedFramesInTime, AreTimesBounds, AreWholeOnEveryBus, AreWholeWithin, IsOneTurn}
+use Rattle.j39_load.proofs.BoundedFlows.{delay_at, get_or_inside, none_of_two, nothing_found, sent_on_every_bus, short_bounded, told_nothing, told_of, with_damage}
+use Rattle.j39_load.proofs.PositivePeriods.{all_paced}
+use Rattle.j39_timing.specs.Messages.{LongMessage, time_of_message, time_of_messages}
+use Rattle.j39_timing.proofs.Messages.{messages_whole}
+
+-- ---- one message of each flow
+
+module _ (announcement gap packet : ℕ) where
+  abbrev time : LongMessage → ℕ
+  time m = time_of_message announcement gap packet (length m.packets)
+
+  -- no more than the longest of each together
+  most_time : (broadcasts : List Broadcast) (each : List (Option LongMessage)) → AreMessagesOf broadcasts each
+      → sum_by time (filter_map (λ m. m) each)
+      ≤ length broadcasts * announcement + sum_by (λ (b : Broadcast). b.packets) broadcasts * (gap + packet)
+  most_time [] [] fit = omega arith
+  most_time [] (m ∷ ms) fit = absurd fit
+  most_time (b ∷ bs) [] fit = absurd fit
+  most_time (b ∷ bs) (None ∷ ms) fit =
+      let rest = most_time bs ms fit.1 in
+      let all = sum_by-cons (λ (x : Broadcast). x.packets) b bs in
+      rw (all) (omega (arith, rest))
+  most_time (b ∷ bs) (Some m ∷ ms) fit =
+      let rest = most_time bs ms fit.1 in
+      let all = sum_by-cons (λ (x : Broadcast). x.packets) b bs in
+      let one = sum_by-cons time m (filter_map (λ x. x) ms) in
+      let few : (gap + packet) * length m.packets ≤ (gap + packet) * b.packets = mul-le-mul_left (gap + packet) fit.0 in
+      rw (all, one) (omega (arith, rest, few))
+
+  pub turn_most : (broadcasts : List Broadcast) (messages : List LongMessage) → IsOneTurn broadcasts messages
+      → time_of_messages announcement gap packet messages
+      ≤ length broadcasts * announcement + sum_by (λ (b : Broadcast). b.packets) broadcasts * (gap + packet)
+  turn_most broadcasts messages turn =
+      let same = sum_by-IsPermutation time messages (filter_map (λ m. m) turn.each) turn.order in
+      let most = most_time broadcasts turn.each turn.fit in
+      omega (arith, same, most)
+
+-- ---- what a unit asks
+
+by_broadcasts : (timing : Timing) (units : List UnitPlan) (stays : UnitPlan → Bool) (u : ℕ) (broadcasts : List Broadcast) (load : UnitLoad)
+    → known_unit_load timing units stays u broadcasts ≡ Some load
+    → (load.flows ≡ length broadcasts) × (load.all_packets ≡ sum_by (λ (b : Broadcast). b.packets) broadcasts)
+by_broadcasts timing units stays u [] load is = absurd (none-some load is)
+by_broadcasts timing units stays u (b ∷ bs) load is =
+    let same = same_Some _ load is in
+    (sym (ap (λ (l : UnitLoad). l.flows) same), sym (ap (λ (l : UnitLoad). l.all_packets) same))
+
+of_unit_load : (timing : Timing) (units : List UnitPlan) (stays : UnitPlan → Bool) (flows : List (Option FlowLoad)) (u : ℕ) (load : UnitLoad)
+    → get_or (unit_loads_of timing units stays flows) u None ≡ Some load
+    → (load.flows ≡ length (broadcasts_by u flows)) × (load.all_packets ≡ sum_by (λ (b : Broadcast). b.packets) (broadcasts_by u flows))
+of_unit_load timing units stays [] u load is = absurd (none-some load is)
+of_unit_load timing units stays (flow ∷ flows) u load is =
+    let tell : ℕ → Option UnitLoad = λ v. known_unit_load timing units stays v (broadcasts_by v (flow ∷ flows)) in
+    let inside : u < length (map tell (range_with_len 0 (length units))) = get_or_inside (map tell (range_with_len 0 (length units))) u load is in
+    let below : u < length units = omega (arith, inside, length-map-range_with_len tell 0 (length units)) in
+    by_broadcasts timing units stays u (broadcasts_by u (flow ∷ flows)) load
+    (sym (get_or-map-range_with_len tell 0 (length units) u u None below (omega arith)) ∙ is)
+
+-- ---- where its frames stand
+
+module _ (asked : Asked) (u : ℕ) (load : UnitLoad) (its : get_or asked.units u None ≡ Some load) where
+  abbrev flows : List (Option FlowLoad)
+  flows = asked.flows
+
+  abbrev units : List (Option UnitLoad)
+  units = asked.units
+
+  inside : u < length units
+  inside = get_or_inside units u load its
+
+  -- what is read of a unit's load
+  read_of : (read : Option UnitLoad → Option FlowFrames) → get_or (map read units) u None ≡ read (Some load)
+  read_of read = read_map read units u None inside ∙ ap read its
+    where
+      read_map : {X Y : Type 0} (f : Option X → Option Y) (xs : List (Option X)) (k : ℕ) (d : Option Y) → k < length xs
+          → get_or (map f xs) k d ≡ f (get_or xs k None)
+      read_map f [] k d below = absurd (omega arith)
+      read_map f (x ∷ xs) zero d below = refl
+      read_map f (x ∷ xs) (suc k) d below = read_map f xs k d (omega (arith, below))
+
+  -- behind both lists of the flows
+  behind_flows : (n : ℕ) → get_or (frames_asked asked) (2 * length flows + n) None
+      ≡ get_or (map packets_of_unit units ++ map announcements_of_unit units) n None
+  behind_flows n =
+      let rest : List (Option FlowFrames) = map packets_of_unit units ++ map announcements_of_unit units in
+      let first : length (map frames_of_flow flows) + (length (map singles_of_flow flows) + n) ≡ 2 * length flows + n =
+      omega (arith, length-map flows frames_of_flow, length-map flows singles_of_flow) in
+      ap (λ (k : ℕ). get_or (frames_asked asked) k None) (sym first)
+      ∙ get_or-append-add (map frames_of_flow flows) (map singles_of_flow flows ++ rest) (length (map singles_of_flow flows) + n) None
+      ∙ get_or-append-add (map singles_of_flow flows) rest n None
+
+  pub packets_read : get_or (frames_asked asked) (packets_place asked u) None ≡ Some load.packets
+  packets_read = behind_flows u
+      ∙ get_or_append_left (map packets_of_unit units) (map announcements_of_unit units) None u
+      (let here = inside in omega (arith, here, length-map units packets_of_unit))
+      ∙ read_of packets_of_unit
+
+  pub announcements_read : get_or (frames_asked asked) (announcements_place asked u) None ≡ Some load.announcements
+  announcements_read = behind_flows (length units + u)
+      ∙ ap (λ (k : ℕ). get_or (map packets_of_unit units ++ map announcements_of_unit units) (k + u) None) (sym (length-map units packets_of_unit))
+      ∙ get_or-append-add (map packets_of_unit units) (map announcements_of_unit units) u None
+      ∙ read_of announcements_of_unit
+
+-- ---- bounds
+
+module _ (plan : Plan) (timing : Timing) (stays : UnitPlan → Bool) where
+  abbrev asked : Asked
+  asked = asked_of timing plan stays
+
+  module _ (u late : ℕ) (load : UnitLoad) (its : get_or asked.units u None ≡ Some load) (announced sent : ℕ)
+      (first : IsWaitOf timing (frames_asked asked) (announcements_place asked u) load.announcements (Some announced))
+      (rest : IsWaitOf timing (frames_asked asked) (packets_place asked u) load.packets (Some sent)) where
+    pub on_every_bus : AreWholeOnEveryBus timing asked u late (late + turn_time timing load announced sent)
+    on_every_bus s planned of legal of_announcements of_packets messages moment turn known in_turn seen =
+        let a = announcements_place asked u in
+        let p = packets_place asked u in
+        let gap = bits_of_ms timing timing.broadcast_gap_most in
+        let announcements = sent_on_every_bus timing (frames_asked asked) (all_paced timing plan stays) a load.announcements
+        (with_damage timing (frames_asked asked) a load.announcements (announcements_read asked u load its)) announced first.1 s planned of legal of_announcements in
+        let packets = sent_on_every_bus timing (frames_asked asked) (all_paced timing plan stays) p load.packets
+        (with_damage timing (frames_asked asked) p load.packets (packets_read asked u load its)) sent rest.1 s planned of legal of_packets in
+        let counts = of_unit_load timing plan.units.items stays asked.flows u load its in
+        let most : time_of_messages (announced + load.announcements.stream.bits) gap (sent + load.packets.stream.bits) messages
+        ≤ turn_time timing load announced sent =
+        subst (λ (n : ℕ). time_of_messages (announced + load.announcements.stream.bits) gap (sent + load.packets.stream.bits) messages
+        ≤ n * (announced + load.announcements.stream.bits) + load.all_packets * packet_time timing load sent) (sym counts.0)
+        (subst (λ (n : ℕ). time_of_messages (announced + load.announcements.stream.bits) gap (sent + load.packets.stream.bits) messages
+        ≤ length (broadcasts_by u asked.flows) * (announced + load.announcements.stream.bits) + n * packet_time timing load sent) (sym counts.1)
+        (turn_most (announced + load.announcements.stream.bits) gap (sent + load.packets.stream.bits) (broadcasts_by u asked.flows) messages turn)) in
+        let whole = messages_whole s planned of a p gap announced sent load.announcements.stream load.packets.stream announcements packets messages (moment + late)
+        in_turn known (omega (arith, most, seen)) in
+        omega (arith, whole, most)
+
+  -- where the time of a unit is known both waits are
+  by_load : (u late bits : ℕ) (load : Option UnitLoad) → get_or asked.units u None ≡ load → IsTurnTimeBy timing asked u load (Some bits)
+      → AreWholeOnEveryBus timing asked u late (late + bits)
+  by_load u late bits None its is = absurd (none-some bits (sym is))
+  by_load u late bits (Some load) its (announced, sent, first, rest, told) = by_waits announced sent first rest told
+    where
+      by_waits : (announced sent : Option ℕ) → IsWaitOf timing (frames_asked asked) (announcements_place asked u) load.announcements announced
+          → IsWaitOf timing (frames_asked asked) (packets_place asked u) load.packets sent → Some bits ≡ known_turn_time timing load announced sent
+          → AreWholeOnEveryBus timing asked u late (late + bits)
+      by_waits None sent first rest told = absurd (none-some bits (sym told))
+      by_waits (Some a) None first rest told = absurd (none-some bits (sym told))
+      by_waits (Some a) (Some p) first rest told =
+          let same : turn_time timing load a p ≡ bits =
+          (cond_some (leb (packet_time timing load p) (longest_pause timing)) (turn_time timing load a p) bits (sym told)).1 in
+          subst (λ (n : ℕ). AreWholeOnEveryBus timing asked u late (late + n)) same (on_every_bus u late load its a p first rest)
+
+  by_time : (broadcast : Broadcast) (whole : WholeTime) (bits : ℕ) (time : Option ℕ)
+      → IsTurnTimeBy timing asked broadcast.sender (get_or asked.units broadcast.sender None) time → whole ≡ whole_time broadcast time
+      → whole.bits ≡ Some bits → AreWholeOnEveryBus timing asked broadcast.sender broadcast.late bits
+  by_time broadcast whole bits None is same told = absurd (none-some bits (sym (ap (λ (w : WholeTime). w.bits) same) ∙ told))
+  by_time broadcast whole bits (Some turn) is same told =
+      let sum : broadcast.late + turn ≡ bits = same_Some (broadcast.late + turn) bits (sym (ap (λ (w : WholeTime). w.bits) same) ∙ told) in
+      subst (λ (n : ℕ). AreWholeOnEveryBus timing asked broadcast.sender broadcast.late n) sum
+      (by_load broadcast.sender broadcast.late turn (get_or asked.units broadcast.sender None) refl is)
+
+  of_broadcast : (flow bits : ℕ) (load : FlowLoad) (broadcast : Broadcast) (whole : WholeTime) → slice_get asked.flows flow ≡ Some (Some load)
+      → load.messages ≡ ToAll broadcast → IsWholeTime timing asked broadcast whole → whole.bits ≡ Some bits → AreWholeWithin timing asked flow whole bits
+  of_broadcast flow bits load broadcast whole its long is told = record {
+    load = load;
+    its = its;
+    broadcast = broadcast;
+    long = long;
+    time = is;
+    told = told;
+    bounds = by_time broadcast whole bits is.0 is.1 is.2 told;
+  }
+
+  of_messages : (flow bits : ℕ) (load : FlowLoad) (messages : Messages) (whole : WholeTime) → slice_get asked.flows flow ≡ Some (Some load)
+      → load.messages ≡ messages → IsDelayOf timing asked flow messages load.limit (Whole whole) → whole.bits ≡ Some bits
+      → AreWholeWithin timing asked flow whole bits
+  of_messages flow bits load (Short frames) whole its long is told = absurd is
+  of_messages flow bits load (ToOne frames) whole its long is told = absurd is
+  of_messages flow bits load (ToAll broadcast) whole its long is told = of_broadcast flow bits load broadcast whole its long is told
+
+  module _ (delays : List (Option Delay)) (asks : AsksOfBus plan timing stays delays) where
+    pub times_bound : AreTimesBounds timing asked delays
+    times_bound flow bits whole at told =
+        let has = delay_at plan timing stays delays asks flow (Some (Whole whole)) at in
+        of_messages flow bits has.0 has.0.messages whole has.1 refl has.2 told
+
+    -- where it isn't late it is known, and within its deadline
+    not_late : (limit : ℕ) (bits : Option ℕ) → is_in_limit limit bits ≡ true → (n : ℕ) × (bits ≡ Some n) × (n ≤ limit)
+    not_late limit None is = absurd (cc)
+    not_late limit (Some n) is = (n, refl, leb-true n limit is)
+
+    in_time : (flow : ℕ) (whole : WholeTime) (limit : ℕ) → whole.limit ≡ Some limit → lateness flow (Some (Whole whole)) ≡ []
+        → is_in_limit limit whole.bits ≡ true
+    in_time flow whole limit is none = elim (cases_Bool (is_in_limit limit whole.bits)) [
+      | inl in_it ↦ in_it
+      | inr out ↦
+          let late : is_whole_late whole ≡ true = rw (is) (ap not out) in
+          let told : LateFlow flow ∷ [] ≡ [] = sym (ap (λ (b : Bool). if b then LateFlow flow ∷ [] else []) late) ∙ none in
+          absurd (let some : 1 ≡ 0 = ap length told in omega arith)
+    ]
+
+    pub deadlines_kept : load_findings timing (total_load timing asked) delays ≡ [] → AreDeadlinesKept timing asked delays
+    deadlines_kept none flow limit load broadcast its long deadline =
+        let (paced, on_time) = nothing_found timing (total_load timing asked) delays none in
+        let count = asks.waits.count in
+        let below = slice_get_within asked.flows flow (Some load) its in
+        go paced on_time (get_or delays flow None) (slice_get-get_or delays flow None (omega (arith, count, below)))
+      where
+        go : told_from without_period 0 delays ≡ [] → told_from lateness 0 delays ≡ [] → (delay : Option Delay) → slice_get delays flow ≡ Some delay
+            → (whole : WholeTime) × (bits : ℕ) × (slice_get delays flow ≡ Some (Some (Whole whole))) × (bits ≤ limit)
+            × AreWholeWithin timing asked flow whole bits
+        go paced on_time None at = absurd (let told = told_nothing without_period 0 delays paced flow None at in
+            let some : 1 ≡ 0 = ap length told in omega arith)
+        go paced on_time (Some (Within bits)) at = absurd (told_of plan timing stays delays asks flow load (ToAll broadcast) (Within bits) its long at)
+        go paced on_time (Some Late) at = absurd (told_of plan timing stays delays asks flow load (ToAll broadcast) Late its long at)
+        go paced on_time (Some (Long count)) at = absurd (told_of plan timing stays delays asks flow load (ToAll broadcast) (Long count) its long at)
+        go paced on_time (Some (Whole whole)) at =
+            let is : IsWholeTime timing asked broadcast whole = told_of plan timing stays delays asks flow load (ToAll broadcast) (Whole whole) its long at in
+            let written : whole.limit ≡ Some limit = ap (λ (w : WholeTime). w.limit) is.2 ∙ deadline in
+            let same : 0 + flow ≡ flow = omega arith in
+            let none_told : lateness flow (Some (Whole whole)) ≡ [] =
+            subst (λ (n : ℕ). lateness n (Some (Whole whole)) ≡ []) same (told_nothing lateness 0 delays on_time flow (Some (Whole whole)) at) in
+            let known = not_late limit whole.bits (in_time flow whole limit written none_told) in
+            (whole, known.0, at, known.2, of_broadcast flow known.0 load broadcast whole its long is known.1)
+
+pub in_time_where_checked : (plan : Plan) (timing : Timing) → AreLoadFindings plan (Some timing) [] → ArePlannedFramesInTime plan timing
+in_time_where_checked plan timing (stays, delays, asks, none) =
+    let both = none_of_two (load_findings timing (total_load timing (asked_of timing plan stays)) delays) (old_needs timing plan.flows.items delays plan.needs.items) (sym none) in
+    (stays, delays, asks, short_bounded plan timing stays delays asks both.0, deadlines_kept plan timing stays delays asks both.0)
