@@ -15,8 +15,9 @@ use Rattle.j39_load.specs.declared.flow_load.FlowLoad.{FlowLoad}
 use Rattle.j39_load.specs.declared.load_finding.LoadFinding.{LoadFinding}
 use Rattle.j39_load.specs.declared.load_finding.LoadFinding.TheVariants.{NoPeriod, Overload, LateFlow, NeedTooOld}
 use Rattle.j39_load.specs.Ages.{least_age}
+use Rattle.j39_load.specs.Asked.{Asked, total_load}
 use Rattle.j39_load.specs.LoadFindings.{load_finding_number}
-use Rattle.j39_load.specs.Loads.{bits_of_ms, bits_of_second, total_load}
+use Rattle.j39_load.specs.Loads.{bits_of_ms, bits_of_second}
 use Rattle.j39_load.specs.Places.{told_from}
 use Rattle.j39_check.specs.FindingLines.{is_between}
 use Rattle.j39_text.specs.Labels.{group_label, signal_label, unit_label}
@@ -108,7 +109,7 @@ need_line plan timing delays place need = option_map_or
 -- ---- all of it
 
 -- each flow with its delay, each need that asks for an age with it, and the load
-unfoldable pub loads_text : Plan → Timing → List (Option FlowLoad) → List (Option Delay) → List ℕ
-loads_text plan timing loads delays = told_from (flow_line plan timing.bitrate loads delays) 0 plan.flows.items
+unfoldable pub loads_text : Plan → Timing → Asked → List (Option Delay) → List ℕ
+loads_text plan timing asked delays = told_from (flow_line plan timing.bitrate asked.flows delays) 0 plan.flows.items
     ++ (told_from (need_line plan timing delays) 0 plan.needs.items
-    ++ (field (codes "load ") (total_load loads) ++ (field (codes " of ") (bits_of_second timing.bitrate) ++ 10 ∷ [])))
+    ++ (field (codes "load ") (total_load timing asked) ++ (field (codes " of ") (bits_of_second timing.bitrate) ++ 10 ∷ [])))

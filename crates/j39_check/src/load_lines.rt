@@ -2,6 +2,7 @@
 ghost use Rattle.std.specs.Prelude.{◌≡◌, ◌+◌, ◌*◌, ◌++◌, ◌<◌, ◌^◌, length, OnOk};
 ghost use Rattle.j39_check.specs.LoadLines.{bit_microseconds, delay_text, flow_line, flow_text, known_delay_text, load_finding_line, load_finding_lines, load_finding_text};
 ghost use Rattle.j39_check.specs.LoadLines.{age_text, load_finding_part, loads_text, microseconds_field, need_line, need_signal_text, need_text, receiver_text};
+ghost use Rattle.j39_load.specs.Asked.{asked_by};
 ghost use Rattle.j39_load.specs.Places.{told_from};
 
 use crate::finding_lines::is_between;
@@ -293,7 +294,7 @@ pub(super) fn write_loads(
 ) -> Result<(), AllocError>
     requires loads { length loads.now.flows.items ≡ length plan.now.flows.items }
     requires delays { length delays.now ≡ length plan.now.flows.items }
-    ensures { OnOk result (text.new ≡ text.old ++ loads_text plan.now loads.now.timing loads.now.flows.items delays.now) }
+    ensures { OnOk result (text.new ≡ text.old ++ loads_text plan.now loads.now.timing (asked_by loads.now.flows.items loads.now.units.items) delays.now) }
 {
     write_flows(text, plan, loads, delays)?;
     write_needs(text, plan, loads.timing, delays)?;

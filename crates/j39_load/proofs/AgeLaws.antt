@@ -21,9 +21,10 @@ use Rattle.j39_load.specs.declared.load_finding.LoadFinding.TheVariants.{NeedToo
 use Rattle.j39_load.specs.Ages.{ages_for, ages_of, is_too_old, is_young, least, least_age, old_needs, oldness, smaller}
 use Rattle.j39_load.specs.FreshNeeds.{AreNeedsFresh, IsFreshOnEveryBus, IsNeedFresh}
 use Rattle.j39_load.specs.LoadFindings.{AreLoadFindings, AsksOfBus, load_findings}
-use Rattle.j39_load.specs.Loads.{bits_of_ms, load_of_flow, loads_of, total_load}
+use Rattle.j39_load.specs.Asked.{asked_of, total_load}
+use Rattle.j39_load.specs.Loads.{bits_of_ms, load_of_flow, loads_of}
 use Rattle.j39_load.specs.Places.{told_from}
-use Rattle.j39_load.proofs.BoundedFlows.{bounded, none_of_two, nothing_found, told_nothing}
+use Rattle.j39_load.proofs.BoundedFlows.{bounded, none_of_two, told_nothing}
 use Rattle.j39_timing.proofs.Ages.{fresh}
 use Rattle.j39_timing.specs.Ages.{IsFresh}
 use Rattle.j39_findings.specs.ListPlaces.{SomeMeets}
@@ -113,9 +114,9 @@ young_where false true met none = refl
 young_where false false met none = absurd (true≢false none)
 
 module _ (plan : Plan) (timing : Timing) (clean : Clean plan) (stays : UnitPlan → Bool) (delays : List (Option Delay)) (asks : AsksOfBus plan timing stays delays)
-    (none : load_findings timing (total_load (loads_of timing plan stays)) delays ++ old_needs timing plan.flows.items delays plan.needs.items ≡ []) where
-  parts : (load_findings timing (total_load (loads_of timing plan stays)) delays ≡ []) × (old_needs timing plan.flows.items delays plan.needs.items ≡ [])
-  parts = none_of_two (load_findings timing (total_load (loads_of timing plan stays)) delays) (old_needs timing plan.flows.items delays plan.needs.items) none
+    (none : load_findings timing (total_load timing (asked_of timing plan stays)) delays ++ old_needs timing plan.flows.items delays plan.needs.items ≡ []) where
+  parts : (load_findings timing (total_load timing (asked_of timing plan stays)) delays ≡ []) × (old_needs timing plan.flows.items delays plan.needs.items ≡ [])
+  parts = none_of_two (load_findings timing (total_load timing (asked_of timing plan stays)) delays) (old_needs timing plan.flows.items delays plan.needs.items) none
 
   module _ (n : ℕ) (need : NeedPlan) (within : ℕ) (at : slice_get plan.needs.items n ≡ Some need) (asked : need.within ≡ Some within) where
     not_too_old : is_too_old timing plan.flows.items delays need within ≡ false
@@ -135,7 +136,7 @@ module _ (plan : Plan) (timing : Timing) (clean : Clean plan) (stays : UnitPlan 
             let here : get_or plan.needs.items k d ≡ d = get_or_from_slice_get plan.needs.items k d d is in
             subst (λ (x : NeedPlan). SomeMeets (Meets x) plan.flows.items) here ((parts_of plan clean).needs k d below)
 
-    fresh_need : IsNeedFresh plan timing (loads_of timing plan stays) delays need within
+    fresh_need : IsNeedFresh plan timing (asked_of timing plan stays) delays need within
     fresh_need =
         let (age, is_age, young) = young_age _ _ (young_where _ _ met not_too_old) in
         let (place, flow, its, single) = of_flow timing age delays need 0 plan.flows.items is_age in
@@ -149,8 +150,7 @@ module _ (plan : Plan) (timing : Timing) (clean : Clean plan) (stays : UnitPlan 
         let zero_place : 0 + place ≡ place = omega arith in
         let delayed : slice_get delays place ≡ Some (Some (Within sum.bits)) =
         here ∙ ap Some (ap (λ (k : ℕ). slice_index_or delays k None) (sym zero_place) ∙ sum.delayed) in
-        let paced = (nothing_found timing (total_load (loads_of timing plan stays)) delays parts.0).0 in
-        let bound = bounded plan timing stays delays asks paced place sum.bits delayed in
+        let bound = bounded plan timing stays delays asks place sum.bits delayed in
         record {
           place = place;
           flow = flow;
@@ -164,7 +164,7 @@ module _ (plan : Plan) (timing : Timing) (clean : Clean plan) (stays : UnitPlan 
           bounded = bound;
           fresh = λ s planned of legal known from to coming seen.
               subst (λ (b : ℕ). IsFresh s planned of place (bits_of_ms timing sum.pause + b) (from + b) (to + b)) (sym bound.sum)
-              (fresh s planned of place bound.load.frames.stream.bits bound.wait (bits_of_ms timing sum.pause) from to
+              (fresh s planned of place bound.frames.stream bound.wait (bits_of_ms timing sum.pause) from to
               (bound.bounds s planned of legal known) coming seen);
         }
 

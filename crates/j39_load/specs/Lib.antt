@@ -1,4 +1,7 @@
 pub mod Ages
+pub mod Asked
+pub mod Broadcasts
+pub mod Damage
 pub mod Delays
 pub mod FreshNeeds
 pub mod LoadFindings

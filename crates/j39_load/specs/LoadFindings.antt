@@ -9,8 +9,9 @@ use Rattle.j39_load.specs.declared.delay.Delay.TheVariants.{Late}
 use Rattle.j39_load.specs.declared.load_finding.LoadFinding.{LoadFinding}
 use Rattle.j39_load.specs.declared.load_finding.LoadFinding.TheVariants.{NoPeriod, Overload, LateFlow, NeedTooOld}
 use Rattle.j39_load.specs.Ages.{old_needs}
+use Rattle.j39_load.specs.Asked.{asked_of, total_load}
 use Rattle.j39_load.specs.Delays.{TellDelays}
-use Rattle.j39_load.specs.Loads.{bits_of_second, loads_of, total_load}
+use Rattle.j39_load.specs.Loads.{bits_of_second}
 use Rattle.j39_load.specs.Places.{told_from}
 use Rattle.j39_load.specs.Standing.{TellsWhoStays}
 
@@ -45,10 +46,10 @@ all_findings plan timing load delays = load_findings timing load delays ++ old_n
 -- what a plan asks of a bus: what each flow does, by who stays, and how long its frames wait
 pub record AsksOfBus (plan : Plan) (timing : Timing) (stays : UnitPlan → Bool) (delays : List (Option Delay)) : Type 0 where
   pub standing : TellsWhoStays plan stays
-  pub waits : TellDelays timing (loads_of timing plan stays) delays
+  pub waits : TellDelays timing (asked_of timing plan stays) delays
 
 -- this is what is wrong: nothing where nothing is known of the bus
 abbrev pub AreLoadFindings : Plan → Option Timing → List LoadFinding → Type 0
 AreLoadFindings plan None findings = findings ≡ []
 AreLoadFindings plan (Some timing) findings = (stays : UnitPlan → Bool) × (delays : List (Option Delay))
-    × AsksOfBus plan timing stays delays × (findings ≡ all_findings plan timing (total_load (loads_of timing plan stays)) delays)
+    × AsksOfBus plan timing stays delays × (findings ≡ all_findings plan timing (total_load timing (asked_of timing plan stays)) delays)

@@ -1,7 +1,7 @@
 //! What is wrong with what a plan asks of its bus.
 ghost use Rattle.std.specs.Prelude.{◌≡◌, ◌≢◌, ◌∷◌, ◌++◌, [], None, length, IfOk, IfSome, IfNone, OnOk, OnErr};
 ghost use Rattle.j39_load.specs.LoadFindings.{AreLoadFindings, all_findings, load_findings};
-ghost use Rattle.j39_load.specs.Loads.{bits_of_second, total_load};
+ghost use Rattle.j39_load.specs.Loads.{bits_of_second};
 ghost use Rattle.j39_load.specs.Places.{told_from};
 ghost use Rattle.j39_load.specs.inside.Faults.{found_at};
 

@@ -3,20 +3,27 @@
 #![tactic(auto)]
 
 mod ages;
+mod broadcast;
+mod broadcasts;
+mod damage;
 mod delay;
 mod delays;
 mod extreme;
 mod faults;
 mod flow_frames;
 mod flow_load;
+mod flow_loads;
 mod identifiers;
 mod laws;
 mod load_finding;
 mod loads;
+mod messages;
 mod standing;
 mod streams;
+mod unit_load;
 
 pub use ages::least_age;
+pub use broadcast::Broadcast;
 pub use delay::Delay;
 pub use faults::{all_findings, bits_of_second, check_load};
 pub use flow_frames::FlowFrames;
@@ -27,5 +34,7 @@ pub use laws::{
 };
 pub use load_finding::LoadFinding;
 pub use loads::Loads;
+pub use messages::Messages;
 pub use standing::Standing;
 pub use streams::bits_of_ms;
+pub use unit_load::UnitLoad;

@@ -2,7 +2,7 @@ use Rattle.std.proofs.Common.{◌≡◌, ◌≤◌, map, take, length, All, vec_
 use Rattle.j39_load.specs.Loads.{load_of_flow}
 use Rattle.j39_load.specs.Standing.{stays_of}
 use Rattle.j39_load.specs.SoundLoads.{IsSoundIfKnown}
-use Rattle.j39_load.proofs.loads.loads_of.Given as goal
+use Rattle.j39_load.proofs.flow_loads.loads_of.Given as goal
 
 abbrev pub invariant-loop-place : goal.invariant-loop-place
 invariant-loop-place l = record {
