@@ -21,11 +21,12 @@ class Lint:
     def __init__(self, places: Places) -> None:
         self.places = places
         self.units, self.groups = places.elements(("unit",)), places.elements(("group",))
-        self.flows = places.elements(("flow",))
+        self.flows, self.needs = places.elements(("flow",)), places.elements(("need",))
 
     def hints(self) -> list[Hint]:
         """All hints, in the order of the file."""
-        found = (self.unsent, self.idle, self.fixed_in_pool, self.short, self.urgent, self.equal_identities)
+        found = (self.unsent, self.idle, self.fixed_in_pool, self.short, self.urgent, self.equal_identities,
+                 self.untaken, self.met_twice)
         return sorted({hint for part in found for hint in part()})
 
     def label(self, place: Place) -> str:
@@ -97,3 +98,23 @@ class Lint:
         """The manufacturer code of a unit."""
         place = unit + ("name", "manufacturer")
         return self.places.integer(place) if place in self.places.spelled else 0
+
+    def meets(self, flow: Place, need: Place) -> bool:
+        """Whether a flow brings a need's unit what it needs."""
+        unit, sender = self.places.texts[need + ("unit",)], self.places.texts[flow + ("from",)]
+        return (self.places.texts[flow + ("group",)] == self.places.texts[need + ("group",)] and sender != unit
+                and self.places.texts.get(need + ("from",), sender) == sender and self.places.texts[flow + ("to",)] in ("all", unit))
+
+    def untaken(self) -> Iterator[Hint]:
+        """Flows to one unit that it doesn't need, in a plan with needs."""
+        for flow in self.flows if self.needs else ():
+            receiver = self.places.texts[flow + ("to",)]
+            if receiver != "all" and not any(self.meets(flow, need) for need in self.needs):
+                yield self.at(flow + ("to",), f"flow {flow[-1]}: no need of {receiver} takes it")
+
+    def met_twice(self) -> Iterator[Hint]:
+        """Needs that two senders meet."""
+        for need in self.needs:
+            senders = sorted({self.places.texts[flow + ("from",)] for flow in self.flows if self.meets(flow, need)})
+            if len(senders) > 1:
+                yield self.at(need + ("group",), f"need {need[-1]}: {' and '.join(senders)} meet it; from says which one is meant")

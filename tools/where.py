@@ -26,16 +26,21 @@ DECIMAL = re.compile(r"[+-]?[0-9_]{1,20}(?:\.[0-9_]{1,20})?(?:[eE][+-]?[0-9]{1,2
 SCHEMA = os.path.join(os.path.dirname(os.path.realpath(__file__)), "plan.schema.json")
 
 # The versions of the format.
-VERSIONS = range(1, 4)
+VERSIONS = range(1, 5)
 
-# The keys and the kinds of signals that the first version doesn't know, each with the first that does.
+# The keys, kinds of signals and bitrates that the first version doesn't know, each with the first that does.
 SINCE: dict[object, int] = {
     (None, "keep_free"): 2, (None, "timing"): 3, ("group", "private"): 3, ("group", "most"): 3, ("group", "every"): 3, ("group", "text"): 3,
     ("signal", "per"): 3, ("signal", "repeated"): 3, ("flow", "period"): 3, ("flow", "deadline"): 3, "states": 3, "signed": 3, "dtc": 3,
+    (None, "need"): 4, ("timing", "unplanned_priority"): 4, ("timing", "transport_priority"): 4, ("timing", "broadcast_gap"): 4,
+    ("timing", "broadcast_gap_most"): 4, ("timing", "errors"): 4, ("flow", "jitter"): 4, ("flow", "pause"): 4, 125000: 4, 1000000: 4,
 }
 
 # What the schema can't say of a key.
-WORDS = {"per": ", a product of 2s and 5s", "most": ", at least the length"}
+WORDS = {
+    "per": ", a product of 2s and 5s", "most": ", at least the length", "broadcast_gap_most": ", at least broadcast_gap",
+    "jitter": ", below the period", "pause": ", at least the period",
+}
 
 # The keys that a trouble code can't have but with their defaults.
 SCALE = ("step", "per", "offset", "unit")
@@ -45,7 +50,7 @@ PER_MOST = 10_000_000
 # The key to look at, of each finding that names two units or two groups.
 PAIR_KEYS = {"F1": ("unit", "name"), "F2": ("unit", "address"), "F5": ("group", "pgn")}
 
-# The key to look at of each finding that names one unit, group, signal, text or flow, and what is to be known of it.
+# The key to look at of each finding that names one unit, group, signal, text, flow or need, and what is to be known of it.
 KEYS = {
     "F4": ("group", "pgn", "none that can be planned, or a maker's own and not private, or the other way round"),
     "F6": ("signal", "bits", "8, 16 or 32 of a measured signal, 2 of a discrete one, 1 to 32 of a raw one, "
@@ -58,6 +63,8 @@ KEYS = {
     "F15": ("text", "byte", "the text ends behind the group's longest messages, or begins behind what follows its shortest"),
     "F16": ("flow", "period", "it isn't there, and a plan with timing asks for it"),
     "F18": ("flow", "period", "within the deadline, or the period, there isn't room for all that may go before it: load shows the delays"),
+    "F19": ("need", "group", "no flow brings it to this unit from another one, or from the one that is named"),
+    "F20": ("need", "within", "no flow that meets it is shown to be so young: its age is pause and delay, of messages of at most 8 bytes"),
 }
 
 
@@ -284,11 +291,20 @@ def label_fault(plan: Plan, place: Place, key: str, cause: str) -> Told:
         if place[-2] == "text" and (signal := plan.labelled(place[:-2] + ("signal",), label)) != place[:-2] + ("signal",):
             first = signal + ("label",)
         hint = f"key label: {label} is at line {plan.line(first)} too"
+    elif key == "signal":
+        group = plan.places.texts.get(place + ("group",), "")
+        others = [other for array, other in plan.labels if array == plan.labelled(("group",), group) + ("signal",)]
+        hint = f"key {key}: no signal of {group} is called {label}{likely(label, others)}"
     else:
         kind = "group" if key == "group" else "unit"
         others = [other for array, other in plan.labels if array == (kind,)] + ["all"] * (key == "to")
         hint = f"key {key}: no {kind} is called {label}{likely(label, others)}"
     return plan.line(place + (key,)), hint
+
+
+def asking(plan: Plan, flow: Place) -> str:
+    """The key of a flow that asks for a period."""
+    return "deadline" if "deadline" in plan.places.keys(flow) else "jitter"
 
 
 def refusal(plan: Plan, data: bytes, line: str) -> Told:
@@ -303,7 +319,7 @@ def refusal(plan: Plan, data: bytes, line: str) -> Told:
     if key is None:
         return plan.line(place), "a table is wanted"
     if cause == "Missing":
-        why = ", which a deadline needs" if key == "period" else ""
+        why = f", which a {asking(plan, place)} needs" if key == "period" else ""
         return plan.line(place), f"key {key} isn't there{why}: {plan.wanted(place, key)}"
     if cause in ("Repeated", "UnknownLabel") and key != "keep_free":
         return label_fault(plan, place, key, cause)
@@ -311,11 +327,11 @@ def refusal(plan: Plan, data: bytes, line: str) -> Told:
 
 
 def of_one(plan: Plan, number: str, words: list[str]) -> Told:
-    """Line and hint of a finding about one group, signal, text or flow."""
+    """Line and hint of a finding about one group, signal, text, flow or need."""
     kind, key, hint = KEYS[number]
     place: Place
-    if kind == "flow":
-        place = ("flow", int(words[0]))
+    if kind in ("flow", "need"):
+        place = (kind, int(words[0]))
     elif kind == "unit":
         place = plan.labelled(("unit",), words[0])
     else:

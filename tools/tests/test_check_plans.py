@@ -24,7 +24,7 @@ class CheckPlans(InFolder):
         return ended.returncode, ended.stdout
 
     def test_the_worst_counts(self):
-        refused, missing = self.write("plan.toml", "version = 4\n"), self.path("none.toml")
+        refused, missing = self.write("plan.toml", "version = 5\n"), self.path("none.toml")
         for plans, status in [
             ([], 2), ([CLEAN, CLEAN], 0), ([FOUND], 1), ([refused], 1), ([missing], 2),
             ([FOUND, CLEAN], 1), ([missing, FOUND], 2), ([CLEAN, refused, missing], 2),

@@ -127,7 +127,7 @@ class Built(InFolder):
     def does_the_jobs_of_the_page(self, environment):
         """What docs/TOOLS.md has jobs of CI do, on a plan that has to be mended."""
         os.makedirs(self.path("plans"), exist_ok=True)
-        plan = self.write("plans/first.toml", "version = 4\n")
+        plan = self.write("plans/first.toml", "version = 5\n")
         jobs = re.findall(r"CHECK=.* j39plan-check-plans plans/\*\.toml", PAGE)
         refused = "refused Range top key version"
         for job, shown in zip(jobs, (f"plans/first.toml:1: {refused}", f"::error file=plans/first.toml,line=1::{refused}"), strict=True):

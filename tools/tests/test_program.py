@@ -78,7 +78,7 @@ class End(InFolder):
                              (69, "the tools of j39plan need Python 3.11 or later\n"), words)
 
     def test_what_the_program_says_is_passed_on(self):
-        missing, refused = self.path("none.toml"), self.write("plan.toml", "version = 4\n")
+        missing, refused = self.path("none.toml"), self.write("plan.toml", "version = 5\n")
         f01 = example("findings/f01_same_name.toml")
         for tool, more in (("where.py", []), ("startup.py", []), ("against.py", [LOG])):
             said = f"{tool[:-3]}: {missing}: No such file or directory\n"

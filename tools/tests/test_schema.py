@@ -13,12 +13,16 @@ from tests.support import TOOLS, TOP, InFolder, examples, needs, shown_refusals,
 SCHEMA = json.loads(text_of(os.path.join(TOOLS, "plan.schema.json")))
 
 # What the page's headings call the tables.
-TABLES = {"Top": None, "`[timing]`": "timing", "`[[unit]]`": "unit", "`unit.name`": "name", "`[[group]]`": "group",
-          "`[[group.signal]]`": "signal", "`[[group.text]]`": "text", "`[[flow]]`": "flow"}
+TABLES = {"Top": None, "`[timing]`": "timing", "`timing.errors`": "errors", "`[[unit]]`": "unit", "`unit.name`": "name", "`[[group]]`": "group",
+          "`[[group.signal]]`": "signal", "`[[group.text]]`": "text", "`[[flow]]`": "flow", "`[[need]]`": "need"}
 
 # Refusals that a schema can't say.
 UNSAID = ("Text", "Repeated", "UnknownLabel")
-UNSAID_CASES = ("most_below_length", "most_float", "per_3")
+UNSAID_CASES = ("most_below_length", "most_float", "per_3", "broadcast_gap_most_below_gap", "broadcast_gap_most_below_gap_by_default",
+                "jitter_of_the_period", "jitter_before_pause", "pause_below_the_period")
+
+# Keys whose range is another one beside some other key.
+FITTED = (("timing", "broadcast_gap_most"), ("flow", "jitter"), ("flow", "pause"))
 
 # A plan of a version with a signal of a kind.
 SIGNAL = """version = {}
@@ -129,7 +133,7 @@ class Validated(InFolder):
     def test_it_agrees_with_the_program_on_the_addresses_kept_free(self):
         for head in (
             "version = 1\nkeep_free = []", "version = 2\nkeep_free = []", "version = 3\nkeep_free = []", "version = 4\nkeep_free = []",
-            "version = 4", "version = 3", "version = 2", "keep_free = []",
+            "version = 5\nkeep_free = []", "version = 5", "version = 4", "version = 3", "version = 2", "keep_free = []",
             "version = 2\nkeep_free = 128", "version = 2\nkeep_free = [127]", "version = 2\nkeep_free = [128, 247]",
             "version = 2\nkeep_free = [248]", "version = 2\nkeep_free = [128, 128]", 'version = 2\nkeep_free = ["128"]',
             f"version = 2\nkeep_free = {list(range(128, 248))}", f"version = 2\nkeep_free = {list(range(128, 249))}",
@@ -138,7 +142,7 @@ class Validated(InFolder):
             self.assertEqual(self.faults(head) == [], status != 2, head)
 
     def test_it_agrees_with_the_program_on_what_each_version_knows_of_a_signal(self):
-        for version in (1, 2, 3):
+        for version in (1, 2, 3, 4):
             for kind in ("measured", "discrete", "raw", "states", "signed", "dtc", "text"):
                 for per in ("", "per = 1\n", "per = 0\n"):
                     plan = SIGNAL.format(version, kind) + per
@@ -146,7 +150,7 @@ class Validated(InFolder):
                     self.assertEqual(self.faults(plan) == [], status != 2, plan)
 
     def test_it_agrees_with_the_program_on_what_each_version_knows_of_records(self):
-        for version in (1, 2, 3):
+        for version in (1, 2, 3, 4):
             for every in ("", "every = 0\n", "every = 4\n"):
                 for repeated in ("", "repeated = false\n", "repeated = true\n"):
                     plan = SIGNAL.format(version, "raw").replace("[[group.signal]]", f"{every}[[group.signal]]") + repeated
@@ -154,24 +158,27 @@ class Validated(InFolder):
                     self.assertEqual(self.faults(plan) == [], status != 2, plan)
 
     def test_it_agrees_with_the_program_on_what_each_version_knows_of_time(self):
-        for version in (1, 2, 3):
-            for timing in ("", "timing = {}\n", "timing = { bitrate = 250000, unplanned = 0 }\n", "timing = { bitrate = 125000, unplanned = 0 }\n"):
-                for pace in ("", "period = 10\n", "deadline = 10\n", "period = 10\ndeadline = 5\n"):
+        for version in (1, 2, 3, 4):
+            for timing in (
+                "", "timing = {}\n", "timing = { bitrate = 250000, unplanned = 0 }\n", "timing = { bitrate = 125000, unplanned = 0 }\n",
+                "timing = { bitrate = 250000, unplanned = 0, errors = { count = 1, every = 10 } }\n",
+            ):
+                for pace in ("", "period = 10\n", "deadline = 10\n", "period = 10\ndeadline = 5\n", "jitter = 0\n", "period = 10\njitter = 9\n", "pause = 10\n"):
                     plan = f"version = {version}\n{timing}{FLOW}{pace}"
                     status, _ = program.call(["check", self.write("plan.toml", plan)])
                     self.assertEqual(self.faults(plan) == [], status != 2, plan)
 
     def test_it_agrees_with_the_program_on_each_bound(self):
         plan = {
-            "version": 3,
-            "timing": {"bitrate": 250000, "unplanned": 0},
+            "version": 4,
+            "timing": {"bitrate": 250000, "unplanned": 0, "errors": {"count": 1, "every": 10}},
             "unit": [{"label": "A", "address": 0, "name": {"identity": 1}}],
             "group": [{"label": "G", "pgn": 65262, "priority": 6, "length": 1,
                        "signal": [{"label": "S", "byte": 1, "bits": 8, "kind": "raw"}], "text": [{"label": "T", "byte": 1}]}],
-            "flow": [{"group": "G", "from": "A", "to": "all", "period": 10, "deadline": 10}],
+            "flow": [{"group": "G", "from": "A", "to": "all", "period": 10, "deadline": 10}], "need": [{"unit": "A", "group": "G", "within": 10}],
         }
         for table, key, kind, _ in page_rows():
-            if table is None or not (found := re.match(r"integer (-?\d+)\.\.(\d+)", kind)):
+            if table is None or (table, key) in FITTED or not (found := re.match(r"integer (-?\d+)\.\.(\d+)", kind)):
                 continue
             low, high = map(int, found.groups())
             for value in (low - 1, low, high, high + 1):
@@ -183,15 +190,15 @@ class Validated(InFolder):
 def changed(plan, table, key, value):
     """The plan with another value of a key in its first such table."""
     plan = json.loads(json.dumps(plan))
-    {"timing": plan["timing"], "unit": plan["unit"][0], "flow": plan["flow"][0], "name": plan["unit"][0]["name"], "group": plan["group"][0],
+    {"timing": plan["timing"], "errors": plan["timing"]["errors"], "need": plan["need"][0], "unit": plan["unit"][0], "flow": plan["flow"][0], "name": plan["unit"][0]["name"], "group": plan["group"][0],
      "signal": plan["group"][0]["signal"][0], "text": plan["group"][0]["text"][0]}[table][key] = value
     return plan
 
 
 def spelled(plan):
     """The plan as TOML."""
-    lines = ["version = 3", f"timing = {inline(plan['timing'])}"]
-    for kind in ("unit", "group", "flow"):
+    lines = ["version = 4", f"timing = {inline(plan['timing'])}"]
+    for kind in ("unit", "group", "flow", "need"):
         lines.append(f"[[{kind}]]")
         lines += [f"{key} = {inline(value)}" for key, value in plan[kind][0].items()]
     return "\n".join(lines) + "\n"

@@ -236,6 +236,32 @@ class Where(InFolder):
         missing = "2: refused Missing timing key unplanned  (key unplanned isn't there: integer 0..1000)"
         self.assertEqual(self.answer(head.replace("unplanned = 0\n", "")), (2, [missing]))
 
+    def test_needs(self):
+        """What nobody sends, what is too old, which names there are, and from which version on needs are known."""
+        head = 'version = 4\n[timing]\nbitrate = 250000\nunplanned = 0\n' + UNIT.format("A", 0, 1) + UNIT.format("B", 3, 2)
+        plan = head + '[[group]]\nlabel = "G"\npgn = 61444\npriority = 3\nlength = 8\n[[group.signal]]\nlabel = "SPN190"\nbyte = 4\nbits = 16\nkind = "raw"\n'
+        flow = '[[flow]]\ngroup = "G"\nfrom = "A"\nto = "all"\nperiod = 10\npause = 20\n'
+        need = '[[need]]\nunit = "{}"\ngroup = "G"\n'
+        lines = (plan + flow).count("\n")
+        unmet = "(key group: no flow brings it to this unit from another one, or from the one that is named)"
+        self.assertEqual(self.answer(plan + flow + need.format("A")), (1, [f"{lines + 3}: F19 NeedUnmet 1  {unmet}", "findings 1"]))
+        old = "(key within: no flow that meets it is shown to be so young: its age is pause and delay, of messages of at most 8 bytes)"
+        self.assertEqual(self.answer(plan + flow + need.format("B") + "within = 21\n"), (1, [f"{lines + 4}: F20 NeedTooOld 1  {old}", "findings 1"]))
+        for given, key, meant in (
+            ('signal = "spn190"\n', "signal", "no signal of G is called spn190; did you mean SPN190?"), ('from = "C"\n', "from", "no unit is called C"),
+        ):
+            answer = f"{lines + 4}: refused UnknownLabel need 1 key {key}  (key {key}: {meant})"
+            self.assertEqual(self.answer(plan + flow + need.format("B") + given), (2, [answer]))
+        early = f"{lines + 1}: refused UnknownKey top  (key need: only from version = 4 on)"
+        bare = plan + flow.replace("pause = 20\n", "") + need.format("B")
+        self.assertEqual(self.answer(bare.replace("version = 4", "version = 3")), (2, [early.replace(f"{lines + 1}:", f"{lines}:")]))
+        asked = f"{lines - 5}: refused Missing flow 1 key period  (key period isn't there, which a jitter needs: integer 1..65535)"
+        self.assertEqual(self.answer(plan + flow.replace("period = 10\npause = 20", "jitter = 1")), (2, [asked]))
+        below = f"{lines + 1}: refused Range flow 1 key jitter  (jitter = 10: integer 0..65535, below the period)"
+        self.assertEqual(self.answer(plan + flow + "jitter = 10\n"), (2, [below]))
+        rates = '(bitrate = 100000: 250000 or 500000 or 125000 or 1000000)'
+        self.assertEqual(self.answer(head.replace("250000", "100000")), (2, [f"3: refused Range timing key bitrate  {rates}"]))
+
     def test_lengths(self):
         """What `most` can be, and from which version on it is known."""
         plan = 'version = 3\n[[group]]\nlabel = "G"\npgn = 65242\npriority = 6\nlength = 8\nmost = 7\n'
@@ -368,8 +394,8 @@ class Where(InFolder):
         self.assertEqual(self.answer("version = 2\nkeep_free = 240\n"), (2, [f"2: refused WrongType top key keep_free  {wanted}"]))
         hint = "(key keep_free: only from version = 2 on)"
         self.assertEqual(self.answer("version = 1\nkeep_free = []\n"), (2, [f"2: refused UnknownKey top  {hint}"]))
-        hint = "(key keep_free: only from version = 2 on, and the version is none of 1 to 3)"
-        for version in ("4", '"2"', "2.0"):
+        hint = "(key keep_free: only from version = 2 on, and the version is none of 1 to 4)"
+        for version in ("5", '"2"', "2.0"):
             self.assertEqual(self.answer(f"version = {version}\nkeep_free = []\n"), (2, [f"2: refused UnknownKey top  {hint}"]))
         unit = UNIT.format("A", 241, 1).replace("identity = 1", "identity = 1, arbitrary = true")
         hint = "(key address: kept free: a unit with arbitrary = true may not hold it)"
@@ -450,7 +476,7 @@ class Where(InFolder):
         self.assertEqual((status, answer.split(":", 1)[1]), (2, "3: refused Text  (byte B0 is no UTF-8)\n"))
 
     def test_annotations(self):
-        name = self.write("plan.toml", "version = 4\n")
+        name = self.write("plan.toml", "version = 5\n")
         status, answer, _ = run("where.py", "--github", name)
         self.assertEqual(status, 2)
         self.assertTrue(answer.startswith(f"::error file={name},line=1::refused Range top key version"), answer)

@@ -48,16 +48,16 @@ const REFUSED_STEP: [&str; 12] = [
 ];
 
 // The first words of lines of check, and of lines of read.
-const CHECK: [&str; 22] = [
+const CHECK: [&str; 24] = [
     "ok", "findings", "F1", "F2", "F3", "F4", "F5", "F6", "F7", "F8", "F9", "F10", "F11", "F12",
-    "F13", "F14", "F15", "F16", "F17", "F18", "", "refused",
+    "F13", "F14", "F15", "F16", "F17", "F18", "F19", "F20", "", "refused",
 ];
 
 // Those of addresses, where it doesn't answer as check does.
 const ADDRESSES: [&str; 2] = ["unit", "stay"];
 
 // Those of load.
-const LOAD: [&str; 2] = ["flow", "load"];
+const LOAD: [&str; 3] = ["flow", "need", "load"];
 
 const FRAME: [&str; 7] = [
     "frame", "priority", "claim", "cannot", "identity", "request", "refused",

@@ -12,11 +12,11 @@ use Rattle.j39_findings.specs.Findings.{Clean}
 use Rattle.j39_findings.specs.Found.{found}
 use Rattle.j39_findings.proofs.FoundLaws.{none_from_clean, clean_from_none}
 use Rattle.j39_load.specs.declared.delay.Delay.{Delay}
-use Rattle.j39_load.specs.declared.flow_load.FlowLoad.{FlowLoad}
 use Rattle.j39_load.specs.declared.load_finding.LoadFinding.{LoadFinding}
+use Rattle.j39_load.specs.Ages.{old_needs}
 use Rattle.j39_load.specs.Delays.{TellDelays}
-use Rattle.j39_load.specs.LoadFindings.{AreLoadFindings, AsksOfBus, load_findings, overload, lateness, without_period}
-use Rattle.j39_load.specs.Loads.{loads_of, total_load}
+use Rattle.j39_load.specs.LoadFindings.{AreLoadFindings, AsksOfBus, all_findings, load_findings, overload, lateness, without_period}
+use Rattle.j39_load.specs.Asked.{Asked, asked_of, total_load}
 use Rattle.j39_load.specs.Places.{told_from}
 use Rattle.j39_load.specs.Standing.{TellsWhoStays}
 use Rattle.j39_check.specs.CheckText.{IsReport, findings_text}
@@ -36,22 +36,25 @@ known place [] none = refl
 known place (None ∷ delays) none = cc
 known place (Some delay ∷ delays) none = known (place + 1) delays none
 
-pub have_periods_where_none : (timing : Timing) (load : ℕ) (delays : List (Option Delay)) → load_findings timing load delays ≡ [] → have_periods delays ≡ true
-have_periods_where_none timing load delays none = known 0 delays (first_none _ (overload timing load ++ told_from lateness 0 delays) none)
+pub have_periods_where_none : (plan : Plan) (timing : Timing) (load : ℕ) (delays : List (Option Delay)) → all_findings plan timing load delays ≡ []
+    → have_periods delays ≡ true
+have_periods_where_none plan timing load delays none =
+    known 0 delays (first_none _ (overload timing load ++ told_from lateness 0 delays)
+    (first_none (load_findings timing load delays) (old_needs timing plan.flows.items delays plan.needs.items) none))
 
-module _ (plan : Plan) (timing : Timing) (is : plan.timing ≡ Some timing) (stays : UnitPlan → Bool) (loads : List (Option FlowLoad))
-    (delays : List (Option Delay)) (others : List LoadFinding) (tells : TellsWhoStays plan stays) (loaded : loads ≡ loads_of timing plan stays)
-    (waits : TellDelays timing loads delays) (told : others ≡ load_findings timing (total_load loads) delays) where
+module _ (plan : Plan) (timing : Timing) (is : plan.timing ≡ Some timing) (stays : UnitPlan → Bool) (asked : Asked)
+    (delays : List (Option Delay)) (others : List LoadFinding) (tells : TellsWhoStays plan stays) (loaded : asked ≡ asked_of timing plan stays)
+    (waits : TellDelays timing asked delays) (told : others ≡ all_findings plan timing (total_load timing asked) delays) where
   asks : AsksOfBus plan timing stays delays
   asks = record { standing = tells; waits = rw loaded at waits }
 
-  others_are : others ≡ load_findings timing (total_load (loads_of timing plan stays)) delays
+  others_are : others ≡ all_findings plan timing (total_load timing (asked_of timing plan stays)) delays
   others_are = rw loaded at told
 
   none_wrong : (findings : List Finding) → findings ≡ found plan → (findings ≡ [] → have_periods delays ≡ false)
       → ¬ ((found plan ≡ []) × (others ≡ []))
   none_wrong findings listed wrong none =
-      true≢false (sym (have_periods_where_none timing (total_load loads) delays (sym told ∙ none.1)) ∙ wrong (listed ∙ none.0))
+      true≢false (sym (have_periods_where_none plan timing (total_load timing asked) delays (sym told ∙ none.1)) ∙ wrong (listed ∙ none.0))
 
   -- it is what check writes
   pub as_checked : (findings : List Finding) (text : List ℕ) → findings ≡ found plan → (findings ≡ [] → have_periods delays ≡ false)
@@ -66,10 +69,10 @@ module _ (plan : Plan) (timing : Timing) (is : plan.timing ≡ Some timing) (sta
 
   -- the loads alone
   pub loads_alone : (findings : List Finding) (text : List ℕ) (verdict : Verdict) → findings ≡ found plan → findings ≡ [] → have_periods delays ≡ true
-      → text ≡ loads_text plan timing.bitrate loads delays → verdict ≡ load_verdict others → IsLoadReport plan plan.timing text verdict
+      → text ≡ loads_text plan timing asked delays → verdict ≡ load_verdict others → IsLoadReport plan plan.timing text verdict
   loads_alone findings text verdict listed none periods written verdict_is =
       let clean : Clean plan = clean_from_none plan (sym listed ∙ none) in
-      let shown : text ≡ loads_text plan timing.bitrate (loads_of timing plan stays) delays =
-      written ∙ ap (λ (ls : List (Option FlowLoad)). loads_text plan timing.bitrate ls delays) loaded in
+      let shown : text ≡ loads_text plan timing (asked_of timing plan stays) delays =
+      written ∙ ap (λ (a : Asked). loads_text plan timing a delays) loaded in
       subst (λ (t : Option Timing). IsLoadReport plan t text verdict) (sym is)
       (stays, delays, asks, inl (clean, periods, shown, verdict_is ∙ ap load_verdict others_are))

@@ -15,10 +15,9 @@ use Rattle.j39_findings.specs.declared.plan.timing.Timing.{Timing}
 use Rattle.j39_findings.specs.Found.{found}
 use Rattle.j39_findings.proofs.FoundLaws.{none_from_clean}
 use Rattle.j39_load.specs.declared.delay.Delay.{Delay}
-use Rattle.j39_load.specs.declared.flow_load.FlowLoad.{FlowLoad}
 use Rattle.j39_load.specs.declared.load_finding.LoadFinding.{LoadFinding}
-use Rattle.j39_load.specs.LoadFindings.{AreLoadFindings, load_findings}
-use Rattle.j39_load.specs.Loads.{loads_of, total_load}
+use Rattle.j39_load.specs.LoadFindings.{AreLoadFindings, all_findings}
+use Rattle.j39_load.specs.Asked.{Asked, asked_of, total_load}
 use Rattle.j39_load.proofs.OneLoad.{one_asked, told_once}
 use Rattle.j39_check.specs.AddressesText.{HasOneAddressesReport, stays_text, stays_word, staying_line, staying_lines}
 use Rattle.j39_check.specs.PlanText.{Describes, IsRefusalLine, fault_line}
@@ -35,8 +34,8 @@ pub one_list : (plan : Plan) (timing : Option Timing) (findings others : List Lo
 one_list plan None findings others are more = are ∙ sym more
 one_list plan (Some timing) findings others are more =
     let same = one_asked plan timing are.0 more.0 are.1 more.1 are.2 more.2 in
-    are.3 ∙ ap (λ (loads : List (Option FlowLoad)). load_findings timing (total_load loads) are.1) same.0
-    ∙ ap (load_findings timing (total_load (loads_of timing plan more.0))) same.1 ∙ sym more.3
+    are.3 ∙ ap (λ (asked : Asked). all_findings plan timing (total_load timing asked) are.1) same.0
+    ∙ ap (all_findings plan timing (total_load timing (asked_of timing plan more.0))) same.1 ∙ sym more.3
 
 pub one_report : (plan : Plan) → HasOneReport plan
 one_report plan text other Done Done is another = (is.3 ∙ sym another.3, refl)
@@ -131,13 +130,13 @@ one_addresses_report plan text other Unreadable another_verdict is another = abs
 -- ---- load
 
 module _ (plan : Plan) (timing : Timing) (stays other : UnitPlan → Bool) (delays others : List (Option Delay))
-    (same : loads_of timing plan stays ≡ loads_of timing plan other) (alike : delays ≡ others) (text more : List ℕ) (verdict another : Verdict) where
+    (same : asked_of timing plan stays ≡ asked_of timing plan other) (alike : delays ≡ others) (text more : List ℕ) (verdict another : Verdict) where
   one_told : TellsLoads plan timing stays delays text verdict → TellsLoads plan timing other others more another → (text ≡ more) × (verdict ≡ another)
   one_told (inl is) (inl are) = (
-    is.2 ∙ ap (λ (loads : List (Option FlowLoad)). loads_text plan timing.bitrate loads delays) same
-        ∙ ap (loads_text plan timing.bitrate (loads_of timing plan other)) alike ∙ sym are.2,
-    is.3 ∙ ap (λ (loads : List (Option FlowLoad)). load_verdict (load_findings timing (total_load loads) delays)) same
-        ∙ ap (λ (ds : List (Option Delay)). load_verdict (load_findings timing (total_load (loads_of timing plan other)) ds)) alike ∙ sym are.3,
+    is.2 ∙ ap (λ (asked : Asked). loads_text plan timing asked delays) same
+        ∙ ap (loads_text plan timing (asked_of timing plan other)) alike ∙ sym are.2,
+    is.3 ∙ ap (λ (asked : Asked). load_verdict (all_findings plan timing (total_load timing asked) delays)) same
+        ∙ ap (λ (ds : List (Option Delay)). load_verdict (all_findings plan timing (total_load timing (asked_of timing plan other)) ds)) alike ∙ sym are.3,
   )
   one_told (inl is) (inr are) = absurd (true≢false (sym is.1 ∙ ap have_periods alike ∙ are.0 is.0))
   one_told (inr is) (inl are) = absurd (true≢false (sym are.1 ∙ ap have_periods (sym alike) ∙ is.0 are.0))

@@ -1,7 +1,9 @@
--- What a plan has in which nothing is wrong: it is sound, and where something is known of its bus, the frames of its flows are in time.
+-- What a plan has in which nothing is wrong: it is sound, and where something is known of its bus, the frames of its flows are in time, and
+-- what its units need is as young as they ask for.
 use Rattle.std.specs.Prelude.{◌≡◌, Some}
 use Rattle.j39_findings.specs.declared.plan.Plan.{Plan}
 use Rattle.j39_findings.specs.declared.plan.timing.Timing.{Timing}
+use Rattle.j39_load.specs.FreshNeeds.{AreNeedsFresh}
 use Rattle.j39_load.specs.PlannedFrames.{ArePlannedFramesInTime}
 use Rattle.j39_world.specs.SoundPlan.{IsSound}
 
@@ -10,3 +12,5 @@ pub record IsCertified (plan : Plan) : Type 0 where
   pub sound : IsSound plan
   -- each flow whose messages go in one frame has a delay within its limit, which bounds its frames' time in every legal schedule of such flows
   pub in_time : (timing : Timing) → plan.timing ≡ Some timing → ArePlannedFramesInTime plan timing
+  -- of each need that asks for an age some flow that meets it brings nothing older, in every legal schedule of such flows
+  pub fresh : (timing : Timing) → plan.timing ≡ Some timing → AreNeedsFresh plan timing

@@ -1,12 +1,13 @@
 -- The lines of findings, with the labels of what they name by places, and the runs that show conflicts.
-use Rattle.std.specs.Prelude.{◌≡◌, ℕ, List, [], ◌∷◌, ◌++◌, map, codes, Some, unwrap_or}
+use Rattle.std.specs.Prelude.{◌≡◌, ℕ, nat_le, nat_lt, Bool, ◌&&◌, if◌then◌else◌, List, [], ◌∷◌, ◌++◌, map, codes, Some, unwrap_or}
 use Rattle.std.specs.Option.{option_map_or}
+use Rattle.j39_findings.specs.Findings.{finding_number}
 use Rattle.j39_findings.specs.ConflictRuns.{IsConflictRun, TellsOfConflict, conflict_run}
 use Rattle.j39_findings.specs.declared.steps.Step.{Step}
 use Rattle.j39_world.specs.Conflict.{LeavesWithoutAddress}
 use Rattle.j39_findings.specs.declared.plan.Plan.{Plan}
 use Rattle.j39_findings.specs.declared.checking.finding.Finding.{Finding}
-use Rattle.j39_findings.specs.declared.checking.finding.Finding.TheVariants.{SameName, SameFixedAddress, TooFewAddresses, BadPgn, SamePgn, SignalWidth, SignalOutside, SignalOverlap, FlowToOne, FlowToSelf, FlowRepeated, KeptAddress, PrivateUnsent, RecordOverlap, TextOutside}
+use Rattle.j39_findings.specs.declared.checking.finding.Finding.TheVariants.{SameName, SameFixedAddress, TooFewAddresses, BadPgn, SamePgn, SignalWidth, SignalOutside, SignalOverlap, FlowToOne, FlowToSelf, FlowRepeated, KeptAddress, PrivateUnsent, RecordOverlap, TextOutside, NeedUnmet}
 use Rattle.j39_text.specs.Labels.{group_label, group_pgn, group_text, signal_bits, signal_end, signal_label, text_end, text_label, unit_address, unit_label, units_text}
 use Rattle.j39_text.specs.Texts.{field, place_field}
 use Rattle.j39_schedule.specs.Schedule.{read_as, readings_of}
@@ -35,6 +36,7 @@ finding_text plan (PrivateUnsent g) = group_text (codes "F13 PrivateUnsent ") pl
 finding_text plan (RecordOverlap g s t) = signal_text (codes "F14 RecordOverlap ") plan g s ++ (codes " " ++ signal_label plan g t)
 finding_text plan (TextOutside g t) =
     group_text (codes "F15 TextOutside ") plan g ++ (codes " " ++ (text_label plan g t ++ field (codes " ") (text_end plan g t)))
+finding_text plan (NeedUnmet n) = place_field (codes "F19 NeedUnmet ") n
 
 -- ---- all of them
 
@@ -49,9 +51,18 @@ run_lines plan finding = option_map_or (step_lines plan) (conflict_run plan find
 unfoldable pub finding_report : Plan → Finding → List ℕ
 finding_report plan finding = finding_line plan finding ++ run_lines plan finding
 
-unfoldable pub finding_lines : Plan → List Finding → List ℕ
-finding_lines plan [] = []
-finding_lines plan (finding ∷ findings) = finding_report plan finding ++ finding_lines plan findings
+-- the number is this one or a greater one, and below that one
+abbrev pub is_between : ℕ → ℕ → ℕ → Bool
+is_between from below number = nat_le from number && nat_lt number below
+
+-- a finding whose number is between these
+unfoldable pub finding_part : ℕ → ℕ → Plan → Finding → List ℕ
+finding_part from below plan finding = if is_between from below (finding_number finding) then finding_report plan finding else []
+
+-- those of the findings whose numbers are between these
+unfoldable pub finding_lines : ℕ → ℕ → Plan → List Finding → List ℕ
+finding_lines from below plan [] = []
+finding_lines from below plan (finding ∷ findings) = finding_part from below plan finding ++ finding_lines from below plan findings
 
 -- ---- laws
 

@@ -1,19 +1,26 @@
--- The lines of findings on what a plan asks of its bus, and those of the delays of its flows.
-use Rattle.std.specs.Prelude.{ℕ, ◌*◌, List, [], ◌∷◌, ◌++◌, codes, slice_index_or, Option, Some, None}
+-- The lines of findings on what a plan asks of its bus, and those of the delays of its flows and of the ages of what its units need.
+use Rattle.std.specs.Prelude.{ℕ, ◌*◌, nat_le, if◌then◌else◌, List, [], ◌∷◌, ◌++◌, codes, slice_index_or, Option, Some, None}
+use Rattle.std.specs.Option.{option_map_or}
 use Rattle.j39_findings.specs.declared.plan.Plan.{Plan}
 use Rattle.j39_findings.specs.declared.plan.flow_plan.FlowPlan.{FlowPlan}
+use Rattle.j39_findings.specs.declared.plan.need_plan.NeedPlan.{NeedPlan}
 use Rattle.j39_findings.specs.declared.plan.timing.Bitrate.{Bitrate}
-use Rattle.j39_findings.specs.declared.plan.timing.Bitrate.TheVariants.{Kbit250, Kbit500}
+use Rattle.j39_findings.specs.declared.plan.timing.Bitrate.TheVariants.{Kbit125, Kbit250, Kbit500, Mbit1}
+use Rattle.j39_findings.specs.declared.plan.timing.Timing.{Timing}
 use Rattle.j39_findings.specs.declared.plan.to.To.{To}
 use Rattle.j39_findings.specs.declared.plan.to.To.TheVariants.{All, One}
 use Rattle.j39_load.specs.declared.delay.Delay.{Delay}
 use Rattle.j39_load.specs.declared.delay.Delay.TheVariants.{Within, Late, Long}
 use Rattle.j39_load.specs.declared.flow_load.FlowLoad.{FlowLoad}
 use Rattle.j39_load.specs.declared.load_finding.LoadFinding.{LoadFinding}
-use Rattle.j39_load.specs.declared.load_finding.LoadFinding.TheVariants.{NoPeriod, Overload, LateFlow}
-use Rattle.j39_load.specs.Loads.{bits_of_second, total_load}
+use Rattle.j39_load.specs.declared.load_finding.LoadFinding.TheVariants.{NoPeriod, Overload, LateFlow, NeedTooOld}
+use Rattle.j39_load.specs.Ages.{least_age}
+use Rattle.j39_load.specs.Asked.{Asked, total_load}
+use Rattle.j39_load.specs.LoadFindings.{load_finding_number}
+use Rattle.j39_load.specs.Loads.{bits_of_ms, bits_of_second}
 use Rattle.j39_load.specs.Places.{told_from}
-use Rattle.j39_text.specs.Labels.{group_label, unit_label}
+use Rattle.j39_check.specs.FindingLines.{is_between}
+use Rattle.j39_text.specs.Labels.{group_label, signal_label, unit_label}
 use Rattle.j39_text.specs.Texts.{field, place_field}
 
 -- ---- findings
@@ -22,19 +29,27 @@ unfoldable pub load_finding_text : LoadFinding → List ℕ
 load_finding_text (NoPeriod f) = place_field (codes "F16 NoPeriod ") f
 load_finding_text (Overload bits) = field (codes "F17 Overload ") bits
 load_finding_text (LateFlow f) = place_field (codes "F18 LateFlow ") f
+load_finding_text (NeedTooOld n) = place_field (codes "F20 NeedTooOld ") n
 
 unfoldable pub load_finding_line : LoadFinding → List ℕ
 load_finding_line finding = load_finding_text finding ++ 10 ∷ []
 
-abbrev pub load_finding_lines : List LoadFinding → List ℕ
-load_finding_lines = told_from (λ _. load_finding_line) 0
+-- one whose number is between these
+unfoldable pub load_finding_part : ℕ → ℕ → LoadFinding → List ℕ
+load_finding_part from below finding = if is_between from below (load_finding_number finding) then load_finding_line finding else []
+
+-- those of the findings whose numbers are between these
+abbrev pub load_finding_lines : ℕ → ℕ → List LoadFinding → List ℕ
+load_finding_lines from below = told_from (λ _. load_finding_part from below) 0
 
 -- ---- delays
 
 -- how long a bit takes
 abbrev pub bit_microseconds : Bitrate → ℕ
+bit_microseconds Kbit125 = 8
 bit_microseconds Kbit250 = 4
 bit_microseconds Kbit500 = 2
+bit_microseconds Mbit1 = 1
 
 -- so many bits, in microseconds
 unfoldable pub microseconds_field : List ℕ → Bitrate → ℕ → List ℕ
@@ -66,7 +81,35 @@ unfoldable pub flow_line : Plan → Bitrate → List (Option FlowLoad) → List 
 flow_line plan bitrate loads delays place flow = flow_text plan place flow
     ++ (known_delay_text bitrate (slice_index_or loads place None) (slice_index_or delays place None) ++ 10 ∷ [])
 
--- each flow with its delay, and the load
-unfoldable pub loads_text : Plan → Bitrate → List (Option FlowLoad) → List (Option Delay) → List ℕ
-loads_text plan bitrate loads delays = told_from (flow_line plan bitrate loads delays) 0 plan.flows.items
-    ++ (field (codes "load ") (total_load loads) ++ (field (codes " of ") (bits_of_second bitrate) ++ 10 ∷ []))
+-- ---- needs
+
+-- the signal that a need names, if it names one
+unfoldable pub need_signal_text : Plan → NeedPlan → List ℕ
+need_signal_text plan need = option_map_or (λ s. codes " " ++ signal_label plan need.group s) need.signal []
+
+-- a need: its place, its unit, its group, and its signal where it names one
+unfoldable pub need_text : Plan → ℕ → NeedPlan → List ℕ
+need_text plan place need = place_field (codes "need ") place ++ (codes " " ++ (unit_label plan need.unit
+    ++ (codes " " ++ (group_label plan need.group ++ need_signal_text plan need))))
+
+-- how old what is needed is at most, of a limit in bits; or that it isn't shown to be within it
+unfoldable pub age_text : Bitrate → ℕ → Option ℕ → List ℕ
+age_text bitrate limit None = microseconds_field (codes " old of ") bitrate limit ++ codes " us"
+age_text bitrate limit (Some age) =
+    if nat_le age limit
+    then microseconds_field (codes " age ") bitrate age ++ (microseconds_field (codes " of ") bitrate limit ++ codes " us")
+    else microseconds_field (codes " old of ") bitrate limit ++ codes " us"
+
+-- a need and its age, where it asks for one
+unfoldable pub need_line : Plan → Timing → List (Option Delay) → ℕ → NeedPlan → List ℕ
+need_line plan timing delays place need = option_map_or
+    (λ within. need_text plan place need
+    ++ (age_text timing.bitrate (bits_of_ms timing within) (least_age timing plan.flows.items delays need) ++ 10 ∷ [])) need.within []
+
+-- ---- all of it
+
+-- each flow with its delay, each need that asks for an age with it, and the load
+unfoldable pub loads_text : Plan → Timing → Asked → List (Option Delay) → List ℕ
+loads_text plan timing asked delays = told_from (flow_line plan timing.bitrate asked.flows delays) 0 plan.flows.items
+    ++ (told_from (need_line plan timing delays) 0 plan.needs.items
+    ++ (field (codes "load ") (total_load timing asked) ++ (field (codes " of ") (bits_of_second timing.bitrate) ++ 10 ∷ [])))

@@ -7,8 +7,8 @@ use Rattle.j39_findings.specs.declared.plan.unit_plan.UnitPlan.{UnitPlan}
 use Rattle.j39_findings.specs.Findings.{Clean}
 use Rattle.j39_load.specs.declared.delay.Delay.{Delay}
 use Rattle.j39_load.specs.declared.load_finding.LoadFinding.{LoadFinding}
-use Rattle.j39_load.specs.LoadFindings.{AsksOfBus, load_findings}
-use Rattle.j39_load.specs.Loads.{loads_of, total_load}
+use Rattle.j39_load.specs.Asked.{asked_of, total_load}
+use Rattle.j39_load.specs.LoadFindings.{AsksOfBus, all_findings}
 use Rattle.j39_check.specs.CheckText.{IsReport}
 use Rattle.j39_check.specs.LoadLines.{loads_text}
 use Rattle.j39_check.specs.PlanText.{IsReportedText}
@@ -19,7 +19,7 @@ use Rattle.j39_stream.specs.declared.verdict.Verdict.TheVariants.{Done, Findings
 abbrev pub have_periods : List (Option Delay) → Bool
 have_periods delays = list_all is_some delays
 
--- whether the bus is too full or a flow late
+-- whether the bus is too full, a flow late, or what a unit needs too old
 abbrev pub load_verdict : List LoadFinding → Verdict
 load_verdict [] = Done
 load_verdict (finding ∷ findings) = Findings
@@ -27,9 +27,9 @@ load_verdict (finding ∷ findings) = Findings
 -- what is written for a plan of which this is asked of its bus, with the verdict: the loads, where nothing else is wrong and each flow
 -- has a period, else what check writes
 abbrev pub TellsLoads : Plan → Timing → (UnitPlan → Bool) → List (Option Delay) → List ℕ → Verdict → Type 0
-TellsLoads plan timing stays delays text verdict = let loads = loads_of timing plan stays in
-    (Clean plan × (have_periods delays ≡ true) × (text ≡ loads_text plan timing.bitrate loads delays)
-    × (verdict ≡ load_verdict (load_findings timing (total_load loads) delays)))
+TellsLoads plan timing stays delays text verdict = let asked = asked_of timing plan stays in
+    (Clean plan × (have_periods delays ≡ true) × (text ≡ loads_text plan timing asked delays)
+    × (verdict ≡ load_verdict (all_findings plan timing (total_load timing asked) delays)))
     ⊎ ((Clean plan → have_periods delays ≡ false) × IsReport plan text verdict)
 
 -- what is written for a plan, with the verdict

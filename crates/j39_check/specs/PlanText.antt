@@ -4,7 +4,7 @@ use Rattle.j39_findings.specs.declared.plan.Plan.{Plan}
 use Rattle.j39_plan.specs.declared.reading.fault.Fault.{Fault}
 use Rattle.j39_plan.specs.declared.reading.key.Key.{Key}
 use Rattle.j39_plan.specs.declared.reading.place.Table.{Table}
-use Rattle.j39_plan.specs.declared.reading.place.Table.TheVariants.{Top, Timing, Unit as AUnit, UnitName, Group, Signal, Text, Flow}
+use Rattle.j39_plan.specs.declared.reading.place.Table.TheVariants.{Top, Timing, TimingErrors, Unit as AUnit, UnitName, Group, Signal, Text, Flow, Need}
 use Rattle.j39_plan.specs.declared.reading.plan_error.PlanError.{PlanError}
 use Rattle.j39_plan.specs.declared.reading.plan_error.PlanError.TheVariants as errors
 use Rattle.j39_plan.specs.Words.{word_of, cause_word}
@@ -17,12 +17,14 @@ use Rattle.j39_text.specs.Texts.{place_field}
 unfoldable pub table_text : Table → List ℕ
 table_text Top = codes "top"
 table_text Timing = codes "timing"
+table_text TimingErrors = codes "timing errors"
 table_text (AUnit i) = place_field (codes "unit ") i
 table_text (UnitName i) = place_field (codes "unit ") i ++ codes " name"
 table_text (Group g) = place_field (codes "group ") g
 table_text (Signal g s) = place_field (codes "group ") g ++ place_field (codes " signal ") s
 table_text (Text g t) = place_field (codes "group ") g ++ place_field (codes " text ") t
 table_text (Flow f) = place_field (codes "flow ") f
+table_text (Need n) = place_field (codes "need ") n
 
 -- the key at fault, where there is one
 unfoldable pub key_text : Option Key → List ℕ

@@ -1,7 +1,7 @@
 //! The lines of findings.
 ghost use Rattle.std.specs.Prelude.{◌≡◌, ◌++◌, OnOk};
 ghost use Rattle.j39_findings.specs.declared.checking.finding.Finding.TheVariants.{SameFixedAddress, BadPgn, SamePgn, SignalWidth, SignalOutside, SignalOverlap, FlowRepeated, KeptAddress, RecordOverlap, TextOutside};
-ghost use Rattle.j39_check.specs.FindingLines.{finding_line, finding_lines, finding_report, finding_text, run_lines, signal_text};
+ghost use Rattle.j39_check.specs.FindingLines.{finding_line, finding_lines, finding_part, finding_report, finding_text, is_between, run_lines, signal_text};
 
 use j39_findings::{Finding, Plan, bad_run};
 use j39_schedule::write_steps;
@@ -175,6 +175,7 @@ fn write_finding(text: &mut TextBuffer, plan: &Plan, finding: Finding) -> Result
         Finding::PrivateUnsent(g) => write_group(text, "F13 PrivateUnsent ", plan, g),
         Finding::RecordOverlap(g, s, t) => write_record_overlap(text, plan, g, s, t),
         Finding::TextOutside(g, t) => write_text_outside(text, plan, g, t),
+        Finding::NeedUnmet(n) => text.place("F19 NeedUnmet ", n),
     }
 }
 
@@ -215,17 +216,45 @@ fn write_report(
     write_run(alloc, text, plan, finding)
 }
 
-/// Writes a line for each finding, and behind that of a conflict the steps of the run that shows it.
+/// Whether the number of a finding is this one or a greater one, and below that one.
+pub(super) fn is_between(from: u8, below: u8, number: u8) -> bool
+    ensures { result ≡ is_between from below number }
+{
+    from <= number && number < below
+}
+
+// The same, where its number is between these.
+#[tactic(auto, unfolding(crate::specs::FindingLines::finding_part))]
+fn write_part(
+    alloc: Global,
+    text: &mut TextBuffer,
+    plan: &Plan,
+    finding: &Finding,
+    from: u8,
+    below: u8,
+) -> Result<(), AllocError>
+    ensures { OnOk result (text.new ≡ text.old ++ finding_part from below plan.now finding.now) }
+{
+    if is_between(from, below, finding.number()) {
+        write_report(alloc, text, plan, finding)
+    } else {
+        Ok(())
+    }
+}
+
+/// Writes a line for each finding whose number is between these, and behind that of a conflict the steps of the run that shows it.
 pub(super) fn write_lines(
     alloc: Global,
     text: &mut TextBuffer,
     plan: &Plan,
     findings: &[Finding],
+    from: u8,
+    below: u8,
 ) -> Result<(), AllocError>
-    ensures { OnOk result (text.new ≡ text.old ++ finding_lines plan.now findings.now) }
+    ensures { OnOk result (text.new ≡ text.old ++ finding_lines from below plan.now findings.now) }
 {
     for finding in findings {
-        write_report(alloc, text, plan, finding)?;
+        write_part(alloc, text, plan, finding, from, below)?;
     }
     Ok(())
 }

@@ -1,12 +1,14 @@
 //! The lines of what a plan asks of its bus.
 ghost use Rattle.std.specs.Prelude.{◌≡◌, ◌+◌, ◌*◌, ◌++◌, ◌<◌, ◌^◌, length, OnOk};
 ghost use Rattle.j39_check.specs.LoadLines.{bit_microseconds, delay_text, flow_line, flow_text, known_delay_text, load_finding_line, load_finding_lines, load_finding_text};
-ghost use Rattle.j39_check.specs.LoadLines.{loads_text, microseconds_field, receiver_text};
+ghost use Rattle.j39_check.specs.LoadLines.{age_text, load_finding_part, loads_text, microseconds_field, need_line, need_signal_text, need_text, receiver_text};
+ghost use Rattle.j39_load.specs.Asked.{asked_by};
 ghost use Rattle.j39_load.specs.Places.{told_from};
 
-use j39_findings::{Bitrate, FlowPlan, Plan, To};
-use j39_load::{Delay, FlowLoad, LoadFinding, Loads, bits_of_second};
-use j39_text::{TextBuffer, group_label, unit_label};
+use crate::finding_lines::is_between;
+use j39_findings::{Bitrate, FlowPlan, NeedPlan, Plan, Timing, To};
+use j39_load::{Delay, FlowLoad, LoadFinding, Loads, bits_of_ms, bits_of_second, least_age};
+use j39_text::{TextBuffer, group_label, signal_label, unit_label};
 use std::alloc::AllocError;
 
 #[tactic(auto, unfolding(crate::specs::LoadLines::load_finding_text))]
@@ -17,6 +19,7 @@ fn write_load_finding(text: &mut TextBuffer, finding: LoadFinding) -> Result<(),
         LoadFinding::NoPeriod(flow) => text.place("F16 NoPeriod ", flow),
         LoadFinding::Overload(bits) => text.field("F17 Overload ", bits),
         LoadFinding::LateFlow(flow) => text.place("F18 LateFlow ", flow),
+        LoadFinding::NeedTooOld(need) => text.place("F20 NeedTooOld ", need),
     }
 }
 
@@ -28,16 +31,35 @@ fn write_load_finding_line(text: &mut TextBuffer, finding: LoadFinding) -> Resul
     text.end_line()
 }
 
-/// Writes a line for each finding.
+// The same, where its number is between these.
+#[tactic(auto, unfolding(crate::specs::LoadLines::load_finding_part))]
+fn write_load_finding_part(
+    text: &mut TextBuffer,
+    finding: LoadFinding,
+    from: u8,
+    below: u8,
+) -> Result<(), AllocError>
+    ensures { OnOk result (text.new ≡ text.old ++ load_finding_part from below finding) }
+{
+    if is_between(from, below, finding.number()) {
+        write_load_finding_line(text, finding)
+    } else {
+        Ok(())
+    }
+}
+
+/// Writes a line for each finding whose number is between these.
 #[tactic(auto, unfolding(j39_load::specs::Places::told_from))]
 pub(super) fn write_load_findings(
     text: &mut TextBuffer,
     findings: &[LoadFinding],
+    from: u8,
+    below: u8,
 ) -> Result<(), AllocError>
-    ensures { OnOk result (text.new ≡ text.old ++ load_finding_lines findings.now) }
+    ensures { OnOk result (text.new ≡ text.old ++ load_finding_lines from below findings.now) }
 {
     for finding in findings {
-        write_load_finding_line(text, *finding)?;
+        write_load_finding_part(text, *finding, from, below)?;
     }
     Ok(())
 }
@@ -46,8 +68,10 @@ fn bit_microseconds(bitrate: Bitrate) -> u64
     ensures { result ≡ bit_microseconds bitrate }
 {
     match bitrate {
+        Bitrate::Kbit125 => 8,
         Bitrate::Kbit250 => 4,
         Bitrate::Kbit500 => 2,
+        Bitrate::Mbit1 => 1,
     }
 }
 
@@ -170,7 +194,97 @@ fn write_flows(
     Ok(())
 }
 
-/// Writes each flow with its delay, and the load of all.
+#[tactic(auto, unfolding(crate::specs::LoadLines::need_signal_text))]
+fn write_need_signal(text: &mut TextBuffer, plan: &Plan, need: &NeedPlan) -> Result<(), AllocError>
+    ensures { OnOk result (text.new ≡ text.old ++ need_signal_text plan.now need.now) }
+{
+    match need.signal {
+        Some(signal) => {
+            text.word(" ")?;
+            text.word(signal_label(plan, need.group, signal))
+        }
+        None => Ok(()),
+    }
+}
+
+#[tactic(auto, unfolding(crate::specs::LoadLines::need_text))]
+fn write_need(
+    text: &mut TextBuffer,
+    plan: &Plan,
+    place: usize,
+    need: &NeedPlan,
+) -> Result<(), AllocError>
+    ensures { OnOk result (text.new ≡ text.old ++ need_text plan.now place need.now) }
+{
+    text.place("need ", place)?;
+    text.word(" ")?;
+    text.word(unit_label(plan, need.unit))?;
+    text.word(" ")?;
+    text.word(group_label(plan, need.group))?;
+    write_need_signal(text, plan, need)
+}
+
+#[tactic(auto, unfolding(crate::specs::LoadLines::age_text))]
+fn write_age(
+    text: &mut TextBuffer,
+    bitrate: Bitrate,
+    limit: u32,
+    age: Option<u64>,
+) -> Result<(), AllocError>
+    ensures { OnOk result (text.new ≡ text.old ++ age_text bitrate limit age) }
+{
+    match age {
+        Some(age) if age <= u64::from(limit) => {
+            write_microseconds(text, " age ", bitrate, age as u32)?;
+            write_microseconds(text, " of ", bitrate, limit)?;
+            text.word(" us")
+        }
+        _ => {
+            write_microseconds(text, " old of ", bitrate, limit)?;
+            text.word(" us")
+        }
+    }
+}
+
+// A need and its age, where it asks for one.
+#[tactic(auto, unfolding(crate::specs::LoadLines::need_line))]
+fn write_need_line(
+    text: &mut TextBuffer,
+    plan: &Plan,
+    timing: Timing,
+    delays: &[Option<Delay>],
+    place: usize,
+    need: &NeedPlan,
+) -> Result<(), AllocError>
+    requires { length delays.now ≡ length plan.now.flows.items }
+    ensures { OnOk result (text.new ≡ text.old ++ need_line plan.now timing delays.now place need.now) }
+{
+    let Some(within) = need.within else {
+        return Ok(());
+    };
+    write_need(text, plan, place, need)?;
+    let age = least_age(timing, &plan.flows, delays, need);
+    write_age(text, timing.bitrate, bits_of_ms(timing, within), age)?;
+    text.end_line()
+}
+
+#[tactic(auto, unfolding(j39_load::specs::Places::told_from))]
+fn write_needs(
+    text: &mut TextBuffer,
+    plan: &Plan,
+    timing: Timing,
+    delays: &[Option<Delay>],
+) -> Result<(), AllocError>
+    requires { length delays.now ≡ length plan.now.flows.items }
+    ensures { OnOk result (text.new ≡ text.old ++ told_from (need_line plan.now timing delays.now) 0 plan.now.needs.items) }
+{
+    for (place, need) in plan.needs.iter().enumerate() {
+        write_need_line(text, plan, timing, delays, place, need)?;
+    }
+    Ok(())
+}
+
+/// Writes each flow with its delay, each need that asks for an age with it, and the load of all.
 #[tactic(auto, unfolding(crate::specs::LoadLines::loads_text))]
 pub(super) fn write_loads(
     text: &mut TextBuffer,
@@ -180,9 +294,10 @@ pub(super) fn write_loads(
 ) -> Result<(), AllocError>
     requires loads { length loads.now.flows.items ≡ length plan.now.flows.items }
     requires delays { length delays.now ≡ length plan.now.flows.items }
-    ensures { OnOk result (text.new ≡ text.old ++ loads_text plan.now loads.now.timing.bitrate loads.now.flows.items delays.now) }
+    ensures { OnOk result (text.new ≡ text.old ++ loads_text plan.now loads.now.timing (asked_by loads.now.flows.items loads.now.units.items) delays.now) }
 {
     write_flows(text, plan, loads, delays)?;
+    write_needs(text, plan, loads.timing, delays)?;
     text.field("load ", loads.total())?;
     text.field(" of ", bits_of_second(loads.timing.bitrate))?;
     text.end_line()

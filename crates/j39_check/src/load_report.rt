@@ -5,7 +5,7 @@ ghost use Rattle.j39_check.specs.LoadText.{IsLoadReport, have_periods, load_verd
 use crate::load_lines::write_loads;
 use crate::plan_report::write_findings;
 use j39_findings::{Plan, check};
-use j39_load::{Delay, LoadFinding, Loads, load_findings};
+use j39_load::{Delay, LoadFinding, Loads, all_findings};
 use j39_stream::Verdict;
 use j39_text::TextBuffer;
 use std::alloc::{AllocError, Global};
@@ -37,7 +37,7 @@ pub(super) fn load_report(alloc: Global, plan: &Plan) -> Result<(TextBuffer, Ver
     };
     let loads = Loads::new(alloc, timing, plan)?;
     let delays = loads.delays(alloc)?;
-    let others = load_findings(alloc, timing, loads.total(), delays.as_slice())?;
+    let others = all_findings(alloc, plan, timing, loads.total(), delays.as_slice())?;
     let findings = check(alloc, plan)?;
     if findings.is_empty() && have_periods(delays.as_slice()) {
         write_loads(&mut text, plan, &loads, delays.as_slice())?;

@@ -31,8 +31,10 @@ pub(super) fn write_findings(
 ) -> Result<(), AllocError>
     ensures { OnOk result (text.new ≡ text.old ++ findings_text plan.now findings.now others.now) }
 {
-    write_lines(alloc, text, plan, findings)?;
-    write_load_findings(text, others)?;
+    write_lines(alloc, text, plan, findings, 1, 16)?;
+    write_load_findings(text, others, 16, 19)?;
+    write_lines(alloc, text, plan, findings, 19, 20)?;
+    write_load_findings(text, others, 20, 21)?;
     text.field("findings ", findings.len() + others.len())?;
     text.end_line()
 }

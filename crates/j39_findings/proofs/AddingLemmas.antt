@@ -6,8 +6,9 @@ use Rattle.std.specs.List.{slice_get}
 use Rattle.std.proofs.lemmas.Option.{slice_get-get_or}
 use Rattle.j39_findings.specs.Adding.{Adds}
 use Rattle.j39_findings.specs.ListPlaces.{in_each, each, pairs, found_if}
-use Rattle.j39_findings.specs.Found.{unit_findings, group_findings, signal_findings, flow_findings, kept_findings, unsent_findings, record_findings, text_findings, found}
+use Rattle.j39_findings.specs.Found.{unit_findings, group_findings, signal_findings, flow_findings, kept_findings, unsent_findings, record_findings, text_findings, need_findings, found}
 use Rattle.j39_findings.specs.Findings.{Clean}
+use Rattle.j39_findings.specs.declared.checking.finding.Finding.{Finding}
 use Rattle.j39_findings.specs.declared.plan.Plan.{Plan}
 use Rattle.j39_findings.proofs.FoundLaws.{none_from_clean, rest}
 use Rattle.j39_findings.proofs.Members.{in_each_of, behind}
@@ -126,4 +127,28 @@ pub texts_some : (plan : Plan) → text_findings plan.groups.items ≢ [] → fo
 texts_some plan some =
     rest_some plan (some_right (flow_findings plan.groups.items plan.flows.items) _
     (some_right (kept_findings plan.keep_free plan.units.items) _
-    (some_right (unsent_findings plan.groups.items plan.flows.items) _ (some_right (record_findings plan.groups.items) _ some))))
+    (some_right (unsent_findings plan.groups.items plan.flows.items) _
+    (some_right (record_findings plan.groups.items) _ (some_left _ _ some)))))
+
+pub needs_some : (plan : Plan) → need_findings plan.flows.items plan.needs.items ≢ [] → found plan ≢ []
+needs_some plan some =
+    rest_some plan (some_right (flow_findings plan.groups.items plan.flows.items) _
+    (some_right (kept_findings plan.keep_free plan.units.items) _
+    (some_right (unsent_findings plan.groups.items plan.flows.items) _
+    (some_right (record_findings plan.groups.items) _ (some_right (text_findings plan.groups.items) _ some)))))
+
+-- the parts one after another, each added behind those before it, are the whole list
+pub whole_list : (plan : Plan) (units groups signals flows kept unsent records texts needs : List Finding)
+    → units ≡ unit_findings plan.keep_free plan.units.items
+    → groups ≡ units ++ group_findings plan.groups.items plan.flows.items
+    → signals ≡ groups ++ signal_findings plan.groups.items
+    → flows ≡ signals ++ flow_findings plan.groups.items plan.flows.items
+    → kept ≡ flows ++ kept_findings plan.keep_free plan.units.items
+    → unsent ≡ kept ++ unsent_findings plan.groups.items plan.flows.items
+    → records ≡ unsent ++ record_findings plan.groups.items
+    → texts ≡ records ++ text_findings plan.groups.items
+    → needs ≡ texts ++ need_findings plan.flows.items plan.needs.items
+    → needs ≡ found plan
+unfolding found
+whole_list plan units groups signals flows kept unsent records texts needs a b c d e f g h i =
+    rw (i, h, g, f, e, d, c, b, a) (simp append_assoc)

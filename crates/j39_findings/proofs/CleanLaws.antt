@@ -13,7 +13,7 @@ use Rattle.j39_findings.specs.declared.plan.Plan.{Plan}
 use Rattle.j39_findings.specs.declared.plan.group_plan.GroupPlan.{GroupPlan}
 use Rattle.j39_findings.specs.declared.plan.text_plan.TextPlan.{TextPlan}
 use Rattle.j39_findings.specs.declared.checking.finding.Finding.TheVariants.{SameName, SameFixedAddress, TooFewAddresses, BadPgn, SamePgn, SignalWidth}
-use Rattle.j39_findings.specs.declared.checking.finding.Finding.TheVariants.{SignalOutside, SignalOverlap, FlowToOne, FlowToSelf, FlowRepeated, KeptAddress, PrivateUnsent, RecordOverlap, TextOutside}
+use Rattle.j39_findings.specs.declared.checking.finding.Finding.TheVariants.{SignalOutside, SignalOverlap, FlowToOne, FlowToSelf, FlowRepeated, KeptAddress, PrivateUnsent, RecordOverlap, TextOutside, NeedUnmet}
 use Rattle.j39_findings.specs.ListPlaces.{ValueAt, PairAt}
 use Rattle.j39_findings.specs.Findings.{IsProprietary, HasBadPgn, IsOutside, Clean}
 use Rattle.j39_findings.specs.CleanParts.{CanBePlanned, LiesInside, CleanParts}
@@ -21,7 +21,7 @@ use Rattle.j39_findings.specs.Lengths.{IsLengthOf}
 use Rattle.j39_findings.specs.TextPlaces.{last_byte}
 use Rattle.j39_findings.specs.Records.{signals_in}
 use Rattle.j39_findings.proofs.RecordBits.{IsApart, bits_once, laid_with_records}
-use Rattle.j39_findings.proofs.Deciding.{Decides-is_pgn, Decides-is_proprietary, Decides-sends_some}
+use Rattle.j39_findings.proofs.Deciding.{Decides-is_pgn, Decides-is_proprietary, Decides-sends_some, Decides-some_meets}
 
 none_at : {A : Type 0} (P : A → Type 0) (xs : List A) → ((i : ℕ) → ¬ ValueAt P xs i) → All (λ x. ¬ P x) xs
 none_at P xs none = λ i d less meets. none i (record { value = get_or xs i d; value_is = slice_get-get_or xs i d less; meets = meets })
@@ -150,4 +150,7 @@ parts_of plan clean = record {
       let group = get_or plan.groups.items g d in
       lies_inside group (get_or group.texts.items t e)
       (none_at (IsOutside group) group.texts.items (λ k at. clean (TextOutside g k) (at_group plan _ g d less at)) t e in_group);
+  needs = λ n d less.
+      by_test _ _ (Decides-some_meets plan.flows.items (get_or plan.needs.items n d))
+      (λ none. none_at _ plan.needs.items (λ k. clean (NeedUnmet k)) n d less none);
 }

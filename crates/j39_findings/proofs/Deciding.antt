@@ -23,15 +23,17 @@ use Rattle.j39_findings.specs.ListPlaces.{SomeMeets, SoManyMeet, ValueAt}
 use Rattle.j39_findings.specs.declared.plan.unit_plan.UnitPlan.{UnitPlan}
 use Rattle.j39_findings.specs.declared.plan.group_plan.GroupPlan.{GroupPlan}
 use Rattle.j39_findings.specs.declared.plan.flow_plan.FlowPlan.{FlowPlan}
+use Rattle.j39_findings.specs.declared.plan.need_plan.NeedPlan.{NeedPlan}
 use Rattle.j39_findings.specs.declared.plan.text_plan.TextPlan.{TextPlan}
 use Rattle.j39_findings.specs.TextPlaces.{last_byte}
 use Rattle.j39_findings.specs.declared.plan.to.To.{To}
 use Rattle.j39_findings.specs.declared.plan.to.To.TheVariants.{All, One}
 use Rattle.j39_findings.specs.Findings.{HaveSameName, HaveSameFixedAddress, NeedsPoolAddress, PrefersKept, IsProprietary, IsForNoPlan}
-use Rattle.j39_findings.specs.Findings.{IsWronglyPrivate, HasBadPgn, Sends, DoReceiversMeet, AreSentTogether, HaveSamePgn, IsPrivateUnsent, IsOneFrameToAll, MayBeOneFrameToAll, CannotGoToOne, GoesToItsSender, AreOneFlow, IsOutside}
+use Rattle.j39_findings.specs.Findings.{IsWronglyPrivate, HasBadPgn, Sends, DoReceiversMeet, AreSentTogether, HaveSamePgn, IsPrivateUnsent, IsOneFrameToAll, MayBeOneFrameToAll, CannotGoToOne, GoesToItsSender, AreOneFlow, IsOutside, Meets, IsUnmet}
 use Rattle.j39_findings.specs.Found.{have_same_name, have_same_fixed_address, needs_pool_address, prefers_kept, is_for_no_plan, is_wrongly_private}
 use Rattle.j39_findings.specs.Found.{has_bad_pgn, sends, do_receivers_meet, sends_beside, are_sent_together, have_same_pgn, is_private_unsent, has_other_width, ends_outside, is_one_frame_to_all, may_be_one_frame_to_all, is_group_of}
 use Rattle.j39_findings.specs.Found.{is_to_one, is_to, have_same_receiver, cannot_go_to_one, goes_to_its_sender, are_one_flow, lies_outside}
+use Rattle.j39_findings.specs.Found.{is_from, reaches, meets, is_unmet}
 
 Decides-leb : (a b : ℕ) → Decides (nat_le a b) (a ≤ b)
 Decides-leb a b = (leb-true a b, le-leb a b)
@@ -246,3 +248,27 @@ Decides-sends_some gs fs g = some_decides (Sends gs g) (Decides-sends gs g) fs
 pub Decides-is_private_unsent : (gs : List GroupPlan) (fs : List FlowPlan) (g : GroupPlan) → Decides (is_private_unsent gs fs g) (IsPrivateUnsent gs fs g)
 Decides-is_private_unsent gs fs g =
     Decides-and _ _ (λ e. e, λ e. e) (Decides-not _ (Decides-sends_some gs fs g))
+
+-- ---- needs
+
+is_from_decides : (from : Option ℕ) (sender : ℕ) → Decides (is_from from sender) ((u : ℕ) → from ≡ Some u → sender ≡ u)
+is_from_decides None sender = (λ e u is. absurd (none-some _ is), λ h. refl)
+is_from_decides (Some unit) sender =
+    Decides-like _ (λ e u is. e ∙ same_Some _ _ is) (λ h. h unit refl) (Decides-eqb sender unit)
+
+reaches_decides : (to : To) (unit : ℕ) → Decides (reaches to unit) ((to ≡ All) ⊎ (to ≡ One unit))
+reaches_decides to unit = Decides-or _ _ (to_all_decides to) (Decides-is_to to unit)
+
+pub Decides-meets : (need : NeedPlan) (flow : FlowPlan) → Decides (meets need flow) (Meets need flow)
+Decides-meets need flow =
+    Decides-like _ (λ h. record { group = h.0; other = h.1.0; from = h.1.1.0; reaches = h.1.1.1 })
+    (λ m. (m.group, (m.other, (m.from, m.reaches))))
+    (Decides-and _ _ (Decides-eqb flow.group need.group)
+    (Decides-and _ _ (Decides-not _ (Decides-eqb flow.sender need.unit))
+    (Decides-and _ _ (is_from_decides need.from flow.sender) (reaches_decides flow.to need.unit))))
+
+pub Decides-some_meets : (fs : List FlowPlan) (need : NeedPlan) → Decides (list_any (meets need) fs) (SomeMeets (Meets need) fs)
+Decides-some_meets fs need = some_decides (Meets need) (Decides-meets need) fs
+
+pub Decides-is_unmet : (fs : List FlowPlan) (need : NeedPlan) → Decides (is_unmet fs need) (IsUnmet fs need)
+Decides-is_unmet fs need = Decides-not _ (Decides-some_meets fs need)

@@ -11,20 +11,20 @@ use Rattle.j39_findings.specs.declared.plan.Plan.{Plan}
 use Rattle.j39_findings.specs.declared.plan.group_plan.GroupPlan.{GroupPlan}
 use Rattle.j39_findings.specs.declared.checking.finding.Finding.{Finding}
 use Rattle.j39_findings.specs.declared.checking.finding.Finding.TheVariants.{SameName, SameFixedAddress, TooFewAddresses, BadPgn, SamePgn, SignalWidth}
-use Rattle.j39_findings.specs.declared.checking.finding.Finding.TheVariants.{SignalOutside, SignalOverlap, FlowToOne, FlowToSelf, FlowRepeated, KeptAddress, PrivateUnsent, RecordOverlap, TextOutside}
+use Rattle.j39_findings.specs.declared.checking.finding.Finding.TheVariants.{SignalOutside, SignalOverlap, FlowToOne, FlowToSelf, FlowRepeated, KeptAddress, PrivateUnsent, RecordOverlap, TextOutside, NeedUnmet}
 use Rattle.j39_findings.specs.ListPlaces.{found_if, in_each, each, pairs, ValueAt, PairAt}
 use Rattle.j39_claim.specs.AddressSets.{free_count}
 use Rattle.j39_findings.specs.Findings.{HaveSameName, HaveSameFixedAddress, HasBadPgn, HaveSamePgn, CannotGoToOne}
-use Rattle.j39_findings.specs.Findings.{GoesToItsSender, AreOneFlow, Holds, PrefersKept, IsPrivateUnsent, IsOutside, IsBefore, IsBelow, finding_number, places_of}
+use Rattle.j39_findings.specs.Findings.{GoesToItsSender, AreOneFlow, Holds, PrefersKept, IsPrivateUnsent, IsOutside, IsUnmet, IsBefore, IsBelow, finding_number, places_of}
 use Rattle.j39_findings.specs.Records.{record_count}
 use Rattle.j39_findings.specs.Found.{needed_addresses, too_few_addresses, unit_findings, group_findings, has_other_width}
-use Rattle.j39_findings.specs.Found.{ends_outside, lies_outside, overlap_findings, signal_findings, flow_findings, kept_findings, unsent_findings, overlaps_of, group_overlaps, do_records_meet, record_findings, text_findings}
+use Rattle.j39_findings.specs.Found.{ends_outside, lies_outside, overlap_findings, signal_findings, flow_findings, kept_findings, unsent_findings, overlaps_of, group_overlaps, do_records_meet, record_findings, text_findings, need_findings}
 use Rattle.j39_findings.proofs.Meeting.{of_signal_made, of_group_overlaps}
 use Rattle.j39_findings.proofs.Members.{of_in_each, of_found_if, of_each, of_pairs}
 use Rattle.j39_findings.proofs.Rising.{Rises, Rises-append, Rises-found_if, Rises-in_each, Rises-each, Rises-pairs}
 use Rattle.j39_findings.proofs.Deciding.{Decides-have_same_name, Decides-have_same_fixed_address, Decides-needs_pool_address, Decides-has_bad_pgn, passing_meet}
 use Rattle.j39_findings.proofs.Deciding.{Decides-have_same_pgn, Decides-has_other_width, Decides-ends_outside, Decides-shares_bit}
-use Rattle.j39_findings.proofs.Deciding.{Decides-cannot_go_to_one, Decides-goes_to_its_sender, Decides-are_one_flow, Decides-prefers_kept, Decides-is_private_unsent, Decides-lies_outside}
+use Rattle.j39_findings.proofs.Deciding.{Decides-cannot_go_to_one, Decides-goes_to_its_sender, Decides-are_one_flow, Decides-prefers_kept, Decides-is_private_unsent, Decides-lies_outside, Decides-is_unmet}
 
 -- findings of numbers from low to high that hold, in order
 pub record Covers (plan : Plan) (low high : ℕ) (findings : List Finding) : Type 0 where
@@ -294,3 +294,11 @@ unfolding text_findings
 texts_covered plan =
     each_inside plan 15 (λ group. group.texts.items) lies_outside IsOutside Decides-lies_outside TextOutside (λ g t h. h)
     (λ g t. record { number = refl; places = refl })
+
+-- ---- needs
+
+pub needs_covered : (plan : Plan) → Covers plan 19 19 (need_findings plan.flows.items plan.needs.items)
+unfolding need_findings
+needs_covered plan =
+    let flows = plan.flows.items in
+    each_family plan 19 (IsUnmet flows) (Decides-is_unmet flows) NeedUnmet plan.needs.items (λ i h. h) (λ i. record { number = refl; places = refl })

@@ -8,32 +8,33 @@ use Rattle.j39_findings.specs.declared.plan.Plan.{Plan}
 use Rattle.j39_findings.specs.declared.plan.group_plan.GroupPlan.{GroupPlan}
 use Rattle.j39_findings.specs.declared.checking.finding.Finding.{Finding}
 use Rattle.j39_findings.specs.declared.checking.finding.Finding.TheVariants.{SameName, SameFixedAddress, TooFewAddresses, BadPgn, SamePgn, SignalWidth}
-use Rattle.j39_findings.specs.declared.checking.finding.Finding.TheVariants.{SignalOutside, SignalOverlap, FlowToOne, FlowToSelf, FlowRepeated, KeptAddress, PrivateUnsent, RecordOverlap, TextOutside}
+use Rattle.j39_findings.specs.declared.checking.finding.Finding.TheVariants.{SignalOutside, SignalOverlap, FlowToOne, FlowToSelf, FlowRepeated, KeptAddress, PrivateUnsent, RecordOverlap, TextOutside, NeedUnmet}
 use Rattle.j39_findings.specs.ListPlaces.{in_each, each, pairs}
 use Rattle.j39_claim.specs.AddressSets.{free_count}
 use Rattle.j39_findings.specs.Findings.{HaveSameName, HaveSameFixedAddress, HasBadPgn, HaveSamePgn, CannotGoToOne}
-use Rattle.j39_findings.specs.Findings.{GoesToItsSender, AreOneFlow, PrefersKept, IsPrivateUnsent, IsOutside, Holds, IsBefore, AreFindings, Clean}
+use Rattle.j39_findings.specs.Findings.{GoesToItsSender, AreOneFlow, PrefersKept, IsPrivateUnsent, IsOutside, IsUnmet, Holds, IsBefore, AreFindings, Clean}
 use Rattle.j39_findings.specs.Found.{have_same_name, have_same_fixed_address, needed_addresses, too_few_addresses, unit_findings, has_bad_pgn, have_same_pgn}
 use Rattle.j39_findings.specs.Found.{group_findings, width_findings, outside_findings, overlap_findings, signal_findings, cannot_go_to_one}
-use Rattle.j39_findings.specs.Found.{goes_to_its_sender, are_one_flow, flow_findings, prefers_kept, kept_findings, is_private_unsent, unsent_findings, group_overlaps, record_findings, outside_text_findings, text_findings, found}
+use Rattle.j39_findings.specs.Found.{goes_to_its_sender, are_one_flow, flow_findings, prefers_kept, kept_findings, is_private_unsent, unsent_findings, group_overlaps, record_findings, outside_text_findings, text_findings, is_unmet, need_findings, found}
 use Rattle.j39_findings.proofs.Meeting.{group_overlaps_of}
 use Rattle.j39_findings.proofs.Members.{in_each_of, found_if_of, each_of, pairs_of}
 use Rattle.j39_findings.proofs.Rising.{AllPairs-from_Rises}
 use Rattle.j39_findings.proofs.Deciding.{Decides-have_same_name, Decides-have_same_fixed_address, Decides-needs_pool_address, Decides-has_bad_pgn, meeting_pass}
 use Rattle.j39_findings.proofs.Deciding.{Decides-have_same_pgn, Decides-has_other_width, Decides-ends_outside, Decides-shares_bit}
-use Rattle.j39_findings.proofs.Deciding.{Decides-cannot_go_to_one, Decides-goes_to_its_sender, Decides-are_one_flow, Decides-prefers_kept, Decides-is_private_unsent, Decides-lies_outside}
-use Rattle.j39_findings.proofs.Families.{Covers, Covers-append, units_covered, groups_covered, signals_covered, flows_covered, kept_covered, unsent_covered, records_covered, texts_covered}
+use Rattle.j39_findings.proofs.Deciding.{Decides-cannot_go_to_one, Decides-goes_to_its_sender, Decides-are_one_flow, Decides-prefers_kept, Decides-is_private_unsent, Decides-lies_outside, Decides-is_unmet}
+use Rattle.j39_findings.proofs.Families.{Covers, Covers-append, units_covered, groups_covered, signals_covered, flows_covered, kept_covered, unsent_covered, records_covered, texts_covered, needs_covered}
 
-found_covered : (plan : Plan) → Covers plan 1 15 (found plan)
+found_covered : (plan : Plan) → Covers plan 1 19 (found plan)
 unfolding found
 found_covered plan =
-    Covers-append plan 1 3 4 15 _ _ (omega arith) (omega arith) (omega arith) (units_covered plan)
-    (Covers-append plan 4 5 6 15 _ _ (omega arith) (omega arith) (omega arith) (groups_covered plan)
-    (Covers-append plan 6 8 9 15 _ _ (omega arith) (omega arith) (omega arith) (signals_covered plan)
-    (Covers-append plan 9 11 12 15 _ _ (omega arith) (omega arith) (omega arith) (flows_covered plan)
-    (Covers-append plan 12 12 13 15 _ _ (omega arith) (omega arith) (omega arith) (kept_covered plan)
-    (Covers-append plan 13 13 14 15 _ _ (omega arith) (omega arith) (omega arith) (unsent_covered plan)
-    (Covers-append plan 14 14 15 15 _ _ (omega arith) (omega arith) (omega arith) (records_covered plan) (texts_covered plan)))))))
+    Covers-append plan 1 3 4 19 _ _ (omega arith) (omega arith) (omega arith) (units_covered plan)
+    (Covers-append plan 4 5 6 19 _ _ (omega arith) (omega arith) (omega arith) (groups_covered plan)
+    (Covers-append plan 6 8 9 19 _ _ (omega arith) (omega arith) (omega arith) (signals_covered plan)
+    (Covers-append plan 9 11 12 19 _ _ (omega arith) (omega arith) (omega arith) (flows_covered plan)
+    (Covers-append plan 12 12 13 19 _ _ (omega arith) (omega arith) (omega arith) (kept_covered plan)
+    (Covers-append plan 13 13 14 19 _ _ (omega arith) (omega arith) (omega arith) (unsent_covered plan)
+    (Covers-append plan 14 14 15 19 _ _ (omega arith) (omega arith) (omega arith) (records_covered plan)
+    (Covers-append plan 15 15 19 19 _ _ (omega arith) (omega arith) (omega arith) (texts_covered plan) (needs_covered plan))))))))
 
 in_units : (plan : Plan) (f : Finding) → Contains (unit_findings plan.keep_free plan.units.items) f → Contains (found plan) f
 unfolding found
@@ -56,7 +57,7 @@ rest plan =
     flow_findings plan.groups.items plan.flows.items
     ++ (kept_findings plan.keep_free plan.units.items
     ++ (unsent_findings plan.groups.items plan.flows.items
-    ++ (record_findings plan.groups.items ++ text_findings plan.groups.items)))
+    ++ (record_findings plan.groups.items ++ (text_findings plan.groups.items ++ need_findings plan.flows.items plan.needs.items))))
 
 in_rest : (plan : Plan) (f : Finding) → Contains (rest plan) f → Contains (found plan) f
 unfolding found
@@ -95,7 +96,16 @@ text_found plan f h =
     in_rest plan f (Contains-append_right (flow_findings plan.groups.items plan.flows.items) _ f
     (Contains-append_right (kept_findings plan.keep_free plan.units.items) _ f
     (Contains-append_right (unsent_findings plan.groups.items plan.flows.items) _ f
-    (Contains-append_right (record_findings plan.groups.items) (text_findings plan.groups.items) f h))))
+    (Contains-append_right (record_findings plan.groups.items) _ f (Contains-append_left (text_findings plan.groups.items) _ f h)))))
+
+need_found : (plan : Plan) (f : Finding) → Contains (each (is_unmet plan.flows.items) NeedUnmet 0 plan.needs.items) f → Contains (found plan) f
+unfolding need_findings
+need_found plan f h =
+    in_rest plan f (Contains-append_right (flow_findings plan.groups.items plan.flows.items) _ f
+    (Contains-append_right (kept_findings plan.keep_free plan.units.items) _ f
+    (Contains-append_right (unsent_findings plan.groups.items plan.flows.items) _ f
+    (Contains-append_right (record_findings plan.groups.items) _ f
+    (Contains-append_right (text_findings plan.groups.items) (need_findings plan.flows.items plan.needs.items) f h)))))
 
 of_group : (plan : Plan) (find : ℕ → GroupPlan → List Finding) (g : ℕ) (group : GroupPlan) (f : Finding)
     → slice_get plan.groups.items g ≡ Some group
@@ -181,6 +191,7 @@ found_of plan (RecordOverlap g s t) h =
 found_of plan (TextOutside g t) h =
     text_found plan _ (of_group plan outside_text_findings g h.value (TextOutside g t) h.value_is
     (each_of (IsOutside h.value) (Decides-lies_outside h.value) (TextOutside g) h.value.texts.items t h.meets))
+found_of plan (NeedUnmet n) h = need_found plan _ (each_of (IsUnmet plan.flows.items) (Decides-is_unmet plan.flows.items) NeedUnmet plan.needs.items n h)
 found_of plan (FlowRepeated f k) h = flow_found plan _ (inr (inr (pairs_of AreOneFlow Decides-are_one_flow FlowRepeated plan.flows.items f k h)))
 
 pub are_findings : (plan : Plan) → AreFindings plan (found plan)

@@ -9,7 +9,7 @@ use Rattle.j39_signal.specs.Places.{Covers, LaysOut, further}
 use Rattle.j39_findings.specs.ListPlaces.{ValueAt, SomeMeets, SoManyMeet}
 use Rattle.j39_findings.specs.Records.{record_count}
 use Rattle.j39_findings.specs.TextPlaces.{last_byte}
-use Rattle.j39_findings.specs.Findings.{IsFixed, NeedsPoolAddress, IsProprietary, IsToOne, IsOneFrameToAll, AreOneFlow, Sends, AreSentTogether}
+use Rattle.j39_findings.specs.Findings.{IsFixed, NeedsPoolAddress, IsProprietary, IsToOne, IsOneFrameToAll, AreOneFlow, Sends, AreSentTogether, Meets}
 use Rattle.j39_findings.specs.declared.plan.Plan.{Plan}
 use Rattle.j39_findings.specs.declared.plan.group_plan.GroupPlan.{GroupPlan}
 use Rattle.j39_findings.specs.declared.plan.text_plan.TextPlan.{TextPlan}
@@ -63,3 +63,4 @@ pub record CleanParts (plan : Plan) : Type 0 where
   pub sent : All (λ g. g.private ≡ true → SomeMeets (Sends plan.groups.items g) plan.flows.items) plan.groups.items
   pub records : All HasBitsOnce plan.groups.items
   pub texts : All (λ g. All (LiesInside g) g.texts.items) plan.groups.items
+  pub needs : All (λ d. SomeMeets (Meets d) plan.flows.items) plan.needs.items

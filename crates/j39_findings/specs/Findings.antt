@@ -1,6 +1,6 @@
--- What can be wrong with a plan: each finding as a plain statement on its units, groups, signals and flows, by their
+-- What can be wrong with a plan: each finding as a plain statement on its units, groups, signals, flows and needs, by their
 -- places from 0 (addresses and NAMEs: SAE J1939-81; groups and their destinations: SAE J1939-21; signals: SAE J1939-71).
-use Rattle.std.specs.Prelude.{◌≡◌, ℕ, ◌+◌, ◌*◌, ◌<◌, ◌≤◌, ◌⊎◌, List, [], ◌∷◌, Some}
+use Rattle.std.specs.Prelude.{◌≡◌, ◌≢◌, ℕ, ◌+◌, ◌*◌, ◌<◌, ◌≤◌, ◌⊎◌, List, [], ◌∷◌, Some}
 use Rattle.std.specs.Prelude.{true, false, Contains, AllPairs}
 use Rattle.std.specs.FinSet.{FinSet, contains}
 use Rattle.std.specs.Ordering.{nat_cmp}
@@ -20,11 +20,12 @@ use Rattle.j39_findings.specs.declared.plan.Plan.{Plan}
 use Rattle.j39_findings.specs.declared.plan.unit_plan.UnitPlan.{UnitPlan}
 use Rattle.j39_findings.specs.declared.plan.group_plan.GroupPlan.{GroupPlan}
 use Rattle.j39_findings.specs.declared.plan.flow_plan.FlowPlan.{FlowPlan}
+use Rattle.j39_findings.specs.declared.plan.need_plan.NeedPlan.{NeedPlan}
 use Rattle.j39_findings.specs.declared.plan.text_plan.TextPlan.{TextPlan}
 use Rattle.j39_findings.specs.declared.plan.to.To.TheVariants.{All, One}
 use Rattle.j39_findings.specs.declared.checking.finding.Finding.{Finding}
 use Rattle.j39_findings.specs.declared.checking.finding.Finding.TheVariants.{SameName, SameFixedAddress, TooFewAddresses, BadPgn, SamePgn, SignalWidth}
-use Rattle.j39_findings.specs.declared.checking.finding.Finding.TheVariants.{SignalOutside, SignalOverlap, FlowToOne, FlowToSelf, FlowRepeated, KeptAddress, PrivateUnsent, RecordOverlap, TextOutside}
+use Rattle.j39_findings.specs.declared.checking.finding.Finding.TheVariants.{SignalOutside, SignalOverlap, FlowToOne, FlowToSelf, FlowRepeated, KeptAddress, PrivateUnsent, RecordOverlap, TextOutside, NeedUnmet}
 
 -- ---- units
 
@@ -143,6 +144,19 @@ pub record HasRecordsOver (group : GroupPlan) (i j : ℕ) : Type 0 where
   pub second_is : slice_get group.signals.items j ≡ Some second
   pub meet : DoRecordsMeet every (record_count group group.most) i j first second
 
+-- ---- needs
+
+-- the flow brings the need's unit what it needs: it goes to this unit or to all, and comes from another one, which is the need's where it
+-- names one
+pub record Meets (need : NeedPlan) (flow : FlowPlan) : Type 0 where
+  pub group : flow.group ≡ need.group
+  pub other : flow.sender ≢ need.unit
+  pub from : (u : ℕ) → need.from ≡ Some u → flow.sender ≡ u
+  pub reaches : (flow.to ≡ All) ⊎ (flow.to ≡ One need.unit)
+
+abbrev pub IsUnmet : List FlowPlan → NeedPlan → Type 0
+IsUnmet flows need = ¬ SomeMeets (Meets need) flows
+
 -- ---- the findings
 
 -- what a finding says of a plan
@@ -162,6 +176,7 @@ Holds plan (KeptAddress i) = ValueAt (PrefersKept plan.keep_free) plan.units.ite
 Holds plan (PrivateUnsent g) = ValueAt (IsPrivateUnsent plan.groups.items plan.flows.items) plan.groups.items g
 Holds plan (RecordOverlap g s t) = ValueAt (λ group. HasRecordsOver group s t) plan.groups.items g
 Holds plan (TextOutside g t) = ValueAt (λ group. ValueAt (IsOutside group) group.texts.items t) plan.groups.items g
+Holds plan (NeedUnmet n) = ValueAt (IsUnmet plan.flows.items) plan.needs.items n
 
 -- nothing is wrong with the plan
 abbrev pub Clean : Plan → Type 0
@@ -186,6 +201,7 @@ finding_number (KeptAddress i) = 12
 finding_number (PrivateUnsent g) = 13
 finding_number (RecordOverlap g s t) = 14
 finding_number (TextOutside g t) = 15
+finding_number (NeedUnmet n) = 19
 
 -- the places that it names
 abbrev pub places_of : Finding → List ℕ
@@ -204,6 +220,7 @@ places_of (KeptAddress i) = i ∷ []
 places_of (PrivateUnsent g) = g ∷ []
 places_of (RecordOverlap g s t) = g ∷ s ∷ t ∷ []
 places_of (TextOutside g t) = g ∷ t ∷ []
+places_of (NeedUnmet n) = n ∷ []
 
 -- the first place in which two lists differ is smaller in the first list
 abbrev pub IsBelow : List ℕ → List ℕ → Type 0

@@ -21,12 +21,13 @@ use Rattle.j39_findings.specs.declared.plan.Plan.{Plan}
 use Rattle.j39_findings.specs.declared.plan.unit_plan.UnitPlan.{UnitPlan}
 use Rattle.j39_findings.specs.declared.plan.group_plan.GroupPlan.{GroupPlan}
 use Rattle.j39_findings.specs.declared.plan.flow_plan.FlowPlan.{FlowPlan}
+use Rattle.j39_findings.specs.declared.plan.need_plan.NeedPlan.{NeedPlan}
 use Rattle.j39_findings.specs.declared.plan.text_plan.TextPlan.{TextPlan}
 use Rattle.j39_findings.specs.declared.plan.to.To.{To}
 use Rattle.j39_findings.specs.declared.plan.to.To.TheVariants.{All, One}
 use Rattle.j39_findings.specs.declared.checking.finding.Finding.{Finding}
 use Rattle.j39_findings.specs.declared.checking.finding.Finding.TheVariants.{SameName, SameFixedAddress, TooFewAddresses, BadPgn, SamePgn, SignalWidth}
-use Rattle.j39_findings.specs.declared.checking.finding.Finding.TheVariants.{SignalOutside, SignalOverlap, FlowToOne, FlowToSelf, FlowRepeated, KeptAddress, PrivateUnsent, RecordOverlap, TextOutside}
+use Rattle.j39_findings.specs.declared.checking.finding.Finding.TheVariants.{SignalOutside, SignalOverlap, FlowToOne, FlowToSelf, FlowRepeated, KeptAddress, PrivateUnsent, RecordOverlap, TextOutside, NeedUnmet}
 
 -- ---- units
 
@@ -206,6 +207,25 @@ unfoldable pub flow_findings : List GroupPlan → List FlowPlan → List Finding
 flow_findings groups flows =
     each (cannot_go_to_one groups) FlowToOne 0 flows ++ (each goes_to_its_sender FlowToSelf 0 flows ++ pairs are_one_flow FlowRepeated flows)
 
+-- ---- needs that no flow meets
+
+abbrev pub is_from : Option ℕ → ℕ → Bool
+is_from None sender = true
+is_from (Some unit) sender = sender == unit
+
+abbrev pub reaches : To → ℕ → Bool
+reaches to unit = not (is_to_one to) || is_to to unit
+
+abbrev pub meets : NeedPlan → FlowPlan → Bool
+meets need flow =
+    flow.group == need.group && (not (flow.sender == need.unit) && (is_from need.from flow.sender && reaches flow.to need.unit))
+
+abbrev pub is_unmet : List FlowPlan → NeedPlan → Bool
+is_unmet flows need = not (list_any (meets need) flows)
+
+unfoldable pub need_findings : List FlowPlan → List NeedPlan → List Finding
+need_findings flows needs = each (is_unmet flows) NeedUnmet 0 needs
+
 -- ---- the whole list
 
 unfoldable pub found : Plan → List Finding
@@ -213,4 +233,4 @@ found plan =
     unit_findings plan.keep_free plan.units.items ++ (group_findings plan.groups.items plan.flows.items ++ (signal_findings plan.groups.items
     ++ (flow_findings plan.groups.items plan.flows.items ++ (kept_findings plan.keep_free plan.units.items
     ++ (unsent_findings plan.groups.items plan.flows.items
-    ++ (record_findings plan.groups.items ++ text_findings plan.groups.items))))))
+    ++ (record_findings plan.groups.items ++ (text_findings plan.groups.items ++ need_findings plan.flows.items plan.needs.items)))))))

@@ -6,6 +6,8 @@ pub mod Found
 pub mod LabelForm
 pub mod Lengths
 pub mod ListPlaces
+pub mod NeedPlaces
+pub mod Needs
 pub mod PlanLimits
 pub mod PlannedGroups
 pub mod PrivateGroups

@@ -9,6 +9,10 @@ group_limit = 256
 abbrev pub flow_limit : ℕ
 flow_limit = 512
 
+-- the most needs of a plan
+abbrev pub need_limit : ℕ
+need_limit = 4096
+
 -- the most signals of a group
 abbrev pub signal_limit : ℕ
 signal_limit = 64

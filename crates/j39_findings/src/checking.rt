@@ -8,6 +8,7 @@ mod finding;
 mod flows;
 mod groups;
 mod kept;
+mod needs;
 mod private;
 mod records;
 mod refused;
@@ -22,6 +23,8 @@ pub use finding::{Finding, Findings};
 use flows::find_in_flows;
 use groups::find_in_groups;
 use kept::find_kept;
+use needs::find_in_needs;
+pub use needs::{is_met, meets};
 use private::find_unsent;
 use records::find_in_records;
 pub use refused::{Refused, RefusedCause};
@@ -47,5 +50,6 @@ pub fn check(alloc: Global, plan: &Plan) -> Result<Findings, AllocError>
     find_unsent(&mut findings, &plan.groups, &plan.flows)?;
     find_in_records(&mut findings, &plan.groups)?;
     find_in_texts(&mut findings, &plan.groups)?;
+    find_in_needs(&mut findings, &plan.flows, &plan.needs)?;
     Ok(findings)
 }

@@ -3,6 +3,7 @@
 mod conflict_runs;
 mod findings;
 mod lengths;
+mod needs;
 mod private_groups;
 mod records;
 mod signals;
@@ -11,6 +12,7 @@ mod texts;
 pub use conflict_runs::conflict_runs_are_exact;
 pub use findings::{clean_parts, clean_where_none, found_exactly};
 pub use lengths::plans_of_one_length_each;
+pub use needs::{needs_are_met, plans_without_needs};
 pub use private_groups::{one_group_fits, plans_without_private_groups};
 pub use records::{plans_without_records, records_are_counted};
 pub use signals::signals_are_sound;

@@ -10,13 +10,18 @@ mod planned_groups;
 mod records;
 mod steps;
 
-pub use checking::{CheckedPlan, Finding, Findings, Refused, RefusedCause, check, checked};
+pub use checking::{
+    CheckedPlan, Finding, Findings, Refused, RefusedCause, check, checked, is_met, meets,
+};
 pub use conflict_run::bad_run;
 pub use laws::{
-    clean_parts, clean_where_none, conflict_runs_are_exact, found_exactly, one_group_fits,
-    plans_of_one_length_each, plans_without_private_groups, plans_without_records,
-    plans_without_texts, records_are_counted, signals_are_sound,
+    clean_parts, clean_where_none, conflict_runs_are_exact, found_exactly, needs_are_met,
+    one_group_fits, plans_of_one_length_each, plans_without_needs, plans_without_private_groups,
+    plans_without_records, plans_without_texts, records_are_counted, signals_are_sound,
 };
-pub use plan::{Bitrate, FlowPlan, GroupPlan, Pace, Plan, TextPlan, Timing, To, UnitPlan, Way};
+pub use plan::{
+    Bitrate, ErrorRate, FlowPlan, GroupPlan, NeedPlan, Pace, Plan, TextPlan, Timing, To, UnitPlan,
+    Way,
+};
 pub use planned_groups::{GroupFault, layout_of};
 pub use steps::Step;

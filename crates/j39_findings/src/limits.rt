@@ -9,6 +9,9 @@ pub const GROUP_LIMIT: usize = 256;
 /// The most flows of a plan.
 pub const FLOW_LIMIT: usize = 512;
 
+/// The most needs of a plan.
+pub const NEED_LIMIT: usize = 4096;
+
 /// The most signals of a group.
 pub const SIGNAL_LIMIT: usize = 64;
 

@@ -6,3 +6,4 @@ pub mod Transfers
 pub mod Conflicts
 pub mod Certified
 pub mod Lengths
+pub mod Needed

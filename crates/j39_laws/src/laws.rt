@@ -15,11 +15,13 @@ ghost use Rattle.j39_world.specs.Sound.{AreAddressesSound, AreAddressesDifferent
 
 mod arrivals;
 mod lengths;
+mod needs;
 mod staying;
 mod transfers;
 
 pub use arrivals::{answered_messages_arrive, unanswered_messages_arrive};
 pub use lengths::flows_have_one_length;
+pub use needs::a_needed_value_arrives;
 pub use staying::{
     alone_units_are_undisturbed, planned_addresses_stay, smaller_names_are_undisturbed,
     units_hold_planned_or_pool_addresses, who_stays,

@@ -6,7 +6,8 @@ mod laws;
 
 pub use certificate::certify;
 pub use laws::{
-    acknowledged_messages_were_reported, addresses_are_sound, alone_units_are_undisturbed,
+    a_needed_value_arrives, acknowledged_messages_were_reported, addresses_are_sound,
+    alone_units_are_undisturbed,
     answered_messages_arrive, claims_die_down, conflict_runs_show_the_conflict,
     every_transfer_ends, flows_have_one_length, kept_addresses_stay_free, planned_addresses_stay,
     quiet_notes_are_right, reports_are_sound, runs_through_are_runs, smaller_names_are_undisturbed,

@@ -4,11 +4,11 @@ use Rattle.std.proofs.Math.Seq.{take-suc}
 use Rattle.std.proofs.lemmas.List.{append-nil, length-take-le}
 use Rattle.j39_load.specs.Places.{told_from}
 
-some_left : {Y : Type 0} (xs ys : List Y) → xs ≢ [] → xs ++ ys ≢ []
+pub some_left : {Y : Type 0} (xs ys : List Y) → xs ≢ [] → xs ++ ys ≢ []
 some_left [] ys some = absurd (some refl)
 some_left (x ∷ xs) ys some = λ none. cc
 
-some_right : {Y : Type 0} (xs ys : List Y) → ys ≢ [] → xs ++ ys ≢ []
+pub some_right : {Y : Type 0} (xs ys : List Y) → ys ≢ [] → xs ++ ys ≢ []
 some_right [] ys some = some
 some_right (x ∷ xs) ys some = λ none. cc
 

@@ -1,6 +1,10 @@
+pub mod AgeLaws
 pub mod Before
 pub mod BoundedFlows
+pub mod Broadcasting
 pub mod Different
 pub mod OneLoad
+pub mod PositivePeriods
 pub mod Ranks
+pub mod WantedMemory
 pub mod WhoStays

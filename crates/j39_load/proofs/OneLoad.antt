@@ -1,28 +1,36 @@
 -- What a plan asks of a bus is one: whoever tells who stays tells the same loads and the same delays.
-use Rattle.std.proofs.Common.{◌≡◌, ℕ, ◌+◌, ◌≤◌, Bool, true, false, not, ◌&&◌, if◌then◌else◌, List, [], ◌∷◌, map, min, max, inl, inr, Option, Some, None}
+use Rattle.std.proofs.Common.{◌≡◌, ℕ, ◌+◌, ◌≤◌, Bool, true, false, not, ◌&&◌, if◌then◌else◌, List, [], ◌∷◌, length, map, min, max, inl, inr, Option, Some, None}
 use Rattle.std.proofs.Common.{refl, sym, ap, ◌∙◌, subst, arith, true≢false}
 use Rattle.std.proofs.lemmas.Bool.{cases_lt}
 use Rattle.std.proofs.lemmas.List.{ext_get_or}
 use Rattle.std.proofs.lemmas.Option.{same_Some, none-some}
 use Rattle.std.specs.Bool.{MatchBool}
-use Rattle.std.specs.List.{slice_get}
+use Rattle.std.specs.List.{range_with_len, slice_get}
 use Rattle.j39_id.specs.Name.{is_arbitrary}
+use Rattle.j39_id.specs.Services.{connection_management, data_transfer}
 use Rattle.j39_findings.specs.declared.plan.Plan.{Plan}
 use Rattle.j39_findings.specs.declared.plan.flow_plan.FlowPlan.{FlowPlan}
 use Rattle.j39_findings.specs.declared.plan.group_plan.GroupPlan.{GroupPlan}
 use Rattle.j39_findings.specs.declared.plan.pace.Pace.{Pace}
 use Rattle.j39_findings.specs.declared.plan.timing.Timing.{Timing}
 use Rattle.j39_findings.specs.declared.plan.to.To.{To}
-use Rattle.j39_findings.specs.declared.plan.to.To.TheVariants.{All as ToAll, One}
+use Rattle.j39_findings.specs.declared.plan.to.To.TheVariants.{All as ToAllUnits, One}
 use Rattle.j39_findings.specs.declared.plan.unit_plan.UnitPlan.{UnitPlan}
+use Rattle.j39_load.specs.declared.broadcast.Broadcast.{Broadcast}
 use Rattle.j39_load.specs.declared.delay.Delay.{Delay}
 use Rattle.j39_load.specs.declared.delay.Delay.TheVariants.{Within, Late, Long}
+use Rattle.j39_load.specs.declared.flow_frames.FlowFrames.{FlowFrames}
 use Rattle.j39_load.specs.declared.flow_load.FlowLoad.{FlowLoad}
-use Rattle.j39_load.specs.Delays.{HasDelay, IsDelay, IsInTime, TellDelays, blocking, streams_before}
+use Rattle.j39_load.specs.declared.messages.Messages.{Messages}
+use Rattle.j39_load.specs.declared.messages.Messages.TheVariants.{Short, ToAll, ToOne}
+use Rattle.j39_load.specs.declared.unit_load.UnitLoad.{UnitLoad}
+use Rattle.j39_load.specs.Asked.{Asked, asked_by, asked_of, frames_asked}
+use Rattle.j39_load.specs.Broadcasts.{broadcast_frames, broadcasts_by, known_unit_load, least_packets, unit_loads_of}
+use Rattle.j39_load.specs.Delays.{HasDelay, IsDelay, IsDelayOf, IsInTime, IsLeastWait, TellDelays}
 use Rattle.j39_load.specs.LoadFindings.{AsksOfBus}
-use Rattle.j39_load.specs.Loads.{destination_at, flow_load, group_ident, load_of_flow, loads_of, of_unit, packet_frames, packet_ident, single_frames}
+use Rattle.j39_load.specs.Loads.{destination_at, flow_load, group_ident, load_of_flow, loads_of, long_messages, of_unit, packet_frames, packet_ident, single_frames}
 use Rattle.j39_load.specs.Standing.{TellsWhoStays}
-use Rattle.j39_timing.specs.Waits.{HaveNoRoom}
+use Rattle.j39_timing.specs.Traffic.{delay_of}
 use Rattle.j39_tp.specs.Chunks.{packets_of}
 
 -- a statement is told in one way
@@ -49,7 +57,7 @@ module _ (plan : Plan) (timing : Timing) (stays other : UnitPlan → Bool) (tell
     unit_same v = read_same (slice_get plan.units.items v) (λ x is. same v x is) v refl
 
     destination_same : (to : To) → destination_at (of_unit plan.units.items (λ x. by (stays x) x)) to ≡ destination_at (of_unit plan.units.items (λ x. by (other x) x)) to
-    destination_same ToAll = refl
+    destination_same ToAllUnits = refl
     destination_same (One v) = unit_same v
 
     pub group_same : (group : GroupPlan) (flow : FlowPlan)
@@ -57,7 +65,7 @@ module _ (plan : Plan) (timing : Timing) (stays other : UnitPlan → Bool) (tell
     group_same group flow = rw (destination_same flow.to, unit_same flow.sender) refl
 
     pub packet_same : (flow : FlowPlan)
-        → packet_ident (of_unit plan.units.items (λ x. by (stays x) x)) flow ≡ packet_ident (of_unit plan.units.items (λ x. by (other x) x)) flow
+        → packet_ident timing (of_unit plan.units.items (λ x. by (stays x) x)) flow ≡ packet_ident timing (of_unit plan.units.items (λ x. by (other x) x)) flow
     packet_same flow = rw (destination_same flow.to, unit_same flow.sender) refl
 
   abbrev least_by : Bool → UnitPlan → ℕ
@@ -66,18 +74,22 @@ module _ (plan : Plan) (timing : Timing) (stays other : UnitPlan → Bool) (tell
   abbrev greatest_by : Bool → UnitPlan → ℕ
   greatest_by b x = if is_arbitrary x.name && not b then max x.address 247 else x.address
 
-  singles_same : (flow : FlowPlan) (period : ℕ) (group : GroupPlan)
-      → single_frames timing plan.units.items stays flow period group ≡ single_frames timing plan.units.items other flow period group
-  singles_same flow period group = rw (group_same least_by group flow, group_same greatest_by group flow) refl
+  singles_same : (flow : FlowPlan) (pace : Pace) (group : GroupPlan)
+      → single_frames timing plan.units.items stays flow pace group ≡ single_frames timing plan.units.items other flow pace group
+  singles_same flow pace group = rw (group_same least_by group flow, group_same greatest_by group flow) refl
 
-  packets_same : (flow : FlowPlan) (period packets : ℕ)
-      → packet_frames timing plan.units.items stays flow period packets ≡ packet_frames timing plan.units.items other flow period packets
-  packets_same flow period packets = rw (packet_same least_by flow, packet_same greatest_by flow) refl
+  packets_same : (flow : FlowPlan) (v : ℕ) (pace : Pace) (packets : ℕ)
+      → packet_frames timing plan.units.items stays flow v pace packets ≡ packet_frames timing plan.units.items other flow v pace packets
+  packets_same flow v pace packets = rw (packet_same least_by flow, packet_same greatest_by flow) refl
+
+  long_same : (flow : FlowPlan) (pace : Pace) (group : GroupPlan) (to : To)
+      → long_messages timing plan.units.items stays flow pace group to ≡ long_messages timing plan.units.items other flow pace group to
+  long_same flow pace group ToAllUnits = refl
+  long_same flow pace group (One v) = ap ToOne (packets_same flow v pace (packets_of group.most))
 
   load_same : (flow : FlowPlan) (pace : Pace) (group : GroupPlan)
       → flow_load timing plan.units.items stays flow pace group ≡ flow_load timing plan.units.items other flow pace group
-  load_same flow pace group =
-      rw (singles_same flow pace.period group, packets_same flow pace.period (packets_of group.most)) refl
+  load_same flow pace group = rw (singles_same flow pace group, long_same flow pace group flow.to) refl
 
   flow_same : (flow : FlowPlan) (pace : Option Pace) (group : Option GroupPlan) → flow.pace ≡ pace → slice_get plan.groups.items flow.group ≡ group
       → load_of_flow timing plan stays flow ≡ load_of_flow timing plan other flow
@@ -91,56 +103,92 @@ module _ (plan : Plan) (timing : Timing) (stays other : UnitPlan → Bool) (tell
       ap (λ (x : Option FlowLoad). x ∷ map (load_of_flow timing plan stays) flows) (flow_same flow flow.pace (slice_get plan.groups.items flow.group) refl refl)
       ∙ ap (λ (xs : List (Option FlowLoad)). load_of_flow timing plan other flow ∷ xs) (loads_same flows)
 
-  pub one_load : loads_of timing plan stays ≡ loads_of timing plan other
+  one_load : loads_of timing plan stays ≡ loads_of timing plan other
   one_load = loads_same plan.flows.items
+
+  broadcast_same : (pgn u gaps : ℕ)
+      → broadcast_frames timing plan.units.items stays pgn u gaps ≡ broadcast_frames timing plan.units.items other pgn u gaps
+  broadcast_same pgn u gaps = rw (unit_same least_by u, unit_same greatest_by u) refl
+
+  unit_load_same : (u : ℕ) (broadcasts : List Broadcast)
+      → known_unit_load timing plan.units.items stays u broadcasts ≡ known_unit_load timing plan.units.items other u broadcasts
+  unit_load_same u [] = refl
+  unit_load_same u (b ∷ bs) =
+      rw (broadcast_same data_transfer u 1, broadcast_same connection_management u (least_packets (b ∷ bs))) refl
+
+  units_same : (loads : List (Option FlowLoad)) (places : List ℕ)
+      → map (λ u. known_unit_load timing plan.units.items stays u (broadcasts_by u loads)) places
+      ≡ map (λ u. known_unit_load timing plan.units.items other u (broadcasts_by u loads)) places
+  units_same loads [] = refl
+  units_same loads (u ∷ us) =
+      ap (λ (x : Option UnitLoad). x ∷ map (λ v. known_unit_load timing plan.units.items stays v (broadcasts_by v loads)) us)
+      (unit_load_same u (broadcasts_by u loads))
+      ∙ ap (λ (xs : List (Option UnitLoad)). known_unit_load timing plan.units.items other u (broadcasts_by u loads) ∷ xs) (units_same loads us)
+
+  pub one_request : asked_of timing plan stays ≡ asked_of timing plan other
+  one_request =
+      ap (λ (loads : List (Option FlowLoad)). asked_by loads (unit_loads_of timing plan.units.items stays loads)) one_load
+      ∙ ap (λ (units : List (Option UnitLoad)). asked_by (loads_of timing plan other) units)
+      (units_same (loads_of timing plan other) (range_with_len 0 (length plan.units.items)))
 
 -- ---- delays
 
-module _ (timing : Timing) (loads : List (Option FlowLoad)) (flow : ℕ) where
+module _ (timing : Timing) (all : List (Option FlowFrames)) (flow : ℕ) where
   -- of two least waits none is less
-  not_less : (load : FlowLoad) (wait other : ℕ) → IsInTime timing loads flow load wait
-      → HaveNoRoom (blocking timing load.frames.greatest_ident) (streams_before flow load.frames.greatest_ident loads) other → other ≤ wait
-  not_less load wait other inside least = elim (cases_lt wait other) [
+  not_less : (frames : FlowFrames) (limit wait other : ℕ) → IsInTime timing all flow frames limit wait → IsLeastWait timing all flow frames other
+      → other ≤ wait
+  not_less frames limit wait other inside least = elim (cases_lt wait other) [
     | inl below ↦ absurd (omega (arith, least wait below, inside.room))
     | inr above ↦ above
   ]
 
-  one_delay : (load : FlowLoad) (delay other : Delay) → IsDelay timing loads flow load delay → IsDelay timing loads flow load other → delay ≡ other
-  one_delay load (Within bits) (Within more) is another =
-      let above = not_less load is.1 another.1 is.2 another.3 in
-      let below = not_less load another.1 is.1 another.2 is.3 in
-      let waits : is.1 ≡ another.1 = omega (arith, above, below) in
-      ap Within (is.4 ∙ ap (λ (w : ℕ). w + load.frames.stream.bits) waits ∙ sym another.4)
-  one_delay load (Within bits) Late is another = absurd (another.1 is.1 is.2)
-  one_delay load (Within bits) (Long frames) is another = absurd (true≢false (sym is.0 ∙ another.0))
-  one_delay load Late (Within bits) is another = absurd (is.1 another.1 another.2)
-  one_delay load Late Late is another = refl
-  one_delay load Late (Long frames) is another = absurd (true≢false (sym is.0 ∙ another.0))
-  one_delay load (Long frames) (Within bits) is another = absurd (true≢false (sym another.0 ∙ is.0))
-  one_delay load (Long frames) Late is another = absurd (true≢false (sym another.0 ∙ is.0))
-  one_delay load (Long frames) (Long more) is another = ap Long (is.1 ∙ sym another.1)
+  one_delay : (messages : Messages) (limit : ℕ) (delay other : Delay) → IsDelayOf timing all flow messages limit delay
+      → IsDelayOf timing all flow messages limit other → delay ≡ other
+  one_delay (Short frames) limit (Within bits) (Within more) is another =
+      let above = not_less frames limit is.0 another.0 is.1 another.2 in
+      let below = not_less frames limit another.0 is.0 another.1 is.2 in
+      let waits : is.0 ≡ another.0 = omega (arith, above, below) in
+      ap Within (is.3 ∙ ap (delay_of frames.stream) waits ∙ sym another.3)
+  one_delay (Short frames) limit (Within bits) Late is another = absurd (another is.0 is.1)
+  one_delay (Short frames) limit (Within bits) (Long count) is another = absurd another
+  one_delay (Short frames) limit Late (Within bits) is another = absurd (is another.0 another.1)
+  one_delay (Short frames) limit Late Late is another = refl
+  one_delay (Short frames) limit Late (Long count) is another = absurd another
+  one_delay (Short frames) limit (Long count) other is another = absurd is
+  one_delay (ToOne frames) limit (Long count) (Long more) is another = ap Long (is ∙ sym another)
+  one_delay (ToOne frames) limit (Long count) (Within bits) is another = absurd another
+  one_delay (ToOne frames) limit (Long count) Late is another = absurd another
+  one_delay (ToOne frames) limit (Within bits) other is another = absurd is
+  one_delay (ToOne frames) limit Late other is another = absurd is
+  one_delay (ToAll broadcast) limit (Long count) (Long more) is another = ap Long (is ∙ sym another)
+  one_delay (ToAll broadcast) limit (Long count) (Within bits) is another = absurd another
+  one_delay (ToAll broadcast) limit (Long count) Late is another = absurd another
+  one_delay (ToAll broadcast) limit (Within bits) other is another = absurd is
+  one_delay (ToAll broadcast) limit Late other is another = absurd is
 
-  one_known_delay : (delay other : Option Delay) → HasDelay timing loads flow delay → HasDelay timing loads flow other → delay ≡ other
-  one_known_delay None None is another = refl
-  one_known_delay None (Some other) is another = absurd (none-some _ (same_Some _ _ (sym is ∙ another.1)))
-  one_known_delay (Some delay) None is another = absurd (none-some _ (same_Some _ _ (sym another ∙ is.1)))
-  one_known_delay (Some delay) (Some other) is another =
+module _ (timing : Timing) (asked : Asked) where
+  one_known_delay : (flow : ℕ) (delay other : Option Delay) → HasDelay timing asked flow delay → HasDelay timing asked flow other → delay ≡ other
+  one_known_delay flow None None is another = refl
+  one_known_delay flow None (Some other) is another = absurd (none-some _ (same_Some _ _ (sym is ∙ another.1)))
+  one_known_delay flow (Some delay) None is another = absurd (none-some _ (same_Some _ _ (sym another ∙ is.1)))
+  one_known_delay flow (Some delay) (Some other) is another =
       let loads_are : is.0 ≡ another.0 = same_Some _ _ (same_Some _ _ (sym is.1 ∙ another.1)) in
-      ap Some (one_delay another.0 delay other (subst (λ (l : FlowLoad). IsDelay timing loads flow l delay) loads_are is.2) another.2)
+      ap Some (one_delay timing (frames_asked asked) flow another.0.messages another.0.limit delay other
+      (subst (λ (l : FlowLoad). IsDelay timing asked flow l delay) loads_are is.2) another.2)
 
-pub delays_same : (timing : Timing) (loads : List (Option FlowLoad)) (delays others : List (Option Delay)) → TellDelays timing loads delays
-    → TellDelays timing loads others → delays ≡ others
-delays_same timing loads delays others tell another =
+pub delays_same : (timing : Timing) (asked : Asked) (delays others : List (Option Delay)) → TellDelays timing asked delays
+    → TellDelays timing asked others → delays ≡ others
+delays_same timing asked delays others tell another =
     ext_get_or None delays others (tell.count ∙ sym another.count)
-    (λ flow below. one_known_delay timing loads flow _ _ (tell.each flow below) (another.each flow (omega (arith, below, tell.count, another.count))))
+    (λ flow below. one_known_delay timing asked flow _ _ (tell.each flow below) (another.each flow (omega (arith, below, tell.count, another.count))))
 
 -- both at once
 pub one_asked : (plan : Plan) (timing : Timing) (stays other : UnitPlan → Bool) (delays others : List (Option Delay))
     → AsksOfBus plan timing stays delays → AsksOfBus plan timing other others
-    → (loads_of timing plan stays ≡ loads_of timing plan other) × (delays ≡ others)
+    → (asked_of timing plan stays ≡ asked_of timing plan other) × (delays ≡ others)
 one_asked plan timing stays other delays others asks another =
-    let same = one_load plan timing stays other asks.standing another.standing in (
+    let same = one_request plan timing stays other asks.standing another.standing in (
       same,
-      delays_same timing (loads_of timing plan other) delays others
-          (subst (λ (ls : List (Option FlowLoad)). TellDelays timing ls delays) same asks.waits) another.waits,
+      delays_same timing (asked_of timing plan other) delays others
+          (subst (λ (a : Asked). TellDelays timing a delays) same asks.waits) another.waits,
     )

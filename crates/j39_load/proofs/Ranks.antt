@@ -4,14 +4,15 @@ use Rattle.std.proofs.Common.{refl, sym, ap, subst, ◌∙◌, arith, min, max}
 use Rattle.std.proofs.lemmas.Bool.{and_from, and_parts, cases_Bool, leb-true}
 use Rattle.std.proofs.lemmas.List.{length-map}
 use Rattle.std.specs.Bool.{MatchBool}
-use Rattle.j39_id.specs.Addresses.{in_pool}
+use Rattle.j39_id.specs.Addresses.{global_address, in_pool}
 use Rattle.j39_id.specs.Ident.{identifier_of}
 use Rattle.j39_id.specs.Name.{is_arbitrary}
 use Rattle.j39_id.specs.Pgn.{is_pdu2}
-use Rattle.j39_id.specs.Services.{data_transfer, transport_priority}
+use Rattle.j39_id.specs.Services.{data_transfer}
 use Rattle.j39_findings.specs.declared.plan.Plan.{Plan}
 use Rattle.j39_findings.specs.declared.plan.flow_plan.FlowPlan.{FlowPlan}
 use Rattle.j39_findings.specs.declared.plan.group_plan.GroupPlan.{GroupPlan}
+use Rattle.j39_findings.specs.declared.plan.timing.Timing.{Timing}
 use Rattle.j39_findings.specs.declared.plan.to.To.{To}
 use Rattle.j39_findings.specs.declared.plan.to.To.TheVariants.{All as ToAll, One}
 use Rattle.j39_findings.specs.declared.plan.unit_plan.UnitPlan.{UnitPlan}
@@ -89,8 +90,25 @@ module _ (plan : Plan) (stays : UnitPlan → Bool) (tells : TellsWhoStays plan s
           identifier-mono priority pgn _ _ _ _ destination.1 source.1,
         )
 
-    pub lie_between : (group : GroupPlan) → LieBetween plan stays held group flow
-    lie_between group =
+    -- to all
+    broadcast_between : (priority pgn : ℕ)
+        → (identifier_of priority pgn global_address (of_unit units (least_address stays) flow.sender) ≤ identifier_of priority pgn global_address (held flow.sender))
+        × (identifier_of priority pgn global_address (held flow.sender) ≤ identifier_of priority pgn global_address (of_unit units (greatest_address stays) flow.sender))
+    broadcast_between priority pgn =
+        let source = unit_between flow.sender known.sender in (
+          identifier-mono priority pgn global_address global_address _ _ (omega arith) source.0,
+          identifier-mono priority pgn global_address global_address _ _ (omega arith) source.1,
+        )
+
+    pub lie_between : (timing : Timing) (group : GroupPlan) → LieBetween plan timing stays held group flow
+    lie_between timing group =
         let own = between group.priority group.pgn in
-        let packets = between transport_priority data_transfer in
-        record { least = own.0; greatest = own.1; least_packet = packets.0; greatest_packet = packets.1 }
+        let packets = between timing.transport_priority data_transfer in
+        record {
+          least = own.0;
+          greatest = own.1;
+          least_packet = packets.0;
+          greatest_packet = packets.1;
+          least_broadcast = λ pgn. (broadcast_between timing.transport_priority pgn).0;
+          greatest_broadcast = λ pgn. (broadcast_between timing.transport_priority pgn).1;
+        }

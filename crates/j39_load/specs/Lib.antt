@@ -1,4 +1,9 @@
+pub mod Ages
+pub mod Asked
+pub mod Broadcasts
+pub mod Damage
 pub mod Delays
+pub mod FreshNeeds
 pub mod LoadFindings
 pub mod Loads
 pub mod Places

@@ -1,5 +1,5 @@
 -- What is wrong with what the flows of a plan ask of its bus, in the order in which it is told: flows without a period, a load above the
--- bitrate, and flows that aren't shown to be in time.
+-- bitrate, flows that aren't shown to be in time, and needs for what isn't shown to be young enough.
 use Rattle.std.specs.Prelude.{◌≡◌, ℕ, Bool, nat_lt, if◌then◌else◌, List, [], ◌∷◌, ◌++◌, Option, Some, None}
 use Rattle.j39_findings.specs.declared.plan.Plan.{Plan}
 use Rattle.j39_findings.specs.declared.plan.timing.Timing.{Timing}
@@ -7,11 +7,20 @@ use Rattle.j39_findings.specs.declared.plan.unit_plan.UnitPlan.{UnitPlan}
 use Rattle.j39_load.specs.declared.delay.Delay.{Delay}
 use Rattle.j39_load.specs.declared.delay.Delay.TheVariants.{Late}
 use Rattle.j39_load.specs.declared.load_finding.LoadFinding.{LoadFinding}
-use Rattle.j39_load.specs.declared.load_finding.LoadFinding.TheVariants.{NoPeriod, Overload, LateFlow}
+use Rattle.j39_load.specs.declared.load_finding.LoadFinding.TheVariants.{NoPeriod, Overload, LateFlow, NeedTooOld}
+use Rattle.j39_load.specs.Ages.{old_needs}
+use Rattle.j39_load.specs.Asked.{asked_of, total_load}
 use Rattle.j39_load.specs.Delays.{TellDelays}
-use Rattle.j39_load.specs.Loads.{bits_of_second, loads_of, total_load}
+use Rattle.j39_load.specs.Loads.{bits_of_second}
 use Rattle.j39_load.specs.Places.{told_from}
 use Rattle.j39_load.specs.Standing.{TellsWhoStays}
+
+-- the number under which a finding is known
+abbrev pub load_finding_number : LoadFinding → ℕ
+load_finding_number (NoPeriod flow) = 16
+load_finding_number (Overload bits) = 17
+load_finding_number (LateFlow flow) = 18
+load_finding_number (NeedTooOld need) = 20
 
 -- the flow at a place has no period, and so no delay is told of it
 abbrev pub without_period : ℕ → Option Delay → List LoadFinding
@@ -30,13 +39,17 @@ overload timing load = if nat_lt (bits_of_second timing.bitrate) load then Overl
 abbrev pub load_findings : Timing → ℕ → List (Option Delay) → List LoadFinding
 load_findings timing load delays = told_from without_period 0 delays ++ (overload timing load ++ told_from lateness 0 delays)
 
+-- with what is wrong with the ages of what units need
+abbrev pub all_findings : Plan → Timing → ℕ → List (Option Delay) → List LoadFinding
+all_findings plan timing load delays = load_findings timing load delays ++ old_needs timing plan.flows.items delays plan.needs.items
+
 -- what a plan asks of a bus: what each flow does, by who stays, and how long its frames wait
 pub record AsksOfBus (plan : Plan) (timing : Timing) (stays : UnitPlan → Bool) (delays : List (Option Delay)) : Type 0 where
   pub standing : TellsWhoStays plan stays
-  pub waits : TellDelays timing (loads_of timing plan stays) delays
+  pub waits : TellDelays timing (asked_of timing plan stays) delays
 
 -- this is what is wrong: nothing where nothing is known of the bus
 abbrev pub AreLoadFindings : Plan → Option Timing → List LoadFinding → Type 0
 AreLoadFindings plan None findings = findings ≡ []
 AreLoadFindings plan (Some timing) findings = (stays : UnitPlan → Bool) × (delays : List (Option Delay))
-    × AsksOfBus plan timing stays delays × (findings ≡ load_findings timing (total_load (loads_of timing plan stays)) delays)
+    × AsksOfBus plan timing stays delays × (findings ≡ all_findings plan timing (total_load timing (asked_of timing plan stays)) delays)

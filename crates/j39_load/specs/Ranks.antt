@@ -6,10 +6,11 @@ use Rattle.j39_id.specs.Name.{is_arbitrary}
 use Rattle.j39_findings.specs.declared.plan.Plan.{Plan}
 use Rattle.j39_findings.specs.declared.plan.flow_plan.FlowPlan.{FlowPlan}
 use Rattle.j39_findings.specs.declared.plan.group_plan.GroupPlan.{GroupPlan}
+use Rattle.j39_findings.specs.declared.plan.timing.Timing.{Timing}
 use Rattle.j39_findings.specs.declared.plan.to.To.{To}
 use Rattle.j39_findings.specs.declared.plan.to.To.TheVariants.{One}
 use Rattle.j39_findings.specs.declared.plan.unit_plan.UnitPlan.{UnitPlan}
-use Rattle.j39_load.specs.Loads.{greatest_address, group_ident, is_always_short, least_address, of_unit, packet_ident}
+use Rattle.j39_load.specs.Loads.{broadcast_ident, greatest_address, group_ident, is_always_short, least_address, of_unit, packet_ident}
 use Rattle.j39_world.specs.PlannedUnits.{unit_at, units_of}
 use Rattle.j39_world.specs.Staying.{Stays}
 
@@ -24,12 +25,17 @@ pub record AreUnitsPlanned (plan : Plan) (flow : FlowPlan) : Type 0 where
   pub sender : flow.sender < length plan.units.items
   pub receiver : (v : ℕ) → flow.to ≡ One v → v < length plan.units.items
 
--- the identifiers of a flow's frames lie between the least and the greatest one: those of single frames, and those of packets
-pub record LieBetween (plan : Plan) (stays : UnitPlan → Bool) (held : ℕ → ℕ) (group : GroupPlan) (flow : FlowPlan) : Type 0 where
+-- the identifiers of a flow's frames lie between the least and the greatest one: those of single frames, of packets, and of its sender's
+-- frames of either group of the transport protocol to all
+pub record LieBetween (plan : Plan) (timing : Timing) (stays : UnitPlan → Bool) (held : ℕ → ℕ) (group : GroupPlan) (flow : FlowPlan) : Type 0 where
   pub least : group_ident (of_unit plan.units.items (least_address stays)) group flow ≤ group_ident held group flow
   pub greatest : group_ident held group flow ≤ group_ident (of_unit plan.units.items (greatest_address stays)) group flow
-  pub least_packet : packet_ident (of_unit plan.units.items (least_address stays)) flow ≤ packet_ident held flow
-  pub greatest_packet : packet_ident held flow ≤ packet_ident (of_unit plan.units.items (greatest_address stays)) flow
+  pub least_packet : packet_ident timing (of_unit plan.units.items (least_address stays)) flow ≤ packet_ident timing held flow
+  pub greatest_packet : packet_ident timing held flow ≤ packet_ident timing (of_unit plan.units.items (greatest_address stays)) flow
+  pub least_broadcast : (pgn : ℕ) → broadcast_ident timing pgn (of_unit plan.units.items (least_address stays)) flow.sender
+      ≤ broadcast_ident timing pgn held flow.sender
+  pub greatest_broadcast : (pgn : ℕ) → broadcast_ident timing pgn held flow.sender
+      ≤ broadcast_ident timing pgn (of_unit plan.units.items (greatest_address stays)) flow.sender
 
 -- of the units that are on each holds an address, and no two of them one
 pub record AreHeldApart (on : ℕ → Bool) (held : ℕ → ℕ) : Type 0 where

@@ -1,12 +1,43 @@
--- What holds of what each flow asks of the bus, so that waits can be computed from it.
-use Rattle.std.specs.Prelude.{◌^◌, ◌<◌, Option, IfSome}
+-- What holds of what each flow and each unit asks of the bus, so that waits can be computed from it.
+use Rattle.std.specs.Prelude.{◌^◌, ◌<◌, ◌≤◌, Option, Some, None, IfSome}
+use Rattle.j39_load.specs.declared.broadcast.Broadcast.{Broadcast}
+use Rattle.j39_load.specs.declared.flow_frames.FlowFrames.{FlowFrames}
 use Rattle.j39_load.specs.declared.flow_load.FlowLoad.{FlowLoad}
+use Rattle.j39_load.specs.declared.messages.Messages.{Messages}
+use Rattle.j39_load.specs.declared.messages.Messages.TheVariants.{Short, ToAll, ToOne}
+use Rattle.j39_load.specs.declared.unit_load.UnitLoad.{UnitLoad}
+use Rattle.j39_load.specs.Asked.{own_frames}
 use Rattle.j39_timing.specs.Waits.{IsStream}
 
+abbrev pub AreSound : FlowFrames → Type 0
+AreSound frames = IsStream frames.stream
+
+abbrev pub AreSoundIfAny : Option FlowFrames → Type 0
+AreSoundIfAny frames = IfSome frames AreSound
+
+abbrev pub IsSoundBroadcast : Broadcast → Type 0
+IsSoundBroadcast broadcast = (1 ≤ broadcast.period) × (2 ≤ broadcast.least_packets)
+
+abbrev pub broadcast_part : Messages → Option Broadcast
+broadcast_part (Short frames) = None
+broadcast_part (ToOne frames) = None
+broadcast_part (ToAll broadcast) = Some broadcast
+
+abbrev pub AreSoundMessages : Messages → Type 0
+AreSoundMessages messages = AreSoundIfAny (own_frames messages) × IfSome (broadcast_part messages) IsSoundBroadcast
+
 pub record IsSoundLoad (load : FlowLoad) : Type 0 where
-  pub frames : IsStream load.frames.stream
-  pub singles : IfSome load.singles (λ singles. IsStream singles.stream)
+  pub messages : AreSoundMessages load.messages
+  pub singles : AreSoundIfAny load.singles
   pub limit : load.limit < 2 ^ 31
 
 abbrev pub IsSoundIfKnown : Option FlowLoad → Type 0
 IsSoundIfKnown load = IfSome load IsSoundLoad
+
+pub record IsSoundUnit (load : UnitLoad) : Type 0 where
+  pub packets : AreSound load.packets
+  pub announcements : AreSound load.announcements
+  pub few : load.bits_per_second < 2 ^ 33
+
+abbrev pub IsSoundIfSent : Option UnitLoad → Type 0
+IsSoundIfSent load = IfSome load IsSoundUnit

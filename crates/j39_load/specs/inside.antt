@@ -1,3 +1,6 @@
 -- What only private contracts and proofs need.
+pub mod Broadcasting
 pub mod Extremes
 pub mod Faults
+pub mod FewFrames
+pub mod FramesBy

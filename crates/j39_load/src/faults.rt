@@ -1,10 +1,11 @@
 //! What is wrong with what a plan asks of its bus.
-ghost use Rattle.std.specs.Prelude.{◌≡◌, ◌≢◌, ◌∷◌, ◌++◌, [], None, IfOk, IfSome, IfNone, OnOk, OnErr};
-ghost use Rattle.j39_load.specs.LoadFindings.{AreLoadFindings, load_findings};
-ghost use Rattle.j39_load.specs.Loads.{bits_of_second, total_load};
+ghost use Rattle.std.specs.Prelude.{◌≡◌, ◌≢◌, ◌∷◌, ◌++◌, [], None, length, IfOk, IfSome, IfNone, OnOk, OnErr};
+ghost use Rattle.j39_load.specs.LoadFindings.{AreLoadFindings, all_findings, load_findings};
+ghost use Rattle.j39_load.specs.Loads.{bits_of_second};
 ghost use Rattle.j39_load.specs.Places.{told_from};
 ghost use Rattle.j39_load.specs.inside.Faults.{found_at};
 
+use crate::ages::find_old_needs;
 use crate::delay::Delay;
 use crate::load_finding::LoadFinding;
 use crate::loads::Loads;
@@ -55,8 +56,7 @@ pub fn bits_of_second(bitrate: Bitrate) -> u32
     1_000 * u32::from(bits_per_ms(bitrate))
 }
 
-/// What is wrong with what the flows of a plan ask of its bus: nothing where nothing is known of this, or where there are none, and no
-/// memory is asked for then.
+/// What is wrong with what a plan asks of its bus: nothing where nothing is known of this, and no memory is asked for then.
 pub fn check_load(alloc: Global, plan: &Plan) -> Result<Vec<LoadFinding>, AllocError>
     ensures findings { IfOk result (λ findings. AreLoadFindings plan.now plan.now.timing findings.items) }
     ensures memory { OnErr result ((plan.now.timing ≢ None) × (plan.now.flows.items ≢ [])) }
@@ -66,11 +66,11 @@ pub fn check_load(alloc: Global, plan: &Plan) -> Result<Vec<LoadFinding>, AllocE
     };
     let loads = Loads::new(alloc, timing, plan)?;
     let delays = loads.delays(alloc)?;
-    load_findings(alloc, timing, loads.total(), delays.as_slice())
+    all_findings(alloc, plan, timing, loads.total(), delays.as_slice())
 }
 
-/// What is wrong with a load of so many bits in a second and with these delays of the flows. Asks for memory only where something is.
-pub fn load_findings(
+// What is wrong with a load of so many bits in a second and with these delays of the flows. Asks for memory only where something is.
+fn load_findings(
     alloc: Global,
     timing: Timing,
     load: u64,
@@ -85,5 +85,22 @@ pub fn load_findings(
         findings.push(LoadFinding::Overload(load))?;
     }
     find_each(&mut findings, Fault::Lateness, delays)?;
+    Ok(findings)
+}
+
+/// With what is wrong with the ages of what the units of the plan need.
+pub fn all_findings(
+    alloc: Global,
+    plan: &Plan,
+    timing: Timing,
+    load: u64,
+    delays: &[Option<Delay>],
+) -> Result<Vec<LoadFinding>, AllocError>
+    requires { length delays.now ≡ length plan.now.flows.items }
+    ensures findings { IfOk result (λ findings. findings.items ≡ all_findings plan.now timing load delays.now) }
+    ensures memory { OnErr result (all_findings plan.now timing load delays.now ≢ []) }
+{
+    let mut findings = load_findings(alloc, timing, load, delays)?;
+    find_old_needs(&mut findings, timing, &plan.flows, delays, &plan.needs)?;
     Ok(findings)
 }

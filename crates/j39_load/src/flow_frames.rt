@@ -1,8 +1,8 @@
-//! Frames of a flow.
+//! Frames of a flow, or of a unit's broadcasts.
 
 use j39_timing::Stream;
 
-/// Frames of a flow with how urgent they are.
+/// Frames of a flow, or of a unit's broadcasts, with how urgent they are.
 #[derive(Clone, Copy, Debug, PartialEq, Eq)]
 pub struct FlowFrames {
     /// How many a message has, how often they come, and how long they are at most, in bits.

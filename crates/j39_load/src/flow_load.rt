@@ -1,18 +1,16 @@
 //! What a flow asks of the bus.
 
 use crate::flow_frames::FlowFrames;
+use crate::messages::Messages;
 
 /// What a flow asks of the bus, times and lengths in bits.
 #[derive(Clone, Copy, Debug, PartialEq, Eq)]
 pub struct FlowLoad {
-    /// The frames of its messages; where some messages are long, those of these.
-    pub frames: FlowFrames,
+    pub messages: Messages,
     /// Where some messages are long and others go in one frame, the frames of these others.
     pub singles: Option<FlowFrames>,
-    /// Whether each message goes in one frame.
-    pub is_short: bool,
-    /// Within so many bits each frame has to be on the bus.
+    /// Within so many bits of its moment each frame has to be on the bus.
     pub limit: u32,
-    /// How many bits it takes in a second at most.
+    /// How many bits it takes in a second at most; those of broadcasts count with their unit's.
     pub bits_per_second: u32,
 }

@@ -2,16 +2,16 @@
 ghost use Rattle.std.specs.Prelude.{◌≡◌, ◌<◌, ℕ, length};
 ghost use Rattle.j39_id.specs.Ident.{identifier_of};
 ghost use Rattle.j39_findings.specs.declared.plan.to.To.TheVariants.{One};
-ghost use Rattle.j39_load.specs.Loads.{destination_at, group_ident, of_unit, packet_ident};
+ghost use Rattle.j39_load.specs.Loads.{broadcast_ident, destination_at, group_ident, of_unit, packet_ident};
 ghost use Rattle.j39_load.specs.Standing.{stays_of};
 ghost use Rattle.j39_load.specs.inside.Extremes.{extreme_address};
 
 use crate::extreme::Extreme;
 use crate::standing::Standing;
-use j39_findings::{FlowPlan, GroupPlan, To, UnitPlan};
+use j39_findings::{FlowPlan, GroupPlan, Timing, To, UnitPlan};
 use j39_id::addresses::GLOBAL_ADDRESS;
-use j39_id::services::{DATA_TRANSFER, TRANSPORT_PRIORITY};
-use j39_id::{PDU2_FIRST, pf_of};
+use j39_id::services::DATA_TRANSFER;
+use j39_id::{PDU2_FIRST, Pgn, pf_of};
 
 // The number of the identifier by which a group is sent, whose number need be no group's.
 fn identifier(priority: u8, pgn: u32, destination: u8, source: u8) -> u64
@@ -57,6 +57,7 @@ pub(crate) fn group_ident(
 
 /// That of the data packets of its long messages.
 pub(crate) fn packet_ident(
+    timing: Timing,
     units: &[UnitPlan],
     standing: &Standing,
     extreme: Extreme,
@@ -64,12 +65,32 @@ pub(crate) fn packet_ident(
 ) -> u64
     requires sender { flow.now.sender < length units.now }
     requires receiver { (v : ℕ) → flow.now.to ≡ One v → v < length units.now }
-    ensures { result ≡ packet_ident (of_unit units.now (extreme_address extreme (stays_of standing.now))) flow.now }
+    ensures { result ≡ packet_ident timing (of_unit units.now (extreme_address extreme (stays_of standing.now))) flow.now }
 {
     identifier(
-        TRANSPORT_PRIORITY,
+        timing.transport_priority,
         DATA_TRANSFER.number(),
         destination(units, standing, extreme, flow.to),
         extreme.address(standing, &units[flow.sender]),
+    )
+}
+
+/// That of frames of a group of the transport protocol, from a unit to all.
+pub(crate) fn broadcast_ident(
+    timing: Timing,
+    pgn: Pgn,
+    units: &[UnitPlan],
+    standing: &Standing,
+    extreme: Extreme,
+    unit: usize,
+) -> u64
+    requires { unit < length units.now }
+    ensures { result ≡ broadcast_ident timing pgn (of_unit units.now (extreme_address extreme (stays_of standing.now))) unit }
+{
+    identifier(
+        timing.transport_priority,
+        pgn.number(),
+        GLOBAL_ADDRESS,
+        extreme.address(standing, &units[unit]),
     )
 }

@@ -2,26 +2,39 @@
 //! long they wait.
 #![tactic(auto)]
 
+mod ages;
+mod broadcast;
+mod broadcasts;
+mod damage;
 mod delay;
 mod delays;
 mod extreme;
 mod faults;
 mod flow_frames;
 mod flow_load;
+mod flow_loads;
 mod identifiers;
 mod laws;
 mod load_finding;
 mod loads;
+mod messages;
 mod standing;
 mod streams;
+mod unit_load;
 
+pub use ages::least_age;
+pub use broadcast::Broadcast;
 pub use delay::Delay;
-pub use faults::{bits_of_second, check_load, load_findings};
+pub use faults::{all_findings, bits_of_second, check_load};
 pub use flow_frames::FlowFrames;
 pub use flow_load::FlowLoad;
 pub use laws::{
-    delays_are_bounds, identifiers_lie_between, short_flows_have_different_identifiers,
+    delays_are_bounds, identifiers_lie_between, needs_stay_fresh,
+    short_flows_have_different_identifiers,
 };
 pub use load_finding::LoadFinding;
 pub use loads::Loads;
+pub use messages::Messages;
 pub use standing::Standing;
+pub use streams::bits_of_ms;
+pub use unit_load::UnitLoad;

@@ -1,180 +1,147 @@
-//! What the flows of a plan ask of the bus.
-ghost use Rattle.std.specs.Prelude.{◌≡◌, ◌≢◌, ◌^◌, ◌<◌, ◌≤◌, [], ℕ, Bool, All, length, IfOk, IfSome, OnErr};
+//! What a plan asks of its bus.
+ghost use Rattle.std.specs.Prelude.{◌≡◌, ◌≢◌, [], ◌≤◌, ◌<◌, ◌^◌, ◌*◌, ◌+◌, ◌++◌, Bool, All, length, map, sum_by, IfOk, OnOk, OnErr};
 ghost use Rattle.j39_findings.specs.PlanLimits.{flow_limit};
-ghost use Rattle.j39_findings.specs.declared.plan.to.To.TheVariants.{One};
 ghost use Rattle.j39_findings.specs.declared.plan.unit_plan.UnitPlan.{UnitPlan as APlannedUnit};
+ghost use Rattle.j39_load.specs.Asked.{all_frames, announcements_of_unit, asked_by, asked_of, frames_of_flow, packets_of_unit, singles_of_flow, total_load};
 ghost use Rattle.j39_load.specs.Delays.{HasDelay, TellDelays};
-ghost use Rattle.j39_load.specs.Loads.{flow_load, frames_of, time_limit, load_of_flow, loads_of, packet_frames, single_frames, singles_of, total_load};
+ghost use Rattle.j39_load.specs.SoundLoads.{AreSoundIfAny, IsSoundIfKnown, IsSoundIfSent};
 ghost use Rattle.j39_load.specs.Standing.{TellsWhoStays, stays_of};
+ghost use Rattle.j39_load.specs.inside.FramesBy.{frames_by, broadcasts_by_unit};
+ghost use Rattle.j39_id.specs.Limits.{unit_limit};
 ghost use Rattle.std.proofs.Props.{props};
 ghost use Rattle.std.specs.Option.{option_map_or};
-ghost use Rattle.j39_load.specs.SoundLoads.{IsSoundIfKnown, IsSoundLoad};
-ghost use Rattle.j39_timing.specs.Waits.{IsStream};
 
+use crate::broadcasts::unit_loads_of;
+use crate::damage::load_of_damage;
 use crate::delay::Delay;
 use crate::delays::delay_of;
-use crate::extreme::Extreme;
 use crate::flow_frames::FlowFrames;
 use crate::flow_load::FlowLoad;
-use crate::identifiers::{group_ident, packet_ident};
+use crate::flow_loads::loads_of;
+use crate::messages::Messages;
 use crate::standing::Standing;
-use crate::streams::{bits_of_ms, load, packet_stream, single_stream};
-use j39_findings::{FlowPlan, GroupPlan, Pace, Plan, Timing, UnitPlan};
-use j39_id::limits::FRAME_BYTES;
-use j39_tp::Size;
+use crate::unit_load::UnitLoad;
+use j39_findings::{Plan, Timing};
 use std::alloc::{AllocError, Global};
 
-// Within how many bits each frame of a flow of this pace has to be on the bus.
-fn limit(timing: Timing, pace: Pace) -> u32
-    ensures limit { result ≡ time_limit timing pace }
-    ensures few { result < 2 ^ 31 }
+// The frames that are a flow's own.
+fn frames_of_flow(load: &Option<FlowLoad>) -> Option<FlowFrames>
+    requires { IsSoundIfKnown load.now }
+    ensures frames { result ≡ frames_of_flow load.now }
+    ensures fit { AreSoundIfAny result }
 {
-    bits_of_ms(timing, pace.deadline.min(pace.period))
-}
-
-// The frames of a flow's messages that go in one frame.
-fn single_frames(
-    timing: Timing,
-    units: &[UnitPlan],
-    standing: &Standing,
-    flow: &FlowPlan,
-    period: u16,
-    group: &GroupPlan,
-) -> FlowFrames
-    requires sender { flow.now.sender < length units.now }
-    requires receiver { (v : ℕ) → flow.now.to ≡ One v → v < length units.now }
-    requires period { 1 ≤ period }
-    ensures frames { result ≡ single_frames timing units.now (stays_of standing.now) flow.now period group.now }
-    ensures fits { IsStream result.stream }
-    ensures few { result.stream.frames ≤ 512 }
-{
-    FlowFrames {
-        stream: single_stream(timing, group, period),
-        least_ident: group_ident(units, standing, Extreme::Least, group, flow),
-        greatest_ident: group_ident(units, standing, Extreme::Greatest, group, flow),
-    }
-}
-
-// Those of its long messages, each of so many packets.
-fn packet_frames(
-    timing: Timing,
-    units: &[UnitPlan],
-    standing: &Standing,
-    flow: &FlowPlan,
-    period: u16,
-    packets: u8,
-) -> FlowFrames
-    requires sender { flow.now.sender < length units.now }
-    requires receiver { (v : ℕ) → flow.now.to ≡ One v → v < length units.now }
-    requires period { 1 ≤ period }
-    ensures frames { result ≡ packet_frames timing units.now (stays_of standing.now) flow.now period packets }
-    ensures fits { IsStream result.stream }
-    ensures few { result.stream.frames ≤ 512 }
-{
-    FlowFrames {
-        stream: packet_stream(timing, units, packets, flow.to, period),
-        least_ident: packet_ident(units, standing, Extreme::Least, flow),
-        greatest_ident: packet_ident(units, standing, Extreme::Greatest, flow),
-    }
-}
-
-// The frames of a flow by its longest messages, and its single frames where it has both.
-fn frames_of(
-    timing: Timing,
-    units: &[UnitPlan],
-    standing: &Standing,
-    flow: &FlowPlan,
-    period: u16,
-    group: &GroupPlan,
-) -> (FlowFrames, Option<FlowFrames>)
-    requires sender { flow.now.sender < length units.now }
-    requires receiver { (v : ℕ) → flow.now.to ≡ One v → v < length units.now }
-    requires period { 1 ≤ period }
-    ensures frames { result.0 ≡ frames_of timing units.now (stays_of standing.now) flow.now period group.now }
-    ensures singles { result.1 ≡ singles_of timing units.now (stays_of standing.now) flow.now period group.now }
-    ensures fits { IsStream result.0.stream }
-    ensures single_fits { IfSome result.1 (λ singles. IsStream singles.stream) }
-    ensures few { result.0.stream.frames ≤ 512 }
-{
-    let singles = single_frames(timing, units, standing, flow, period, group);
-    let Some(size) = Size::new(group.most) else {
-        return (singles, None);
+    let Some(load) = load else {
+        return None;
     };
-    let packets = packet_frames(timing, units, standing, flow, period, size.packets());
-    if usize::from(group.length) <= FRAME_BYTES {
-        (packets, Some(singles))
-    } else {
-        (packets, None)
+    match load.messages {
+        Messages::Short(frames) => Some(frames),
+        Messages::ToOne(frames) => Some(frames),
+        Messages::ToAll(_broadcast) => None,
     }
 }
 
-fn flow_load(
-    timing: Timing,
-    units: &[UnitPlan],
-    standing: &Standing,
-    flow: &FlowPlan,
-    pace: Pace,
-    group: &GroupPlan,
-) -> FlowLoad
-    requires sender { flow.now.sender < length units.now }
-    requires receiver { (v : ℕ) → flow.now.to ≡ One v → v < length units.now }
-    ensures load { result ≡ flow_load timing units.now (stays_of standing.now) flow.now pace group.now }
-    ensures sound { IsSoundLoad result }
+// The single frames of a flow that has long messages too.
+fn singles_of_flow(load: &Option<FlowLoad>) -> Option<FlowFrames>
+    requires { IsSoundIfKnown load.now }
+    ensures frames { result ≡ singles_of_flow load.now }
+    ensures fit { AreSoundIfAny result }
 {
-    let (frames, singles) = frames_of(timing, units, standing, flow, pace.period, group);
-    FlowLoad {
-        frames,
-        singles,
-        is_short: usize::from(group.most) <= FRAME_BYTES,
-        limit: limit(timing, pace),
-        bits_per_second: load(frames.stream, pace.period),
-    }
-}
-
-// What a flow asks of the bus, where it is known how often it is sent.
-fn load_of_flow(
-    timing: Timing,
-    plan: &Plan,
-    standing: &Standing,
-    flow: &FlowPlan,
-) -> Option<FlowLoad>
-    requires group { flow.now.group < length plan.now.groups.items }
-    requires sender { flow.now.sender < length plan.now.units.items }
-    requires receiver { (v : ℕ) → flow.now.to ≡ One v → v < length plan.now.units.items }
-    ensures load { result ≡ load_of_flow timing plan.now (stays_of standing.now) flow.now }
-    ensures sound { IsSoundIfKnown result }
-{
-    match flow.pace {
-        Some(pace) => {
-            let group = &plan.groups[flow.group];
-            let units = plan.units.as_slice();
-            Some(flow_load(timing, units, standing, flow, pace, group))
-        }
+    match load {
+        Some(load) => load.singles,
         None => None,
     }
 }
 
-// What each flow of a plan asks of the bus, in order.
-fn loads_of(
-    alloc: Global,
-    timing: Timing,
-    plan: &Plan,
-    standing: &Standing,
-) -> Result<Vec<Option<FlowLoad>>, AllocError>
-    ensures loads { IfOk result (λ loads. loads.items ≡ loads_of timing plan.now (stays_of standing.now)) }
-    ensures count { IfOk result (λ loads. length loads.items ≡ length plan.now.flows.items) }
-    ensures sound { IfOk result (λ loads. All IsSoundIfKnown loads.items) }
-    ensures memory { OnErr result (plan.now.flows.items ≢ []) }
+// The packets of a unit's broadcasts.
+fn packets_of_unit(load: &Option<UnitLoad>) -> Option<FlowFrames>
+    requires { IsSoundIfSent load.now }
+    ensures frames { result ≡ packets_of_unit load.now }
+    ensures fit { AreSoundIfAny result }
 {
-    let mut loads = Vec::with_capacity(alloc, plan.flows.len())?;
-    for place in 0..plan.flows.len() {
-        loads.push_reserved(load_of_flow(timing, plan, standing, &plan.flows[place]));
+    match load {
+        Some(load) => Some(load.packets),
+        None => None,
     }
-    Ok(loads)
+}
+
+// Their announcements.
+fn announcements_of_unit(load: &Option<UnitLoad>) -> Option<FlowFrames>
+    requires { IsSoundIfSent load.now }
+    ensures frames { result ≡ announcements_of_unit load.now }
+    ensures fit { AreSoundIfAny result }
+{
+    match load {
+        Some(load) => Some(load.announcements),
+        None => None,
+    }
+}
+
+// Adds the frames of the flows to those of these places: their own, or the single ones of those that have long messages too.
+fn add_flows(
+    all: &mut Vec<Option<FlowFrames>>,
+    flows: &[Option<FlowLoad>],
+    singles: bool,
+) -> Result<(), AllocError>
+    requires sound { All IsSoundIfKnown flows.now }
+    requires fit { All AreSoundIfAny all.old.items }
+    ensures frames { OnOk result (all.new.items ≡ all.old.items ++ map (frames_by singles) flows.now) }
+    ensures fit { OnOk result (All AreSoundIfAny all.new.items) }
+{
+    for load in flows {
+        let frames = if singles {
+            singles_of_flow(load)
+        } else {
+            frames_of_flow(load)
+        };
+        all.push(frames)?;
+    }
+    Ok(())
+}
+
+// Adds those of the broadcasts of the units: their packets, or their announcements.
+fn add_units(
+    all: &mut Vec<Option<FlowFrames>>,
+    units: &[Option<UnitLoad>],
+    announcements: bool,
+) -> Result<(), AllocError>
+    requires sound { All IsSoundIfSent units.now }
+    requires fit { All AreSoundIfAny all.old.items }
+    ensures frames { OnOk result (all.new.items ≡ all.old.items ++ map (broadcasts_by_unit announcements) units.now) }
+    ensures fit { OnOk result (All AreSoundIfAny all.new.items) }
+{
+    for load in units {
+        let frames = if announcements {
+            announcements_of_unit(load)
+        } else {
+            packets_of_unit(load)
+        };
+        all.push(frames)?;
+    }
+    Ok(())
+}
+
+// All frames that come of what the flows and the units ask.
+fn all_frames(
+    alloc: Global,
+    flows: &[Option<FlowLoad>],
+    units: &[Option<UnitLoad>],
+) -> Result<Vec<Option<FlowFrames>>, AllocError>
+    requires flows { All IsSoundIfKnown flows.now }
+    requires units { All IsSoundIfSent units.now }
+    ensures frames { IfOk result (λ all. all.items ≡ all_frames flows.now units.now) }
+    ensures fit { IfOk result (λ all. All AreSoundIfAny all.items) }
+    ensures count { IfOk result (λ all. length all.items ≡ 2 * length flows.now + 2 * length units.now) }
+{
+    let mut all = Vec::with_capacity(alloc, 2 * flows.len() + 2 * units.len())?;
+    add_flows(&mut all, flows, false)?;
+    add_flows(&mut all, flows, true)?;
+    add_units(&mut all, units, false)?;
+    add_units(&mut all, units, true)?;
+    Ok(all)
 }
 
 // How many bits a flow takes in a second at most, and none where it isn't known how often it is sent.
-fn bits_per_second(load: &Option<FlowLoad>) -> u64
+fn bits_of_flow(load: &Option<FlowLoad>) -> u64
     ensures bits { result ≡ option_map_or (λ l. l.bits_per_second) load.now 0 }
     ensures few { result < 2 ^ 32 }
 {
@@ -184,62 +151,116 @@ fn bits_per_second(load: &Option<FlowLoad>) -> u64
     }
 }
 
-/// What the flows of a plan ask of the bus, in order: nothing where it isn't known how often a flow is sent.
+// How many bits the broadcasts of a unit take in a second at most.
+fn bits_of_unit(load: &Option<UnitLoad>) -> u64
+    ensures bits { result ≡ option_map_or (λ l. l.bits_per_second) load.now 0 }
+    ensures few { IsSoundIfSent load.now → result < 2 ^ 33 }
+{
+    match load {
+        Some(load) => load.bits_per_second,
+        None => 0,
+    }
+}
+
+/// What a plan asks of its bus.
 #[derive(Drop)]
 pub struct Loads {
     pub timing: Timing,
+    /// What each flow asks, in order: nothing where it isn't known how often it is sent.
     pub flows: Vec<Option<FlowLoad>>,
+    /// What the broadcasts of each unit ask, in order: nothing where it has none.
+    pub units: Vec<Option<UnitLoad>>,
     pub ghost count: { length flows.items ≤ flow_limit },
+    pub ghost unit_count: { length units.items ≤ unit_limit },
     pub ghost sound: { All IsSoundIfKnown flows.items } by { Prim.hlevel props },
+    pub ghost sound_units: { All IsSoundIfSent units.items } by { Prim.hlevel props },
 }
 
 impl Loads {
-    /// What the flows of a plan ask of its bus. No memory is asked for where there are none.
+    /// What a plan asks of its bus.
     pub fn new(alloc: Global, timing: Timing, plan: &Plan) -> Result<Self, AllocError>
         ensures timing { IfOk result (λ loads. loads.timing ≡ timing) }
-        ensures flows { IfOk result (λ loads. (stays : APlannedUnit → Bool) × TellsWhoStays plan.now stays
-            × (loads.flows.items ≡ loads_of timing plan.now stays)) }
+        ensures asked { IfOk result (λ loads. (stays : APlannedUnit → Bool) × TellsWhoStays plan.now stays
+            × (asked_by loads.flows.items loads.units.items ≡ asked_of timing plan.now stays)) }
         ensures count { IfOk result (λ loads. length loads.flows.items ≡ length plan.now.flows.items) }
         ensures memory { OnErr result (plan.now.flows.items ≢ []) }
     {
         let standing = Standing::new(plan);
         let flows = loads_of(alloc, timing, plan, &standing)?;
-        Ok(Loads { timing, flows })
+        let units = unit_loads_of(
+            alloc,
+            timing,
+            plan.units.as_slice(),
+            &standing,
+            flows.as_slice(),
+        )?;
+        Ok(Loads {
+            timing,
+            flows,
+            units,
+        })
     }
 
-    /// How many bits all of them take in a second at most.
-    pub fn total(&self) -> u64
-        ensures { result ≡ total_load self.now.flows.items }
+    // How many bits all flows take in a second at most, but for broadcasts.
+    fn total_of_flows(&self) -> u64
+        ensures total { result ≡ sum_by (λ load. option_map_or (λ l. l.bits_per_second) load 0) self.now.flows.items }
+        ensures few { result < 2 ^ 42 }
     {
         let mut total = 0;
         for load in &self.flows {
-            total += bits_per_second(load);
+            total += bits_of_flow(load);
         }
         total
     }
 
-    // The delay of the flow at this place, and none where it isn't known how often it is sent.
-    fn delay(&self, alloc: Global, flow: usize) -> Result<Option<Delay>, AllocError>
-        requires { flow < length self.now.flows.items }
-        ensures { IfOk result (HasDelay self.now.timing self.now.flows.items flow) }
+    // How many bits the broadcasts of all units do.
+    fn total_of_units(&self) -> u64
+        ensures total { result ≡ sum_by (λ load. option_map_or (λ l. l.bits_per_second) load 0) self.now.units.items }
+        ensures few { result < 2 ^ 42 }
+    {
+        let mut total = 0;
+        for load in &self.units {
+            total += bits_of_unit(load);
+        }
+        total
+    }
+
+    /// How many bits all of it takes in a second at most.
+    pub fn total(&self) -> u64
+        ensures { result ≡ total_load self.now.timing (asked_by self.now.flows.items self.now.units.items) }
+    {
+        let damage = load_of_damage(self.timing);
+        damage + (self.total_of_flows() + self.total_of_units())
+    }
+
+    // The delay of the flow at this place among all these frames, and none where it isn't known how often it is sent.
+    fn delay(
+        &self,
+        alloc: Global,
+        all: &[Option<FlowFrames>],
+        flow: usize,
+    ) -> Result<Option<Delay>, AllocError>
+        requires place { flow < length self.now.flows.items }
+        requires all { all.now ≡ all_frames self.now.flows.items self.now.units.items }
+        requires fit { All AreSoundIfAny all.now }
+        requires few { length all.now ≤ 2000 }
+        ensures { IfOk result (HasDelay self.now.timing (asked_by self.now.flows.items self.now.units.items) flow) }
     {
         match &self.flows[flow] {
-            Some(load) => {
-                let flows = self.flows.as_slice();
-                Ok(Some(delay_of(alloc, self.timing, flows, flow, load)?))
-            }
+            Some(load) => Ok(Some(delay_of(alloc, self.timing, all, flow, load)?)),
             None => Ok(None),
         }
     }
 
     /// The delay of each flow, in order, and none where it isn't known how often it is sent.
     pub fn delays(&self, alloc: Global) -> Result<Vec<Option<Delay>>, AllocError>
-        ensures delays { IfOk result (λ delays. TellDelays self.now.timing self.now.flows.items delays.items) }
+        ensures delays { IfOk result (λ delays. TellDelays self.now.timing (asked_by self.now.flows.items self.now.units.items) delays.items) }
         ensures memory { OnErr result (self.now.flows.items ≢ []) }
     {
+        let all = all_frames(alloc, self.flows.as_slice(), self.units.as_slice())?;
         let mut delays = Vec::with_capacity(alloc, self.flows.len())?;
         for flow in 0..self.flows.len() {
-            delays.push_reserved(self.delay(alloc, flow)?);
+            delays.push_reserved(self.delay(alloc, all.as_slice(), flow)?);
         }
         Ok(delays)
     }

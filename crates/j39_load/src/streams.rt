@@ -1,41 +1,50 @@
 //! The frames of a flow.
-ghost use Rattle.std.specs.Prelude.{◌≡◌, ◌<◌, ◌≤◌, ℕ, length};
-ghost use Rattle.j39_findings.specs.declared.plan.to.To.TheVariants.{One};
-ghost use Rattle.j39_load.specs.Loads.{bits_of_ms, bits_per_ms, load_of, long_frames, most_bytes, packet_stream, single_stream};
+ghost use Rattle.std.specs.Prelude.{◌≡◌, ◌<◌, ◌≤◌, ◌*◌, ◌^◌, length};
+ghost use Rattle.j39_load.specs.Broadcasts.{bits_each, spaced_stream};
+ghost use Rattle.j39_load.specs.Loads.{bits_of_ms, bits_per_ms, frames_to_all, frames_to_one, load_of, most_bytes, packet_stream, single_stream};
 ghost use Rattle.j39_timing.specs.Waits.{IsStream};
 
-use j39_findings::{Bitrate, GroupPlan, Timing, To, UnitPlan};
+use j39_findings::{Bitrate, GroupPlan, Pace, Timing, UnitPlan};
 use j39_id::limits::FRAME_BYTES;
 use j39_timing::{Stream, frame_bits};
 
 /// How many bits the bus carries in a millisecond.
 pub(crate) fn bits_per_ms(bitrate: Bitrate) -> u16
-    ensures { result ≡ bits_per_ms bitrate }
+    ensures bits { result ≡ bits_per_ms bitrate }
+    ensures range { (125 ≤ result) × (result ≤ 1000) }
 {
     match bitrate {
+        Bitrate::Kbit125 => 125,
         Bitrate::Kbit250 => 250,
         Bitrate::Kbit500 => 500,
+        Bitrate::Mbit1 => 1_000,
     }
 }
 
 /// How many bits the bus carries in so many milliseconds.
-pub(crate) fn bits_of_ms(timing: Timing, ms: u16) -> u32
-    ensures { result ≡ bits_of_ms timing ms }
+pub fn bits_of_ms(timing: Timing, ms: u16) -> u32
+    ensures bits { result ≡ bits_of_ms timing ms }
+    ensures few { result ≤ 1000 * ms }
+    ensures some { 1 ≤ ms → 1 ≤ result }
 {
     u32::from(ms) * u32::from(bits_per_ms(timing.bitrate))
 }
 
-// The frames of a message of the transport protocol with so many data packets.
-fn long_frames(units: &[UnitPlan], packets: u8, to: To) -> u16
-    requires { (v : ℕ) → to ≡ One v → v < length units.now }
-    ensures frames { result ≡ long_frames units.now packets to }
+// The frames of a long message to the unit at a place, with so many data packets.
+fn frames_to_one(units: &[UnitPlan], packets: u8, unit: usize) -> u16
+    requires { unit < length units.now }
+    ensures frames { result ≡ frames_to_one units.now packets unit }
     ensures few { result ≤ 512 }
 {
     let packets = u16::from(packets);
-    match to {
-        To::All => 1 + packets,
-        To::One(unit) => 2 + packets + packets.div_ceil(u16::from(units[unit].window)),
-    }
+    2 + packets + packets.div_ceil(u16::from(units[unit].window))
+}
+
+/// The frames of a long message to all, with so many data packets.
+pub(crate) fn frames_to_all(packets: u8) -> u16
+    ensures { result ≡ frames_to_all packets }
+{
+    1 + u16::from(packets)
 }
 
 // The most bytes of a frame of the group.
@@ -47,39 +56,51 @@ fn most_bytes(group: &GroupPlan) -> u8
 }
 
 /// Messages of one frame of the group each.
-pub(crate) fn single_stream(timing: Timing, group: &GroupPlan, period: u16) -> Stream
-    requires period { 1 ≤ period }
-    ensures stream { result ≡ single_stream timing group.now period }
+pub(crate) fn single_stream(timing: Timing, group: &GroupPlan, pace: Pace) -> Stream
+    ensures stream { result ≡ single_stream timing group.now pace }
     ensures fits { IsStream result }
     ensures few { result.frames ≤ 512 }
 {
     Stream {
         frames: 1,
-        period: bits_of_ms(timing, period),
+        period: bits_of_ms(timing, pace.period),
         bits: frame_bits(most_bytes(group)),
-        spread: 0,
+        late: bits_of_ms(timing, pace.jitter),
     }
 }
 
-/// Messages of so many data packets.
+/// Long messages of so many data packets to the unit at a place.
 pub(crate) fn packet_stream(
     timing: Timing,
     units: &[UnitPlan],
     packets: u8,
-    to: To,
-    period: u16,
+    unit: usize,
+    pace: Pace,
 ) -> Stream
-    requires receiver { (v : ℕ) → to ≡ One v → v < length units.now }
-    requires period { 1 ≤ period }
-    ensures stream { result ≡ packet_stream timing units.now packets to period }
+    requires receiver { unit < length units.now }
+    ensures stream { result ≡ packet_stream timing units.now packets unit pace }
     ensures fits { IsStream result }
     ensures few { result.frames ≤ 512 }
 {
     Stream {
-        frames: long_frames(units, packets, to),
-        period: bits_of_ms(timing, period),
+        frames: frames_to_one(units, packets, unit),
+        period: bits_of_ms(timing, pace.period),
         bits: frame_bits(FRAME_BYTES as u8),
-        spread: 1,
+        late: bits_of_ms(timing, pace.period) + bits_of_ms(timing, pace.jitter),
+    }
+}
+
+/// Single frames that are queued at least so many gaps of a broadcast apart.
+pub(crate) fn spaced_stream(timing: Timing, gaps: u8) -> Stream
+    requires { 1 ≤ gaps }
+    ensures stream { result ≡ spaced_stream timing gaps }
+    ensures fits { IsStream result }
+{
+    Stream {
+        frames: 1,
+        period: u32::from(gaps) * bits_of_ms(timing, timing.broadcast_gap),
+        bits: frame_bits(FRAME_BYTES as u8),
+        late: 0,
     }
 }
 
@@ -92,4 +113,13 @@ pub(crate) fn load(stream: Stream, period: u16) -> u32
 {
     let bits = u32::from(stream.frames) * u32::from(stream.bits);
     (1_000 * bits).div_ceil(u32::from(period))
+}
+
+/// How many bits so many frames of eight bytes take in a second at most, which are sent again after so many milliseconds.
+pub(crate) fn bits_each(frames: u8, ms: u16) -> u32
+    requires { 1 ≤ ms }
+    ensures { result ≡ bits_each frames ms }
+{
+    let bits = u32::from(frames) * u32::from(frame_bits(FRAME_BYTES as u8));
+    (1_000 * bits).div_ceil(u32::from(ms))
 }

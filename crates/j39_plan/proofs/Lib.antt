@@ -3,9 +3,11 @@ pub mod FirstFaults
 pub mod HeadElements
 pub mod HeadRules
 pub mod Labelled
+pub mod NeedSignals
 pub mod NoFaults
 pub mod OneAnswer
 pub mod ReadGroups
+pub mod ReadNeeds
 pub mod ReadPlans
 pub mod Tables
 pub mod Trees

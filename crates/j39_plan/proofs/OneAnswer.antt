@@ -10,7 +10,9 @@ use Rattle.j39_findings.specs.declared.plan.unit_plan.UnitPlan.{UnitPlan}
 use Rattle.j39_findings.specs.declared.plan.group_plan.GroupPlan.{GroupPlan}
 use Rattle.j39_findings.specs.declared.plan.flow_plan.FlowPlan.{FlowPlan}
 use Rattle.j39_findings.specs.declared.plan.text_plan.TextPlan.{TextPlan}
+use Rattle.j39_findings.specs.declared.plan.need_plan.NeedPlan.{NeedPlan}
 use Rattle.j39_findings.specs.declared.plan.pace.Pace.{Pace}
+use Rattle.j39_findings.specs.declared.plan.timing.ErrorRate.{ErrorRate}
 use Rattle.j39_findings.specs.declared.plan.timing.Timing.{Timing}
 use Rattle.j39_plan.specs.declared.reading.fault.Fault.{Fault}
 use Rattle.j39_plan.specs.declared.reading.plan_error.PlanError.{PlanError}
@@ -21,12 +23,13 @@ use Rattle.j39_plan.specs.UnitTables.{IsUnitOf}
 use Rattle.j39_plan.specs.SignalTables.{IsSignalOf}
 use Rattle.j39_plan.specs.TextTables.{IsTextOf}
 use Rattle.j39_plan.specs.GroupTables.{IsGroupOf, signal_rule, text_tables_of}
-use Rattle.j39_plan.specs.FlowTables.{IsFlowOf, TellsPace, deadline_rule}
-use Rattle.j39_plan.specs.TimingTables.{TellsTiming}
-use Rattle.j39_plan.specs.Schema.{tables_of, given_number}
-use Rattle.j39_plan.specs.Faults.{faults, units_rule, groups_rule, flows_rule, timing_table, unit_labels, group_labels, is_third}
+use Rattle.j39_plan.specs.FlowTables.{IsFlowOf, TellsPace, place_of}
+use Rattle.j39_plan.specs.NeedTables.{IsNeedOf, signal_rule as need_signal_rule, signals_at}
+use Rattle.j39_plan.specs.TimingTables.{TellsBus, TellsErrors, TellsTiming, errors_table}
+use Rattle.j39_plan.specs.Schema.{tables_of, found_text}
+use Rattle.j39_plan.specs.Faults.{faults, units_rule, groups_rule, flows_rule, timing_table, need_tables, unit_labels, group_labels, group_signals, knows_third, knows_fourth}
 use Rattle.j39_plan.specs.Described.{TellsPlan, Described, Reads}
-use Rattle.j39_plan.specs.OnePlan.{AreOneUnit, AreOneSignal, AreOneText, AreOneGroup, AreOneTiming, AreOnePace, AreOneFlowPlan, AreOnePlan, AreOneAnswer}
+use Rattle.j39_plan.specs.OnePlan.{AreOneUnit, AreOneSignal, AreOneText, AreOneGroup, AreOneErrorRate, AreOneBus, AreOneTiming, AreOnePace, AreOneFlowPlan, AreOneNeed, AreOnePlan, AreOneAnswer}
 
 -- what elements tell is one, where what each tells is
 one_each : {T : Type 0} (Is : Data → T → Type 0) (One : T → T → Type 0) (one : (d : Data) (x y : T) → Is d x → Is d y → One x y)
@@ -81,40 +84,74 @@ one_group third d g h a b = record {
   texts = one_each IsTextOf AreOneText one_text (text_tables_of third (inside d)) _ _ a.has_texts b.has_texts;
 }
 
-one_timing : (tree : Option Members) (t u : Option Timing) → TellsTiming tree t → TellsTiming tree u → AreOneTiming t u
-one_timing None None None a b = tt
-one_timing None None (Some u) a b = absurd b
-one_timing None (Some t) u a b = absurd a
-one_timing (Some ms) None u a b = absurd a
-one_timing (Some ms) (Some t) None a b = absurd b
-one_timing (Some ms) (Some t) (Some u) a b = (a.has_bitrate ∙ sym b.has_bitrate, a.has_unplanned ∙ sym b.has_unplanned)
+one_errors : (tree : Option Members) (e f : Option ErrorRate) → TellsErrors tree e → TellsErrors tree f → AreOneErrorRate e f
+one_errors None None None a b = tt
+one_errors None None (Some f) a b = absurd b
+one_errors None (Some e) f a b = absurd a
+one_errors (Some ms) None f a b = absurd a
+one_errors (Some ms) (Some e) None a b = absurd b
+one_errors (Some ms) (Some e) (Some f) a b = (a.has_count ∙ sym b.has_count, a.has_every ∙ sym b.has_every)
 
-one_pace : (third : Bool) (ms : Members) (p q : Option Pace) → TellsPace third ms p → TellsPace third ms q → AreOnePace p q
-one_pace third ms None None a b = tt
-one_pace third ms None (Some q) a b = absurd (none-some _ (a.has_period ∙ sym b.has_period))
-one_pace third ms (Some p) None a b = absurd (none-some _ (b.has_period ∙ sym a.has_period))
-one_pace third ms (Some p) (Some q) a b =
-    let periods : p.period ≡ q.period = same_Some _ _ (a.has_period ∙ sym b.has_period) in
-    (periods, a.has_deadline ∙ ap (λ n. unwrap_or (given_number deadline_rule ms) n) periods ∙ sym b.has_deadline)
+one_bus : (fourth : Bool) (ms : Members) (t u : Timing) → TellsBus fourth ms t → TellsBus fourth ms u → AreOneBus t u
+one_bus fourth ms t u a b = record {
+  bitrates = a.has_bitrate ∙ sym b.has_bitrate;
+  unplanned = a.has_unplanned ∙ sym b.has_unplanned;
+  unplanned_priorities = a.has_unplanned_priority ∙ sym b.has_unplanned_priority;
+  transport_priorities = a.has_transport_priority ∙ sym b.has_transport_priority;
+  gaps = a.has_gap ∙ sym b.has_gap;
+  gaps_most = a.has_gap_most ∙ sym b.has_gap_most;
+  errors = one_errors (errors_table fourth ms) t.errors u.errors a.has_errors b.has_errors;
+}
 
-one_flow : (third : Bool) (groups units : List (List ℕ)) (d : Data) (f h : FlowPlan) → IsFlowOf third groups units d f → IsFlowOf third groups units d h → AreOneFlowPlan f h
-one_flow third groups units d f h a b = record {
+one_timing : (fourth : Bool) (tree : Option Members) (t u : Option Timing) → TellsTiming fourth tree t → TellsTiming fourth tree u → AreOneTiming t u
+one_timing fourth None None None a b = tt
+one_timing fourth None None (Some u) a b = absurd b
+one_timing fourth None (Some t) u a b = absurd a
+one_timing fourth (Some ms) None u a b = absurd a
+one_timing fourth (Some ms) (Some t) None a b = absurd b
+one_timing fourth (Some ms) (Some t) (Some u) a b = one_bus fourth ms t u a b
+
+one_pace : (third fourth : Bool) (ms : Members) (p q : Option Pace) → TellsPace third fourth ms p → TellsPace third fourth ms q → AreOnePace p q
+one_pace third fourth ms None None a b = tt
+one_pace third fourth ms None (Some q) a b = absurd (none-some _ (a.has_period ∙ sym b.has_period))
+one_pace third fourth ms (Some p) None a b = absurd (none-some _ (b.has_period ∙ sym a.has_period))
+one_pace third fourth ms (Some p) (Some q) a b =
+    (same_Some _ _ (a.has_period ∙ sym b.has_period), a.has_deadline ∙ sym b.has_deadline, a.has_jitter ∙ sym b.has_jitter)
+
+one_flow : (third fourth : Bool) (groups units : List (List ℕ)) (d : Data) (f h : FlowPlan)
+    → IsFlowOf third fourth groups units d f → IsFlowOf third fourth groups units d h → AreOneFlowPlan f h
+one_flow third fourth groups units d f h a b = record {
   flows = (
     same_Some _ _ (sym a.has_group ∙ b.has_group),
     same_Some _ _ (sym a.has_sender ∙ b.has_sender),
     same_Some _ _ (sym a.has_receivers ∙ b.has_receivers),
   );
-  paces = one_pace third (inside d) f.pace h.pace a.has_pace b.has_pace;
+  paces = one_pace third fourth (inside d) f.pace h.pace a.has_pace b.has_pace;
+  pauses = a.has_pause ∙ sym b.has_pause;
 }
+
+one_need : (groups : List (List ℕ)) (signals : List (List (List ℕ))) (units : List (List ℕ)) (d : Data) (m n : NeedPlan)
+    → IsNeedOf groups signals units d m → IsNeedOf groups signals units d n → AreOneNeed m n
+one_need groups signals units d m n a b =
+    let same : m.group ≡ n.group = same_Some _ _ (sym a.has_group ∙ b.has_group) in
+    record {
+      units = same_Some _ _ (sym a.has_unit ∙ b.has_unit);
+      groups = same;
+      signals = a.has_signal ∙ ap (λ g. option_and_then (place_of (signals_at signals (Some g))) (found_text need_signal_rule (inside d))) same ∙ sym b.has_signal;
+      senders = a.has_from ∙ sym b.has_from;
+      ages = a.has_within ∙ sym b.has_within;
+    }
 
 one_plan : (tree : Members) (p q : Plan) → TellsPlan tree p → TellsPlan tree q → AreOnePlan p q
 one_plan tree p q a b = record {
   keep_free = a.has_keep_free ∙ sym b.has_keep_free;
-  timing = one_timing (timing_table tree) p.timing q.timing a.has_timing b.has_timing;
+  timing = one_timing (knows_fourth tree) (timing_table tree) p.timing q.timing a.has_timing b.has_timing;
   units = one_each IsUnitOf AreOneUnit one_unit (tables_of units_rule tree) _ _ a.has_units b.has_units;
-  groups = one_each (IsGroupOf (is_third tree)) AreOneGroup (one_group (is_third tree)) (tables_of groups_rule tree) _ _ a.has_groups b.has_groups;
-  flows = one_each (IsFlowOf (is_third tree) (group_labels tree) (unit_labels tree)) AreOneFlowPlan (one_flow (is_third tree) (group_labels tree) (unit_labels tree)) (tables_of flows_rule tree) _ _
-      a.has_flows b.has_flows;
+  groups = one_each (IsGroupOf (knows_third tree)) AreOneGroup (one_group (knows_third tree)) (tables_of groups_rule tree) _ _ a.has_groups b.has_groups;
+  flows = one_each (IsFlowOf (knows_third tree) (knows_fourth tree) (group_labels tree) (unit_labels tree)) AreOneFlowPlan
+      (one_flow (knows_third tree) (knows_fourth tree) (group_labels tree) (unit_labels tree)) (tables_of flows_rule tree) _ _ a.has_flows b.has_flows;
+  needs = one_each (IsNeedOf (group_labels tree) (group_signals tree) (unit_labels tree)) AreOneNeed
+      (one_need (group_labels tree) (group_signals tree) (unit_labels tree)) (need_tables tree) _ _ a.has_needs b.has_needs;
 }
 
 -- a tree without faults has no first one

@@ -80,20 +80,20 @@ pub group_texts_told : (third : Bool) (ds : Items) (gs : List GroupPlan) → Eac
 group_texts_told third = labels_told (IsGroupOf third) label_in (λ g. g.label.bytes) (λ d g is. is.has_label)
 
 -- what a table tells is a flow between these units of one of these groups
-abbrev pub IsBetween : Bool → List GroupPlan → List UnitPlan → Data → FlowPlan → Type 0
-IsBetween third gs us = IsFlowOf third (group_texts gs) (unit_texts us)
+abbrev pub IsBetween : Bool → Bool → List GroupPlan → List UnitPlan → Data → FlowPlan → Type 0
+IsBetween third fourth gs us = IsFlowOf third fourth (group_texts gs) (unit_texts us)
 
-pub flow_groups : (third : Bool) (gs : List GroupPlan) (us : List UnitPlan) (ds : Items) (fs : List FlowPlan) → Each (IsBetween third gs us) ds fs
+pub flow_groups : (third fourth : Bool) (gs : List GroupPlan) (us : List UnitPlan) (ds : Items) (fs : List FlowPlan) → Each (IsBetween third fourth gs us) ds fs
     → All (λ f. f.group < length gs) fs
-flow_groups third gs us = All-from_Each (IsBetween third gs us) (λ f. f.group < length gs)
+flow_groups third fourth gs us = All-from_Each (IsBetween third fourth gs us) (λ f. f.group < length gs)
     (λ d f is. rw length-map at (placed (group_texts gs) _ f.group is.has_group))
 
-pub flow_senders : (third : Bool) (gs : List GroupPlan) (us : List UnitPlan) (ds : Items) (fs : List FlowPlan) → Each (IsBetween third gs us) ds fs
+pub flow_senders : (third fourth : Bool) (gs : List GroupPlan) (us : List UnitPlan) (ds : Items) (fs : List FlowPlan) → Each (IsBetween third fourth gs us) ds fs
     → All (λ f. f.sender < length us) fs
-flow_senders third gs us = All-from_Each (IsBetween third gs us) (λ f. f.sender < length us)
+flow_senders third fourth gs us = All-from_Each (IsBetween third fourth gs us) (λ f. f.sender < length us)
     (λ d f is. rw length-map at (placed (unit_texts us) _ f.sender is.has_sender))
 
-pub flow_receivers : (third : Bool) (gs : List GroupPlan) (us : List UnitPlan) (ds : Items) (fs : List FlowPlan) → Each (IsBetween third gs us) ds fs
+pub flow_receivers : (third fourth : Bool) (gs : List GroupPlan) (us : List UnitPlan) (ds : Items) (fs : List FlowPlan) → Each (IsBetween third fourth gs us) ds fs
     → All (λ f. (r : ℕ) → f.to ≡ One r → r < length us) fs
-flow_receivers third gs us = All-from_Each (IsBetween third gs us) (λ f. (r : ℕ) → f.to ≡ One r → r < length us)
+flow_receivers third fourth gs us = All-from_Each (IsBetween third fourth gs us) (λ f. (r : ℕ) → f.to ≡ One r → r < length us)
     (λ d f is r one. rw length-map at (received (unit_texts us) _ f.to r is.has_receivers one))

@@ -1,6 +1,7 @@
--- The tables of flows. The third version knows how often a flow is sent.
-use Rattle.std.specs.Prelude.{◌≡◌, ℕ, List, [], ◌∷◌, ◌++◌, Bool, true, false, if◌then◌else◌, Option}
-use Rattle.std.specs.Prelude.{Some, None, IfSome, option_map, option_and_then, unwrap_or, codes, is_some, position}
+-- The tables of flows. The third version knows how often a flow is sent, the fourth one also how far behind its moments, and for how long it
+-- is silent.
+use Rattle.std.specs.Prelude.{◌≡◌, ℕ, ◌-◌, List, [], ◌∷◌, ◌++◌, Bool, true, false, ◌&&◌, ◌||◌, if◌then◌else◌, Option}
+use Rattle.std.specs.Prelude.{Some, None, IfSome, option_map, option_and_then, codes, is_some, position}
 use Rattle.std.specs.Str.{bytes_eq}
 use Rattle.std.specs.Option.{option_map_or}
 use Rattle.toml.specs.Data.{Data, Members, get_member, as_table}
@@ -15,7 +16,7 @@ use Rattle.j39_plan.specs.declared.reading.place.Table.{Table}
 use Rattle.j39_plan.specs.declared.reading.place.Table.TheVariants as at
 use Rattle.j39_plan.specs.declared.reading.fault.Fault.{Fault}
 use Rattle.j39_plan.specs.declared.reading.text_kind.TextKind.TheVariants as texts
-use Rattle.j39_plan.specs.Schema.{Rule, text, number, optional, found_text, given_number}
+use Rattle.j39_plan.specs.Schema.{Rule, text, number, optional, found_text, number_of, given_number}
 use Rattle.j39_plan.specs.Words.{word_of}
 use Rattle.j39_plan.specs.TableFaults.{table_faults, table_only_faults, fault}
 use Rattle.j39_plan.specs.Elements.{inside}
@@ -34,26 +35,53 @@ abbrev pub period_of : Bool → Rule
 period_of true = number key.Period 1 65535 None
 period_of false = optional key.Period 1 65535
 
--- a deadline stands in the table, which asks for a period
-unfoldable pub has_deadline : Members → Bool
-has_deadline ms = is_some (get_member (word_of key.Deadline) ms)
+-- something stands in the table at this key
+unfoldable pub has_key : Key → Members → Bool
+has_key k ms = is_some (get_member (word_of k) ms)
 
-abbrev pub period_rule : Members → Rule
-period_rule ms = period_of (has_deadline ms)
+-- a deadline asks for a period, and so does a jitter in a version that knows it
+abbrev pub asks_for_period : Bool → Members → Bool
+asks_for_period fourth ms = (fourth && has_key key.Jitter ms) || has_key key.Deadline ms
+
+abbrev pub period_rule : Bool → Members → Rule
+period_rule fourth ms = period_of (asks_for_period fourth ms)
 
 abbrev pub deadline_rule : Rule
 deadline_rule = optional key.Deadline 1 65535
 
-abbrev pub pace_rules : Bool → Members → List Rule
-pace_rules true ms = period_rule ms ∷ deadline_rule ∷ []
-pace_rules false ms = []
+-- a message is queued at most so many milliseconds behind its moment: fewer than its period has
+abbrev pub jitter_most : Option ℕ → ℕ
+jitter_most None = 65535
+jitter_most (Some period) = period - 1
 
-abbrev pub flow_rules : Bool → Members → List Rule
-flow_rules third ms = group_rule ∷ from_rule ∷ to_rule ∷ pace_rules third ms
+abbrev pub jitter_rule : Option ℕ → Rule
+jitter_rule period = number key.Jitter 0 (jitter_most period) (Some 0)
 
--- but in the third version, a flow has these keys
-abbrev pub OlderFlowRules : Type 0
-OlderFlowRules = (ms : Members) → flow_rules false ms ≡ group_rule ∷ from_rule ∷ to_rule ∷ []
+-- a flow is silent for so many milliseconds at most: for as many as its period has at least
+abbrev pub pause_least : Option ℕ → ℕ
+pause_least None = 1
+pause_least (Some period) = period
+
+abbrev pub pause_rule : Option ℕ → Rule
+pause_rule period = optional key.Pause (pause_least period) 65535
+
+-- behind the deadline, by the period, in the fourth version and in another
+abbrev pub later_pace_rules : Bool → Option ℕ → List Rule
+later_pace_rules true period = jitter_rule period ∷ pause_rule period ∷ []
+later_pace_rules false period = []
+
+abbrev pub pace_rules : Bool → Bool → Members → List Rule
+pace_rules true fourth ms = period_rule fourth ms ∷ deadline_rule ∷ later_pace_rules fourth (given_number (period_rule fourth ms) ms)
+pace_rules false fourth ms = []
+
+abbrev pub flow_rules : Bool → Bool → Members → List Rule
+flow_rules third fourth ms = group_rule ∷ from_rule ∷ to_rule ∷ pace_rules third fourth ms
+
+-- in the first two versions a flow has these keys, and in the third these
+pub record OlderFlowRules : Type 0 where
+  pub second : (ms : Members) → flow_rules false false ms ≡ group_rule ∷ from_rule ∷ to_rule ∷ []
+  pub third : (ms : Members) → flow_rules true false ms
+      ≡ group_rule ∷ from_rule ∷ to_rule ∷ period_of (has_key key.Deadline ms) ∷ deadline_rule ∷ []
 
 -- the place of a label among others
 unfoldable pub place_of : List (List ℕ) → List ℕ → Option ℕ
@@ -64,24 +92,39 @@ unfoldable pub receivers : List (List ℕ) → List ℕ → Option To
 receivers units word = if bytes_eq word (codes "all") then Some All else option_map One (place_of units word)
 
 -- the period: none in a version that doesn't know it
-abbrev pub given_period : Bool → Members → Option ℕ
-given_period true ms = given_number (period_rule ms) ms
-given_period false ms = None
+abbrev pub given_period : Bool → Bool → Members → Option ℕ
+given_period true fourth ms = given_number (period_rule fourth ms) ms
+given_period false fourth ms = None
 
--- how often a flow is sent, where its table tells it; the deadline is the period where none stands there
-pub record TellsPace (third : Bool) (ms : Members) (pace : Option Pace) : Type 0 where
-  pub has_period : option_map (λ p. p.period) pace ≡ given_period third ms
-  pub has_deadline : IfSome pace (λ p. p.deadline ≡ unwrap_or (given_number deadline_rule ms) p.period)
+-- the jitter and the pause, by the period: none in a version that doesn't know them
+abbrev pub jitter_of : Bool → Option ℕ → Members → ℕ
+jitter_of true period ms = number_of (jitter_rule period) ms
+jitter_of false period ms = 0
+
+abbrev pub pause_of : Bool → Option ℕ → Members → Option ℕ
+pause_of true period ms = given_number (pause_rule period) ms
+pause_of false period ms = None
+
+abbrev pub given_pause : Bool → Bool → Members → Option ℕ
+given_pause true fourth ms = pause_of fourth (given_number (period_rule fourth ms) ms) ms
+given_pause false fourth ms = None
+
+-- how often a flow is sent, where its table tells it
+pub record TellsPace (third fourth : Bool) (ms : Members) (pace : Option Pace) : Type 0 where
+  pub has_period : option_map (λ p. p.period) pace ≡ given_period third fourth ms
+  pub has_deadline : IfSome pace (λ p. p.deadline ≡ given_number deadline_rule ms)
+  pub has_jitter : IfSome pace (λ p. p.jitter ≡ jitter_of fourth (given_period third fourth ms) ms)
 
 -- the flow that a table tells, by the labels of the groups and of the units
-pub record TellsFlow (third : Bool) (groups units : List (List ℕ)) (ms : Members) (f : FlowPlan) : Type 0 where
+pub record TellsFlow (third fourth : Bool) (groups units : List (List ℕ)) (ms : Members) (f : FlowPlan) : Type 0 where
   pub has_group : option_and_then (place_of groups) (found_text group_rule ms) ≡ Some f.group
   pub has_sender : option_and_then (place_of units) (found_text from_rule ms) ≡ Some f.sender
   pub has_receivers : option_and_then (receivers units) (found_text to_rule ms) ≡ Some f.to
-  pub has_pace : TellsPace third ms f.pace
+  pub has_pace : TellsPace third fourth ms f.pace
+  pub has_pause : f.pause ≡ given_pause third fourth ms
 
-abbrev pub IsFlowOf : Bool → List (List ℕ) → List (List ℕ) → Data → FlowPlan → Type 0
-IsFlowOf third groups units d f = TellsFlow third groups units (inside d) f
+abbrev pub IsFlowOf : Bool → Bool → List (List ℕ) → List (List ℕ) → Data → FlowPlan → Type 0
+IsFlowOf third fourth groups units d f = TellsFlow third fourth groups units (inside d) f
 
 -- a text that names nothing
 abbrev pub unknown_label : {X : Type 0} → Table → Key → Option X → List Fault
@@ -95,12 +138,13 @@ unfoldable pub receiver_faults : Table → List (List ℕ) → Option (List ℕ)
 receiver_faults at units None = []
 receiver_faults at units (Some t) = unknown_label at key.To (receivers units t)
 
-unfoldable pub flow_table_faults : Bool → List (List ℕ) → List (List ℕ) → ℕ → Members → List Fault
-flow_table_faults third groups units i ms = table_faults (at.Flow i) (flow_rules third ms) ms
+unfoldable pub flow_table_faults : Bool → Bool → List (List ℕ) → List (List ℕ) → ℕ → Members → List Fault
+flow_table_faults third fourth groups units i ms = table_faults (at.Flow i) (flow_rules third fourth ms) ms
     ++ (place_faults (at.Flow i) key.Group groups (found_text group_rule ms)
     ++ (place_faults (at.Flow i) key.From units (found_text from_rule ms)
     ++ receiver_faults (at.Flow i) units (found_text to_rule ms)))
 
 -- the faults of the i-th flow, by the labels of the groups and of the units
-unfoldable pub flow_faults : Bool → List (List ℕ) → List (List ℕ) → ℕ → Data → List Fault
-flow_faults third groups units i d = table_only_faults (at.Flow i) d ++ option_map_or (flow_table_faults third groups units i) (as_table d) []
+unfoldable pub flow_faults : Bool → Bool → List (List ℕ) → List (List ℕ) → ℕ → Data → List Fault
+flow_faults third fourth groups units i d =
+    table_only_faults (at.Flow i) d ++ option_map_or (flow_table_faults third fourth groups units i) (as_table d) []

@@ -11,7 +11,9 @@ use Rattle.j39_plan.specs.UnitTables.{unit_faults}
 use Rattle.j39_plan.specs.GroupTables.{group_rules, has_records, signal_rule, signal_labels, signals_faults, text_tables_of, group_faults}
 use Rattle.j39_plan.specs.TextTables.{text_faults}
 use Rattle.j39_plan.specs.FlowTables.{flow_faults}
-use Rattle.j39_plan.specs.Faults.{top_faults, units_rule, groups_rule, flows_rule, units_faults, groups_faults, group_labels, unit_labels, is_third}
+use Rattle.j39_plan.specs.NeedTables.{need_faults}
+use Rattle.j39_plan.specs.Faults.{top_faults, units_rule, groups_rule, flows_rule, units_faults, groups_faults, flows_faults, need_tables}
+use Rattle.j39_plan.specs.Faults.{group_labels, group_signals, unit_labels, knows_third, knows_fourth}
 
 -- the reader of an element asks for none
 abbrev pub NeverGrows : ℕ → Data → Type 0
@@ -31,9 +33,13 @@ GroupGrows third g ms = (table_faults (at.Group g) (group_rules third ms) ms ≡
 abbrev pub GroupElementGrows : Bool → ℕ → Data → Type 0
 GroupElementGrows third g d = GroupGrows third g (inside d)
 
--- in a plan, whose top table has no fault, among its units, behind these among its groups, or behind these among its flows
+-- in a plan, whose top table has no fault, among its units, behind these among its groups, behind these among its flows, or behind these
+-- among its needs
 abbrev pub PlanGrows : Members → Type 0
 PlanGrows tree = (top_faults tree ≡ [])
     × (EachGrows unit_faults NeverGrows (tables_of units_rule tree)
-    ⊎ ((units_faults tree ≡ []) × (EachGrows (group_faults (is_third tree)) (GroupElementGrows (is_third tree)) (tables_of groups_rule tree)
-    ⊎ ((groups_faults tree ≡ []) × EachGrows (λ i seen. flow_faults (is_third tree) (group_labels tree) (unit_labels tree) i) NeverGrows (tables_of flows_rule tree)))))
+    ⊎ ((units_faults tree ≡ []) × (EachGrows (group_faults (knows_third tree)) (GroupElementGrows (knows_third tree)) (tables_of groups_rule tree)
+    ⊎ ((groups_faults tree ≡ []) × (EachGrows (λ i seen. flow_faults (knows_third tree) (knows_fourth tree) (group_labels tree) (unit_labels tree) i)
+    NeverGrows (tables_of flows_rule tree)
+    ⊎ ((flows_faults tree ≡ []) × EachGrows (λ i seen. need_faults (group_labels tree) (group_signals tree) (unit_labels tree) i)
+    NeverGrows (need_tables tree)))))))

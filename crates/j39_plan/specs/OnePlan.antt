@@ -7,7 +7,9 @@ use Rattle.j39_findings.specs.declared.plan.unit_plan.UnitPlan.{UnitPlan}
 use Rattle.j39_findings.specs.declared.plan.group_plan.GroupPlan.{GroupPlan}
 use Rattle.j39_findings.specs.declared.plan.text_plan.TextPlan.{TextPlan}
 use Rattle.j39_findings.specs.declared.plan.flow_plan.FlowPlan.{FlowPlan}
+use Rattle.j39_findings.specs.declared.plan.need_plan.NeedPlan.{NeedPlan}
 use Rattle.j39_findings.specs.declared.plan.pace.Pace.{Pace}
+use Rattle.j39_findings.specs.declared.plan.timing.ErrorRate.{ErrorRate}
 use Rattle.j39_findings.specs.declared.plan.timing.Timing.{Timing}
 use Rattle.j39_plan.specs.declared.reading.plan_error.PlanError.{PlanError}
 use Rattle.j39_plan.specs.declared.reading.plan_error.PlanError.TheVariants.{Memory}
@@ -50,21 +52,44 @@ pub record AreOneGroup (g h : GroupPlan) : Type 0 where
   pub signals : AllZip AreOneSignal g.signals.items h.signals.items
   pub texts : AllZip AreOneText g.texts.items h.texts.items
 
--- one bus
+-- as many damaged frames at most, or none
+abbrev pub AreOneErrorRate : Option ErrorRate → Option ErrorRate → Type 0
+AreOneErrorRate None None = Unit {0}
+AreOneErrorRate (Some e) (Some f) = (e.count ≡ f.count) × (e.every ≡ f.every)
+AreOneErrorRate _ _ = ⊥
+
+pub record AreOneBus (t u : Timing) : Type 0 where
+  pub bitrates : t.bitrate ≡ u.bitrate
+  pub unplanned : t.unplanned ≡ u.unplanned
+  pub unplanned_priorities : t.unplanned_priority ≡ u.unplanned_priority
+  pub transport_priorities : t.transport_priority ≡ u.transport_priority
+  pub gaps : t.broadcast_gap ≡ u.broadcast_gap
+  pub gaps_most : t.broadcast_gap_most ≡ u.broadcast_gap_most
+  pub errors : AreOneErrorRate t.errors u.errors
+
+-- one bus, or none
 abbrev pub AreOneTiming : Option Timing → Option Timing → Type 0
 AreOneTiming None None = Unit {0}
-AreOneTiming (Some t) (Some u) = (t.bitrate ≡ u.bitrate) × (t.unplanned ≡ u.unplanned)
+AreOneTiming (Some t) (Some u) = AreOneBus t u
 AreOneTiming _ _ = ⊥
 
--- one period and one deadline, or none
+-- one period with its deadline and its jitter, or none
 abbrev pub AreOnePace : Option Pace → Option Pace → Type 0
 AreOnePace None None = Unit {0}
-AreOnePace (Some p) (Some q) = (p.period ≡ q.period) × (p.deadline ≡ q.deadline)
+AreOnePace (Some p) (Some q) = (p.period ≡ q.period) × (p.deadline ≡ q.deadline) × (p.jitter ≡ q.jitter)
 AreOnePace _ _ = ⊥
 
 pub record AreOneFlowPlan (f h : FlowPlan) : Type 0 where
   pub flows : AreOneFlow f h
   pub paces : AreOnePace f.pace h.pace
+  pub pauses : f.pause ≡ h.pause
+
+pub record AreOneNeed (d e : NeedPlan) : Type 0 where
+  pub units : d.unit ≡ e.unit
+  pub groups : d.group ≡ e.group
+  pub signals : d.signal ≡ e.signal
+  pub senders : d.from ≡ e.from
+  pub ages : d.within ≡ e.within
 
 pub record AreOnePlan (p q : Plan) : Type 0 where
   pub keep_free : p.keep_free ≡ q.keep_free
@@ -72,6 +97,7 @@ pub record AreOnePlan (p q : Plan) : Type 0 where
   pub units : AllZip AreOneUnit p.units.items q.units.items
   pub groups : AllZip AreOneGroup p.groups.items q.groups.items
   pub flows : AllZip AreOneFlowPlan p.flows.items q.flows.items
+  pub needs : AllZip AreOneNeed p.needs.items q.needs.items
 
 -- ---- the law
 

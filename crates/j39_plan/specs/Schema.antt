@@ -23,7 +23,8 @@ pub data Kind : Type 0 where
   divisor_up_to : ℕ → Kind
   given_integer_in : ℤ → ℤ → Kind
   given_table : Kind
-  one_of_both : ℕ → ℕ → Kind
+  given_text : Kind
+  bitrate_of_bus : Bool → Kind
 
 -- a key, what its value is to be, and what an absent one stands for: nothing where the key is required, or where its absence means
 -- something by itself
@@ -55,9 +56,13 @@ inner_table k = record { key = k; kind = one_table; default = None }
 abbrev pub optional_table : Key → Rule
 optional_table k = record { key = k; kind = given_table; default = None }
 
--- one of two numbers
-abbrev pub either_number : Key → ℕ → ℕ → Rule
-either_number k one other = record { key = k; kind = one_of_both one other; default = None }
+-- one of the bitrates of a bus: of those that the third version knows, or of more
+abbrev pub bitrate : Key → Bool → Rule
+bitrate k more = record { key = k; kind = bitrate_of_bus more; default = None }
+
+-- a text that may be absent
+abbrev pub optional_text : Key → Rule
+optional_text k = record { key = k; kind = given_text; default = None }
 
 abbrev pub tables : Key → ℕ → Rule
 tables k limit = record { key = k; kind = tables_up_to limit; default = Some (array no_items) }

@@ -16,7 +16,7 @@ use Rattle.j39_signal.specs.Parts.{divides_decimally}
 use Rattle.j39_plan.specs.TextKinds.{takes}
 use Rattle.j39_plan.specs.Words.{word_of}
 use Rattle.j39_plan.specs.Schema.{Kind, integer_in, flag_value, flag_where, text_of_kind, one_table, tables_up_to}
-use Rattle.j39_plan.specs.Schema.{addresses_up_to, divisor_up_to, given_integer_in, given_table, one_of_both, Rule, natural, standing, items_count, number_in}
+use Rattle.j39_plan.specs.Schema.{addresses_up_to, divisor_up_to, given_integer_in, given_table, given_text, bitrate_of_bus, Rule, natural, standing, items_count, number_in}
 
 abbrev pub fault : Cause → Table → Option Key → Fault
 fault cause at key = record { cause = cause; place = record { table = at; key = key } }
@@ -37,6 +37,10 @@ addresses_cause earlier (item d ds) = option_or (address_cause earlier d) (addre
 abbrev pub range_cause : ℤ → ℤ → ℤ → Option Cause
 range_cause low high z = if int_lt z low || int_lt high z then Some Range else None
 
+-- a bitrate that the third version knows, or one more
+abbrev pub is_bitrate : Bool → ℕ → Bool
+is_bitrate more n = n == 250000 || (n == 500000 || (more && (n == 125000 || n == 1000000)))
+
 -- the first cause for which a value is refused
 abbrev pub value_cause : Kind → Data → Option Cause
 value_cause (integer_in low high) (integer z) = range_cause low high z
@@ -46,7 +50,8 @@ value_cause (flag_where may) (boolean b) = if b && not may then Some Range else 
 value_cause (text_of_kind kind) (string s) = if takes kind s then None else Some Range
 value_cause one_table (table ms) = None
 value_cause given_table (table ms) = None
-value_cause (one_of_both one other) (integer z) = if natural z == one || natural z == other then None else Some Range
+value_cause given_text (string s) = None
+value_cause (bitrate_of_bus more) (integer z) = if is_bitrate more (natural z) then None else Some Range
 value_cause (tables_up_to limit) (array ds) = if nat_le (items_count ds) limit then None else Some TooMany
 value_cause (addresses_up_to limit) (array ds) = if nat_le (items_count ds) limit then addresses_cause empty ds else Some TooMany
 value_cause (divisor_up_to limit) (integer z) =
@@ -57,6 +62,7 @@ value_cause _ _ = Some WrongType
 abbrev pub standing_cause : Kind → Option Data → Option Cause
 standing_cause (given_integer_in low high) None = None
 standing_cause given_table None = None
+standing_cause given_text None = None
 standing_cause kind None = Some Missing
 standing_cause kind (Some d) = value_cause kind d
 

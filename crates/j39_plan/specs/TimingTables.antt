@@ -1,37 +1,122 @@
--- The table of the bus itself, which the third version knows.
-use Rattle.std.specs.Prelude.{◌≡◌, ℕ, ◌==◌, if◌then◌else◌, List, [], ◌∷◌, Option, Some, None}
+-- The table of the bus itself, which the third version knows. The fourth one knows more of it.
+use Rattle.std.specs.Prelude.{◌≡◌, ℕ, ◌==◌, Bool, true, false, if◌then◌else◌, List, [], ◌∷◌, ◌++◌, Option, Some, None}
+use Rattle.std.specs.Option.{option_map_or}
 use Rattle.toml.specs.Data.{Members}
 use Rattle.j39_findings.specs.declared.plan.timing.Bitrate.{Bitrate}
-use Rattle.j39_findings.specs.declared.plan.timing.Bitrate.TheVariants.{Kbit250, Kbit500}
+use Rattle.j39_findings.specs.declared.plan.timing.Bitrate.TheVariants.{Kbit125, Kbit250, Kbit500, Mbit1}
+use Rattle.j39_findings.specs.declared.plan.timing.ErrorRate.{ErrorRate}
 use Rattle.j39_findings.specs.declared.plan.timing.Timing.{Timing}
 use Rattle.j39_plan.specs.declared.reading.key.Key.TheVariants as key
 use Rattle.j39_plan.specs.declared.reading.place.Table.TheVariants as at
 use Rattle.j39_plan.specs.declared.reading.fault.Fault.{Fault}
-use Rattle.j39_plan.specs.Schema.{Rule, number, either_number, number_of}
+use Rattle.j39_plan.specs.Schema.{Rule, number, bitrate, optional_table, number_of, table_of}
 use Rattle.j39_plan.specs.TableFaults.{table_faults}
 
-abbrev pub bitrate_rule : Rule
-bitrate_rule = either_number key.Bitrate 250000 500000
+-- ---- damaged frames
+
+abbrev pub count_rule : Rule
+count_rule = number key.Count 1 100 None
+
+abbrev pub window_rule : Rule
+window_rule = number key.Every 1 65535 None
+
+abbrev pub error_rules : List Rule
+error_rules = count_rule ∷ window_rule ∷ []
+
+-- how many frames are damaged at most, as a table tells it
+pub record TellsErrorRate (ms : Members) (rate : ErrorRate) : Type 0 where
+  pub has_count : rate.count ≡ number_of count_rule ms
+  pub has_every : rate.every ≡ number_of window_rule ms
+
+-- where there is a table of it
+abbrev pub TellsErrors : Option Members → Option ErrorRate → Type 0
+TellsErrors None None = Unit {0}
+TellsErrors (Some ms) (Some rate) = TellsErrorRate ms rate
+TellsErrors _ _ = ⊥
+
+unfoldable pub error_table_faults : Members → List Fault
+error_table_faults ms = table_faults at.TimingErrors error_rules ms
+
+-- ---- the bus
+
+-- the fourth version knows more bitrates
+abbrev pub bitrate_rule : Bool → Rule
+bitrate_rule fourth = bitrate key.Bitrate fourth
 
 abbrev pub unplanned_rule : Rule
 unplanned_rule = number key.Unplanned 0 1000 None
 
-abbrev pub timing_rules : List Rule
-timing_rules = bitrate_rule ∷ unplanned_rule ∷ []
+abbrev pub unplanned_priority_rule : Rule
+unplanned_priority_rule = number key.UnplannedPriority 0 6 (Some 6)
+
+abbrev pub transport_priority_rule : Rule
+transport_priority_rule = number key.TransportPriority 0 7 (Some 7)
+
+-- from one frame of a long message to all to the next, in milliseconds
+abbrev pub gap_rule : Rule
+gap_rule = number key.BroadcastGap 10 200 (Some 50)
+
+-- at most as many as this, and not fewer than at least
+abbrev pub gap_most_rule : ℕ → Rule
+gap_most_rule gap = number key.BroadcastGapMost gap 750 (Some 200)
+
+abbrev pub errors_rule : Rule
+errors_rule = optional_table key.Errors
+
+-- behind what isn't planned, in the fourth version and in another
+abbrev pub later_timing_rules : Bool → Members → List Rule
+later_timing_rules true ms =
+    unplanned_priority_rule ∷ transport_priority_rule ∷ gap_rule ∷ gap_most_rule (number_of gap_rule ms) ∷ errors_rule ∷ []
+later_timing_rules false ms = []
+
+abbrev pub timing_rules : Bool → Members → List Rule
+timing_rules fourth ms = bitrate_rule fourth ∷ unplanned_rule ∷ later_timing_rules fourth ms
+
+-- but in the fourth version, the bus has these keys
+abbrev pub OlderTimingRules : Type 0
+OlderTimingRules = (ms : Members) → timing_rules false ms ≡ bitrate_rule false ∷ unplanned_rule ∷ []
 
 abbrev pub bitrate_of : ℕ → Bitrate
-bitrate_of bits = if bits == 500000 then Kbit500 else Kbit250
+bitrate_of bits = if bits == 125000 then Kbit125 else if bits == 500000 then Kbit500 else if bits == 1000000 then Mbit1 else Kbit250
+
+-- what a version that doesn't know these keys takes as given
+abbrev pub unplanned_priority_of : Bool → Members → ℕ
+unplanned_priority_of true ms = number_of unplanned_priority_rule ms
+unplanned_priority_of false ms = 6
+
+abbrev pub transport_priority_of : Bool → Members → ℕ
+transport_priority_of true ms = number_of transport_priority_rule ms
+transport_priority_of false ms = 7
+
+abbrev pub gap_of : Bool → Members → ℕ
+gap_of true ms = number_of gap_rule ms
+gap_of false ms = 50
+
+abbrev pub gap_most_of : Bool → Members → ℕ
+gap_most_of true ms = number_of (gap_most_rule (number_of gap_rule ms)) ms
+gap_most_of false ms = 200
+
+abbrev pub errors_table : Bool → Members → Option Members
+errors_table true ms = table_of errors_rule ms
+errors_table false ms = None
 
 -- what a table tells of the bus
-pub record TellsBus (ms : Members) (timing : Timing) : Type 0 where
-  pub has_bitrate : timing.bitrate ≡ bitrate_of (number_of bitrate_rule ms)
+pub record TellsBus (fourth : Bool) (ms : Members) (timing : Timing) : Type 0 where
+  pub has_bitrate : timing.bitrate ≡ bitrate_of (number_of (bitrate_rule fourth) ms)
   pub has_unplanned : timing.unplanned ≡ number_of unplanned_rule ms
+  pub has_unplanned_priority : timing.unplanned_priority ≡ unplanned_priority_of fourth ms
+  pub has_transport_priority : timing.transport_priority ≡ transport_priority_of fourth ms
+  pub has_gap : timing.broadcast_gap ≡ gap_of fourth ms
+  pub has_gap_most : timing.broadcast_gap_most ≡ gap_most_of fourth ms
+  pub has_errors : TellsErrors (errors_table fourth ms) timing.errors
 
 -- what is known of the bus, where there is a table of it
-abbrev pub TellsTiming : Option Members → Option Timing → Type 0
-TellsTiming None None = Unit {0}
-TellsTiming (Some ms) (Some timing) = TellsBus ms timing
-TellsTiming _ _ = ⊥
+abbrev pub TellsTiming : Bool → Option Members → Option Timing → Type 0
+TellsTiming fourth None None = Unit {0}
+TellsTiming fourth (Some ms) (Some timing) = TellsBus fourth ms timing
+TellsTiming _ _ _ = ⊥
 
-unfoldable pub timing_table_faults : Members → List Fault
-timing_table_faults ms = table_faults at.Timing timing_rules ms
+-- the faults of the table, and then those of the table of errors
+unfoldable pub timing_table_faults : Bool → Members → List Fault
+timing_table_faults fourth ms =
+    table_faults at.Timing (timing_rules fourth ms) ms ++ option_map_or error_table_faults (errors_table fourth ms) []

@@ -4,19 +4,24 @@ ghost use Rattle.j39_plan.specs.OnePlan.{HasOneAnswer};
 ghost use Rattle.j39_plan.specs.GroupTables.{OlderLengths, OlderGroupRules};
 ghost use Rattle.j39_plan.specs.SignalTables.{OlderSignalRules};
 ghost use Rattle.j39_plan.specs.FlowTables.{OlderFlowRules};
+ghost use Rattle.j39_plan.specs.TimingTables.{OlderTimingRules};
+ghost use Rattle.j39_plan.specs.Faults.{OlderArrays};
 
 /// But for want of memory, the definition allows one answer for a file: it describes one plan, or it has one first fault, or it
 /// is no TOML text, and never two of these. Two plans are one where they keep the same addresses free and have the same
-/// units, groups, signals and flows, place by place, labels by their bytes.
+/// units, groups, signals, flows and needs, place by place, labels by their bytes.
 pub fn a_file_describes_one_plan()
     ensures { (bytes : List ℕ) → HasOneAnswer bytes }
 {}
 
-/// In a plan that isn't of version 3 a group and a flow have the keys that they had before there was one, and groups messages of one
-/// length without records; and a signal has the keys, the ranges and the kinds.
+/// In a plan of version 1 or 2 a group and a flow have the keys that they had before there was a third, and groups messages of one
+/// length without records; and a signal has the keys, the ranges and the kinds. In one of version 3 too a flow and the bus have the keys
+/// that they had before there was a fourth, and there are no needs.
 pub fn older_versions_know_what_they_knew()
     ensures groups { OlderGroupRules }
     ensures lengths { OlderLengths }
     ensures signals { OlderSignalRules }
     ensures flows { OlderFlowRules }
+    ensures timing { OlderTimingRules }
+    ensures arrays { OlderArrays }
 {}

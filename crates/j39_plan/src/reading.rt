@@ -15,6 +15,7 @@ mod heads;
 mod key;
 mod labels;
 mod names;
+mod needs;
 mod place;
 mod plan_error;
 mod signals;
@@ -30,10 +31,11 @@ use elements::read_each;
 pub use fault::Fault;
 use flows::Flows;
 use groups::Groups;
-use heads::{head, is_third};
+use heads::{head, knows_fourth, knows_third};
 use j39_findings::Plan;
 use j39_findings::limits::{FLOW_LIMIT, GROUP_LIMIT, UNIT_LIMIT};
 pub use key::Key;
+use needs::{Needs, need_values};
 pub use place::{Place, Table};
 pub use plan_error::PlanError;
 use std::alloc::Global;
@@ -47,21 +49,32 @@ fn read_top(alloc: Global, members: &toml::Table) -> Result<Plan, PlanError>
     ensures { GivesGrowing (PlanGrows (table_view members.now)) result (faults (table_view members.now)) (TellsPlan (table_view members.now)) }
 {
     let keep_free = head(members)?;
-    let third = is_third(members);
-    let timing = timing(members, third)?;
+    let third = knows_third(members);
+    let fourth = knows_fourth(members);
+    let timing = timing(members, third, fourth)?;
     let unit_values = array(members, Table::Top, Key::Unit, UNIT_LIMIT)?;
     let group_values = array(members, Table::Top, Key::Group, GROUP_LIMIT)?;
     let flow_values = array(members, Table::Top, Key::Flow, FLOW_LIMIT)?;
+    let need_values = need_values(members, fourth)?;
     let units = read_each(alloc, &Units, unit_values)?;
     let groups = read_each(alloc, &Groups { third }, group_values)?;
     let flows = read_each(
         alloc,
         &Flows {
             third,
+            fourth,
             groups: &groups,
             units: &units,
         },
         flow_values,
+    )?;
+    let needs = read_each(
+        alloc,
+        &Needs {
+            groups: &groups,
+            units: &units,
+        },
+        need_values,
     )?;
     Ok(Plan {
         keep_free,
@@ -69,13 +82,15 @@ fn read_top(alloc: Global, members: &toml::Table) -> Result<Plan, PlanError>
         units,
         groups,
         flows,
+        needs,
     })
 }
 
-/// The plan that a file describes: TOML of UTF-8 bytes, at most 128 units, 256 groups of 64 signals and 512 flows. One of
-/// version 2 or 3 may keep up to 120 addresses of 128 to 247 free; one of version 1 keeps none. Version 3 knows groups of several
-/// lengths, with records of signals that are repeated, more kinds of signals, what their values are divided by, 64 texts of a group, what is known of the bus itself, and how
-/// often flows are sent.
+/// The plan that a file describes: TOML of UTF-8 bytes, at most 128 units, 256 groups of 64 signals, 512 flows and 4096 needs. One of
+/// version 2, 3 or 4 may keep up to 120 addresses of 128 to 247 free; one of version 1 keeps none. Versions 3 and 4 know groups of several
+/// lengths, with records of signals that are repeated, more kinds of signals, what their values are divided by, 64 texts of a group, what
+/// is known of the bus itself, and how often flows are sent. Version 4 knows more of the bus, how far behind its moments a flow is sent,
+/// for how long it is silent, and which unit needs what.
 ///
 /// Refuses bytes that are no TOML text, and else the first fault, in the order of the file's tables and keys. Takes no
 /// memory of bytes that are no UTF-8, or white space and comments alone.

@@ -27,22 +27,22 @@ ceil-mono a b k some le =
     let fewer : div_ceil a k < div_ceil b k + 1 = lt_of_mul-lt-mul_right k less in
     omega arith
 
-share-small : (span : ℕ) (x : Stream) → span < 2 ^ 32 → IsStream x → share span x ≤ 2 ^ 53
+share-small : (span : ℕ) (x : Stream) → span < 2 ^ 32 → IsStream x → share span x ≤ 2 ^ 51
 share-small span x small ok =
-    let few : div_ceil span x.period ≤ span = ceil-le span x.period ok.0 in
-    let (_, bits, frames, spread) = ok in
-    let messages : div_ceil span x.period + x.spread ≤ 2 ^ 33 = omega arith in
-    let all : (div_ceil span x.period + x.spread) * x.bits ≤ (div_ceil span x.period + x.spread) * 2 ^ 10 =
-    mul-le-mul_left (div_ceil span x.period + x.spread) bits in
-    let each : (div_ceil span x.period + x.spread) * x.bits ≤ 2 ^ 43 = omega arith in
-    let most : x.frames * ((div_ceil span x.period + x.spread) * x.bits) ≤ x.frames * 2 ^ 43 = mul-le-mul_left x.frames each in
+    let few : div_ceil (span + x.late) x.period ≤ span + x.late = ceil-le (span + x.late) x.period ok.0 in
+    let (_, bits, frames, late) = ok in
+    let messages : div_ceil (span + x.late) x.period ≤ 2 ^ 33 = omega arith in
+    let all : div_ceil (span + x.late) x.period * x.bits ≤ div_ceil (span + x.late) x.period * 2 ^ 8 =
+    mul-le-mul_left (div_ceil (span + x.late) x.period) bits in
+    let each : div_ceil (span + x.late) x.period * x.bits ≤ 2 ^ 41 = omega arith in
+    let most : x.frames * (div_ceil (span + x.late) x.period * x.bits) ≤ x.frames * 2 ^ 41 = mul-le-mul_left x.frames each in
     omega arith
 
 share-mono : (a b : ℕ) (x : Stream) → a ≤ b → IsStream x → share a x ≤ share b x
 share-mono a b x le ok =
-    let more : div_ceil a x.period ≤ div_ceil b x.period = ceil-mono a b x.period ok.0 le in
-    let each : x.bits * (div_ceil a x.period + x.spread) ≤ x.bits * (div_ceil b x.period + x.spread) = mul-le-mul_left x.bits (omega arith) in
-    let all : (div_ceil a x.period + x.spread) * x.bits ≤ (div_ceil b x.period + x.spread) * x.bits = omega arith in
+    let more : div_ceil (a + x.late) x.period ≤ div_ceil (b + x.late) x.period = ceil-mono (a + x.late) (b + x.late) x.period ok.0 (omega arith) in
+    let each : x.bits * div_ceil (a + x.late) x.period ≤ x.bits * div_ceil (b + x.late) x.period = mul-le-mul_left x.bits more in
+    let all : div_ceil (a + x.late) x.period * x.bits ≤ div_ceil (b + x.late) x.period * x.bits = omega arith in
     mul-le-mul_left x.frames all
 
 shares-mono : (a b : ℕ) (xs : List Stream) → a ≤ b → All IsStream xs → sum_by (share a) xs ≤ sum_by (share b) xs
@@ -53,9 +53,9 @@ shares-mono a b (x ∷ xs) le all =
     let rest : sum_by (share a) xs ≤ sum_by (share b) xs = shares-mono a b xs le (All-tail IsStream x xs all) in
     omega arith)
 
-pub shares-small : (span : ℕ) (xs : List Stream) → span < 2 ^ 32 → All IsStream xs → length xs ≤ 1024 → sum_by (share span) xs ≤ 2 ^ 63
+pub shares-small : (span : ℕ) (xs : List Stream) → span < 2 ^ 32 → All IsStream xs → length xs ≤ 2048 → sum_by (share span) xs ≤ 2 ^ 63
 shares-small span xs small all few =
-    let most : sum_by (share span) xs ≤ length xs * 2 ^ 53 = sum_by-le (share span) (2 ^ 53) xs (λ k d inside. share-small span _ small (all k d inside)) in
+    let most : sum_by (share span) xs ≤ length xs * 2 ^ 51 = sum_by-le (share span) (2 ^ 51) xs (λ k d inside. share-small span _ small (all k d inside)) in
     omega arith
 
 -- where a wait has no room and all shorter ones have none, none up to what it needs has

@@ -7,8 +7,9 @@ use Rattle.std.proofs.lemmas.Grind.{div_ceil_times}
 use Rattle.j39_timing.specs.Sums.{total}
 use Rattle.j39_timing.specs.Schedule.{Schedule, IsLegal, demand}
 use Rattle.j39_timing.specs.Streams.{Streams, Origins, AreOfStreams}
-use Rattle.j39_timing.specs.Traffic.{Traffic, Others, IsPlannedTraffic, IsSingle, HasRoom, IsStreamInTime, PlannedFramesWait}
+use Rattle.j39_timing.specs.Traffic.{Traffic, Others, IsPlannedTraffic, IsSingle, HasRoom, IsStreamInTime, PlannedFramesWait, AreQueuedBehind, AreSteady, delay_of}
 use Rattle.j39_timing.specs.Traffic.{may_go_before, others_before, others_queued, is_other_queued}
+use Rattle.j39_timing.specs.Messages.{AreSentWithin}
 use Rattle.j39_timing.specs.Waits.{share}
 use Rattle.j39_timing.proofs.StreamSums.{all_streams, windows_sum}
 use Rattle.j39_timing.proofs.Sums.{total-le, total-none, total-two}
@@ -74,8 +75,7 @@ too_many k longest wait count shares planned others has most times room =
 
 module _ (s : Schedule) (traffic : Traffic) (others : Others) (longest : ℕ) (planned : ℕ → Bool) (of : Origins) (legal : IsLegal s)
     (i wait : ℕ) (known : IsPlannedTraffic s traffic others longest planned of i)
-    (positive : (j : ℕ) → j < traffic.count → 0 < (traffic.stream j).period) (single : IsSingle (traffic.stream i)) (room : HasRoom traffic others longest i wait)
-    (fits : wait + (traffic.stream i).bits ≤ (traffic.stream i).period) where
+    (positive : (j : ℕ) → j < traffic.count → 0 < (traffic.stream j).period) (room : HasRoom traffic others longest i wait) where
   abbrev own : ℕ → Bool
   own p = planned p && eqb (of.source p) i
 
@@ -84,28 +84,6 @@ module _ (s : Schedule) (traffic : Traffic) (others : Others) (longest : ℕ) (p
 
   own_parts : (p : ℕ) → own p ≡ true → (planned p ≡ true) × (of.source p ≡ i)
   own_parts p is = let two = and_parts (planned p) (eqb (of.source p) i) is in (two.0, eqb-true (of.source p) i two.1)
-
-  -- frames of the stream are queued a period apart
-  apart : (p q : ℕ) → p < s.count → q < s.count → p ≢ q → own p ≡ true → own q ≡ true
-      → (s.queued p + (traffic.stream i).period ≤ s.queued q) ⊎ (s.queued q + (traffic.stream i).period ≤ s.queued p)
-  apart p q in_p in_q differ is_p is_q =
-      let (planned_p, of_p) = own_parts p is_p in
-      let (planned_q, of_q) = own_parts q is_q in
-      let first_p : of.turn p < 1 = subst (λ n. of.turn p < n) (ap (λ j. (traffic.stream j).frames) of_p ∙ single.0) (known.turns p in_p planned_p) in
-      let first_q : of.turn q < 1 = subst (λ n. of.turn q < n) (ap (λ j. (traffic.stream j).frames) of_q ∙ single.0) (known.turns q in_q planned_q) in
-      let since_p : of.since p ≤ s.queued p = known.message_first p in_p planned_p in
-      let since_q : of.since q ≤ s.queued q = known.message_first q in_q planned_q in
-      let at_p : s.queued p ≤ of.since p + 0 * (traffic.stream (of.source p)).period =
-      subst (λ n. s.queued p ≤ of.since p + n * (traffic.stream (of.source p)).period) (ap (λ j. (traffic.stream j).spread) of_p ∙ single.1)
-      (known.spread_at_most p in_p planned_p) in
-      let at_q : s.queued q ≤ of.since q + 0 * (traffic.stream (of.source q)).period =
-      subst (λ n. s.queued q ≤ of.since q + n * (traffic.stream (of.source q)).period) (ap (λ j. (traffic.stream j).spread) of_q ∙ single.1)
-      (known.spread_at_most q in_q planned_q) in
-      let period : (traffic.stream (of.source p)).period ≡ (traffic.stream i).period = ap (λ j. (traffic.stream j).period) of_p in
-      elim (known.spaced p q in_p in_q differ planned_p planned_q (of_p ∙ sym of_q) (omega arith)) [
-        | inl before ↦ inl (omega arith)
-        | inr after ↦ inr (omega arith)
-      ]
 
   abbrev count : ℕ
   count = others_before others (traffic.greatest i)
@@ -157,11 +135,11 @@ module _ (s : Schedule) (traffic : Traffic) (others : Others) (longest : ℕ) (p
       frames = λ j. cond (may_go_before traffic i j) (traffic.stream j).frames 0;
       period = λ j. (traffic.stream j).period;
       bits = λ j. (traffic.stream j).bits;
-      spread = λ j. (traffic.stream j).spread;
+      late = λ j. (traffic.stream j).late;
     }
 
     abbrev slots : ℕ → ℕ
-    slots j = div_ceil (wait + 1) (traffic.stream j).period + (traffic.stream j).spread
+    slots j = div_ceil (wait + 1 + (traffic.stream j).late) (traffic.stream j).period
 
     of_streams : AreOfStreams others_only c before of
     of_streams = record {
@@ -170,8 +148,8 @@ module _ (s : Schedule) (traffic : Traffic) (others : Others) (longest : ℕ) (p
       turns = λ p in_p less.
           let (is, differ, below) = foreign_parts p less in
           subst (λ (b : Bool). of.turn p < cond b (traffic.stream (of.source p)).frames 0) (sym (goes p in_p is differ below)) (known.turns p in_p is);
-      message_first = λ p in_p less. known.message_first p in_p (foreign_parts p less).0;
-      spread_at_most = λ p in_p less. known.spread_at_most p in_p (foreign_parts p less).0;
+      moment_first = λ p in_p less. known.moment_first p in_p (foreign_parts p less).0;
+      late_at_most = λ p in_p less. known.late_at_most p in_p (foreign_parts p less).0;
       spaced = λ p q in_p in_q differ less_p less_q same turn.
           known.spaced p q in_p in_q differ (foreign_parts p less_p).0 (foreign_parts q less_q).0 same turn;
     }
@@ -181,8 +159,8 @@ module _ (s : Schedule) (traffic : Traffic) (others : Others) (longest : ℕ) (p
 
     window : (t : ℕ) → demand others_only c t (wait + 1) ≤ shares
     window t =
-        let cover : (j : ℕ) → j < traffic.count → wait + 1 + (traffic.stream j).spread * (traffic.stream j).period ≤ slots j * (traffic.stream j).period = λ j below.
-        let enough = (div_ceil_times (wait + 1) (traffic.stream j).period (positive j below)).0 in omega arith in
+        let cover : (j : ℕ) → j < traffic.count → wait + 1 + (traffic.stream j).late ≤ slots j * (traffic.stream j).period = λ j below.
+        (div_ceil_times (wait + 1 + (traffic.stream j).late) (traffic.stream j).period (positive j below)).0 in
         let most : demand others_only c t (wait + 1) ≤ total traffic.count (λ j. before.frames j * (slots j * before.bits j)) =
         all_streams others_only c before of of_streams t (wait + 1) slots cover in
         let same : total traffic.count (λ j. before.frames j * (slots j * before.bits j)) ≤ shares =
@@ -195,103 +173,7 @@ module _ (s : Schedule) (traffic : Traffic) (others : Others) (longest : ℕ) (p
         ]) in
         omega arith
 
-  -- ---- one frame
-
-  module _ (x : ℕ) (in_x : x < s.count) (is_x : own x ≡ true) (begin : ℕ) (early : begin ≤ s.queued x) where
-    abbrev c : ℕ
-    c = s.ident x
-
-    low : c ≤ traffic.greatest i
-    low = let (is, same) = own_parts x is_x in known.to_greatest x in_x is same
-
-    -- how many periods it is queued behind the beginning
-    abbrev k : ℕ
-    k = (s.queued x - begin) / (traffic.stream i).period
-
-    long : 1 ≤ (traffic.stream i).bits
-    long =
-        let (is, same) = own_parts x is_x in
-        let most : s.bits x ≤ (traffic.stream (of.source x)).bits = known.bits_at_most x in_x is in
-        let bits : (traffic.stream (of.source x)).bits ≡ (traffic.stream i).bits = ap (λ j. (traffic.stream j).bits) same in
-        let some : 1 ≤ s.bits x = legal.positive x in_x in
-        omega arith
-
-    periods_before : k * (traffic.stream i).period ≤ s.queued x - begin
-    periods_before = div-mul-le_self (s.queued x - begin) (traffic.stream i).period
-
-    no_more : s.queued x - begin < k * (traffic.stream i).period + (traffic.stream i).period
-    no_more = lt-div-mul-add (omega (arith, long, fits))
-
-    -- so many windows end before it should have begun
-    windows : begin + suc k * (wait + 1) ≤ s.queued x + (wait + 1)
-    windows =
-        let some = long in
-        let each : k * (wait + 1) ≤ k * (traffic.stream i).period = mul-le-mul_left k (omega arith) in
-        let before = periods_before in
-        omega arith
-
-    -- a frame of the stream in these windows, with a smaller identifier, is queued in the periods before
-    own_before : (p : ℕ) → p < s.count → own p ≡ true → s.ident p < c → is_within s begin (suc k * (wait + 1)) p ≡ true
-        → is_within s begin (k * (traffic.stream i).period) p ≡ true
-    own_before p in_p is less inside =
-        let two = and_parts (leb begin (s.queued p)) (ltb (s.queued p) (begin + suc k * (wait + 1))) inside in
-        let from : begin ≤ s.queued p = leb-true begin (s.queued p) two.0 in
-        let to : s.queued p < begin + suc k * (wait + 1) = ltb-true (s.queued p) (begin + suc k * (wait + 1)) two.1 in
-        let end = windows in
-        let some = long in
-        let after = no_more in
-        let differ : p ≢ x = λ same. absurd (let at : s.ident p ≡ s.ident x = ap s.ident same in omega arith) in
-        let behind : s.queued p + (traffic.stream i).period ≤ s.queued x = elim (apart p x in_p in_x differ is is_x) [
-          | inl earlier ↦ earlier
-          | inr later ↦ absurd (omega arith)
-        ] in
-        and_from (leb begin (s.queued p)) (ltb (s.queued p) (begin + k * (traffic.stream i).period)) two.0
-        (lt-ltb (s.queued p) (begin + k * (traffic.stream i).period) (omega arith))
-
-    own_demand : total s.count (λ p. cond (own p && is_within s begin (k * (traffic.stream i).period) p) (s.bits p) 0) ≤ k * longest
-    own_demand = windows_sum s.count own s.queued s.bits (traffic.stream i).period longest (λ p in_p is. known.longest_at_most p in_p)
-        (λ p q in_p in_q differ is_p is_q. apart p q in_p in_q differ is_p is_q) k begin (k * (traffic.stream i).period) (omega arith)
-
-    -- all that is planned and counts is of the stream or of another
-    all_planned : planned_demand s planned c begin (suc k * (wait + 1)) ≤ k * longest + suc k * shares c low
-    all_planned =
-        let two : planned_demand s planned c begin (suc k * (wait + 1))
-        ≤ total s.count (λ p. cond (own p && is_within s begin (k * (traffic.stream i).period) p) (s.bits p) 0)
-        + demand (others_only c low) c begin (suc k * (wait + 1)) =
-        total-two s.count (λ p. cond (is_planned_within s planned c begin (suc k * (wait + 1)) p) (s.bits p) 0)
-        (λ p. cond (own p && is_within s begin (k * (traffic.stream i).period) p) (s.bits p) 0)
-        (λ p. cond (ltb ((others_only c low).ident p) c && is_within s begin (suc k * (wait + 1)) p) (s.bits p) 0) (λ p in_p.
-        elim (cases_Bool (is_planned_within s planned c begin (suc k * (wait + 1)) p)) [
-          | inr fails ↦ rw (fails) (omega arith)
-          | inl is ↦
-              let one = and_parts (planned p) (ltb (s.ident p) c && is_within s begin (suc k * (wait + 1)) p) is in
-              let rest = and_parts (ltb (s.ident p) c) (is_within s begin (suc k * (wait + 1)) p) one.1 in
-              let less : s.ident p < c = ltb-true (s.ident p) c rest.0 in
-              elim (cases_Bool (eqb (of.source p) i)) [
-                | inl same ↦
-                    let mine : own p ≡ true = and_from (planned p) (eqb (of.source p) i) one.0 same in
-                    let here : (own p && is_within s begin (k * (traffic.stream i).period) p) ≡ true =
-                    and_from (own p) (is_within s begin (k * (traffic.stream i).period) p) mine (own_before p in_p mine less rest.1) in
-                    rw (is, here) (omega arith)
-                | inr other ↦
-                    let its : foreign c low p ≡ true = and_from (planned p) (not (eqb (of.source p) i)) one.0 (ap not other) in
-                    let below : ltb ((others_only c low).ident p) c ≡ true = ap (λ (b : Bool). ltb (cond b (s.ident p) c) c) its ∙ rest.0 in
-                    let there : (ltb ((others_only c low).ident p) c && is_within s begin (suc k * (wait + 1)) p) ≡ true =
-                    and_from (ltb ((others_only c low).ident p) c) (is_within s begin (suc k * (wait + 1)) p) below rest.1 in
-                    rw (is, there) (omega arith)
-              ]
-        ]) in
-        let mine = own_demand in
-        let theirs : demand (others_only c low) c begin (suc k * (wait + 1)) ≤ suc k * shares c low =
-        demand-windows (others_only c low) c (wait + 1) (shares c low) (window c low) (suc k) begin in
-        omega arith
-
-    -- the windows can't be as full as that
-    too_full : IsBusyFrom s planned longest c (s.queued x) wait begin → others_queued s planned c begin (s.queued x + wait) ≤ count → ⊥
-    too_full is_busy fewer =
-        too_many k longest wait count (shares c low) (planned_demand s planned c begin (suc k * (wait + 1)))
-        (longest * others_queued s planned c begin (s.queued x + wait)) (is_busy.busy (suc k * (wait + 1)) windows) all_planned
-        (mul-le-mul_left longest fewer) room
+  -- ---- what isn't planned
 
   few : (x begin : ℕ) → x < s.count → own x ≡ true → s.queued x + wait < s.now → 1 ≤ wait → s.queued x + wait < s.start x
       → PlannedFramesWait s planned (s.ident x) begin (s.queued x + wait)
@@ -305,7 +187,7 @@ module _ (s : Schedule) (traffic : Traffic) (others : Others) (longest : ℕ) (p
           | inl above ↦ above
           | inr below ↦ absurd (both_ways (leb others.least (traffic.greatest i)) cannot (le-leb others.least (traffic.greatest i) below))
         ] in
-        let greatest : s.ident x ≤ traffic.greatest i = low x in_x is_x 0 (omega arith) in
+        let greatest : s.ident x ≤ traffic.greatest i = known.to_greatest x in_x (own_parts x is_x).0 (own_parts x is_x).1 in
         let none : others_queued s planned (s.ident x) begin (s.queued x + wait) ≡ 0 =
         total-none s.count (λ p. cond (is_other_queued s planned (s.ident x) begin (s.queued x + wait) p) 1 0) (λ p in_p.
         elim (cases_Bool (is_other_queued s planned (s.ident x) begin (s.queued x + wait) p)) [
@@ -324,35 +206,244 @@ module _ (s : Schedule) (traffic : Traffic) (others : Others) (longest : ℕ) (p
         rw (none) (omega arith)
   ]
 
-  -- frames of the stream that are queued before n begin in time
-  in_time_below : (n p : ℕ) → s.queued p < n → p < s.count → own p ≡ true → s.queued p + wait < s.now → s.start p ≤ s.queued p + wait
-  in_time_below zero p early in_p is seen = absurd (omega arith)
-  in_time_below (suc n) p early in_p is seen = elim (cases_lt (s.queued p + wait) (s.start p)) [
-    | inr in_time ↦ in_time
-    | inl late ↦
-        let (is_planned, same) = own_parts p is in
-        let size : s.bits p ≤ longest = known.longest_at_most p in_p in
-        let positive : 1 ≤ s.bits p = legal.positive p in_p in
-        let bits : 1 ≤ (traffic.stream i).bits = long p in_p is 0 (omega arith) in
-        let alone : (q : ℕ) → q < s.count → q ≢ p → s.ident q ≡ s.ident p → s.queued p < s.start q → s.start q ≤ s.queued p + wait → ⊥ = λ q in_q differ equal after within.
-        let first : s.queued q ≤ s.start q = legal.queued_first q in_q in
-        let its = known.own_identifier p q (s.start q) in_p in_q (omega arith) is_planned same (omega arith, omega arith) (first, omega arith) (sym equal) in
-        let own_q : own q ≡ true = own_from q its.0 (sym its.1 ∙ same) in
-        elim (apart q p in_q in_p differ own_q is) [
-          | inl earlier ↦
-              let begun : s.start q ≤ s.queued q + wait = in_time_below n q (omega arith) in_q own_q (omega arith) in
-              absurd (omega arith)
-          | inr later ↦ absurd (omega arith)
-        ] in
-        let (begin, is_busy) = busy_from s planned longest wait legal known.longest_at_most p in_p is_planned seen late alone in
-        let before : begin ≤ s.queued p = is_busy.before in
-        absurd (too_full p in_p is begin before is_busy
-        (few p begin in_p is seen (omega arith) late is_busy.waiting))
-  ]
+  -- ---- single frames whose moments are a period apart
 
-  pub stream_in_time : IsStreamInTime s planned of i (traffic.stream i).bits wait
-  stream_in_time p in_p is same seen =
-      let begins : s.start p ≤ s.queued p + wait = in_time_below (s.queued p + 1) p (omega arith) in_p (own_from p is same) seen in
-      let most : s.bits p ≤ (traffic.stream (of.source p)).bits = known.bits_at_most p in_p is in
-      let bits : (traffic.stream (of.source p)).bits ≡ (traffic.stream i).bits = ap (λ j. (traffic.stream j).bits) same in
-      (begins, omega arith)
+  module _ (single : IsSingle (traffic.stream i)) (fits : delay_of (traffic.stream i) wait ≤ (traffic.stream i).period) where
+    -- frames of the stream are queued as far apart as their moments, but for how late they may be
+    abbrev distance : ℕ
+    distance = (traffic.stream i).period - (traffic.stream i).late
+
+    apart : (p q : ℕ) → p < s.count → q < s.count → p ≢ q → own p ≡ true → own q ≡ true
+        → (s.queued p + distance ≤ s.queued q) ⊎ (s.queued q + distance ≤ s.queued p)
+    apart p q in_p in_q differ is_p is_q =
+        let (planned_p, of_p) = own_parts p is_p in
+        let (planned_q, of_q) = own_parts q is_q in
+        let first_p : of.turn p < 1 = subst (λ n. of.turn p < n) (ap (λ j. (traffic.stream j).frames) of_p ∙ single) (known.turns p in_p planned_p) in
+        let first_q : of.turn q < 1 = subst (λ n. of.turn q < n) (ap (λ j. (traffic.stream j).frames) of_q ∙ single) (known.turns q in_q planned_q) in
+        let since_p : of.since p ≤ s.queued p = known.moment_first p in_p planned_p in
+        let since_q : of.since q ≤ s.queued q = known.moment_first q in_q planned_q in
+        let at_p : s.queued p ≤ of.since p + (traffic.stream i).late =
+        subst (λ j. s.queued p ≤ of.since p + (traffic.stream j).late) of_p (known.late_at_most p in_p planned_p) in
+        let at_q : s.queued q ≤ of.since q + (traffic.stream i).late =
+        subst (λ j. s.queued q ≤ of.since q + (traffic.stream j).late) of_q (known.late_at_most q in_q planned_q) in
+        let period : (traffic.stream (of.source p)).period ≡ (traffic.stream i).period = ap (λ j. (traffic.stream j).period) of_p in
+        elim (known.spaced p q in_p in_q differ planned_p planned_q (of_p ∙ sym of_q) (omega arith)) [
+          | inl before ↦ inl (omega arith)
+          | inr after ↦ inr (omega arith)
+        ]
+
+    -- one frame
+
+    module _ (x : ℕ) (in_x : x < s.count) (is_x : own x ≡ true) (begin : ℕ) (early : begin ≤ s.queued x) where
+      abbrev c : ℕ
+      c = s.ident x
+
+      low : c ≤ traffic.greatest i
+      low = let (is, same) = own_parts x is_x in known.to_greatest x in_x is same
+
+      -- how many times their distance it is queued behind the beginning
+      abbrev k : ℕ
+      k = (s.queued x - begin) / distance
+
+      long : 1 ≤ (traffic.stream i).bits
+      long =
+          let (is, same) = own_parts x is_x in
+          let most : s.bits x ≤ (traffic.stream (of.source x)).bits = known.bits_at_most x in_x is in
+          let bits : (traffic.stream (of.source x)).bits ≡ (traffic.stream i).bits = ap (λ j. (traffic.stream j).bits) same in
+          let some : 1 ≤ s.bits x = legal.positive x in_x in
+          omega arith
+
+      before_it : k * distance ≤ s.queued x - begin
+      before_it = div-mul-le_self (s.queued x - begin) distance
+
+      no_more : s.queued x - begin < k * distance + distance
+      no_more = lt-div-mul-add (omega (arith, long, fits))
+
+      -- so many windows end before it should have begun
+      windows : begin + suc k * (wait + 1) ≤ s.queued x + (wait + 1)
+      windows =
+          let some = long in
+          let each : k * (wait + 1) ≤ k * distance = mul-le-mul_left k (omega arith) in
+          let before = before_it in
+          omega arith
+
+      -- a frame of the stream in these windows, with a smaller identifier, is queued in the stretches of this distance before
+      own_before : (p : ℕ) → p < s.count → own p ≡ true → s.ident p < c → is_within s begin (suc k * (wait + 1)) p ≡ true
+          → is_within s begin (k * distance) p ≡ true
+      own_before p in_p is less inside =
+          let two = and_parts (leb begin (s.queued p)) (ltb (s.queued p) (begin + suc k * (wait + 1))) inside in
+          let from : begin ≤ s.queued p = leb-true begin (s.queued p) two.0 in
+          let to : s.queued p < begin + suc k * (wait + 1) = ltb-true (s.queued p) (begin + suc k * (wait + 1)) two.1 in
+          let end = windows in
+          let some = long in
+          let after = no_more in
+          let differ : p ≢ x = λ same. absurd (let at : s.ident p ≡ s.ident x = ap s.ident same in omega arith) in
+          let behind : s.queued p + distance ≤ s.queued x = elim (apart p x in_p in_x differ is is_x) [
+            | inl earlier ↦ earlier
+            | inr later ↦ absurd (omega arith)
+          ] in
+          and_from (leb begin (s.queued p)) (ltb (s.queued p) (begin + k * distance)) two.0
+          (lt-ltb (s.queued p) (begin + k * distance) (omega arith))
+
+      own_demand : total s.count (λ p. cond (own p && is_within s begin (k * distance) p) (s.bits p) 0) ≤ k * longest
+      own_demand = windows_sum s.count own s.queued s.bits distance longest (λ p in_p is. known.longest_at_most p in_p)
+          (λ p q in_p in_q differ is_p is_q. apart p q in_p in_q differ is_p is_q) k begin (k * distance) (omega arith)
+
+      -- all that is planned and counts is of the stream or of another
+      all_planned : planned_demand s planned c begin (suc k * (wait + 1)) ≤ k * longest + suc k * shares c low
+      all_planned =
+          let two : planned_demand s planned c begin (suc k * (wait + 1))
+          ≤ total s.count (λ p. cond (own p && is_within s begin (k * distance) p) (s.bits p) 0)
+          + demand (others_only c low) c begin (suc k * (wait + 1)) =
+          total-two s.count (λ p. cond (is_planned_within s planned c begin (suc k * (wait + 1)) p) (s.bits p) 0)
+          (λ p. cond (own p && is_within s begin (k * distance) p) (s.bits p) 0)
+          (λ p. cond (ltb ((others_only c low).ident p) c && is_within s begin (suc k * (wait + 1)) p) (s.bits p) 0) (λ p in_p.
+          elim (cases_Bool (is_planned_within s planned c begin (suc k * (wait + 1)) p)) [
+            | inr fails ↦ rw (fails) (omega arith)
+            | inl is ↦
+                let one = and_parts (planned p) (ltb (s.ident p) c && is_within s begin (suc k * (wait + 1)) p) is in
+                let rest = and_parts (ltb (s.ident p) c) (is_within s begin (suc k * (wait + 1)) p) one.1 in
+                let less : s.ident p < c = ltb-true (s.ident p) c rest.0 in
+                elim (cases_Bool (eqb (of.source p) i)) [
+                  | inl same ↦
+                      let mine : own p ≡ true = and_from (planned p) (eqb (of.source p) i) one.0 same in
+                      let here : (own p && is_within s begin (k * distance) p) ≡ true =
+                      and_from (own p) (is_within s begin (k * distance) p) mine (own_before p in_p mine less rest.1) in
+                      rw (is, here) (omega arith)
+                  | inr other ↦
+                      let its : foreign c low p ≡ true = and_from (planned p) (not (eqb (of.source p) i)) one.0 (ap not other) in
+                      let below : ltb ((others_only c low).ident p) c ≡ true = ap (λ (b : Bool). ltb (cond b (s.ident p) c) c) its ∙ rest.0 in
+                      let there : (ltb ((others_only c low).ident p) c && is_within s begin (suc k * (wait + 1)) p) ≡ true =
+                      and_from (ltb ((others_only c low).ident p) c) (is_within s begin (suc k * (wait + 1)) p) below rest.1 in
+                      rw (is, there) (omega arith)
+                ]
+          ]) in
+          let mine = own_demand in
+          let theirs : demand (others_only c low) c begin (suc k * (wait + 1)) ≤ suc k * shares c low =
+          demand-windows (others_only c low) c (wait + 1) (shares c low) (window c low) (suc k) begin in
+          omega arith
+
+      -- the windows can't be as full as that
+      too_full : IsBusyFrom s planned longest c (s.queued x) wait begin → others_queued s planned c begin (s.queued x + wait) ≤ count → ⊥
+      too_full is_busy fewer =
+          too_many k longest wait count (shares c low) (planned_demand s planned c begin (suc k * (wait + 1)))
+          (longest * others_queued s planned c begin (s.queued x + wait)) (is_busy.busy (suc k * (wait + 1)) windows) all_planned
+          (mul-le-mul_left longest fewer) room
+
+    -- frames of the stream that are queued before n begin in time
+    in_time_below : (n p : ℕ) → s.queued p < n → p < s.count → own p ≡ true → s.queued p + wait < s.now → s.start p ≤ s.queued p + wait
+    in_time_below zero p early in_p is seen = absurd (omega arith)
+    in_time_below (suc n) p early in_p is seen = elim (cases_lt (s.queued p + wait) (s.start p)) [
+      | inr in_time ↦ in_time
+      | inl late ↦
+          let (is_planned, same) = own_parts p is in
+          let size : s.bits p ≤ longest = known.longest_at_most p in_p in
+          let positive : 1 ≤ s.bits p = legal.positive p in_p in
+          let bits : 1 ≤ (traffic.stream i).bits = long p in_p is 0 (omega arith) in
+          let alone : (q : ℕ) → q < s.count → q ≢ p → s.ident q ≡ s.ident p → s.queued p < s.start q → s.start q ≤ s.queued p + wait → ⊥ = λ q in_q differ equal after within.
+          let first : s.queued q ≤ s.start q = legal.queued_first q in_q in
+          let its = known.own_identifier p q (s.start q) in_p in_q (omega arith) is_planned same (omega arith, omega arith) (first, omega arith) (sym equal) in
+          let own_q : own q ≡ true = own_from q its.0 (sym its.1 ∙ same) in
+          elim (apart q p in_q in_p differ own_q is) [
+            | inl earlier ↦
+                let begun : s.start q ≤ s.queued q + wait = in_time_below n q (omega arith) in_q own_q (omega arith) in
+                absurd (omega arith)
+            | inr later ↦ absurd (omega arith)
+          ] in
+          let (begin, is_busy) = busy_from s planned longest wait legal known.longest_at_most p in_p is_planned seen late alone in
+          let before : begin ≤ s.queued p = is_busy.before in
+          absurd (too_full p in_p is begin before is_busy
+          (few p begin in_p is seen (omega arith) late is_busy.waiting))
+    ]
+
+    pub stream_in_time : IsStreamInTime s planned of i (traffic.stream i) wait
+    stream_in_time p in_p is same seen =
+        let late : s.queued p ≤ of.since p + (traffic.stream i).late =
+        subst (λ j. s.queued p ≤ of.since p + (traffic.stream j).late) same (known.late_at_most p in_p is) in
+        let begins : s.start p ≤ s.queued p + wait = in_time_below (s.queued p + 1) p (omega arith) in_p (own_from p is same) (omega arith) in
+        let most : s.bits p ≤ (traffic.stream i).bits = subst (λ j. s.bits p ≤ (traffic.stream j).bits) same (known.bits_at_most p in_p is) in
+        (begins, omega arith)
+
+  -- ---- frames of which each is queued behind the end of the one before
+
+  module _ (behind : AreQueuedBehind s planned of i) (steady : AreSteady s planned of i) where
+    module _ (x : ℕ) (in_x : x < s.count) (is_x : own x ≡ true) (late : s.queued x + wait < s.start x) (begin : ℕ) (early : begin ≤ s.queued x)
+        (stretch : PlannedFramesWait s planned (s.ident x) begin (s.queued x)) where
+      its_rank : s.ident x ≤ traffic.greatest i
+      its_rank = known.to_greatest x in_x (own_parts x is_x).0 (own_parts x is_x).1
+
+      -- none of the stream counts
+      none_before : (p : ℕ) → p < s.count → own p ≡ true → s.ident p < s.ident x → is_within s begin (wait + 1) p ≡ true → ⊥
+      none_before p in_p is less inside =
+          let two = and_parts (leb begin (s.queued p)) (ltb (s.queued p) (begin + (wait + 1))) inside in
+          let from : begin ≤ s.queued p = leb-true begin (s.queued p) two.0 in
+          let to : s.queued p < begin + (wait + 1) = ltb-true (s.queued p) (begin + (wait + 1)) two.1 in
+          let differ : p ≢ x = λ same. absurd (let at : s.ident p ≡ s.ident x = ap s.ident same in omega arith) in
+          let (of_plan, source) = own_parts p is in
+          let (x_of_plan, x_source) = own_parts x is_x in
+          elim (behind p x in_p in_x differ of_plan x_of_plan source x_source) [
+            | inl ended ↦
+                let first : s.queued p ≤ s.start p = legal.queued_first p in_p in
+                let same : s.ident p ≡ s.ident x = steady p x begin in_p in_x of_plan x_of_plan source x_source stretch from (omega arith) in
+                omega (arith, same)
+            | inr later ↦ omega arith
+          ]
+
+      planned_most : planned_demand s planned (s.ident x) begin (wait + 1) ≤ shares (s.ident x) its_rank
+      planned_most =
+          let theirs : demand (others_only (s.ident x) its_rank) (s.ident x) begin (wait + 1) ≤ shares (s.ident x) its_rank =
+          window (s.ident x) its_rank begin in
+          let all : planned_demand s planned (s.ident x) begin (wait + 1) ≤ demand (others_only (s.ident x) its_rank) (s.ident x) begin (wait + 1) =
+          total-le s.count (λ p. cond (is_planned_within s planned (s.ident x) begin (wait + 1) p) (s.bits p) 0)
+          (λ p. cond (ltb ((others_only (s.ident x) its_rank).ident p) (s.ident x) && is_within s begin (wait + 1) p) (s.bits p) 0) (λ p in_p.
+          elim (cases_Bool (is_planned_within s planned (s.ident x) begin (wait + 1) p)) [
+            | inr fails ↦ rw (fails) (omega arith)
+            | inl is ↦
+                let one = and_parts (planned p) (ltb (s.ident p) (s.ident x) && is_within s begin (wait + 1) p) is in
+                let rest = and_parts (ltb (s.ident p) (s.ident x)) (is_within s begin (wait + 1) p) one.1 in
+                let less : s.ident p < s.ident x = ltb-true (s.ident p) (s.ident x) rest.0 in
+                elim (cases_Bool (eqb (of.source p) i)) [
+                  | inl same ↦ absurd (none_before p in_p (and_from (planned p) (eqb (of.source p) i) one.0 same) less rest.1)
+                  | inr other ↦
+                      let its : foreign (s.ident x) its_rank p ≡ true = and_from (planned p) (not (eqb (of.source p) i)) one.0 (ap not other) in
+                      let below : ltb ((others_only (s.ident x) its_rank).ident p) (s.ident x) ≡ true =
+                      ap (λ (b : Bool). ltb (cond b (s.ident p) (s.ident x)) (s.ident x)) its ∙ rest.0 in
+                      let there : (ltb ((others_only (s.ident x) its_rank).ident p) (s.ident x) && is_within s begin (wait + 1) p) ≡ true =
+                      and_from (ltb ((others_only (s.ident x) its_rank).ident p) (s.ident x)) (is_within s begin (wait + 1) p) below rest.1 in
+                      rw (is, there) (omega arith)
+                ]
+          ]) in
+          omega arith
+
+      too_full_behind : IsBusyFrom s planned longest (s.ident x) (s.queued x) wait begin → others_queued s planned (s.ident x) begin (s.queued x + wait) ≤ count → ⊥
+      too_full_behind is_busy fewer =
+          too_many 0 longest wait count (shares (s.ident x) its_rank) (planned_demand s planned (s.ident x) begin (wait + 1))
+          (longest * others_queued s planned (s.ident x) begin (s.queued x + wait))
+          (let has = is_busy.busy (wait + 1) (omega arith) in omega arith) (let most = planned_most in omega arith)
+          (mul-le-mul_left longest fewer) room
+
+    begins_in_time : (x : ℕ) → x < s.count → own x ≡ true → s.queued x + wait < s.now → s.start x ≤ s.queued x + wait
+    begins_in_time x in_x is_x seen = elim (cases_lt (s.queued x + wait) (s.start x)) [
+      | inr in_time ↦ in_time
+      | inl late ↦
+          let (is_planned, same) = own_parts x is_x in
+          let size : s.bits x ≤ longest = known.longest_at_most x in_x in
+          let positive : 1 ≤ s.bits x = legal.positive x in_x in
+          let alone : (q : ℕ) → q < s.count → q ≢ x → s.ident q ≡ s.ident x → s.queued x < s.start q → s.start q ≤ s.queued x + wait → ⊥ = λ q in_q differ equal after within.
+          let first : s.queued q ≤ s.start q = legal.queued_first q in_q in
+          let its = known.own_identifier x q (s.start q) in_x in_q (omega arith) is_planned same (omega arith, omega arith) (first, omega arith) (sym equal) in
+          elim (behind q x in_q in_x differ its.0 is_planned (sym its.1 ∙ same) same) [
+            | inl ended ↦ absurd (let long : 1 ≤ s.bits q = legal.positive q in_q in omega arith)
+            | inr later ↦ absurd (omega arith)
+          ] in
+          let (begin, is_busy) = busy_from s planned longest wait legal known.longest_at_most x in_x is_planned seen late alone in
+          let before : begin ≤ s.queued x = is_busy.before in
+          absurd (too_full_behind x in_x is_x late begin before (λ t after within. is_busy.waiting t after (omega arith)) is_busy
+          (few x begin in_x is_x seen (omega arith) late is_busy.waiting))
+    ]
+
+    pub behind_in_time : AreSentWithin s planned of i (traffic.stream i) wait
+    behind_in_time p in_p is same seen =
+        let begins : s.start p ≤ s.queued p + wait = begins_in_time p in_p (own_from p is same) seen in
+        let most : s.bits p ≤ (traffic.stream i).bits = subst (λ j. s.bits p ≤ (traffic.stream j).bits) same (known.bits_at_most p in_p is) in
+        omega arith

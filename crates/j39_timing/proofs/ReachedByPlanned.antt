@@ -11,7 +11,7 @@ use Rattle.j39_timing.proofs.Sums.{total-none}
 abbrev one_stream : Traffic
 one_stream = record {
   count = 1;
-  stream = λ j. record { frames = 1; period = 1000; bits = 160; spread = 0 };
+  stream = λ j. record { frames = 1; period = 1000; bits = 160; late = 0 };
   least = λ j. 0;
   greatest = λ j. 0;
 }
@@ -42,8 +42,8 @@ two_planned = record {
   known = λ p _ _. omega arith;
   bits_at_most = λ p _ _. omega arith;
   turns = λ p _ _. omega arith;
-  message_first = λ p _ _. omega arith;
-  spread_at_most = λ p _ _. omega arith;
+  moment_first = λ p _ _. omega arith;
+  late_at_most = λ p _ _. omega arith;
   spaced = λ p q _ _ differ is_p is_q _ _.
       let p_is : p ≡ 1 = eqb-true p 1 is_p in
       let q_is : q ≡ 1 = eqb-true q 1 is_q in

@@ -117,7 +117,7 @@ module _ (s : Schedule) (c : ℕ) (streams : Streams) (of : Origins) (known : Ar
 
   -- how long after its message a frame of the stream is queued
   abbrev late : ℕ → ℕ
-  late j = streams.spread j * streams.period j
+  late j = streams.late j
 
   -- one turn of one stream, by the messages
   of_messages : (j i k t span : ℕ) → span ≤ k * streams.period j
@@ -158,9 +158,9 @@ module _ (s : Schedule) (c : ℕ) (streams : Streams) (of : Origins) (known : Ar
             let parts = and_parts (is_turn j i p) (inside t span (s.queued p)) is in
             let (low, high) = inside_parts t span (s.queued p) parts.1 in
             let two = and_parts (ltb (s.ident p) c) (eqb (of.source p) j) (and_parts (is_of j p) (eqb (of.turn p) i) parts.0).0 in
-            let first : of.since p ≤ s.queued p = known.message_first p in_p (ltb-true (s.ident p) c two.0) in
+            let first : of.since p ≤ s.queued p = known.moment_first p in_p (ltb-true (s.ident p) c two.0) in
             let last : s.queued p ≤ of.since p + late j = subst (λ i. s.queued p ≤ of.since p + late i) (eqb-true (of.source p) j two.1)
-            (known.spread_at_most p in_p (ltb-true (s.ident p) c two.0)) in
+            (known.late_at_most p in_p (ltb-true (s.ident p) c two.0)) in
             let there : (is_turn j i p && inside t (span + late j) (of.since p + late j)) ≡ true =
             and_from (is_turn j i p) (inside t (span + late j) (of.since p + late j)) parts.0
             (inside_from t (span + late j) (of.since p + late j) (omega arith) (omega arith)) in

@@ -12,3 +12,8 @@ trailer = 13
 -- with a stuff bit behind the first four bits and behind each four that follow
 abbrev pub longest_frame : ℕ → ℕ
 longest_frame bytes = stuffed bytes + (stuffed bytes - 1) / 4 + trailer
+
+-- an error flag, its echo, the delimiter, the intermission and the eight bits for which a sender that saw errors holds back (Tindell, Burns,
+-- Wellings, Control Engineering Practice 3, 1995)
+abbrev pub error_frame : ℕ
+error_frame = 6 + 6 + 8 + 3 + 8

@@ -1,7 +1,10 @@
 pub mod Sums
 pub mod FrameBits
 pub mod Schedule
+pub mod Errors
 pub mod Streams
 pub mod Waits
 pub mod Traffic
 pub mod Ages
+pub mod Messages
+pub mod Rounds

@@ -22,9 +22,9 @@ pub record Others : Type 0 where
   -- how many of them may go before a frame while it waits
   pub count : ℕ
 
--- each message of the stream is one frame, queued with it
+-- each message of the stream is one frame
 abbrev pub IsSingle : Stream → Type 0
-IsSingle stream = (stream.frames ≡ 1) × (stream.spread ≡ 0)
+IsSingle stream = stream.frames ≡ 1
 
 -- the frame is ready at bit t, and hasn't begun before it
 abbrev pub IsQueuedAt : Schedule → ℕ → ℕ → Type 0
@@ -54,11 +54,10 @@ pub record IsPlannedTraffic (s : Schedule) (traffic : Traffic) (others : Others)
   pub known : (p : ℕ) → p < s.count → planned p ≡ true → of.source p < traffic.count
   pub bits_at_most : (p : ℕ) → p < s.count → planned p ≡ true → s.bits p ≤ (traffic.stream (of.source p)).bits
   pub turns : (p : ℕ) → p < s.count → planned p ≡ true → of.turn p < (traffic.stream (of.source p)).frames
-  -- it is queued with its message, or so many periods behind it at most
-  pub message_first : (p : ℕ) → p < s.count → planned p ≡ true → of.since p ≤ s.queued p
-  pub spread_at_most : (p : ℕ) → p < s.count → planned p ≡ true
-      → s.queued p ≤ of.since p + (traffic.stream (of.source p)).spread * (traffic.stream (of.source p)).period
-  -- two messages of a stream are a period apart: so are two frames that have one turn in them
+  -- it is queued at the moment of its message, or so many bits behind it at most
+  pub moment_first : (p : ℕ) → p < s.count → planned p ≡ true → of.since p ≤ s.queued p
+  pub late_at_most : (p : ℕ) → p < s.count → planned p ≡ true → s.queued p ≤ of.since p + (traffic.stream (of.source p)).late
+  -- the moments of two messages of a stream are a period apart: so are those of two frames that have one turn in them
   pub spaced : (p q : ℕ) → p < s.count → q < s.count → p ≢ q → planned p ≡ true → planned q ≡ true → of.source p ≡ of.source q
       → of.turn p ≡ of.turn q
       → (of.since p + (traffic.stream (of.source p)).period ≤ of.since q) ⊎ (of.since q + (traffic.stream (of.source p)).period ≤ of.since p)
@@ -90,7 +89,22 @@ HasRoom traffic others longest i wait =
     longest * (1 + others_before others (traffic.greatest i))
     + total traffic.count (λ j. cond (may_go_before traffic i j) (share (wait + 1) (traffic.stream j)) 0) ≤ wait
 
--- each frame of the stream begins in time, and so ends in time
-abbrev pub IsStreamInTime : Schedule → (ℕ → Bool) → Origins → ℕ → ℕ → ℕ → Type 0
-IsStreamInTime s planned of i bits wait = (p : ℕ) → p < s.count → planned p ≡ true → of.source p ≡ i → s.queued p + wait < s.now
-    → (s.start p ≤ s.queued p + wait) × (s.start p + s.bits p ≤ s.queued p + (wait + bits))
+-- how many bits behind its moment a frame of the stream has been sent at most, where it waits for so many
+abbrev pub delay_of : Stream → ℕ → ℕ
+delay_of stream wait = stream.late + (wait + stream.bits)
+
+-- each frame of the stream begins in time, and so has been sent in time
+abbrev pub IsStreamInTime : Schedule → (ℕ → Bool) → Origins → ℕ → Stream → ℕ → Type 0
+IsStreamInTime s planned of i stream wait = (p : ℕ) → p < s.count → planned p ≡ true → of.source p ≡ i → of.since p + (stream.late + wait) < s.now
+    → (s.start p ≤ s.queued p + wait) × (s.start p + s.bits p ≤ of.since p + delay_of stream wait)
+
+-- of two frames of the stream each is queued behind the end of the other, or the other way round
+abbrev pub AreQueuedBehind : Schedule → (ℕ → Bool) → Origins → ℕ → Type 0
+AreQueuedBehind s planned of i = (p q : ℕ) → p < s.count → q < s.count → p ≢ q → planned p ≡ true → planned q ≡ true
+    → of.source p ≡ i → of.source q ≡ i → (s.start p + s.bits p ≤ s.queued q) ⊎ (s.start q + s.bits q ≤ s.queued p)
+
+-- from a bit on up to when a frame of the stream is queued planned frames wait, without a break, that may go before it: one of the stream that
+-- is queued in this time has its identifier
+abbrev pub AreSteady : Schedule → (ℕ → Bool) → Origins → ℕ → Type 0
+AreSteady s planned of i = (p q from : ℕ) → p < s.count → q < s.count → planned p ≡ true → planned q ≡ true → of.source p ≡ i → of.source q ≡ i
+    → PlannedFramesWait s planned (s.ident q) from (s.queued q) → from ≤ s.queued p → s.queued p ≤ s.queued q → s.ident p ≡ s.ident q

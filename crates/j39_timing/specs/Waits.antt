@@ -4,11 +4,11 @@ use Rattle.std.specs.Int.{div_ceil}
 use Rattle.j39_timing.specs.declared.stream.Stream.{Stream}
 
 abbrev pub IsStream : Stream → Type 0
-IsStream stream = (0 < stream.period) × (stream.bits ≤ 2 ^ 10) × (stream.frames ≤ 2 ^ 10) × (stream.spread < 2 ^ 8)
+IsStream stream = (0 < stream.period) × (stream.bits ≤ 2 ^ 8) × (stream.frames ≤ 2 ^ 10) × (stream.late < 2 ^ 31)
 
 -- the bits that a stream can queue in so many bits
 abbrev pub share : ℕ → Stream → ℕ
-share span stream = stream.frames * ((div_ceil span stream.period + stream.spread) * stream.bits)
+share span stream = stream.frames * (div_ceil (span + stream.late) stream.period * stream.bits)
 
 -- what a wait of w bits has to have room for: what is blocking, and all that can be queued in it and in the bit behind it
 abbrev pub need : ℕ → List Stream → ℕ → ℕ

@@ -1,12 +1,12 @@
 //! Messages that are queued again and again.
 
-/// Messages of at most `frames` frames, each of at most `bits` bits. No two messages are queued within `period` bits, which isn't 0,
-/// and each frame is queued within `spread` periods of its message: 0 where all are queued with it, 1 where a message of
-/// several frames has ended before the next one begins.
+/// Messages of at most `frames` frames, each of at most `bits` bits. The moments of two messages are at least `period` bits apart, which
+/// isn't 0, and each frame is queued at most `late` bits behind the moment of its message: 0 where all are queued with it, a period where
+/// a message of several frames has ended before the next one begins.
 #[derive(Clone, Copy, Debug, PartialEq, Eq)]
 pub struct Stream {
     pub frames: u16,
     pub period: u32,
     pub bits: u16,
-    pub spread: u8,
+    pub late: u32,
 }

@@ -9,7 +9,7 @@ fn queued_bits(stream: Stream, span: u32) -> u64
     requires positive { IsStream stream }
     ensures share { result ≡ share span stream }
 {
-    let messages = u64::from(span).div_ceil(u64::from(stream.period)) + u64::from(stream.spread);
+    let messages = (u64::from(span) + u64::from(stream.late)).div_ceil(u64::from(stream.period));
     let bits = messages * u64::from(stream.bits);
     u64::from(stream.frames) * bits
 }
@@ -17,7 +17,7 @@ fn queued_bits(stream: Stream, span: u32) -> u64
 /// The bits that the streams can queue in `span` bits.
 fn demand(streams: &[Stream], span: u32) -> u64
     requires positive { All IsStream streams.now }
-    requires few { length streams.now ≤ 1024 }
+    requires few { length streams.now ≤ 2048 }
     ensures sum { result ≡ sum_by (share span) streams.now }
     ensures small { result ≤ 2 ^ 63 }
 {
@@ -34,7 +34,7 @@ fn demand(streams: &[Stream], span: u32) -> u64
 /// With the bits of the frame itself it is the worst-case response time (Davis and others 2007).
 pub fn least_wait(blocking: u32, streams: &[Stream], most: u32) -> Option<u32>
     requires positive { All IsStream streams.now }
-    requires few { length streams.now ≤ 1024 }
+    requires few { length streams.now ≤ 2048 }
     requires within { most < 2 ^ 31 }
     ensures found { IfSome result (λ w. (w ≤ most) × (need blocking streams.now w ≤ w) × HaveNoRoom blocking streams.now w) }
     ensures none { result ≡ None → HaveNoRoom blocking streams.now (most + 1) }

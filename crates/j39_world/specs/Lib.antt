@@ -15,5 +15,6 @@ pub mod Leading
 pub mod Ending
 pub mod Conflict
 pub mod Arriving
+pub mod Needed
 pub mod SoundPlan
 pub mod Opening

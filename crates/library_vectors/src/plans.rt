@@ -177,12 +177,14 @@ fn a_network_is_read_whole(rt: HostRuntime) -> Result<(), Fail> {
         sender: 1,
         to: To::All,
         pace: None,
+        pause: None,
     };
     let to_one = FlowPlan {
         group: 0,
         sender: 0,
         to: To::One(1),
         pace: None,
+        pause: None,
     };
     assert!(rt; plan.flows.as_slice() == [to_all, to_one].as_slice());
     Ok(())

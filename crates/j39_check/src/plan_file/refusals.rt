@@ -13,6 +13,7 @@ fn write_table(text: &mut TextBuffer, table: Table) -> Result<(), AllocError>
     match table {
         Table::Top => text.word("top"),
         Table::Timing => text.word("timing"),
+        Table::TimingErrors => text.word("timing errors"),
         Table::Unit(unit) => text.place("unit ", unit),
         Table::UnitName(unit) => {
             text.place("unit ", unit)?;
@@ -28,6 +29,7 @@ fn write_table(text: &mut TextBuffer, table: Table) -> Result<(), AllocError>
             text.place(" text ", place)
         }
         Table::Flow(flow) => text.place("flow ", flow),
+        Table::Need(need) => text.place("need ", need),
     }
 }
 

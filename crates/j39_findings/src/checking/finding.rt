@@ -1,4 +1,5 @@
 //! What can be wrong with a plan.
+ghost use Rattle.std.specs.Prelude.{◌≡◌};
 
 /// One thing that is wrong with a plan, named by places from 0. Findings are in order by their number, then by their
 /// places.
@@ -37,6 +38,36 @@ pub enum Finding {
     /// F15: of a group, the text begins behind the byte after the last one of the shortest message, or ends behind the last byte of
     /// the longest.
     TextOutside(usize, usize),
+    /// F19: no flow brings the need's unit what it needs.
+    NeedUnmet(usize),
+}
+
+impl Finding {
+    ghost use Rattle.j39_findings.specs.Findings.{finding_number};
+
+    /// The number under which it is known, without the F.
+    pub fn number(&self) -> u8
+        ensures { result ≡ finding_number self.now }
+    {
+        match self {
+            Finding::SameName(..) => 1,
+            Finding::SameFixedAddress(..) => 2,
+            Finding::TooFewAddresses(_) => 3,
+            Finding::BadPgn(_) => 4,
+            Finding::SamePgn(..) => 5,
+            Finding::SignalWidth(..) => 6,
+            Finding::SignalOutside(..) => 7,
+            Finding::SignalOverlap(..) => 8,
+            Finding::FlowToOne(_) => 9,
+            Finding::FlowToSelf(_) => 10,
+            Finding::FlowRepeated(..) => 11,
+            Finding::KeptAddress(_) => 12,
+            Finding::PrivateUnsent(_) => 13,
+            Finding::RecordOverlap(..) => 14,
+            Finding::TextOutside(..) => 15,
+            Finding::NeedUnmet(_) => 19,
+        }
+    }
 }
 
 /// Everything that is wrong with a plan, in order.

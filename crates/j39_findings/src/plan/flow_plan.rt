@@ -1,4 +1,7 @@
 //! A flow of a plan.
+ghost use Rattle.std.specs.Prelude.{◌≤◌};
+ghost use Rattle.std.specs.Option.{ForSome};
+
 use super::{Pace, To};
 
 /// A flow: a group that a unit sends, by the places of both from 0, and how often, where that is known.
@@ -8,4 +11,7 @@ pub struct FlowPlan {
     pub sender: usize,
     pub to: To,
     pub pace: Option<Pace>,
+    /// In so many milliseconds at least one message of the flow has its moment, however they lie.
+    pub pause: Option<u16>,
+    pub ghost pause_positive: { ForSome pause (λ n. 1 ≤ n) },
 }

@@ -1,5 +1,5 @@
 //! The flows of a plan.
-ghost use Rattle.std.specs.Prelude.{◌≡◌, [], true, map, Some};
+ghost use Rattle.std.specs.Prelude.{◌≡◌, ◌≤◌, [], true, map, Some, IfOk, IfSome};
 ghost use Rattle.toml.specs.View.{table_view};
 ghost use Rattle.j39_plan.specs.Outcome.{Gives};
 ghost use Rattle.j39_plan.specs.TableFaults.{keys_faults, unknown_faults};
@@ -8,21 +8,37 @@ ghost use Rattle.j39_plan.specs.FlowTables as spec;
 use super::elements::ReadElement;
 use super::labels::{Labelled, place_of};
 use super::tables::{only, table_of};
-use super::values::{any_text, optional_number, refused, value_at};
+use super::values::{any_text, number, optional_number, refused, value_at};
 use super::{Cause, Key, PlanError, Table};
 use j39_findings::{FlowPlan, GroupPlan, Pace, To, UnitPlan};
 use std::alloc::Global;
 use toml::Value;
 
-const FLOW_KEYS: [Key; 3] = [Key::Group, Key::From, Key::To];
-
-// The most milliseconds of a period and of a deadline.
+// The most milliseconds of a period, a deadline, a jitter and a pause.
 const MS_MOST: u32 = 65_535;
+
+const FLOW_KEYS: [Key; 3] = [Key::Group, Key::From, Key::To];
 
 const THIRD_KEYS: [Key; 5] = [Key::Group, Key::From, Key::To, Key::Period, Key::Deadline];
 
+const FOURTH_KEYS: [Key; 7] = [
+    Key::Group,
+    Key::From,
+    Key::To,
+    Key::Period,
+    Key::Deadline,
+    Key::Jitter,
+    Key::Pause,
+];
+
+/// The place of the item that a text names.
 #[tactic(auto, unfolding(crate::specs::FlowTables::place_faults))]
-fn place<T: Labelled>(items: &[T], label: &str, table: Table, key: Key) -> Result<usize, PlanError>
+pub fn place<T: Labelled>(
+    items: &[T],
+    label: &str,
+    table: Table,
+    key: Key,
+) -> Result<usize, PlanError>
     ensures { Gives result (spec.place_faults table key (map T.label_bytes items.now) (Some label.now))
         (λ p. spec.place_of (map T.label_bytes items.now) label.now ≡ Some p) }
 {
@@ -54,51 +70,130 @@ fn to(units: &[UnitPlan], word: &str, table: Table) -> Result<To, PlanError>
     }
 }
 
-#[tactic(auto, unfolding(crate::specs::FlowTables::has_deadline))]
-fn has_deadline(members: &toml::Table) -> bool
-    ensures { result ≡ spec.has_deadline (table_view members.now) }
+#[tactic(auto, unfolding(crate::specs::FlowTables::has_key))]
+fn has_key(members: &toml::Table, key: Key) -> bool
+    ensures { result ≡ spec.has_key key (table_view members.now) }
 {
-    value_at(members, Key::Deadline).is_some()
+    value_at(members, key).is_some()
 }
 
-// How often a flow is sent, where its table tells it.
-#[tactic(auto, using(crate::proofs::FirstFaults::faults_after))]
-fn given_pace(members: &toml::Table, table: Table) -> Result<Option<Pace>, PlanError>
-    ensures { Gives result (keys_faults table (table_view members.now) (spec.pace_rules true (table_view members.now)))
-        (spec.TellsPace true (table_view members.now)) }
+// A number of milliseconds, in the type of a plan.
+fn milliseconds(given: Option<u32>) -> Option<u16>
+    requires { IfSome given (λ n. n ≤ 65535) }
+    ensures { result ≡ given }
 {
-    let asked = has_deadline(members);
+    match given {
+        Some(number) => Some(number as u16),
+        None => None,
+    }
+}
+
+// How far behind its moments a flow is sent, and for how long it is silent.
+#[derive(Clone, Copy)]
+struct LaterPace {
+    jitter: u32,
+    pause: Option<u32>,
+}
+
+// The same, by the period, where the version knows it.
+#[tactic(auto, using(crate::proofs::FirstFaults::faults_after))]
+fn later_pace(
+    members: &toml::Table,
+    table: Table,
+    fourth: bool,
+    period: Option<u32>,
+) -> Result<LaterPace, PlanError>
+    requires some { IfSome period (λ n. 1 ≤ n) }
+    requires few { IfSome period (λ n. n ≤ 65535) }
+    ensures gives { Gives result (keys_faults table (table_view members.now) (spec.later_pace_rules fourth period))
+        (λ later. (later.jitter ≡ spec.jitter_of fourth period (table_view members.now))
+        × (later.pause ≡ spec.pause_of fourth period (table_view members.now))) }
+    ensures below { IfOk result (λ later. later.jitter ≤ spec.jitter_most period) }
+    ensures some { IfOk result (λ later. IfSome later.pause (λ n. 1 ≤ n)) }
+    ensures few { IfOk result (λ later. IfSome later.pause (λ n. n ≤ 65535)) }
+{
+    if !fourth {
+        return Ok(LaterPace {
+            jitter: 0,
+            pause: None,
+        });
+    }
+    let (jitter_most, pause_least) = match period {
+        Some(period) => (period - 1, period),
+        None => (MS_MOST, 1),
+    };
+    let jitter = number(members, table, Key::Jitter, 0, jitter_most, Some(0))?;
+    let pause = optional_number(members, table, Key::Pause, pause_least, MS_MOST, false)?;
+    Ok(LaterPace { jitter, pause })
+}
+
+// How often a flow is sent, and for how long it is silent, where its table tells it.
+#[derive(Clone, Copy)]
+struct Rhythm {
+    pace: Option<Pace>,
+    pause: Option<u16>,
+}
+
+#[tactic(auto, using(crate::proofs::FirstFaults::faults_after))]
+fn given_rhythm(members: &toml::Table, table: Table, fourth: bool) -> Result<Rhythm, PlanError>
+    ensures { Gives result (keys_faults table (table_view members.now) (spec.pace_rules true fourth (table_view members.now)))
+        (λ rhythm. spec.TellsPace true fourth (table_view members.now) rhythm.pace
+        × (rhythm.pause ≡ spec.given_pause true fourth (table_view members.now))) }
+{
+    let asked = fourth && has_key(members, Key::Jitter) || has_key(members, Key::Deadline);
     let period = optional_number(members, table, Key::Period, 1, MS_MOST, asked)?;
     let deadline = optional_number(members, table, Key::Deadline, 1, MS_MOST, false)?;
-    Ok(match period {
+    let later = later_pace(members, table, fourth, period)?;
+    let pace = match period {
         None => None,
         Some(period) => Some(Pace {
             period: period as u16,
-            deadline: deadline.unwrap_or(period) as u16,
+            deadline: milliseconds(deadline),
+            jitter: later.jitter as u16,
         }),
+    };
+    Ok(Rhythm {
+        pace,
+        pause: milliseconds(later.pause),
     })
 }
 
 // The same, where the version knows it.
-fn pace(members: &toml::Table, table: Table, third: bool) -> Result<Option<Pace>, PlanError>
-    ensures { Gives result (keys_faults table (table_view members.now) (spec.pace_rules third (table_view members.now)))
-        (spec.TellsPace third (table_view members.now)) }
+fn known_rhythm(
+    members: &toml::Table,
+    table: Table,
+    third: bool,
+    fourth: bool,
+) -> Result<Rhythm, PlanError>
+    ensures { Gives result (keys_faults table (table_view members.now) (spec.pace_rules third fourth (table_view members.now)))
+        (λ rhythm. spec.TellsPace third fourth (table_view members.now) rhythm.pace
+        × (rhythm.pause ≡ spec.given_pause third fourth (table_view members.now))) }
 {
     if third {
-        given_pace(members, table)
+        given_rhythm(members, table, fourth)
     } else {
-        Ok(None)
+        Ok(Rhythm {
+            pace: None,
+            pause: None,
+        })
     }
 }
 
 // Refuses a key that the version doesn't know.
-fn only_known(members: &toml::Table, table: Table, third: bool) -> Result<(), PlanError>
-    ensures { Gives result (unknown_faults table (map (λ r. r.key) (spec.flow_rules third (table_view members.now))) (table_view members.now)) (λ _. Unit {0}) }
+fn only_known(
+    members: &toml::Table,
+    table: Table,
+    third: bool,
+    fourth: bool,
+) -> Result<(), PlanError>
+    ensures { Gives result (unknown_faults table (map (λ r. r.key) (spec.flow_rules third fourth (table_view members.now))) (table_view members.now)) (λ _. Unit {0}) }
 {
-    if third {
-        only(members, table, &THIRD_KEYS)
-    } else {
+    if !third {
         only(members, table, &FLOW_KEYS)
+    } else if fourth {
+        only(members, table, &FOURTH_KEYS)
+    } else {
+        only(members, table, &THIRD_KEYS)
     }
 }
 
@@ -106,6 +201,7 @@ fn only_known(members: &toml::Table, table: Table, third: bool) -> Result<(), Pl
 #[derive(Clone, Copy)]
 pub struct Flows<'a> {
     pub third: bool,
+    pub fourth: bool,
     pub groups: &'a [GroupPlan],
     pub units: &'a [UnitPlan],
 }
@@ -113,6 +209,7 @@ pub struct Flows<'a> {
 #[tactic(auto, using(crate::proofs::FirstFaults::faults_after), unfolding(crate::specs::FlowTables::flow_table_faults))]
 fn flow(
     third: bool,
+    fourth: bool,
     groups: &[GroupPlan],
     units: &[UnitPlan],
     index: usize,
@@ -120,15 +217,15 @@ fn flow(
 ) -> Result<FlowPlan, PlanError>
     ensures { let group_labels = map (λ g. g.label.bytes) groups.now in
         let unit_labels = map (λ u. u.label.bytes) units.now in
-        Gives result (spec.flow_table_faults third group_labels unit_labels index (table_view members.now))
-        (spec.TellsFlow third group_labels unit_labels (table_view members.now)) }
+        Gives result (spec.flow_table_faults third fourth group_labels unit_labels index (table_view members.now))
+        (spec.TellsFlow third fourth group_labels unit_labels (table_view members.now)) }
 {
     let table = Table::Flow(index);
-    only_known(members, table, third)?;
+    only_known(members, table, third, fourth)?;
     let group_text = any_text(members, table, Key::Group)?;
     let from_text = any_text(members, table, Key::From)?;
     let to_text = any_text(members, table, Key::To)?;
-    let pace = pace(members, table, third)?;
+    let rhythm = known_rhythm(members, table, third, fourth)?;
     let group = place(groups, group_text, table, Key::Group)?;
     let sender = place(units, from_text, table, Key::From)?;
     let to = to(units, to_text, table)?;
@@ -136,7 +233,8 @@ fn flow(
         group,
         sender,
         to,
-        pace,
+        pace: rhythm.pace,
+        pause: rhythm.pause,
     })
 }
 
@@ -149,11 +247,11 @@ impl ReadElement<FlowPlan> for Flows<'_> {
 
     ghost label_of = { no_label };
 
-    ghost faults = { λ r i seen. flow_faults r.third (map (λ g. g.label.bytes) r.groups.now) (map (λ u. u.label.bytes) r.units.now) i };
+    ghost faults = { λ r i seen. flow_faults r.third r.fourth (map (λ g. g.label.bytes) r.groups.now) (map (λ u. u.label.bytes) r.units.now) i };
 
     ghost Grows = { λ _. NeverGrows };
 
-    ghost Tells = { λ r. IsFlowOf r.third (map (λ g. g.label.bytes) r.groups.now) (map (λ u. u.label.bytes) r.units.now) };
+    ghost Tells = { λ r. IsFlowOf r.third r.fourth (map (λ g. g.label.bytes) r.groups.now) (map (λ u. u.label.bytes) r.units.now) };
 
     #[tactic(auto, using(crate::proofs::FirstFaults::faults_after), unfolding(crate::specs::FlowTables::flow_faults))]
     fn read(
@@ -165,6 +263,7 @@ impl ReadElement<FlowPlan> for Flows<'_> {
     ) -> Result<FlowPlan, PlanError> {
         flow(
             self.third,
+            self.fourth,
             self.groups,
             self.units,
             index,

@@ -1,12 +1,12 @@
 //! The head of a plan file: its version, and the addresses that it keeps free.
-ghost use Rattle.std.specs.Prelude.{◌≡◌, ◌∷◌, ◌++◌, ℕ, true, None, Some, map, IfOk, IfErr};
+ghost use Rattle.std.specs.Prelude.{◌≡◌, ◌∷◌, ◌++◌, ℕ, true, None, Some, map, false, IfOk, IfErr};
 ghost use Rattle.std.specs.FinSet.{empty, from_list, contains};
 ghost use Rattle.toml.specs.View.{view, table_view, items_view};
 ghost use Rattle.j39_id.specs.Addresses.{in_pool};
 ghost use Rattle.j39_plan.specs.declared.reading.place.Table.TheVariants as at;
 ghost use Rattle.j39_plan.specs.Schema.{addresses_of, number_in, numbers_in};
 ghost use Rattle.j39_plan.specs.TableFaults.{address_cause, addresses_cause, key_faults, unknown_faults};
-ghost use Rattle.j39_plan.specs.Faults.{may_keep, is_third, version_rule, keep_free_rule, array_rules, head_faults};
+ghost use Rattle.j39_plan.specs.Faults.{may_keep, knows_third, knows_fourth, version_rule, keep_free_rule, array_rules, head_faults};
 ghost use Rattle.j39_plan.specs.Described.{keep_free_of};
 ghost use Rattle.j39_plan.specs.Outcome.{Gives};
 
@@ -35,6 +35,16 @@ const THIRD_KEYS: [Key; 6] = [
     Key::Unit,
     Key::Group,
     Key::Flow,
+];
+
+const FOURTH_KEYS: [Key; 7] = [
+    Key::Version,
+    Key::KeepFree,
+    Key::Timing,
+    Key::Unit,
+    Key::Group,
+    Key::Flow,
+    Key::Need,
 ];
 
 /// The address that an element tells that stands behind those with the addresses seen.
@@ -102,7 +112,7 @@ fn keep_free(members: &toml::Table) -> Result<AddressSet, PlanError>
     }
 }
 
-/// Whether the version is the second or the third.
+/// Whether the version is the second, the third or the fourth.
 #[tactic(auto, unfolding(crate::specs::Faults::may_keep, crate::specs::Schema::number_of))]
 fn may_keep(members: &toml::Table) -> bool
     ensures { result ≡ may_keep (table_view members.now) }
@@ -111,21 +121,35 @@ fn may_keep(members: &toml::Table) -> bool
         None => false,
         Some(value) => match value.as_integer() {
             None => false,
-            Some(version) => version == 2 || version == 3,
+            Some(version) => version == 2 || version == 3 || version == 4,
         },
     }
 }
 
-/// Whether the version is the third.
-#[tactic(auto, unfolding(crate::specs::Faults::is_third, crate::specs::Schema::number_of))]
-pub fn is_third(members: &toml::Table) -> bool
-    ensures { result ≡ is_third (table_view members.now) }
+/// Whether the version is the third or the fourth.
+#[tactic(auto, unfolding(crate::specs::Faults::knows_third, crate::specs::Schema::number_of))]
+pub fn knows_third(members: &toml::Table) -> bool
+    ensures { result ≡ knows_third (table_view members.now) }
 {
     match value_at(members, Key::Version) {
         None => false,
         Some(value) => match value.as_integer() {
             None => false,
-            Some(version) => version == 3,
+            Some(version) => version == 3 || version == 4,
+        },
+    }
+}
+
+/// Whether the version is the fourth.
+#[tactic(auto, unfolding(crate::specs::Faults::knows_fourth, crate::specs::Schema::number_of))]
+pub fn knows_fourth(members: &toml::Table) -> bool
+    ensures { result ≡ knows_fourth (table_view members.now) }
+{
+    match value_at(members, Key::Version) {
+        None => false,
+        Some(value) => match value.as_integer() {
+            None => false,
+            Some(version) => version == 4,
         },
     }
 }
@@ -134,13 +158,13 @@ pub fn is_third(members: &toml::Table) -> bool
 #[tactic(auto, using(crate::proofs::FirstFaults::faults_after))]
 fn first_head(members: &toml::Table) -> Result<AddressSet, PlanError>
     ensures gives { Gives result
-        (unknown_faults at.Top (map (λ r. r.key) (version_rule ∷ array_rules)) (table_view members.now)
+        (unknown_faults at.Top (map (λ r. r.key) (version_rule ∷ array_rules false)) (table_view members.now)
         ++ key_faults at.Top (table_view members.now) version_rule)
         (λ s. s ≡ empty) }
     ensures range { IfOk result (λ s. (a : ℕ) → contains s a ≡ true → in_pool a ≡ true) }
 {
     only(members, Table::Top, &FIRST_KEYS)?;
-    number(members, Table::Top, Key::Version, 1, 3, None)?;
+    number(members, Table::Top, Key::Version, 1, 4, None)?;
     Ok(AddressSet::new())
 }
 
@@ -154,7 +178,7 @@ fn later_head(members: &toml::Table, keys: &[Key]) -> Result<AddressSet, PlanErr
     ensures range { IfOk result (λ s. (a : ℕ) → contains s a ≡ true → in_pool a ≡ true) }
 {
     only(members, Table::Top, keys)?;
-    number(members, Table::Top, Key::Version, 1, 3, None)?;
+    number(members, Table::Top, Key::Version, 1, 4, None)?;
     keep_free(members)
 }
 
@@ -163,7 +187,9 @@ pub fn head(members: &toml::Table) -> Result<AddressSet, PlanError>
     ensures gives { Gives result (head_faults (table_view members.now)) (λ s. s ≡ keep_free_of (table_view members.now)) }
     ensures range { IfOk result (λ s. (a : ℕ) → contains s a ≡ true → in_pool a ≡ true) }
 {
-    if is_third(members) {
+    if knows_fourth(members) {
+        later_head(members, &FOURTH_KEYS)
+    } else if knows_third(members) {
         later_head(members, &THIRD_KEYS)
     } else if may_keep(members) {
         later_head(members, &LATER_KEYS)

@@ -9,9 +9,16 @@ pub enum Key {
     Timing,
     Bitrate,
     Unplanned,
+    UnplannedPriority,
+    TransportPriority,
+    BroadcastGap,
+    BroadcastGapMost,
+    Errors,
+    Count,
     Unit,
     Group,
     Flow,
+    Need,
     Label,
     Address,
     Chooser,
@@ -47,6 +54,9 @@ pub enum Key {
     To,
     Period,
     Deadline,
+    Jitter,
+    Pause,
+    Within,
 }
 
 impl Key {
@@ -62,9 +72,16 @@ impl Key {
             Key::Timing => "timing",
             Key::Bitrate => "bitrate",
             Key::Unplanned => "unplanned",
+            Key::UnplannedPriority => "unplanned_priority",
+            Key::TransportPriority => "transport_priority",
+            Key::BroadcastGap => "broadcast_gap",
+            Key::BroadcastGapMost => "broadcast_gap_most",
+            Key::Errors => "errors",
+            Key::Count => "count",
             Key::Unit => "unit",
             Key::Group => "group",
             Key::Flow => "flow",
+            Key::Need => "need",
             Key::Label => "label",
             Key::Address => "address",
             Key::Chooser => "chooser",
@@ -100,6 +117,9 @@ impl Key {
             Key::To => "to",
             Key::Period => "period",
             Key::Deadline => "deadline",
+            Key::Jitter => "jitter",
+            Key::Pause => "pause",
+            Key::Within => "within",
         }
     }
 }

@@ -6,6 +6,8 @@ use super::Key;
 pub enum Table {
     Top,
     Timing,
+    /// How many frames are damaged at most.
+    TimingErrors,
     Unit(usize),
     /// The NAME of a unit.
     UnitName(usize),
@@ -15,6 +17,7 @@ pub enum Table {
     /// A text, behind the index of its group.
     Text(usize, usize),
     Flow(usize),
+    Need(usize),
 }
 
 /// A table, and the key of it that is at fault where there is one.

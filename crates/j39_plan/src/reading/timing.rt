@@ -1,60 +1,164 @@
 //! What a plan file tells of the bus itself.
-ghost use Rattle.std.specs.Prelude.{◌≡◌};
+ghost use Rattle.std.specs.Prelude.{◌≡◌, ◌≤◌, [], map, option_map, IfOk};
+ghost use Rattle.std.specs.Option.{option_map_or};
 ghost use Rattle.toml.specs.View.{table_view};
 ghost use Rattle.j39_plan.specs.declared.reading.place.Table.TheVariants as at;
 ghost use Rattle.j39_plan.specs.Schema as schema;
-ghost use Rattle.j39_plan.specs.TableFaults.{key_faults};
-ghost use Rattle.j39_plan.specs.TimingTables.{TellsBus, TellsTiming, bitrate_of, bitrate_rule, timing_table_faults};
-ghost use Rattle.j39_plan.specs.Faults.{is_third, timing_faults, timing_table};
+ghost use Rattle.j39_plan.specs.TableFaults.{key_faults, keys_faults, unknown_faults};
+ghost use Rattle.j39_plan.specs.TimingTables as spec;
+ghost use Rattle.j39_plan.specs.Faults.{knows_third, knows_fourth, timing_faults, timing_table};
 ghost use Rattle.j39_plan.specs.Outcome.{Gives};
 
 use super::tables::{only, optional_inner};
-use super::values::{either, number};
+use super::values::{bitrate_number, number};
 use super::{Key, PlanError, Table};
-use j39_findings::{Bitrate, Timing};
+use j39_findings::{Bitrate, ErrorRate, Timing};
 
-const TIMING_KEYS: [Key; 2] = [Key::Bitrate, Key::Unplanned];
+const THIRD_KEYS: [Key; 2] = [Key::Bitrate, Key::Unplanned];
 
-const SLOW: u32 = 250_000;
+const FOURTH_KEYS: [Key; 7] = [
+    Key::Bitrate,
+    Key::Unplanned,
+    Key::UnplannedPriority,
+    Key::TransportPriority,
+    Key::BroadcastGap,
+    Key::BroadcastGapMost,
+    Key::Errors,
+];
 
-const FAST: u32 = 500_000;
+const ERROR_KEYS: [Key; 2] = [Key::Count, Key::Every];
 
-fn bitrate(members: &toml::Table) -> Result<Bitrate, PlanError>
-    ensures { Gives result (key_faults at.Timing (table_view members.now) bitrate_rule)
-        (λ b. b ≡ bitrate_of (schema.number_of bitrate_rule (table_view members.now))) }
+fn only_known(members: &toml::Table, fourth: bool) -> Result<(), PlanError>
+    ensures { Gives result (unknown_faults at.Timing (map (λ r. r.key) (spec.timing_rules fourth (table_view members.now))) (table_view members.now)) (λ _. Unit {0}) }
 {
-    let bits = either(members, Table::Timing, Key::Bitrate, SLOW, FAST)?;
-    Ok(if bits == FAST {
-        Bitrate::Kbit500
+    if fourth {
+        only(members, Table::Timing, &FOURTH_KEYS)
     } else {
-        Bitrate::Kbit250
+        only(members, Table::Timing, &THIRD_KEYS)
+    }
+}
+
+fn bitrate(members: &toml::Table, fourth: bool) -> Result<Bitrate, PlanError>
+    ensures { Gives result (key_faults at.Timing (table_view members.now) (spec.bitrate_rule fourth))
+        (λ b. b ≡ spec.bitrate_of (schema.number_of (spec.bitrate_rule fourth) (table_view members.now))) }
+{
+    Ok(
+        match bitrate_number(members, Table::Timing, Key::Bitrate, fourth)? {
+            125_000 => Bitrate::Kbit125,
+            500_000 => Bitrate::Kbit500,
+            1_000_000 => Bitrate::Mbit1,
+            _ => Bitrate::Kbit250,
+        },
+    )
+}
+
+// What stands behind the frames that aren't planned: priorities, the gaps of broadcasts, and the table of errors.
+#[derive(Clone, Copy)]
+struct LaterKeys<'a> {
+    unplanned_priority: u32,
+    transport_priority: u32,
+    gap: u32,
+    gap_most: u32,
+    errors: Option<&'a toml::Table>,
+}
+
+#[tactic(auto, using(crate::proofs::FirstFaults::faults_after))]
+fn later_keys(members: &toml::Table, fourth: bool) -> Result<LaterKeys, PlanError>
+    ensures gives { Gives result (keys_faults at.Timing (table_view members.now) (spec.later_timing_rules fourth (table_view members.now)))
+        (λ later. (later.unplanned_priority ≡ spec.unplanned_priority_of fourth (table_view members.now))
+        × (later.transport_priority ≡ spec.transport_priority_of fourth (table_view members.now))
+        × (later.gap ≡ spec.gap_of fourth (table_view members.now))
+        × (later.gap_most ≡ spec.gap_most_of fourth (table_view members.now))
+        × (option_map (λ t. table_view t.now) later.errors ≡ spec.errors_table fourth (table_view members.now))) }
+    ensures unplanned_priority { IfOk result (λ later. later.unplanned_priority ≤ 6) }
+    ensures transport_priority { IfOk result (λ later. later.transport_priority ≤ 7) }
+    ensures gap_least { IfOk result (λ later. 10 ≤ later.gap) }
+    ensures gap { IfOk result (λ later. later.gap ≤ 200) }
+    ensures order { IfOk result (λ later. later.gap ≤ later.gap_most) }
+    ensures gap_most { IfOk result (λ later. later.gap_most ≤ 750) }
+{
+    if !fourth {
+        return Ok(LaterKeys {
+            unplanned_priority: 6,
+            transport_priority: 7,
+            gap: 50,
+            gap_most: 200,
+            errors: None,
+        });
+    }
+    let table = Table::Timing;
+    let unplanned_priority = number(members, table, Key::UnplannedPriority, 0, 6, Some(6))?;
+    let transport_priority = number(members, table, Key::TransportPriority, 0, 7, Some(7))?;
+    let gap = number(members, table, Key::BroadcastGap, 10, 200, Some(50))?;
+    let gap_most = number(members, table, Key::BroadcastGapMost, gap, 750, Some(200))?;
+    let errors = optional_inner(members, table, Key::Errors)?;
+    Ok(LaterKeys {
+        unplanned_priority,
+        transport_priority,
+        gap,
+        gap_most,
+        errors,
     })
 }
 
-#[tactic(auto, using(crate::proofs::FirstFaults::faults_after), unfolding(crate::specs::TimingTables::timing_table_faults))]
-fn bus(members: &toml::Table) -> Result<Timing, PlanError>
-    ensures { Gives result (timing_table_faults (table_view members.now)) (TellsBus (table_view members.now)) }
+#[tactic(auto, using(crate::proofs::FirstFaults::faults_after), unfolding(crate::specs::TimingTables::error_table_faults))]
+fn error_rate(members: &toml::Table) -> Result<ErrorRate, PlanError>
+    ensures { Gives result (spec.error_table_faults (table_view members.now)) (spec.TellsErrorRate (table_view members.now)) }
 {
-    only(members, Table::Timing, &TIMING_KEYS)?;
-    let bitrate = bitrate(members)?;
+    let table = Table::TimingErrors;
+    only(members, table, &ERROR_KEYS)?;
+    let count = number(members, table, Key::Count, 1, 100, None)?;
+    let every = number(members, table, Key::Every, 1, 65_535, None)?;
+    Ok(ErrorRate {
+        count: count as u16,
+        every: every as u16,
+    })
+}
+
+// How many frames are damaged at most, where there is a table of it.
+fn errors(inner: Option<&toml::Table>) -> Result<Option<ErrorRate>, PlanError>
+    ensures { let found = option_map (λ t. table_view t.now) inner.entry in
+        Gives result (option_map_or spec.error_table_faults found []) (spec.TellsErrors found) }
+{
+    match inner {
+        None => Ok(None),
+        Some(members) => Ok(Some(error_rate(members)?)),
+    }
+}
+
+#[tactic(auto, using(crate::proofs::FirstFaults::faults_after), unfolding(crate::specs::TimingTables::timing_table_faults))]
+fn bus(members: &toml::Table, fourth: bool) -> Result<Timing, PlanError>
+    ensures { Gives result (spec.timing_table_faults fourth (table_view members.now)) (spec.TellsBus fourth (table_view members.now)) }
+{
+    only_known(members, fourth)?;
+    let bitrate = bitrate(members, fourth)?;
     let unplanned = number(members, Table::Timing, Key::Unplanned, 0, 1000, None)?;
+    let later = later_keys(members, fourth)?;
+    let errors = errors(later.errors)?;
     Ok(Timing {
         bitrate,
         unplanned: unplanned as u16,
+        unplanned_priority: later.unplanned_priority as u8,
+        transport_priority: later.transport_priority as u8,
+        broadcast_gap: later.gap as u16,
+        broadcast_gap_most: later.gap_most as u16,
+        errors,
     })
 }
 
 /// What is known of the bus, where the version knows its table and there is one.
 #[tactic(auto, using(crate::proofs::FirstFaults::faults_after))]
-pub fn timing(members: &toml::Table, third: bool) -> Result<Option<Timing>, PlanError>
-    requires { third ≡ is_third (table_view members.now) }
-    ensures { Gives result (timing_faults (table_view members.now)) (TellsTiming (timing_table (table_view members.now))) }
+pub fn timing(members: &toml::Table, third: bool, fourth: bool) -> Result<Option<Timing>, PlanError>
+    requires third { third ≡ knows_third (table_view members.now) }
+    requires fourth { fourth ≡ knows_fourth (table_view members.now) }
+    ensures { Gives result (timing_faults (table_view members.now))
+        (spec.TellsTiming (knows_fourth (table_view members.now)) (timing_table (table_view members.now))) }
 {
     if !third {
         return Ok(None);
     }
     match optional_inner(members, Table::Top, Key::Timing)? {
         None => Ok(None),
-        Some(inner) => Ok(Some(bus(inner)?)),
+        Some(inner) => Ok(Some(bus(inner, fourth)?)),
     }
 }

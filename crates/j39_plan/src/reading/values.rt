@@ -7,7 +7,7 @@ ghost use Rattle.j39_signal.specs.Parts.{IsDivisor};
 ghost use Rattle.j39_plan.specs.Words.{word_of};
 ghost use Rattle.j39_plan.specs.TextKinds.{takes};
 ghost use Rattle.j39_plan.specs.Schema as schema;
-ghost use Rattle.j39_plan.specs.TableFaults.{fault, key_faults};
+ghost use Rattle.j39_plan.specs.TableFaults.{fault, is_bitrate, key_faults};
 ghost use Rattle.j39_plan.specs.Outcome.{Gives};
 
 use super::text_kind::TextKind;
@@ -144,17 +144,22 @@ pub fn optional_number(
     }
 }
 
-/// The number at a key, which is one of two.
+// Whether a bus has this bitrate, of those that the third version knows or of more.
+fn is_bitrate(number: i64, more: bool) -> bool
+    ensures { result ≡ is_bitrate more (schema.natural number) }
+{
+    number == 250_000 || number == 500_000 || more && (number == 125_000 || number == 1_000_000)
+}
+
+/// The bitrate at a key, of those that the third version knows or of more.
 #[tactic(auto, unfolding(crate::specs::TableFaults::key_faults, crate::specs::Schema::number_of))]
-pub fn either(
+pub fn bitrate_number(
     members: &toml::Table,
     table: Table,
     key: Key,
-    one: u32,
-    other: u32,
+    more: bool,
 ) -> Result<u32, PlanError>
-    requires positive { (1 ≤ one) × (1 ≤ other) }
-    ensures gives { let rule = schema.either_number key one other in
+    ensures gives { let rule = schema.bitrate key more in
         Gives result (key_faults table (table_view members.now) rule)
         (λ n. n ≡ schema.number_of rule (table_view members.now)) }
 {
@@ -163,7 +168,7 @@ pub fn either(
         Some(value) => match value.as_integer() {
             None => Err(refused(Cause::WrongType, table, key)),
             Some(number) => {
-                if number == i64::from(one) || number == i64::from(other) {
+                if is_bitrate(number, more) {
                     Ok(number as u32)
                 } else {
                     Err(refused(Cause::Range, table, key))
@@ -281,6 +286,26 @@ pub fn any_text<'a>(members: &'a toml::Table, table: Table, key: Key) -> Result<
         Some(value) => match value.as_str() {
             None => Err(refused(Cause::WrongType, table, key)),
             Some(text) => Ok(text),
+        },
+    }
+}
+
+/// The text at a key, which may be any, or none where the key is absent.
+#[tactic(auto, unfolding(crate::specs::TableFaults::key_faults, crate::specs::Schema::found_text))]
+pub fn optional_text<'a>(
+    members: &'a toml::Table,
+    table: Table,
+    key: Key,
+) -> Result<Option<&'a str>, PlanError>
+    ensures { let rule = schema.optional_text key in
+        Gives result (key_faults table (table_view members.now) rule)
+        (λ found. option_map (λ t. t.now) found ≡ schema.found_text rule (table_view members.now)) }
+{
+    match value_at(members, key) {
+        None => Ok(None),
+        Some(value) => match value.as_str() {
+            None => Err(refused(Cause::WrongType, table, key)),
+            Some(text) => Ok(Some(text)),
         },
     }
 }

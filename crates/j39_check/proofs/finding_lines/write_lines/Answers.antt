@@ -7,8 +7,8 @@ use Rattle.j39_check.proofs.finding_lines.write_lines.Goals as goal
 
 pub loop-finding-preserved : goal.loop-finding-preserved
 loop-finding-preserved c =
-    let next = lines_from c.args.plan.now c.args.findings.now c.loop-finding.finding-index (SameName 0 0) c.loop-finding-test.true in
-    rw (c.in_ok-write_report.ensures, append_assoc) (rw next at c.loop-finding.invariant)
+    let next = lines_from c.args.from c.args.below c.args.plan.now c.args.findings.now c.loop-finding.finding-index (SameName 0 0) c.loop-finding-test.true in
+    rw (c.in_ok-write_part.ensures, append_assoc) (rw next at c.loop-finding.invariant)
 
 pub returns : goal.returns
 unfolding finding_lines

@@ -1,4 +1,5 @@
 use Rattle.std.proofs.Common.{◌≡◌, ◌==◌, ℕ, [], length, vec_len, arith, false, true≢false, sym, ap, subst, ◌∙◌}
+use Rattle.j39_load.specs.Asked.{asked_by}
 use Rattle.j39_check.specs.LoadText.{have_periods}
 use Rattle.j39_check.proofs.LoadReports.{as_checked}
 use Rattle.j39_check.proofs.load_report.load_report.Goals.{else-is_empty-via-then-is_empty+else-have_periods, else-is_empty-via-else-is_empty}
@@ -8,11 +9,11 @@ pub returns : goal.returns
 returns c =
     let plan = c.args.plan.now in
     let timing = c.in-Some.timing in
-    let loads = c.in_ok-loads.loads.flows.items in
+    let asked = asked_by c.in_ok-loads.loads.flows.items c.in_ok-loads.loads.units.items in
     let delays = c.in_ok-delays.delays.items in
     let others = c.in_ok-others.others.items in
     let findings = c.in_ok-findings.findings.items in
-    let flows = c.in_ok-loads.ensures.flows in
+    let known = c.in_ok-loads.ensures.asked in
     let wrong : findings ≡ [] → have_periods delays ≡ false = λ none. elim c.else-is_empty.branch [
       | else-is_empty-via-then-is_empty+else-have_periods w ↦
           sym (w.have_periods.ensures ∙ ap have_periods w.as_slice-then-is_empty.ensures.value) ∙ w.if-have_periods.false
@@ -20,7 +21,7 @@ returns c =
           let zero : vec_len c.in_ok-findings.findings ≡ 0 = omega (arith, ap length none) in
           absurd (true≢false (sym (subst (λ (n : ℕ). false ≡ (n == 0)) zero (w.if-is_empty.ensures {u = tt}))))
     ] in
-    as_checked plan timing c.in-Some.is flows.0 loads delays others flows.1 flows.2
+    as_checked plan timing c.in-Some.is known.0 asked delays others known.1 known.2
     (rw c.in_ok-loads.ensures.timing at c.in_ok-delays.ensures.delays)
     (rw (c.total.ensures, c.as_slice.ensures.value) at c.in_ok-others.ensures.findings)
     findings c.write_findings.new.text c.in_ok-findings.ensures.list wrong

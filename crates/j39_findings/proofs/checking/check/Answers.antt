@@ -1,14 +1,14 @@
-use Rattle.std.proofs.Common.{◌≡◌, List, rules, append_assoc, sym, subst}
+use Rattle.std.proofs.Common.{◌≡◌, List, rules, sym, subst}
 use Rattle.j39_findings.specs.declared.checking.finding.Finding.{Finding}
 use Rattle.j39_findings.specs.Findings.{AreFindings}
-use Rattle.j39_findings.specs.Found.{found}
+use Rattle.j39_findings.specs.Found.{unit_findings}
 use Rattle.j39_findings.proofs.FoundLaws.{are_findings}
-use Rattle.j39_findings.proofs.AddingLemmas.{WantsMemory, wants_memory, units_some, groups_some, signals_some, flows_some, kept_some, unsent_some, records_some, texts_some}
+use Rattle.j39_findings.proofs.AddingLemmas.{WantsMemory, wants_memory, units_some, groups_some, signals_some, flows_some, kept_some, unsent_some, records_some, texts_some, needs_some, whole_list}
 use Rattle.j39_findings.proofs.checking.check.Goals as goal
 use Rattle.j39_findings.proofs.checking.check.Goals.{After-drop-findings, After-drop-findings-in_err-find_in_groups}
 use Rattle.j39_findings.proofs.checking.check.Goals.{After-drop-findings-in_err-find_in_signals}
 use Rattle.j39_findings.proofs.checking.check.Goals.{After-drop-findings-in_err-find_in_flows, After-drop-findings-in_err-find_kept}
-use Rattle.j39_findings.proofs.checking.check.Goals.{After-drop-findings-in_err-find_unsent, After-drop-findings-in_err-find_in_records, After-drop-findings-in_err-find_in_texts}
+use Rattle.j39_findings.proofs.checking.check.Goals.{After-drop-findings-in_err-find_unsent, After-drop-findings-in_err-find_in_records, After-drop-findings-in_err-find_in_texts, After-drop-findings-in_err-find_in_needs}
 
 units_want : (c : After-drop-findings) → WantsMemory c.args.plan.now c.from_residual.result
 units_want c =
@@ -98,13 +98,31 @@ returns-in_err-find_in_texts-clause-memory c = (texts_want c).0
 pub returns-in_err-find_in_texts-clause-clean : goal.returns-in_err-find_in_texts-clause-clean
 returns-in_err-find_in_texts-clause-clean c = (texts_want c).1
 
+needs_want : (c : After-drop-findings-in_err-find_in_needs) → WantsMemory c.args.plan.now c.from_residual-in_err-find_in_needs.result
+needs_want c =
+    wants_memory c.args.plan.now _ _ c.from_residual-in_err-find_in_needs.ensures.1
+    (needs_some c.args.plan.now (rw (c.deref-12.ensures.value, c.deref-13.ensures.value) at c.in_err-find_in_needs.ensures))
+
+pub returns-in_err-find_in_needs-clause-memory : goal.returns-in_err-find_in_needs-clause-memory
+returns-in_err-find_in_needs-clause-memory c = (needs_want c).0
+
+pub returns-in_err-find_in_needs-clause-clean : goal.returns-in_err-find_in_needs-clause-clean
+returns-in_err-find_in_needs-clause-clean c = (needs_want c).1
+
 pub returns-clause-list : goal.returns-clause-list
-unfolding found
-returns-clause-list c = search (rules, append_assoc)
+returns-clause-list c =
+    let units : c.find_in_units.new.findings.items ≡ unit_findings c.args.plan.now.keep_free c.args.plan.now.units.items = search rules in
+    whole_list c.args.plan.now _ _ _ _ _ _ _ _ _ units
+    (rw (c.deref-2.ensures.value, c.deref-3.ensures.value) at c.in_ok-find_in_groups.ensures)
+    (rw (c.deref-4.ensures.value) at c.in_ok-find_in_signals.ensures)
+    (rw (c.deref-5.ensures.value, c.deref-6.ensures.value) at c.in_ok-find_in_flows.ensures)
+    (rw (c.deref-7.ensures.value) at c.in_ok-find_kept.ensures)
+    (rw (c.deref-8.ensures.value, c.deref-9.ensures.value) at c.in_ok-find_unsent.ensures)
+    (rw (c.deref-10.ensures.value) at c.in_ok-find_in_records.ensures)
+    (rw (c.deref-11.ensures.value) at c.in_ok-find_in_texts.ensures)
+    (rw (c.deref-12.ensures.value, c.deref-13.ensures.value) at c.in_ok-find_in_needs.ensures)
 
 pub returns-clause-exact : goal.returns-clause-exact
-unfolding found
 returns-clause-exact c =
-    let listed : c.find_in_texts.new.findings.items ≡ found c.args.plan.now = search (rules, append_assoc) in
     let P : List Finding → Type 0 = AreFindings c.args.plan.now in
-    subst P (sym listed) (are_findings c.args.plan.now)
+    subst P (sym (returns-clause-list c)) (are_findings c.args.plan.now)

@@ -1,0 +1,173 @@
+-- How old what a unit needs is at most.
+use Rattle.std.proofs.Common.{◌≡◌, ℕ, zero, suc, if◌then◌else◌, ◌+◌, ◌<◌, ◌≤◌, ◌⊎◌, Bool, true, false, not, ◌&&◌, List, [], ◌∷◌, ◌++◌, length, get_or, take, min, nat_le, Option, Some, None, refl, sym, ap, ◌∙◌, subst, inl, inr, arith}
+use Rattle.std.proofs.lemmas.Bool.{cases_Bool, cases_lt, false≢true, leb-true, true≢false}
+use Rattle.std.proofs.lemmas.List.{length-map}
+use Rattle.std.proofs.lemmas.Option.{none-some, same_Some, get_or_from_slice_get, slice_get-get_or, slice_get_within}
+use Rattle.std.specs.List.{slice_get}
+use Rattle.std.specs.Option.{option_map_or}
+use Rattle.std.specs.Prelude.{slice_index_or}
+use Rattle.j39_findings.specs.Findings.{Clean, Meets}
+use Rattle.j39_findings.specs.Found.{is_unmet, meets}
+use Rattle.j39_findings.proofs.CleanLaws.{parts_of}
+use Rattle.j39_findings.proofs.Deciding.{Decides-is_unmet, Decides-meets}
+use Rattle.j39_findings.specs.declared.plan.Plan.{Plan}
+use Rattle.j39_findings.specs.declared.plan.flow_plan.FlowPlan.{FlowPlan}
+use Rattle.j39_findings.specs.declared.plan.need_plan.NeedPlan.{NeedPlan}
+use Rattle.j39_findings.specs.declared.plan.timing.Timing.{Timing}
+use Rattle.j39_findings.specs.declared.plan.unit_plan.UnitPlan.{UnitPlan}
+use Rattle.j39_load.specs.declared.delay.Delay.{Delay}
+use Rattle.j39_load.specs.declared.delay.Delay.TheVariants.{Within, Late, Long}
+use Rattle.j39_load.specs.declared.load_finding.LoadFinding.TheVariants.{NeedTooOld}
+use Rattle.j39_load.specs.Ages.{ages_for, ages_of, is_too_old, is_young, least, least_age, old_needs, oldness, smaller}
+use Rattle.j39_load.specs.FreshNeeds.{AreNeedsFresh, IsFreshOnEveryBus, IsNeedFresh}
+use Rattle.j39_load.specs.LoadFindings.{AreLoadFindings, AsksOfBus, load_findings}
+use Rattle.j39_load.specs.Asked.{asked_of, total_load}
+use Rattle.j39_load.specs.Loads.{bits_of_ms, load_of_flow, loads_of}
+use Rattle.j39_load.specs.Places.{told_from}
+use Rattle.j39_load.proofs.BoundedFlows.{bounded, none_of_two, told_nothing}
+use Rattle.j39_timing.proofs.Ages.{fresh}
+use Rattle.j39_timing.specs.Ages.{IsFresh}
+use Rattle.j39_findings.specs.ListPlaces.{SomeMeets}
+
+-- ---- the least of some numbers
+
+smaller_together : (a b c : Option ℕ) → smaller (smaller a b) c ≡ smaller a (smaller b c)
+smaller_together None b c = refl
+smaller_together (Some x) None c = refl
+smaller_together (Some x) (Some y) None = refl
+smaller_together (Some x) (Some y) (Some z) = ap Some (omega arith)
+
+pub least_of_both : (xs ys : List ℕ) → least (xs ++ ys) ≡ smaller (least xs) (least ys)
+least_of_both [] ys = refl
+least_of_both (x ∷ xs) ys = ap (smaller (Some x)) (least_of_both xs ys) ∙ sym (smaller_together (Some x) (least xs) (least ys))
+
+-- the smaller of two numbers is one of them
+one_of_smaller : (a b : Option ℕ) (n : ℕ) → smaller a b ≡ Some n → (a ≡ Some n) ⊎ (b ≡ Some n)
+one_of_smaller None b n is = inr is
+one_of_smaller (Some x) None n is = inl is
+one_of_smaller (Some x) (Some y) n is = elim (cases_lt x y) [
+  | inl less ↦ inl (ap Some (let same = same_Some _ _ is in omega arith))
+  | inr more ↦ inr (ap Some (let same = same_Some _ _ is in omega arith))
+]
+
+-- ---- whose age it is
+
+module _ (timing : Timing) (age : ℕ) where
+  -- what a single age is the sum of
+  record IsSumOf (met : Bool) (flow : FlowPlan) (delay : Option Delay) : Type 0 where
+    pub meets : met ≡ true
+    pub pause : ℕ
+    pub paused : flow.pause ≡ Some pause
+    pub bits : ℕ
+    pub delayed : delay ≡ Some (Within bits)
+    pub sum : age ≡ bits_of_ms timing pause + bits
+
+  sum_within : (flow : FlowPlan) (bits : ℕ) (pause : Option ℕ) → flow.pause ≡ pause
+      → least (option_map_or (λ p. (bits_of_ms timing p + bits) ∷ []) pause []) ≡ Some age → IsSumOf true flow (Some (Within bits))
+  sum_within flow bits None paused is = absurd (none-some age is)
+  sum_within flow bits (Some pause) paused is =
+      record { meets = refl; pause = pause; paused = paused; bits = bits; delayed = refl; sum = sym (same_Some _ _ is) }
+
+  sum_of : (met : Bool) (flow : FlowPlan) (delay : Option Delay) → least (if met then ages_of timing flow delay else []) ≡ Some age → IsSumOf met flow delay
+  sum_of false flow delay is = absurd (none-some age is)
+  sum_of true flow None is = absurd (none-some age is)
+  sum_of true flow (Some Late) is = absurd (none-some age is)
+  sum_of true flow (Some (Long frames)) is = absurd (none-some age is)
+  sum_of true flow (Some (Within bits)) is = sum_within flow bits flow.pause refl is
+
+  module _ (delays : List (Option Delay)) (need : NeedPlan) where
+    -- it is that of a flow
+    of_flow : (place : ℕ) (flows : List FlowPlan) → least (told_from (ages_for timing delays need) place flows) ≡ Some age
+        → (k : ℕ) × (flow : FlowPlan) × (slice_get flows k ≡ Some flow) × (least (ages_for timing delays need (place + k) flow) ≡ Some age)
+    unfolding told_from
+    of_flow place [] is = absurd (none-some age is)
+    of_flow place (flow ∷ flows) is =
+        let tell = ages_for timing delays need in
+        elim (one_of_smaller (least (tell place flow)) (least (told_from tell (place + 1) flows)) age
+        (sym (least_of_both (tell place flow) (told_from tell (place + 1) flows)) ∙ is)) [
+          | inl here ↦ (0, flow, refl, ap (λ (n : ℕ). least (tell n flow)) (omega arith) ∙ here)
+          | inr behind ↦
+              let (k, other, at, its) = of_flow (place + 1) flows behind in
+              (suc k, other, at, ap (λ (n : ℕ). least (tell n other)) (omega arith) ∙ its)
+        ]
+
+-- ---- needs that aren't too old
+
+young_age : (limit : ℕ) (age : Option ℕ) → is_young limit age ≡ true → (n : ℕ) × (age ≡ Some n) × (n ≤ limit)
+young_age limit None young = absurd (false≢true young)
+young_age limit (Some n) young = (n, refl, leb-true n limit young)
+
+never_told : {X : Type 0} (test : Bool) (x : X) → (if test then x ∷ [] else []) ≡ [] → test ≡ false
+never_told true x none = cc
+never_told false x none = refl
+
+asked_old : (timing : Timing) (flows : List FlowPlan) (delays : List (Option Delay)) (place : ℕ) (need : NeedPlan) (within : ℕ) (asked : Option ℕ)
+    → asked ≡ Some within → option_map_or (λ w. if is_too_old timing flows delays need w then NeedTooOld place ∷ [] else []) asked [] ≡ []
+    → is_too_old timing flows delays need within ≡ false
+asked_old timing flows delays place need within None is none = absurd (none-some within is)
+asked_old timing flows delays place need within (Some w) is none =
+    subst (λ (n : ℕ). is_too_old timing flows delays need n ≡ false) (same_Some w within is) (never_told _ _ none)
+
+young_where : (unmet young : Bool) → unmet ≡ false → (not unmet && not young) ≡ false → young ≡ true
+young_where true young met none = absurd (true≢false met)
+young_where false true met none = refl
+young_where false false met none = absurd (true≢false none)
+
+module _ (plan : Plan) (timing : Timing) (clean : Clean plan) (stays : UnitPlan → Bool) (delays : List (Option Delay)) (asks : AsksOfBus plan timing stays delays)
+    (none : load_findings timing (total_load timing (asked_of timing plan stays)) delays ++ old_needs timing plan.flows.items delays plan.needs.items ≡ []) where
+  parts : (load_findings timing (total_load timing (asked_of timing plan stays)) delays ≡ []) × (old_needs timing plan.flows.items delays plan.needs.items ≡ [])
+  parts = none_of_two (load_findings timing (total_load timing (asked_of timing plan stays)) delays) (old_needs timing plan.flows.items delays plan.needs.items) none
+
+  module _ (n : ℕ) (need : NeedPlan) (within : ℕ) (at : slice_get plan.needs.items n ≡ Some need) (asked : need.within ≡ Some within) where
+    not_too_old : is_too_old timing plan.flows.items delays need within ≡ false
+    not_too_old =
+        let told = told_nothing (oldness timing plan.flows.items delays) 0 plan.needs.items parts.1 n need at in
+        asked_old timing plan.flows.items delays (0 + n) need within need.within asked told
+
+    met : is_unmet plan.flows.items need ≡ false
+    met = elim (cases_Bool (is_unmet plan.flows.items need)) [
+      | inl unmet ↦ absurd ((Decides-is_unmet plan.flows.items need).0 unmet (met_at n need at))
+      | inr is ↦ is
+    ]
+      where
+        met_at : (k : ℕ) (d : NeedPlan) → slice_get plan.needs.items k ≡ Some d → SomeMeets (Meets d) plan.flows.items
+        met_at k d is =
+            let below = slice_get_within plan.needs.items k d is in
+            let here : get_or plan.needs.items k d ≡ d = get_or_from_slice_get plan.needs.items k d d is in
+            subst (λ (x : NeedPlan). SomeMeets (Meets x) plan.flows.items) here ((parts_of plan clean).needs k d below)
+
+    fresh_need : IsNeedFresh plan timing (asked_of timing plan stays) delays need within
+    fresh_need =
+        let (age, is_age, young) = young_age _ _ (young_where _ _ met not_too_old) in
+        let (place, flow, its, single) = of_flow timing age delays need 0 plan.flows.items is_age in
+        let sum = sum_of timing age (meets need flow) flow (slice_index_or delays (0 + place) None) single in
+        let below : place < length delays =
+        let inside = slice_get_within plan.flows.items place flow its in
+        let count = asks.waits.count in
+        let sized : length (loads_of timing plan stays) ≡ length plan.flows.items = length-map plan.flows.items (load_of_flow timing plan stays) in
+        omega (arith, count, inside, sized) in
+        let here : slice_get delays place ≡ Some (slice_index_or delays place None) = slice_get-get_or delays place None below in
+        let zero_place : 0 + place ≡ place = omega arith in
+        let delayed : slice_get delays place ≡ Some (Some (Within sum.bits)) =
+        here ∙ ap Some (ap (λ (k : ℕ). slice_index_or delays k None) (sym zero_place) ∙ sum.delayed) in
+        let bound = bounded plan timing stays delays asks place sum.bits delayed in
+        record {
+          place = place;
+          flow = flow;
+          its = its;
+          meets = (Decides-meets need flow).0 sum.meets;
+          pause = sum.pause;
+          paused = sum.paused;
+          bits = sum.bits;
+          delayed = delayed;
+          young = omega (arith, young, sum.sum);
+          bounded = bound;
+          fresh = λ s planned of legal known from to coming seen.
+              subst (λ (b : ℕ). IsFresh s planned of place (bits_of_ms timing sum.pause + b) (from + b) (to + b)) (sym bound.sum)
+              (fresh s planned of place bound.frames.stream bound.wait (bits_of_ms timing sum.pause) from to
+              (bound.bounds s planned of legal known) coming seen);
+        }
+
+pub fresh_where_checked : (plan : Plan) (timing : Timing) → Clean plan → AreLoadFindings plan (Some timing) [] → AreNeedsFresh plan timing
+fresh_where_checked plan timing clean (stays, delays, asks, none) =
+    (stays, delays, asks, fresh_need plan timing clean stays delays asks (sym none))

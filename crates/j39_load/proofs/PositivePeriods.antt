@@ -1,0 +1,232 @@
+-- Each stream of a plan's traffic has a period, and those of short flows have their limit within it.
+use Rattle.std.proofs.Common.{◌≡◌, ℕ, zero, suc, ◌+◌, ◌*◌, ◌<◌, ◌≤◌, Bool, true, false, not, ◌&&◌, eqb, if◌then◌else◌, List, [], ◌∷◌, ◌++◌, length, get_or, map, min, max, All, Option, Some, None, IfSome}
+use Rattle.std.proofs.Common.{refl, sym, ap, ◌∙◌, subst, arith, option_map}
+use Rattle.std.proofs.Math.Nat.{mul-le-mul_left}
+use Rattle.std.proofs.lemmas.List.Elements.{All-append, All-cons, All-head, All-map, All-tail}
+use Rattle.std.proofs.lemmas.Option.{same_Some, none-some, slice_get-map, slice_get-get_or}
+use Rattle.std.specs.List.{cons_option, filter_map, range_with_len, slice_get}
+use Rattle.j39_findings.specs.declared.plan.Plan.{Plan}
+use Rattle.j39_findings.specs.declared.plan.flow_plan.FlowPlan.{FlowPlan}
+use Rattle.j39_findings.specs.declared.plan.group_plan.GroupPlan.{GroupPlan}
+use Rattle.j39_findings.specs.declared.plan.pace.Pace.{Pace}
+use Rattle.j39_findings.specs.declared.plan.timing.Bitrate.{Bitrate}
+use Rattle.j39_findings.specs.declared.plan.timing.Bitrate.TheVariants.{Kbit125, Kbit250, Kbit500, Mbit1}
+use Rattle.j39_findings.specs.declared.plan.timing.ErrorRate.{ErrorRate}
+use Rattle.j39_findings.specs.declared.plan.timing.Timing.{Timing}
+use Rattle.j39_id.specs.Limits.{frame_bytes}
+use Rattle.j39_findings.specs.declared.plan.to.To.{To}
+use Rattle.j39_findings.specs.declared.plan.to.To.TheVariants.{All as ToAllUnits, One}
+use Rattle.j39_findings.specs.declared.plan.unit_plan.UnitPlan.{UnitPlan}
+use Rattle.j39_load.specs.declared.broadcast.Broadcast.{Broadcast}
+use Rattle.j39_load.specs.declared.flow_frames.FlowFrames.{FlowFrames}
+use Rattle.j39_load.specs.declared.flow_load.FlowLoad.{FlowLoad}
+use Rattle.j39_load.specs.declared.messages.Messages.{Messages}
+use Rattle.j39_load.specs.declared.messages.Messages.TheVariants.{Short, ToAll, ToOne}
+use Rattle.j39_load.specs.declared.unit_load.UnitLoad.{UnitLoad}
+use Rattle.j39_load.specs.Asked.{all_frames, announcements_of_unit, asked_of, frames_asked, frames_of_flow, own_frames, packets_of_unit, singles_of_flow}
+use Rattle.j39_load.specs.Broadcasts.{broadcast_by, broadcast_from, broadcasts_by, known_unit_load, least_packets, unit_loads_of}
+use Rattle.j39_load.specs.Damage.{damage_frames, damage_stream, first_of_all}
+use Rattle.j39_load.specs.Loads.{bits_per_ms, deadline_of, flow_load, has_short, is_always_short, load_of_flow, load_of_messages, loads_of, long_messages, single_frames, time_limit}
+use Rattle.j39_timing.specs.FrameBits.{error_frame, longest_frame}
+use Rattle.j39_timing.specs.Traffic.{IsSingle}
+
+-- what the messages of a flow have, of this limit
+abbrev pub ArePaced : ℕ → Messages → Type 0
+ArePaced limit (Short frames) = (0 < frames.stream.period) × IsSingle frames.stream × (limit ≤ frames.stream.period)
+ArePaced limit (ToOne frames) = 0 < frames.stream.period
+ArePaced limit (ToAll broadcast) = 2 ≤ broadcast.least_packets
+
+abbrev pub HasPeriod : Option FlowFrames → Type 0
+HasPeriod frames = IfSome frames (λ (f : FlowFrames). 0 < f.stream.period)
+
+-- what each load of a plan has
+pub record IsOfFlow (load : FlowLoad) : Type 0 where
+  pub messages : ArePaced load.limit load.messages
+  pub singles : HasPeriod load.singles
+
+abbrev IsOfFlowIfKnown : Option FlowLoad → Type 0
+IsOfFlowIfKnown load = IfSome load IsOfFlow
+
+positive_ms : (bitrate : Bitrate) (ms : ℕ) → 1 ≤ ms → 0 < ms * bits_per_ms bitrate
+positive_ms Kbit125 ms some = omega arith
+positive_ms Kbit250 ms some = omega arith
+positive_ms Kbit500 ms some = omega arith
+positive_ms Mbit1 ms some = omega arith
+
+fewer_ms : (bitrate : Bitrate) (a b : ℕ) → min a b * bits_per_ms bitrate ≤ b * bits_per_ms bitrate
+fewer_ms Kbit125 a b = omega arith
+fewer_ms Kbit250 a b = omega arith
+fewer_ms Kbit500 a b = omega arith
+fewer_ms Mbit1 a b = omega arith
+
+of_flow : (timing : Timing) (plan : Plan) (stays : UnitPlan → Bool) (flow : FlowPlan) (pace : Pace) (group : GroupPlan)
+    → IsOfFlow (flow_load timing plan.units.items stays flow pace group)
+of_flow timing plan stays flow pace group = by (is_always_short group) (has_short group)
+  where
+    pos : 0 < pace.period * bits_per_ms timing.bitrate
+    pos = positive_ms timing.bitrate pace.period pace.period_positive
+
+    fewer : min (deadline_of pace) pace.period * bits_per_ms timing.bitrate ≤ pace.period * bits_per_ms timing.bitrate
+    fewer = fewer_ms timing.bitrate (deadline_of pace) pace.period
+
+    single : FlowFrames
+    single = single_frames timing plan.units.items stays flow pace group
+
+    long : (to : To) → ArePaced (time_limit timing pace) (long_messages timing plan.units.items stays flow pace group to)
+    long ToAllUnits = omega arith
+    long (One v) = pos
+
+    by : (short has : Bool) → IsOfFlow (record {
+      messages = if short then Short single else long_messages timing plan.units.items stays flow pace group flow.to;
+      singles = if not short && has then Some single else None;
+      limit = time_limit timing pace;
+      bits_per_second = load_of_messages (if short then Short single else long_messages timing plan.units.items stays flow pace group flow.to) pace.period;
+    })
+    by true has = record { messages = (pos, refl, fewer); singles = tt }
+    by false true = record { messages = long flow.to; singles = pos }
+    by false false = record { messages = long flow.to; singles = tt }
+
+of_paced : (timing : Timing) (plan : Plan) (stays : UnitPlan → Bool) (flow : FlowPlan) (pace : Option Pace) (group : Option GroupPlan)
+    → flow.pace ≡ pace → slice_get plan.groups.items flow.group ≡ group → IsOfFlowIfKnown (load_of_flow timing plan stays flow)
+of_paced timing plan stays flow None group paced at = rw (paced) tt
+of_paced timing plan stays flow (Some pace) None paced at = rw (paced, at) tt
+of_paced timing plan stays flow (Some pace) (Some group) paced at = rw (paced, at) (of_flow timing plan stays flow pace group)
+
+each_flow : (timing : Timing) (plan : Plan) (stays : UnitPlan → Bool) (flow : FlowPlan) → IsOfFlowIfKnown (load_of_flow timing plan stays flow)
+each_flow timing plan stays flow = of_paced timing plan stays flow flow.pace (slice_get plan.groups.items flow.group) refl refl
+
+every_flow : (timing : Timing) (plan : Plan) (stays : UnitPlan → Bool) → All IsOfFlowIfKnown (loads_of timing plan stays)
+every_flow timing plan stays =
+    All-map IsOfFlowIfKnown (load_of_flow timing plan stays) plan.flows.items (λ k d below. each_flow timing plan stays (get_or plan.flows.items k d))
+
+pub of_loads : (timing : Timing) (plan : Plan) (stays : UnitPlan → Bool) (k : ℕ) (load : FlowLoad)
+    → slice_get (loads_of timing plan stays) k ≡ Some (Some load) → IsOfFlow load
+of_loads timing plan stays k load at = go (slice_get plan.flows.items k) refl
+  where
+    known : (flow : FlowPlan) → load_of_flow timing plan stays flow ≡ Some load → IsOfFlow load
+    known flow is = subst IsOfFlowIfKnown is (each_flow timing plan stays flow)
+
+    go : (flow : Option FlowPlan) → slice_get plan.flows.items k ≡ flow → IsOfFlow load
+    go None none = absurd (none-some (Some load)
+        (sym (slice_get-map (load_of_flow timing plan stays) plan.flows.items k ∙ ap (option_map (load_of_flow timing plan stays)) none) ∙ at))
+    go (Some flow) is = known flow
+        (same_Some _ (Some load)
+        (sym (slice_get-map (load_of_flow timing plan stays) plan.flows.items k ∙ ap (option_map (load_of_flow timing plan stays)) is) ∙ at))
+
+-- ---- frames of flows
+
+own_paced : (load : Option FlowLoad) → IsOfFlowIfKnown load → HasPeriod (frames_of_flow load)
+own_paced None known = tt
+own_paced (Some load) known = go load.messages known.messages
+  where
+    go : (messages : Messages) → ArePaced load.limit messages → HasPeriod (own_frames messages)
+    go (Short frames) is = is.0
+    go (ToOne frames) is = is
+    go (ToAll broadcast) is = tt
+
+singles_paced : (load : Option FlowLoad) → IsOfFlowIfKnown load → HasPeriod (singles_of_flow load)
+singles_paced None known = tt
+singles_paced (Some load) known = known.singles
+
+-- ---- frames of units
+
+positive_gaps : (bitrate : Bitrate) (gaps gap : ℕ) → 1 ≤ gaps → 10 ≤ gap → 0 < gaps * (gap * bits_per_ms bitrate)
+positive_gaps bitrate gaps gap some long = go (positive_ms bitrate gap (omega arith))
+  where
+    go : 0 < gap * bits_per_ms bitrate → 0 < gaps * (gap * bits_per_ms bitrate)
+    go one =
+        let most : (gap * bits_per_ms bitrate) * 1 ≤ (gap * bits_per_ms bitrate) * gaps = mul-le-mul_left (gap * bits_per_ms bitrate) some in
+        omega arith
+
+abbrev HasPackets : Broadcast → Type 0
+HasPackets broadcast = 2 ≤ broadcast.least_packets
+
+some_packets : (broadcasts : List Broadcast) → All HasPackets broadcasts → 1 ≤ least_packets broadcasts
+unfolding least_packets
+some_packets [] all = omega arith
+some_packets (b ∷ bs) all =
+    let first = All-head HasPackets b bs all in
+    let rest = some_packets bs (All-tail HasPackets b bs all) in
+    omega (arith, first, rest)
+
+by_paced : (u limit : ℕ) (messages : Messages) → ArePaced limit messages → IfSome (broadcast_from u messages) HasPackets
+by_paced u limit (Short frames) known = tt
+by_paced u limit (ToOne frames) known = tt
+by_paced u limit (ToAll broadcast) known =
+    elim (eqb broadcast.sender u) as (λ e. IfSome (if e then Some broadcast else None) HasPackets) [
+      | true ↦ known
+      | false ↦ tt
+    ]
+
+one_paced : (u : ℕ) (load : Option FlowLoad) → IsOfFlowIfKnown load → IfSome (broadcast_by u load) HasPackets
+one_paced u None known = tt
+one_paced u (Some load) known = by_paced u load.limit load.messages known.messages
+
+broadcasts_paced : (u : ℕ) (loads : List (Option FlowLoad)) → All IsOfFlowIfKnown loads → All HasPackets (broadcasts_by u loads)
+broadcasts_paced u [] all = λ k d below. absurd (omega arith)
+broadcasts_paced u (load ∷ loads) all =
+    go (broadcast_by u load) (one_paced u load (All-head IsOfFlowIfKnown load loads all))
+    (broadcasts_paced u loads (All-tail IsOfFlowIfKnown load loads all))
+  where
+    go : (broadcast : Option Broadcast) → IfSome broadcast HasPackets → All HasPackets (broadcasts_by u loads)
+        → All HasPackets (cons_option broadcast (broadcasts_by u loads))
+    go None known rest = rest
+    go (Some broadcast) known rest = All-cons HasPackets broadcast (broadcasts_by u loads) known rest
+
+unit_paced : (timing : Timing) (units : List UnitPlan) (stays : UnitPlan → Bool) (u : ℕ) (broadcasts : List Broadcast) → All HasPackets broadcasts
+    → HasPeriod (packets_of_unit (known_unit_load timing units stays u broadcasts))
+    × HasPeriod (announcements_of_unit (known_unit_load timing units stays u broadcasts))
+unit_paced timing units stays u [] all = (tt, tt)
+unit_paced timing units stays u (b ∷ bs) all = (
+  positive_gaps timing.bitrate 1 timing.broadcast_gap (omega arith) timing.broadcast_gap_least,
+  positive_gaps timing.bitrate (least_packets (b ∷ bs)) timing.broadcast_gap (some_packets (b ∷ bs) all) timing.broadcast_gap_least,
+)
+
+-- ---- all of them
+
+abbrev ArePacedUnits : Option UnitLoad → Type 0
+ArePacedUnits load = HasPeriod (packets_of_unit load) × HasPeriod (announcements_of_unit load)
+
+asked_paced : (timing : Timing) (plan : Plan) (stays : UnitPlan → Bool) → All HasPeriod (frames_asked (asked_of timing plan stays))
+asked_paced timing plan stays =
+    All-append HasPeriod (map frames_of_flow flows) (map singles_of_flow flows ++ (map packets_of_unit units ++ map announcements_of_unit units)) own
+    (All-append HasPeriod (map singles_of_flow flows) (map packets_of_unit units ++ map announcements_of_unit units) singles
+    (All-append HasPeriod (map packets_of_unit units) (map announcements_of_unit units) packets announcements))
+  where
+    flows : List (Option FlowLoad)
+    flows = loads_of timing plan stays
+
+    units : List (Option UnitLoad)
+    units = unit_loads_of timing plan.units.items stays flows
+
+    each : All IsOfFlowIfKnown flows
+    each = every_flow timing plan stays
+
+    own : All HasPeriod (map frames_of_flow flows)
+    own = All-map HasPeriod frames_of_flow flows (λ k d below. own_paced (get_or flows k d) (each k d below))
+
+    singles : All HasPeriod (map singles_of_flow flows)
+    singles = All-map HasPeriod singles_of_flow flows (λ k d below. singles_paced (get_or flows k d) (each k d below))
+
+    of_units : All ArePacedUnits units
+    of_units = All-map ArePacedUnits (λ u. known_unit_load timing plan.units.items stays u (broadcasts_by u flows)) (range_with_len 0 (length plan.units.items))
+        (λ k d below. let u = get_or (range_with_len 0 (length plan.units.items)) k d in
+        unit_paced timing plan.units.items stays u (broadcasts_by u flows) (broadcasts_paced u flows each))
+
+    packets : All HasPeriod (map packets_of_unit units)
+    packets = All-map HasPeriod packets_of_unit units (λ k d below. (of_units k d below).0)
+
+    announcements : All HasPeriod (map announcements_of_unit units)
+    announcements = All-map HasPeriod announcements_of_unit units (λ k d below. (of_units k d below).1)
+
+damage_paced : (timing : Timing) (errors : Option ErrorRate) → timing.errors ≡ errors → All HasPeriod (damage_frames timing)
+damage_paced timing None is = rw (is) (λ k d below. absurd (omega arith))
+damage_paced timing (Some rate) is =
+    let one : 0 < rate.every * bits_per_ms timing.bitrate = positive_ms timing.bitrate rate.every rate.every_positive in
+    rw (is) (All-cons HasPeriod (first_of_all (damage_stream timing rate (longest_frame frame_bytes))) (first_of_all (damage_stream timing rate error_frame) ∷ []) one
+    (All-cons HasPeriod (first_of_all (damage_stream timing rate error_frame)) [] one (λ k d below. absurd (omega arith))))
+
+pub all_paced : (timing : Timing) (plan : Plan) (stays : UnitPlan → Bool)
+    → All HasPeriod (frames_asked (asked_of timing plan stays) ++ damage_frames timing)
+all_paced timing plan stays = All-append HasPeriod (frames_asked (asked_of timing plan stays)) (damage_frames timing) (asked_paced timing plan stays)
+    (damage_paced timing timing.errors refl)

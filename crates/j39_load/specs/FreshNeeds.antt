@@ -1,0 +1,47 @@
+-- What a plan is good for that finds no need too old: on every bus what the unit needs is never older than it asks for.
+use Rattle.std.specs.Prelude.{◌≡◌, ℕ, ◌+◌, ◌<◌, ◌≤◌, Bool, List, Option, Some}
+use Rattle.std.specs.List.{slice_get}
+use Rattle.j39_findings.specs.Findings.{Meets}
+use Rattle.j39_findings.specs.declared.plan.Plan.{Plan}
+use Rattle.j39_findings.specs.declared.plan.flow_plan.FlowPlan.{FlowPlan}
+use Rattle.j39_findings.specs.declared.plan.need_plan.NeedPlan.{NeedPlan}
+use Rattle.j39_findings.specs.declared.plan.timing.Timing.{Timing}
+use Rattle.j39_findings.specs.declared.plan.unit_plan.UnitPlan.{UnitPlan}
+use Rattle.j39_load.specs.declared.delay.Delay.{Delay}
+use Rattle.j39_load.specs.declared.delay.Delay.TheVariants.{Within}
+use Rattle.j39_load.specs.Asked.{Asked, asked_of, frames_asked}
+use Rattle.j39_load.specs.LoadFindings.{AsksOfBus}
+use Rattle.j39_load.specs.Loads.{bits_of_ms}
+use Rattle.j39_load.specs.PlannedFrames.{AreFramesOfPlan, IsBounded}
+use Rattle.j39_timing.specs.Ages.{IsFresh, KeepsComing}
+use Rattle.j39_timing.specs.Schedule.{Schedule, IsLegal}
+use Rattle.j39_timing.specs.Streams.{Origins}
+use Rattle.j39_timing.specs.declared.stream.Stream.{Stream}
+
+-- In every legal schedule of such frames: while a frame of the flow has had its moment in the last `pause` bits, from its delay on a frame of
+-- it has ended that had its moment in the last `pause` bits and its delay.
+abbrev pub IsFreshOnEveryBus : Timing → Asked → ℕ → ℕ → Stream → ℕ → ℕ → Type 0
+IsFreshOnEveryBus timing asked flow pause stream wait delay = (s : Schedule) (planned : ℕ → Bool) (of : Origins) → IsLegal s
+    → AreFramesOfPlan timing (frames_asked asked) s planned of flow → (from to : ℕ) → KeepsComing s planned of flow pause from to
+    → to + (stream.late + wait) < s.now → IsFresh s planned of flow (pause + delay) (from + delay) (to + delay)
+
+-- some flow meets the need; for the longest time that it may be silent and its delay, which bounds its frames' time on every bus, together
+-- no more is asked than the need allows; and what comes by it is never older
+pub record IsNeedFresh (plan : Plan) (timing : Timing) (asked : Asked) (delays : List (Option Delay)) (need : NeedPlan) (within : ℕ) : Type 0 where
+  pub place : ℕ
+  pub flow : FlowPlan
+  pub its : slice_get plan.flows.items place ≡ Some flow
+  pub meets : Meets need flow
+  pub pause : ℕ
+  pub paused : flow.pause ≡ Some pause
+  pub bits : ℕ
+  pub delayed : slice_get delays place ≡ Some (Some (Within bits))
+  pub young : bits_of_ms timing pause + bits ≤ bits_of_ms timing within
+  pub bounded : IsBounded timing asked place bits
+  pub fresh : IsFreshOnEveryBus timing asked place (bits_of_ms timing pause) bounded.frames.stream bounded.wait bits
+
+-- so it is of each need of a plan that asks for an age: whoever tells who stays tells the same
+abbrev pub AreNeedsFresh : Plan → Timing → Type 0
+AreNeedsFresh plan timing = (stays : UnitPlan → Bool) × (delays : List (Option Delay)) × AsksOfBus plan timing stays delays
+    × ((n : ℕ) (need : NeedPlan) (within : ℕ) → slice_get plan.needs.items n ≡ Some need → need.within ≡ Some within
+    → IsNeedFresh plan timing (asked_of timing plan stays) delays need within)

@@ -1,0 +1,14 @@
+//! Long messages to all.
+
+/// The long messages of a flow to all. Their unit sends one such message at a time.
+#[derive(Clone, Copy, Debug, PartialEq, Eq)]
+pub struct Broadcast {
+    /// The unit that sends them, by its place.
+    pub sender: usize,
+    /// How many packets the longest has.
+    pub packets: u8,
+    /// How many packets the shortest has.
+    pub least_packets: u8,
+    /// How far apart the moments at which one is wanted are at least, in milliseconds.
+    pub period: u16,
+}

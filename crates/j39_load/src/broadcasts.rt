@@ -1,0 +1,190 @@
+//! What the broadcasts of each unit of a plan ask of the bus.
+ghost use Rattle.std.specs.Prelude.{◌≡◌, ◌+◌, ◌<◌, ◌≤◌, ◌*◌, ◌^◌, [], All, length, sum_by, IfOk, IfSome};
+ghost use Rattle.j39_load.specs.Broadcasts.{bits_each, broadcast_by, broadcast_frames, broadcasts_by, known_unit_load, least_packets, load_of_announcements, load_of_packets, unit_loads_of};
+ghost use Rattle.j39_load.specs.SoundLoads.{AreSound, IsSoundBroadcast, IsSoundIfKnown, IsSoundIfSent};
+ghost use Rattle.j39_load.specs.Standing.{stays_of};
+ghost use Rattle.j39_load.specs.inside.Broadcasting.{AreSoundBroadcasts};
+
+use crate::broadcast::Broadcast;
+use crate::extreme::Extreme;
+use crate::flow_frames::FlowFrames;
+use crate::flow_load::FlowLoad;
+use crate::identifiers::broadcast_ident;
+use crate::messages::Messages;
+use crate::standing::Standing;
+use crate::streams::{bits_each, spaced_stream};
+use crate::unit_load::UnitLoad;
+use j39_findings::{Timing, UnitPlan};
+use j39_id::Pgn;
+use j39_id::services::{CONNECTION_MANAGEMENT, DATA_TRANSFER};
+use std::alloc::{AllocError, Global};
+
+// The flow's long messages to all, where the unit at this place sends them.
+fn broadcast_by(unit: usize, load: &Option<FlowLoad>) -> Option<Broadcast>
+    requires { IsSoundIfKnown load.now }
+    ensures broadcast { result ≡ broadcast_by unit load.now }
+    ensures sound { IfSome result IsSoundBroadcast }
+{
+    let Some(load) = load else {
+        return None;
+    };
+    let Messages::ToAll(broadcast) = load.messages else {
+        return None;
+    };
+    if broadcast.sender == unit {
+        Some(broadcast)
+    } else {
+        None
+    }
+}
+
+// All broadcasts of the unit at this place.
+fn broadcasts_by(
+    alloc: Global,
+    unit: usize,
+    loads: &[Option<FlowLoad>],
+) -> Result<Vec<Broadcast>, AllocError>
+    requires { All IsSoundIfKnown loads.now }
+    ensures broadcasts { IfOk result (λ broadcasts. broadcasts.items ≡ broadcasts_by unit loads.now) }
+    ensures sound { IfOk result (λ broadcasts. AreSoundBroadcasts broadcasts.items) }
+    ensures few { IfOk result (λ broadcasts. length broadcasts.items ≤ length loads.now) }
+{
+    let mut broadcasts = Vec::new(alloc);
+    for load in loads {
+        if let Some(broadcast) = broadcast_by(unit, load) {
+            broadcasts.push(broadcast)?;
+        }
+    }
+    Ok(broadcasts)
+}
+
+// The least number of packets of these.
+fn least_packets(broadcasts: &[Broadcast]) -> u8
+    requires { AreSoundBroadcasts broadcasts.now }
+    ensures least { result ≡ least_packets broadcasts.now }
+    ensures some { 1 ≤ result }
+{
+    let mut least = 255;
+    for broadcast in broadcasts {
+        least = broadcast.least_packets.min(least);
+    }
+    least
+}
+
+// How many bits the packets of these broadcasts take in a second, if all are sent that are wanted.
+fn wanted_packets(broadcasts: &[Broadcast]) -> u64
+    requires sound { AreSoundBroadcasts broadcasts.now }
+    requires few { length broadcasts.now ≤ 2 ^ 16 }
+    ensures { result ≡ sum_by (λ b. bits_each b.packets b.period) broadcasts.now }
+{
+    let mut bits = 0;
+    for broadcast in broadcasts {
+        bits += u64::from(bits_each(broadcast.packets, broadcast.period));
+    }
+    bits
+}
+
+// How many bits their announcements take then.
+fn wanted_announcements(broadcasts: &[Broadcast]) -> u64
+    requires sound { AreSoundBroadcasts broadcasts.now }
+    requires few { length broadcasts.now ≤ 2 ^ 16 }
+    ensures { result ≡ sum_by (λ b. bits_each 1 b.period) broadcasts.now }
+{
+    let mut bits = 0;
+    for broadcast in broadcasts {
+        bits += u64::from(bits_each(1, broadcast.period));
+    }
+    bits
+}
+
+// How many bits these broadcasts, of which the shortest has so many packets, take in a second at most: their packets, and their
+// announcements.
+fn bits_per_second(timing: Timing, broadcasts: &[Broadcast], least: u8) -> u64
+    requires sound { AreSoundBroadcasts broadcasts.now }
+    requires few { length broadcasts.now ≤ 2 ^ 16 }
+    requires least { least ≡ least_packets broadcasts.now }
+    requires some { 1 ≤ least }
+    ensures bits { result ≡ load_of_packets timing broadcasts.now + load_of_announcements timing broadcasts.now }
+    ensures few { result < 2 ^ 33 }
+{
+    let gap = timing.broadcast_gap;
+    let packets = wanted_packets(broadcasts).min(u64::from(bits_each(1, gap)));
+    let spaced = u64::from(bits_each(1, u16::from(least) * gap));
+    let announcements = wanted_announcements(broadcasts).min(spaced);
+    packets + announcements
+}
+
+// Frames of a group of the transport protocol, from a unit to all, which are queued at least so many gaps apart.
+fn broadcast_frames(
+    timing: Timing,
+    units: &[UnitPlan],
+    standing: &Standing,
+    pgn: Pgn,
+    unit: usize,
+    gaps: u8,
+) -> FlowFrames
+    requires unit { unit < length units.now }
+    requires gaps { 1 ≤ gaps }
+    ensures frames { result ≡ broadcast_frames timing units.now (stays_of standing.now) pgn unit gaps }
+    ensures fits { AreSound result }
+{
+    FlowFrames {
+        stream: spaced_stream(timing, gaps),
+        least_ident: broadcast_ident(timing, pgn, units, standing, Extreme::Least, unit),
+        greatest_ident: broadcast_ident(timing, pgn, units, standing, Extreme::Greatest, unit),
+    }
+}
+
+// What these broadcasts of the unit at a place ask of the bus, where there are any.
+fn unit_load(
+    timing: Timing,
+    units: &[UnitPlan],
+    standing: &Standing,
+    unit: usize,
+    broadcasts: &[Broadcast],
+) -> Option<UnitLoad>
+    requires unit { unit < length units.now }
+    requires sound { AreSoundBroadcasts broadcasts.now }
+    requires few { length broadcasts.now ≤ 2 ^ 16 }
+    ensures load { result ≡ known_unit_load timing units.now (stays_of standing.now) unit broadcasts.now }
+    ensures sound { IsSoundIfSent result }
+{
+    if broadcasts.is_empty() {
+        return None;
+    }
+    let least = least_packets(broadcasts);
+    Some(UnitLoad {
+        packets: broadcast_frames(timing, units, standing, DATA_TRANSFER, unit, 1),
+        announcements: broadcast_frames(
+            timing,
+            units,
+            standing,
+            CONNECTION_MANAGEMENT,
+            unit,
+            least,
+        ),
+        bits_per_second: bits_per_second(timing, broadcasts, least),
+    })
+}
+
+/// What the broadcasts of each unit ask of the bus, in order, by what the flows do.
+pub(crate) fn unit_loads_of(
+    alloc: Global,
+    timing: Timing,
+    units: &[UnitPlan],
+    standing: &Standing,
+    loads: &[Option<FlowLoad>],
+) -> Result<Vec<Option<UnitLoad>>, AllocError>
+    requires sound { All IsSoundIfKnown loads.now }
+    requires few { length loads.now ≤ 2 ^ 16 }
+    ensures loads { IfOk result (λ result. result.items ≡ unit_loads_of timing units.now (stays_of standing.now) loads.now) }
+    ensures count { IfOk result (λ result. length result.items ≡ length units.now) }
+    ensures sound { IfOk result (λ result. All IsSoundIfSent result.items) }
+{
+    let mut unit_loads = Vec::new(alloc);
+    for unit in 0..units.len() {
+        let broadcasts = broadcasts_by(alloc, unit, loads)?;
+        unit_loads.push(unit_load(timing, units, standing, unit, broadcasts.as_slice()))?;
+    }
+    Ok(unit_loads)
+}

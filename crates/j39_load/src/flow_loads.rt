@@ -1,0 +1,228 @@
+//! What each flow of a plan asks of the bus.
+ghost use Rattle.std.specs.Prelude.{◌≡◌, ◌^◌, ◌<◌, ◌≤◌, ℕ, max, All, length, IfOk};
+ghost use Rattle.j39_findings.specs.declared.plan.to.To.TheVariants.{One};
+ghost use Rattle.j39_load.specs.Loads.{broadcast_of, flow_load, load_of_flow, load_of_messages, loads_of, messages_of, packet_frames};
+ghost use Rattle.j39_load.specs.Loads.{single_frames, singles_of, time_limit};
+ghost use Rattle.j39_load.specs.SoundLoads.{AreSound, AreSoundIfAny, AreSoundMessages, IsSoundBroadcast, IsSoundIfKnown, IsSoundLoad};
+ghost use Rattle.j39_load.specs.Standing.{stays_of};
+ghost use Rattle.j39_load.specs.inside.FewFrames.{HaveFewFrames};
+ghost use Rattle.j39_tp.specs.Chunks.{packets_of};
+
+use crate::broadcast::Broadcast;
+use crate::extreme::Extreme;
+use crate::flow_frames::FlowFrames;
+use crate::flow_load::FlowLoad;
+use crate::identifiers::{group_ident, packet_ident};
+use crate::messages::Messages;
+use crate::standing::Standing;
+use crate::streams::{bits_of_ms, load, packet_stream, single_stream};
+use j39_findings::{FlowPlan, GroupPlan, Pace, Plan, Timing, To, UnitPlan};
+use j39_id::limits::FRAME_BYTES;
+use j39_tp::Size;
+use std::alloc::{AllocError, Global};
+
+// Within how many bits of its moment each frame of a flow of this pace has to be on the bus.
+fn limit(timing: Timing, pace: Pace) -> u32
+    ensures limit { result ≡ time_limit timing pace }
+    ensures few { result < 2 ^ 31 }
+{
+    let deadline = pace.deadline.unwrap_or(pace.period);
+    bits_of_ms(timing, deadline.min(pace.period))
+}
+
+// The frames of a flow's messages that go in one frame.
+fn single_frames(
+    timing: Timing,
+    units: &[UnitPlan],
+    standing: &Standing,
+    flow: &FlowPlan,
+    pace: Pace,
+    group: &GroupPlan,
+) -> FlowFrames
+    requires sender { flow.now.sender < length units.now }
+    requires receiver { (v : ℕ) → flow.now.to ≡ One v → v < length units.now }
+    ensures frames { result ≡ single_frames timing units.now (stays_of standing.now) flow.now pace group.now }
+    ensures fits { AreSound result }
+    ensures few { result.stream.frames ≤ 512 }
+{
+    FlowFrames {
+        stream: single_stream(timing, group, pace),
+        least_ident: group_ident(units, standing, Extreme::Least, group, flow),
+        greatest_ident: group_ident(units, standing, Extreme::Greatest, group, flow),
+    }
+}
+
+// Those of its long messages to the unit at a place, each of so many packets.
+fn packet_frames(
+    timing: Timing,
+    units: &[UnitPlan],
+    standing: &Standing,
+    flow: &FlowPlan,
+    unit: usize,
+    pace: Pace,
+    packets: u8,
+) -> FlowFrames
+    requires sender { flow.now.sender < length units.now }
+    requires receiver { (v : ℕ) → flow.now.to ≡ One v → v < length units.now }
+    requires to { unit < length units.now }
+    ensures frames { result ≡ packet_frames timing units.now (stays_of standing.now) flow.now unit pace packets }
+    ensures fits { AreSound result }
+    ensures few { result.stream.frames ≤ 512 }
+{
+    FlowFrames {
+        stream: packet_stream(timing, units, packets, unit, pace),
+        least_ident: packet_ident(timing, units, standing, Extreme::Least, flow),
+        greatest_ident: packet_ident(timing, units, standing, Extreme::Greatest, flow),
+    }
+}
+
+// How many packets the shortest long message of the group has.
+fn least_packets(group: &GroupPlan) -> u8
+    ensures { result ≡ max 2 (packets_of group.now.length) }
+{
+    match Size::new(group.length) {
+        Some(size) => size.packets(),
+        None => 2,
+    }
+}
+
+// The long messages of a flow to all, each of so many packets at most.
+fn broadcast(flow: &FlowPlan, pace: Pace, group: &GroupPlan, packets: u8) -> Broadcast
+    requires { packets ≡ packets_of group.now.most }
+    ensures broadcast { result ≡ broadcast_of flow.now pace group.now }
+    ensures sound { IsSoundBroadcast result }
+{
+    Broadcast {
+        sender: flow.sender,
+        packets,
+        least_packets: least_packets(group),
+        period: pace.period,
+    }
+}
+
+// The messages of a flow, by the longest.
+fn messages_of(
+    timing: Timing,
+    units: &[UnitPlan],
+    standing: &Standing,
+    flow: &FlowPlan,
+    pace: Pace,
+    group: &GroupPlan,
+) -> Messages
+    requires sender { flow.now.sender < length units.now }
+    requires receiver { (v : ℕ) → flow.now.to ≡ One v → v < length units.now }
+    ensures messages { result ≡ messages_of timing units.now (stays_of standing.now) flow.now pace group.now }
+    ensures sound { AreSoundMessages result }
+    ensures few { HaveFewFrames result }
+{
+    let Some(size) = Size::new(group.most) else {
+        return Messages::Short(single_frames(timing, units, standing, flow, pace, group));
+    };
+    let packets = size.packets();
+    match flow.to {
+        To::All => Messages::ToAll(broadcast(flow, pace, group, packets)),
+        To::One(unit) => {
+            let frames = packet_frames(timing, units, standing, flow, unit, pace, packets);
+            Messages::ToOne(frames)
+        }
+    }
+}
+
+// The single frames of a flow, where it has long messages too.
+fn singles_of(
+    timing: Timing,
+    units: &[UnitPlan],
+    standing: &Standing,
+    flow: &FlowPlan,
+    pace: Pace,
+    group: &GroupPlan,
+) -> Option<FlowFrames>
+    requires sender { flow.now.sender < length units.now }
+    requires receiver { (v : ℕ) → flow.now.to ≡ One v → v < length units.now }
+    ensures singles { result ≡ singles_of timing units.now (stays_of standing.now) flow.now pace group.now }
+    ensures fits { AreSoundIfAny result }
+{
+    if usize::from(group.most) > FRAME_BYTES && usize::from(group.length) <= FRAME_BYTES {
+        Some(single_frames(timing, units, standing, flow, pace, group))
+    } else {
+        None
+    }
+}
+
+// How many bits these messages of a flow take in a second at most, of this period in milliseconds; broadcasts count with those of their
+// unit.
+fn load_of_messages(messages: &Messages, period: u16) -> u32
+    requires period { 1 ≤ period }
+    requires sound { AreSoundMessages messages.now }
+    requires few { HaveFewFrames messages.now }
+    ensures { result ≡ load_of_messages messages.now period }
+{
+    match messages {
+        Messages::Short(frames) => load(frames.stream, period),
+        Messages::ToOne(frames) => load(frames.stream, period),
+        Messages::ToAll(_broadcast) => 0,
+    }
+}
+
+fn flow_load(
+    timing: Timing,
+    units: &[UnitPlan],
+    standing: &Standing,
+    flow: &FlowPlan,
+    pace: Pace,
+    group: &GroupPlan,
+) -> FlowLoad
+    requires sender { flow.now.sender < length units.now }
+    requires receiver { (v : ℕ) → flow.now.to ≡ One v → v < length units.now }
+    ensures load { result ≡ flow_load timing units.now (stays_of standing.now) flow.now pace group.now }
+    ensures sound { IsSoundLoad result }
+{
+    let messages = messages_of(timing, units, standing, flow, pace, group);
+    FlowLoad {
+        messages,
+        singles: singles_of(timing, units, standing, flow, pace, group),
+        limit: limit(timing, pace),
+        bits_per_second: load_of_messages(&messages, pace.period),
+    }
+}
+
+// What a flow asks of the bus, where it is known how often it is sent.
+fn load_of_flow(
+    timing: Timing,
+    plan: &Plan,
+    standing: &Standing,
+    flow: &FlowPlan,
+) -> Option<FlowLoad>
+    requires group { flow.now.group < length plan.now.groups.items }
+    requires sender { flow.now.sender < length plan.now.units.items }
+    requires receiver { (v : ℕ) → flow.now.to ≡ One v → v < length plan.now.units.items }
+    ensures load { result ≡ load_of_flow timing plan.now (stays_of standing.now) flow.now }
+    ensures sound { IsSoundIfKnown result }
+{
+    match flow.pace {
+        Some(pace) => {
+            let group = &plan.groups[flow.group];
+            let units = plan.units.as_slice();
+            Some(flow_load(timing, units, standing, flow, pace, group))
+        }
+        None => None,
+    }
+}
+
+/// What each flow of a plan asks of the bus, in order.
+pub(crate) fn loads_of(
+    alloc: Global,
+    timing: Timing,
+    plan: &Plan,
+    standing: &Standing,
+) -> Result<Vec<Option<FlowLoad>>, AllocError>
+    ensures loads { IfOk result (λ loads. loads.items ≡ loads_of timing plan.now (stays_of standing.now)) }
+    ensures count { IfOk result (λ loads. length loads.items ≡ length plan.now.flows.items) }
+    ensures sound { IfOk result (λ loads. All IsSoundIfKnown loads.items) }
+{
+    let mut loads = Vec::with_capacity(alloc, plan.flows.len())?;
+    for place in 0..plan.flows.len() {
+        loads.push_reserved(load_of_flow(timing, plan, standing, &plan.flows[place]));
+    }
+    Ok(loads)
+}

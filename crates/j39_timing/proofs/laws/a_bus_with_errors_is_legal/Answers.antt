@@ -1,0 +1,5 @@
+use Rattle.j39_timing.proofs.Errors.{legal_with_errors}
+use Rattle.j39_timing.proofs.laws.a_bus_with_errors_is_legal.Goals as goal
+
+pub returns : goal.returns
+returns c = record { legal = legal_with_errors }

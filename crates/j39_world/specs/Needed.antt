@@ -1,0 +1,65 @@
+-- What a unit needs arrives: what another unit writes is what it reads. How messages arrive and how signals read back, put together.
+use Rattle.std.specs.Prelude.{◌≡◌, ℕ, ◌⊎◌, ℤ, true, List, [], ◌∷◌, ◌++◌, None, Some}
+use Rattle.std.specs.List.{HoldsAt, slice_get}
+use Rattle.j39_signal.specs.Bits.{raw_of}
+use Rattle.j39_signal.specs.Laid.{Chain, Write, blank, last_payload}
+use Rattle.j39_signal.specs.State.{IsRawOf, state_of}
+use Rattle.j39_signal.specs.declared.state.State.TheVariants.{Value}
+use Rattle.j39_findings.specs.Findings.{Meets}
+use Rattle.j39_findings.specs.Lengths.{IsLengthOf}
+use Rattle.j39_findings.specs.Records.{signals_in}
+use Rattle.j39_findings.specs.SoundSignals.{LeaveAlone}
+use Rattle.j39_findings.specs.declared.plan.Plan.{Plan}
+use Rattle.j39_findings.specs.declared.plan.flow_plan.FlowPlan.{FlowPlan}
+use Rattle.j39_findings.specs.declared.plan.group_plan.GroupPlan.{GroupPlan}
+use Rattle.j39_findings.specs.declared.plan.need_plan.NeedPlan.{NeedPlan}
+use Rattle.j39_findings.specs.declared.steps.Step.{Step}
+use Rattle.j39_world.specs.Arriving.{Answered, IsAlone, IsThrough, IsUnanswered, RunSparing}
+use Rattle.j39_world.specs.Flows.{flow_of, flows_of}
+use Rattle.j39_world.specs.Run.{begin_refusal, count_of, is_on}
+use Rattle.j39_world.specs.Sound.{reported}
+use Rattle.j39_world.specs.TransferSteps.{begins, outgoing}
+use Rattle.j39_world.specs.World.{World}
+use Rattle.j39_world.specs.declared.flow.Flow.{Flow}
+
+-- a message of a flow that meets a need, whose bytes were written signal after signal, from a blank payload of one of its group's lengths on
+pub record NeededMessage (plan : Plan) : Type 0 where
+  pub need_place : ℕ
+  pub need : NeedPlan
+  pub needed : slice_get plan.needs.items need_place ≡ Some need
+  pub place : ℕ
+  pub flow : FlowPlan
+  pub its : slice_get plan.flows.items place ≡ Some flow
+  pub meets : Meets need flow
+  pub group : GroupPlan
+  pub of : slice_get plan.groups.items flow.group ≡ Some group
+  pub count : ℕ
+  pub length : IsLengthOf group count
+  pub writes : List Write
+  pub chain : Chain (signals_in group count) (blank count) writes
+
+-- its bytes
+abbrev pub bytes_of : {plan : Plan} → NeededMessage plan → List ℕ
+bytes_of m = last_payload (blank m.count) m.writes
+
+-- it is begun in the first of two worlds, and in the second all of it was sent and taken: it is one that no receiver answers and steps that
+-- spare it lead there, or one that its receiver answers
+abbrev pub IsDelivered : (plan : Plan) → NeededMessage plan → World → World → Type 0
+IsDelivered plan m w after =
+    ((flow : Flow) × (steps : List Step) × (slice_get (flows_of plan) m.place ≡ Some flow) × IsUnanswered flow (bytes_of m)
+    × (begin_refusal (count_of plan) w (Some flow) (bytes_of m) ≡ None)
+    × RunSparing plan flow.sender (outgoing (count_of plan) w.stations m.place flow (bytes_of m)).targets
+    (begins (count_of plan) w m.place flow (bytes_of m)) steps after
+    × IsThrough plan after flow.sender (outgoing (count_of plan) w.stations m.place flow (bytes_of m)).targets)
+    ⊎ ((a : Answered plan w) × IsAlone plan w a × (a.place ≡ m.place) × (a.bytes ≡ bytes_of m) × (a.after ≡ after))
+
+-- the need's unit has reported these bytes once since, and each signal in them that was last given a value reads this value there
+pub record HasNeeded (plan : Plan) (m : NeededMessage plan) (before after : World) : Type 0 where
+  pub reports : reported after.reports m.need.unit m.flow.sender
+      ≡ reported before.reports m.need.unit m.flow.sender ++ record { flow = m.place; bytes = bytes_of m } ∷ []
+  pub reads : (earlier later : List Write) (x : Write) → m.writes ≡ earlier ++ x ∷ later → LeaveAlone later x.place → (value : ℤ)
+      → HoldsAt (λ s. IsRawOf s value x.raw → state_of s (raw_of (bytes_of m) s) ≡ Value value) (signals_in m.group m.count) x.place
+
+-- a message that is begun here, while the need's unit is on, and of which nothing is lost, tells it what was written
+abbrev pub NeededValuesArrive : Plan → World → Type 0
+NeededValuesArrive plan w = (m : NeededMessage plan) (after : World) → is_on w.stations m.need.unit ≡ true → IsDelivered plan m w after → HasNeeded plan m w after
