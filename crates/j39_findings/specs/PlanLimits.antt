@@ -20,3 +20,11 @@ signal_limit = 64
 -- the most texts of a group
 abbrev pub text_limit : ℕ
 text_limit = 64
+
+-- the most raw numbers of a signal that have a name
+abbrev pub value_limit : ℕ
+value_limit = 256
+
+-- the greatest number of a signal (SPN), which has 19 bits
+abbrev pub spn_most : ℕ
+spn_most = 524287

@@ -17,3 +17,9 @@ pub const SIGNAL_LIMIT: usize = 64;
 
 /// The most texts of a group.
 pub const TEXT_LIMIT: usize = 64;
+
+/// The most raw numbers of a signal that have a name.
+pub const VALUE_LIMIT: usize = 256;
+
+/// The greatest number of a signal (SPN), which has 19 bits.
+pub const SPN_MOST: u32 = 524_287;

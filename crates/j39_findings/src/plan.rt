@@ -9,6 +9,7 @@ ghost use Rattle.j39_findings.specs.declared.plan.to.To.TheVariants.{One};
 
 mod flow_plan;
 mod group_plan;
+mod meaning;
 mod need_plan;
 mod pace;
 mod text_places;
@@ -21,6 +22,7 @@ mod way;
 pub use flow_plan::FlowPlan;
 pub use group_plan::GroupPlan;
 use j39_claim::AddressSet;
+pub use meaning::{Meaning, ValueName};
 pub use need_plan::NeedPlan;
 pub use pace::Pace;
 pub use text_plan::TextPlan;

@@ -13,7 +13,7 @@ use Rattle.j39_log.specs.inside.Listening.{IsCatalogOf}
 use Rattle.j39_log.specs.inside.ValueLines.{items_of, value_lines_of}
 use Rattle.j39_log.specs.declared.value_line.ValueLine.{ValueLine}
 use Rattle.j39_log.specs.LogFrames.{planned_group, is_planned_as, is_shared_as, planned}
-use Rattle.j39_log.specs.LogReports.{group_report}
+use Rattle.j39_log.specs.NamedReports.{group_report}
 use Rattle.j39_log.specs.ReadText.{IsGroupReport}
 use Rattle.j39_id.specs.Ident.{pgn_of}
 use Rattle.j39_id.specs.declared.frame.Frame.{Frame}
@@ -48,7 +48,7 @@ planned_there plan pgn bytes place group found here =
 
 -- its report is that of the place
 pub report_there : (plan : Plan) (place : ℕ) (group : GroupPlan) (i : Ident) (bytes : List ℕ) → place < length plan.groups.items
-    → HoldsAt (λ (g : GroupPlan). g ≡ group) plan.groups.items place → IsGroupReport plan (Some place) i bytes (group_report group i bytes)
+    → HoldsAt (λ (g : GroupPlan). g ≡ group) plan.groups.items place → IsGroupReport plan (Some place) i bytes (group_report plan group i bytes)
 report_there plan place group i bytes less here = record {
   value = group;
   value_is = slice_get-get_or plan.groups.items place group less ∙ ap Some (here group);
