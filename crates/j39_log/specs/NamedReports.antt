@@ -81,12 +81,12 @@ unfoldable pub code_text : Names → ℕ → List ℕ
 code_text parameters code =
     plain.code_text code ++ (if tells_parameter code then parameter_name_text parameters (suspect_parameter code) else [])
 
-unfoldable pub value_text : Names → SignalParts → Kind → ℤ → List ℕ
-value_text parameters s Dtc v = code_text parameters (unsigned_abs v)
-value_text parameters s _ v = scaled_text s.per s.unit.bytes v
+unfoldable pub value_text : Names → Kind → ℕ → List ℕ → ℤ → List ℕ
+value_text parameters Dtc per unit v = code_text parameters (unsigned_abs v)
+value_text parameters _ per unit v = scaled_text per unit v
 
 unfoldable pub state_text : Names → SignalParts → State → List ℕ
-state_text parameters s (Value v) = value_text parameters s s.kind v
+state_text parameters s (Value v) = value_text parameters s.kind s.per s.unit.bytes v
 state_text parameters s state = signal_state_text s state
 
 -- the value with its name, where the raw number has one, whatever its state

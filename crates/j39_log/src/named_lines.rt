@@ -1,5 +1,5 @@
 //! The lines of signals and records where the plan has names.
-ghost use Rattle.std.specs.Prelude.{◌≡◌, ◌≤◌, ◌<◌, ◌+◌, ◌*◌, [], ◌∷◌, ◌++◌, length, map, true, Some, All, OnOk};
+ghost use Rattle.std.specs.Prelude.{◌≡◌, ◌≤◌, ◌<◌, [], ◌++◌, if◌then◌else◌, length, true, Some, All, OnOk};
 ghost use Rattle.std.specs.List.{HoldsAt, zip};
 ghost use Rattle.j39_signal.specs.Places.{IsInside, further};
 ghost use Rattle.j39_signal.specs.Bits.{raw_of};
@@ -60,7 +60,7 @@ fn write_value(
     signal: &Signal,
     value: i64,
 ) -> Result<(), AllocError>
-    ensures { OnOk result (text.new ≡ text.old ++ value_text (names_in parameters.now) signal.now signal.now.kind value) }
+    ensures { OnOk result (text.new ≡ text.old ++ value_text (names_in parameters.now) signal.now.kind signal.now.per signal.now.unit.bytes value) }
 {
     match signal.kind() {
         Kind::Dtc => write_named_code(text, parameters, value.unsigned_abs()),
@@ -129,20 +129,21 @@ fn write_single(
 // The signals of a group that aren't repeated. All of them lay out the first bytes.
 fn write_signals(
     text: &mut TextBuffer,
-    names: GroupNames<'_>,
+    values: &[NameTable],
+    parameters: &NameTable,
     signals: &[Signal],
     layout: &Layout,
     bytes: &[u8],
 ) -> Result<(), AllocError>
     requires signals { layout.now.signals ≡ signals.now }
-    requires names { length names.values.now ≡ length signals.now }
+    requires names { length values.now ≡ length signals.now }
     requires bytes { layout.now.length ≤ length bytes.now }
     ensures { OnOk result (text.new ≡ text.old
-        ++ signal_lines (names_in names.entry.parameters.now) (single_signals (named_by names.entry.values.now signals.now)) bytes.now) }
+        ++ signal_lines (names_in parameters.now) (single_signals (named_by values.now signals.now)) bytes.now) }
 {
     for (place, signal) in signals.iter().enumerate() {
         let shown = layout.show(bytes, place);
-        write_single(text, &names.values[place], names.parameters, signal, shown)?;
+        write_single(text, &values[place], parameters, signal, shown)?;
     }
     Ok(())
 }
@@ -169,58 +170,88 @@ fn write_line(
     text.end_line()
 }
 
+// The signal at place `i` of a layout as it stands so many bytes further on, if it is repeated.
+fn write_repeated(
+    text: &mut TextBuffer,
+    place: usize,
+    values: &NameTable,
+    parameters: &NameTable,
+    layout: &Layout,
+    signal: &Signal,
+    i: usize,
+    bytes: &[u8],
+    behind: usize,
+) -> Result<(), AllocError>
+    requires place { i < length layout.now.signals }
+    requires at { HoldsAt (λ s. s ≡ signal.now) layout.now.signals i }
+    requires inside { signal.now.repeated ≡ true → IsInside (length bytes.now) (further behind signal.now) }
+    ensures { OnOk result (text.new ≡ text.old ++ (if signal.now.repeated
+        then record_line place signal.now (raw_text (names_in parameters.now) (signal.now, names_in values.now) (raw_of bytes.now (further behind signal.now)))
+        else [])) }
+{
+    if signal.is_repeated() {
+        let shown = layout.show_further(bytes, i, behind);
+        write_line(text, place, values, parameters, signal, shown)
+    } else {
+        Ok(())
+    }
+}
+
 // The record of a place, which stands so many bytes behind the first.
 fn write_record(
     text: &mut TextBuffer,
     place: usize,
-    names: GroupNames<'_>,
+    values: &[NameTable],
+    parameters: &NameTable,
     layout: &Layout,
     signals: &[Signal],
     bytes: &[u8],
     behind: usize,
 ) -> Result<(), AllocError>
     requires signals { layout.now.signals ≡ signals.now }
-    requires names { length names.values.now ≡ length signals.now }
+    requires names { length values.now ≡ length signals.now }
     requires inside { All (IsInside (length bytes.now)) (plain_records behind signals.now) }
     ensures { OnOk result (text.new ≡ text.old
-        ++ record_lines (names_in names.entry.parameters.now) place (record_signals behind (named_by names.entry.values.now signals.now)) bytes.now) }
+        ++ record_lines (names_in parameters.now) place (record_signals behind (named_by values.now signals.now)) bytes.now) }
 {
     for (i, signal) in signals.iter().enumerate() {
-        if signal.is_repeated() {
-            let shown = layout.show_further(bytes, i, behind);
-            write_line(
-                text,
-                place,
-                &names.values[i],
-                names.parameters,
-                signal,
-                shown,
-            )?;
-        }
+        write_repeated(
+            text, place, &values[i], parameters, layout, signal, i, bytes, behind,
+        )?;
     }
     Ok(())
 }
 
 fn write_all_records(
     text: &mut TextBuffer,
-    names: GroupNames<'_>,
+    values: &[NameTable],
+    parameters: &NameTable,
     group: &GroupPlan,
     every: u8,
     layout: &Layout,
     bytes: &[u8],
 ) -> Result<(), AllocError>
     requires signals { layout.now.signals ≡ group.now.signals.items }
-    requires names { length names.values.now ≡ length group.now.signals.items }
+    requires names { length values.now ≡ length group.now.signals.items }
     requires every { group.now.every ≡ Some every }
     ensures { OnOk result (text.new ≡ text.old
-        ++ records_lines (names_in names.entry.parameters.now) every (record_count group.now (length bytes.now))
-        (named_by names.entry.values.now group.now.signals.items) bytes.now) }
+        ++ records_lines (names_in parameters.now) every (record_count group.now (length bytes.now))
+        (named_by values.now group.now.signals.items) bytes.now) }
 {
     let signals = group.signals.as_slice();
     let count = group.record_count(bytes.len());
     for record in 0..count {
         let behind = usize::from(every) * record;
-        write_record(text, record + 1, names, layout, signals, bytes, behind)?;
+        write_record(
+            text,
+            record + 1,
+            values,
+            parameters,
+            layout,
+            signals,
+            bytes,
+            behind,
+        )?;
     }
     Ok(())
 }
@@ -228,19 +259,20 @@ fn write_all_records(
 #[tactic(auto, unfolding(crate::specs::NamedReports::all_records_lines))]
 fn write_records(
     text: &mut TextBuffer,
-    names: GroupNames<'_>,
+    values: &[NameTable],
+    parameters: &NameTable,
     group: &GroupPlan,
     layout: &Layout,
     bytes: &[u8],
 ) -> Result<(), AllocError>
     requires signals { layout.now.signals ≡ group.now.signals.items }
-    requires names { length names.values.now ≡ length group.now.signals.items }
+    requires names { length values.now ≡ length group.now.signals.items }
     ensures { OnOk result (text.new ≡ text.old
-        ++ all_records_lines (names_in names.entry.parameters.now) group.now (named_by names.entry.values.now group.now.signals.items) bytes.now) }
+        ++ all_records_lines (names_in parameters.now) group.now (named_by values.now group.now.signals.items) bytes.now) }
 {
     match group.every {
         None => Ok(()),
-        Some(every) => write_all_records(text, names, group, every, layout, bytes),
+        Some(every) => write_all_records(text, values, parameters, group, every, layout, bytes),
     }
 }
 
@@ -261,7 +293,15 @@ pub(crate) fn write_named(
     ensures { OnOk result (text.new ≡ text.old
         ++ named_lines (names_in names.entry.parameters.now) (named_by names.entry.values.now group.now.signals.items) group.now bytes.now) }
 {
-    write_signals(text, names, group.signals.as_slice(), layout, bytes)?;
-    write_records(text, names, group, layout, bytes)?;
+    let (values, parameters) = (names.values, names.parameters);
+    write_signals(
+        text,
+        values,
+        parameters,
+        group.signals.as_slice(),
+        layout,
+        bytes,
+    )?;
+    write_records(text, values, parameters, group, layout, bytes)?;
     write_texts(text, group.texts.as_slice(), bytes)
 }

@@ -1,10 +1,10 @@
 //! The names that a plan has: of raw numbers of its signals, and of suspect parameters.
 ghost use Rattle.std.specs.Prelude.{◌≡◌, ◌≢◌, ◌<◌, ◌++◌, [], ◌∷◌, List, length, map, true, IfOk, OnOk, OnErr, IsTrue};
-ghost use Rattle.j39_log.specs.NamedReports.{Numbered, HasNoMeanings, first_names, names_of, numbered_signals, all_numbered};
+ghost use Rattle.j39_log.specs.NamedReports.{Numbered, HasNoMeanings, first_names, names_of, numbered_signals, all_numbered, value_names};
 ghost use Rattle.j39_log.specs.inside.NameTables.{AreNamesOf, has_no_meanings, names_in, signal_name, tables_of, value_names_of};
 
 use crate::name_table::NameTable;
-use j39_findings::{GroupPlan, Meaning, Plan};
+use j39_findings::{GroupPlan, Meaning, Plan, ValueName};
 use j39_signal::Signal;
 use j39_text::TextBuffer;
 use std::alloc::{AllocError, Global};
@@ -40,11 +40,11 @@ fn value_name(alloc: Global, label: &str) -> Result<TextBuffer, AllocError>
     Ok(text)
 }
 
-fn value_table(alloc: Global, meaning: &Meaning) -> Result<NameTable, AllocError>
-    ensures { IfOk result (λ table. names_in table ≡ names_of meaning.now) }
+fn value_table(alloc: Global, values: &[ValueName]) -> Result<NameTable, AllocError>
+    ensures { IfOk result (λ table. names_in table ≡ value_names values.now) }
 {
     let mut table = NameTable::new(alloc);
-    for named in &meaning.values {
+    for named in values {
         table.add(named.raw, value_name(alloc, named.name.as_str())?)?;
     }
     Ok(table)
@@ -55,7 +55,7 @@ fn value_tables(alloc: Global, meanings: &[Meaning]) -> Result<Vec<NameTable>, A
 {
     let mut tables = Vec::new(alloc);
     for meaning in meanings {
-        tables.push(value_table(alloc, meaning)?)?;
+        tables.push(value_table(alloc, meaning.values.as_slice())?)?;
     }
     Ok(tables)
 }
@@ -85,7 +85,8 @@ fn add_signals(alloc: Global, table: &mut NameTable, group: &GroupPlan) -> Resul
     ensures { OnOk result ((before : List Numbered) → names_in table.old ≡ first_names before
         → names_in table.new ≡ first_names (before ++ numbered_signals group.now)) }
 {
-    for (place, meaning) in group.meanings.iter().enumerate() {
+    let meanings = group.meanings.as_slice();
+    for (place, meaning) in meanings.iter().enumerate() {
         if let Some(spn) = meaning.spn {
             table.add(spn, signal_name(alloc, group, &group.signals[place])?)?;
         }

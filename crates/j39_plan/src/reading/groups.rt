@@ -170,12 +170,12 @@ fn group(
         group: index,
     };
     let planned = read_each(alloc, &reader, later.signals)?;
-    let (signals, meanings) = parted(alloc, planned)?;
+    let parts = parted(alloc, planned)?;
     let texts = read_each(
         alloc,
         &Texts {
             group: index,
-            signals: &signals,
+            signals: &parts.0,
         },
         later.texts,
     )?;
@@ -187,8 +187,8 @@ fn group(
         private: later.private,
         most: later.most as u16,
         every,
-        signals,
-        meanings,
+        signals: parts.0,
+        meanings: parts.1,
         texts,
     })
 }
