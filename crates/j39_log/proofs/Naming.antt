@@ -1,5 +1,5 @@
 -- Names that are added one after another.
-use Rattle.std.proofs.Common.{◌≡◌, ℕ, ◌+◌, ◌<◌, ◌==◌, Bool, true, false, cond, if◌then◌else◌, nat_eq, List, [], ◌∷◌, ◌++◌, map, take, length, get_or, Option, Some, None, option_map, refl, sym, ap, ◌∙◌, append_assoc, arith}
+use Rattle.std.proofs.Common.{◌≡◌, ℕ, ◌+◌, ◌<◌, ◌==◌, Bool, true, false, cond, if◌then◌else◌, nat_eq, List, [], ◌∷◌, ◌++◌, map, take, length, get_or, Option, Some, None, is_some, option_map, refl, sym, ap, ◌∙◌, append_assoc, arith}
 use Rattle.std.proofs.Math.Path.{fun_ext}
 use Rattle.std.specs.List.{find, zip}
 use Rattle.std.specs.Option.{option_or, option_map_or}
@@ -27,9 +27,14 @@ kept_at names number n name x true is has =
     rw here refl
 kept_at names number n name x false is has = or_nothing (names n)
 
+kept_by : (names : Names) (number : ℕ) (name : List ℕ) (own : Option (List ℕ)) → names number ≡ own → is_some own ≡ true
+    → names ≡ with_name names number name
+kept_by names number name None is has = cc
+kept_by names number name (Some x) is has = fun_ext (λ n. kept_at names number n name x (nat_eq number n) refl is)
+
 -- a number that has a name keeps it
-pub kept : (names : Names) (number : ℕ) (name x : List ℕ) → names number ≡ Some x → names ≡ with_name names number name
-kept names number name x has = fun_ext (λ n. kept_at names number n name x (nat_eq number n) refl has)
+pub kept : (names : Names) (number : ℕ) (name : List ℕ) → is_some (names number) ≡ true → names ≡ with_name names number name
+kept names number name has = kept_by names number name (names number) refl has
 
 put_at : (names : Names) (number n : ℕ) (name : List ℕ) (same : Bool) → nat_eq number n ≡ same → names number ≡ None
     → cond same (Some name) (names n) ≡ option_or (names n) (if same then Some name else None)
@@ -38,11 +43,15 @@ put_at names number n name true is none =
     rw here refl
 put_at names number n name false is none = or_nothing (names n)
 
+none_there : (own : Option (List ℕ)) → is_some own ≡ false → own ≡ None
+none_there None is = refl
+none_there (Some x) is = cc
+
 -- one that has none gets it
-pub put : (names new : Names) (number : ℕ) (name : List ℕ) → names number ≡ None
+pub put : (names new : Names) (number : ℕ) (name : List ℕ) → is_some (names number) ≡ false
     → ((n : ℕ) → new n ≡ cond (nat_eq number n) (Some name) (names n)) → new ≡ with_name names number name
 put names new number name none updates =
-    fun_ext (λ n. updates n ∙ put_at names number n name (nat_eq number n) refl none)
+    fun_ext (λ n. updates n ∙ put_at names number n name (nat_eq number n) refl (none_there (names number) none))
 
 -- ---- one more of a list
 

@@ -1,5 +1,5 @@
 //! What is said of a signal beside its place and its scale: its number, and the names of its raw numbers.
-ghost use Rattle.std.specs.Prelude.{◌≡◌, ◌≤◌, ◌^◌, ◌&&◌, if◌then◌else◌, false, Some, None, string_bytes, unwrap_or, option_map, length, IfOk, IfSome, MatchOption};
+ghost use Rattle.std.specs.Prelude.{◌≡◌, ◌≤◌, ◌^◌, ◌&&◌, if◌then◌else◌, true, false, Some, None, string_bytes, unwrap_or, option_map, length, IfOk, IfSome, MatchOption};
 ghost use Rattle.std.specs.List.{list_all};
 ghost use Rattle.std.specs.Option.{option_map_or};
 ghost use Rattle.std.specs.Str.Parse.{digits_value};
@@ -199,7 +199,7 @@ fn value_names(alloc: Global, limit: u64, names: &toml::Table) -> Result<Vec<Val
 pub fn meaning_of(alloc: Global, meant: MeaningKeys<'_>, bits: u32) -> Result<Meaning, AllocError>
     requires spn { IfSome meant.spn (λ n. n ≤ spn_most) }
     requires named { IfSome meant.names (λ t. names_cause (raw_limit bits) (table_view t.now) ≡ None) }
-    ensures spn { IfOk result (λ m. m.spn ≡ meant.spn) }
+    ensures spn { IfOk result (λ m. m.spn ≡ meant.entry.spn) }
     ensures names { IfOk result (λ m. AreNames (unwrap_or (option_map (λ t. table_view t.now) meant.entry.names) no_members) m.values.items) }
 {
     let values = match meant.names {

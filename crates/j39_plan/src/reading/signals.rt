@@ -357,7 +357,11 @@ impl ReadElement<PlannedSignal> for Signals {
         value: &Value,
     ) -> Result<PlannedSignal, PlanError> {
         let table = Table::Signal(self.group, index);
-        let keys = signal(self, table, table_of(value, table)?)?;
+        let members = table_of(value, table)?;
+        let keys = match signal(self, table, members) {
+            Ok(keys) => keys,
+            Err(error) => return Err(error),
+        };
         untaken(seen, keys.signal.label_text(), TextKind::Label, table)?;
         let meaning = meaning_of(alloc, keys.meant, u32::from(keys.signal.bits()))?;
         Ok(PlannedSignal {
