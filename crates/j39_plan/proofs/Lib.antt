@@ -5,6 +5,7 @@ pub mod HeadRules
 pub mod Labelled
 pub mod NeedSignals
 pub mod NoFaults
+pub mod Numbers
 pub mod OneAnswer
 pub mod ReadGroups
 pub mod ReadNeeds

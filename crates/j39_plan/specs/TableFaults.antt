@@ -56,17 +56,22 @@ abbrev pub has_texts : Members → Bool
 has_texts no_members = true
 has_texts (member k d ms) = is_some (as_str d) && has_texts ms
 
--- each key is a number below the limit, and each value a label
-abbrev pub has_names : ℕ → Members → Bool
-has_names limit no_members = true
-has_names limit (member k d ms) = (is_number_below limit k && option_map_or is_label (as_str d) false) && has_names limit ms
+-- each key is a number below the limit
+abbrev pub has_numbers : ℕ → Members → Bool
+has_numbers limit no_members = true
+has_numbers limit (member k d ms) = is_number_below limit k && has_numbers limit ms
+
+-- each value is a label
+abbrev pub has_labels : Members → Bool
+has_labels no_members = true
+has_labels (member k d ms) = option_map_or is_label (as_str d) false && has_labels ms
 
 -- the cause for which a table of names is refused
 abbrev pub names_cause : ℕ → Members → Option Cause
 names_cause limit ms =
     if not (nat_le (members_count ms) value_limit) then Some TooMany
     else if not (has_texts ms) then Some WrongType
-    else if not (has_names limit ms) then Some Range
+    else if not (has_numbers limit ms && has_labels ms) then Some Range
     else None
 
 -- the first cause for which a value is refused

@@ -1,14 +1,16 @@
 //! What is said of a signal beside its place and its scale: its number, and the names of its raw numbers.
-ghost use Rattle.std.specs.Prelude.{◌≡◌, ◌≤◌, ◌^◌, ◌&&◌, if◌then◌else◌, true, false, Some, None, string_bytes, unwrap_or, option_map, length, IfOk, IfSome, MatchOption};
+ghost use Rattle.std.specs.Prelude.{◌≡◌, ◌≤◌, ◌^◌, ◌&&◌, if◌then◌else◌, true, false, Some, None, is_some, string_bytes, unwrap_or, option_map, length, IfOk, IfSome, MatchOption};
 ghost use Rattle.std.specs.List.{list_all};
+ghost use Rattle.std.specs.Map.{keys_of, values_of};
 ghost use Rattle.std.specs.Option.{option_map_or};
+ghost use Rattle.std.specs.Char.{is_ascii_digit};
 ghost use Rattle.std.specs.Str.Parse.{digits_value};
 ghost use Rattle.toml.specs.Data.{as_str, no_members};
 ghost use Rattle.toml.specs.View.{view, table_view};
 ghost use Rattle.j39_findings.specs.LabelForm.{is_label};
 ghost use Rattle.j39_findings.specs.PlanLimits.{spn_most, value_limit};
 ghost use Rattle.j39_plan.specs.Schema as schema;
-ghost use Rattle.j39_plan.specs.TableFaults.{has_names, has_texts, is_decimal, is_number_below, key_faults, keys_faults, names_cause};
+ghost use Rattle.j39_plan.specs.TableFaults.{has_labels, has_numbers, has_texts, is_decimal, is_number_below, key_faults, keys_faults, names_cause};
 ghost use Rattle.j39_plan.specs.MeaningTables.{AreNames, TellsKeys, meaning_rules, raw_limit};
 ghost use Rattle.j39_plan.specs.Outcome.{Gives};
 
@@ -22,12 +24,18 @@ use j39_id::Label;
 use std::alloc::{AllocError, Global};
 use toml::Value;
 
+fn are_digits(bytes: &[u8]) -> bool
+    ensures { result ≡ list_all is_ascii_digit bytes.now }
+{
+    bytes.iter().all(|byte| byte.is_ascii_digit())
+}
+
+#[tactic(auto, using(crate::proofs::Numbers::are_digits_view))]
 fn is_decimal(name: &str) -> bool
     ensures { result ≡ is_decimal name.now }
 {
     let bytes = name.as_bytes();
-    bytes.iter().all(u8::is_ascii_digit)
-        && (bytes.len() == 1 || (1 < bytes.len() && bytes[0] != b'0'))
+    are_digits(bytes) && (bytes.len() == 1 || (1 < bytes.len() && bytes[0] != b'0'))
 }
 
 // The number that a name is in decimal digits, without sign and leading zeros, where it is one below the limit.
@@ -76,25 +84,70 @@ fn value_name(limit: u64, name: &str, value: &Value) -> Option<ValueName>
     Some(ValueName { raw, name })
 }
 
+fn is_text(value: &Value) -> bool
+    ensures { result ≡ is_some (as_str (view value.now)) }
+{
+    value.as_str().is_some()
+}
+
+fn are_texts(names: &toml::Table) -> bool
+    ensures { result ≡ list_all (λ value. is_some (as_str (view value))) (values_of names.now.entries) }
+{
+    names.values().all(|value| is_text(value))
+}
+
+#[tactic(auto, using(crate::proofs::Numbers::has_texts_view))]
 fn has_texts(names: &toml::Table) -> bool
     ensures { result ≡ has_texts (table_view names.now) }
 {
-    names.values().all(|value| value.as_str().is_some())
+    are_texts(names)
 }
 
-fn has_names(limit: u64, names: &toml::Table) -> bool
+fn is_number_below(limit: u64, name: &str) -> bool
     requires { limit ≤ 2 ^ 32 }
-    ensures { result ≡ has_names limit (table_view names.now) }
+    ensures { result ≡ is_number_below limit name.now }
 {
-    for (name, value) in names.iter() {
-        if value_name(limit, name.as_str(), value).is_none() {
-            return false;
-        }
-    }
-    true
+    number_below(limit, name).is_some()
+}
+
+fn are_numbers(limit: u64, names: &toml::Table) -> bool
+    requires { limit ≤ 2 ^ 32 }
+    ensures { result ≡ list_all (λ name. is_number_below limit (string_bytes name)) (keys_of names.now.entries) }
+{
+    names
+        .keys()
+        .all(|name| is_number_below(limit, name.as_str()))
+}
+
+#[tactic(auto, using(crate::proofs::Numbers::has_numbers_view))]
+fn has_numbers(limit: u64, names: &toml::Table) -> bool
+    requires { limit ≤ 2 ^ 32 }
+    ensures { result ≡ has_numbers limit (table_view names.now) }
+{
+    are_numbers(limit, names)
+}
+
+fn is_label(value: &Value) -> bool
+    ensures { result ≡ option_map_or is_label (as_str (view value.now)) false }
+{
+    label(value).is_some()
+}
+
+fn are_labels(names: &toml::Table) -> bool
+    ensures { result ≡ list_all (λ value. option_map_or is_label (as_str (view value)) false) (values_of names.now.entries) }
+{
+    names.values().all(|value| is_label(value))
+}
+
+#[tactic(auto, using(crate::proofs::Numbers::has_labels_view))]
+fn has_labels(names: &toml::Table) -> bool
+    ensures { result ≡ has_labels (table_view names.now) }
+{
+    are_labels(names)
 }
 
 // Why a table isn't one of names of numbers below the limit.
+#[tactic(auto, using(crate::proofs::Numbers::members_count_view))]
 fn names_cause(limit: u64, names: &toml::Table) -> Option<Cause>
     requires { limit ≤ 2 ^ 32 }
     ensures { result ≡ names_cause limit (table_view names.now) }
@@ -103,7 +156,7 @@ fn names_cause(limit: u64, names: &toml::Table) -> Option<Cause>
         Some(Cause::TooMany)
     } else if !has_texts(names) {
         Some(Cause::WrongType)
-    } else if !has_names(limit, names) {
+    } else if !has_numbers(limit, names) || !has_labels(names) {
         Some(Cause::Range)
     } else {
         None
