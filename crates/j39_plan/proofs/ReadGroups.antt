@@ -1,5 +1,5 @@
 -- What is true of the signals and the texts of a group that was read.
-use Rattle.std.proofs.Common.{◌≡◌, ◌≢◌, ℕ, suc, Bool, true, false, List, [], ◌∷◌, ◌++◌, ◌||◌, ◌≤◌, All, AllPairs, map, refl, inr, sym, ◌∙◌, arith}
+use Rattle.std.proofs.Common.{◌≡◌, ◌≢◌, ℕ, suc, Bool, true, false, List, [], ◌∷◌, ◌++◌, ◌||◌, ◌≤◌, All, AllPairs, map, refl, inr, sym, subst, ◌∙◌, arith}
 use Rattle.std.proofs.lemmas.Bool.{or_parts}
 use Rattle.std.proofs.lemmas.List.{length-map, get_or-map}
 use Rattle.std.proofs.lemmas.List.Elements.{All-cons}
@@ -51,14 +51,22 @@ pub meanings_read : (third fourth records : Bool) (ds : Items) (xs : List Planne
 meanings_read third fourth records ds xs meanings are each =
     rw are (Each-map (λ x. x.meaning) (IsPlanned third fourth records) (IsMeaningOf third fourth) (λ d x is. is.1) ds xs each)
 
--- elements without faults of which room was asked for
-pub grows_among : (third fourth records : Bool) (g : ℕ) (ds : Items) (xs : List PlannedSignal) → xs ≢ [] → Each (IsPlanned third fourth records) ds xs
+grows_at : (third fourth records : Bool) (g : ℕ) (ds : Items) (xs : List PlannedSignal) → xs ≢ [] → Each (IsPlanned third fourth records) ds xs
     → each_faults (signal_faults third fourth records g) label_in 0 [] ds ≡ []
     → EachGrows (signal_faults third fourth records g) (SignalGrows third fourth records g) ds
 unfolding Each each_faults
-grows_among third fourth records g no_items [] some each none = absurd (some refl)
-grows_among third fourth records g no_items (x ∷ xs) some each none = absurd each
-grows_among third fourth records g (item d ds) xs some each none = inr (none_left _ _ none)
+grows_at third fourth records g no_items [] some each none = absurd (some refl)
+grows_at third fourth records g no_items (x ∷ xs) some each none = absurd each
+grows_at third fourth records g (item d ds) xs some each none = inr (none_left _ _ none)
+
+-- elements without faults of which room was asked for
+pub grows_among : (third fourth records has : Bool) (g : ℕ) (ds all : Items) (xs : List PlannedSignal) → records ≡ has → ds ≡ all → xs ≢ []
+    → Each (IsPlanned third fourth records) ds xs → each_faults (signal_faults third fourth records g) label_in 0 [] ds ≡ []
+    → EachGrows (signal_faults third fourth has g) (SignalGrows third fourth has g) all
+grows_among third fourth records has g ds all xs is same some each none =
+    let Of : Bool → Type 0 = λ r. EachGrows (signal_faults third fourth r g) (SignalGrows third fourth r g) ds in
+    let In : Items → Type 0 = λ items. EachGrows (signal_faults third fourth has g) (SignalGrows third fourth has g) items in
+    subst In same (subst Of is (grows_at third fourth records g ds xs some each none))
 
 -- the labels of signals
 abbrev pub signal_texts : List SignalParts → List (List ℕ)

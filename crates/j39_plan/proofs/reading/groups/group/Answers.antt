@@ -70,9 +70,8 @@ returns-in_err-parts c =
     let p = err_from_is_err_and c.from_residual-in_err-parts.result c.from_residual-in_err-parts.ensures.1 in
     let later = rw (c.in_ok-length.ensures.gives.1) at c.in_ok-later.ensures.gives in
     let records = c.is_some-records.ensures ∙ ap is_some later.1.2 in
-    let grows = grows_among c.args.third c.args.fourth c.is_some-records.result c.args.index _ _ c.in_err-parts.ensures.memory
+    let among = grows_among c.args.third c.args.fourth c.is_some-records.result _ c.args.index _ _ _ records later.1.3 c.in_err-parts.ensures.memory
     c.in_ok-planned.ensures.1 c.in_ok-planned.ensures.0 in
-    let among = rw (records, later.1.3) at grows in
     rw (p.1, p.2, c.in_ok-only_known.ensures.0, c.in_ok-label.ensures.gives.0, c.in_ok-pgn.ensures.gives.0, c.in_ok-priority.ensures.gives.0)
     (rw (c.in_ok-length.ensures.gives.0, later.0) (refl, inl among))
 
