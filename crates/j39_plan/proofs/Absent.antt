@@ -72,6 +72,10 @@ first_of_both (x ∷ xs) ys = refl
 pub alike_both : (fs gs hs ks : List Fault) → Alike fs hs → Alike gs ks → Alike (fs ++ gs) (hs ++ ks)
 alike_both fs gs hs ks one other = rw (first_of_both fs gs, first_of_both hs ks, one, other)
 
+-- between the same ones
+pub alike_between : (fs gs hs ks : List Fault) → Alike gs hs → Alike (fs ++ gs ++ ks) (fs ++ hs ++ ks)
+alike_between fs gs hs ks same = alike_both (fs ++ gs) ks (fs ++ hs) ks (alike_both fs gs fs hs refl same) refl
+
 -- what is behind counts only where nothing is before it
 pub alike_behind : (xs ys zs : List Fault) → (xs ≡ [] → Alike ys zs) → Alike (xs ++ ys) (xs ++ zs)
 alike_behind [] ys zs behind = behind refl

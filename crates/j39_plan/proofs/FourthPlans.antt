@@ -34,9 +34,15 @@ no_pause ms lacks = lacked key.Pause ms (lacks 1 key.Pause (omega arith))
 period_same : (ms : Members) → IsThirdFlow ms → period_rule true ms ≡ period_rule false ms
 period_same ms lacks = rw (no_jitter_key ms lacks)
 
+-- the keys of a flow in the third version, and in the fourth
+abbrev third_flow_keys : Key → List Key
+third_flow_keys period = key.Group ∷ key.From ∷ key.To ∷ period ∷ key.Deadline ∷ []
+
+abbrev fourth_flow_keys : Key → List Key
+fourth_flow_keys period = key.Group ∷ key.From ∷ key.To ∷ period ∷ key.Deadline ∷ key.Jitter ∷ key.Pause ∷ []
+
 flow_words : (period : Key) (l : List ℕ) → IsNone (key.Jitter ∷ key.Pause ∷ []) l
-    → is_key_word (key.Group ∷ key.From ∷ key.To ∷ period ∷ key.Deadline ∷ key.Jitter ∷ key.Pause ∷ []) l
-    ≡ is_key_word (key.Group ∷ key.From ∷ key.To ∷ period ∷ key.Deadline ∷ []) l
+    → is_key_word (fourth_flow_keys period) l ≡ is_key_word (third_flow_keys period) l
 flow_words period l none = rw (none 0 key.Jitter (omega arith), none 1 key.Pause (omega arith))
 
 jitter_unfaulted : (at : Table) (ms : Members) (period : Option ℕ) → get_member (word_of key.Jitter) ms ≡ None → key_faults at ms (jitter_rule period) ≡ []
@@ -50,8 +56,10 @@ pause_unfaulted at ms period none = rw none
 flow_keys_alike : (at : Table) (ms : Members) → IsThirdFlow ms
     → Alike (table_faults at (flow_rules true true ms) ms) (table_faults at (flow_rules true false ms) ms)
 flow_keys_alike at ms lacks =
+    let period = (period_rule false ms).key in
     rw (no_jitter_key ms lacks)
-    (alike_both _ _ _ _ (alike_unknown at _ _ ms ms (only_same _ _ (key.Jitter ∷ key.Pause ∷ []) (flow_words (period_rule false ms).key) ms lacks))
+    (alike_both _ _ _ _ (alike_unknown at _ _ ms ms
+    (only_same (fourth_flow_keys period) (third_flow_keys period) (key.Jitter ∷ key.Pause ∷ []) (flow_words period) ms lacks))
     (rw (
       jitter_unfaulted at ms (given_number (period_rule false ms) ms) (no_jitter ms lacks),
       pause_unfaulted at ms (given_number (period_rule false ms) ms) (no_pause ms lacks),
@@ -85,9 +93,9 @@ third_flow groups units d f lacks told = record {
   has_pace = record {
     has_period = told.has_pace.has_period ∙ period_told (inside d) lacks;
     has_deadline = told.has_pace.has_deadline;
-    has_jitter = subst (λ n. IfSome f.pace (λ p. p.jitter ≡ n)) (jitter_none (inside d) _ (no_jitter (inside d) lacks)) told.has_pace.has_jitter;
+    has_jitter = subst (λ n. IfSome f.pace (λ p. p.jitter ≡ n)) (jitter_none (inside d) (given_period true true (inside d)) (no_jitter (inside d) lacks)) told.has_pace.has_jitter;
   };
-  has_pause = told.has_pause ∙ pause_none (inside d) _ (no_pause (inside d) lacks);
+  has_pause = told.has_pause ∙ pause_none (inside d) (given_number (period_rule true (inside d)) (inside d)) (no_pause (inside d) lacks);
 }
 
 pub fourth_flow : (groups units : List (List ℕ)) (d : Data) (f : FlowPlan) → IsThirdFlow (inside d)
@@ -99,9 +107,9 @@ fourth_flow groups units d f lacks told = record {
   has_pace = record {
     has_period = told.has_pace.has_period ∙ sym (period_told (inside d) lacks);
     has_deadline = told.has_pace.has_deadline;
-    has_jitter = subst (λ n. IfSome f.pace (λ p. p.jitter ≡ n)) (sym (jitter_none (inside d) _ (no_jitter (inside d) lacks))) told.has_pace.has_jitter;
+    has_jitter = subst (λ n. IfSome f.pace (λ p. p.jitter ≡ n)) (sym (jitter_none (inside d) (given_period true true (inside d)) (no_jitter (inside d) lacks))) told.has_pace.has_jitter;
   };
-  has_pause = told.has_pause ∙ sym (pause_none (inside d) _ (no_pause (inside d) lacks));
+  has_pause = told.has_pause ∙ sym (pause_none (inside d) (given_number (period_rule true (inside d)) (inside d)) (no_pause (inside d) lacks));
 }
 
 -- ---- the bus
@@ -183,7 +191,7 @@ timing_alike ms third =
     let w = without ms third in
     let u = unfaulted ms w in
     alike_both _ _ _ _
-    (alike_both _ _ _ _ (alike_unknown at.Timing _ _ ms ms (only_same _ _ fourth_bus_keys bus_words ms third.keys))
+    (alike_both _ _ _ _ (alike_unknown at.Timing _ _ ms ms (only_same (key.Bitrate ∷ key.Unplanned ∷ fourth_bus_keys) (key.Bitrate ∷ key.Unplanned ∷ []) fourth_bus_keys bus_words ms third.keys))
     (rw (bitrate_alike ms third, u.unplanned_priority, u.transport_priority, u.gap, u.gap_most, u.errors) refl))
     (rw (no_errors ms w) refl)
 

@@ -4,13 +4,14 @@ use Rattle.std.specs.Option.{option_map_or}
 use Rattle.toml.specs.Data.{no_items, Members, get_member}
 use Rattle.j39_findings.specs.declared.plan.Plan.{Plan}
 use Rattle.j39_findings.specs.declared.plan.timing.Timing.{Timing}
+use Rattle.j39_plan.specs.declared.reading.key.Key.{Key}
 use Rattle.j39_plan.specs.declared.reading.key.Key.TheVariants as key
 use Rattle.j39_plan.specs.declared.reading.place.Table.TheVariants as at
 use Rattle.j39_plan.specs.Words.{word_of}
 use Rattle.j39_plan.specs.Outcome.{first}
 use Rattle.j39_plan.specs.Schema.{number_of, table_of, tables_of}
 use Rattle.j39_plan.specs.TableFaults.{key_faults, keys_faults, is_key_word, has_only}
-use Rattle.j39_plan.specs.Elements.{Each, labels_of, label_in}
+use Rattle.j39_plan.specs.Elements.{Each, each_faults, labels_of, label_in}
 use Rattle.j39_plan.specs.UnitTables.{IsUnitOf, unit_label_in}
 use Rattle.j39_plan.specs.GroupTables.{IsGroupOf}
 use Rattle.j39_plan.specs.FlowTables.{IsFlowOf, flow_faults}
@@ -27,17 +28,24 @@ use Rattle.j39_plan.proofs.FourthPlans.{flow_alike, third_flow, fourth_flow, tim
 
 -- ---- the top table
 
+-- the keys of the top table in both versions
+abbrev fourth_keys : List Key
+fourth_keys = key.Version ∷ key.KeepFree ∷ key.Timing ∷ key.Unit ∷ key.Group ∷ key.Flow ∷ key.Need ∷ []
+
+abbrev third_keys : List Key
+third_keys = key.Version ∷ key.KeepFree ∷ key.Timing ∷ key.Unit ∷ key.Group ∷ key.Flow ∷ []
+
 top_words : (l : List ℕ) → IsNone (key.Need ∷ []) l
-    → is_key_word (key.Version ∷ key.KeepFree ∷ key.Timing ∷ key.Unit ∷ key.Group ∷ key.Flow ∷ key.Need ∷ []) l
-    ≡ is_key_word (key.Version ∷ key.KeepFree ∷ key.Timing ∷ key.Unit ∷ key.Group ∷ key.Flow ∷ []) l
+    → is_key_word fourth_keys l
+    ≡ is_key_word third_keys l
 top_words l none = rw (none 0 key.Need (omega arith))
 
 known_alike : (n : ℕ) (tree : Members) → Lacks (key.Need ∷ []) tree
-    → has_only (key.Version ∷ key.KeepFree ∷ key.Timing ∷ key.Unit ∷ key.Group ∷ key.Flow ∷ key.Need ∷ []) tree
-    ≡ has_only (key.Version ∷ key.KeepFree ∷ key.Timing ∷ key.Unit ∷ key.Group ∷ key.Flow ∷ []) (with_version n tree)
+    → has_only fourth_keys tree
+    ≡ has_only third_keys (with_version n tree)
 known_alike n tree lacks =
-    only_same _ _ (key.Need ∷ []) top_words tree lacks
-    ∙ sym (only_other n (key.Version ∷ key.KeepFree ∷ key.Timing ∷ key.Unit ∷ key.Group ∷ key.Flow ∷ []) tree)
+    only_same fourth_keys third_keys (key.Need ∷ []) top_words tree lacks
+    ∙ sym (only_other n third_keys tree)
 
 -- a tree of version 4 beside the same one of version 3
 record Beside (s : Members) : Type 0 where

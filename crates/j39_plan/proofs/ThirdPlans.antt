@@ -13,16 +13,17 @@ use Rattle.j39_plan.specs.declared.reading.cause.Cause.TheVariants.{Range}
 use Rattle.j39_plan.specs.declared.reading.fault.Fault.{Fault}
 use Rattle.j39_plan.specs.declared.reading.place.Table.{Table}
 use Rattle.j39_plan.specs.declared.reading.place.Table.TheVariants as at
+use Rattle.j39_plan.specs.declared.reading.text_kind.TextKind.TheVariants as texts
 use Rattle.j39_plan.specs.Words.{word_of}
 use Rattle.j39_plan.specs.Schema.{integer_in, natural, standing, number_of, given_number, flag_of, tables_of}
-use Rattle.j39_plan.specs.TableFaults.{fault, standing_cause, range_cause, key_faults, table_faults, is_key_word}
-use Rattle.j39_plan.specs.Elements.{inside, label_in, label_rule, Each, each_faults}
+use Rattle.j39_plan.specs.TableFaults.{fault, standing_cause, range_cause, key_faults, table_faults, table_only_faults, is_key_word}
+use Rattle.j39_plan.specs.Elements.{inside, label_in, label_rule, repeated_faults, Each, each_faults}
 use Rattle.j39_plan.specs.SignalTables.{signal_faults, IsSignalOf}
 use Rattle.j39_plan.specs.GroupTables.{pgn_rule, priority_rule, length_rule, private_rule, private_of, most_rule, most_of, every_rule, every_of, has_records, signal_rule, signal_labels, text_rule, text_tables_of, group_rules, signals_faults, texts_faults, group_table_faults, group_faults, IsGroupOf}
 use Rattle.j39_plan.specs.TextTables.{IsTextOf, text_faults}
 use Rattle.j39_plan.specs.FlowTables.{has_key, period_of, period_rule, given_period, deadline_rule, flow_rules, flow_table_faults, flow_faults, IsFlowOf}
 use Rattle.j39_plan.specs.Versions.{third_group_keys, IsSecondSignal, IsSecondGroup, IsSecondFlow}
-use Rattle.j39_plan.proofs.Absent.{lacked, IsNone, only_same, Alike, alike_both, alike_behind, alike_unknown, alike_inside, alike_each, told_alike}
+use Rattle.j39_plan.proofs.Absent.{lacked, IsNone, only_same, Alike, alike_both, alike_between, alike_behind, alike_unknown, alike_inside, alike_each, told_alike}
 use Rattle.j39_plan.proofs.ThirdSignals.{signal_alike, second_signal, third_signal}
 
 -- ---- groups
@@ -42,9 +43,16 @@ without ms second = record {
   text = lacked key.Text ms (second.keys 3 key.Text (omega arith));
 }
 
+-- the keys of a group in the third version, and in the second
+abbrev later_keys : List Key
+later_keys = key.Label ∷ key.Pgn ∷ key.Priority ∷ key.Length ∷ key.Private ∷ key.Most ∷ key.Every ∷ key.Signal ∷ key.Text ∷ []
+
+abbrev first_keys : List Key
+first_keys = key.Label ∷ key.Pgn ∷ key.Priority ∷ key.Length ∷ key.Signal ∷ []
+
 group_words : (l : List ℕ) → IsNone third_group_keys l
-    → is_key_word (key.Label ∷ key.Pgn ∷ key.Priority ∷ key.Length ∷ key.Private ∷ key.Most ∷ key.Every ∷ key.Signal ∷ key.Text ∷ []) l
-    ≡ is_key_word (key.Label ∷ key.Pgn ∷ key.Priority ∷ key.Length ∷ key.Signal ∷ []) l
+    → is_key_word later_keys l
+    ≡ is_key_word first_keys l
 group_words l none =
     rw (none 0 key.Private (omega arith), none 1 key.Most (omega arith), none 2 key.Every (omega arith), none 3 key.Text (omega arith))
 
@@ -91,7 +99,7 @@ group_keys_alike : (at : Table) (ms : Members) → IsSecondGroup ms
 group_keys_alike at ms second =
     let w = without ms second in
     let length = number_of length_rule ms in
-    alike_both _ _ _ _ (alike_unknown at _ _ ms ms (only_same _ _ third_group_keys group_words ms second.keys))
+    alike_both _ _ _ _ (alike_unknown at _ _ ms ms (only_same later_keys first_keys third_group_keys group_words ms second.keys))
     (alike_both (key_faults at ms label_rule) _ (key_faults at ms label_rule) _ refl
     (alike_both (key_faults at ms pgn_rule) _ (key_faults at ms pgn_rule) _ refl
     (alike_both (key_faults at ms priority_rule) _ (key_faults at ms priority_rule) _ refl
@@ -117,10 +125,13 @@ texts_alike g ms second = rw (no_texts ms second) refl
 pub group_alike : (g : ℕ) (seen : List (List ℕ)) (d : Data) → IsSecondGroup (inside d) → Alike (group_faults true g seen d) (group_faults false g seen d)
 unfolding group_faults group_table_faults
 group_alike g seen d second =
-    alike_both _ _ _ _ refl (alike_both _ _ _ _
-    (alike_inside (group_table_faults true g) (group_table_faults false g) d
+    let third = group_table_faults true g in
+    let older = group_table_faults false g in
+    alike_between (table_only_faults (at.Group g) d) (option_map_or third (as_table d) []) (option_map_or older (as_table d) [])
+    (repeated_faults (at.Group g) texts.Label seen (label_in d))
+    (alike_inside third older d
     (alike_both _ _ _ _ (group_keys_alike (at.Group g) (inside d) second)
-    (alike_both _ _ _ _ (signals_alike g (inside d) second) (texts_alike g (inside d) second)))) refl)
+    (alike_both _ _ _ _ (signals_alike g (inside d) second) (texts_alike g (inside d) second))))
 
 private_is : (ms : Members) → IsSecondGroup ms → private_of true ms ≡ false
 unfolding flag_of
@@ -180,7 +191,7 @@ flow_keys_alike : (at : Table) (ms : Members) → IsSecondFlow ms
     → Alike (table_faults at (flow_rules true false ms) ms) (table_faults at (flow_rules false false ms) ms)
 flow_keys_alike at ms lacks =
     rw (no_deadline ms lacks)
-    (alike_both _ _ _ _ (alike_unknown at _ _ ms ms (only_same _ _ (key.Period ∷ key.Deadline ∷ []) flow_words ms lacks))
+    (alike_both _ _ _ _ (alike_unknown at _ _ ms ms (only_same (key.Group ∷ key.From ∷ key.To ∷ key.Period ∷ key.Deadline ∷ []) (key.Group ∷ key.From ∷ key.To ∷ []) (key.Period ∷ key.Deadline ∷ []) flow_words ms lacks))
     (rw (period_unfaulted at ms lacks, deadline_unfaulted at ms lacks) refl))
 
 pub flow_alike : (groups units : List (List ℕ)) (i : ℕ) (d : Data) → IsSecondFlow (inside d)

@@ -4,15 +4,16 @@ use Rattle.std.specs.Option.{option_map_or}
 use Rattle.toml.specs.Data.{no_items, Members, get_member}
 use Rattle.j39_findings.specs.declared.plan.Plan.{Plan}
 use Rattle.j39_findings.specs.declared.plan.timing.Timing.{Timing}
+use Rattle.j39_plan.specs.declared.reading.key.Key.{Key}
 use Rattle.j39_plan.specs.declared.reading.key.Key.TheVariants as key
 use Rattle.j39_plan.specs.declared.reading.place.Table.TheVariants as at
 use Rattle.j39_plan.specs.Words.{word_of}
 use Rattle.j39_plan.specs.Outcome.{first}
 use Rattle.j39_plan.specs.Schema.{number_of, table_of, tables_of}
 use Rattle.j39_plan.specs.TableFaults.{key_faults, keys_faults, is_key_word, has_only}
-use Rattle.j39_plan.specs.Elements.{Each, labels_of, label_in}
+use Rattle.j39_plan.specs.Elements.{Each, each_faults, labels_of, label_in}
 use Rattle.j39_plan.specs.UnitTables.{IsUnitOf, unit_label_in}
-use Rattle.j39_plan.specs.GroupTables.{IsGroupOf}
+use Rattle.j39_plan.specs.GroupTables.{IsGroupOf, group_faults}
 use Rattle.j39_plan.specs.FlowTables.{IsFlowOf, flow_faults}
 use Rattle.j39_plan.specs.NeedTables.{IsNeedOf, signals_of_groups}
 use Rattle.j39_plan.specs.TimingTables.{timing_table_faults, TellsTiming}
@@ -27,17 +28,24 @@ use Rattle.j39_plan.proofs.ThirdPlans.{group_alike, second_group, third_group, f
 
 -- ---- the top table
 
+-- the keys of the top table in both versions
+abbrev third_keys : List Key
+third_keys = key.Version ∷ key.KeepFree ∷ key.Timing ∷ key.Unit ∷ key.Group ∷ key.Flow ∷ []
+
+abbrev second_keys : List Key
+second_keys = key.Version ∷ key.KeepFree ∷ key.Unit ∷ key.Group ∷ key.Flow ∷ []
+
 top_words : (l : List ℕ) → IsNone (key.Timing ∷ []) l
-    → is_key_word (key.Version ∷ key.KeepFree ∷ key.Timing ∷ key.Unit ∷ key.Group ∷ key.Flow ∷ []) l
-    ≡ is_key_word (key.Version ∷ key.KeepFree ∷ key.Unit ∷ key.Group ∷ key.Flow ∷ []) l
+    → is_key_word third_keys l
+    ≡ is_key_word second_keys l
 top_words l none = rw (none 0 key.Timing (omega arith))
 
 known_alike : (n : ℕ) (tree : Members) → Lacks (key.Timing ∷ []) tree
-    → has_only (key.Version ∷ key.KeepFree ∷ key.Timing ∷ key.Unit ∷ key.Group ∷ key.Flow ∷ []) tree
-    ≡ has_only (key.Version ∷ key.KeepFree ∷ key.Unit ∷ key.Group ∷ key.Flow ∷ []) (with_version n tree)
+    → has_only third_keys tree
+    ≡ has_only second_keys (with_version n tree)
 known_alike n tree lacks =
-    only_same _ _ (key.Timing ∷ []) top_words tree lacks
-    ∙ sym (only_other n (key.Version ∷ key.KeepFree ∷ key.Unit ∷ key.Group ∷ key.Flow ∷ []) tree)
+    only_same third_keys second_keys (key.Timing ∷ []) top_words tree lacks
+    ∙ sym (only_other n second_keys tree)
 
 -- a tree of version 3 beside the same one of version 2
 record Beside (s : Members) : Type 0 where
@@ -128,7 +136,7 @@ second_plan s p b told =
     let o = knows_2 (with_version 2 s) b.other in
     record {
       has_keep_free = told.has_keep_free ∙ sym (kept_alike s b);
-      has_timing = rw (o.of_third, o.of_fourth) (rw (k.of_third, k.of_fourth, no_bus_table s (no_bus s b.older.keys)) at told.has_timing);
+      has_timing = rw o.of_third (rw (k.of_third, k.of_fourth, no_bus_table s (no_bus s b.older.keys)) at told.has_timing);
       has_units = rw (tables_other 2 units_rule s refl) told.has_units;
       has_groups = rw (o.of_third, tables_other 2 groups_rule s refl)
           (told_alike IsSecondGroup (IsGroupOf true) (IsGroupOf false) second_group (tables_of groups_rule s) p.groups.items b.older.groups
@@ -145,7 +153,7 @@ third_plan s p b told =
     let o = knows_2 (with_version 2 s) b.other in
     record {
       has_keep_free = told.has_keep_free ∙ kept_alike s b;
-      has_timing = rw (k.of_third, k.of_fourth, no_bus_table s (no_bus s b.older.keys)) (rw (o.of_third, o.of_fourth) at told.has_timing);
+      has_timing = rw (k.of_third, k.of_fourth, no_bus_table s (no_bus s b.older.keys)) (rw o.of_third at told.has_timing);
       has_units = rw (tables_other 2 units_rule s refl) at told.has_units;
       has_groups = rw k.of_third
           (told_alike IsSecondGroup (IsGroupOf false) (IsGroupOf true) third_group (tables_of groups_rule s) p.groups.items b.older.groups

@@ -5,6 +5,7 @@ use Rattle.std.specs.Str.{bytes_eq}
 use Rattle.toml.specs.Data.{Data, string, integer, float, boolean, datetime, array, table, Members, get_member, as_str, as_table}
 use Rattle.j39_signal.specs.declared.kind.Kind.TheVariants.{Measured, Discrete, Raw, States, Signed, Dtc}
 use Rattle.j39_signal.specs.Parts.{SignalParts}
+use Rattle.j39_plan.specs.declared.reading.key.Key.{Key}
 use Rattle.j39_plan.specs.declared.reading.key.Key.TheVariants as key
 use Rattle.j39_plan.specs.declared.reading.place.Table.{Table}
 use Rattle.j39_plan.specs.declared.reading.place.Table.TheVariants as at
@@ -12,11 +13,11 @@ use Rattle.j39_plan.specs.declared.reading.text_kind.TextKind.TheVariants as tex
 use Rattle.j39_plan.specs.TextKinds.{is_first_kind}
 use Rattle.j39_plan.specs.Words.{word_of}
 use Rattle.j39_plan.specs.Schema.{text_of_kind, standing, number_of, flag_of, text_of}
-use Rattle.j39_plan.specs.TableFaults.{standing_cause, key_faults, table_faults, is_key_word}
-use Rattle.j39_plan.specs.Elements.{inside}
+use Rattle.j39_plan.specs.TableFaults.{standing_cause, key_faults, table_faults, table_only_faults, is_key_word}
+use Rattle.j39_plan.specs.Elements.{inside, label_in, repeated_faults}
 use Rattle.j39_plan.specs.SignalTables.{kind_of, is_dtc, kind_rule, is_code, per_rule, per_of, repeated_rule, repeated_of, signal_rules, signal_table_faults, signal_faults, IsSignalOf}
 use Rattle.j39_plan.specs.Versions.{is_later_kind, IsSecondSignal}
-use Rattle.j39_plan.proofs.Absent.{lacked, IsNone, only_same, Alike, alike_both, alike_unknown, alike_inside}
+use Rattle.j39_plan.proofs.Absent.{lacked, IsNone, only_same, Alike, alike_both, alike_between, alike_unknown, alike_inside}
 
 no_per : (ms : Members) → IsSecondSignal ms → get_member (word_of key.Per) ms ≡ None
 no_per ms second = lacked key.Per ms (second.keys 0 key.Per (omega arith))
@@ -71,25 +72,34 @@ repeated_unfaulted : (at : Table) (ms : Members) → IsSecondSignal ms → key_f
 unfolding key_faults
 repeated_unfaulted at ms second = rw (no_repeated ms second)
 
+-- the keys of a signal in the third version, and in the second
+abbrev third_keys : List Key
+third_keys = key.Label ∷ key.Byte ∷ key.Bit ∷ key.Bits ∷ key.Kind ∷ key.Step ∷ key.Per ∷ key.Offset ∷ key.Unit ∷ key.Repeated ∷ []
+
+abbrev second_keys : List Key
+second_keys = key.Label ∷ key.Byte ∷ key.Bit ∷ key.Bits ∷ key.Kind ∷ key.Step ∷ key.Offset ∷ key.Unit ∷ []
+
 signal_words : (l : List ℕ) → IsNone (key.Per ∷ key.Repeated ∷ []) l
-    → is_key_word (key.Label ∷ key.Byte ∷ key.Bit ∷ key.Bits ∷ key.Kind ∷ key.Step ∷ key.Per ∷ key.Offset ∷ key.Unit ∷ key.Repeated ∷ []) l
-    ≡ is_key_word (key.Label ∷ key.Byte ∷ key.Bit ∷ key.Bits ∷ key.Kind ∷ key.Step ∷ key.Offset ∷ key.Unit ∷ []) l
+    → is_key_word third_keys l
+    ≡ is_key_word second_keys l
 signal_words l none = rw (none 0 key.Per (omega arith), none 1 key.Repeated (omega arith))
 
 signal_keys_alike : (at : Table) (ms : Members) → IsSecondSignal ms
     → Alike (table_faults at (signal_rules true false ms) ms) (table_faults at (signal_rules false false ms) ms)
 signal_keys_alike at ms second =
     rw (no_code ms second, older_code ms)
-    (alike_both _ _ _ _ (alike_unknown at _ _ ms ms (only_same _ _ (key.Per ∷ key.Repeated ∷ []) signal_words ms second.keys))
+    (alike_both _ _ _ _ (alike_unknown at _ _ ms ms (only_same third_keys second_keys (key.Per ∷ key.Repeated ∷ []) signal_words ms second.keys))
     (rw (kind_faults at ms second, per_unfaulted at ms second, repeated_unfaulted at ms second) refl))
 
 pub signal_alike : (g i : ℕ) (seen : List (List ℕ)) (d : Data) → IsSecondSignal (inside d)
     → Alike (signal_faults true false g i seen d) (signal_faults false false g i seen d)
 unfolding signal_faults signal_table_faults
 signal_alike g i seen d second =
-    alike_both _ _ _ _ refl (alike_both _ _ _ _
-    (alike_inside (signal_table_faults true false (at.Signal g i)) (signal_table_faults false false (at.Signal g i)) d
-    (signal_keys_alike (at.Signal g i) (inside d) second)) refl)
+    let third = signal_table_faults true false (at.Signal g i) in
+    let older = signal_table_faults false false (at.Signal g i) in
+    alike_between (table_only_faults (at.Signal g i) d) (option_map_or third (as_table d) []) (option_map_or older (as_table d) [])
+    (repeated_faults (at.Signal g i) texts.Label seen (label_in d))
+    (alike_inside third older d (signal_keys_alike (at.Signal g i) (inside d) second))
 
 kind_told : (ms : Members) → text_of (kind_rule true) ms ≡ text_of (kind_rule false) ms
 unfolding text_of
