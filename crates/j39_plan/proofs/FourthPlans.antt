@@ -1,23 +1,21 @@
 -- A plan of version 4 in which nothing stands that it alone knows is one of version 3.
-use Rattle.std.proofs.Common.{◌≡◌, ◌≢◌, ◌≤◌, ◌-◌, ℕ, ℤ, pos, negsuc, Bool, true, false, ◌&&◌, ◌||◌, ◌==◌, if◌then◌else◌, arith, List, [], ◌∷◌, ◌++◌, map, Option, Some, None, IfSome, unwrap_or, refl, sym, ap, subst, ◌∙◌}
-use Rattle.std.specs.Option.{option_map_or, option_and_then}
+use Rattle.std.proofs.Common.{◌≡◌, ◌≢◌, ℕ, pos, true, false, arith, List, [], ◌∷◌, Option, Some, None, IfSome, unwrap_or, refl, sym, ap, subst, ◌∙◌}
+use Rattle.std.specs.Option.{option_and_then}
 use Rattle.std.proofs.lemmas.Bool.{le-ltb, ne_eqb}
-use Rattle.toml.specs.Data.{Data, string, integer, float, boolean, datetime, array, table, Items, no_items, item, Members, get_member, as_integer, as_table}
+use Rattle.toml.specs.Data.{Data, string, integer, float, boolean, datetime, array, table, Members, get_member, as_integer}
 use Rattle.j39_findings.specs.declared.plan.flow_plan.FlowPlan.{FlowPlan}
-use Rattle.j39_findings.specs.declared.plan.pace.Pace.{Pace}
 use Rattle.j39_findings.specs.declared.plan.timing.Timing.{Timing}
 use Rattle.j39_plan.specs.declared.reading.key.Key.{Key}
 use Rattle.j39_plan.specs.declared.reading.key.Key.TheVariants as key
-use Rattle.j39_plan.specs.declared.reading.fault.Fault.{Fault}
 use Rattle.j39_plan.specs.declared.reading.place.Table.{Table}
 use Rattle.j39_plan.specs.declared.reading.place.Table.TheVariants as at
 use Rattle.j39_plan.specs.Words.{word_of}
-use Rattle.j39_plan.specs.Schema.{bitrate_of_bus, natural, standing, number_of, given_number, table_of, tables_of}
-use Rattle.j39_plan.specs.TableFaults.{is_bitrate, standing_cause, key_faults, keys_faults, unknown_faults, table_faults, is_key_word}
+use Rattle.j39_plan.specs.Schema.{bitrate_of_bus, natural, standing, number_of, given_number, table_of}
+use Rattle.j39_plan.specs.TableFaults.{is_bitrate, standing_cause, key_faults, table_faults, is_key_word}
 use Rattle.j39_plan.specs.Elements.{inside}
-use Rattle.j39_plan.specs.FlowTables.{has_key, period_rule, given_period, deadline_rule, jitter_rule, jitter_most, jitter_of, pause_rule, given_pause, flow_rules, flow_table_faults, flow_faults, TellsPace, TellsFlow, IsFlowOf}
-use Rattle.j39_plan.specs.TimingTables.{bitrate_of, TellsErrors, bitrate_rule, unplanned_priority_rule, transport_priority_rule, gap_rule, gap_most_rule, errors_rule, timing_rules, timing_table_faults, errors_table, TellsBus, TellsTiming}
-use Rattle.j39_plan.specs.Versions.{Lacks, fourth_bus_keys, IsThirdBus, IsThirdFlow}
+use Rattle.j39_plan.specs.FlowTables.{has_key, period_rule, given_period, jitter_rule, jitter_most, jitter_of, pause_rule, flow_rules, flow_table_faults, flow_faults, IsFlowOf}
+use Rattle.j39_plan.specs.TimingTables.{bitrate_of, TellsErrors, bitrate_rule, unplanned_priority_rule, transport_priority_rule, gap_rule, gap_most_rule, errors_rule, timing_table_faults, errors_table, TellsBus}
+use Rattle.j39_plan.specs.Versions.{fourth_bus_keys, IsThirdBus, IsThirdFlow}
 use Rattle.j39_plan.proofs.Absent.{lacked, IsNone, only_same, Alike, alike_both, alike_unknown, alike_inside}
 
 -- ---- flows

@@ -1,5 +1,5 @@
 -- A plan of version 4 in which nothing stands that it alone knows is read as one of version 3.
-use Rattle.std.proofs.Common.{◌≡◌, ℕ, Bool, true, false, ◌||◌, ◌==◌, if◌then◌else◌, arith, List, [], ◌∷◌, ◌++◌, Option, Some, None, IfSome, refl, sym, ap, ◌∙◌}
+use Rattle.std.proofs.Common.{◌≡◌, ℕ, true, false, arith, List, [], ◌∷◌, Option, Some, None, IfSome, refl, sym, ap, ◌∙◌}
 use Rattle.std.specs.Option.{option_map_or}
 use Rattle.toml.specs.Data.{no_items, Members, get_member}
 use Rattle.j39_findings.specs.declared.plan.Plan.{Plan}
@@ -11,13 +11,10 @@ use Rattle.j39_plan.specs.Words.{word_of}
 use Rattle.j39_plan.specs.Outcome.{first}
 use Rattle.j39_plan.specs.Schema.{number_of, table_of, tables_of}
 use Rattle.j39_plan.specs.TableFaults.{key_faults, keys_faults, is_key_word, has_only}
-use Rattle.j39_plan.specs.Elements.{Each, each_faults, labels_of, label_in}
-use Rattle.j39_plan.specs.UnitTables.{IsUnitOf, unit_label_in}
-use Rattle.j39_plan.specs.GroupTables.{IsGroupOf}
+use Rattle.j39_plan.specs.Elements.{each_faults}
 use Rattle.j39_plan.specs.FlowTables.{IsFlowOf, flow_faults}
-use Rattle.j39_plan.specs.NeedTables.{IsNeedOf, signals_of_groups}
 use Rattle.j39_plan.specs.TimingTables.{timing_table_faults, TellsTiming}
-use Rattle.j39_plan.specs.Faults.{version_rule, keep_free_rule, timing_rule, units_rule, groups_rule, flows_rule, needs_rule, may_keep, knows_third, knows_fourth, top_rules, head_rules, head_faults, timing_faults, timing_table, array_rules, top_faults, unit_labels, group_labels, group_signals, units_faults, groups_faults, flows_faults, needs_faults, need_tables, need_tables_of, no_label, faults}
+use Rattle.j39_plan.specs.Faults.{version_rule, keep_free_rule, timing_rule, units_rule, groups_rule, flows_rule, needs_rule, knows_fourth, head_faults, timing_faults, array_rules, top_faults, unit_labels, group_labels, units_faults, groups_faults, flows_faults, needs_faults, need_tables_of, no_label, faults}
 use Rattle.j39_plan.specs.Described.{keep_free_of, TellsPlan}
 use Rattle.j39_plan.specs.Versions.{with_version, Lacks, IsThirdBus, IsThirdFlow, IsThirdPlan, ReadAlike}
 use Rattle.j39_plan.proofs.Absent.{lacked, IsNone, only_same, Alike, alike_both, alike_unknown, alike_each, told_alike}

@@ -1,5 +1,5 @@
 -- What versions know, and what stands alike in a tree with another one.
-use Rattle.std.proofs.Common.{◌≡◌, ◌≤◌, ℕ, pos, negsuc, Bool, true, false, ◌||◌, ◌==◌, if◌then◌else◌, arith, List, [], ◌∷◌, Option, Some, None, unwrap_or, refl}
+use Rattle.std.proofs.Common.{◌≡◌, ◌≤◌, ℕ, pos, negsuc, Bool, true, false, arith, List, [], ◌∷◌, Option, Some, None, unwrap_or, refl}
 use Rattle.std.specs.Option.{option_and_then, option_or}
 use Rattle.std.proofs.lemmas.Bool.{le-ltb}
 use Rattle.toml.specs.Data.{Data, string, integer, float, boolean, datetime, array, table, no_items, Members, get_member, as_integer}

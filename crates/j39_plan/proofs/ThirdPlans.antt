@@ -1,27 +1,25 @@
 -- Groups and flows of version 3 in whose tables nothing stands that the second doesn't know are those of version 2.
-use Rattle.std.proofs.Common.{◌≡◌, ◌≤◌, ℕ, pos, negsuc, ltb, Bool, true, false, ◌&&◌, ◌||◌, if◌then◌else◌, arith, List, [], ◌∷◌, ◌++◌, Option, Some, None, IfSome, unwrap_or, option_map, refl, sym, ap, subst, ◌∙◌, is_some}
-use Rattle.std.specs.Option.{option_map_or, option_and_then, option_or}
+use Rattle.std.proofs.Common.{◌≡◌, ◌≤◌, ℕ, pos, negsuc, ltb, Bool, true, false, ◌||◌, if◌then◌else◌, arith, List, [], ◌∷◌, Option, Some, None, unwrap_or, refl, sym, subst, ◌∙◌}
+use Rattle.std.specs.Option.{option_map_or, option_and_then}
 use Rattle.std.proofs.lemmas.Bool.{le-ltb, ltb-false, or_parts}
-use Rattle.toml.specs.Data.{Data, string, integer, float, boolean, datetime, array, table, Items, no_items, item, Members, get_member, as_integer, as_table}
+use Rattle.toml.specs.Data.{Data, string, integer, float, boolean, datetime, array, table, no_items, Members, get_member, as_integer, as_table}
 use Rattle.j39_id.specs.Limits.{message_bytes}
 use Rattle.j39_findings.specs.declared.plan.flow_plan.FlowPlan.{FlowPlan}
 use Rattle.j39_findings.specs.declared.plan.group_plan.GroupPlan.{GroupPlan}
-use Rattle.j39_findings.specs.declared.plan.pace.Pace.{Pace}
 use Rattle.j39_plan.specs.declared.reading.key.Key.{Key}
 use Rattle.j39_plan.specs.declared.reading.key.Key.TheVariants as key
 use Rattle.j39_plan.specs.declared.reading.cause.Cause.TheVariants.{Range}
-use Rattle.j39_plan.specs.declared.reading.fault.Fault.{Fault}
 use Rattle.j39_plan.specs.declared.reading.place.Table.{Table}
 use Rattle.j39_plan.specs.declared.reading.place.Table.TheVariants as at
 use Rattle.j39_plan.specs.declared.reading.text_kind.TextKind.TheVariants as texts
 use Rattle.j39_plan.specs.Words.{word_of}
 use Rattle.j39_plan.specs.Schema.{integer_in, natural, standing, number_of, given_number, flag_of, tables_of}
-use Rattle.j39_plan.specs.TableFaults.{fault, standing_cause, range_cause, key_faults, table_faults, table_only_faults, is_key_word}
-use Rattle.j39_plan.specs.Elements.{inside, label_in, label_rule, repeated_faults, Each, each_faults}
+use Rattle.j39_plan.specs.TableFaults.{fault, standing_cause, key_faults, table_faults, table_only_faults, is_key_word}
+use Rattle.j39_plan.specs.Elements.{inside, label_in, label_rule, repeated_faults, Each}
 use Rattle.j39_plan.specs.SignalTables.{signal_faults, IsSignalOf}
-use Rattle.j39_plan.specs.GroupTables.{pgn_rule, priority_rule, length_rule, private_rule, private_of, most_rule, most_of, every_rule, every_of, has_records, signal_rule, signal_labels, text_rule, text_tables_of, group_rules, signals_faults, texts_faults, group_table_faults, group_faults, IsGroupOf}
-use Rattle.j39_plan.specs.TextTables.{IsTextOf, text_faults}
-use Rattle.j39_plan.specs.FlowTables.{has_key, period_of, period_rule, given_period, deadline_rule, flow_rules, flow_table_faults, flow_faults, IsFlowOf}
+use Rattle.j39_plan.specs.GroupTables.{pgn_rule, priority_rule, length_rule, private_rule, private_of, most_rule, most_of, every_rule, every_of, signal_rule, text_rule, text_tables_of, group_rules, signals_faults, texts_faults, group_table_faults, group_faults, IsGroupOf}
+use Rattle.j39_plan.specs.TextTables.{IsTextOf}
+use Rattle.j39_plan.specs.FlowTables.{has_key, period_of, given_period, deadline_rule, flow_rules, flow_table_faults, flow_faults, IsFlowOf}
 use Rattle.j39_plan.specs.Versions.{third_group_keys, IsSecondSignal, IsSecondGroup, IsSecondFlow}
 use Rattle.j39_plan.proofs.Absent.{lacked, IsNone, only_same, Alike, alike_both, alike_between, alike_behind, alike_unknown, alike_inside, alike_each, told_alike}
 use Rattle.j39_plan.proofs.ThirdSignals.{signal_alike, second_signal, third_signal}
