@@ -1,6 +1,5 @@
 -- Reading a file gives one answer.
-use Rattle.std.proofs.Common.{◌≡◌, ◌≢◌, ℕ, Bool, ◌&&◌, List, [], ◌∷◌, Option, Some, None, Result, Ok, Err, refl, sym, ap, ◌∙◌}
-use Rattle.std.specs.Prelude.{unwrap_or}
+use Rattle.std.proofs.Common.{◌≡◌, ◌≢◌, ℕ, Bool, ◌&&◌, List, [], ◌∷◌, Option, Some, None, Result, Ok, Err, option_and_then, refl, sym, ap, subst, ◌∙◌}
 use Rattle.std.specs.List.{AllZip}
 use Rattle.std.proofs.lemmas.Option.{same_Some, none-some}
 use Rattle.toml.specs.Data.{Data, Items, no_items, item, Members, no_members, member}
@@ -184,10 +183,10 @@ tree_is s t a b = same_Some _ _ (sym a ∙ b)
 
 -- a plan that another tree describes, which is this one
 described_at : (s t : Members) (p : Plan) → t ≡ s → Described t p → Described s p
-described_at s t p same is = rw (← same) is
+described_at s t p same is = subst (λ (x : Members). Described x p) same is
 
 first_at : (s t : Members) (f : Fault) → t ≡ s → first (faults t) ≡ Some f → first (faults s) ≡ Some f
-first_at s t f same is = rw (← same) is
+first_at s t f same is = subst (λ (x : Members). first (faults x) ≡ Some f) same is
 
 pub one_answer : (tree : Option Members) (one other : Result Plan PlanError) → one ≢ Err errors.Memory → other ≢ Err errors.Memory
     → Reads one tree → Reads other tree → AreOneAnswer one other

@@ -54,7 +54,7 @@ empty_faults none = cc
 never_blank : (text : List ℕ) (t : Members) → parse_document text ≡ Some t → PlanGrows t → ¬ IsBlank text
 never_blank text t is grows = λ blank.
     let empty : t ≡ no_members = same_Some _ _ (sym is ∙ blank_document text blank) in
-    empty_faults (rw empty at grows.0)
+    empty_faults (subst (λ (x : Members). top_faults x ≡ []) empty grows.0)
 
 pub room_asked : (r : Result Plan PlanError) (bytes : List ℕ) (t : Members) → IsUtf8 bytes → parse_document bytes ≡ Some t
     → GivesGrowing (PlanGrows t) r (faults t) (TellsPlan t) → IsErrOf r errors.Memory → MayAskForRoom bytes

@@ -15,4 +15,5 @@ pub mod TextKinds
 pub mod TextTables
 pub mod TimingTables
 pub mod UnitTables
+pub mod Versions
 pub mod Words

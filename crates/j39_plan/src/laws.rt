@@ -6,6 +6,7 @@ ghost use Rattle.j39_plan.specs.SignalTables.{OlderSignalRules};
 ghost use Rattle.j39_plan.specs.FlowTables.{OlderFlowRules};
 ghost use Rattle.j39_plan.specs.TimingTables.{OlderTimingRules};
 ghost use Rattle.j39_plan.specs.Faults.{OlderArrays};
+ghost use Rattle.j39_plan.specs.Versions.{FourthReadsAsThird, ThirdReadsAsSecond};
 
 /// But for want of memory, the definition allows one answer for a file: it describes one plan, or it has one first fault, or it
 /// is no TOML text, and never two of these. Two plans are one where they keep the same addresses free and have the same
@@ -24,4 +25,11 @@ pub fn older_versions_know_what_they_knew()
     ensures flows { OlderFlowRules }
     ensures timing { OlderTimingRules }
     ensures arrays { OlderArrays }
+{}
+
+/// A plan of version 4 in which nothing stands that this version alone knows is read as the same plan of version 3, and one of version 3 in
+/// which nothing stands that the second doesn't know as the same plan of version 2: one plan is read, or one fault is told.
+pub fn plans_without_later_keys()
+    ensures fourth { FourthReadsAsThird }
+    ensures third { ThirdReadsAsSecond }
 {}

@@ -5,9 +5,12 @@ mod laws;
 mod reading;
 
 pub use j39_findings::{
-    CheckedPlan, Finding, Findings, FlowPlan, GroupFault, GroupPlan, Plan, Refused, RefusedCause,
-    Step, TextPlan, To, UnitPlan, Way, bad_run, check, checked, clean_parts, clean_where_none,
-    conflict_runs_are_exact, found_exactly, layout_of, signals_are_sound,
+    Bitrate, CheckedPlan, ErrorRate, Finding, Findings, FlowPlan, GroupFault, GroupPlan, NeedPlan,
+    Pace, Plan, Refused, RefusedCause, Step, TextPlan, Timing, To, UnitPlan, Way, bad_run, check,
+    checked, clean_parts, clean_where_none, conflict_runs_are_exact, found_exactly, layout_of,
+    signals_are_sound,
 };
-pub use laws::{a_file_describes_one_plan, older_versions_know_what_they_knew};
+pub use laws::{
+    a_file_describes_one_plan, older_versions_know_what_they_knew, plans_without_later_keys,
+};
 pub use reading::{Cause, Fault, Key, Place, PlanError, Table, read_plan};

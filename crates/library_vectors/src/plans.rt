@@ -1,7 +1,7 @@
 //! Plans as they are read and checked.
 use j39_plan::{
-    Cause, Finding, FlowPlan, GroupPlan, Key, Refused, RefusedCause, Step, To, UnitPlan, Way,
-    bad_run, checked, read_plan,
+    Bitrate, Cause, ErrorRate, Finding, FlowPlan, GroupPlan, Key, NeedPlan, Pace, Refused,
+    RefusedCause, Step, Timing, To, UnitPlan, Way, bad_run, checked, read_plan,
 };
 use j39_signal::{Kind, Signal};
 use std::process::Abort;
@@ -187,6 +187,113 @@ fn a_network_is_read_whole(rt: HostRuntime) -> Result<(), Fail> {
         pause: None,
     };
     assert!(rt; plan.flows.as_slice() == [to_all, to_one].as_slice());
+    Ok(())
+}
+
+// A plan of version 4 that has each key which this version knows.
+const NEEDED: &[u8] = b"version = 4
+
+[timing]
+bitrate = 1000000
+unplanned = 1
+unplanned_priority = 3
+transport_priority = 6
+broadcast_gap = 10
+broadcast_gap_most = 20
+errors = { count = 2, every = 500 }
+
+[[unit]]
+label = \"A\"
+address = 0
+name = { identity = 1 }
+
+[[unit]]
+label = \"B\"
+address = 3
+name = { identity = 2 }
+
+[[group]]
+label = \"ET1\"
+pgn = 65262
+priority = 6
+length = 8
+
+[[group.signal]]
+label = \"SPN110\"
+byte = 1
+bits = 8
+kind = \"measured\"
+
+[[group.signal]]
+label = \"SPN174\"
+byte = 2
+bits = 8
+kind = \"measured\"
+
+[[flow]]
+group = \"ET1\"
+from = \"A\"
+to = \"all\"
+period = 1000
+deadline = 500
+jitter = 9
+pause = 2000
+
+[[need]]
+unit = \"B\"
+group = \"ET1\"
+signal = \"SPN174\"
+from = \"A\"
+within = 2500
+
+[[need]]
+unit = \"B\"
+group = \"ET1\"
+";
+
+#[test]
+fn what_version_4_knows_is_read_whole(rt: HostRuntime) -> Result<(), Fail> {
+    let plan = read_plan(rt.alloc(), NEEDED)?;
+    let timing = Timing {
+        bitrate: Bitrate::Mbit1,
+        unplanned: 1,
+        unplanned_priority: 3,
+        transport_priority: 6,
+        broadcast_gap: 10,
+        broadcast_gap_most: 20,
+        errors: Some(ErrorRate {
+            count: 2,
+            every: 500,
+        }),
+    };
+    let flow = FlowPlan {
+        group: 0,
+        sender: 0,
+        to: To::All,
+        pace: Some(Pace {
+            period: 1000,
+            deadline: Some(500),
+            jitter: 9,
+        }),
+        pause: Some(2000),
+    };
+    let of_a_signal = NeedPlan {
+        unit: 1,
+        group: 0,
+        signal: Some(1),
+        from: Some(0),
+        within: Some(2500),
+    };
+    let of_a_group = NeedPlan {
+        unit: 1,
+        group: 0,
+        signal: None,
+        from: None,
+        within: None,
+    };
+    assert!(rt; plan.timing == Some(timing));
+    assert!(rt; plan.flows.as_slice() == [flow].as_slice());
+    assert!(rt; plan.needs.as_slice() == [of_a_signal, of_a_group].as_slice());
     Ok(())
 }
 

@@ -70,7 +70,8 @@ impl Rule<NeedPlan> for NeedUnmet<'_> {
     }
 }
 
-/// Adds the needs that no flow meets.
+/// Adds the needs that no flow meets. Of each need the flows are looked at up to the first that meets it, and one number tells most
+/// of them apart from it.
 #[tactic(auto, unfolding(crate::specs::Found::need_findings, crate::specs::ListPlaces::each))]
 pub fn find_in_needs(
     findings: &mut Vec<Finding>,

@@ -1,5 +1,6 @@
 //! The flows of a plan.
 ghost use Rattle.std.specs.Prelude.{◌≡◌, ◌≤◌, [], true, map, Some, IfOk, IfSome};
+ghost use Rattle.std.specs.Option.{ForSome};
 ghost use Rattle.toml.specs.View.{table_view};
 ghost use Rattle.j39_plan.specs.Outcome.{Gives};
 ghost use Rattle.j39_plan.specs.TableFaults.{keys_faults, unknown_faults};
@@ -132,6 +133,7 @@ fn later_pace(
 struct Rhythm {
     pace: Option<Pace>,
     pause: Option<u16>,
+    ghost pause_positive: { ForSome pause (λ n. 1 ≤ n) },
 }
 
 #[tactic(auto, using(crate::proofs::FirstFaults::faults_after))]

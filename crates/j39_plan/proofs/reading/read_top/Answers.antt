@@ -47,6 +47,16 @@ returns-in_err-flows c =
     (rw (c.in_ok-flow_values.ensures.0, no_need_key, no_units, no_groups)
     (fails_on _ _ c.in_err-flows.field-0.0 _ _ (λ grows. (refl, inr (refl, inr (refl, inl grows)))) (λ f is. first-append _ _ f is) fails))
 
+pub returns-in_err-groups : goal.returns-in_err-groups
+returns-in_err-groups c =
+    let p = err_from_is_err_and c.from_residual-in_err-groups.result c.from_residual-in_err-groups.ensures.1 in
+    let no_units = rw c.in_ok-unit_values.ensures.1 at c.in_ok-units.ensures.0 in
+    let no_need_key = rw c.knows_fourth-fourth.ensures at c.in_ok-need_values.ensures.0 in
+    let fails = rw (c.in_ok-group_values.ensures.1, c.knows_third-third.ensures) at c.in_err-groups.ensures in
+    rw (p.1, p.2, c.in_ok-keep_free.ensures.gives.0, c.in_ok-timing.ensures.0, c.in_ok-unit_values.ensures.0, c.in_ok-group_values.ensures.0)
+    (rw (c.in_ok-flow_values.ensures.0, no_need_key, no_units)
+    (fails_on _ _ c.in_err-groups.field-0.0 _ _ (λ grows. (refl, inr (refl, inl grows))) (λ f is. first-append _ _ f is) fails))
+
 pub returns-in_err-needs : goal.returns-in_err-needs
 returns-in_err-needs c =
     let p = err_from_is_err_and c.from_residual-in_err-needs.result c.from_residual-in_err-needs.ensures.1 in

@@ -1,0 +1,242 @@
+-- A plan of version 4 in which nothing stands that it alone knows is one of version 3.
+use Rattle.std.proofs.Common.{◌≡◌, ◌≢◌, ℕ, pos, true, false, arith, List, [], ◌∷◌, Option, Some, None, IfSome, unwrap_or, refl, sym, ap, subst, ◌∙◌}
+use Rattle.std.specs.Option.{option_and_then}
+use Rattle.std.proofs.lemmas.Bool.{le-ltb, ne_eqb}
+use Rattle.toml.specs.Data.{Data, string, integer, float, boolean, datetime, array, table, Members, get_member, as_integer}
+use Rattle.j39_findings.specs.declared.plan.flow_plan.FlowPlan.{FlowPlan}
+use Rattle.j39_findings.specs.declared.plan.timing.Timing.{Timing}
+use Rattle.j39_plan.specs.declared.reading.key.Key.{Key}
+use Rattle.j39_plan.specs.declared.reading.key.Key.TheVariants as key
+use Rattle.j39_plan.specs.declared.reading.place.Table.{Table}
+use Rattle.j39_plan.specs.declared.reading.place.Table.TheVariants as at
+use Rattle.j39_plan.specs.Words.{word_of}
+use Rattle.j39_plan.specs.Schema.{bitrate_of_bus, natural, standing, number_of, given_number, table_of}
+use Rattle.j39_plan.specs.TableFaults.{is_bitrate, standing_cause, key_faults, table_faults, is_key_word}
+use Rattle.j39_plan.specs.Elements.{inside}
+use Rattle.j39_plan.specs.FlowTables.{has_key, period_rule, given_period, jitter_rule, jitter_most, jitter_of, pause_rule, flow_rules, flow_table_faults, flow_faults, IsFlowOf}
+use Rattle.j39_plan.specs.TimingTables.{bitrate_of, TellsErrors, bitrate_rule, unplanned_priority_rule, transport_priority_rule, gap_rule, gap_most_rule, errors_rule, timing_table_faults, errors_table, TellsBus}
+use Rattle.j39_plan.specs.Versions.{fourth_bus_keys, IsThirdBus, IsThirdFlow}
+use Rattle.j39_plan.proofs.Absent.{lacked, IsNone, only_same, Alike, alike_both, alike_unknown, alike_inside}
+
+-- ---- flows
+
+no_jitter_key : (ms : Members) → IsThirdFlow ms → has_key key.Jitter ms ≡ false
+no_jitter_key ms lacks = lacks 0 key.Jitter (omega arith)
+
+no_jitter : (ms : Members) → IsThirdFlow ms → get_member (word_of key.Jitter) ms ≡ None
+no_jitter ms lacks = lacked key.Jitter ms (no_jitter_key ms lacks)
+
+no_pause : (ms : Members) → IsThirdFlow ms → get_member (word_of key.Pause) ms ≡ None
+no_pause ms lacks = lacked key.Pause ms (lacks 1 key.Pause (omega arith))
+
+period_same : (ms : Members) → IsThirdFlow ms → period_rule true ms ≡ period_rule false ms
+period_same ms lacks = rw (no_jitter_key ms lacks)
+
+-- the keys of a flow in the third version, and in the fourth
+abbrev third_flow_keys : Key → List Key
+third_flow_keys period = key.Group ∷ key.From ∷ key.To ∷ period ∷ key.Deadline ∷ []
+
+abbrev fourth_flow_keys : Key → List Key
+fourth_flow_keys period = key.Group ∷ key.From ∷ key.To ∷ period ∷ key.Deadline ∷ key.Jitter ∷ key.Pause ∷ []
+
+flow_words : (period : Key) (l : List ℕ) → IsNone (key.Jitter ∷ key.Pause ∷ []) l
+    → is_key_word (fourth_flow_keys period) l ≡ is_key_word (third_flow_keys period) l
+flow_words period l none = rw (none 0 key.Jitter (omega arith), none 1 key.Pause (omega arith))
+
+jitter_unfaulted : (at : Table) (ms : Members) (period : Option ℕ) → get_member (word_of key.Jitter) ms ≡ None → key_faults at ms (jitter_rule period) ≡ []
+unfolding key_faults
+jitter_unfaulted at ms period none = rw (none, le-ltb (jitter_most period) 0 (omega arith))
+
+pause_unfaulted : (at : Table) (ms : Members) (period : Option ℕ) → get_member (word_of key.Pause) ms ≡ None → key_faults at ms (pause_rule period) ≡ []
+unfolding key_faults
+pause_unfaulted at ms period none = rw none
+
+flow_keys_alike : (at : Table) (ms : Members) → IsThirdFlow ms
+    → Alike (table_faults at (flow_rules true true ms) ms) (table_faults at (flow_rules true false ms) ms)
+flow_keys_alike at ms lacks =
+    let period = (period_rule false ms).key in
+    rw (no_jitter_key ms lacks)
+    (alike_both _ _ _ _ (alike_unknown at _ _ ms ms
+    (only_same (fourth_flow_keys period) (third_flow_keys period) (key.Jitter ∷ key.Pause ∷ []) (flow_words period) ms lacks))
+    (rw (
+      jitter_unfaulted at ms (given_number (period_rule false ms) ms) (no_jitter ms lacks),
+      pause_unfaulted at ms (given_number (period_rule false ms) ms) (no_pause ms lacks),
+    ) refl))
+
+pub flow_alike : (groups units : List (List ℕ)) (i : ℕ) (d : Data) → IsThirdFlow (inside d)
+    → Alike (flow_faults true true groups units i d) (flow_faults true false groups units i d)
+unfolding flow_faults flow_table_faults
+flow_alike groups units i d lacks =
+    alike_both _ _ _ _ refl
+    (alike_inside (flow_table_faults true true groups units i) (flow_table_faults true false groups units i) d
+    (alike_both _ _ _ _ (flow_keys_alike (at.Flow i) (inside d) lacks) refl))
+
+jitter_none : (ms : Members) (period : Option ℕ) → get_member (word_of key.Jitter) ms ≡ None → jitter_of true period ms ≡ 0
+unfolding number_of
+jitter_none ms period none = rw none
+
+pause_none : (ms : Members) (period : Option ℕ) → get_member (word_of key.Pause) ms ≡ None → given_number (pause_rule period) ms ≡ None
+unfolding given_number
+pause_none ms period none = rw none
+
+period_told : (ms : Members) → IsThirdFlow ms → given_period true true ms ≡ given_period true false ms
+period_told ms lacks = ap (λ r. given_number r ms) (period_same ms lacks)
+
+pub third_flow : (groups units : List (List ℕ)) (d : Data) (f : FlowPlan) → IsThirdFlow (inside d)
+    → IsFlowOf true true groups units d f → IsFlowOf true false groups units d f
+third_flow groups units d f lacks told = record {
+  has_group = told.has_group;
+  has_sender = told.has_sender;
+  has_receivers = told.has_receivers;
+  has_pace = record {
+    has_period = told.has_pace.has_period ∙ period_told (inside d) lacks;
+    has_deadline = told.has_pace.has_deadline;
+    has_jitter = subst (λ n. IfSome f.pace (λ p. p.jitter ≡ n)) (jitter_none (inside d) (given_period true true (inside d)) (no_jitter (inside d) lacks)) told.has_pace.has_jitter;
+  };
+  has_pause = told.has_pause ∙ pause_none (inside d) (given_number (period_rule true (inside d)) (inside d)) (no_pause (inside d) lacks);
+}
+
+pub fourth_flow : (groups units : List (List ℕ)) (d : Data) (f : FlowPlan) → IsThirdFlow (inside d)
+    → IsFlowOf true false groups units d f → IsFlowOf true true groups units d f
+fourth_flow groups units d f lacks told = record {
+  has_group = told.has_group;
+  has_sender = told.has_sender;
+  has_receivers = told.has_receivers;
+  has_pace = record {
+    has_period = told.has_pace.has_period ∙ sym (period_told (inside d) lacks);
+    has_deadline = told.has_pace.has_deadline;
+    has_jitter = subst (λ n. IfSome f.pace (λ p. p.jitter ≡ n)) (sym (jitter_none (inside d) (given_period true true (inside d)) (no_jitter (inside d) lacks))) told.has_pace.has_jitter;
+  };
+  has_pause = told.has_pause ∙ sym (pause_none (inside d) (given_number (period_rule true (inside d)) (inside d)) (no_pause (inside d) lacks));
+}
+
+-- ---- the bus
+
+-- nothing stands at the keys that the fourth version alone knows
+record Without (ms : Members) : Type 0 where
+  unplanned_priority : get_member (word_of key.UnplannedPriority) ms ≡ None
+  transport_priority : get_member (word_of key.TransportPriority) ms ≡ None
+  gap : get_member (word_of key.BroadcastGap) ms ≡ None
+  gap_most : get_member (word_of key.BroadcastGapMost) ms ≡ None
+  errors : get_member (word_of key.Errors) ms ≡ None
+
+without : (ms : Members) → IsThirdBus ms → Without ms
+without ms third = record {
+  unplanned_priority = lacked key.UnplannedPriority ms (third.keys 0 key.UnplannedPriority (omega arith));
+  transport_priority = lacked key.TransportPriority ms (third.keys 1 key.TransportPriority (omega arith));
+  gap = lacked key.BroadcastGap ms (third.keys 2 key.BroadcastGap (omega arith));
+  gap_most = lacked key.BroadcastGapMost ms (third.keys 3 key.BroadcastGapMost (omega arith));
+  errors = lacked key.Errors ms (third.keys 4 key.Errors (omega arith));
+}
+
+bus_words : (l : List ℕ) → IsNone fourth_bus_keys l
+    → is_key_word (key.Bitrate ∷ key.Unplanned ∷ fourth_bus_keys) l ≡ is_key_word (key.Bitrate ∷ key.Unplanned ∷ []) l
+bus_words l none = rw (
+  none 0 key.UnplannedPriority (omega arith),
+  none 1 key.TransportPriority (omega arith),
+  none 2 key.BroadcastGap (omega arith),
+  none 3 key.BroadcastGapMost (omega arith),
+  none 4 key.Errors (omega arith),
+)
+
+bitrate_same : (n : ℕ) → n ≢ 125000 → n ≢ 1000000 → is_bitrate true n ≡ is_bitrate false n
+bitrate_same n not_slowest not_fastest = rw (ne_eqb n 125000 not_slowest, ne_eqb n 1000000 not_fastest)
+
+bitrate_cause : (found : Option Data) → natural (unwrap_or (option_and_then as_integer found) (pos 0)) ≢ 125000
+    → natural (unwrap_or (option_and_then as_integer found) (pos 0)) ≢ 1000000
+    → standing_cause (bitrate_of_bus true) found ≡ standing_cause (bitrate_of_bus false) found
+bitrate_cause None a b = refl
+bitrate_cause (Some (integer z)) a b = rw (bitrate_same (natural z) a b)
+bitrate_cause (Some (string s)) a b = refl
+bitrate_cause (Some (float x)) a b = refl
+bitrate_cause (Some (boolean x)) a b = refl
+bitrate_cause (Some (datetime x)) a b = refl
+bitrate_cause (Some (array ds)) a b = refl
+bitrate_cause (Some (table ms)) a b = refl
+
+bitrate_alike : (ms : Members) → IsThirdBus ms → key_faults at.Timing ms (bitrate_rule true) ≡ key_faults at.Timing ms (bitrate_rule false)
+unfolding key_faults number_of
+bitrate_alike ms third = rw (bitrate_cause (standing (bitrate_rule true) ms) third.not_slowest third.not_fastest)
+
+gap_is : (ms : Members) → Without ms → number_of gap_rule ms ≡ 50
+unfolding number_of
+gap_is ms w = rw w.gap
+
+record Unfaulted (ms : Members) : Type 0 where
+  unplanned_priority : key_faults at.Timing ms unplanned_priority_rule ≡ []
+  transport_priority : key_faults at.Timing ms transport_priority_rule ≡ []
+  gap : key_faults at.Timing ms gap_rule ≡ []
+  gap_most : key_faults at.Timing ms (gap_most_rule (number_of gap_rule ms)) ≡ []
+  errors : key_faults at.Timing ms errors_rule ≡ []
+
+unfaulted : (ms : Members) → Without ms → Unfaulted ms
+unfolding key_faults
+unfaulted ms w = record {
+  unplanned_priority = rw w.unplanned_priority;
+  transport_priority = rw w.transport_priority;
+  gap = rw w.gap;
+  gap_most = rw (gap_is ms w, w.gap_most);
+  errors = rw w.errors;
+}
+
+no_errors : (ms : Members) → Without ms → errors_table true ms ≡ None
+unfolding table_of
+no_errors ms w = rw w.errors
+
+pub timing_alike : (ms : Members) → IsThirdBus ms → Alike (timing_table_faults true ms) (timing_table_faults false ms)
+unfolding timing_table_faults
+timing_alike ms third =
+    let w = without ms third in
+    let u = unfaulted ms w in
+    alike_both _ _ _ _
+    (alike_both _ _ _ _ (alike_unknown at.Timing _ _ ms ms (only_same (key.Bitrate ∷ key.Unplanned ∷ fourth_bus_keys) (key.Bitrate ∷ key.Unplanned ∷ []) fourth_bus_keys bus_words ms third.keys))
+    (rw (bitrate_alike ms third, u.unplanned_priority, u.transport_priority, u.gap, u.gap_most, u.errors) refl))
+    (rw (no_errors ms w) refl)
+
+-- what is taken as given
+record Given (ms : Members) : Type 0 where
+  unplanned_priority : number_of unplanned_priority_rule ms ≡ 6
+  transport_priority : number_of transport_priority_rule ms ≡ 7
+  gap : number_of gap_rule ms ≡ 50
+  gap_most : number_of (gap_most_rule (number_of gap_rule ms)) ms ≡ 200
+
+given : (ms : Members) → Without ms → Given ms
+unfolding number_of
+given ms w = record {
+  unplanned_priority = rw w.unplanned_priority;
+  transport_priority = rw w.transport_priority;
+  gap = rw w.gap;
+  gap_most = rw w.gap_most;
+}
+
+bitrate_told : (ms : Members) → number_of (bitrate_rule true) ms ≡ number_of (bitrate_rule false) ms
+unfolding number_of
+bitrate_told ms = refl
+
+pub third_bus : (ms : Members) (t : Timing) → IsThirdBus ms → TellsBus true ms t → TellsBus false ms t
+third_bus ms t third told =
+    let w = without ms third in
+    let g = given ms w in
+    record {
+      has_bitrate = told.has_bitrate ∙ ap bitrate_of (bitrate_told ms);
+      has_unplanned = told.has_unplanned;
+      has_unplanned_priority = told.has_unplanned_priority ∙ g.unplanned_priority;
+      has_transport_priority = told.has_transport_priority ∙ g.transport_priority;
+      has_gap = told.has_gap ∙ g.gap;
+      has_gap_most = told.has_gap_most ∙ g.gap_most;
+      has_errors = subst (λ found. TellsErrors found t.errors) (no_errors ms w) told.has_errors;
+    }
+
+pub fourth_bus : (ms : Members) (t : Timing) → IsThirdBus ms → TellsBus false ms t → TellsBus true ms t
+fourth_bus ms t third told =
+    let w = without ms third in
+    let g = given ms w in
+    record {
+      has_bitrate = told.has_bitrate ∙ sym (ap bitrate_of (bitrate_told ms));
+      has_unplanned = told.has_unplanned;
+      has_unplanned_priority = told.has_unplanned_priority ∙ sym g.unplanned_priority;
+      has_transport_priority = told.has_transport_priority ∙ sym g.transport_priority;
+      has_gap = told.has_gap ∙ sym g.gap;
+      has_gap_most = told.has_gap_most ∙ sym g.gap_most;
+      has_errors = subst (λ found. TellsErrors found t.errors) (sym (no_errors ms w)) told.has_errors;
+    }

@@ -1,0 +1,62 @@
+-- What versions know, and what stands alike in a tree with another one.
+use Rattle.std.proofs.Common.{◌≡◌, ◌≤◌, ℕ, pos, negsuc, Bool, true, false, arith, List, [], ◌∷◌, Option, Some, None, unwrap_or, refl}
+use Rattle.std.specs.Option.{option_and_then, option_or}
+use Rattle.std.proofs.lemmas.Bool.{le-ltb}
+use Rattle.toml.specs.Data.{Data, string, integer, float, boolean, datetime, array, table, no_items, Members, get_member, as_integer}
+use Rattle.j39_plan.specs.declared.reading.key.Key.TheVariants as key
+use Rattle.j39_plan.specs.declared.reading.place.Table.TheVariants as at
+use Rattle.j39_plan.specs.Words.{word_of}
+use Rattle.j39_plan.specs.Schema.{integer_in, natural, number_of}
+use Rattle.j39_plan.specs.TableFaults.{standing_cause, key_faults}
+use Rattle.j39_plan.specs.Elements.{Each}
+use Rattle.j39_plan.specs.Faults.{version_rule, units_rule, may_keep, knows_third, knows_fourth, units_faults}
+use Rattle.j39_plan.specs.Versions.{with_version}
+use Rattle.j39_plan.proofs.OtherVersion.{tables_other}
+
+no_version : (n : ℕ) → 1 ≤ n → 0 ≡ n → ⊥
+no_version n some is = omega (arith, is)
+
+version_cause : (n : ℕ) (found : Option Data) → 1 ≤ n → n ≤ 4 → natural (unwrap_or (option_and_then as_integer (option_or found None)) (pos 0)) ≡ n
+    → standing_cause (integer_in (pos 1) (pos 4)) (option_or found None) ≡ None
+version_cause n None some few is = absurd (no_version n some is)
+version_cause n (Some (integer (pos m))) some few is =
+    let same : m ≡ n = is in
+    rw (le-ltb m 1 (omega (arith, same)), le-ltb 4 m (omega (arith, same)))
+version_cause n (Some (integer (negsuc m))) some few is = absurd (no_version n some is)
+version_cause n (Some (string s)) some few is = absurd (no_version n some is)
+version_cause n (Some (float x)) some few is = absurd (no_version n some is)
+version_cause n (Some (boolean x)) some few is = absurd (no_version n some is)
+version_cause n (Some (datetime x)) some few is = absurd (no_version n some is)
+version_cause n (Some (array ds)) some few is = absurd (no_version n some is)
+version_cause n (Some (table ms)) some few is = absurd (no_version n some is)
+
+pub version_unfaulted : (n : ℕ) (tree : Members) → 1 ≤ n → n ≤ 4 → number_of version_rule tree ≡ n → key_faults at.Top tree version_rule ≡ []
+unfolding key_faults number_of
+version_unfaulted n tree some few is = rw (version_cause n (get_member (word_of key.Version) tree) some few is)
+
+-- what its version knows
+pub record Knows (tree : Members) (keeps third fourth : Bool) : Type 0 where
+  pub of_head : may_keep tree ≡ keeps
+  pub of_third : knows_third tree ≡ third
+  pub of_fourth : knows_fourth tree ≡ fourth
+
+pub knows_4 : (tree : Members) → number_of version_rule tree ≡ 4 → Knows tree true true true
+unfolding may_keep knows_third knows_fourth
+knows_4 tree is = record { of_head = rw is; of_third = rw is; of_fourth = rw is }
+
+pub knows_2 : (tree : Members) → number_of version_rule tree ≡ 2 → Knows tree true false false
+unfolding may_keep knows_third knows_fourth
+knows_2 tree is = record { of_head = rw is; of_third = rw is; of_fourth = rw is }
+
+pub knows_3 : (tree : Members) → number_of version_rule tree ≡ 3 → Knows tree true true false
+unfolding may_keep knows_third knows_fourth
+knows_3 tree is = record { of_head = rw is; of_third = rw is; of_fourth = rw is }
+
+pub units_alike : (n : ℕ) (s : Members) → units_faults (with_version n s) ≡ units_faults s
+units_alike n s = rw (tables_other n units_rule s refl)
+
+-- no elements tell nothing
+pub each_nothing : {T : Type 0} (Is Was : Data → T → Type 0) (xs : List T) → Each Is no_items xs → Each Was no_items xs
+unfolding Each
+each_nothing Is Was [] each = tt
+each_nothing Is Was (x ∷ xs) each = each

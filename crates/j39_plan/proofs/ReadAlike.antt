@@ -1,0 +1,28 @@
+-- Trees that are read alike.
+use Rattle.std.proofs.Common.{◌≡◌, ◌↔◌, Some, Result, Ok, Err, refl, sym, subst, ◌∙◌}
+use Rattle.std.proofs.lemmas.Option.{same_Some, none-some}
+use Rattle.toml.specs.Data.{Members}
+use Rattle.j39_findings.specs.declared.plan.Plan.{Plan}
+use Rattle.j39_plan.specs.declared.reading.plan_error.PlanError.{PlanError}
+use Rattle.j39_plan.specs.declared.reading.plan_error.PlanError.TheVariants as errors
+use Rattle.j39_plan.specs.Outcome.{first}
+use Rattle.j39_plan.specs.Faults.{faults}
+use Rattle.j39_plan.specs.Described.{TellsPlan, Described, Reads}
+use Rattle.j39_plan.specs.Versions.{ReadAlike}
+use Rattle.j39_plan.proofs.Absent.{Alike, alike_none}
+
+reads_as : (s t : Members) (told : (p : Plan) → TellsPlan s p → TellsPlan t p) → Alike (faults s) (faults t)
+    → (answer : Result Plan PlanError) → Reads answer (Some s) → Reads answer (Some t)
+reads_as s t told alike (Ok p) (u, is, described) =
+    let here : Described s p = subst (λ (x : Members). Described x p) (sym (same_Some _ _ is)) described in
+    (t, refl, (alike_none (faults s) (faults t) alike here.0, told p here.1))
+reads_as s t told alike (Err errors.Text) is = absurd (none-some _ (sym is))
+reads_as s t told alike (Err (errors.Fault f)) (u, is, found) =
+    let here : first (faults s) ≡ Some f = subst (λ (x : Members). first (faults x) ≡ Some f) (sym (same_Some _ _ is)) found in
+    (t, refl, sym alike ∙ here)
+reads_as s t told alike (Err errors.Memory) is = tt
+
+-- trees of which the first faults are one, and which tell the same plans, are read alike
+pub reads_alike : (s t : Members) (told : (p : Plan) → TellsPlan s p ↔ TellsPlan t p) → Alike (faults s) (faults t) → ReadAlike s t
+reads_alike s t told alike = λ answer.
+    (reads_as s t (λ p. (told p).0) alike answer, reads_as t s (λ p. (told p).1) (sym alike) answer)

@@ -1,0 +1,233 @@
+-- Groups and flows of version 3 in whose tables nothing stands that the second doesn't know are those of version 2.
+use Rattle.std.proofs.Common.{◌≡◌, ◌≤◌, ℕ, pos, negsuc, ltb, Bool, true, false, ◌||◌, if◌then◌else◌, arith, List, [], ◌∷◌, Option, Some, None, unwrap_or, refl, sym, subst, ◌∙◌}
+use Rattle.std.specs.Option.{option_map_or, option_and_then}
+use Rattle.std.proofs.lemmas.Bool.{le-ltb, ltb-false, or_parts}
+use Rattle.toml.specs.Data.{Data, string, integer, float, boolean, datetime, array, table, no_items, Members, get_member, as_integer, as_table}
+use Rattle.j39_id.specs.Limits.{message_bytes}
+use Rattle.j39_findings.specs.declared.plan.flow_plan.FlowPlan.{FlowPlan}
+use Rattle.j39_findings.specs.declared.plan.group_plan.GroupPlan.{GroupPlan}
+use Rattle.j39_plan.specs.declared.reading.key.Key.{Key}
+use Rattle.j39_plan.specs.declared.reading.key.Key.TheVariants as key
+use Rattle.j39_plan.specs.declared.reading.cause.Cause.TheVariants.{Range}
+use Rattle.j39_plan.specs.declared.reading.place.Table.{Table}
+use Rattle.j39_plan.specs.declared.reading.place.Table.TheVariants as at
+use Rattle.j39_plan.specs.declared.reading.text_kind.TextKind.TheVariants as texts
+use Rattle.j39_plan.specs.Words.{word_of}
+use Rattle.j39_plan.specs.Schema.{integer_in, natural, standing, number_of, given_number, flag_of, tables_of}
+use Rattle.j39_plan.specs.TableFaults.{fault, standing_cause, key_faults, table_faults, table_only_faults, is_key_word}
+use Rattle.j39_plan.specs.Elements.{inside, label_in, label_rule, repeated_faults, Each}
+use Rattle.j39_plan.specs.SignalTables.{signal_faults, IsSignalOf}
+use Rattle.j39_plan.specs.GroupTables.{pgn_rule, priority_rule, length_rule, private_rule, private_of, most_rule, most_of, every_rule, every_of, signal_rule, text_rule, text_tables_of, group_rules, signals_faults, texts_faults, group_table_faults, group_faults, IsGroupOf}
+use Rattle.j39_plan.specs.TextTables.{IsTextOf}
+use Rattle.j39_plan.specs.FlowTables.{has_key, period_of, given_period, deadline_rule, flow_rules, flow_table_faults, flow_faults, IsFlowOf}
+use Rattle.j39_plan.specs.Versions.{third_group_keys, IsSecondSignal, IsSecondGroup, IsSecondFlow}
+use Rattle.j39_plan.proofs.Absent.{lacked, IsNone, only_same, Alike, alike_both, alike_between, alike_behind, alike_unknown, alike_inside, alike_each, told_alike}
+use Rattle.j39_plan.proofs.ThirdSignals.{signal_alike, second_signal, third_signal}
+
+-- ---- groups
+
+-- nothing stands at the keys that the second version doesn't know
+record Without (ms : Members) : Type 0 where
+  private : get_member (word_of key.Private) ms ≡ None
+  most : get_member (word_of key.Most) ms ≡ None
+  every : get_member (word_of key.Every) ms ≡ None
+  text : get_member (word_of key.Text) ms ≡ None
+
+without : (ms : Members) → IsSecondGroup ms → Without ms
+without ms second = record {
+  private = lacked key.Private ms (second.keys 0 key.Private (omega arith));
+  most = lacked key.Most ms (second.keys 1 key.Most (omega arith));
+  every = lacked key.Every ms (second.keys 2 key.Every (omega arith));
+  text = lacked key.Text ms (second.keys 3 key.Text (omega arith));
+}
+
+-- the keys of a group in the third version, and in the second
+abbrev later_keys : List Key
+later_keys = key.Label ∷ key.Pgn ∷ key.Priority ∷ key.Length ∷ key.Private ∷ key.Most ∷ key.Every ∷ key.Signal ∷ key.Text ∷ []
+
+abbrev first_keys : List Key
+first_keys = key.Label ∷ key.Pgn ∷ key.Priority ∷ key.Length ∷ key.Signal ∷ []
+
+group_words : (l : List ℕ) → IsNone third_group_keys l
+    → is_key_word later_keys l
+    ≡ is_key_word first_keys l
+group_words l none =
+    rw (none 0 key.Private (omega arith), none 1 key.Most (omega arith), none 2 key.Every (omega arith), none 3 key.Text (omega arith))
+
+private_unfaulted : (at : Table) (ms : Members) → Without ms → key_faults at ms private_rule ≡ []
+unfolding key_faults
+private_unfaulted at ms w = rw w.private
+
+every_unfaulted : (at : Table) (ms : Members) → Without ms → key_faults at ms every_rule ≡ []
+unfolding key_faults
+every_unfaulted at ms w = rw w.every
+
+text_unfaulted : (at : Table) (ms : Members) → Without ms → key_faults at ms text_rule ≡ []
+unfolding key_faults
+text_unfaulted at ms w = rw w.text
+
+most_unfaulted : (at : Table) (ms : Members) (length : ℕ) → length ≤ message_bytes → Without ms → key_faults at ms (most_rule length) ≡ []
+unfolding key_faults
+most_unfaulted at ms length few w = rw (w.most, le-ltb length length (omega arith), le-ltb message_bytes length few)
+
+no_cause : (is : Bool) (at : Table) (k : Key) → option_map_or (λ cause. fault cause at (Some k) ∷ []) (if is then Some Range else None) [] ≡ [] → is ≡ false
+no_cause true at k none = cc
+no_cause false at k none = refl
+
+-- a number that is no fault is at most the greatest of its range
+at_most : (low high : ℕ) (at : Table) (k : Key) (found : Option Data)
+    → option_map_or (λ cause. fault cause at (Some k) ∷ []) (standing_cause (integer_in (pos low) (pos high)) found) [] ≡ []
+    → natural (unwrap_or (option_and_then as_integer found) (pos 0)) ≤ high
+at_most low high at k None none = cc
+at_most low high at k (Some (integer (pos n))) none = ltb-false high n (or_parts (ltb n low) (ltb high n) (no_cause (ltb n low || ltb high n) at k none)).1
+at_most low high at k (Some (integer (negsuc n))) none = omega arith
+at_most low high at k (Some (string t)) none = cc
+at_most low high at k (Some (float x)) none = cc
+at_most low high at k (Some (boolean x)) none = cc
+at_most low high at k (Some (datetime x)) none = cc
+at_most low high at k (Some (array ds)) none = cc
+at_most low high at k (Some (table ms)) none = cc
+
+length_at_most : (at : Table) (ms : Members) → key_faults at ms length_rule ≡ [] → number_of length_rule ms ≤ message_bytes
+unfolding key_faults number_of
+length_at_most at ms none = at_most 1 message_bytes at key.Length (standing length_rule ms) none
+
+group_keys_alike : (at : Table) (ms : Members) → IsSecondGroup ms
+    → Alike (table_faults at (group_rules true ms) ms) (table_faults at (group_rules false ms) ms)
+group_keys_alike at ms second =
+    let w = without ms second in
+    let length = number_of length_rule ms in
+    alike_both _ _ _ _ (alike_unknown at _ _ ms ms (only_same later_keys first_keys third_group_keys group_words ms second.keys))
+    (alike_both (key_faults at ms label_rule) _ (key_faults at ms label_rule) _ refl
+    (alike_both (key_faults at ms pgn_rule) _ (key_faults at ms pgn_rule) _ refl
+    (alike_both (key_faults at ms priority_rule) _ (key_faults at ms priority_rule) _ refl
+    (alike_behind (key_faults at ms length_rule) _ _
+    (λ none. rw (private_unfaulted at ms w, most_unfaulted at ms length (length_at_most at ms none) w, every_unfaulted at ms w, text_unfaulted at ms w) refl)))))
+
+no_every : (ms : Members) → IsSecondGroup ms → every_of true ms ≡ None
+unfolding given_number
+no_every ms second = rw (without ms second).every
+
+no_texts : (ms : Members) → IsSecondGroup ms → text_tables_of true ms ≡ no_items
+unfolding tables_of
+no_texts ms second = rw (without ms second).text
+
+signals_alike : (g : ℕ) (ms : Members) → IsSecondGroup ms → Alike (signals_faults true g ms) (signals_faults false g ms)
+signals_alike g ms second =
+    rw (no_every ms second)
+    (alike_each IsSecondSignal (signal_faults true false g) (signal_faults false false g) (signal_alike g) label_in 0 [] (tables_of signal_rule ms) second.signals)
+
+texts_alike : (g : ℕ) (ms : Members) → IsSecondGroup ms → Alike (texts_faults true g ms) (texts_faults false g ms)
+texts_alike g ms second = rw (no_texts ms second) refl
+
+pub group_alike : (g : ℕ) (seen : List (List ℕ)) (d : Data) → IsSecondGroup (inside d) → Alike (group_faults true g seen d) (group_faults false g seen d)
+unfolding group_faults group_table_faults
+group_alike g seen d second =
+    let third = group_table_faults true g in
+    let older = group_table_faults false g in
+    alike_between (table_only_faults (at.Group g) d) (option_map_or third (as_table d) []) (option_map_or older (as_table d) [])
+    (repeated_faults (at.Group g) texts.Label seen (label_in d))
+    (alike_inside third older d
+    (alike_both _ _ _ _ (group_keys_alike (at.Group g) (inside d) second)
+    (alike_both _ _ _ _ (signals_alike g (inside d) second) (texts_alike g (inside d) second))))
+
+private_is : (ms : Members) → IsSecondGroup ms → private_of true ms ≡ false
+unfolding flag_of
+private_is ms second = rw (without ms second).private
+
+most_is : (length : ℕ) (ms : Members) → IsSecondGroup ms → most_of true length ms ≡ length
+unfolding number_of
+most_is length ms second = rw (without ms second).most
+
+pub second_group : (d : Data) (g : GroupPlan) → IsSecondGroup (inside d) → IsGroupOf true d g → IsGroupOf false d g
+second_group d g second told = record {
+  has_label = told.has_label;
+  has_pgn = told.has_pgn;
+  has_priority = told.has_priority;
+  has_length = told.has_length;
+  has_private = told.has_private ∙ private_is (inside d) second;
+  has_most = told.has_most ∙ most_is (number_of length_rule (inside d)) (inside d) second;
+  has_every = told.has_every ∙ no_every (inside d) second;
+  has_signals = told_alike IsSecondSignal (IsSignalOf true) (IsSignalOf false) second_signal (tables_of signal_rule (inside d)) g.signals.items second.signals told.has_signals;
+  has_texts = subst (λ ds. Each IsTextOf ds g.texts.items) (no_texts (inside d) second) told.has_texts;
+}
+
+pub third_group : (d : Data) (g : GroupPlan) → IsSecondGroup (inside d) → IsGroupOf false d g → IsGroupOf true d g
+third_group d g second told = record {
+  has_label = told.has_label;
+  has_pgn = told.has_pgn;
+  has_priority = told.has_priority;
+  has_length = told.has_length;
+  has_private = told.has_private ∙ sym (private_is (inside d) second);
+  has_most = told.has_most ∙ sym (most_is (number_of length_rule (inside d)) (inside d) second);
+  has_every = told.has_every ∙ sym (no_every (inside d) second);
+  has_signals = told_alike IsSecondSignal (IsSignalOf false) (IsSignalOf true) third_signal (tables_of signal_rule (inside d)) g.signals.items second.signals told.has_signals;
+  has_texts = subst (λ ds. Each IsTextOf ds g.texts.items) (sym (no_texts (inside d) second)) told.has_texts;
+}
+
+-- ---- flows
+
+no_deadline : (ms : Members) → IsSecondFlow ms → has_key key.Deadline ms ≡ false
+no_deadline ms lacks = lacks 1 key.Deadline (omega arith)
+
+no_period : (ms : Members) → IsSecondFlow ms → get_member (word_of key.Period) ms ≡ None
+no_period ms lacks = lacked key.Period ms (lacks 0 key.Period (omega arith))
+
+flow_words : (l : List ℕ) → IsNone (key.Period ∷ key.Deadline ∷ []) l
+    → is_key_word (key.Group ∷ key.From ∷ key.To ∷ key.Period ∷ key.Deadline ∷ []) l ≡ is_key_word (key.Group ∷ key.From ∷ key.To ∷ []) l
+flow_words l none = rw (none 0 key.Period (omega arith), none 1 key.Deadline (omega arith))
+
+period_unfaulted : (at : Table) (ms : Members) → IsSecondFlow ms → key_faults at ms (period_of false) ≡ []
+unfolding key_faults
+period_unfaulted at ms lacks = rw (no_period ms lacks)
+
+deadline_unfaulted : (at : Table) (ms : Members) → IsSecondFlow ms → key_faults at ms deadline_rule ≡ []
+unfolding key_faults
+deadline_unfaulted at ms lacks = rw (lacked key.Deadline ms (no_deadline ms lacks))
+
+flow_keys_alike : (at : Table) (ms : Members) → IsSecondFlow ms
+    → Alike (table_faults at (flow_rules true false ms) ms) (table_faults at (flow_rules false false ms) ms)
+flow_keys_alike at ms lacks =
+    rw (no_deadline ms lacks)
+    (alike_both _ _ _ _ (alike_unknown at _ _ ms ms (only_same (key.Group ∷ key.From ∷ key.To ∷ key.Period ∷ key.Deadline ∷ []) (key.Group ∷ key.From ∷ key.To ∷ []) (key.Period ∷ key.Deadline ∷ []) flow_words ms lacks))
+    (rw (period_unfaulted at ms lacks, deadline_unfaulted at ms lacks) refl))
+
+pub flow_alike : (groups units : List (List ℕ)) (i : ℕ) (d : Data) → IsSecondFlow (inside d)
+    → Alike (flow_faults true false groups units i d) (flow_faults false false groups units i d)
+unfolding flow_faults flow_table_faults
+flow_alike groups units i d lacks =
+    alike_both _ _ _ _ refl
+    (alike_inside (flow_table_faults true false groups units i) (flow_table_faults false false groups units i) d
+    (alike_both _ _ _ _ (flow_keys_alike (at.Flow i) (inside d) lacks) refl))
+
+period_is : (ms : Members) → IsSecondFlow ms → given_period true false ms ≡ None
+unfolding given_number
+period_is ms lacks = rw (no_deadline ms lacks, no_period ms lacks)
+
+pub second_flow : (groups units : List (List ℕ)) (d : Data) (f : FlowPlan) → IsSecondFlow (inside d)
+    → IsFlowOf true false groups units d f → IsFlowOf false false groups units d f
+second_flow groups units d f lacks told = record {
+  has_group = told.has_group;
+  has_sender = told.has_sender;
+  has_receivers = told.has_receivers;
+  has_pace = record {
+    has_period = told.has_pace.has_period ∙ period_is (inside d) lacks;
+    has_deadline = told.has_pace.has_deadline;
+    has_jitter = told.has_pace.has_jitter;
+  };
+  has_pause = told.has_pause;
+}
+
+pub third_flow : (groups units : List (List ℕ)) (d : Data) (f : FlowPlan) → IsSecondFlow (inside d)
+    → IsFlowOf false false groups units d f → IsFlowOf true false groups units d f
+third_flow groups units d f lacks told = record {
+  has_group = told.has_group;
+  has_sender = told.has_sender;
+  has_receivers = told.has_receivers;
+  has_pace = record {
+    has_period = told.has_pace.has_period ∙ sym (period_is (inside d) lacks);
+    has_deadline = told.has_pace.has_deadline;
+    has_jitter = told.has_pace.has_jitter;
+  };
+  has_pause = told.has_pause;
+}

@@ -1,0 +1,166 @@
+-- A plan of version 3 in which nothing stands that the second doesn't know is read as one of version 2.
+use Rattle.std.proofs.Common.{◌≡◌, ℕ, true, false, arith, List, [], ◌∷◌, None, refl, sym, ap, ◌∙◌}
+use Rattle.toml.specs.Data.{Members, get_member}
+use Rattle.j39_findings.specs.declared.plan.Plan.{Plan}
+use Rattle.j39_plan.specs.declared.reading.key.Key.{Key}
+use Rattle.j39_plan.specs.declared.reading.key.Key.TheVariants as key
+use Rattle.j39_plan.specs.declared.reading.place.Table.TheVariants as at
+use Rattle.j39_plan.specs.Words.{word_of}
+use Rattle.j39_plan.specs.Outcome.{first}
+use Rattle.j39_plan.specs.Schema.{number_of, table_of, tables_of}
+use Rattle.j39_plan.specs.TableFaults.{key_faults, keys_faults, is_key_word, has_only}
+use Rattle.j39_plan.specs.Elements.{each_faults, label_in}
+use Rattle.j39_plan.specs.GroupTables.{IsGroupOf, group_faults}
+use Rattle.j39_plan.specs.FlowTables.{IsFlowOf, flow_faults}
+use Rattle.j39_plan.specs.Faults.{version_rule, keep_free_rule, timing_rule, units_rule, groups_rule, flows_rule, knows_fourth, head_faults, timing_faults, array_rules, top_faults, unit_labels, group_labels, units_faults, groups_faults, flows_faults, needs_faults, no_label, faults}
+use Rattle.j39_plan.specs.Described.{keep_free_of, TellsPlan}
+use Rattle.j39_plan.specs.Versions.{with_version, Lacks, IsSecondGroup, IsSecondFlow, IsSecondPlan, ReadAlike}
+use Rattle.j39_plan.proofs.Absent.{lacked, IsNone, only_same, Alike, alike_both, alike_unknown, alike_each, told_alike}
+use Rattle.j39_plan.proofs.KnownVersions.{version_unfaulted, knows_3, knows_2, units_alike, each_nothing}
+use Rattle.j39_plan.proofs.ReadAlike.{reads_alike}
+use Rattle.j39_plan.proofs.OtherVersion.{only_other, key_faults_other, tables_other, addresses_other, version_other}
+use Rattle.j39_plan.proofs.ThirdPlans.{group_alike, second_group, third_group, flow_alike, second_flow, third_flow}
+
+-- ---- the top table
+
+-- the keys of the top table in both versions
+abbrev third_keys : List Key
+third_keys = key.Version ∷ key.KeepFree ∷ key.Timing ∷ key.Unit ∷ key.Group ∷ key.Flow ∷ []
+
+abbrev second_keys : List Key
+second_keys = key.Version ∷ key.KeepFree ∷ key.Unit ∷ key.Group ∷ key.Flow ∷ []
+
+top_words : (l : List ℕ) → IsNone (key.Timing ∷ []) l
+    → is_key_word third_keys l
+    ≡ is_key_word second_keys l
+top_words l none = rw (none 0 key.Timing (omega arith))
+
+known_alike : (n : ℕ) (tree : Members) → Lacks (key.Timing ∷ []) tree
+    → has_only third_keys tree
+    ≡ has_only second_keys (with_version n tree)
+known_alike n tree lacks =
+    only_same third_keys second_keys (key.Timing ∷ []) top_words tree lacks
+    ∙ sym (only_other n second_keys tree)
+
+-- a tree of version 3 beside the same one of version 2
+record Beside (s : Members) : Type 0 where
+  is : number_of version_rule s ≡ 3
+  other : number_of version_rule (with_version 2 s) ≡ 2
+  older : IsSecondPlan s
+
+beside : (s : Members) → number_of version_rule s ≡ 3 → IsSecondPlan s → Beside s
+beside s is older = record { is = is; other = version_other 2 s (λ e. absurd (omega (arith, is, e))); older = older }
+
+head_alike : (s : Members) → Beside s → Alike (head_faults s) (head_faults (with_version 2 s))
+head_alike s b =
+    let t = with_version 2 s in
+    let k = knows_3 s b.is in
+    let o = knows_2 t b.other in
+    rw (k.of_head, k.of_third, k.of_fourth, o.of_head, o.of_third, o.of_fourth)
+    (alike_both _ _ _ _ (alike_unknown at.Top _ _ s t (known_alike 2 s b.older.keys))
+    (rw (
+      version_unfaulted 3 s (omega arith) (omega arith) b.is,
+      version_unfaulted 2 t (omega arith) (omega arith) b.other,
+      key_faults_other 2 at.Top keep_free_rule s refl,
+    ) refl))
+
+no_bus : (s : Members) → Lacks (key.Timing ∷ []) s → get_member (word_of key.Timing) s ≡ None
+no_bus s lacks = lacked key.Timing s (lacks 0 key.Timing (omega arith))
+
+bus_unfaulted : (s : Members) → get_member (word_of key.Timing) s ≡ None → key_faults at.Top s timing_rule ≡ []
+unfolding key_faults
+bus_unfaulted s none = rw none
+
+no_bus_table : (s : Members) → get_member (word_of key.Timing) s ≡ None → table_of timing_rule s ≡ None
+unfolding table_of
+no_bus_table s none = rw none
+
+timing_part_alike : (s : Members) → Beside s → Alike (timing_faults s) (timing_faults (with_version 2 s))
+timing_part_alike s b =
+    let none = no_bus s b.older.keys in
+    rw ((knows_3 s b.is).of_third, (knows_2 (with_version 2 s) b.other).of_third, bus_unfaulted s none, no_bus_table s none) refl
+
+arrays_alike : (s : Members) → Beside s
+    → Alike (keys_faults at.Top s (array_rules (knows_fourth s))) (keys_faults at.Top (with_version 2 s) (array_rules (knows_fourth (with_version 2 s))))
+arrays_alike s b =
+    rw (
+      (knows_3 s b.is).of_fourth,
+      (knows_2 (with_version 2 s) b.other).of_fourth,
+      key_faults_other 2 at.Top units_rule s refl,
+      key_faults_other 2 at.Top groups_rule s refl,
+      key_faults_other 2 at.Top flows_rule s refl,
+    ) refl
+
+-- ---- the arrays
+
+groups_alike : (s : Members) → Beside s → Alike (groups_faults s) (groups_faults (with_version 2 s))
+groups_alike s b =
+    rw ((knows_3 s b.is).of_third, (knows_2 (with_version 2 s) b.other).of_third, tables_other 2 groups_rule s refl)
+    (alike_each IsSecondGroup (group_faults true) (group_faults false) group_alike label_in 0 [] (tables_of groups_rule s) b.older.groups)
+
+flows_alike : (s : Members) → Beside s → Alike (flows_faults s) (flows_faults (with_version 2 s))
+flows_alike s b =
+    let k = knows_3 s b.is in
+    let o = knows_2 (with_version 2 s) b.other in
+    rw (k.of_third, k.of_fourth, o.of_third, o.of_fourth, tables_other 2 units_rule s refl, tables_other 2 groups_rule s refl, tables_other 2 flows_rule s refl)
+    (alike_each IsSecondFlow (λ i seen. flow_faults true false (group_labels s) (unit_labels s) i)
+    (λ i seen. flow_faults false false (group_labels s) (unit_labels s) i) (λ i seen d. flow_alike (group_labels s) (unit_labels s) i d)
+    no_label 0 [] (tables_of flows_rule s) b.older.flows)
+
+needs_alike : (s : Members) → Beside s → Alike (needs_faults s) (needs_faults (with_version 2 s))
+unfolding each_faults
+needs_alike s b = rw ((knows_3 s b.is).of_fourth, (knows_2 (with_version 2 s) b.other).of_fourth) refl
+
+faults_alike : (s : Members) → Beside s → Alike (faults s) (faults (with_version 2 s))
+faults_alike s b =
+    alike_both (top_faults s) _ (top_faults (with_version 2 s)) _
+    (alike_both (head_faults s) _ (head_faults (with_version 2 s)) _ (head_alike s b) (alike_both (timing_faults s) _ (timing_faults (with_version 2 s)) _
+    (timing_part_alike s b) (arrays_alike s b)))
+    (alike_both (units_faults s) _ (units_faults (with_version 2 s)) _ (ap first (sym (units_alike 2 s)))
+    (alike_both (groups_faults s) _ (groups_faults (with_version 2 s)) _ (groups_alike s b)
+    (alike_both (flows_faults s) _ (flows_faults (with_version 2 s)) _ (flows_alike s b) (needs_alike s b))))
+
+-- ---- what is told
+
+kept_alike : (s : Members) → Beside s → keep_free_of (with_version 2 s) ≡ keep_free_of s
+kept_alike s b = rw ((knows_3 s b.is).of_head, (knows_2 (with_version 2 s) b.other).of_head, addresses_other 2 keep_free_rule s refl)
+
+second_plan : (s : Members) (p : Plan) → Beside s → TellsPlan s p → TellsPlan (with_version 2 s) p
+second_plan s p b told =
+    let k = knows_3 s b.is in
+    let o = knows_2 (with_version 2 s) b.other in
+    record {
+      has_keep_free = told.has_keep_free ∙ sym (kept_alike s b);
+      has_timing = rw o.of_third (rw (k.of_third, k.of_fourth, no_bus_table s (no_bus s b.older.keys)) at told.has_timing);
+      has_units = rw (tables_other 2 units_rule s refl) told.has_units;
+      has_groups = rw (o.of_third, tables_other 2 groups_rule s refl)
+          (told_alike IsSecondGroup (IsGroupOf true) (IsGroupOf false) second_group (tables_of groups_rule s) p.groups.items b.older.groups
+          (rw k.of_third at told.has_groups));
+      has_flows = rw (o.of_third, o.of_fourth, tables_other 2 units_rule s refl, tables_other 2 groups_rule s refl, tables_other 2 flows_rule s refl)
+          (told_alike IsSecondFlow (IsFlowOf true false (group_labels s) (unit_labels s)) (IsFlowOf false false (group_labels s) (unit_labels s))
+          (second_flow (group_labels s) (unit_labels s)) (tables_of flows_rule s) p.flows.items b.older.flows (rw (k.of_third, k.of_fourth) at told.has_flows));
+      has_needs = rw o.of_fourth (each_nothing _ _ p.needs.items (rw k.of_fourth at told.has_needs));
+    }
+
+third_plan : (s : Members) (p : Plan) → Beside s → TellsPlan (with_version 2 s) p → TellsPlan s p
+third_plan s p b told =
+    let k = knows_3 s b.is in
+    let o = knows_2 (with_version 2 s) b.other in
+    record {
+      has_keep_free = told.has_keep_free ∙ kept_alike s b;
+      has_timing = rw (k.of_third, k.of_fourth, no_bus_table s (no_bus s b.older.keys)) (rw o.of_third at told.has_timing);
+      has_units = rw (tables_other 2 units_rule s refl) at told.has_units;
+      has_groups = rw k.of_third
+          (told_alike IsSecondGroup (IsGroupOf false) (IsGroupOf true) third_group (tables_of groups_rule s) p.groups.items b.older.groups
+          (rw (o.of_third, tables_other 2 groups_rule s refl) at told.has_groups));
+      has_flows = rw (k.of_third, k.of_fourth)
+          (told_alike IsSecondFlow (IsFlowOf false false (group_labels s) (unit_labels s)) (IsFlowOf true false (group_labels s) (unit_labels s))
+          (third_flow (group_labels s) (unit_labels s)) (tables_of flows_rule s) p.flows.items b.older.flows
+          (rw (o.of_third, o.of_fourth, tables_other 2 units_rule s refl, tables_other 2 groups_rule s refl, tables_other 2 flows_rule s refl) at told.has_flows));
+      has_needs = rw k.of_fourth (each_nothing _ _ p.needs.items (rw o.of_fourth at told.has_needs));
+    }
+
+pub third_reads : (s : Members) → number_of version_rule s ≡ 3 → IsSecondPlan s → ReadAlike s (with_version 2 s)
+third_reads s is older =
+    let b = beside s is older in
+    reads_alike s (with_version 2 s) (λ p. (second_plan s p b, third_plan s p b)) (faults_alike s b)
