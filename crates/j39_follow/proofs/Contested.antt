@@ -1,5 +1,5 @@
 -- Contests once one line more was read.
-use Rattle.std.proofs.Common.{◌≡◌, ◌⊎◌, ◌+◌, ◌<◌, ◌≤◌, ℕ, ◌==◌, ◌&&◌, ◌||◌, not, nat_le, nat_lt, Bool, true, false, if◌then◌else◌}
+use Rattle.std.proofs.Common.{◌≡◌, ◌⊎◌, ◌+◌, ◌-◌, ◌<◌, ◌≤◌, ℕ, ◌==◌, ◌&&◌, ◌||◌, not, nat_le, nat_lt, Bool, true, false, if◌then◌else◌}
 use Rattle.std.proofs.Common.{List, [], ◌∷◌, ◌++◌, length, Option, Some, None, is_some, inl, inr, refl, sym, ap, subst, ◌∙◌, arith, append_assoc, eqb-true, eq-eqb}
 use Rattle.std.proofs.lemmas.Bool.{and_parts, cases_Bool, or_cases, eqb-false, le-leb, leb-true, lt-ltb, ltb-true}
 use Rattle.std.proofs.lemmas.List.{same_from_push}
@@ -362,3 +362,16 @@ eight f told =
     ] in
     let rest = (and_parts (f.ident.edp == 0) (pgn_of f.ident == address_claimed && length f.payload.items == 8) carries).1 in
     eqb-true (length f.payload.items) 8 (and_parts (pgn_of f.ident == address_claimed) (length f.payload.items == 8) rest).1
+
+-- one that ends before this time doesn't go on at a later one
+pub past_goes_on : (c : Contest) (least : ℕ) (time : Option ℕ) → claim_wait ≤ least → c.since ≤ least - claim_wait
+    → ((t : ℕ) → time ≡ Some t → least ≤ t) → defender_of (Some c) time ≡ None
+past_goes_on c least None wait past from = refl
+past_goes_on c least (Some now) wait past from = elim (cases_Bool (nat_le c.since now && nat_lt now (c.since + claim_wait))) [
+  | inl within ↦
+      let parts = and_parts (nat_le c.since now) (nat_lt now (c.since + claim_wait)) within in
+      let early : now < c.since + claim_wait = ltb-true now (c.since + claim_wait) parts.1 in
+      let late : least ≤ now = from now refl in
+      absurd (omega (arith, wait, past, early, late))
+  | inr without ↦ ap (λ (b : Bool). if b then Some c.defender else None) without
+]

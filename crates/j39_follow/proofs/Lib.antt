@@ -9,6 +9,7 @@ pub mod Holding
 pub mod Interfaces
 pub mod Knowing
 pub mod Likeliest
+pub mod LeastTimes
 pub mod LinesRead
 pub mod Numbered
 pub mod OneFrame

@@ -1,5 +1,5 @@
 //! Contests for addresses.
-ghost use Rattle.std.specs.Prelude.{◌≡◌, ◌<◌, ◌||◌, [], ◌∷◌, ◌++◌, ℕ, List, Option, Some, None, true, is_some};
+ghost use Rattle.std.specs.Prelude.{◌≡◌, ◌<◌, ◌≤◌, ◌||◌, [], ◌∷◌, ◌++◌, ℕ, List, Option, Some, None, true, is_some};
 ghost use Rattle.j39_findings.specs.declared.plan.Plan.{Plan as APlan};
 ghost use Rattle.j39_text.specs.FrameText.{cannot_claim, claims_address};
 ghost use Rattle.j39_follow.specs.Contests.{Timed, frames_of};
@@ -11,7 +11,7 @@ use crate::contest::Contest;
 use crate::directory::Directory;
 use crate::holders::{carried_name, claims_address};
 use crate::known_parties::ADDRESSES;
-use crate::moment::moment;
+use crate::moment::{least_moment, moment};
 use j39_findings::Plan;
 use j39_id::addresses::is_in_pool;
 use j39_id::{Frame, Ident};
@@ -184,16 +184,28 @@ impl Contests {
         self.table[usize::from(address)].is_some()
     }
 
-    // Whether no contest at an address of a frame goes on, on a line of which this time is printed.
+    // Whether no contest at an address goes on at this time or later.
+    fn is_past(&self, address: u8, least: u64) -> bool
+        ensures { result ≡ true → (time : Option ℕ) → ((t : ℕ) → time ≡ Some t → least ≤ t) → defender_at self.now address time ≡ None }
+    {
+        match self.table[usize::from(address)] {
+            Some(contest) => CLAIM_WAIT <= least && contest.since <= least - CLAIM_WAIT,
+            None => true,
+        }
+    }
+
+    // Whether no contest at an address of a frame goes on, on a line of which this time is printed. Mostly its seconds tell that.
     #[inline(never)]
     fn are_over(&self, ident: Ident, time: &[u8]) -> bool
         ensures source { result ≡ true → defender_at self.now ident.sa (moment_of time.now) ≡ None }
         ensures receiver { result ≡ true → defender_at self.now ident.ps (moment_of time.now) ≡ None }
     {
+        let least = least_moment(time);
+        if self.is_past(ident.sa, least) && self.is_past(ident.ps, least) {
+            return true;
+        }
         let now = moment(time);
-        let source = self.defender(ident.sa, now);
-        let receiver = self.defender(ident.ps, now);
-        are_none(source, receiver)
+        are_none(self.defender(ident.sa, now), self.defender(ident.ps, now))
     }
 
     /// Whether neither of the addresses of a frame is contested on a line of which this time is printed.
@@ -201,15 +213,11 @@ impl Contests {
         ensures source { result ≡ true → defender_at self.now ident.sa (moment_of time.now) ≡ None }
         ensures receiver { result ≡ true → defender_at self.now ident.ps (moment_of time.now) ≡ None }
     {
-        let source = self.has_begun(ident.sa);
-        let receiver = self.has_begun(ident.ps);
-        if source {
-            return self.are_over(ident, time);
+        if self.has_begun(ident.sa) || self.has_begun(ident.ps) {
+            self.are_over(ident, time)
+        } else {
+            true
         }
-        if receiver {
-            return self.are_over(ident, time);
-        }
-        true
     }
 
     /// The smaller NAME of the contest at an address that goes on at this time.

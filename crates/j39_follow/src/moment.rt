@@ -1,5 +1,5 @@
 //! The time of a line as a number.
-ghost use Rattle.std.specs.Prelude.{◌≡◌, ◌==◌, ◌+◌, ◌<◌, ◌≤◌, ◌^◌, ◌++◌, true, codes, length, slice_index_or, take};
+ghost use Rattle.std.specs.Prelude.{◌≡◌, ◌==◌, ◌+◌, ◌<◌, ◌≤◌, ◌^◌, ◌++◌, ℕ, not, true, Some, codes, length, slice_index_or, take};
 ghost use Rattle.std.specs.Char.{is_ascii_digit};
 ghost use Rattle.std.specs.List.{list_all, position};
 ghost use Rattle.std.specs.Str.Parse.{digits_value};
@@ -135,4 +135,38 @@ pub(crate) fn moment(time: &[u8]) -> Option<u64>
         return None;
     }
     time_of(&time[1..time.len() - 1])
+}
+
+// The place of the first byte that is no digit.
+fn end_of_digits(text: &[u8]) -> Option<usize>
+    ensures { result ≡ position (λ c. not (is_ascii_digit c)) text.now }
+{
+    text.iter().position(|byte| !is_digit(*byte))
+}
+
+// How many digits stand in front of what is no digit.
+fn front_digits(text: &[u8]) -> usize
+    ensures digits { list_all is_ascii_digit (take result text.now) ≡ true }
+    ensures inside { result ≤ length text.now }
+{
+    match end_of_digits(text) {
+        Some(place) => place,
+        None => 0,
+    }
+}
+
+/// What the time of a line isn't below, in microseconds, by its whole seconds alone.
+#[tactic(auto, unfolding(crate::specs::LogLines::moment_of))]
+pub(crate) fn least_moment(time: &[u8]) -> u64
+    ensures { (t : ℕ) → moment_of time.now ≡ Some t → result ≤ t }
+{
+    if time.len() < 2 {
+        return 0;
+    }
+    let digits = &time[1..time.len() - 1];
+    let many = front_digits(digits);
+    if many > MOST_SECONDS {
+        return 0;
+    }
+    number_of(&digits[..many]) * MICROSECONDS
 }

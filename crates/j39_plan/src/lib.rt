@@ -6,7 +6,7 @@ mod reading;
 
 pub use j39_findings::{
     Bitrate, CheckedPlan, ErrorRate, Finding, Findings, FlowPlan, GroupFault, GroupPlan, NeedPlan,
-    Pace, Plan, Refused, RefusedCause, Step, TextPlan, Timing, To, UnitPlan, Way, bad_run, check,
+    Pace, Plan, Refused, RefusedCause, RequestPlan, Step, TextPlan, Timing, To, UnitPlan, Way, bad_run, check,
     checked, clean_parts, clean_where_none, conflict_runs_are_exact, found_exactly, layout_of,
     signals_are_sound,
 };

@@ -1,4 +1,4 @@
-use Rattle.std.proofs.Common.{ℕ, Option, subst}
+use Rattle.std.proofs.Common.{subst}
 use Rattle.std.proofs.lemmas.Result.{IfOk-weaker}
 use Rattle.j39_follow.specs.LogLines.{moment_of}
 use Rattle.j39_follow.specs.inside.Contesting.{IsDefender, contest_at}
@@ -10,7 +10,7 @@ returns-then-are_calm-clause-written c =
     let plan = c.args.groups.now in
     let i = c.args.frame.now.ident in
     let table = c.args.self.now.contests.table in
-    let time : Option ℕ = moment_of c.args.stamp.time.now in
+    let time = moment_of c.args.stamp.time.now in
     IfOk-weaker c.write_plain.result _ _
     (λ _ written. λ seen log knows contests timed have ranges.
     written seen log knows
