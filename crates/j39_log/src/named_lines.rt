@@ -10,7 +10,7 @@ ghost use Rattle.j39_log.specs.inside.NameTables.{named_by, names_in};
 
 use crate::name_table::NameTable;
 use crate::names::GroupNames;
-use crate::named_record_lines::{write_scaled, write_state};
+use crate::record_lines::{write_scaled, write_state};
 use crate::text_lines::write_texts;
 use crate::trouble_code::{suspect_parameter, write_code};
 use j39_findings::GroupPlan;
