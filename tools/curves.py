@@ -14,8 +14,7 @@ from reports import Claim, Message, Report, Request, Who
 
 @dataclass
 class Curve:
-    """A signal as one sender sent it, with `?` where that isn't sure: its values over time, not a number where it has none, and the times of
-    each such state."""
+    """A signal as one sender sent it: its values over time, not a number where it has none, and the times of each such state."""
 
     group: str
     signal: str
@@ -38,7 +37,7 @@ def curves_of(reports: Iterable[Report], wanted: Wanted[Reading], clock: Clock) 
     for message in reports:
         if not isinstance(message, Message):
             continue
-        time, group, sender = clock.seconds(message.line), message.group, message.sender.told
+        time, group, sender = clock.seconds(message.line), message.group, message.sender.shown
         for label, reading in wanted.of(group, message.signals):
             key = group, label, sender
             curve = curves.get(key)

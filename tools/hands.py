@@ -117,12 +117,10 @@ class Hands:
     def sends(self, line: int, at: int | None, who: Who) -> Iterator[Deviation]:
         """Somebody sends something that is no claim."""
         key = key_of(who)
-        is_contested = who.is_guess and who.address in self._holders  # only the contest tells who it is
-        if not is_contested:
-            self.seen.add(key)
+        self.seen.add(key)
         if at is None:
             return
-        if key and not is_contested:
+        if key:
             self._heard[key] = at
         if self._fresh:
             yield from self._pass(at)

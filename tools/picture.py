@@ -63,8 +63,8 @@ class Colours:
     given: dict[str, int] = field(default_factory=dict)
 
     def of(self, unit: str) -> tuple[str, str]:
-        """The colour of a unit, and how its lines are drawn; one that isn't sure, as `ENGINE?`, has that of the unit."""
-        number = self.given.setdefault(unit.rstrip("?"), len(self.given))
+        """The colour of a unit, and how its lines are drawn."""
+        number = self.given.setdefault(unit, len(self.given))
         return COLOURS[number % len(COLOURS)], LINES[number // len(COLOURS) % len(LINES)]
 
 

@@ -172,7 +172,6 @@ class Tables:
     def __init__(self, places: Places) -> None:
         self._places = places
         self.version = places.number(("version",)) or 1
-        self.strangers = places.number(("strangers",)) or 0
         self.kept = [places.integer(place) for place in places.elements(("keep_free",))]
         self.units = [self._unit(place) for place in places.elements(("unit",))]
         self.groups = [self._group(place) for place in places.elements(("group",))]

@@ -130,10 +130,7 @@ def unit_section(tables: Tables, stands: dict[str, Stand]) -> str:
         table("Units and where they stand", heads, where),
         table("NAMEs of the units", ("Unit", "NAME", *map(spaced, FIELDS)), names, "numbers"),
     ]
-    notes = [f"<p>Addresses that no unit may choose: {kept}.</p>"] if kept else []
-    if tables.strangers:
-        notes.append(f"<p>Units that may come and stand in no plan, and may choose their addresses: up to {tables.strangers}.</p>")
-    return section("units", "Units", parts + notes)
+    return section("units", "Units", parts + ([f"<p>Addresses that no unit may choose: {kept}.</p>"] if kept else []))
 
 
 def senders(flows: list[Flow]) -> dict[str, list[str]]:

@@ -475,18 +475,6 @@ class Against(InFolder):
         self.assertEqual(told(*begin[:2], ("3.0", VALVE_CLAIMS), ("9.0", ET1)), [])  # it may have been switched off
         self.assertEqual(told(("1.0", VALVE_CLAIMS), ("1.5", PUMP_CLAIMS), ("9.0", ET1)), [])  # the smaller NAME needn't wait for the larger
 
-    def test_who_is_guessed_in_a_contest_is_not_heard(self):
-        """What comes behind a claim of an address is told as of the smaller NAME, which need not be on: nothing was heard of it yet."""
-        plan = self.write("plan.toml", RIVALS % "PUMP")
-
-        def found(*lines):
-            log = self.write("drive.log", "".join(f"({time}) can0 {frame}\n" for time, frame in lines))
-            return run("against.py", plan, log)[1]
-
-        contest = ("9.0", VALVE_CLAIMS), ("9.1", ET1)
-        self.assertIn("unit PUMP: neither claimed an address nor sent anything", found(*contest))
-        self.assertIn("PUMP sends before 250 ms have passed behind its claim of address 128", found(*contest, ("9.5", PUMP_CLAIMS), ("9.6", ET1)))
-
     def test_who_sends_too_soon_behind_a_claim(self):
         """A claim of one of the addresses that may be chosen may be contested for 250 ms, unless the unit holds it already."""
         def told(*log):

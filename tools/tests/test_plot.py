@@ -52,7 +52,7 @@ class Told(WithLog):
         self.assertEqual(list(heat.times), [101.0, 102.0, 103.0, 104.0])
         self.assertEqual([None if math.isnan(value) else value for value in heat.values], [85.0, None, None, 86.0])
         self.assertEqual({state: list(times) for state, times in heat.states.items()}, {"absent": [102.0], "fault": [103.0]})
-        self.assertEqual(list(curves["EEC1", "SPN190", "TRANSMISSION?"].values), [1600.0])
+        self.assertEqual(list(curves["EEC1", "SPN190", "TRANSMISSION"].values), [1600.0])
         self.assertEqual(len(curves), 3)
 
     def test_who_held_which_address(self):
@@ -66,7 +66,7 @@ class Told(WithLog):
     def test_without_times(self):
         """The lines count."""
         bare = self.write("bare.log", "\n18FEEE00#7DFFFFFFFFFFFFFF\n18FEEE00#7DFFFFFFFFFFFFFF\n")
-        self.assertEqual(list(self.told(bare, "SPN110")[0]["ET1", "SPN110", "ENGINE?"].times), [2.0, 3.0])
+        self.assertEqual(list(self.told(bare, "SPN110")[0]["ET1", "SPN110", "ENGINE"].times), [2.0, 3.0])
 
     def test_clocks_that_are_set(self):
         """A curve goes on as if they weren't, and the addresses with it; that is said once."""
@@ -75,7 +75,7 @@ class Told(WithLog):
                  "(5.0) can0 18FEEE00#80FFFFFFFFFFFFFF", "(7.0) can0 18FEEE00#81FFFFFFFFFFFFFF"]
         log = self.write("jump.log", "".join(f"{line}\n" for line in lines))
         curves, held = self.told(log, "SPN110")
-        self.assertEqual(list(curves["ET1", "SPN110", "ENGINE?"].times), [12.0, 13.0, 13.0, 14.5, 16.5])
+        self.assertEqual(list(curves["ET1", "SPN110", "ENGINE"].times), [12.0, 13.0, 13.0, 14.5, 16.5])
         self.assertIn(Held(128, "#0000000012345678", 14.5, 16.5, True), held)
         if importlib.util.find_spec("matplotlib"):
             said = f"plot: {log}:3: time jumps by 20419.3 days; times go back or jump 2 times in all\n"
@@ -129,7 +129,7 @@ class Drawn(WithLog):
     def test_an_svg_has_signals_units_and_states(self):
         picture = self.drawn("a.svg", "ET1.SPN110", "EEC1.SPN190")
         texts = self.texts(picture)
-        for text in ("EEC1.SPN190", "rpm", "degC", "ENGINE", "TRANSMISSION?", "ENGINE: absent", "ENGINE: fault", "drive.log"):
+        for text in ("EEC1.SPN190", "rpm", "degC", "ENGINE", "TRANSMISSION", "ENGINE: absent", "ENGINE: fault", "drive.log"):
             self.assertIn(text, texts)
         self.assertLess(texts.index("ET1.SPN110"), texts.index("EEC1.SPN190"))
         self.assertNotIn("address", texts)

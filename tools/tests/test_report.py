@@ -131,13 +131,6 @@ class Report(InFolder):
         self.assertIn(["B", "128", "may move", "may choose", "lowest", "255"], rows)
         self.assertIn("not known: the addresses have findings", [cell for row in self.page(FAULTY).rows for cell in row])
 
-    def test_strangers(self):
-        """How many may come stands below the units, where some may."""
-        plan = self.write("plan.toml", text_of(example("address_contest.toml")).replace("version = 1\n", "version = 4\nstrangers = 2\n"))
-        self.page(plan)
-        self.assertIn("may choose their addresses: up to 2.", run("report.py", plan)[1])
-        self.assertNotIn("stand in no plan", run("report.py", example("address_contest.toml"))[1])
-
     def test_names_are_those_that_are_claimed(self):
         for plan in (PLAN, example("service_addresses.toml"), example("three_at_one_address.toml")):
             labels = program.labels_of(plan)

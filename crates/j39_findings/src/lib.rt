@@ -20,8 +20,8 @@ pub use laws::{
     plans_without_records, plans_without_texts, records_are_counted, signals_are_sound,
 };
 pub use plan::{
-    Bitrate, ErrorRate, FlowPlan, GroupPlan, NeedPlan, Pace, Plan, TextPlan, Timing, To, UnitPlan,
-    Way,
+    Bitrate, ErrorRate, FlowPlan, GroupPlan, Meaning, NeedPlan, Pace, Plan, TextPlan, Timing, To,
+    UnitPlan, ValueName, Way,
 };
 pub use planned_groups::{GroupFault, layout_of};
 pub use steps::Step;

@@ -1,6 +1,6 @@
 -- Contests once one line more was read.
 use Rattle.std.proofs.Common.{◌≡◌, ◌⊎◌, ◌+◌, ◌<◌, ◌≤◌, ℕ, ◌==◌, ◌&&◌, ◌||◌, not, nat_le, nat_lt, Bool, true, false, if◌then◌else◌}
-use Rattle.std.proofs.Common.{List, [], ◌∷◌, ◌++◌, length, Option, Some, None, is_some, inl, inr, refl, sym, ap, subst, ◌∙◌, arith, append_assoc, eqb-true, eq-eqb}
+use Rattle.std.proofs.Common.{List, [], ◌∷◌, ◌++◌, length, Option, Some, None, inl, inr, refl, sym, ap, subst, ◌∙◌, arith, append_assoc, eqb-true, eq-eqb}
 use Rattle.std.proofs.lemmas.Bool.{and_parts, cases_Bool, or_cases, eqb-false, le-leb, leb-true, lt-ltb, ltb-true}
 use Rattle.std.proofs.lemmas.List.{same_from_push}
 use Rattle.j39_id.specs.Addresses.{is_address, null_address}
@@ -274,10 +274,12 @@ defends plan log a (Some c) (Some now) of timed = elim (cases_Bool (nat_le c.sin
       not_within c.since now begun lasts without)
 ]
 
--- where none was kept none goes on
-pub none_goes_on : (o : Option Contest) (time : Option ℕ) → is_some o ≡ false → defender_of o time ≡ None
-none_goes_on None time e = refl
-none_goes_on (Some c) time e = cc
+-- where no contest is kept none goes on
+pub quiet_defends : (plan : Plan) (contests : Contests) (log : List Timed) (a : ℕ) → a < 256 → contests.any ≡ false → AreContests plan contests log
+    → IsDefender plan log a None
+quiet_defends plan contests log a less calm of =
+    let none : IsContestOf plan log a None = subst (IsContestOf plan log a) (of.quiet calm a less) (of.each a less) in
+    λ c is. none c is.contest
 
 pub taken_so : (plan : Plan) (log : List Timed) (a : ℕ) (who : Who) (o : Option ℕ) → IsWho plan (frames_of log) a who → IsDefender plan log a o
     → IsTaken plan log a (taken_party plan who o)
@@ -298,8 +300,10 @@ no_begin plan log x a silent c begins = silent c.claimant (claim_tells x.frame c
 
 pub contests_on : (plan : Plan) (contests : Contests) (log : List Timed) (x : Timed) → TellsNothing x.frame → AreContests plan contests log
     → AreContests plan contests (log ++ x ∷ [])
-contests_on plan contests log x silent of =
-    λ a less. stays_so plan log x a (no_begin plan log x a silent) (contest_at contests.table a) silent (of a less)
+contests_on plan contests log x silent of = record {
+  each = λ a less. stays_so plan log x a (no_begin plan log x a silent) (contest_at contests.table a) silent (of.each a less);
+  quiet = of.quiet;
+}
 
 pub no_contests : (plan : Plan) (a : ℕ) (c : Contest) → ¬ IsContest plan [] a c
 no_contests plan a c of = no_row of.before of.claim of.behind of.row

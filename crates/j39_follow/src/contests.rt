@@ -1,28 +1,27 @@
 //! Contests for addresses.
-ghost use Rattle.std.specs.Prelude.{◌≡◌, ◌<◌, ◌||◌, [], ◌∷◌, ◌++◌, ℕ, List, Option, Some, None, true, is_some};
+ghost use Rattle.std.specs.Prelude.{◌≡◌, ◌<◌, ◌||◌, [], ◌∷◌, ◌++◌, ℕ, List, Option, Some, true};
 ghost use Rattle.j39_findings.specs.declared.plan.Plan.{Plan as APlan};
 ghost use Rattle.j39_text.specs.FrameText.{cannot_claim, claims_address};
 ghost use Rattle.j39_follow.specs.Contests.{Timed, frames_of};
-ghost use Rattle.j39_follow.specs.LogLines.{moment_of};
-ghost use Rattle.j39_follow.specs.inside.Contesting.{AreContests, AreContestsLeft, IsBegun, begun_or, claimed_place, contest_at, defender_at, ends, is_place, contest_left};
+ghost use Rattle.j39_follow.specs.inside.Contesting.{AreContests, AreContestsLeft, AreNone, IsBegun, begun_or, claimed_place, contest_at, defender_at, ends, is_place, contest_left};
 ghost use Rattle.j39_follow.specs.inside.Recounting.{Knows};
 
 use crate::contest::Contest;
 use crate::directory::Directory;
 use crate::holders::{carried_name, claims_address};
 use crate::known_parties::ADDRESSES;
-use crate::moment::moment;
 use j39_findings::Plan;
+use j39_id::Frame;
 use j39_id::addresses::is_in_pool;
-use j39_id::{Frame, Ident};
 
 // How long a unit waits behind its claim of an address of the pool, in microseconds.
 const CLAIM_WAIT: u64 = 250_000;
 
-/// The last contest that began at each address, if nothing has ended it.
+/// The last contest that began at each address, if nothing has ended it, and whether there is any.
 #[derive(Drop)]
 pub(crate) struct Contests {
     table: [Option<Contest>; ADDRESSES],
+    any: bool,
 }
 
 // The contest that a claim begins, where it is on a line with a time.
@@ -132,6 +131,18 @@ fn with_begun(
     changed
 }
 
+// Whether no address has a contest.
+fn are_none(table: &[Option<Contest>; ADDRESSES]) -> bool
+    ensures { result ≡ true → AreNone table.now }
+{
+    for address in 0..ADDRESSES {
+        if table[address].is_some() {
+            return false;
+        }
+    }
+    true
+}
+
 // The address that a frame claims.
 fn claimed(frame: &Frame) -> Option<u8>
     ensures { result ≡ claimed_place frame.now }
@@ -143,26 +154,13 @@ fn claimed(frame: &Frame) -> Option<u8>
     }
 }
 
-// Whether there is neither of two NAMEs.
-fn are_none(source: Option<u64>, receiver: Option<u64>) -> bool
-    ensures source { result ≡ true → source ≡ None }
-    ensures receiver { result ≡ true → receiver ≡ None }
-{
-    match source {
-        Some(_name) => false,
-        None => match receiver {
-            Some(_name) => false,
-            None => true,
-        },
-    }
-}
-
 impl Contests {
     pub fn new() -> Self
         ensures { (plan : APlan) → AreContests plan result [] }
     {
         Contests {
             table: [None; ADDRESSES],
+            any: false,
         }
     }
 
@@ -174,42 +172,16 @@ impl Contests {
             → AreContests plan self.new (log ++ record { frame = frame.now; time = time } ∷ []) }
     {
         let rest = all_left(&self.table, carried_name(frame), claimed(frame));
-        self.table = with_begun(rest, frame.ident.sa, begun);
+        let next = with_begun(rest, frame.ident.sa, begun);
+        self.table = next;
+        self.any = !are_none(&self.table);
     }
 
-    // Whether a contest began at an address, and nothing has ended it.
-    fn has_begun(&self, address: u8) -> bool
-        ensures { result ≡ is_some (contest_at self.now.table address) }
+    /// Whether there may be a contest at some address.
+    pub fn any(&self) -> bool
+        ensures { result ≡ self.now.any }
     {
-        self.table[usize::from(address)].is_some()
-    }
-
-    // Whether no contest at an address of a frame goes on, on a line of which this time is printed.
-    #[inline(never)]
-    fn are_over(&self, ident: Ident, time: &[u8]) -> bool
-        ensures source { result ≡ true → defender_at self.now ident.sa (moment_of time.now) ≡ None }
-        ensures receiver { result ≡ true → defender_at self.now ident.ps (moment_of time.now) ≡ None }
-    {
-        let now = moment(time);
-        let source = self.defender(ident.sa, now);
-        let receiver = self.defender(ident.ps, now);
-        are_none(source, receiver)
-    }
-
-    /// Whether neither of the addresses of a frame is contested on a line of which this time is printed.
-    pub fn are_calm(&self, ident: Ident, time: &[u8]) -> bool
-        ensures source { result ≡ true → defender_at self.now ident.sa (moment_of time.now) ≡ None }
-        ensures receiver { result ≡ true → defender_at self.now ident.ps (moment_of time.now) ≡ None }
-    {
-        let source = self.has_begun(ident.sa);
-        let receiver = self.has_begun(ident.ps);
-        if source {
-            return self.are_over(ident, time);
-        }
-        if receiver {
-            return self.are_over(ident, time);
-        }
-        true
+        self.any
     }
 
     /// The smaller NAME of the contest at an address that goes on at this time.

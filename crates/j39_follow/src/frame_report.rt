@@ -94,7 +94,6 @@ fn write_packet(
 }
 
 /// What is written at a frame whose claim was noted, what it counts as, and what the message counts as that it ends.
-#[inline(always)]
 pub(crate) fn write_frame(
     text: &mut TextBuffer,
     listeners: &mut Listeners,

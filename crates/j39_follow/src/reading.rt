@@ -89,6 +89,20 @@ fn kept_interface(kept: &Option<Vec<u8>>) -> Option<&[u8]>
     }
 }
 
+// Whether none of the addresses of a frame is contested, these being the smaller NAMEs.
+fn is_calm(source: Option<u64>, receiver: Option<u64>) -> bool
+    ensures source { result ≡ true → source ≡ None }
+    ensures receiver { result ≡ true → receiver ≡ None }
+{
+    match source {
+        Some(_name) => false,
+        None => match receiver {
+            Some(_name) => false,
+            None => true,
+        },
+    }
+}
+
 impl Reading {
     pub fn new(alloc: Global, plan: &Plan) -> Self
         ensures text { result.text ≡ [] }
@@ -111,17 +125,18 @@ impl Reading {
         }
     }
 
-    // Writes a frame of which an address may be contested.
+    // Writes a frame of which an address is contested.
     #[inline(never)]
     fn write_taken(
         &mut self,
         groups: &Groups<'_>,
         stamp: Stamp<'_>,
         frame: &Frame,
+        time: Option<u64>,
     ) -> Result<(Sort, Option<Sort>), AllocError>
         ensures stays { IsSameButWritten self.old self.new }
         ensures written { IfOk result (λ sorts. (seen : List Seen) (log : List Timed) → Knows groups.now self.old.directory (frames_of log)
-            → AreContests groups.now self.old.contests log → IsTimed log (moment_of stamp.entry.time.now)
+            → AreContests groups.now self.old.contests log → IsTimed log time
             → HaveHeardSince groups.now self.old.listeners seen → AreAllInRange seen
             → IsFrameWritten groups.now self.new.listeners seen log (front_of stamp.entry) frame.now sorts.0 sorts.1 self.old.text self.new.text) }
     {
@@ -130,7 +145,7 @@ impl Reading {
             self.directory.parties(),
             &self.contests,
             frame.ident,
-            moment(stamp.time),
+            time,
         );
         write_frame(
             &mut self.text,
@@ -143,7 +158,6 @@ impl Reading {
     }
 
     // Writes a frame by who stands behind its addresses, none of which is contested.
-    #[inline(always)]
     fn write_plain(
         &mut self,
         groups: &Groups<'_>,
@@ -166,6 +180,30 @@ impl Reading {
         )
     }
 
+    // Writes a frame where there are contests.
+    #[inline(never)]
+    fn write_contested(
+        &mut self,
+        groups: &Groups<'_>,
+        stamp: Stamp<'_>,
+        frame: &Frame,
+    ) -> Result<(Sort, Option<Sort>), AllocError>
+        ensures stays { IsSameButWritten self.old self.new }
+        ensures written { IfOk result (λ sorts. (seen : List Seen) (log : List Timed) → Knows groups.now self.old.directory (frames_of log)
+            → AreContests groups.now self.old.contests log → IsTimed log (moment_of stamp.entry.time.now)
+            → HaveHeardSince groups.now self.old.listeners seen → AreAllInRange seen
+            → IsFrameWritten groups.now self.new.listeners seen log (front_of stamp.entry) frame.now sorts.0 sorts.1 self.old.text self.new.text) }
+    {
+        let time = moment(stamp.time);
+        let source = self.contests.defender(frame.ident.sa, time);
+        let receiver = self.contests.defender(frame.ident.ps, time);
+        if is_calm(source, receiver) {
+            self.write_plain(groups, stamp, frame)
+        } else {
+            self.write_taken(groups, stamp, frame, time)
+        }
+    }
+
     // Writes a frame whose claim was noted.
     fn write(
         &mut self,
@@ -179,10 +217,10 @@ impl Reading {
             → HaveHeardSince groups.now self.old.listeners seen → AreAllInRange seen
             → IsFrameWritten groups.now self.new.listeners seen log (front_of stamp.entry) frame.now sorts.0 sorts.1 self.old.text self.new.text) }
     {
-        if self.contests.are_calm(frame.ident, stamp.time) {
-            self.write_plain(groups, stamp, frame)
+        if self.contests.any() {
+            self.write_contested(groups, stamp, frame)
         } else {
-            self.write_taken(groups, stamp, frame)
+            self.write_plain(groups, stamp, frame)
         }
     }
 

@@ -9,6 +9,7 @@ pub mod KnownVersions
 pub mod Labelled
 pub mod NeedSignals
 pub mod NoFaults
+pub mod Numbers
 pub mod OneAnswer
 pub mod OtherVersion
 pub mod ReadAlike

@@ -30,7 +30,7 @@ pub record TellsPlan (tree : Members) (p : Plan) : Type 0 where
   pub has_strangers : p.strangers ≡ strangers_of (knows_fourth tree) tree
   pub has_timing : TellsTiming (knows_fourth tree) (timing_table tree) p.timing
   pub has_units : Each IsUnitOf (tables_of units_rule tree) p.units.items
-  pub has_groups : Each (IsGroupOf (knows_third tree)) (tables_of groups_rule tree) p.groups.items
+  pub has_groups : Each (IsGroupOf (knows_third tree) (knows_fourth tree)) (tables_of groups_rule tree) p.groups.items
   pub has_flows : Each (IsFlowOf (knows_third tree) (knows_fourth tree) (group_labels tree) (unit_labels tree)) (tables_of flows_rule tree) p.flows.items
   pub has_needs : Each (IsNeedOf (group_labels tree) (group_signals tree) (unit_labels tree)) (need_tables tree) p.needs.items
 

@@ -122,7 +122,7 @@ abbrev pub units_faults : Members → List Fault
 units_faults tree = each_faults unit_faults unit_label_in 0 [] (tables_of units_rule tree)
 
 abbrev pub groups_faults : Members → List Fault
-groups_faults tree = each_faults (group_faults (knows_third tree)) label_in 0 [] (tables_of groups_rule tree)
+groups_faults tree = each_faults (group_faults (knows_third tree) (knows_fourth tree)) label_in 0 [] (tables_of groups_rule tree)
 
 abbrev pub flows_faults : Members → List Fault
 flows_faults tree =

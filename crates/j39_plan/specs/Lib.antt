@@ -4,6 +4,7 @@ pub mod Faults
 pub mod FlowTables
 pub mod GroupTables
 pub mod Growing
+pub mod MeaningTables
 pub mod NeedTables
 pub mod OnePlan
 pub mod Outcome

@@ -5,6 +5,8 @@ use Rattle.j39_signal.specs.Parts.{SignalParts}
 use Rattle.j39_findings.specs.declared.plan.Plan.{Plan}
 use Rattle.j39_findings.specs.declared.plan.unit_plan.UnitPlan.{UnitPlan}
 use Rattle.j39_findings.specs.declared.plan.group_plan.GroupPlan.{GroupPlan}
+use Rattle.j39_findings.specs.declared.plan.meaning.Meaning.{Meaning}
+use Rattle.j39_findings.specs.declared.plan.meaning.ValueName.{ValueName}
 use Rattle.j39_findings.specs.declared.plan.text_plan.TextPlan.{TextPlan}
 use Rattle.j39_findings.specs.declared.plan.flow_plan.FlowPlan.{FlowPlan}
 use Rattle.j39_findings.specs.declared.plan.need_plan.NeedPlan.{NeedPlan}
@@ -36,6 +38,14 @@ pub record AreOneSignal (s t : SignalParts) : Type 0 where
   pub units : s.unit.bytes ≡ t.unit.bytes
   pub repetitions : s.repeated ≡ t.repeated
 
+pub record AreOneValueName (n m : ValueName) : Type 0 where
+  pub raws : n.raw ≡ m.raw
+  pub names : n.name.bytes ≡ m.name.bytes
+
+pub record AreOneMeaning (m n : Meaning) : Type 0 where
+  pub spns : m.spn ≡ n.spn
+  pub values : AllZip AreOneValueName m.values.items n.values.items
+
 pub record AreOneText (t u : TextPlan) : Type 0 where
   pub labels : t.label.bytes ≡ u.label.bytes
   pub places : t.byte ≡ u.byte
@@ -50,6 +60,7 @@ pub record AreOneGroup (g h : GroupPlan) : Type 0 where
   pub mosts : g.most ≡ h.most
   pub everys : g.every ≡ h.every
   pub signals : AllZip AreOneSignal g.signals.items h.signals.items
+  pub meanings : AllZip AreOneMeaning g.meanings.items h.meanings.items
   pub texts : AllZip AreOneText g.texts.items h.texts.items
 
 -- as many damaged frames at most, or none

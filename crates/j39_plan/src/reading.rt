@@ -14,6 +14,7 @@ mod groups;
 mod heads;
 mod key;
 mod labels;
+mod meanings;
 mod names;
 mod needs;
 mod place;
@@ -58,7 +59,7 @@ fn read_top(alloc: Global, members: &toml::Table) -> Result<Plan, PlanError>
     let flow_values = array(members, Table::Top, Key::Flow, FLOW_LIMIT)?;
     let need_values = need_values(members, fourth)?;
     let units = read_each(alloc, &Units, unit_values)?;
-    let groups = read_each(alloc, &Groups { third }, group_values)?;
+    let groups = read_each(alloc, &Groups { third, fourth }, group_values)?;
     let flows = read_each(
         alloc,
         &Flows {
@@ -92,7 +93,8 @@ fn read_top(alloc: Global, members: &toml::Table) -> Result<Plan, PlanError>
 /// version 2, 3 or 4 may keep up to 120 addresses of 128 to 247 free; one of version 1 keeps none. Versions 3 and 4 know groups of several
 /// lengths, with records of signals that are repeated, more kinds of signals, what their values are divided by, 64 texts of a group, what
 /// is known of the bus itself, and how often flows are sent. Version 4 knows more of the bus, how far behind its moments a flow is sent,
-/// for how long it is silent, which unit needs what, and how many strangers may come.
+/// for how long it is silent, which unit needs what, how many strangers may come, the numbers of signals, and
+/// names of their raw numbers.
 ///
 /// Refuses bytes that are no TOML text, and else the first fault, in the order of the file's tables and keys. Takes no
 /// memory of bytes that are no UTF-8, or white space and comments alone.

@@ -17,6 +17,8 @@ pub struct UnitPlan {
     pub way: Way,
     /// How many packets the unit takes in a row, 1 to 255.
     pub window: u8,
+    /// Whether the unit claims its address. One that doesn't hears claims and does nothing, and it may not choose.
+    pub claims: bool,
     pub ghost label_form: { IsTrue (is_unit_label label.bytes) },
     pub ghost address_range: { address < null_address },
     pub ghost name_range: { name < 2 ^ 64 },

@@ -25,9 +25,14 @@ abbrev pub IsContestOf : Plan → List Timed → ℕ → Option Contest → Type
 IsContestOf plan log address (Some c) = IsContest plan log address c
 IsContestOf plan log address None = (c : Contest) → ¬ IsContest plan log address c
 
+-- no address has one
+abbrev pub AreNone : List (Option Contest) → Type 0
+AreNone table = (address : ℕ) → address < 256 → contest_at table address ≡ None
+
 -- the contests are those of these lines
-abbrev pub AreContests : Plan → Contests → List Timed → Type 0
-AreContests plan contests log = (address : ℕ) → address < 256 → IsContestOf plan log address (contest_at contests.table address)
+pub record AreContests (plan : Plan) (contests : Contests) (log : List Timed) : Type 0 where
+  pub each : (address : ℕ) → address < 256 → IsContestOf plan log address (contest_at contests.table address)
+  pub quiet : contests.any ≡ false → AreNone contests.table
 
 -- ---- a frame
 

@@ -24,7 +24,7 @@ returns-in_err-flows c =
     let fourth = c.knows_fourth-fourth.result in
     let gs = c.in_ok-groups.groups.items in
     let us = c.in_ok-units.units.items in
-    let groups = group_texts_told _ _ gs c.in_ok-groups.ensures.1 in
+    let groups = group_texts_told _ _ _ gs c.in_ok-groups.ensures.1 in
     let units = unit_texts_told _ us c.in_ok-units.ensures.1 in
     let no_units = rw c.in_ok-unit_values.ensures.1 at c.in_ok-units.ensures.0 in
     let no_groups = rw (c.in_ok-group_values.ensures.1, c.knows_third-third.ensures) at c.in_ok-groups.ensures.0 in
@@ -66,8 +66,8 @@ returns-in_err-needs c =
     let fourth = c.knows_fourth-fourth.result in
     let gs = c.in_ok-groups.groups.items in
     let us = c.in_ok-units.units.items in
-    let groups = group_texts_told _ _ gs c.in_ok-groups.ensures.1 in
-    let signals = signals_texts_told _ _ gs c.in_ok-groups.ensures.1 in
+    let groups = group_texts_told _ _ _ gs c.in_ok-groups.ensures.1 in
+    let signals = signals_texts_told _ _ _ gs c.in_ok-groups.ensures.1 in
     let units = unit_texts_told _ us c.in_ok-units.ensures.1 in
     let no_units = rw c.in_ok-unit_values.ensures.1 at c.in_ok-units.ensures.0 in
     let no_groups = rw (c.in_ok-group_values.ensures.1, c.knows_third-third.ensures) at c.in_ok-groups.ensures.0 in
@@ -121,7 +121,7 @@ pub invariant_of-result-clause-unit_labels : goal.invariant_of-result-clause-uni
 invariant_of-result-clause-unit_labels c = units_apart _ _ c.in_ok-units.ensures.1 c.in_ok-units.ensures.0
 
 pub invariant_of-result-clause-group_labels : goal.invariant_of-result-clause-group_labels
-invariant_of-result-clause-group_labels c = groups_apart _ _ _ c.in_ok-groups.ensures.1 c.in_ok-groups.ensures.0
+invariant_of-result-clause-group_labels c = groups_apart _ _ _ _ c.in_ok-groups.ensures.1 c.in_ok-groups.ensures.0
 
 pub invariant_of-result-clause-flow_groups : goal.invariant_of-result-clause-flow_groups
 invariant_of-result-clause-flow_groups c = flow_groups _ _ _ _ _ _ (rw (c.deref.ensures.value, c.deref-2.ensures.value) at c.in_ok-flows.ensures.1)
@@ -150,8 +150,8 @@ returns c =
     let fourth = c.knows_fourth-fourth.result in
     let gs = c.in_ok-groups.groups.items in
     let us = c.in_ok-units.units.items in
-    let groups = group_texts_told _ _ gs c.in_ok-groups.ensures.1 in
-    let signals = signals_texts_told _ _ gs c.in_ok-groups.ensures.1 in
+    let groups = group_texts_told _ _ _ gs c.in_ok-groups.ensures.1 in
+    let signals = signals_texts_told _ _ _ gs c.in_ok-groups.ensures.1 in
     let units = unit_texts_told _ us c.in_ok-units.ensures.1 in
     let no_units = rw c.in_ok-unit_values.ensures.1 at c.in_ok-units.ensures.0 in
     let no_groups = rw (c.in_ok-group_values.ensures.1, c.knows_third-third.ensures) at c.in_ok-groups.ensures.0 in

@@ -5,4 +5,7 @@ use Rattle.j39_follow.proofs.Contested.{no_contests}
 use Rattle.j39_follow.proofs.contests.Contests.new.Goals as goal
 
 pub returns : goal.returns
-returns c = λ plan a less. subst (IsContestOf plan [] a) (sym (get_or-replicate 256 a None None less)) (no_contests plan a)
+returns c = λ plan. record {
+  each = λ a less. subst (IsContestOf plan [] a) (sym (get_or-replicate 256 a None None less)) (no_contests plan a);
+  quiet = λ calm a less. get_or-replicate 256 a None None less;
+}

@@ -1,21 +1,15 @@
-use Rattle.std.proofs.Common.{ℕ, Option, subst}
+use Rattle.std.proofs.Common.{sym, ◌∙◌}
 use Rattle.std.proofs.lemmas.Result.{IfOk-weaker}
-use Rattle.j39_follow.specs.LogLines.{moment_of}
-use Rattle.j39_follow.specs.inside.Contesting.{IsDefender, contest_at}
-use Rattle.j39_follow.proofs.Contested.{defends}
+use Rattle.j39_follow.proofs.Contested.{quiet_defends}
 use Rattle.j39_follow.proofs.reading.Reading.write.Goals as goal
 
-pub returns-then-are_calm-clause-written : goal.returns-then-are_calm-clause-written
-returns-then-are_calm-clause-written c =
+pub returns-else-any-clause-written : goal.returns-else-any-clause-written
+returns-else-any-clause-written c =
     let plan = c.args.groups.now in
     let i = c.args.frame.now.ident in
-    let table = c.args.self.now.contests.table in
-    let time : Option ℕ = moment_of c.args.stamp.time.now in
+    let calm = sym c.any.ensures ∙ c.if-any.false in
     IfOk-weaker c.write_plain.result _ _
     (λ _ written. λ seen log knows contests timed have ranges.
-    written seen log knows
-    (subst (IsDefender plan log i.sa) (c.are_calm.ensures.source c.if-are_calm.true)
-    (defends plan log i.sa (contest_at table i.sa) time (contests i.sa i.sa_range) timed))
-    (subst (IsDefender plan log i.ps) (c.are_calm.ensures.receiver c.if-are_calm.true)
-    (defends plan log i.ps (contest_at table i.ps) time (contests i.ps i.ps_range) timed)) have ranges)
+    written seen log knows (quiet_defends plan c.args.self.now.contests log i.sa i.sa_range calm contests)
+    (quiet_defends plan c.args.self.now.contests log i.ps i.ps_range calm contests) have ranges)
     c.write_plain.ensures.written
