@@ -1,4 +1,5 @@
 pub mod AgeLaws
+pub mod AnyQueues
 pub mod Before
 pub mod BoundedFlows
 pub mod Broadcasting

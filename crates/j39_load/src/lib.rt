@@ -5,6 +5,7 @@
 mod ages;
 mod broadcast;
 mod broadcasts;
+mod companies;
 mod damage;
 mod delay;
 mod delays;
@@ -18,6 +19,7 @@ mod laws;
 mod load_finding;
 mod loads;
 mod messages;
+mod sent_frames;
 mod standing;
 mod streams;
 mod turns;
