@@ -129,7 +129,7 @@ class Drawn(WithLog):
     def test_an_svg_has_signals_units_and_states(self):
         picture = self.drawn("a.svg", "ET1.SPN110", "EEC1.SPN190")
         texts = self.texts(picture)
-        for text in ("EEC1.SPN190", "rpm", "degC", "ENGINE", "TRANSMISSION?", "ENGINE: absent", "ENGINE: fault", "drive.log"):
+        for text in ("EEC1.SPN190", "rpm", "degC", "ENGINE", "TRANSMISSION", "ENGINE: absent", "ENGINE: fault", "drive.log"):
             self.assertIn(text, texts)
         self.assertLess(texts.index("ET1.SPN110"), texts.index("EEC1.SPN190"))
         self.assertNotIn("address", texts)

@@ -131,13 +131,6 @@ class Report(InFolder):
         self.assertIn(["B", "128", "may move", "may choose", "lowest", "255"], rows)
         self.assertIn("not known: the addresses have findings", [cell for row in self.page(FAULTY).rows for cell in row])
 
-    def test_strangers(self):
-        """How many may come stands below the units, where some may."""
-        plan = self.write("plan.toml", text_of(example("address_contest.toml")).replace("version = 1\n", "version = 4\nstrangers = 2\n"))
-        self.page(plan)
-        self.assertIn("may choose their addresses: up to 2.", run("report.py", plan)[1])
-        self.assertNotIn("stand in no plan", run("report.py", example("address_contest.toml"))[1])
-
     def test_names_are_those_that_are_claimed(self):
         for plan in (PLAN, example("service_addresses.toml"), example("three_at_one_address.toml")):
             labels = program.labels_of(plan)
@@ -260,6 +253,18 @@ length = 20
         rows = self.page(self.write("plan.toml", text + more.partition("[[need]]\nunit = \"ENGINE\"")[0])).rows
         self.assertEqual([row[7] for row in rows if row[0] in "12" and len(row) == 8], ["not shown to be so young", "21.28 ms"])
         self.assertNotIn('id="needs"', run("report.py", PLAN)[1])
+
+    def test_requests_names_and_units_that_come_or_never_claim(self):
+        """A row a request with who answers it; the numbers and names of signals; and what is said of units."""
+        text = text_of(example("service_requests.toml")).replace("version = 4\n", "version = 4\nstrangers = 2\n")
+        name = self.write("plan.toml", text)
+        rows = self.page(name).rows
+        for row in (["1", "VI", "TOOL", "ENGINE", "ENGINE", "–"], ["3", "ERC1", "TOOL", "RETARDER", "RETARDER", "–"],
+                    ["SPN900", "1.1", "4", "states", "raw", "0 to 13", "–", "900", "0 low_idle_governor1 operator2 cruise_control"],
+                    ["AXLE_SENSOR", "46", "stays, and never claims its address", "fixed", "–", "255"],
+                    ["ENGINE", "HOURS on request", "VI on request"]):
+            self.assertIn(row, rows)
+        self.assertIn("stand in no plan, and may choose their addresses: up to 2.", run("report.py", name)[1])
 
     def test_lines_of_load(self):
         """Each form: of one frame, of long messages without and with a time, and of needs."""

@@ -41,11 +41,6 @@ PutsAtOnce (Read plan log) = ⊥
 PutsAtOnce (Follow plan log) = ⊥
 PutsAtOnce _ = Unit {0}
 
--- memory is asked for on its behalf: not for a text that is there already
-abbrev pub AsksForMemory : Order → Type 0
-AsksForMemory (Help shown) = ⊥
-AsksForMemory _ = Unit {0}
-
 -- how an order ends: the text that is defined for it was written, with the answer; where a fault comes, nothing was written or a part of
 -- a text, and nothing before another fault than the device's where the text is put at once; and what the faults come of
 pub record Ends {V W : Type 0} (IsText : List ℕ → V → Type 0) (IsPart : List ℕ → Type 0) (AtOnce IsTooLong IsBroken : Type 0) (state : W → SinkState)

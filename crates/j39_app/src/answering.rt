@@ -1,9 +1,8 @@
 //! What is written for an order.
-ghost use Rattle.std.specs.Prelude.{◌≡◌, IfOk, IsErrOf, OnOk, OnSome};
+ghost use Rattle.std.specs.Prelude.{◌≡◌, IfOk, OnOk, OnSome};
 ghost use Rattle.j39_app.specs.Answers.{IsAnswer, IsAnswerOfTwo, IsFollowFrontOf, IsFollowOf, IsFrontAnswer, IsOfBytes, IsReadFrontOf};
 ghost use Rattle.j39_app.specs.Answers.{IsOfSome, IsReadOf, IsRefusedOf, IsRunFrontOf, IsRunOf};
-ghost use Rattle.j39_app.specs.Faults.{AsksForMemory, Ends, EndsByFile, EndsByTwo, HasFileFailed, IsOfRead};
-ghost use Rattle.j39_app.specs.Faults.{PutsAtOnce};
+ghost use Rattle.j39_app.specs.Faults.{Ends, EndsByFile, EndsByTwo, HasFileFailed, IsOfRead, PutsAtOnce};
 ghost use Rattle.j39_app.specs.Known.{MayBeTooLong};
 ghost use Rattle.j39_check.specs.AddressesText.{IsAddressesText};
 ghost use Rattle.j39_check.specs.LoadText.{IsLoadText};
@@ -175,7 +174,6 @@ pub fn answer<F: Folder, S: Source, W: Sink>(
         (λ _ name. HasFileFailed (F.stays_shut files.now) (F.bytes_of files.now) F.File.state name) (F.bytes_of files.now) order.now)
         W.state sink.old sink.new result }
     ensures calm { OnOk result ((S.state input.new).failures ≡ (S.state input.old).failures) }
-    ensures memory { IsErrOf result Fault.Memory → AsksForMemory order.now }
 {
     match order {
         Order::Input => input_text(alloc, input, sink),

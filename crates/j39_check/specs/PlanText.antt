@@ -25,6 +25,7 @@ table_text (Signal g s) = place_field (codes "group ") g ++ place_field (codes "
 table_text (Text g t) = place_field (codes "group ") g ++ place_field (codes " text ") t
 table_text (Flow f) = place_field (codes "flow ") f
 table_text (Need n) = place_field (codes "need ") n
+table_text (Request r) = place_field (codes "request ") r
 
 -- the key at fault, where there is one
 unfoldable pub key_text : Option Key → List ℕ

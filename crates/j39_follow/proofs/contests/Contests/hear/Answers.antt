@@ -14,5 +14,5 @@ returns c = λ plan log time of begins a less.
     let left = c.all_left-rest.ensures a less
     ∙ ap (λ (n : ℕ). contest_left n (is_place c.claimed.result a) (contest_at old a)) c.carried_name.ensures
     ∙ ap (λ (p : Option ℕ). contest_left (name_in f) (is_place p a) (contest_at old a)) c.claimed.ensures in
-    stepped plan log (record { frame = f; time = time }) old c.all_left-rest.result c.with_begun-self.result c.args.begun a c.requires begins
-    (of a less) left (c.with_begun-self.ensures a less)
+    stepped plan log (record { frame = f; time = time }) old c.all_left-rest.result c.with_begun.result c.args.begun a c.requires begins
+    (of a less) left (c.with_begun.ensures a less)
