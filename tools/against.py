@@ -1,6 +1,6 @@
 #!/usr/bin/python3
-"""Says where a log isn't as a plan has it: senders, NAMEs and addresses, groups, lengths, priorities, flows, their periods and silences, and
-needs that nothing met.
+"""Says where a log isn't as a plan has it: senders, NAMEs and addresses, groups, lengths, priorities, flows, their periods and silences,
+needs that nothing met, and requests that nothing answers.
 
 The log is one of candump -L, or several of one drive. Who sent what, and which flow it was, is what `j39plan follow` reports. Each deviation
 is told once, at its first line, with how often it was met; services of the network, and proprietary groups that aren't planned, are none.
@@ -11,6 +11,7 @@ from collections.abc import Iterator
 from dataclasses import dataclass
 
 import program
+from asked import Asked
 from clock import Clock, nanoseconds
 from damage import Damage
 from distances import SILENCE, Deviation, Distances, Tolerance
@@ -19,7 +20,7 @@ from j1939 import ADDRESS_CLAIMED, GLOBAL_ADDRESS, NULL_ADDRESS, OTHER_SERVICES,
 from logs import Log, interface_option
 from marks import Feed, Kind, Mark
 from plan_tables import NAME_FIELDS, Group, Tables
-from reports import Claim, Counts, Message, Report, Request, Who, follow, tables_of
+from reports import Acknowledgement, Claim, Counts, Message, Report, Request, Who, follow, tables_of
 from transfers import Pair, Route, Transfers, pair_of
 from unplanned import Bound, Unplanned, bounds_of
 
@@ -67,8 +68,9 @@ def fields_of(name: str) -> str:
 class Comparison:
     """What was met in a log that isn't as the plan has it."""
 
-    def __init__(self, tables: Tables, distances: Distances, bounds: list[Bound]) -> None:
+    def __init__(self, tables: Tables, distances: Distances, bounds: list[Bound], asked: Asked) -> None:
         self.flows, self.needs, self.timing = tables.flows, tables.needs, tables.timing
+        self.requests, self.asked = tables.requests, asked
         self.units = {unit.label: unit for unit in tables.units}
         self.groups: dict[int, list[Group]] = {}
         for group in tables.groups:
@@ -122,6 +124,7 @@ class Comparison:
         if begun is None:
             self._reported = line
             self.sender(line, at, sender, group)
+            self.asked.answers(line, at, sender, to, self.planned[group].pgn)
         priority = self.planned[group].priority if message.priority is None else message.priority
         if message.priority is not None:
             self.tell(begun.line if begun else line, f"{group} from {sender.shown} has priority {priority}, planned is {self.planned[group].priority}")
@@ -179,6 +182,7 @@ class Comparison:
             self.nobody(line, mark, sender)
         elif not group.length <= mark.length <= group.most:
             self.another_length(line, group, mark, sender)
+            self.asked.answers(line, at, sender, to, mark.pgn)
             way = group.label, sender.label or "", to.shown
             if way in self.sent:
                 self.sent[way] += 1
@@ -200,6 +204,8 @@ class Comparison:
         group = self.group_of(mark, sender, to)
         is_planned = group is not None and (group.label, sender.label, to.shown) in self.sent
         self.sender(line, at, sender, group.label if group else "")
+        if mark.is_sound:
+            self.asked.answers(line, at, sender, to, mark.pgn)
         route = Route(f"{group.label if group else f'PGN {mark.pgn}'} from {sender.shown} to {to.shown}", is_planned)
         if mark.is_sound:
             self.transfers.announced(line, at, route, mark, sender, to)
@@ -226,7 +232,9 @@ class Comparison:
         if request.pgn == ADDRESS_CLAIMED:
             self.hands.asked(at)
         self.asks(line, at, request)
-        self.unplanned.came(line, at, 6 << 26 | (REQUEST | GLOBAL_ADDRESS) << 8)
+        self.asked.asks(line, at, request)
+        if request.request == 0 or self.requests[request.request - 1].period is None:
+            self.unplanned.came(line, at, 6 << 26 | (REQUEST | GLOBAL_ADDRESS) << 8)
 
     def end(self, begun: Begun | None) -> None:
         """A message that comes to nothing, if there is one."""
@@ -243,10 +251,13 @@ class Comparison:
         at = self.clock.see(line, report.time)
         if self.clock.is_set and at is not None:
             self.distances.anew(line, at)
+            self.asked.anew()
         if isinstance(report, Claim):
             self.claim(line, at, report.who)
         elif isinstance(report, Message):
             self.message(line, at, report)
+        elif isinstance(report, Acknowledgement):
+            self.asked.acknowledged(line, at, report)
         elif mark:
             self.marked(line, at, report, mark)
         else:
@@ -257,11 +268,12 @@ class Comparison:
         has no line."""
         for begun in self._begun.values():
             self.end(begun)
-        found = [*self.hands.end(last), *self.distances.end(last), *self.transfers.end(), *self.unplanned.end(), *self.damage.end()]
+        found = [*self.hands.end(last), *self.distances.end(last), *self.transfers.end(), *self.unplanned.end(), *self.damage.end(),
+                 *self.asked.end(last)]
         found += [(met.line, text + met.detail, met.count) for text, met in self.met.items()]
         yield from sorted(found, key=lambda deviation: deviation[0] or 0)
         for number, flow in enumerate(self.flows, 1):
-            if self.sent[flow.group, flow.sender, flow.to] == 0:
+            if self.sent[flow.group, flow.sender, flow.to] == 0 and not flow.on_request:
                 yield None, f"{self.distances.name(number)}: never sent", 0
         yield from self.unmet()
         for label in self.units:
@@ -299,7 +311,8 @@ def main(words: list[str] | None = None) -> int:
     with program.copied(given.plan) as plan, Log(given.logs, given.interface) as log:
         tables = tables_of(plan)
         distances = Distances(tables.flows, given.jitter, given.silence, given.table)
-        feed, comparison = Feed(tables.groups, tables.timing), Comparison(tables, distances, bounds_of(plan, tables))
+        feed, comparison = Feed(tables.groups, tables.timing), Comparison(
+            tables, distances, bounds_of(plan, tables), Asked(tables, given.jitter))
         for report in follow(plan, log, tables, counts, feed.pieces):
             line, mark = feed.place(report)
             comparison.report(line, report, mark)

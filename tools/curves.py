@@ -9,7 +9,7 @@ from typing import NamedTuple
 from clock import SECOND, Clock
 from plan_tables import Unit
 from readings import Reading, Wanted
-from reports import Claim, Message, Report, Request, Who
+from reports import Claim, Message, Report, Who
 
 
 @dataclass
@@ -100,7 +100,7 @@ class Timeline:
             self.clock.see(report.line, report.time)
             if isinstance(report, Claim):
                 self._claim(report.who, self.clock.seconds(report.line))
-            if not isinstance(report, Request):
+            if isinstance(report, (Message, Claim)):
                 self._seen.see(self.clock.seconds(report.line))
             yield report
 

@@ -13,7 +13,7 @@ from plan_text import Labels
 
 # Keys that say something more where they stand: one plan may have them where another one is silent. Without any other key a
 # plan says something too: its default, or that there is one length alone.
-OPEN = frozenset(("period", "deadline", "pause", "within"))
+OPEN = frozenset(("period", "deadline", "pause", "within", "spn", "values"))
 
 # The most bytes of a message that goes in one frame.
 FRAME = 8

@@ -5,6 +5,7 @@ from __future__ import annotations
 from collections.abc import Iterator
 
 import need_hints
+import request_hints
 from j1939 import POOL
 from toml_places import Place, Places
 
@@ -25,11 +26,12 @@ class Lint:
         self.places = places
         self.units, self.groups = places.elements(("unit",)), places.elements(("group",))
         self.flows, self.needs = places.elements(("flow",)), places.elements(("need",))
+        self.requests = places.elements(("request",))
 
     def hints(self) -> list[Hint]:
         """All hints, in the order of the file."""
         found = (self.unsent, self.idle, self.fixed_in_pool, self.short, self.urgent, self.equal_identities,
-                 self.unsendable, self.untaken, self.met_twice)
+                 self.unsendable, self.untaken, self.met_twice, self.unasked)
         return sorted({hint for part in found for hint in part()})
 
     def label(self, place: Place) -> str:
@@ -52,9 +54,10 @@ class Lint:
                 yield self.at(group + ("label",), f"group {self.label(group)}: no flow sends it")
 
     def idle(self) -> Iterator[Hint]:
-        """Units that neither send a group, nor get one that goes to them, nor need one."""
+        """Units that neither send a group, nor get one that goes to them, nor need or ask for one."""
         busy = {self.places.texts[flow + (end,)] for flow in self.flows for end in ("from", "to")}
         busy |= {self.places.texts[need + ("unit",)] for need in self.needs}
+        busy |= {self.places.texts[request + ("from",)] for request in self.requests}
         for unit in self.units:
             if self.label(unit) not in busy:
                 yield self.at(unit + ("label",), f"unit {self.label(unit)}: no flow is from it or to it alone")
@@ -134,3 +137,9 @@ class Lint:
             if len(senders) > 1:
                 text = f"{' and '.join(senders)} meet it; from says which one is meant"
                 yield self.at(need + ("group",), f"need {need[-1]}, {need_hints.named(self.places, need)}: {text}")
+
+    def unasked(self) -> Iterator[Hint]:
+        """Flows that are sent only as answers, and that no request of the plan asks for: tools may ask too."""
+        for flow in self.flows:
+            if not request_hints.is_asked_for(self.places, flow):
+                yield self.at(flow + ("on_request",), f"{self.named(flow)}: it is sent only as an answer, and no request of the plan asks for it")

@@ -8,13 +8,13 @@ from decimal import Decimal
 from fractions import Fraction
 from functools import lru_cache
 from math import lcm
-from typing import TYPE_CHECKING, NamedTuple
+from typing import TYPE_CHECKING, Any, NamedTuple
 
 from dbc_names import (
     BYTES_ATTRIBUTE, CODE_CONTENT, CONTENT_ATTRIBUTE, KIND_ATTRIBUTE, REPEATED_ATTRIBUTE, SIGNAL_ATTRIBUTE, SPN_ATTRIBUTE, TEXT_CONTENT,
 )
 from left_out import LeftOut, Notes, plain
-from plan_text import Labels, Table
+from plan_text import Labels, Table, as_label
 from remarks import milliseconds, named_values, quoted, received_by, remark
 
 if TYPE_CHECKING:
@@ -22,6 +22,7 @@ if TYPE_CHECKING:
 
 # The most of each that a plan has (docs/PLAN.md).
 SIGNALS, TEXTS, BYTES, BITS, UNIT = 64, 64, 1785, 32, 32
+NAMES, NUMBERS = 256, range(524288)
 
 # The most that a value is divided by (docs/PLAN.md). What a decimal fraction counts in is always a product of 2s and 5s.
 PER = 10_000_000
@@ -219,11 +220,33 @@ def range_of(signal: canmatrix.Signal, kind: str) -> str:
     return f"range {signal.min}..{signal.max}"
 
 
-def remarks_of(signal: canmatrix.Signal, label: str, kind: str, receivers: str) -> list[str]:
-    """What a file says of a signal for which a plan has no key."""
-    number = signal.attributes.get(SPN_ATTRIBUTE)
-    return remark(long_name(signal), label, "" if number is None else f"SPN {plain(number)}", milliseconds(signal.cycle_time),
-                  range_of(signal, kind), receivers, quoted(signal.comment), *named_values((signal.values or {}).items()))
+def remarks_of(signal: canmatrix.Signal, keys: dict[str, Any], receivers: str) -> list[str]:
+    """What a file says of a signal for which a plan has no key, or which isn't as it stands there."""
+    number, label, kind = signal.attributes.get(SPN_ATTRIBUTE), keys["label"], keys.get("kind", "")
+    named = [(raw, name) for raw, name in (signal.values or {}).items() if keys.get("values", {}).get(raw) != str(name)]
+    return remark(long_name(signal), label, "" if number is None or "spn" in keys else f"SPN {plain(number)}",
+                  milliseconds(signal.cycle_time), range_of(signal, kind), receivers, quoted(signal.comment), *named_values(named))
+
+
+def number_of_signal(signal: canmatrix.Signal) -> dict[str, int]:
+    """The key of a signal's number of SAE J1939, if it has one."""
+    spelled = str(signal.attributes.get(SPN_ATTRIBUTE, ""))
+    return {"spn": int(spelled)} if spelled.isascii() and spelled.isdecimal() and int(spelled) in NUMBERS else {}
+
+
+def names_of_values(signal: canmatrix.Signal, kind: str) -> tuple[dict[int, str], list[str]]:
+    """The names of a signal's raw numbers as the bits have them, and why others have none. Numbers that are no value by the signal's kind
+    have none: `read` and `follow` call them by their state."""
+    named, whys = {}, []
+    least, greatest = values_of(kind, signal.size)
+    for raw, name in sorted((signal.values or {}).items()):
+        if not -(1 << signal.size - 1 if signal.is_signed else 0) <= raw < 1 << signal.size:
+            whys.append(f"{raw} of its table of values is no number of its {signal.size} bits")
+        elif kind != "dtc" and (kind == "signed" or least <= raw <= greatest):
+            named[raw % (1 << signal.size)] = as_label(plain(name))
+    if len(named) > NAMES:
+        whys.append(f"its table of values has more than {NAMES} names, of which the first ones are taken")
+    return dict(sorted(named.items())[:NAMES]), whys
 
 
 class Said(NamedTuple):
@@ -299,8 +322,7 @@ class Signals:
         told = {tuple(kept.receivers) for kept in self.kept}
         for kept in self.kept:
             receivers = received_by(received(kept.receivers)) if len(told) > 1 else ""
-            keys = kept.table.keys
-            kept.table.remarks[:] = remarks_of(kept.signal, keys["label"], keys.get("kind", ""), receivers)
+            kept.table.remarks[:] = remarks_of(kept.signal, kept.table.keys, receivers)
         return [kept.table for kept in self.kept]
 
     def said_of(self, signal: canmatrix.Signal) -> Said:
@@ -397,8 +419,17 @@ class Signals:
             self.say(signal, frame, f"its unit {unit!r} is written {in_ascii(unit)!r}")
         label = self.label(signal)
         self.layout.take(start, signal.size, label)
+        kind = kind_of(signal, self.version, self.is_private)
         return Table("group.signal", {
-            "label": label, "byte": start // 8 + 1, "bit": start % 8 + 1, "bits": signal.size,
-            "kind": kind_of(signal, self.version, self.is_private), "step": scale.step, "per": per, "offset": scale.offset,
-            "unit": in_ascii(unit), "repeated": self.has_records and str(signal.attributes.get(REPEATED_ATTRIBUTE)) == "1",
+            "label": label, "byte": start // 8 + 1, "bit": start % 8 + 1, "bits": signal.size, "kind": kind,
+            "step": scale.step, "per": per, "offset": scale.offset, "unit": in_ascii(unit),
+            "repeated": self.has_records and str(signal.attributes.get(REPEATED_ATTRIBUTE)) == "1",
+            **(self.names(signal, frame, kind) if self.version >= 4 else {}),
         })
+
+    def names(self, signal: canmatrix.Signal, frame: canmatrix.Frame, kind: str) -> dict[str, Any]:
+        """A signal's number and the names of its raw numbers, as keys."""
+        named, whys = names_of_values(signal, kind)
+        for why in whys:
+            self.say(signal, frame, f"{why}: it stands in the comment")
+        return {**number_of_signal(signal), "values": named}

@@ -2,6 +2,7 @@
 
 from __future__ import annotations
 
+import request_hints
 from toml_places import Place, Places
 
 # The most bytes of a message that comes in one frame.
@@ -12,7 +13,8 @@ def meets(places: Places, flow: Place, need: Place) -> bool:
     """Whether a flow brings a need's unit what it needs."""
     unit, sender = places.texts[need + ("unit",)], places.texts[flow + ("from",)]
     return (places.texts[flow + ("group",)] == places.texts[need + ("group",)] and sender != unit
-            and places.texts.get(need + ("from",), sender) == sender and places.texts[flow + ("to",)] in ("all", unit))
+            and places.texts.get(need + ("from",), sender) == sender and places.texts[flow + ("to",)] in ("all", unit)
+            and request_hints.is_asked_for(places, flow))
 
 
 def named(places: Places, need: Place) -> str:
@@ -36,6 +38,8 @@ def unmet(places: Places, need: Place) -> tuple[str, str]:
         return "from", f"{' and '.join(senders)} send{'s' * (len(senders) == 1)} it, and {sender} doesn't"
     from_them = [flow for flow in flows if places.texts[flow + ("from",)] in ([sender] if sender else set(senders) - {unit})]
     to = dict.fromkeys(places.texts[flow + ("to",)] for flow in from_them)
+    if "all" in to or unit in to:
+        return "group", "it is sent only as an answer, and no request of the plan asks for it"
     return "unit", f"it goes to {' and '.join(to)} alone"
 
 
@@ -56,6 +60,8 @@ def old(places: Places, need: Place) -> str:
 
 def why_old(places: Places, flow: Place, within: int) -> str:
     """Why what a flow brings isn't shown to be so young."""
+    if request_hints.is_on_request(places, flow):
+        return "is sent only as an answer"
     period, pause = (places.number(flow + (key,)) for key in ("period", "pause"))
     if pause is None or period is None:
         lost = [key for key, number in (("period", period), ("pause", pause)) if number is None]

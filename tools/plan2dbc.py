@@ -15,6 +15,7 @@ from dataclasses import dataclass, field
 
 import program
 import remarks
+import request_hints
 from dbc_names import (
     ADDRESS_ATTRIBUTE, ARBITRARY_ATTRIBUTE, BITRATE_ATTRIBUTE, BYTES_ATTRIBUTE, CODE_CONTENT, CONTENT_ATTRIBUTE, CONTENTS, CYCLE_ATTRIBUTE,
     DELAY_ATTRIBUTE, EVERY_ATTRIBUTE, FAST_ATTRIBUTE, GROUP_ATTRIBUTE, IDENTITY_ATTRIBUTE, KIND_ATTRIBUTE, LONG_MESSAGE, LONG_SIGNAL,
@@ -141,6 +142,8 @@ class Dbc:
         for key in ("deadline", "jitter", "pause"):
             if flow + (key,) in self.places.spelled:
                 self.notes.say(f"flow of {self.label(group)} from {sender} to {receiver}", f"a DBC has no {key}")
+        if self.places.spelled.get(flow + ("on_request",)) == "true" and not told.sent:
+            self.notes.say(f"flow of {self.label(group)} from {sender} to {receiver}", "a DBC doesn't say that it is sent on request alone")
         if receiver != "all" and message.identifier >> 16 & 0xFF >= 240:
             self.notes.say(f"flow of {self.label(group)} from {sender} to {receiver}", "its identifier names no destination")
 
@@ -182,6 +185,8 @@ class Dbc:
         """Whether a flow of its group brings a need's unit what it needs."""
         sender, to = (self.places.texts[flow + (key,)] for key in ("from", "to"))
         unit = self.places.texts[need + ("unit",)]
+        if request_hints.is_on_request(self.places, flow) and not request_hints.is_asked_for(self.places, flow):
+            return False
         return sender != unit and to in (unit, "all") and self.places.texts.get(need + ("from",), sender) == sender
 
     def told_receivers(self, group: str) -> set[str]:
@@ -301,6 +306,8 @@ class Dbc:
                 self.notes.say("timing", f"a DBC has no {key}")
         if self.places.elements(("keep_free",)):
             self.notes.say("keep_free", "a DBC has no addresses that are kept free")
+        if requests := self.places.elements(("request",)):
+            self.notes.say("request", f"a DBC has no requests: {len(requests)} of them are left out")
         if self.places.number(("strangers",)):
             self.notes.say("strangers", "a DBC tells of no units that stand in no plan")
 
@@ -319,6 +326,8 @@ class Dbc:
                 self.notes.say(f"unit {label}", "a DBC has no chooser")
             if self.number(unit, "window", 255) != 255:
                 self.notes.say(f"unit {label}", "a DBC has no window")
+            if self.places.spelled.get(unit + ("claims",)) == "false":
+                self.notes.say(f"unit {label}", "a DBC doesn't say that it never claims its address")
 
     def message_attributes(self) -> Iterator[str]:
         """Of which groups the messages are, of which lengths, how far apart they are sent, and what their signals are."""
@@ -355,8 +364,9 @@ class Dbc:
             yield f'BA_ "{SIGNAL_ATTRIBUTE}" {what} "{part.label}";'
         if part.long:
             yield f'BA_ "{LONG_SIGNAL}" {what} {in_quotes(part.long)};'
-        if part.told.spn:
-            yield f'BA_ "{SPN_ATTRIBUTE}" {what} {part.told.spn};'
+        spn = self.places.number(part.place + ("spn",))
+        if spn is not None or part.told.spn:
+            yield f'BA_ "{SPN_ATTRIBUTE}" {what} {part.told.spn if spn is None else spn};'
         if part.told.cycle:
             yield f'BA_ "{SIGNAL_CYCLE_ATTRIBUTE}" {what} {part.told.cycle};'
         if part.is_text:
@@ -371,12 +381,27 @@ class Dbc:
         if self.places.spelled.get(part.place + ("repeated",)) == "true":
             yield f'BA_ "{REPEATED_ATTRIBUTE}" {what} 1;'
 
+    def named_values(self, part: Part) -> dict[int, str]:
+        """The names of a signal's raw numbers: those that stand beside it, which may be longer, else those of the plan. A DBC has negative
+        numbers of a signed signal."""
+        values = part.place + ("values",)
+        if values not in self.places.lines:
+            return part.told.values
+        bits, told = self.places.integer(part.place + ("bits",)), part.told.values
+        spelled, named = {raw % (1 << bits) for raw in told}, dict(told)
+        for key in self.places.keys(values):
+            raw = int(key)
+            if raw not in spelled:
+                is_negative = self.kind(part) == "signed" and raw >> bits - 1
+                named[raw - (1 << bits) if is_negative else raw] = self.places.texts[values + (key,)]
+        return named
+
     def values(self) -> Iterator[str]:
         """The tables of values."""
         for message in self.messages.values():
             for part in self.parts_of(message.group):
-                if part.told.values:
-                    named = " ".join(f"{raw} {in_quotes(name)}" for raw, name in sorted(part.told.values.items()))
+                if named_values := self.named_values(part):
+                    named = " ".join(f"{raw} {in_quotes(name)}" for raw, name in sorted(named_values.items()))
                     yield f"VAL_ {message.identifier | EXTENDED} {part.name} {named} ;"
 
 

@@ -1,7 +1,7 @@
-"""The tables of a plan that the program has read: units, groups with their signals, flows and needs, with the defaults of what isn't
-said."""
+"""The tables of a plan that the program has read: units, groups with their signals, flows, needs and requests, with the defaults of what
+isn't said."""
 
-from dataclasses import dataclass
+from dataclasses import dataclass, field
 from fractions import Fraction
 
 from toml_places import Place, Places
@@ -15,13 +15,14 @@ NAME_FIELDS = (
 
 @dataclass(frozen=True)
 class Unit:
-    """A planned unit, with the fields of its NAME by their keys."""
+    """A planned unit, with the fields of its NAME by their keys, and whether it claims its address."""
 
     label: str
     address: int
     chooser: str
     window: int
     fields: dict[str, int]
+    claims: bool = True
 
     @property
     def name(self) -> str:
@@ -36,7 +37,8 @@ class Unit:
 
 @dataclass(frozen=True)
 class Signal:
-    """A signal of a group: where it begins, bytes and bits counted from 1, its width, and what its raw numbers mean."""
+    """A signal of a group: where it begins, bytes and bits counted from 1, its width, what its raw numbers mean, its number of SAE J1939,
+    None where that isn't said, and names of raw numbers."""
 
     label: str
     byte: int
@@ -48,6 +50,8 @@ class Signal:
     offset: int
     unit: str
     repeated: bool
+    spn: int | None = None
+    values: dict[int, str] = field(default_factory=dict)
 
     @property
     def shown(self) -> str:
@@ -112,7 +116,8 @@ class Group:
 @dataclass(frozen=True)
 class Flow:
     """Who sends which group to whom, and at least how far apart, in ms; None where that isn't said. Where the plan says it, also by how
-    much a message may be late, how far apart messages come at most, and that they only answer requests."""
+    much a message may be late, how far apart messages come at most, and that they only answer requests; and whether some request of the plan
+    is for it."""
 
     group: str
     sender: str
@@ -121,6 +126,7 @@ class Flow:
     jitter: int = 0
     pause: int | None = None
     on_request: bool = False
+    is_asked: bool = False
 
 
 @dataclass(frozen=True)
@@ -135,14 +141,35 @@ class Need:
     within: int | None = None
 
     def is_met_by(self, flow: Flow) -> bool:
-        """Whether a flow brings the unit what it needs."""
+        """Whether a flow brings the unit what it needs: one that only answers requests does where some request is for it."""
         is_from = flow.sender != self.unit and self.sender in ("", flow.sender)
-        return flow.group == self.group and is_from and flow.to in (self.unit, "all")
+        return flow.group == self.group and is_from and flow.to in (self.unit, "all") and (flow.is_asked or not flow.on_request)
 
     @property
     def what(self) -> str:
         """What is needed, as answers have it."""
         return f"{self.group} {self.signal}".strip()
+
+
+@dataclass(frozen=True)
+class Request:
+    """Who asks whom for which group, and at least how far apart, in ms; None where that isn't said."""
+
+    group: str
+    sender: str
+    to: str
+    period: int | None = None
+
+    @property
+    def what(self) -> str:
+        """What is asked for, by whom, and who is asked."""
+        return f"{self.group} from {self.sender} to {self.to}"
+
+
+def serves(group: str, sender: str, to: str, request: Request) -> bool:
+    """Whether a flow of a group brings who asks an answer of who is asked."""
+    is_asked = request.to in (sender, "all") and sender != request.sender
+    return group == request.group and is_asked and to in (request.sender, "all")
 
 
 @dataclass(frozen=True)
@@ -171,11 +198,13 @@ class Tables:
 
     def __init__(self, places: Places) -> None:
         self._places = places
+        self._values = self._values_of()
         self.version = places.number(("version",)) or 1
         self.strangers = places.number(("strangers",)) or 0
         self.kept = [places.integer(place) for place in places.elements(("keep_free",))]
         self.units = [self._unit(place) for place in places.elements(("unit",))]
         self.groups = [self._group(place) for place in places.elements(("group",))]
+        self.requests = [self._request(place) for place in places.elements(("request",))]
         self.flows = [self._flow(place) for place in places.elements(("flow",))]
         self.needs = [self._need(place) for place in places.elements(("need",))]
         self.timing = self._timing(("timing",)) if ("timing",) in places.lines else None
@@ -197,13 +226,21 @@ class Tables:
         number = self._places.number(place + (key,))
         return default if number is None else number
 
+    def _values_of(self) -> dict[Place, dict[int, str]]:
+        """The names of raw numbers, of each signal that has any."""
+        found: dict[Place, dict[int, str]] = {}
+        for place, name in self._places.texts.items():
+            if place[-2:-1] == ("values",) and str(place[-1]).isdecimal():
+                found.setdefault(place[:-2], {})[int(place[-1])] = name
+        return found
+
     def _unit(self, place: Place) -> Unit:
         name = place + ("name",)
         fields = {key: self._number(name, key) for key, _, _ in NAME_FIELDS}
         fields["arbitrary"] = int(self._places.spelled.get(name + ("arbitrary",)) == "true")
         return Unit(
             self._text(place, "label"), self._number(place, "address"), self._text(place, "chooser", "lowest"),
-            self._number(place, "window", 255), fields,
+            self._number(place, "window", 255), fields, self._places.spelled.get(place + ("claims",)) != "false",
         )
 
     def _group(self, place: Place) -> Group:
@@ -219,7 +256,12 @@ class Tables:
         group, sender, to = (self._text(place, key) for key in ("group", "from", "to"))
         period, pause = (self._places.number(place + (key,)) for key in ("period", "pause"))
         on_request = self._places.spelled.get(place + ("on_request",)) == "true"
-        return Flow(group, sender, to, period, self._number(place, "jitter"), pause, on_request)
+        is_asked = any(serves(group, sender, to, request) for request in self.requests)
+        return Flow(group, sender, to, period, self._number(place, "jitter"), pause, on_request, is_asked)
+
+    def _request(self, place: Place) -> Request:
+        group, sender, to = (self._text(place, key) for key in ("group", "from", "to"))
+        return Request(group, sender, to, self._places.number(place + ("period",)))
 
     def _need(self, place: Place) -> Need:
         unit, group, signal, sender = (self._text(place, key) for key in ("unit", "group", "signal", "from"))
@@ -239,4 +281,5 @@ class Tables:
             self._text(place, "label"), self._number(place, "byte"), self._number(place, "bit", 1), self._number(place, "bits"),
             self._text(place, "kind"), self._number(place, "step", 1), self._number(place, "per", 1), self._number(place, "offset"),
             self._text(place, "unit"), self._places.spelled.get(place + ("repeated",)) == "true",
+            self._places.number(place + ("spn",)), self._values.get(place, {}),
         )

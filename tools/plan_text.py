@@ -12,7 +12,7 @@ from left_out import plain
 VERSIONS = (2, 3, 4)
 
 # What a key is where it isn't there (docs/PLAN.md), so that it needn't be written.
-DEFAULTS = {"bit": 1, "step": 1, "per": 1, "offset": 0, "unit": "", "private": False, "repeated": False}
+DEFAULTS: dict[str, Any] = {"bit": 1, "step": 1, "per": 1, "offset": 0, "unit": "", "private": False, "repeated": False, "values": {}}
 
 
 @dataclass
@@ -25,6 +25,11 @@ class Table:
     inside: list["Table"] = field(default_factory=list)
 
 
+def as_label(name: str) -> str:
+    """A label like a name: 1 to 32 ASCII letters, digits and `_`."""
+    return re.sub(r"[^A-Za-z0-9_]", "_", name)[:32] or "X"
+
+
 class Labels:
     """Labels of one kind: each name of the file has one, and no two the same."""
 
@@ -32,9 +37,9 @@ class Labels:
         self.taken = set(taken)
 
     def label(self, name: str) -> str:
-        """A label like the name: 1 to 32 ASCII letters, digits and `_`."""
-        whole = re.sub(r"[^A-Za-z0-9_]", "_", name)[:32] or "X"
-        label, number = whole, 2
+        """A label like the name."""
+        whole, number = as_label(name), 2
+        label = whole
         while label in self.taken:
             label = f"{whole[:31 - len(str(number))]}_{number}"
             number += 1

@@ -23,8 +23,8 @@ Column = tuple[str, str]
 
 
 class Reading(NamedTuple):
-    """The word of `follow` for the state; a value as a decimal number and its unit; and what else is said, as of a fault its number and of
-    a text what it is, without its quotation marks."""
+    """The word of `follow` for the state; a value as a decimal number and its unit; and what else is said, as of a fault its number, of a
+    value its name, and of a text what it is, without its quotation marks."""
 
     state: str
     value: str
@@ -71,7 +71,7 @@ def reading_of(said: str, scale: Scale) -> Reading:
     if state != "value":
         return Reading(state, "", "", behind)
     number, _, behind = behind.partition(" ")
-    return Reading(state, divided(number, scale.parts), scale.unit, behind.removeprefix(scale.planned).strip())
+    return Reading(state, divided(number, scale.parts), scale.unit, behind.removeprefix(scale.planned).strip().removeprefix("= "))
 
 
 def names_of(tables: Tables) -> set[str]:

@@ -6,7 +6,7 @@ from html import escape
 from itertools import groupby
 from typing import NamedTuple
 
-from plan_tables import NAME_FIELDS, Flow, Group, Signal, Tables, Text, Unit
+from plan_tables import NAME_FIELDS, Flow, Group, Signal, Tables, Text, Unit, serves
 from report_style import STYLE
 
 # How many receivers stand beside one another, so that a matrix fits on a sheet of paper.
@@ -105,6 +105,8 @@ def finding_section(title: str, found: list[Finding]) -> str:
 
 def standing(unit: Unit, stands: dict[str, Stand]) -> str:
     """Where a unit stands, in words."""
+    if not unit.claims:
+        return "stays, and never claims its address"
     if unit.label not in stands:
         return "not known: the addresses have findings"
     return "stays" if stands[unit.label].stays else "may move"
@@ -216,10 +218,12 @@ def formula(signal: Signal) -> str:
     return f"({scaled}) / {signal.per}" if signal.offset else f"{scaled} / {signal.per}"
 
 
-def signal_row(signal: Signal) -> str:
-    """A signal by where it lies and what it means."""
+def signal_row(signal: Signal, is_named: bool) -> str:
+    """A signal by where it lies and what it means, with its number and the names of its raw numbers, where some of its group has any."""
     cells = [f"{signal.byte}.{signal.bit}", str(signal.bits), signal.kind, formula(signal), range_of(signal), signal.unit or "–"]
-    return row(escape(signal.shown), map(escape, cells))
+    named = "<br>".join(f"{raw} {escape(name)}" for raw, name in sorted(signal.values.items()))
+    more = ["–" if signal.spn is None else str(signal.spn), named or "–"] if is_named else []
+    return row(escape(signal.shown), [*map(escape, cells), *more])
 
 
 def text_row(text: Text) -> str:
@@ -238,8 +242,9 @@ def group_part(number: int, group: Group, sent_by: list[str]) -> str:
     parts = [f'<h3 id="group-{number}">{label}</h3>', f"<p>{facts}</p>",
              table(f"Bytes of {label}", ("Byte", *bits), byte_rows(group), "bytes")]
     if group.signals:
-        heads = ("Signal", "Byte.bit", "Bits", "Kind", "Value", "Range", "Unit of measurement")
-        parts.append(table(f"Signals of {label}", heads, map(signal_row, group.signals)))
+        is_named = any(signal.spn is not None or signal.values for signal in group.signals)
+        heads = ("Signal", "Byte.bit", "Bits", "Kind", "Value", "Range", "Unit of measurement", *(("SPN", "Names of raw numbers") if is_named else ()))
+        parts.append(table(f"Signals of {label}", heads, (signal_row(signal, is_named) for signal in group.signals)))
     if group.texts:
         parts.append(table(f"Texts of {label}", ("Text", "Byte", "Bytes"), map(text_row, group.texts)))
     return f'<article aria-labelledby="group-{number}">\n' + "\n".join(parts) + "\n</article>"
@@ -283,14 +288,25 @@ def need_section(tables: Tables, load: Load | None) -> str:
     return section("needs", "Needs", [table("Who needs what, and who brings it", heads, rows)])
 
 
+def request_section(tables: Tables) -> str:
+    """Who asks whom for what, and who answers."""
+    links, rows = links_of(tables), []
+    for number, request in enumerate(tables.requests, 1):
+        answers = dict.fromkeys(escape(flow.sender) for flow in tables.flows if serves(flow.group, flow.sender, flow.to, request))
+        rows.append(row(str(number), [links[request.group], escape(request.sender), escape(request.to),
+                                      ", ".join(answers) or "<strong>nobody</strong>", f"{request.period} ms" if request.period else "–"]))
+    heads = ("Request", "Group", "From", "To", "Answered by", "Period")
+    return section("requests", "Requests", [table("Who asks whom for what, and who answers", heads, rows)])
+
+
 def flow_section(tables: Tables) -> str:
-    """Who sends what to whom, and which units need it: a row a sender, a column a receiver."""
+    """Who sends what to whom, on request alone or not, and which units need it: a row a sender, a column a receiver."""
     if not tables.flows:
         return section("flows", "Flows", ["<p>The plan has no flows.</p>"])
     links = links_of(tables)
     cells: dict[tuple[str, str], list[str]] = defaultdict(list)
     for flow in tables.flows:
-        cells[flow.sender, flow.to].append(links[flow.group] + needed(tables, flow))
+        cells[flow.sender, flow.to].append(links[flow.group] + " on request" * flow.on_request + needed(tables, flow))
     order = [unit.label for unit in tables.units]
     receivers = [label for label in ("all", *order) if any(to == label for _, to in cells)]
     parts = []
@@ -356,7 +372,8 @@ def page(title: str, tables: Tables, found: list[Finding], stands: dict[str, Sta
     counts = f"{len(tables.units)} units, {len(tables.groups)} groups, {len(tables.flows)} flows, findings: {len(found)}"
     sections = {"findings": finding_section(title, found), "units": unit_section(tables, stands), "flows": flow_section(tables),
                 **({"needs": need_section(tables, load)} if tables.needs else {}),
-               **({"load": load_section(tables, load)} if load else {}), "groups": group_section(tables)}
+                **({"requests": request_section(tables)} if tables.requests else {}),
+                **({"load": load_section(tables, load)} if load else {}), "groups": group_section(tables)}
     links = "".join(f'<li><a href="#{name}">{name.capitalize()}</a></li>' for name in sections)
     return f"""<!DOCTYPE html>
 <html lang="en">

@@ -64,16 +64,33 @@ class Claim(NamedTuple):
 
 
 class Request(NamedTuple):
-    """That a group was asked for by its number."""
+    """That a group was asked for by its number; and the number of the plan's request that this is, 0 where it is none."""
 
     line: int
     time: str
     pgn: int
     sender: Who
     to: Who
+    request: int = 0
 
 
-Report = Message | Claim | Request
+class Acknowledgement(NamedTuple):
+    """That a request for a group, by its number, was answered by no message: `acknowledged`, `refused`, `denied` or `busy`, by whom and to
+    whom."""
+
+    line: int
+    time: str
+    word: str
+    pgn: int
+    sender: Who
+    to: Who
+
+
+Report = Message | Claim | Request | Acknowledgement
+
+# What `follow` writes of the control bytes of an acknowledgement (SAE J1939-21), and of those that say no.
+ACKNOWLEDGEMENTS = ("acknowledged", "refused", "denied", "busy")
+REFUSALS = ACKNOWLEDGEMENTS[1:]
 
 # What `follow` writes of a report: the words of its line, and of a message the lines below it.
 Said = tuple[list[str], list[str]]
@@ -148,7 +165,10 @@ def report_of(words: list[str], signals: list[str]) -> Report:
     if words[KIND] == "group":
         return message_of(words, signals)
     if words[KIND] == "request":
-        return Request(int(words[LINE]), words[TIME], int(words[3]), who_of(words[FROM]), who_of(words[TO]))
+        number = int(words[9]) if words[8:9] == ["request"] else 0
+        return Request(int(words[LINE]), words[TIME], int(words[3]), who_of(words[FROM]), who_of(words[TO]), number)
+    if words[KIND] in ACKNOWLEDGEMENTS:
+        return Acknowledgement(int(words[LINE]), words[TIME], words[KIND], int(words[3]), who_of(words[FROM]), who_of(words[TO]))
     return Claim(int(words[LINE]), words[TIME], who_of(words[3]))
 
 

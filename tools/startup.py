@@ -1,5 +1,6 @@
 #!/usr/bin/python3
-"""Writes a start-up schedule of a plan: all units are switched on in an order, and every claim is delivered.
+"""Writes a start-up schedule of a plan: all units are switched on in an order, and every claim is delivered; on demand each flow
+then sends one message.
 
 What the units answer is played here by the standard's rule of address claims. The program then runs the schedule: it is written
 only where nothing in it is refused and it ends settled, and that run shows which addresses the units hold then.
@@ -10,9 +11,12 @@ from collections.abc import Iterable
 
 import program
 from j1939 import NULL_ADDRESS, POOL
-from toml_places import places_of
+from toml_places import Place, Places, places_of
 
 Frame = tuple[str, str]
+
+FRAME_BYTES, PACKET_BYTES = 8, 7
+WINDOW = 255
 
 
 class Schedule:
@@ -71,40 +75,97 @@ def claim_of(frame: Frame) -> tuple[int, int]:
     return int.from_bytes(bytes.fromhex(payload), "little"), int(identifier[-2:], 16)
 
 
-def units_on(plan: str, labels: list[str], order: list[str]) -> dict[str, Unit]:
-    """The units of these labels, once they are switched on in an order."""
+def units_on(plan: str, labels: list[str], order: list[str]) -> dict[str, Unit | None]:
+    """The units of these labels, once they are switched on in an order; None of those that never claim, and so answer nothing."""
     places = places_of(plan)
     ways = {label: places.texts.get(("unit", number, "chooser")) == "upward" for number, label in enumerate(labels, 1)}
-    frames = frames_of(program.run(plan, [f"up {label}" for label in order]))
+    silent = {label for number, label in enumerate(labels, 1) if places.spelled.get(("unit", number, "claims")) == "false"}
+    frames = iter(frames_of(program.run(plan, [f"up {label}" for label in order])))
     kept = frozenset(places.integer(place) for place in places.elements(("keep_free",)))
-    return {label: Unit(frame, ways[label], kept) for label, frame in zip(order, frames)}
+    return {label: None if label in silent else Unit(next(frames), ways[label], kept) for label in order}
 
 
-def start_up(units: dict[str, Unit], schedule: Schedule) -> None:
+def start_up(units: dict[str, Unit | None], schedule: Schedule) -> None:
     """Adds the steps by which the units, each switched on in this order, hear every claim and answer it."""
     order = list(units)
     for label in order:
         schedule.add(f"up {label}")
     # Who is to hear what from whom: first the earlier units each later one's claim.
-    claims = [(later, units[later].name, units[later].address, order[:at]) for at, later in enumerate(order)]
+    claims = [(later, unit.name, unit.address, order[:at]) for at, (later, unit) in enumerate(units.items()) if unit]
     while claims:
         answers = []
         for sender, name, address, hearers in claims:
             for hearer in hearers:
                 schedule.add(f"give {sender} {hearer}")
-                answer = units[hearer].hear(name, address)
-                if answer is not None:
+                unit = units[hearer]
+                answer = unit.hear(name, address) if unit else None
+                if unit and answer is not None:
                     others = [label for label in order if label != hearer]
-                    answers.append((hearer, units[hearer].name, answer, others))
+                    answers.append((hearer, unit.name, answer, others))
         claims = answers
 
 
 def settled(plan: str, schedule: Schedule) -> list[str]:
     """How the units stand at the end of a schedule by the program, which is to find all claims delivered."""
     lines = program.run(plan, schedule.lines)
-    if lines[-1] != "settled":
+    if "settled" not in lines:
         raise program.Refused(program.FAULT, "claims are left undelivered")
     return [line for line in lines if line.startswith(("unit ", "settled"))]
+
+
+class Message:
+    """The shortest message of a flow, of bytes FF: which flow it is, who sends it and who hears it."""
+
+    def __init__(self, places: Places, number: int, flow: Place, labels: list[str]) -> None:
+        self.number = number
+        group, self.sender, self.to = (places.texts[flow + (key,)] for key in ("group", "from", "to"))
+        is_to_all = self.to == "all"
+        self.receivers = [label for label in labels if label != self.sender] if is_to_all else [self.to]
+        of = next(place for place in places.elements(("group",)) if places.texts[place + ("label",)] == group)
+        self.length = places.integer(of + ("length",))
+        most = places.number(of + ("most",)) or self.length
+        is_pdu2 = places.integer(of + ("pgn",)) >> 8 & 0xFF >= 240
+        self.can_go = is_to_all or (self.to != self.sender and not (is_pdu2 and most <= FRAME_BYTES))
+
+    def steps(self, windows: dict[str, int]) -> list[str]:
+        """The steps by which it is sent and heard: a frame at once, to all by a broadcast, to one unit by what this one permits."""
+        data = f"{self.number} {'FF' * self.length}"
+        heard = [f"take {self.sender} {receiver}" for receiver in self.receivers]
+        if self.length <= FRAME_BYTES:
+            return [f"send {data}", *heard]
+        packets = -(-self.length // PACKET_BYTES)
+        emit, rest = f"emit {self.sender}", f"rest {self.sender}"
+        if self.to == "all":
+            return [f"begin {data}", *heard, *[emit, *heard] * packets, rest]
+        answer = f"take {self.to} {self.sender}"
+        steps = [f"begin {data}", *heard]
+        while packets > 0:
+            permitted = min(packets, windows[self.to])
+            steps += [answer, *[emit] * permitted, *heard * permitted]
+            packets -= permitted
+        return [*steps, answer, rest]
+
+
+def traffic(plan: str, labels: list[str], addressed: set[str], schedule: Schedule) -> list[int]:
+    """Adds the steps by which each flow sends one message; the numbers of the flows that can't: their group can't go to one unit, or the
+    sender or the one receiver has no address."""
+    places = places_of(plan)
+    windows = {label: places.number(("unit", number, "window")) or WINDOW for number, label in enumerate(labels, 1)}
+    left_out = []
+    for number, flow in enumerate(places.elements(("flow",)), 1):
+        message = Message(places, number, flow, labels)
+        ends = {message.sender} if message.to == "all" else {message.sender, message.to}
+        if not message.can_go or not ends <= addressed:
+            left_out.append(number)
+            continue
+        for step in message.steps(windows):
+            schedule.add(step)
+    return left_out
+
+
+def addressed_in(ends: Iterable[str]) -> set[str]:
+    """The units that hold addresses at the end of a run."""
+    return {words[1] for words in map(str.split, ends) if words[0] == "unit" and words[2] == "address"}
 
 
 def ordered(labels: list[str], first: Iterable[str]) -> list[str]:
@@ -135,14 +196,18 @@ def main(words: list[str] | None = None) -> int:
     parser.add_argument("first", metavar="UNIT", nargs="*", default=[],
                         help="units that are switched on first, in this order; "
                         "then come the others, in the order of the plan")
+    parser.add_argument("--traffic", action="store_true", help="then each flow sends one message, the shortest that it has, and all receivers take it")
     given = parser.parse_args(words)
-    schedule = Schedule(f"Start-up of {given.plan}: all units are switched on, and every claim is delivered.")
+    then = "; then each flow sends one message" if given.traffic else ""
+    schedule = Schedule(f"Start-up of {given.plan}: all units are switched on, and every claim is delivered{then}.")
     with program.copied(given.plan) as plan:
         labels = program.labels_of(plan)
         start_up(units_on(plan, labels, ordered(labels, given.first)), schedule)
+        ends = settled(plan, schedule)
+        left_out = traffic(plan, labels, addressed_in(ends), schedule) if given.traffic else []
         ends = told(settled(plan, schedule), sure_of(plan))
     print("\n".join(schedule.lines))
-    print("\n".join(ends), file=sys.stderr)
+    print("\n".join([*ends, *(f"flow {number} can't be sent" for number in left_out)]), file=sys.stderr)
     return 0
 
 

@@ -17,6 +17,7 @@ from typing import NamedTuple
 import code_quality
 import need_hints
 import program
+import request_hints
 from lint import Lint
 from toml_places import MARK, Place, Places, fault_of, places_of
 
@@ -35,13 +36,15 @@ SINCE: dict[object, int] = {
     ("signal", "per"): 3, ("signal", "repeated"): 3, ("flow", "period"): 3, ("flow", "deadline"): 3, "states": 3, "signed": 3, "dtc": 3,
     (None, "strangers"): 4, (None, "need"): 4, ("timing", "unplanned_priority"): 4, ("timing", "transport_priority"): 4,
     ("timing", "broadcast_gap"): 4, ("timing", "broadcast_gap_most"): 4, ("timing", "errors"): 4, ("flow", "jitter"): 4, ("flow", "pause"): 4,
+    (None, "request"): 4, ("flow", "on_request"): 4, ("unit", "claims"): 4, ("signal", "spn"): 4, ("signal", "values"): 4,
     125000: 4, 1000000: 4,
 }
 
 # What the schema can't say of a key.
 WORDS = {
     "per": ", a product of 2s and 5s", "most": ", at least the length", "broadcast_gap_most": ", at least broadcast_gap",
-    "jitter": ", below the period", "pause": ", at least the period",
+    "jitter": ", below the period", "pause": ", at least the period", "claims": ", and true where the NAME is arbitrary",
+    "values": " of raw numbers, as decimal numbers that the signal's bits hold, with labels, and none of a dtc",
 }
 
 # The keys that a trouble code can't have but with their defaults.
@@ -50,7 +53,7 @@ SCALE = ("step", "per", "offset", "unit")
 PER_MOST = 10_000_000
 
 # The key to look at, of each finding that names two units or two groups.
-PAIR_KEYS = {"F1": ("unit", "name"), "F2": ("unit", "address"), "F5": ("group", "pgn")}
+PAIR_KEYS = {"F1": ("unit", "name"), "F2": ("unit", "address"), "F5": ("group", "pgn"), "F26": ("unit", "address")}
 
 # The key to look at of each finding that names one unit, group, signal, text or flow, and what is to be known of it.
 KEYS = {
@@ -63,6 +66,7 @@ KEYS = {
     "F12": ("unit", "address", "kept free: a unit with arbitrary = true may not hold it"),
     "F13": ("group", "private", "no flow sends this group"),
     "F15": ("text", "byte", "the text ends behind the group's longest messages, or begins behind what follows its shortest"),
+    "F27": ("unit", "address", "one of 128..247, which others may choose: a unit that never claims it can't defend it"),
     "F16": ("flow", "period", "it isn't there, and a plan with timing asks for it"),
     "F18": ("flow", "period", "within the deadline, or the period, there isn't room for all that may go before it: load shows the delays"),
 }
@@ -130,7 +134,8 @@ class Plan:
         if rule.get("items", {}).get("type") == "integer":
             return f"an array of integers {rule['items']['minimum']}..{rule['items']['maximum']}, each once"
         kinds = {"array": "an array of tables", "object": "a table", "boolean": "true or false"}
-        return kinds.get(rule.get("type", "")) or f"a text, {rule['description']}"
+        kind = kinds.get(rule.get("type", ""))
+        return f"{kind}{WORDS.get(key, '')}" if kind else f"a text, {rule['description']}"
 
 
 def table_of(place: Place) -> str | None:
@@ -348,6 +353,16 @@ def of_need(plan: Plan, number: str, need: Place) -> Told:
     return plan.line(need + (key,)), f"{need_hints.named(plan.places, need)}: key {key}: {hint}"
 
 
+def of_request(plan: Plan, number: str, words: list[str]) -> Told:
+    """Line and hint of a finding about a request, or about two."""
+    request = ("request", int(words[-1]))
+    name = request_hints.named(plan.places, request)
+    if number == "F25":
+        return plan.line(request), f"{name}: on the bus the same as at line {plan.line(('request', int(words[0])))}"
+    key, hint = request_hints.of_one(plan.places, number, request)
+    return plan.line(request + (key,)), f"{name}: key {key}: {hint}"
+
+
 def flow_named(plan: Plan, flow: Place) -> str:
     """A flow by what is sent, by whom and to whom, as answers have flows by their numbers alone."""
     group, sender, receiver = (plan.places.texts.get(flow + (key,), "?") for key in ("group", "from", "to"))
@@ -385,6 +400,8 @@ def finding(plan: Plan, line: str) -> Told:
         return plan.line(flow + ("deadline",)), f"{flow_named(plan, flow)}: key deadline: its long messages aren't shown to be whole within it"
     if number in ("F19", "F20"):
         return of_need(plan, number, ("need", int(words[0])))
+    if number in ("F21", "F22", "F23", "F25"):
+        return of_request(plan, number, words)
     if number in KEYS:
         return of_one(plan, number, words)
     return of_two(plan, number, words)

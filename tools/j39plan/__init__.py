@@ -27,13 +27,14 @@ from typing import Any
 from j39plan._tools import drives, parts, plan_tables, program, report, report_page, reports, where
 
 Unit, Group, Signal, Text, Flow = plan_tables.Unit, plan_tables.Group, plan_tables.Signal, plan_tables.Text, plan_tables.Flow
-Need, Finding, Stand = plan_tables.Need, report_page.Finding, report_page.Stand
+Need, Asking, Finding, Stand = plan_tables.Need, plan_tables.Request, report_page.Finding, report_page.Stand
 Delay, Age, Load = report_page.Delay, report_page.Age, report_page.Load
 Who, Message, Claim, Request = reports.Who, reports.Message, reports.Claim, reports.Request
+Acknowledgement = reports.Acknowledgement
 Refused, Deviation, Drive = program.Refused, drives.Deviation, drives.Drive
 
 __all__ = [
-    "Age", "Claim", "Delay", "Deviation", "Drive", "Finding", "Flow", "Group", "Load", "Message", "Need", "Plan", "Refused", "Request",
+    "Acknowledgement", "Age", "Asking", "Claim", "Delay", "Deviation", "Drive", "Finding", "Flow", "Group", "Load", "Message", "Need", "Plan", "Refused", "Request",
     "Signal", "Stand", "Text", "Unit", "Who", "deviations", "drive", "follow", "read_plan", "signals",
 ]
 
@@ -43,8 +44,9 @@ class Plan:
 
     `name` is the name of its file and `text` what that holds. `version` is that of the format; `kept` are the addresses that no unit may
     choose; `units`, `groups`, `flows` and `needs` stand in the order of the file, as `Unit`, `Group` (with its `signals` and `texts`),
-    `Flow` and `Need`; which flows meet a need says `need.is_met_by(flow)`. Of each the keys that aren't said have their defaults. Bytes and bits count from 1, lengths are in bytes, widths in bits, periods in
-    ms; the value of a signal's raw number, in its `unit`, is `signal.value(raw)`, exactly.
+    `Flow` and `Need`, and `requests` as `Asking`; which flows meet a need says `need.is_met_by(flow)`. Of each the keys that aren't said have
+    their defaults. Bytes and bits count from 1, lengths are in bytes, widths in bits, periods in ms; the value of a signal's raw number, in its
+    `unit`, is `signal.value(raw)`, exactly, and `signal.values` has the names of raw numbers. `strangers` is how many further units may come.
     """
 
     def __init__(self, name: str, text: str) -> None:
@@ -56,6 +58,8 @@ class Plan:
         self.groups: list[Group] = tables.groups
         self.flows: list[Flow] = tables.flows
         self.needs: list[Need] = tables.needs
+        self.requests: list[Asking] = tables.requests
+        self.strangers: int = tables.strangers
         self.tables = tables
 
     def __repr__(self) -> str:
@@ -91,8 +95,9 @@ def read_plan(name: str | os.PathLike[str]) -> Plan:
         return Plan(name, parts.text_of(name))
 
 
-def follow(plan: Plan, log: str | os.PathLike[str]) -> Iterator[Message | Claim | Request]:
-    """The reports of a log of `candump -L`, one by one as `follow` writes them: messages of planned groups, claims and requests.
+def follow(plan: Plan, log: str | os.PathLike[str]) -> Iterator[Message | Claim | Request | Acknowledgement]:
+    """The reports of a log of `candump -L`, one by one as `follow` writes them: messages of planned groups, claims, requests, and of a plan
+    with requests acknowledgements.
 
     Of each the `line`, from 1, and the `time` as the log spells it, in brackets; who sent it (`sender`, `to`) or claimed (`who`). A
     message has its `group`, the number of its `flow`, from 1 and 0 for none, its `data` as hex digits, and the lines of its `signals`.

@@ -467,16 +467,27 @@ class Remarks(WithDbc):
             f'CM_ SG_ {number} SPN190 "Actual engine speed";\nBA_DEF_ BO_ "GenMsgCycleTime" INT 0 65535;\n'
             f'BA_DEF_ SG_ "SPN" INT 0 524287;\nBA_DEF_ SG_ "GenSigCycleTime" INT 0 65535;\nBA_ "GenMsgCycleTime" BO_ {number} 20;\n'
             f'BA_ "SPN" SG_ {number} SPN190 190;\nBA_ "GenSigCycleTime" SG_ {number} SPN190 10;\n'
-            f'VAL_ {number} STATE 1 "on" 0 "off" ;\n'))
+            f'VAL_ {number} STATE 1 "on" 0 "switched off" 3 "not available" ;\n'))
         for line in (
             'label = "ENGINE"  # "Diesel engine"',
             'label = "EEC1"  # "Electronic engine controller 1 # \u00fc"',
             "period = 20",
-            'label = "SPN190"  # SPN 190, 10 ms, "Actual engine speed"',
-            'label = "STATE"  # 0 = "off", 1 = "on"',
+            'label = "SPN190"  # 10 ms, "Actual engine speed"',
+            "spn = 190",
+            'label = "STATE"  # 0 = "switched off", 3 = "not available"',
+            'values = { 0 = "switched_off", 1 = "on" }',
             'label = "RETARDER"',
         ):
             self.assertIn(line, text.splitlines())
+
+    def test_names_of_signed_numbers(self):
+        """A plan has them as the bits do; what no bits have stands beside, and is said."""
+        number = FROM_0 | 1 << 31
+        text, said = self.text(data=NODES + message(FROM_0, "EEC1", "ENGINE", 'GEAR : 24|4@1- (1,0) [0|0] "" RETARDER') + (
+            f'VAL_ {number} GEAR -1 "reverse" 0 "neutral" 16 "none" ;\n'))
+        self.assertIn('label = "GEAR"  # -1 = "reverse", 16 = "none"', text.splitlines())
+        self.assertIn('values = { 0 = "neutral", 15 = "reverse" }', text.splitlines())
+        self.assertIn("16 of its table of values is no number of its 4 bits: it stands in the comment", " ".join(said))
 
     def test_names_that_are_no_labels(self):
         long = "Engine_Requested_Torque_Torque_Limit"

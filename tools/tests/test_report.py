@@ -261,6 +261,18 @@ length = 20
         self.assertEqual([row[7] for row in rows if row[0] in "12" and len(row) == 8], ["not shown to be so young", "21.28 ms"])
         self.assertNotIn('id="needs"', run("report.py", PLAN)[1])
 
+    def test_requests_names_and_units_that_come_or_never_claim(self):
+        """A row a request with who answers it; the numbers and names of signals; and what is said of units."""
+        text = text_of(example("service_requests.toml")).replace("version = 4\n", "version = 4\nstrangers = 2\n")
+        name = self.write("plan.toml", text)
+        rows = self.page(name).rows
+        for row in (["1", "VI", "TOOL", "ENGINE", "ENGINE", "–"], ["3", "ERC1", "TOOL", "RETARDER", "RETARDER", "–"],
+                    ["SPN900", "1.1", "4", "states", "raw", "0 to 13", "–", "900", "0 low_idle_governor1 operator2 cruise_control"],
+                    ["AXLE_SENSOR", "46", "stays, and never claims its address", "fixed", "–", "255"],
+                    ["ENGINE", "HOURS on request", "VI on request"]):
+            self.assertIn(row, rows)
+        self.assertIn("stand in no plan, and may choose their addresses: up to 2.", run("report.py", name)[1])
+
     def test_lines_of_load(self):
         """Each form: of one frame, of long messages without and with a time, and of needs."""
         import report

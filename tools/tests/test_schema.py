@@ -14,12 +14,14 @@ SCHEMA = json.loads(text_of(os.path.join(TOOLS, "plan.schema.json")))
 
 # What the page's headings call the tables.
 TABLES = {"Top": None, "`[timing]`": "timing", "`timing.errors`": "errors", "`[[unit]]`": "unit", "`unit.name`": "name", "`[[group]]`": "group",
-          "`[[group.signal]]`": "signal", "`[[group.text]]`": "text", "`[[flow]]`": "flow", "`[[need]]`": "need"}
+          "`[[group.signal]]`": "signal", "`[[group.text]]`": "text", "`[[flow]]`": "flow", "`[[need]]`": "need",
+          "`[[request]]`": "request"}
 
 # Refusals that a schema can't say.
 UNSAID = ("Text", "Repeated", "UnknownLabel")
 UNSAID_CASES = ("most_below_length", "most_float", "per_3", "broadcast_gap_most_below_gap", "broadcast_gap_most_below_gap_by_default",
-                "jitter_of_the_period", "jitter_before_pause", "pause_below_the_period")
+                "jitter_of_the_period", "jitter_before_pause", "pause_below_the_period", "values_256_of_8_bits", "values_4_of_2_bits",
+                "values_above_32_bits", "values_above_32_bits_of_64")
 
 # Keys whose range is another one beside some other key.
 FITTED = (("timing", "broadcast_gap_most"), ("flow", "jitter"), ("flow", "pause"))
@@ -97,7 +99,7 @@ class Schema(InFolder):
     def test_it_has_the_defaults_of_the_page(self):
         for table, key, _, default in page_rows():
             if default not in ("", "none"):  # an array that isn't there has no elements
-                shown = {"empty": "", "`false`": "False"}.get(default, default.strip('`"'))
+                shown = {"empty": "", "`false`": "False", "`true`": "True"}.get(default, default.strip('`"'))
                 self.assertEqual(str(rules(table)["properties"][key]["default"]), shown, (table, key))
 
 

@@ -86,6 +86,39 @@ class Startup(InFolder):
         with self.assertRaises(program.Refused):
             schedule.add("")
 
+    def test_traffic(self):
+        """Each flow sends its shortest message: one of a frame at once, a long one to all, and one to a unit in windows of two packets."""
+        plan = 'version = 1\n'
+        for label, number in (("A", 0), ("B", 3), ("C", 5)):
+            window = "window = 2\n" if label == "B" else ""
+            plan += f'[[unit]]\nlabel = "{label}"\naddress = {number}\n{window}name = {{ identity = {number + 1} }}\n'
+        for label, pgn, length in (("EEC1", 61444, 8), ("VI", 65260, 17)):
+            plan += f'[[group]]\nlabel = "{label}"\npgn = {pgn}\npriority = 6\nlength = {length}\n'
+        for group, to in (("EEC1", "all"), ("VI", "all"), ("VI", "B")):
+            plan += f'[[flow]]\ngroup = "{group}"\nfrom = "A"\nto = "{to}"\n'
+        name = self.write("plan.toml", plan)
+        status, schedule, said = run("startup.py", name, "--traffic")
+        self.assertEqual((status, said.splitlines()[-1]), (0, "settled"))
+        both = ["take A B", "take A C"]
+        self.assertEqual(schedule.splitlines()[7:], [
+            "send 1 " + "FF" * 8, *both,
+            "begin 2 " + "FF" * 17, *both, *["emit A", *both] * 3, "rest A",
+            "begin 3 " + "FF" * 17, "take A B", "take B A", "emit A", "emit A", "take A B", "take A B",
+            "take B A", "emit A", "take A B", "take B A", "rest A",
+        ])
+        reports = [line.split()[1:6] for line in program.run(name, schedule.splitlines()) if line.startswith("report ")]
+        self.assertEqual([" ".join(words[:1] + words[-1:]) for words in reports], ["B 1", "C 1", "B 2", "C 2", "B 3"])
+
+    def test_traffic_of_each_example_that_has_a_bus(self):
+        for plan in examples(".toml"):
+            units, _ = program.call(["run", plan, "/dev/null"])
+            if units == 0 and "f03" not in plan:
+                status, schedule, said = run("startup.py", plan, "--traffic")
+                self.assertEqual(status, 0, said)
+                flows = {line.split()[1] for line in schedule.splitlines() if line.split()[0] in ("begin", "send")}
+                count = sum(line == "[[flow]]" for line in open(plan, encoding="utf-8").read().splitlines())
+                self.assertEqual(len(flows) + said.count("can't be sent"), count, plan)
+
     def test_plans_of_toml_1_1(self):
         """Two units that prefer 200: the one with the larger NAME passes over what is kept free."""
         for text in (NEWER, MARKED):

@@ -94,6 +94,15 @@ class Lint(InFolder):
     def test_each_hint(self):
         self.assertEqual(self.lines(LINTED), (0, [*HINTS, "ok 4 units 4 groups 3 flows"]))
 
+    def test_hints_at_answers(self):
+        """A flow that is sent only as an answer, and that nobody asks for; a unit that asks isn't idle."""
+        flow = '[[flow]]\ngroup = "UNSENT"\nfrom = "A"\nto = "all"\non_request = true\n'
+        request = '[[request]]\ngroup = "UNSENT"\nfrom = "IDLE"\nto = "A"\n'
+        plan = LINTED.replace("version = 2", "version = 4") + flow
+        hint = f"{plan.count(chr(10))}: hint flow 4, UNSENT from A to all: it is sent only as an answer, and no request of the plan asks for it"
+        self.assertEqual(self.lines(plan)[1], [*HINTS[:5], hint, "ok 4 units 4 groups 4 flows"])
+        self.assertEqual(self.lines(plan + request)[1], [HINTS[0], *HINTS[2:5], "ok 4 units 4 groups 4 flows"])
+
     def test_short_messages_of_a_group_of_several_lengths(self):
         """Those of fewer than 8 bytes go in one frame; where each has 8 or more there is no hint."""
         hint = "32: hint group SHORT: messages of 7 bytes and more; one of one frame has 8, unused ones filled with ones"
@@ -307,6 +316,45 @@ class Where(InFolder):
             at = text.count("\n") + 4
             self.assertEqual(self.answer(text + need), (1, [f"{at}: F20 NeedTooOld 1  ({hint})", "findings 1"]))
 
+    def test_requests(self):
+        """What nobody answers, and why; answers that go elsewhere; requests that are one."""
+        units = UNIT.format("A", 0, 1) + UNIT.format("B", 3, 2) + UNIT.format("C", 9, 3)
+        plan = "version = 4\n" + units + '[[group]]\nlabel = "G"\npgn = 57344\npriority = 6\nlength = 8\n'
+        flow = '[[flow]]\ngroup = "G"\nfrom = "{}"\nto = "{}"\n'
+        request = '[[request]]\ngroup = "G"\nfrom = "B"\nto = "{}"\n'
+        one, every = flow.format("A", "B"), flow.format("A", "all")
+        for flows, to, answer, line, hint in (
+            ("", "A", "F21 RequestUnanswered 1", 2, "G of A for B: key group: no flow sends it"),
+            (every, "B", "F21 RequestUnanswered 1", 4, "G of B for B: key to: the unit that asks"),
+            (flow.format("B", "all"), "A", "F21 RequestUnanswered 1", 3, "G of A for B: key from: only B itself sends it"),
+            (flow.format("C", "all"), "A", "F21 RequestUnanswered 1", 4, "G of A for B: key to: C sends it, and A doesn't"),
+            (flow.format("A", "C"), "A", "F21 RequestUnanswered 1", 3, "G of A for B: key from: it goes to C alone"),
+            ("", "all", "F22 RequestUnheard 1", 2, "G of all for B: key group: no flow sends it"),
+            (flow.format("A", "C"), "all", "F22 RequestUnheard 1", 3, "G of all for B: key from: it goes to C alone"),
+            (every, "A", "F23 AnswerAstray 1", 4, "G of A for B: key to: one that is asked answers to the one that asks, and these flows go to all"),
+            (one, "all", "F23 AnswerAstray 1", 4,
+             "G of all for B: key to: where all are asked the answer goes to all, and these flows go to one unit each"),
+        ):
+            at = (plan + flows).count("\n") + line
+            self.assertEqual(self.answer(plan + flows + request.format(to)), (1, [f"{at}: {answer}  ({hint})", "findings 1"]))
+        text = plan + one + request.format("A")
+        at = text.count("\n") + 1
+        hint = f"G of A for B: on the bus the same as at line {at - 4}"
+        self.assertEqual(self.answer(text + request.format("A")), (1, [f"{at}: F25 RequestRepeated 1 2  ({hint})", "findings 1"]))
+
+    def test_answers(self):
+        """What is sent only as an answer meets a need where somebody asks for it, and has no age."""
+        head = "version = 4\n[timing]\nbitrate = 250000\nunplanned = 0\n" + UNIT.format("A", 0, 1) + UNIT.format("B", 3, 2)
+        plan = head + '[[group]]\nlabel = "G"\npgn = 65254\npriority = 6\nlength = 8\n'
+        flow = '[[flow]]\ngroup = "G"\nfrom = "A"\nto = "all"\nperiod = 1000\npause = 1000\non_request = true\n'
+        need = '[[need]]\nunit = "B"\ngroup = "G"\nwithin = 2000\n'
+        request = '[[request]]\ngroup = "G"\nfrom = "B"\nto = "A"\n'
+        lines = (plan + flow).count("\n")
+        unasked = "it is sent only as an answer, and no request of the plan asks for it"
+        self.assertEqual(self.answer(plan + flow + need), (1, [f"{lines + 3}: F19 NeedUnmet 1  (G by B: key group: {unasked})", "findings 1"]))
+        old = f"{lines + 4}: F20 NeedTooOld 1  (G by B: key within: flow 1 is sent only as an answer)"
+        self.assertEqual(self.answer(plan + flow + need + request), (1, [old, "findings 1"]))
+
     def test_long_messages_that_are_late(self):
         """They are looked at by their deadline, those of one frame by their period."""
         import where
@@ -371,7 +419,7 @@ class Where(InFolder):
         self.assertEqual(self.answer(plan.replace("version = 3", "version = 2").replace("every = 3\n", "")), (2, [early]))
 
     def test_each_shown_refusal_has_its_line(self):
-        lines = [4, 2, 3, 9, 2, 8, 3, 3, 2, 11, 3, 2, 5, 4, 15, 14, 9, 2, 16]
+        lines = [4, 2, 3, 9, 2, 8, 3, 3, 2, 11, 3, 2, 5, 4, 15, 14, 7, 9, 2, 16]
         shown = shown_refusals()
         self.assertEqual(len(shown), len(lines))
         for (plan, refused), line in zip(shown, lines):

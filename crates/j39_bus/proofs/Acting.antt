@@ -5,10 +5,11 @@ use Rattle.j39_bus.specs.declared.network.Network.{Network}
 use Rattle.j39_bus.specs.BusState.{nowhere}
 use Rattle.j39_bus.specs.inside.Network.{Finds, IsAllowed, IsRefusal, Steps, world_in}
 use Rattle.j39_bus.proofs.BeginRefused.{flow_inside}
+use Rattle.j39_bus.proofs.SendRefused as sending
 use Rattle.j39_bus.proofs.Refused.{none_refuses, pair_inside, unit_inside}
 use Rattle.j39_world.proofs.Refusals.{NoneHold}
 use Rattle.std.proofs.lemmas.Bool.{ltb-true, not-false}
-use Rattle.j39_findings.specs.declared.steps.Step.TheVariants.{Up, Down, Give, Ask, Begin, Emit, Take, Lose, LateSender, LateReceiver, Rest}
+use Rattle.j39_findings.specs.declared.steps.Step.TheVariants.{Up, Down, Give, Ask, Begin, Send, Emit, Take, Lose, LateSender, LateReceiver, Rest}
 use Rattle.j39_world.specs.declared.step_error.StepError.{StepError}
 use Rattle.j39_world.specs.Run.{step_refusals, takes_memory}
 
@@ -27,6 +28,7 @@ module _ (net : Network) where
   finds (Give u v) none = (pair_inside _ _ _ _ (none.is nowhere), ltb-true 0 _ (not-false _ (last (Give u v) none).1.1.0))
   finds (Ask u) none = unit_inside _ _ _ (none.is nowhere)
   finds (Begin f bytes) none = flow_inside (length net.claimers.items) (world_in nowhere net) net.flows.items f bytes.items (none.is nowhere)
+  finds (Send f bytes) none = sending.flow_inside (length net.claimers.items) (world_in nowhere net) net.flows.items f bytes.items (none.is nowhere)
   finds (Emit u) none = (unit_inside _ _ _ (none.is nowhere), not-false _ (last (Emit u) none).1.1.0)
   finds (Take u v) none = (pair_inside _ _ _ _ (none.is nowhere), ltb-true 0 _ (not-false _ (last (Take u v) none).1.1.0))
   finds (Lose u v) none = (pair_inside _ _ _ _ (none.is nowhere), ltb-true 0 _ (not-false _ (last (Lose u v) none).1.1.0))

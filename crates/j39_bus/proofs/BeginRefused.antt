@@ -4,7 +4,6 @@ use Rattle.std.proofs.Common.{subst, arith, Option, Some, None}
 use Rattle.std.proofs.lemmas.Bool.{and_parts, cases_Bool, eqb-true, leb-true, not-false, true≢false}
 use Rattle.std.specs.List.{list_all, range_with_len, slice_get}
 use Rattle.j39_id.specs.Limits.{message_bytes}
-use Rattle.j39_claim.specs.declared.item.Item.{Item}
 use Rattle.j39_queues.specs.Queued.{IsTable, pair_in}
 use Rattle.j39_bus.specs.declared.network.Network.{Network}
 use Rattle.j39_bus.specs.BusState.{Histories, nowhere}
@@ -27,10 +26,10 @@ flow_inside n w (x ∷ flows) zero bytes allowed = omega arith
 flow_inside n w (x ∷ flows) (suc f) bytes allowed = let less : f < length flows = flow_inside n w flows f bytes allowed in omega arith
 
 -- whether anything is undelivered
-pub settled_by : (n : ℕ) (lists : List (List (List Item))) → IsTable n lists → (b : Bool)
+pub settled_by : {X : Type 0} (n : ℕ) (lists : List (List (List X))) → IsTable n lists → (b : Bool)
     → (b ≡ true → (u v : ℕ) → pair_in lists u v ≡ []) × (((u v : ℕ) → pair_in lists u v ≡ []) → b ≡ true)
     → is_nothing_undelivered n (pair_in lists) ≡ b
-settled_by n lists table b (none, all) = elim (cases_Bool b) [
+settled_by {X} n lists table b (none, all) = elim (cases_Bool b) [
   | inl empty ↦ nothing (none empty) ∙ sym empty
   | inr filled ↦ elim (cases_Bool (is_nothing_undelivered n (pair_in lists))) [
     | inl nothing_there ↦ absurd (true≢false
@@ -41,9 +40,9 @@ settled_by n lists table b (none, all) = elim (cases_Bool b) [
   where
     nothing : ((u v : ℕ) → pair_in lists u v ≡ []) → is_nothing_undelivered n (pair_in lists) ≡ true
     nothing empty = all_below (λ u. list_all (λ v. length (pair_in lists u v) == 0) (range_with_len 0 n)) n
-        (λ u below. all_below (λ v. length (pair_in lists u v) == 0) n (λ v less. ap (λ (xs : List Item). length xs == 0) (empty u v)))
+        (λ u below. all_below (λ v. length (pair_in lists u v) == 0) n (λ v less. ap (λ (xs : List X). length xs == 0) (empty u v)))
 
-    is_none : (xs : List Item) → (length xs == 0) ≡ true → xs ≡ []
+    is_none : (xs : List X) → (length xs == 0) ≡ true → xs ≡ []
     is_none [] is = refl
     is_none (x ∷ xs) is = let e : length (x ∷ xs) ≡ 0 = eqb-true (length (x ∷ xs)) 0 is in absurd (omega (arith, e))
 

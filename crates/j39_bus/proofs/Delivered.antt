@@ -2,7 +2,7 @@
 use Rattle.std.proofs.Common.{◌≡◌, ℕ, ◌<◌, List, ◌∷◌, drop, length, get_or, refl, sym, ap, ◌∙◌, subst, Option}
 use Rattle.j39_claim.specs.declared.item.Say.{Say}
 use Rattle.j39_claim.specs.declared.item.Item.{Item}
-use Rattle.j39_claim.specs.ClaimRule.{PlannedUnit, Answers}
+use Rattle.j39_claim.specs.ClaimRule.{PlannedUnit, Reacts}
 use Rattle.j39_claim.specs.ClaimerValue.{ClaimerValue}
 use Rattle.j39_world.specs.PlannedUnits.{unit_at}
 use Rattle.j39_world.specs.Sent.{Sent}
@@ -28,9 +28,9 @@ delivered b cs claims left fs u v in_v item is_oldest left_is name name_is says 
     subst (λ (l : List Item). GivenFrom (planned_units cs) (world b cs claims fs) u v l after) (sym is_oldest) (
       says,
       s,
-      subst (λ (n : ℕ). Answers (unit_at (planned_units cs) v) (station_at cs v) n item says s)
+      subst (λ (n : ℕ). Reacts (unit_at (planned_units cs) v) (station_at cs v) n item says s)
           (name_is ∙ sym (ap (λ (c : PlannedUnit). c.name) (unit_at-planned_units cs u)))
-          (subst (λ (c : PlannedUnit). Answers c (station_at cs v) name item says s) (sym (unit_at-planned_units cs v)) answers),
+          (subst (λ (c : PlannedUnit). Reacts c (station_at cs v) name item says s) (sym (unit_at-planned_units cs v)) answers),
       after_is
           ∙ (λ i. tell (planned_units_heard cs v name item says new (s, is, answers) i)
           (((λ j. world b (is j) (left_is j) fs) ∙ world_set b cs (changed_pair claims u v (drop 1 (claims u v))) fs v

@@ -1,5 +1,6 @@
 pub mod Acting
 pub mod BeginRefused
+pub mod SendRefused
 pub mod ChangedSessions
 pub mod Delivered
 pub mod Heard

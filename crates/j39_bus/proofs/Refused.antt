@@ -8,7 +8,7 @@ use Rattle.j39_id.specs.FirstFault.{first_fault}
 use Rattle.j39_claim.specs.ClaimerValue.{ClaimerValue}
 use Rattle.j39_findings.specs.declared.plan.Plan.{Plan}
 use Rattle.j39_findings.specs.declared.steps.Step.{Step}
-use Rattle.j39_findings.specs.declared.steps.Step.TheVariants.{Up, Down, Give, Ask, Begin, Emit, Take, Lose, LateSender, LateReceiver, Rest}
+use Rattle.j39_findings.specs.declared.steps.Step.TheVariants.{Up, Down, Give, Ask, Begin, Send, Emit, Take, Lose, LateSender, LateReceiver, Rest}
 use Rattle.j39_bus.specs.declared.network.Network.{Network}
 use Rattle.j39_world.specs.declared.step_error.StepError.{StepError}
 use Rattle.j39_world.specs.declared.step_error.StepError.TheVariants.{UnknownUnit}
@@ -16,7 +16,7 @@ use Rattle.j39_world.specs.declared.flow.Flow.{Flow}
 use Rattle.j39_bus.specs.BusState.{Histories}
 use Rattle.j39_bus.specs.inside.Network.{IsOfPlan, planned_units, refusal_in, world_in}
 use Rattle.j39_world.specs.World.{World}
-use Rattle.j39_world.specs.Run.{begin_refusals, cause_of, either, is_unknown, refusal, refusal_among, step_refusals}
+use Rattle.j39_world.specs.Run.{begin_refusals, send_refusals, cause_of, either, is_unknown, refusal, refusal_among, step_refusals}
 use Rattle.j39_world.proofs.Refusals.{NoneHold, none_hold}
 use Rattle.j39_bus.proofs.Rested.{units_count}
 
@@ -64,12 +64,17 @@ own_by_flow : (count : ℕ) (w : World) (flow : Option Flow) (bytes : List ℕ) 
 own_by_flow count w None bytes = (refl, tt)
 own_by_flow count w (Some flow) bytes = (refl, (refl, (refl, (refl, (refl, (refl, tt))))))
 
+own_by_send : (count : ℕ) (w : World) (flow : Option Flow) (bytes : List ℕ) → AreOwn (send_refusals count w flow bytes)
+own_by_send count w None bytes = (refl, tt)
+own_by_send count w (Some flow) bytes = (refl, (refl, (refl, (refl, (refl, (refl, tt))))))
+
 own_by_step : (count : ℕ) (flows : List Flow) (w : World) (step : Step) → AreOwn (step_refusals count flows w step)
 own_by_step count flows w (Up u) = (refl, (refl, (refl, tt)))
 own_by_step count flows w (Down u) = (refl, (refl, (refl, tt)))
 own_by_step count flows w (Give u v) = (refl, (refl, (refl, tt)))
 own_by_step count flows w (Ask u) = (refl, (refl, (refl, tt)))
 own_by_step count flows w (Begin f bytes) = own_by_flow count w (slice_get flows f) bytes.items
+own_by_step count flows w (Send f bytes) = own_by_send count w (slice_get flows f) bytes.items
 own_by_step count flows w (Emit u) = (refl, (refl, (refl, tt)))
 own_by_step count flows w (Take u v) = (refl, (refl, (refl, tt)))
 own_by_step count flows w (Lose u v) = (refl, (refl, (refl, tt)))

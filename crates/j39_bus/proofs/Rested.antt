@@ -1,12 +1,13 @@
 -- When a sender may rest.
-use Rattle.std.proofs.Common.{◌≡◌, ℕ, zero, suc, ◌+◌, ◌<◌, ◌≤◌, Bool, true, false, not, List, [], ◌∷◌, refl, sym, ap, ◌∙◌, arith, inl, inr}
+use Rattle.std.proofs.Common.{◌≡◌, ℕ, zero, suc, ◌+◌, ◌<◌, ◌≤◌, Bool, true, false, not, ◌&&◌, ◌||◌, List, [], ◌∷◌, refl, sym, ap, ◌∙◌, arith, inl, inr}
 use Rattle.std.proofs.Common.{length, get_or, Option, Some, None, is_some}
 use Rattle.std.proofs.lemmas.Bool.{and_right, cases_eq}
 use Rattle.std.proofs.lemmas.List.{length-map}
 use Rattle.j39_claim.specs.ClaimerValue.{ClaimerValue}
 use Rattle.j39_findings.specs.declared.plan.Plan.{Plan}
 use Rattle.j39_world.specs.PlannedUnits.{planned_unit}
-use Rattle.j39_world.specs.Run.{count_of, is_a_transfer_open}
+use Rattle.j39_queues.specs.Queued.{pair_in}
+use Rattle.j39_world.specs.Run.{count_of, is_a_transfer_open, is_none_sending, is_nothing_undelivered}
 use Rattle.std.specs.List.{list_all, list_any, range_with_len}
 use Rattle.j39_bus.specs.declared.network.Network.{Network}
 use Rattle.j39_bus.specs.BusState.{nowhere, session_at}
@@ -44,14 +45,18 @@ pub units_count : (plan : Plan) (net : Network) → IsOfPlan plan net → count_
 units_count plan net of = sym (length-map plan.units.items (planned_unit plan.keep_free)) ∙ sym (ap length of.units)
     ∙ length-map net.claimers.items (λ (c : ClaimerValue). c.planned)
 
-not_not : (b : Bool) → not (not b) ≡ b
-not_not true = refl
-not_not false = refl
+-- ---- no unit sends, and nothing of a message is undelivered
 
-pub open_by : (net : Network) → length net.sessions.items ≡ length net.claimers.items
-    → is_a_transfer_open (length net.claimers.items) (world_in nowhere net) ≡ list_any (λ s. is_some s) net.sessions.items
-open_by net count =
-    ap (λ n. is_a_transfer_open n (world_in nowhere net)) (sym count)
-    ∙ ap not (all_idle 0 net.sessions.items (λ u. not (is_some (session_at net.sessions.items u)))
-    (λ j inside. ap (λ k. not (is_some (session_at net.sessions.items k))) (omega arith)))
-    ∙ not_not (list_any (λ s. is_some s) net.sessions.items)
+either_of : (any empty : Bool) → not (not any && empty) ≡ (any || not empty)
+either_of true empty = refl
+either_of false empty = refl
+
+pub open_by : (net : Network) → length net.sessions.items ≡ length net.claimers.items → (empty : Bool)
+    → is_nothing_undelivered (length net.claimers.items) (pair_in net.wire.lists) ≡ empty
+    → is_a_transfer_open (length net.claimers.items) (world_in nowhere net) ≡ (list_any (λ s. is_some s) net.sessions.items || not empty)
+open_by net count empty none =
+    let idle : is_none_sending (length net.claimers.items) (world_in nowhere net) ≡ not (list_any (λ s. is_some s) net.sessions.items) =
+    ap (λ n. is_none_sending n (world_in nowhere net)) (sym count)
+    ∙ all_idle 0 net.sessions.items (λ u. not (is_some (session_at net.sessions.items u)))
+    (λ j inside. ap (λ k. not (is_some (session_at net.sessions.items k))) (omega arith)) in
+    (λ i. not (idle i && none i)) ∙ either_of (list_any (λ s. is_some s) net.sessions.items) empty

@@ -55,17 +55,18 @@ session_at sessions u = slice_index_or sessions u None
 abbrev pub holding_at : List (List Holding) → ℕ → ℕ → Holding
 holding_at holdings v u = slice_index_or (slice_index_or holdings v []) u closed
 
--- what a bus does not keep: what each unit took of each, and what each began for each
+-- what a bus does not keep: what each unit took of each, what each began for each, and what each sent alone for each
 pub record Histories : Type 0 where
   pub taken : ℕ → ℕ → List Packet
   pub begun : ℕ → ℕ → List Begun
+  pub sent_alone : ℕ → ℕ → List Begun
 
--- none of either
+-- none of these
 abbrev pub nowhere : Histories
-nowhere = record { taken = λ v u. []; begun = λ u v. [] }
+nowhere = record { taken = λ v u. []; begun = λ u v. []; sent_alone = λ u v. [] }
 
 abbrev pub histories_of : World → Histories
-histories_of w = record { taken = w.taken; begun = w.begun }
+histories_of w = record { taken = w.taken; begun = w.begun; sent_alone = w.sent_alone }
 
 -- the world of a bus with these histories
 abbrev pub world_of : Histories → BusState → World
@@ -77,6 +78,7 @@ world_of h b = record {
   receivers = λ v u. (holding_at b.receivers.holdings v u).progress;
   taken = h.taken;
   begun = h.begun;
+  sent_alone = h.sent_alone;
   reports = b.reports;
   frames = b.frames;
 }

@@ -47,7 +47,7 @@ impl Network {
         Ok(())
     }
 
-    /// The unit asks all others for their claims, and sends its own.
+    /// The unit asks all others for their claims, and sends its own. One that doesn't claim says nothing.
     pub(crate) fn ask(&mut self, unit: usize) -> Result<(), AllocError>
         requires network { IsNetwork self.old }
         requires allowed { IsAllowed self.old (Ask unit) }
@@ -73,8 +73,11 @@ impl Network {
     {
         self.claims.clear_to(unit);
         self.wire.clear_to(unit);
-        let say = self.claimers[unit].start();
-        self.tell(unit, Item::Told(say));
+        let first = self.claimers[unit].start();
+        match first {
+            Some(say) => self.tell(unit, Item::Told(say)),
+            None => {}
+        }
     }
 
     fn deliver(&mut self, choosers: &[Box<dyn Choose>], from: usize, to: usize)
@@ -113,8 +116,13 @@ impl Network {
         ensures rest { self.new ≡ record self.old { claimers = self.new.claimers; claims = self.new.claims; frames = self.new.frames } }
         ensures world { (h : Histories) → world_in h self.new ≡ asked (planned_units self.old.claimers.items) (world_in h self.old) unit }
     {
-        self.tell(unit, Item::Request);
-        let say = self.claimers[unit].hear_request();
-        self.tell(unit, Item::Told(say));
+        let answer = self.claimers[unit].hear_request();
+        match answer {
+            Some(say) => {
+                self.tell(unit, Item::Request);
+                self.tell(unit, Item::Told(say));
+            }
+            None => {}
+        }
     }
 }

@@ -23,6 +23,6 @@ pub(crate) fn hear(
 {
     match item {
         Item::Told(say) => { claimers[unit].hear_claim(name, number_of(say), &*choosers[unit]) }
-        Item::Request => Some(claimers[unit].hear_request()),
+        Item::Request => claimers[unit].hear_request(),
     }
 }

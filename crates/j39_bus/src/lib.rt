@@ -12,6 +12,7 @@ mod opening;
 mod places;
 mod receivers;
 mod refusing;
+mod refusing_sends;
 mod report;
 mod session;
 mod sessions;

@@ -79,7 +79,7 @@ fn claimers_of(
 {
     let mut claimers = Vec::with_capacity(alloc, units.len())?;
     for unit in units {
-        claimers.push_reserved(Claimer::with_kept(unit.name, unit.address, kept.copy()));
+        claimers.push_reserved(Claimer::planned(unit.name, unit.address, kept.copy(), unit.claims));
     }
     Ok(claimers)
 }

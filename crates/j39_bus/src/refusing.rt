@@ -1,5 +1,5 @@
 //! Why steps are refused.
-ghost use Rattle.std.specs.Prelude.{◌≡◌, Some, length};
+ghost use Rattle.std.specs.Prelude.{◌≡◌, ◌||◌, Some, length};
 ghost use Rattle.j39_findings.specs.declared.steps.Step.TheVariants.{Up, Give, Ask, Emit, Take, LateSender, LateReceiver, Rest};
 ghost use Rattle.j39_world.specs.Flows.{can_be_sent, has_length};
 ghost use Rattle.j39_bus.specs.Stations.{station_at};
@@ -17,7 +17,7 @@ use j39_id::limits::FRAME_BYTES;
 use j39_world::Flow;
 
 /// Whether a flow to one unit goes to another one, and its group can be sent to one.
-fn can_be_sent(flow: &Flow) -> bool
+pub(crate) fn can_be_sent(flow: &Flow) -> bool
     ensures { result ≡ can_be_sent flow.now }
 {
     match flow.to {
@@ -27,11 +27,17 @@ fn can_be_sent(flow: &Flow) -> bool
     }
 }
 
-// Whether a flow has messages of so many bytes.
-fn fits(flow: &Flow, bytes: &[u8]) -> bool
+/// Whether a flow has messages of so many bytes.
+pub(crate) fn fits(flow: &Flow, bytes: &[u8]) -> bool
     ensures { result ≡ has_length flow.now (length bytes.now) }
 {
     usize::from(flow.length) <= bytes.len() && bytes.len() <= usize::from(flow.most)
+}
+
+fn is_either(one: bool, other: bool) -> bool
+    ensures { result ≡ (one || other) }
+{
+    one || other
 }
 
 impl Network {
@@ -50,6 +56,7 @@ impl Network {
                 Some(flow) => self.refusal_of_flow(flow, bytes.as_slice()),
                 None => Some(StepError::NoSuchFlow),
             },
+            Step::Send(place, bytes) => self.refusal_of_send(*place, bytes),
             Step::Emit(unit) => self.refusal_of_emit(*unit),
             Step::Take(from, to) => self.refusal_of_take(*from, *to),
             Step::Lose(from, to) => self.refusal_of_take(*from, *to),
@@ -226,16 +233,18 @@ impl Network {
         None
     }
 
-    // Whether some unit is between its Begin and its Rest.
+    // Whether some unit is between its Begin and its Rest, or something of a message is undelivered.
     fn is_transfer_open(&self) -> bool
         requires { IsNetwork self.now }
         ensures { result ≡ is_a_transfer_open (length self.now.claimers.items) (world_in nowhere self.now) }
     {
-        sessions::is_any_open(self.sessions.as_slice())
+        let is_sending = sessions::is_any_open(self.sessions.as_slice());
+        let is_untaken = !self.wire.is_empty();
+        is_either(is_sending, is_untaken)
     }
 
     // Whether no claim and no request is undelivered.
-    fn is_nothing_undelivered(&self) -> bool
+    pub(crate) fn is_nothing_undelivered(&self) -> bool
         requires { IsNetwork self.now }
         ensures { result ≡ is_nothing_undelivered (length self.now.claimers.items) (pair_in self.now.claims.lists) }
     {
@@ -243,7 +252,7 @@ impl Network {
     }
 
     /// Whether the sender of a flow is on, and its one receiver.
-    fn are_started(&self, flow: &Flow) -> bool
+    pub(crate) fn are_started(&self, flow: &Flow) -> bool
         requires { IsFlow (length self.now.claimers.items) flow.now }
         ensures { result ≡ at_ends (is_on (station_at self.now.claimers.items)) flow.now.sender flow.now.to }
     {
@@ -255,7 +264,7 @@ impl Network {
     }
 
     /// Whether the sender of a flow holds an address, and its one receiver.
-    fn have_addresses(&self, flow: &Flow) -> bool
+    pub(crate) fn have_addresses(&self, flow: &Flow) -> bool
         requires { IsFlow (length self.now.claimers.items) flow.now }
         ensures { result ≡ at_ends (has_address (station_at self.now.claimers.items)) flow.now.sender flow.now.to }
     {

@@ -118,6 +118,16 @@ impl Session {
         self.flow
     }
 
+    /// The PGN of its group.
+    pub(crate) fn group(&self) -> Pgn
+        ensures { result ≡ self.now.pgn }
+    {
+        match &self.content {
+            Content::Short(group, _) => *group,
+            Content::Long(transfer) => transfer.pgn(),
+        }
+    }
+
     /// Where it goes.
     pub(crate) fn to(&self) -> To
         ensures { result ≡ self.now.to }

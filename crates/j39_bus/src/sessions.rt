@@ -6,12 +6,13 @@ ghost use Rattle.j39_bus.specs.BusState.{session_at};
 ghost use Rattle.j39_bus.specs.inside.Traffic.{at_stage};
 ghost use Rattle.j39_tp.specs.Sender.{data_next, after_packet, timeout_packet, after_timeout};
 ghost use Rattle.j39_world.specs.Flows.{dest_of};
-ghost use Rattle.j39_world.specs.Run.{can_emit, is_waiting};
+ghost use Rattle.j39_world.specs.Run.{can_emit, is_of_group, is_waiting};
 ghost use Rattle.j39_world.specs.TransferSteps.{flow_in, reaction_of, session_after};
 ghost use Rattle.j39_world.specs.Transfers.{Outgoing, outcome_in};
 ghost use Rattle.j39_world.specs.World.{changed};
 
 use crate::session::Session;
+use j39_id::Pgn;
 use j39_tp::{Outcome, Packet, Phase, Reaction};
 
 /// Whether some unit sends a message.
@@ -27,6 +28,17 @@ pub(crate) fn is_open(sessions: &[Option<Session>], unit: usize) -> bool
     ensures { result ≡ is_some (session_at sessions.now unit) }
 {
     sessions[unit].is_some()
+}
+
+/// Whether a unit sends a message of a group.
+pub(crate) fn is_of_group(sessions: &[Option<Session>], unit: usize, group: Pgn) -> bool
+    requires { unit < length sessions.now }
+    ensures { result ≡ is_of_group (session_at sessions.now unit) group }
+{
+    match &sessions[unit] {
+        Some(session) => session.group() == group,
+        None => false,
+    }
 }
 
 /// How the message of a unit ended, if it has one that did.

@@ -39,6 +39,7 @@ impl Network {
             Step::Give(from, to) => self.give(choosers, *from, *to),
             Step::Ask(unit) => self.ask(*unit),
             Step::Begin(flow, bytes) => self.begin(*flow, bytes),
+            Step::Send(flow, bytes) => self.send(*flow, bytes),
             Step::Emit(unit) => self.emit(*unit),
             Step::Take(from, to) => self.take(*from, *to),
             Step::Lose(from, to) => {

@@ -15,6 +15,7 @@ mod late_receiving;
 mod late_sending;
 mod losing;
 mod resting;
+mod sending;
 mod taking;
 
 use crate::claim_frames::source_of;

@@ -54,13 +54,15 @@ pub(crate) fn post_each(wire: &mut Queues<Wired>, from: usize, targets: &[usize]
     }
 }
 
-// What a sender sends its receivers, and an Abort, which may be of either.
+// What a sender sends its receivers, and an Abort, which may be of either; nobody waits for a frame that was sent alone.
 fn is_of_sender(item: &Wired) -> bool
     ensures { result ≡ is_of_sender item.now }
 {
     !matches!(
         item,
-        Wired::Packet(Packet::Cts { .. }) | Wired::Packet(Packet::EndAck { .. })
+        Wired::Packet(Packet::Cts { .. })
+            | Wired::Packet(Packet::EndAck { .. })
+            | Wired::Alone(_, _)
     )
 }
 

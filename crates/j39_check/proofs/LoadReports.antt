@@ -37,7 +37,7 @@ pub have_periods_where_none : (plan : Plan) (timing : Timing) (load : ℕ) (dela
     → have_periods delays ≡ true
 have_periods_where_none plan timing load delays none =
     known 0 delays (first_none _ (overload timing load ++ told_from lateness 0 delays)
-    (first_none (load_findings timing load delays) (old_needs timing plan.flows.items delays plan.needs.items) none))
+    (first_none (load_findings timing load delays) (old_needs timing plan.requests.items plan.flows.items delays plan.needs.items) none))
 
 module _ (plan : Plan) (timing : Timing) (is : plan.timing ≡ Some timing) (stays : UnitPlan → Bool) (asked : Asked)
     (delays : List (Option Delay)) (others : List LoadFinding) (tells : TellsWhoStays plan stays) (loaded : asked ≡ asked_of timing plan stays)

@@ -3,7 +3,7 @@ use Rattle.std.specs.Prelude.{◌≡◌, ◌<◌, ℕ, Bool, true, false, List, 
 use Rattle.j39_findings.specs.declared.plan.Plan.{Plan}
 use Rattle.j39_findings.specs.declared.plan.unit_plan.UnitPlan.{UnitPlan}
 use Rattle.j39_findings.specs.declared.checking.finding.Finding.{Finding}
-use Rattle.j39_findings.specs.declared.checking.finding.Finding.TheVariants.{SameName, SameFixedAddress, TooFewAddresses, KeptAddress}
+use Rattle.j39_findings.specs.declared.checking.finding.Finding.TheVariants.{SameName, SameFixedAddress, TooFewAddresses, KeptAddress, SilentAddress, SilentInPool}
 use Rattle.j39_findings.specs.Findings.{Holds}
 use Rattle.j39_load.specs.Standing.{TellsWhoStays}
 use Rattle.j39_world.specs.PlannedUnits.{units_of}
@@ -21,6 +21,8 @@ is_of_addresses (SameName i j) = true
 is_of_addresses (SameFixedAddress i j) = true
 is_of_addresses (TooFewAddresses n) = true
 is_of_addresses (KeptAddress i) = true
+is_of_addresses (SilentAddress u v) = true
+is_of_addresses (SilentInPool u) = true
 is_of_addresses _ = false
 
 -- ---- who stays

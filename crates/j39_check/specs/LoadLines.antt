@@ -120,7 +120,7 @@ age_text bitrate limit age = limited_text (codes " age ") (codes " old of ") bit
 unfoldable pub need_line : Plan → Timing → List (Option Delay) → ℕ → NeedPlan → List ℕ
 need_line plan timing delays place need = option_map_or
     (λ within. need_text plan place need
-    ++ (age_text timing.bitrate (bits_of_ms timing within) (least_age timing plan.flows.items delays need) ++ 10 ∷ [])) need.within []
+    ++ (age_text timing.bitrate (bits_of_ms timing within) (least_age timing plan.requests.items plan.flows.items delays need) ++ 10 ∷ [])) need.within []
 
 -- ---- all of it
 

@@ -4,7 +4,7 @@ use Rattle.j39_findings.specs.declared.plan.Plan.{Plan}
 use Rattle.j39_plan.specs.declared.reading.fault.Fault.{Fault}
 use Rattle.j39_plan.specs.declared.reading.key.Key.{Key}
 use Rattle.j39_plan.specs.declared.reading.place.Table.{Table}
-use Rattle.j39_plan.specs.declared.reading.place.Table.TheVariants.{Top, Timing, TimingErrors, Unit as AUnit, UnitName, Group, Signal, Text, Flow, Need}
+use Rattle.j39_plan.specs.declared.reading.place.Table.TheVariants.{Top, Timing, TimingErrors, Unit as AUnit, UnitName, Group, Signal, Text, Flow, Need, Request}
 use Rattle.j39_plan.specs.declared.reading.plan_error.PlanError.{PlanError}
 use Rattle.j39_plan.specs.declared.reading.plan_error.PlanError.TheVariants as errors
 use Rattle.j39_plan.specs.Words.{word_of, cause_word}
@@ -25,6 +25,7 @@ table_text (Signal g s) = place_field (codes "group ") g ++ place_field (codes "
 table_text (Text g t) = place_field (codes "group ") g ++ place_field (codes " text ") t
 table_text (Flow f) = place_field (codes "flow ") f
 table_text (Need n) = place_field (codes "need ") n
+table_text (Request r) = place_field (codes "request ") r
 
 -- the key at fault, where there is one
 unfoldable pub key_text : Option Key → List ℕ

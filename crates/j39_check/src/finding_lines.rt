@@ -1,6 +1,7 @@
 //! The lines of findings.
 ghost use Rattle.std.specs.Prelude.{◌≡◌, ◌++◌, OnOk};
-ghost use Rattle.j39_findings.specs.declared.checking.finding.Finding.TheVariants.{SameFixedAddress, BadPgn, SamePgn, SignalWidth, SignalOutside, SignalOverlap, FlowRepeated, KeptAddress, RecordOverlap, TextOutside};
+ghost use Rattle.j39_findings.specs.declared.checking.finding.Finding.TheVariants.{SameFixedAddress, BadPgn, SamePgn, SignalWidth, SignalOutside, SignalOverlap, FlowRepeated, KeptAddress, RecordOverlap, TextOutside, RequestRepeated};
+ghost use Rattle.j39_findings.specs.declared.checking.finding.Finding.TheVariants.{SilentAddress, SilentInPool};
 ghost use Rattle.j39_check.specs.FindingLines.{finding_line, finding_lines, finding_part, finding_report, finding_text, is_between, run_lines, signal_text};
 
 use j39_findings::{Finding, Plan, bad_run};
@@ -156,6 +157,41 @@ fn write_text_outside(
 }
 
 #[tactic(auto, unfolding(crate::specs::FindingLines::finding_text))]
+fn write_request_repeated(
+    text: &mut TextBuffer,
+    plan: &Plan,
+    first: usize,
+    second: usize,
+) -> Result<(), AllocError>
+    ensures { OnOk result (text.new ≡ text.old ++ finding_text plan.now (RequestRepeated first second)) }
+{
+    text.place("F25 RequestRepeated ", first)?;
+    text.place(" ", second)
+}
+
+#[tactic(auto, unfolding(crate::specs::FindingLines::finding_text))]
+fn write_silent_address(
+    text: &mut TextBuffer,
+    plan: &Plan,
+    first: usize,
+    second: usize,
+) -> Result<(), AllocError>
+    ensures { OnOk result (text.new ≡ text.old ++ finding_text plan.now (SilentAddress first second)) }
+{
+    write_units(text, "F26 SilentAddress ", plan, first, second)?;
+    text.field(" ", unit_address(plan, first))
+}
+
+#[tactic(auto, unfolding(crate::specs::FindingLines::finding_text))]
+fn write_silent_in_pool(text: &mut TextBuffer, plan: &Plan, unit: usize) -> Result<(), AllocError>
+    ensures { OnOk result (text.new ≡ text.old ++ finding_text plan.now (SilentInPool unit)) }
+{
+    text.word("F27 SilentInPool ")?;
+    text.word(unit_label(plan, unit))?;
+    text.field(" ", unit_address(plan, unit))
+}
+
+#[tactic(auto, unfolding(crate::specs::FindingLines::finding_text))]
 fn write_finding(text: &mut TextBuffer, plan: &Plan, finding: Finding) -> Result<(), AllocError>
     ensures { OnOk result (text.new ≡ text.old ++ finding_text plan.now finding) }
 {
@@ -176,6 +212,12 @@ fn write_finding(text: &mut TextBuffer, plan: &Plan, finding: Finding) -> Result
         Finding::RecordOverlap(g, s, t) => write_record_overlap(text, plan, g, s, t),
         Finding::TextOutside(g, t) => write_text_outside(text, plan, g, t),
         Finding::NeedUnmet(n) => text.place("F19 NeedUnmet ", n),
+        Finding::RequestUnanswered(r) => text.place("F21 RequestUnanswered ", r),
+        Finding::RequestUnheard(r) => text.place("F22 RequestUnheard ", r),
+        Finding::AnswerAstray(r) => text.place("F23 AnswerAstray ", r),
+        Finding::RequestRepeated(r, s) => write_request_repeated(text, plan, r, s),
+        Finding::SilentAddress(u, v) => write_silent_address(text, plan, u, v),
+        Finding::SilentInPool(u) => write_silent_in_pool(text, plan, u),
     }
 }
 

@@ -313,7 +313,7 @@ fn write_need_line(
         return Ok(());
     };
     write_need(text, plan, place, need)?;
-    let age = least_age(timing, &plan.flows, delays, need);
+    let age = least_age(timing, &plan.requests, &plan.flows, delays, need);
     write_age(text, timing.bitrate, bits_of_ms(timing, within), age)?;
     text.end_line()
 }
@@ -344,7 +344,8 @@ pub(super) fn write_loads(
 ) -> Result<(), AllocError>
     requires loads { length loads.now.flows.items ≡ length plan.now.flows.items }
     requires delays { length delays.now ≡ length plan.now.flows.items }
-    ensures { OnOk result (text.new ≡ text.old ++ loads_text plan.now loads.now.timing (asked_by loads.now.flows.items loads.now.units.items) delays.now) }
+    ensures { OnOk result (text.new ≡ text.old ++ loads_text plan.now loads.now.timing
+        (asked_by loads.now.flows.items loads.now.units.items loads.now.requests.items) delays.now) }
 {
     write_flows(text, plan, loads, delays)?;
     write_needs(text, plan, loads.timing, delays)?;

@@ -20,6 +20,8 @@ fn is_of_addresses(finding: &Finding) -> bool
             | Finding::SameFixedAddress(..)
             | Finding::TooFewAddresses(..)
             | Finding::KeptAddress(..)
+            | Finding::SilentAddress(..)
+            | Finding::SilentInPool(..)
     )
 }
 

@@ -1,6 +1,6 @@
 -- What a unit does by a lawful pick follows the claim rule.
 use Rattle.std.proofs.Common.{◌≡◌, ℕ, ◌<◌, Bool, true, false, cond, ◌&&◌, ◌||◌, ◌⊎◌}
-use Rattle.std.proofs.Common.{inl, inr, ltb, refl, sym, ap, ◌∙◌, arith, Option, Some, None}
+use Rattle.std.proofs.Common.{inl, inr, ltb, refl, sym, ap, subst, ◌∙◌, arith, Option, Some, None}
 use Rattle.std.proofs.lemmas.Bool.{true≢false, ltb-false, ltb-true, eqb-true, lt-ltb}
 use Rattle.std.specs.Option.{IfSome}
 use Rattle.std.specs.Bool.{MatchBool}
@@ -11,9 +11,10 @@ use Rattle.std.specs.FinSet as set
 use Rattle.std.specs.FinSet.{FinSet}
 use Rattle.j39_claim.specs.declared.item.Say.{Say}
 use Rattle.j39_claim.specs.declared.item.Say.TheVariants.{Claim, Cannot}
+use Rattle.j39_claim.specs.declared.item.Item.TheVariants.{Told}
 use Rattle.j39_id.specs.Name.{is_arbitrary}
 use Rattle.j39_claim.specs.AddressSets.{IsFreeIn, free_count}
-use Rattle.j39_claim.specs.ClaimRule.{PlannedUnit, ClaimState, IsFree, Moves, GivesUp, Hears, claim_of, holds_address, say_of}
+use Rattle.j39_claim.specs.ClaimRule.{PlannedUnit, ClaimState, IsFree, Moves, GivesUp, Hears, Reacts, claim_of, holds_address, say_of}
 use Rattle.j39_claim.specs.ExactAnswer.{Pick, IsLawful, IsFreeMove, noted_addresses, taken_for, moved_to, said_after, state_after}
 use Rattle.j39_claim.proofs.FreeAddresses.{none_free}
 use Rattle.j39_claim.proofs.NotedAddresses.{noted_in, noted_by_one}
@@ -95,12 +96,14 @@ follows pick c s n a lawful = held (holds_address s.address a) refl (ltb n c.nam
         is_held None e = absurd (true≢false (sym e))
     held false other y _ = (refl, refl)
 
--- the same of a number that is an address, and of equal answers
-pub heard : (pick : Pick) (c : PlannedUnit) (s : ClaimState) (n a : ℕ) (says : Option Say) (new : ClaimState) → a < 254
+-- the same of a number that is an address, and of equal answers, of a unit that claims
+pub heard : (pick : Pick) (c : PlannedUnit) (s : ClaimState) (n a : ℕ) (says : Option Say) (new : ClaimState) → a < 254 → c.claims ≡ true
     → says ≡ said_after pick c s n (say_of a) → new ≡ state_after pick c s n (say_of a)
     → (n < c.name → IsFreeMove pick c.name a (taken_for c (insert s.notes n a)))
-    → Hears c s n (say_of a) says new
-heard pick c s n a says new inside said left lawful = rw (said, left, lt-ltb a 254 inside) (follows pick c s n a lawful)
+    → Reacts c s n (Told (say_of a)) says new
+heard pick c s n a says new inside claims said left lawful =
+    let hears : Hears c s n (say_of a) says new = rw (said, left, lt-ltb a 254 inside) (follows pick c s n a lawful) in
+    subst (λ b. MatchBool b (Hears c s n (say_of a) says new) ((says ≡ None) × (new ≡ s))) (sym claims) hears
 
 -- the same move, said of equal things
 pub same_move : (pick : Pick) (name name' lost lost' : ℕ) (taken taken' : FinSet nat_cmp) → IsFreeMove pick name lost taken → name ≡ name'

@@ -11,11 +11,13 @@ use Rattle.j39_claim.specs.declared.item.Item.TheVariants.{Told, Request}
 use Rattle.j39_id.specs.Name.{is_arbitrary}
 use Rattle.j39_id.specs.Addresses.{is_address, in_pool}
 
--- what is planned of a unit: its NAME, the address that it prefers, and the addresses that no unit may choose
+-- what is planned of a unit: its NAME, the address that it prefers, the addresses that no unit may choose, and whether it claims: one that
+-- doesn't is set to its address, hears what others say and does nothing
 pub record PlannedUnit : Type 0 where
   pub name : ℕ
   pub preferred : ℕ
   pub kept : FinSet nat_cmp
+  pub claims : Bool
 
 -- the state of a unit: whether it is on, the address that it holds, and the address that it last heard from each NAME
 pub record ClaimState : Type 0 where
@@ -66,10 +68,18 @@ Hears c s n (Claim a) says new =
     ((says ≡ None) × (new ≡ noted))
 Hears c s n Cannot says new = (says ≡ None) × (new ≡ record s { notes = remove s.notes n })
 
--- the same of each item that it may hear: a request is answered by what it holds
+-- the same of each item that it may hear, of a unit that claims: a request is answered by what it holds
 abbrev pub Answers : PlannedUnit → ClaimState → ℕ → Item → Option Say → ClaimState → Type 0
 Answers c s n (Told say) says new = Hears c s n say says new
 Answers c s n Request says new = (says ≡ Some (claim_of s.address)) × (new ≡ s)
+
+-- what any unit does at such an item: one that doesn't claim says nothing, and is what it was
+abbrev pub Reacts : PlannedUnit → ClaimState → ℕ → Item → Option Say → ClaimState → Type 0
+Reacts c s n item says new = MatchBool c.claims (Answers c s n item says new) ((says ≡ None) × (new ≡ s))
+
+-- what a unit says of itself, if it claims
+abbrev pub said_by : PlannedUnit → Say → Option Say
+said_by c say = if c.claims then Some say else None
 
 -- what a number says that is heard for an address: one that no unit can hold is Cannot
 abbrev pub say_of : ℕ → Say

@@ -18,9 +18,9 @@ can_note notes n = is_some (get notes n) || nat_lt (len notes) unit_limit
 
 abbrev pub coded_planned_unit : Coded PlannedUnit
 coded_planned_unit =
-    code_by (ℕ × (ℕ × FinSet nat_cmp)) (coded× coded_ℕ (coded× coded_ℕ (set.code coded_ℕ)))
-    (λ c. (c.name, (c.preferred, c.kept)))
-    (λ p. record { name = p.0; preferred = p.1.0; kept = p.1.1 }) (λ _. refl)
+    code_by (ℕ × (ℕ × (FinSet nat_cmp × Bool))) (coded× coded_ℕ (coded× coded_ℕ (coded× (set.code coded_ℕ) coded_bool)))
+    (λ c. (c.name, (c.preferred, (c.kept, c.claims))))
+    (λ p. record { name = p.0; preferred = p.1.0; kept = p.1.1.0; claims = p.1.1.1 }) (λ _. refl)
 
 abbrev pub coded_claim_state : Coded ClaimState
 coded_claim_state =

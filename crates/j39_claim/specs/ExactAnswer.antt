@@ -51,6 +51,13 @@ state_after pick c s n (Claim a) =
     record { on = s.on; address = address_after pick c s n a; notes = insert s.notes n a }
 state_after pick c s n Cannot = record s { notes = remove s.notes n }
 
+-- the same of any unit: one that doesn't claim says nothing, and is what it was
+abbrev pub said_exactly : Pick → PlannedUnit → ClaimState → ℕ → Say → Option Say
+said_exactly pick c s n say = if c.claims then said_after pick c s n say else None
+
+abbrev pub left_exactly : Pick → PlannedUnit → ClaimState → ℕ → Say → ClaimState
+left_exactly pick c s n say = if c.claims then state_after pick c s n say else s
+
 -- whichever free address is picked, the exact answer follows the claim rule
 abbrev pub LawfulPicksFollowTheRule : Type 0
 LawfulPicksFollowTheRule =

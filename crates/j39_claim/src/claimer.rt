@@ -1,21 +1,24 @@
-//! A unit that claims an address.
+//! A unit that claims an address, or has one without claiming it.
 ghost use Rattle.std.specs.Prelude.{◌≡◌, true, false, None};
 ghost use Rattle.std.specs.FinSet as set;
-ghost use Rattle.j39_claim.specs.ClaimRule.{Hears, started, off, claim_of, say_of};
+ghost use Rattle.j39_claim.specs.ClaimRule.{Reacts, started, off, claim_of, said_by, say_of};
+ghost use Rattle.j39_claim.specs.declared.item.Item.TheVariants.{Told};
 ghost use Rattle.j39_claim.specs.ClaimerValue.{can_note};
-ghost use Rattle.j39_claim.specs.ExactAnswer.{said_after, state_after, moved_to, IsFreeMove};
+ghost use Rattle.j39_claim.specs.ExactAnswer.{said_exactly, left_exactly, moved_to, IsFreeMove};
 
 use crate::notes::Notes;
 use crate::{AddressSet, Choose, Say};
 use j39_id::{Address, Name};
 use std::marker::Model;
 
-/// A unit that claims an address under a NAME (SAE J1939-81, address claim procedures).
+/// A unit that claims an address under a NAME (SAE J1939-81, address claim procedures). One that doesn't claim, as older ones, is set to
+/// its address: it hears what others say and does nothing.
 #[derive(Drop)]
 pub struct Claimer {
     name: Name,
     preferred: Address,
     kept: AddressSet,
+    claims: bool,
     started: bool,
     address: Option<Address>,
     notes: Notes,
@@ -30,7 +33,7 @@ impl Model for Claimer {
     ghost coded = { coded_claimer };
 
     ghost view = { λ a. record {
-      planned = record { name = a.name; preferred = a.preferred; kept = a.kept };
+      planned = record { name = a.name; preferred = a.preferred; kept = a.kept; claims = a.claims };
       state = record { on = a.started; address = a.address; notes = a.notes };
     } };
 
@@ -40,34 +43,42 @@ impl Model for Claimer {
 impl Claimer {
     /// A unit that is not started. It holds no address and has no notes.
     pub fn new(name: Name, preferred: Address) -> Self
-        ensures { result ≡ record { planned = record { name = name; preferred = preferred; kept = set.empty }; state = off } }
+        ensures { result ≡ record { planned = record { name = name; preferred = preferred; kept = set.empty; claims = true }; state = off } }
     {
         Claimer::with_kept(name, preferred, AddressSet::new())
     }
 
     /// The same, of a unit that never moves to one of the kept addresses.
     pub fn with_kept(name: Name, preferred: Address, kept: AddressSet) -> Self
-        ensures { result ≡ record { planned = record { name = name; preferred = preferred; kept = kept }; state = off } }
+        ensures { result ≡ record { planned = record { name = name; preferred = preferred; kept = kept; claims = true }; state = off } }
+    {
+        Claimer::planned(name, preferred, kept, true)
+    }
+
+    /// The same, of a unit that may not claim.
+    pub fn planned(name: Name, preferred: Address, kept: AddressSet, claims: bool) -> Self
+        ensures { result ≡ record { planned = record { name = name; preferred = preferred; kept = kept; claims = claims }; state = off } }
     {
         Claimer {
             name,
             preferred,
             kept,
+            claims,
             started: false,
             address: None,
             notes: Notes::new(),
         }
     }
 
-    /// Begins anew, with no notes and the preferred address, and claims it.
-    pub fn start(&mut self) -> Say
-        ensures said { result ≡ Say.Claim self.old.planned.preferred }
+    /// Begins anew, with no notes and the preferred address, and claims it, if it claims.
+    pub fn start(&mut self) -> Option<Say>
+        ensures said { result ≡ said_by self.old.planned (Say.Claim self.old.planned.preferred) }
         ensures started { self.new ≡ record self.old { state = started self.old.planned } }
     {
         self.stop();
         self.started = true;
         self.address = Some(self.preferred);
-        Say::Claim(self.preferred)
+        self.said(Say::Claim(self.preferred))
     }
 
     /// Ends: it is not started, holds no address and has no notes.
@@ -77,6 +88,13 @@ impl Claimer {
         self.started = false;
         self.address = None;
         self.notes = Notes::new();
+    }
+
+    // What it says of itself: nothing, if it doesn't claim.
+    fn said(&self, say: Say) -> Option<Say>
+        ensures { result ≡ said_by self.now.planned say }
+    {
+        if self.claims { Some(say) } else { None }
     }
 
     /// The NAME that it claims under.
@@ -108,21 +126,26 @@ impl Claimer {
         self.notes.can_note(name)
     }
 
-    /// What it answers to a request for Address Claimed: Claim of its address, or Cannot where it holds none.
-    pub fn hear_request(&self) -> Say
-        ensures { result ≡ claim_of self.now.state.address }
+    /// What it answers to a request for Address Claimed: Claim of its address, or Cannot where it holds none. One that doesn't claim
+    /// answers nothing.
+    pub fn hear_request(&self) -> Option<Say>
+        ensures { result ≡ said_by self.now.planned (claim_of self.now.state.address) }
     {
-        claim_of(self.address)
+        self.said(claim_of(self.address))
     }
 
     /// What it answers to Address Claimed of this address under the NAME. A number above 253 is Cannot Claim.
-    /// The smaller NAME keeps an address, and an arbitrary unit that loses its own moves to what the chooser picks.
+    /// The smaller NAME keeps an address, and an arbitrary unit that loses its own moves to what the chooser picks. One that doesn't claim
+    /// answers nothing and stays as it was.
     pub fn hear_claim(&mut self, name: Name, address: u8, chooser: &dyn Choose) -> Option<Say>
         requires { can_note self.old.state.notes name ≡ true }
-        ensures said { result ≡ said_after (pick chooser.now) self.old.planned self.old.state name (say_of address) }
-        ensures left { self.new ≡ record self.old { state = state_after (pick chooser.now) self.old.planned self.old.state name (say_of address) } }
-        ensures rule { Hears self.old.planned self.old.state name (say_of address) result self.new.state }
+        ensures said { result ≡ said_exactly (pick chooser.now) self.old.planned self.old.state name (say_of address) }
+        ensures left { self.new ≡ record self.old { state = left_exactly (pick chooser.now) self.old.planned self.old.state name (say_of address) } }
+        ensures rule { Reacts self.old.planned self.old.state name (Told (say_of address)) result self.new.state }
     {
+        if !self.claims {
+            return None;
+        }
         let claimed = match Address::new(address) {
             Some(claimed) => claimed,
             None => {

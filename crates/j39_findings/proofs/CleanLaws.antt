@@ -1,27 +1,35 @@
 -- What 'no finding' says.
-use Rattle.std.proofs.Common.{◌≡◌, ℕ, ◌+◌, ◌*◌, ◌<◌, List, All, AllPairs, get_or, length, Bool, true, Decides, inl, inr, arith}
+use Rattle.std.proofs.Common.{◌≡◌, ℕ, ◌+◌, ◌*◌, ◌<◌, List, All, AllPairs, get_or, length, Bool, true, false, Decides, inl, inr, arith}
 use Rattle.std.proofs.lemmas.Bool.{cases_Bool, cases_lt}
 use Rattle.std.proofs.lemmas.Bool.Decides.{not_from_Decides}
 use Rattle.std.proofs.lemmas.Option.{slice_get-get_or}
 use Rattle.std.specs.FinSet.{contains}
 use Rattle.j39_claim.specs.AddressSets.{free_count}
+use Rattle.j39_id.specs.Addresses.{in_pool}
 use Rattle.j39_id.specs.Pgn.{IsPgn, is_pgn}
 use Rattle.j39_id.specs.Proprietary.{is_proprietary}
 use Rattle.j39_signal.specs.Parts.{SignalParts}
 use Rattle.j39_signal.specs.Places.{WidthFits, IsInside, SharesBit, LaysOut, width_fits}
 use Rattle.j39_findings.specs.declared.plan.Plan.{Plan}
 use Rattle.j39_findings.specs.declared.plan.group_plan.GroupPlan.{GroupPlan}
+use Rattle.j39_findings.specs.declared.plan.unit_plan.UnitPlan.{UnitPlan}
 use Rattle.j39_findings.specs.declared.plan.text_plan.TextPlan.{TextPlan}
 use Rattle.j39_findings.specs.declared.checking.finding.Finding.TheVariants.{SameName, SameFixedAddress, TooFewAddresses, BadPgn, SamePgn, SignalWidth}
 use Rattle.j39_findings.specs.declared.checking.finding.Finding.TheVariants.{SignalOutside, SignalOverlap, FlowToOne, FlowToSelf, FlowRepeated, KeptAddress, PrivateUnsent, RecordOverlap, TextOutside, NeedUnmet}
+use Rattle.j39_findings.specs.declared.checking.finding.Finding.TheVariants.{RequestUnanswered, RequestUnheard, AnswerAstray, RequestRepeated}
 use Rattle.j39_findings.specs.ListPlaces.{ValueAt, PairAt}
 use Rattle.j39_findings.specs.Findings.{IsProprietary, HasBadPgn, IsOutside, Clean}
-use Rattle.j39_findings.specs.CleanParts.{CanBePlanned, LiesInside, CleanParts}
+use Rattle.j39_findings.specs.Findings.{IsServed, GoesUnanswered, GoesUnheard, IsAnsweredAstray, AskTheSame}
+use Rattle.j39_findings.specs.CleanParts.{CanBePlanned, IsAnsweredWell, LiesInside, CleanParts}
+use Rattle.j39_findings.specs.declared.checking.finding.Finding.TheVariants.{SilentAddress, SilentInPool}
+use Rattle.j39_findings.specs.Findings.{IsSilentInPool}
+use Rattle.j39_findings.specs.CleanParts.{IsUnreached}
 use Rattle.j39_findings.specs.Lengths.{IsLengthOf}
 use Rattle.j39_findings.specs.TextPlaces.{last_byte}
 use Rattle.j39_findings.specs.Records.{signals_in}
 use Rattle.j39_findings.proofs.RecordBits.{IsApart, bits_once, laid_with_records}
 use Rattle.j39_findings.proofs.Deciding.{Decides-is_pgn, Decides-is_proprietary, Decides-sends_some, Decides-some_meets}
+use Rattle.j39_findings.proofs.Deciding.{Decides-is_served, Decides-is_served_to_one, Decides-is_served_to_all, asks_one_or_all, served_to_one, served_to_all}
 
 none_at : {A : Type 0} (P : A → Type 0) (xs : List A) → ((i : ℕ) → ¬ ValueAt P xs i) → All (λ x. ¬ P x) xs
 none_at P xs none = λ i d less meets. none i (record { value = get_or xs i d; value_is = slice_get-get_or xs i d less; meets = meets })
@@ -120,11 +128,48 @@ pub lays_out_each : (plan : Plan) → Clean plan → All (λ g. (bytes : ℕ) �
 lays_out_each plan clean g d less bytes of =
     laid_with_records (get_or plan.groups.items g d) bytes (bits_once _ (apart plan clean g d less)) (lays_out_longer plan clean g d less bytes of) of.1
 
+-- each request is answered
+served : (plan : Plan) → Clean plan → All (IsServed plan.flows.items) plan.requests.items
+served plan clean r d less =
+    let flows = plan.flows.items in
+    let request = get_or plan.requests.items r d in
+    by_test _ _ (Decides-is_served flows request) (λ none. elim (asks_one_or_all request) [
+      | inl one ↦ none_at (GoesUnanswered flows) plan.requests.items (λ k. clean (RequestUnanswered k)) r d less (one, none)
+      | inr all ↦ none_at (GoesUnheard flows) plan.requests.items (λ k. clean (RequestUnheard k)) r d less (all, none)
+    ])
+
+answered : (plan : Plan) → Clean plan → All (IsAnsweredWell plan) plan.requests.items
+answered plan clean r d less =
+    let groups = plan.groups.items in
+    let flows = plan.flows.items in
+    let request = get_or plan.requests.items r d in
+    let some = served plan clean r d less in
+    let well = none_at (IsAnsweredAstray groups flows) plan.requests.items (λ k. clean (AnswerAstray k)) r d less in
+    record {
+      to_one = λ one names. by_test _ _ (Decides-is_served_to_one flows request)
+          (λ none. well (inl (one, names, served_to_all flows request some none, none)));
+      to_all = λ all. by_test _ _ (Decides-is_served_to_all flows request)
+          (λ none. well (inr (all, served_to_one flows request some none, none)));
+    }
+
+-- a unit that never claims is found where others may move to its address
+unreached : (plan : Plan) (u : UnitPlan) → u.claims ≡ false → ¬ IsSilentInPool plan.keep_free plan.strangers u → IsUnreached plan u
+unreached plan u silent none = record {
+  kept = λ pool. elim (cases_Bool (contains plan.keep_free u.address)) [
+    | inl kept ↦ kept
+    | inr free ↦ absurd (none (silent, pool, inl free))
+  ];
+  known = λ pool. elim (cases_lt 0 plan.strangers) [
+    | inl some ↦ absurd (none (silent, pool, inr some))
+    | inr few ↦ omega (arith, few)
+  ];
+}
+
 pub parts_of : (plan : Plan) → Clean plan → CleanParts plan
 parts_of plan clean = record {
   names = no_pair_at _ plan.units.items (λ i j. clean (SameName i j));
-  fixed_addresses = λ i j d below less first second same.
-      no_pair_at _ plan.units.items (λ k l. clean (SameFixedAddress k l)) i j d below less (first, second, same);
+  fixed_addresses = λ i j d below less first second one other same.
+      no_pair_at _ plan.units.items (λ k l. clean (SameFixedAddress k l)) i j d below less (first, second, same, one, other);
   addresses = λ n are. elim (cases_lt (free_count plan.keep_free) n) [ inl more ↦ absurd (clean (TooFewAddresses n) (are, more)) | inr few ↦ few ];
   not_kept = λ i d less arbitrary. elim (cases_Bool (contains plan.keep_free (get_or plan.units.items i d).address)) [
     | inl kept ↦ absurd (none_at _ plan.units.items (λ k. clean (KeptAddress k)) i d less (arbitrary, kept))
@@ -151,6 +196,13 @@ parts_of plan clean = record {
       lies_inside group (get_or group.texts.items t e)
       (none_at (IsOutside group) group.texts.items (λ k at. clean (TextOutside g k) (at_group plan _ g d less at)) t e in_group);
   needs = λ n d less.
-      by_test _ _ (Decides-some_meets plan.flows.items (get_or plan.needs.items n d))
+      by_test _ _ (Decides-some_meets plan.requests.items plan.flows.items (get_or plan.needs.items n d))
       (λ none. none_at _ plan.needs.items (λ k. clean (NeedUnmet k)) n d less none);
+  requests = served plan clean;
+  answers = answered plan clean;
+  asked_once = no_pair_at (AskTheSame plan.groups.items) plan.requests.items (λ r s. clean (RequestRepeated r s));
+  silent_addresses = λ i j d below less silent same.
+      no_pair_at _ plan.units.items (λ k l. clean (SilentAddress k l)) i j d below less (same, silent);
+  unreached = λ i d less silent. unreached plan (get_or plan.units.items i d) silent
+      (none_at _ plan.units.items (λ k. clean (SilentInPool k)) i d less);
 }

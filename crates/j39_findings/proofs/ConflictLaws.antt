@@ -10,6 +10,8 @@ use Rattle.j39_findings.specs.declared.plan.unit_plan.UnitPlan.{UnitPlan}
 use Rattle.j39_findings.specs.declared.checking.finding.Finding.{Finding}
 use Rattle.j39_findings.specs.declared.checking.finding.Finding.TheVariants.{SameName, SameFixedAddress, TooFewAddresses, BadPgn, SamePgn, SignalWidth}
 use Rattle.j39_findings.specs.declared.checking.finding.Finding.TheVariants.{SignalOutside, SignalOverlap, FlowToOne, FlowToSelf, FlowRepeated, KeptAddress, PrivateUnsent, RecordOverlap, TextOutside, NeedUnmet}
+use Rattle.j39_findings.specs.declared.checking.finding.Finding.TheVariants.{RequestUnanswered, RequestUnheard, AnswerAstray, RequestRepeated}
+use Rattle.j39_findings.specs.declared.checking.finding.Finding.TheVariants.{SilentAddress, SilentInPool}
 use Rattle.j39_findings.specs.declared.steps.Step.{Step}
 use Rattle.j39_findings.specs.Findings.{HaveSameFixedAddress}
 use Rattle.j39_findings.specs.ConflictRuns.{conflict_steps, AreInConflict, TellsOfConflict, IsConflictRun, are_in_conflict}
@@ -95,6 +97,12 @@ sound plan (PrivateUnsent g) steps is = cc
 sound plan (RecordOverlap g s t) steps is = cc
 sound plan (TextOutside g t) steps is = cc
 sound plan (NeedUnmet n) steps is = cc
+sound plan (RequestUnanswered r) steps is = cc
+sound plan (RequestUnheard r) steps is = cc
+sound plan (AnswerAstray r) steps is = cc
+sound plan (RequestRepeated r s) steps is = cc
+sound plan (SilentAddress u v) steps is = cc
+sound plan (SilentInPool u) steps is = cc
 
 given : (plan : Plan) (i j : ℕ) (u v : UnitPlan) → slice_get plan.units.items i ≡ Some u → slice_get plan.units.items j ≡ Some v → i < j
     → HaveSameFixedAddress u v × (u.name ≢ v.name) → run_of_places plan i j ≡ Some (steps_between i j u v)

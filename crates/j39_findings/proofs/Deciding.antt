@@ -1,5 +1,5 @@
 -- Each test decides its statement.
-use Rattle.std.proofs.Common.{◌≡◌, ℕ, zero, suc, ◌+◌, ◌<◌, ◌≤◌, ◌==◌, ◌⊎◌, List, [], ◌∷◌, Bool, true, false, cond, not}
+use Rattle.std.proofs.Common.{◌≡◌, ℕ, zero, suc, ◌+◌, ◌<◌, ◌≤◌, ◌==◌, ◌⊎◌, List, [], ◌∷◌, Bool, true, false, cond, not, ◌||◌, ◌&&◌}
 use Rattle.std.proofs.Common.{nat_le, Option, Some, None, Contains, Decides, refl, sym, ◌∙◌, inl, inr, subst, ◌%◌, arith}
 use Rattle.std.specs.List.{count_by, slice_get, list_any}
 use Rattle.std.specs.FinSet.{contains}
@@ -24,16 +24,22 @@ use Rattle.j39_findings.specs.declared.plan.unit_plan.UnitPlan.{UnitPlan}
 use Rattle.j39_findings.specs.declared.plan.group_plan.GroupPlan.{GroupPlan}
 use Rattle.j39_findings.specs.declared.plan.flow_plan.FlowPlan.{FlowPlan}
 use Rattle.j39_findings.specs.declared.plan.need_plan.NeedPlan.{NeedPlan}
+use Rattle.j39_findings.specs.declared.plan.request_plan.RequestPlan.{RequestPlan}
 use Rattle.j39_findings.specs.declared.plan.text_plan.TextPlan.{TextPlan}
 use Rattle.j39_findings.specs.TextPlaces.{last_byte}
 use Rattle.j39_findings.specs.declared.plan.to.To.{To}
 use Rattle.j39_findings.specs.declared.plan.to.To.TheVariants.{All, One}
+use Rattle.j39_findings.specs.Findings.{HaveSilentAddress, IsSilentInPool}
+use Rattle.j39_findings.specs.Found.{have_silent_address, is_silent_in_pool}
+use Rattle.j39_id.specs.Addresses.{in_pool}
 use Rattle.j39_findings.specs.Findings.{HaveSameName, HaveSameFixedAddress, NeedsPoolAddress, PrefersKept, IsProprietary, IsForNoPlan}
 use Rattle.j39_findings.specs.Findings.{IsWronglyPrivate, HasBadPgn, Sends, DoReceiversMeet, AreSentTogether, HaveSamePgn, IsPrivateUnsent, IsOneFrameToAll, MayBeOneFrameToAll, CannotGoToOne, GoesToItsSender, AreOneFlow, IsOutside, Meets, IsUnmet}
+use Rattle.j39_findings.specs.Findings.{IsToOne, Serves, IsServed, IsServedToOne, IsServedToAll, AsksOne, AsksAll, GoesUnanswered, GoesUnheard, MayNameReceiver, IsAnsweredAstray, AskForOneNumber, AskTheSame, IsAskedFor}
 use Rattle.j39_findings.specs.Found.{have_same_name, have_same_fixed_address, needs_pool_address, prefers_kept, is_for_no_plan, is_wrongly_private}
 use Rattle.j39_findings.specs.Found.{has_bad_pgn, sends, do_receivers_meet, sends_beside, are_sent_together, have_same_pgn, is_private_unsent, has_other_width, ends_outside, is_one_frame_to_all, may_be_one_frame_to_all, is_group_of}
 use Rattle.j39_findings.specs.Found.{is_to_one, is_to, have_same_receiver, cannot_go_to_one, goes_to_its_sender, are_one_flow, lies_outside}
 use Rattle.j39_findings.specs.Found.{is_from, is_reached, meets, is_unmet}
+use Rattle.j39_findings.specs.Found.{serves, is_served, is_served_to_one, is_served_to_all, goes_unanswered, goes_unheard, may_name_receiver, is_one_astray, is_all_astray, is_answered_astray, ask_for_one_number, ask_the_same, is_asked_for}
 
 Decides-leb : (a b : ℕ) → Decides (nat_le a b) (a ≤ b)
 Decides-leb a b = (leb-true a b, le-leb a b)
@@ -49,8 +55,24 @@ Decides-have_same_name u v = Decides-eqb u.name v.name
 
 pub Decides-have_same_fixed_address : (u v : UnitPlan) → Decides (have_same_fixed_address u v) (HaveSameFixedAddress u v)
 Decides-have_same_fixed_address u v =
+    Decides-like _ (λ h. (h.0, h.1.0, h.1.1.0, h.1.1.1.0, h.1.1.1.1)) (λ h. (h.0, (h.1, (h.2, (h.3, h.4)))))
+    (Decides-and _ _ (not_is (is_arbitrary u.name)) (Decides-and _ _ (not_is (is_arbitrary v.name))
+    (Decides-and _ _ (Decides-eqb u.address v.address) (Decides-and _ _ (λ e. e, λ e. e) (λ e. e, λ e. e)))))
+
+neither : (a b : Bool) → Decides (not (a && b)) ((a ≡ false) ⊎ (b ≡ false))
+neither true true = (λ e. absurd (false≢true e), λ h. elim h [ inl e ↦ absurd (false≢true (sym e)) | inr e ↦ absurd (false≢true (sym e)) ])
+neither true false = (λ e. inr refl, λ h. refl)
+neither false b = (λ e. inl refl, λ h. refl)
+
+pub Decides-have_silent_address : (u v : UnitPlan) → Decides (have_silent_address u v) (HaveSilentAddress u v)
+Decides-have_silent_address u v = Decides-and _ _ (Decides-eqb u.address v.address) (neither u.claims v.claims)
+
+pub Decides-is_silent_in_pool : (kept : FinSet nat_cmp) (strangers : ℕ) (u : UnitPlan)
+    → Decides (is_silent_in_pool kept strangers u) (IsSilentInPool kept strangers u)
+Decides-is_silent_in_pool kept strangers u =
     Decides-like _ (λ h. (h.0, h.1.0, h.1.1)) (λ h. (h.0, (h.1, h.2)))
-    (Decides-and _ _ (not_is (is_arbitrary u.name)) (Decides-and _ _ (not_is (is_arbitrary v.name)) (Decides-eqb u.address v.address)))
+    (Decides-and _ _ (not_is u.claims) (Decides-and _ _ (λ e. e, λ e. e)
+    (Decides-or _ _ (not_is (contains kept u.address)) (Decides-ltb 0 strangers))))
 
 pub Decides-needs_pool_address : (kept : FinSet nat_cmp) (u : UnitPlan) → Decides (needs_pool_address kept u) (NeedsPoolAddress kept u)
 Decides-needs_pool_address kept u =
@@ -249,6 +271,90 @@ pub Decides-is_private_unsent : (gs : List GroupPlan) (fs : List FlowPlan) (g : 
 Decides-is_private_unsent gs fs g =
     Decides-and _ _ (λ e. e, λ e. e) (Decides-not _ (Decides-sends_some gs fs g))
 
+-- ---- requests
+
+reaches_decides : (to : To) (unit : ℕ) → Decides (is_reached to unit) ((to ≡ All) ⊎ (to ≡ One unit))
+reaches_decides to unit = Decides-or _ _ (to_all_decides to) (Decides-is_to to unit)
+
+pub Decides-serves : (r : RequestPlan) (f : FlowPlan) → Decides (serves r f) (Serves r f)
+Decides-serves r f =
+    Decides-like _ (λ h. record { group = h.0; other = h.1.0; asked = h.1.1.0; reaches = h.1.1.1 })
+    (λ m. (m.group, (m.other, (m.asked, m.reaches))))
+    (Decides-and _ _ (Decides-eqb f.group r.group)
+    (Decides-and _ _ (Decides-not _ (Decides-eqb f.sender r.sender))
+    (Decides-and _ _ (reaches_decides r.to f.sender) (reaches_decides f.to r.sender))))
+
+pub Decides-is_served : (fs : List FlowPlan) (r : RequestPlan) → Decides (is_served fs r) (IsServed fs r)
+Decides-is_served fs r = some_decides (Serves r) (Decides-serves r) fs
+
+pub Decides-is_served_to_one : (fs : List FlowPlan) (r : RequestPlan) → Decides (is_served_to_one fs r) (IsServedToOne fs r)
+Decides-is_served_to_one fs r =
+    some_decides (λ f. Serves r f × IsToOne f) (λ f. Decides-and _ _ (Decides-serves r f) (Decides-is_to_one f.to)) fs
+
+pub Decides-is_served_to_all : (fs : List FlowPlan) (r : RequestPlan) → Decides (is_served_to_all fs r) (IsServedToAll fs r)
+Decides-is_served_to_all fs r =
+    some_decides (λ f. Serves r f × (f.to ≡ All)) (λ f. Decides-and _ _ (Decides-serves r f) (to_all_decides f.to)) fs
+
+pub Decides-goes_unanswered : (fs : List FlowPlan) (r : RequestPlan) → Decides (goes_unanswered fs r) (GoesUnanswered fs r)
+Decides-goes_unanswered fs r = Decides-and _ _ (Decides-is_to_one r.to) (Decides-not _ (Decides-is_served fs r))
+
+pub Decides-goes_unheard : (fs : List FlowPlan) (r : RequestPlan) → Decides (goes_unheard fs r) (GoesUnheard fs r)
+Decides-goes_unheard fs r = Decides-and _ _ (to_all_decides r.to) (Decides-not _ (Decides-is_served fs r))
+
+receiver_decides : (gs : List GroupPlan) (r : RequestPlan) → Decides (may_name_receiver gs r) (MayNameReceiver gs r)
+receiver_decides gs r =
+    group_of_decides (λ g. ¬ IsOneFrameToAll g) (λ g. Decides-not _ (one_frame_decides g)) gs r.group (slice_get gs r.group) refl
+
+one_astray_decides : (gs : List GroupPlan) (fs : List FlowPlan) (r : RequestPlan)
+    → Decides (is_one_astray gs fs r) (AsksOne r × MayNameReceiver gs r × IsServedToAll fs r × (¬ IsServedToOne fs r))
+one_astray_decides gs fs r =
+    Decides-like _ (λ p. (p.0, p.1.0, p.1.1.0, p.1.1.1)) (λ p. (p.0, (p.1, (p.2, p.3))))
+    (Decides-and _ _ (Decides-is_to_one r.to) (Decides-and _ _ (receiver_decides gs r)
+    (Decides-and _ _ (Decides-is_served_to_all fs r) (Decides-not _ (Decides-is_served_to_one fs r)))))
+
+all_astray_decides : (fs : List FlowPlan) (r : RequestPlan)
+    → Decides (is_all_astray fs r) (AsksAll r × IsServedToOne fs r × (¬ IsServedToAll fs r))
+all_astray_decides fs r =
+    Decides-like _ (λ p. (p.0, p.1.0, p.1.1)) (λ p. (p.0, (p.1, p.2)))
+    (Decides-and _ _ (to_all_decides r.to)
+    (Decides-and _ _ (Decides-is_served_to_one fs r) (Decides-not _ (Decides-is_served_to_all fs r))))
+
+pub Decides-is_answered_astray : (gs : List GroupPlan) (fs : List FlowPlan) (r : RequestPlan)
+    → Decides (is_answered_astray gs fs r) (IsAnsweredAstray gs fs r)
+Decides-is_answered_astray gs fs r = Decides-or _ _ (one_astray_decides gs fs r) (all_astray_decides fs r)
+
+one_number_decides : (gs : List GroupPlan) (r s : RequestPlan) → Decides (ask_for_one_number gs r s) (AskForOneNumber gs r s)
+one_number_decides gs r s =
+    group_of_decides (λ g. ValueAt (λ h. g.pgn ≡ h.pgn) gs s.group)
+    (λ g. group_of_decides (λ h. g.pgn ≡ h.pgn) (λ h. Decides-eqb g.pgn h.pgn) gs s.group (slice_get gs s.group) refl)
+    gs r.group (slice_get gs r.group) refl
+
+pub Decides-ask_the_same : (gs : List GroupPlan) (r s : RequestPlan) → Decides (ask_the_same gs r s) (AskTheSame gs r s)
+Decides-ask_the_same gs r s =
+    Decides-like _ (λ p. (p.0, p.1.0, p.1.1)) (λ p. (p.0, (p.1, p.2)))
+    (Decides-and _ _ (one_number_decides gs r s)
+    (Decides-and _ _ (Decides-eqb r.sender s.sender) (Decides-have_same_receiver r.to s.to)))
+
+one_or_all : (to : To) → ((u : ℕ) × (to ≡ One u)) ⊎ (to ≡ All)
+one_or_all All = inr refl
+one_or_all (One u) = inl (u, refl)
+
+pub asks_one_or_all : (r : RequestPlan) → AsksOne r ⊎ AsksAll r
+asks_one_or_all r = one_or_all r.to
+
+-- what is answered, and to none as here, is answered as there
+pub served_to_all : (fs : List FlowPlan) (r : RequestPlan) → IsServed fs r → ¬ IsServedToOne fs r → IsServedToAll fs r
+served_to_all fs r (i, v) none = elim (one_or_all v.value.to) [
+  | inl one ↦ absurd (none (i, record { value = v.value; value_is = v.value_is; meets = (v.meets, one) }))
+  | inr all ↦ (i, record { value = v.value; value_is = v.value_is; meets = (v.meets, all) })
+]
+
+pub served_to_one : (fs : List FlowPlan) (r : RequestPlan) → IsServed fs r → ¬ IsServedToAll fs r → IsServedToOne fs r
+served_to_one fs r (i, v) none = elim (one_or_all v.value.to) [
+  | inl one ↦ (i, record { value = v.value; value_is = v.value_is; meets = (v.meets, one) })
+  | inr all ↦ absurd (none (i, record { value = v.value; value_is = v.value_is; meets = (v.meets, all) }))
+]
+
 -- ---- needs
 
 is_from_decides : (from : Option ℕ) (sender : ℕ) → Decides (is_from from sender) ((u : ℕ) → from ≡ Some u → sender ≡ u)
@@ -256,19 +362,25 @@ is_from_decides None sender = (λ e u is. absurd (none-some _ is), λ h. refl)
 is_from_decides (Some unit) sender =
     Decides-like _ (λ e u is. e ∙ same_Some _ _ is) (λ h. h unit refl) (Decides-eqb sender unit)
 
-reaches_decides : (to : To) (unit : ℕ) → Decides (is_reached to unit) ((to ≡ All) ⊎ (to ≡ One unit))
-reaches_decides to unit = Decides-or _ _ (to_all_decides to) (Decides-is_to to unit)
+unless : (b test : Bool) (P : Type 0) → Decides test P → Decides (not b || test) (b ≡ true → P)
+unless true test P by = (λ e is. by.0 e, λ h. by.1 (h refl))
+unless false test P by = (λ e is. absurd (false≢true is), λ h. refl)
 
-pub Decides-meets : (need : NeedPlan) (flow : FlowPlan) → Decides (meets need flow) (Meets need flow)
-Decides-meets need flow =
-    Decides-like _ (λ h. record { group = h.0; other = h.1.0; from = h.1.1.0; reaches = h.1.1.1 })
-    (λ m. (m.group, (m.other, (m.from, m.reaches))))
+asked_for_decides : (rs : List RequestPlan) (f : FlowPlan) → Decides (is_asked_for rs f) (IsAskedFor rs f)
+asked_for_decides rs f = unless f.on_request _ _ (some_decides (λ r. Serves r f) (λ r. Decides-serves r f) rs)
+
+pub Decides-meets : (rs : List RequestPlan) (need : NeedPlan) (flow : FlowPlan) → Decides (meets rs need flow) (Meets rs need flow)
+Decides-meets rs need flow =
+    Decides-like _ (λ h. record { group = h.0; other = h.1.0; from = h.1.1.0; reaches = h.1.1.1.0; comes = h.1.1.1.1 })
+    (λ m. (m.group, (m.other, (m.from, (m.reaches, m.comes)))))
     (Decides-and _ _ (Decides-eqb flow.group need.group)
     (Decides-and _ _ (Decides-not _ (Decides-eqb flow.sender need.unit))
-    (Decides-and _ _ (is_from_decides need.from flow.sender) (reaches_decides flow.to need.unit))))
+    (Decides-and _ _ (is_from_decides need.from flow.sender)
+    (Decides-and _ _ (reaches_decides flow.to need.unit) (asked_for_decides rs flow)))))
 
-pub Decides-some_meets : (fs : List FlowPlan) (need : NeedPlan) → Decides (list_any (meets need) fs) (SomeMeets (Meets need) fs)
-Decides-some_meets fs need = some_decides (Meets need) (Decides-meets need) fs
+pub Decides-some_meets : (rs : List RequestPlan) (fs : List FlowPlan) (need : NeedPlan)
+    → Decides (list_any (meets rs need) fs) (SomeMeets (Meets rs need) fs)
+Decides-some_meets rs fs need = some_decides (Meets rs need) (Decides-meets rs need) fs
 
-pub Decides-is_unmet : (fs : List FlowPlan) (need : NeedPlan) → Decides (is_unmet fs need) (IsUnmet fs need)
-Decides-is_unmet fs need = Decides-not _ (Decides-some_meets fs need)
+pub Decides-is_unmet : (rs : List RequestPlan) (fs : List FlowPlan) (need : NeedPlan) → Decides (is_unmet rs fs need) (IsUnmet rs fs need)
+Decides-is_unmet rs fs need = Decides-not _ (Decides-some_meets rs fs need)

@@ -12,19 +12,26 @@ use Rattle.j39_findings.specs.declared.plan.group_plan.GroupPlan.{GroupPlan}
 use Rattle.j39_findings.specs.declared.checking.finding.Finding.{Finding}
 use Rattle.j39_findings.specs.declared.checking.finding.Finding.TheVariants.{SameName, SameFixedAddress, TooFewAddresses, BadPgn, SamePgn, SignalWidth}
 use Rattle.j39_findings.specs.declared.checking.finding.Finding.TheVariants.{SignalOutside, SignalOverlap, FlowToOne, FlowToSelf, FlowRepeated, KeptAddress, PrivateUnsent, RecordOverlap, TextOutside, NeedUnmet}
+use Rattle.j39_findings.specs.declared.checking.finding.Finding.TheVariants.{RequestUnanswered, RequestUnheard, AnswerAstray, RequestRepeated}
+use Rattle.j39_findings.specs.declared.checking.finding.Finding.TheVariants.{SilentAddress, SilentInPool}
 use Rattle.j39_findings.specs.ListPlaces.{found_if, in_each, each, pairs, ValueAt, PairAt}
 use Rattle.j39_claim.specs.AddressSets.{free_count}
 use Rattle.j39_findings.specs.Findings.{HaveSameName, HaveSameFixedAddress, HasBadPgn, HaveSamePgn, CannotGoToOne}
 use Rattle.j39_findings.specs.Findings.{GoesToItsSender, AreOneFlow, Holds, PrefersKept, IsPrivateUnsent, IsOutside, IsUnmet, IsBefore, IsBelow, finding_number, places_of}
+use Rattle.j39_findings.specs.Findings.{GoesUnanswered, GoesUnheard, IsAnsweredAstray, AskTheSame}
+use Rattle.j39_findings.specs.Findings.{HaveSilentAddress, IsSilentInPool}
 use Rattle.j39_findings.specs.Records.{record_count}
+use Rattle.j39_findings.specs.Found.{silent_findings}
 use Rattle.j39_findings.specs.Found.{needed_addresses, needs_pool_address, too_few_addresses, unit_findings, group_findings, has_other_width}
-use Rattle.j39_findings.specs.Found.{ends_outside, lies_outside, overlap_findings, signal_findings, flow_findings, kept_findings, unsent_findings, overlaps_of, group_overlaps, do_records_meet, record_findings, text_findings, need_findings}
+use Rattle.j39_findings.specs.Found.{ends_outside, lies_outside, overlap_findings, signal_findings, flow_findings, kept_findings, unsent_findings, overlaps_of, group_overlaps, do_records_meet, record_findings, text_findings, need_findings, request_findings}
 use Rattle.j39_findings.proofs.Meeting.{of_signal_made, of_group_overlaps}
 use Rattle.j39_findings.proofs.Members.{of_in_each, of_found_if, of_each, of_pairs}
 use Rattle.j39_findings.proofs.Rising.{Rises, Rises-append, Rises-found_if, Rises-in_each, Rises-each, Rises-pairs}
 use Rattle.j39_findings.proofs.Deciding.{Decides-have_same_name, Decides-have_same_fixed_address, Decides-needs_pool_address, Decides-has_bad_pgn, passing_meet}
+use Rattle.j39_findings.proofs.Deciding.{Decides-have_silent_address, Decides-is_silent_in_pool}
 use Rattle.j39_findings.proofs.Deciding.{Decides-have_same_pgn, Decides-has_other_width, Decides-ends_outside, Decides-shares_bit}
 use Rattle.j39_findings.proofs.Deciding.{Decides-cannot_go_to_one, Decides-goes_to_its_sender, Decides-are_one_flow, Decides-prefers_kept, Decides-is_private_unsent, Decides-lies_outside, Decides-is_unmet}
+use Rattle.j39_findings.proofs.Deciding.{Decides-goes_unanswered, Decides-goes_unheard, Decides-is_answered_astray, Decides-ask_the_same}
 
 -- findings of numbers from low to high that hold, in order
 pub record Covers (plan : Plan) (low high : ℕ) (findings : List Finding) : Type 0 where
@@ -299,8 +306,42 @@ texts_covered plan =
 
 -- ---- needs
 
-pub needs_covered : (plan : Plan) → Covers plan 19 19 (need_findings plan.flows.items plan.needs.items)
+pub needs_covered : (plan : Plan) → Covers plan 19 19 (need_findings plan.requests.items plan.flows.items plan.needs.items)
 unfolding need_findings
 needs_covered plan =
+    let requests = plan.requests.items in
     let flows = plan.flows.items in
-    each_family plan 19 (IsUnmet flows) (Decides-is_unmet flows) NeedUnmet plan.needs.items (λ i h. h) (λ i. record { number = refl; places = refl })
+    each_family plan 19 (IsUnmet requests flows) (Decides-is_unmet requests flows) NeedUnmet plan.needs.items (λ i h. h)
+    (λ i. record { number = refl; places = refl })
+
+-- ---- requests
+
+pub requests_covered : (plan : Plan) → Covers plan 21 25 (request_findings plan.groups.items plan.flows.items plan.requests.items)
+unfolding request_findings
+requests_covered plan =
+    let groups = plan.groups.items in
+    let flows = plan.flows.items in
+    let requests = plan.requests.items in
+    Covers-append plan 21 21 22 25 _ _ (omega arith) (omega arith) (omega arith)
+    (each_family plan 21 (GoesUnanswered flows) (Decides-goes_unanswered flows) RequestUnanswered requests (λ i h. h)
+    (λ i. record { number = refl; places = refl }))
+    (Covers-append plan 22 22 23 25 _ _ (omega arith) (omega arith) (omega arith)
+    (each_family plan 22 (GoesUnheard flows) (Decides-goes_unheard flows) RequestUnheard requests (λ i h. h)
+    (λ i. record { number = refl; places = refl }))
+    (Covers-append plan 23 23 25 25 _ _ (omega arith) (omega arith) (omega arith)
+    (each_family plan 23 (IsAnsweredAstray groups flows) (Decides-is_answered_astray groups flows) AnswerAstray requests (λ i h. h)
+    (λ i. record { number = refl; places = refl }))
+    (pairs_family plan 25 (AskTheSame groups) (Decides-ask_the_same groups) RequestRepeated requests (λ i j h. h)
+    (λ i j. record { number = refl; places = refl }))))
+
+-- ---- units that never claim
+
+pub silent_covered : (plan : Plan) → Covers plan 26 27 (silent_findings plan.keep_free plan.strangers plan.units.items)
+unfolding silent_findings
+silent_covered plan =
+    let kept = plan.keep_free in
+    let units = plan.units.items in
+    Covers-append plan 26 26 27 27 _ _ (omega arith) (omega arith) (omega arith)
+    (pairs_family plan 26 HaveSilentAddress Decides-have_silent_address SilentAddress units (λ i j h. h) (λ i j. record { number = refl; places = refl }))
+    (each_family plan 27 (IsSilentInPool kept plan.strangers) (Decides-is_silent_in_pool kept plan.strangers) SilentInPool units (λ i h. h)
+    (λ i. record { number = refl; places = refl }))

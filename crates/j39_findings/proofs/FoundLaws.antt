@@ -9,32 +9,42 @@ use Rattle.j39_findings.specs.declared.plan.group_plan.GroupPlan.{GroupPlan}
 use Rattle.j39_findings.specs.declared.checking.finding.Finding.{Finding}
 use Rattle.j39_findings.specs.declared.checking.finding.Finding.TheVariants.{SameName, SameFixedAddress, TooFewAddresses, BadPgn, SamePgn, SignalWidth}
 use Rattle.j39_findings.specs.declared.checking.finding.Finding.TheVariants.{SignalOutside, SignalOverlap, FlowToOne, FlowToSelf, FlowRepeated, KeptAddress, PrivateUnsent, RecordOverlap, TextOutside, NeedUnmet}
+use Rattle.j39_findings.specs.declared.checking.finding.Finding.TheVariants.{RequestUnanswered, RequestUnheard, AnswerAstray, RequestRepeated}
+use Rattle.j39_findings.specs.declared.checking.finding.Finding.TheVariants.{SilentAddress, SilentInPool}
 use Rattle.j39_findings.specs.ListPlaces.{in_each, each, pairs}
 use Rattle.j39_claim.specs.AddressSets.{free_count}
 use Rattle.j39_findings.specs.Findings.{HaveSameName, HaveSameFixedAddress, HasBadPgn, HaveSamePgn, CannotGoToOne}
 use Rattle.j39_findings.specs.Findings.{GoesToItsSender, AreOneFlow, PrefersKept, IsPrivateUnsent, IsOutside, IsUnmet, Holds, IsBefore, AreFindings, Clean}
+use Rattle.j39_findings.specs.Findings.{GoesUnanswered, GoesUnheard, IsAnsweredAstray, AskTheSame}
+use Rattle.j39_findings.specs.Found.{goes_unanswered, goes_unheard, is_answered_astray, ask_the_same, request_findings}
 use Rattle.j39_findings.specs.Found.{have_same_name, have_same_fixed_address, needed_addresses, too_few_addresses, unit_findings, has_bad_pgn, have_same_pgn}
 use Rattle.j39_findings.specs.Found.{group_findings, width_findings, outside_findings, overlap_findings, signal_findings, cannot_go_to_one}
 use Rattle.j39_findings.specs.Found.{goes_to_its_sender, are_one_flow, flow_findings, prefers_kept, kept_findings, is_private_unsent, unsent_findings, group_overlaps, record_findings, outside_text_findings, text_findings, is_unmet, need_findings, found}
+use Rattle.j39_findings.specs.Findings.{HaveSilentAddress, IsSilentInPool}
+use Rattle.j39_findings.specs.Found.{have_silent_address, is_silent_in_pool, silent_findings}
 use Rattle.j39_findings.proofs.Meeting.{group_overlaps_of}
 use Rattle.j39_findings.proofs.Members.{in_each_of, found_if_of, each_of, pairs_of}
 use Rattle.j39_findings.proofs.Rising.{AllPairs-from_Rises}
 use Rattle.j39_findings.proofs.Deciding.{Decides-have_same_name, Decides-have_same_fixed_address, Decides-needs_pool_address, Decides-has_bad_pgn, meeting_pass}
+use Rattle.j39_findings.proofs.Deciding.{Decides-have_silent_address, Decides-is_silent_in_pool}
 use Rattle.j39_findings.proofs.Deciding.{Decides-have_same_pgn, Decides-has_other_width, Decides-ends_outside, Decides-shares_bit}
 use Rattle.j39_findings.proofs.Deciding.{Decides-cannot_go_to_one, Decides-goes_to_its_sender, Decides-are_one_flow, Decides-prefers_kept, Decides-is_private_unsent, Decides-lies_outside, Decides-is_unmet}
-use Rattle.j39_findings.proofs.Families.{Covers, Covers-append, units_covered, groups_covered, signals_covered, flows_covered, kept_covered, unsent_covered, records_covered, texts_covered, needs_covered}
+use Rattle.j39_findings.proofs.Deciding.{Decides-goes_unanswered, Decides-goes_unheard, Decides-is_answered_astray, Decides-ask_the_same}
+use Rattle.j39_findings.proofs.Families.{Covers, Covers-append, units_covered, groups_covered, signals_covered, flows_covered, kept_covered, unsent_covered, records_covered, texts_covered, needs_covered, requests_covered, silent_covered}
 
-found_covered : (plan : Plan) → Covers plan 1 19 (found plan)
+found_covered : (plan : Plan) → Covers plan 1 27 (found plan)
 unfolding found
 found_covered plan =
-    Covers-append plan 1 3 4 19 _ _ (omega arith) (omega arith) (omega arith) (units_covered plan)
-    (Covers-append plan 4 5 6 19 _ _ (omega arith) (omega arith) (omega arith) (groups_covered plan)
-    (Covers-append plan 6 8 9 19 _ _ (omega arith) (omega arith) (omega arith) (signals_covered plan)
-    (Covers-append plan 9 11 12 19 _ _ (omega arith) (omega arith) (omega arith) (flows_covered plan)
-    (Covers-append plan 12 12 13 19 _ _ (omega arith) (omega arith) (omega arith) (kept_covered plan)
-    (Covers-append plan 13 13 14 19 _ _ (omega arith) (omega arith) (omega arith) (unsent_covered plan)
-    (Covers-append plan 14 14 15 19 _ _ (omega arith) (omega arith) (omega arith) (records_covered plan)
-    (Covers-append plan 15 15 19 19 _ _ (omega arith) (omega arith) (omega arith) (texts_covered plan) (needs_covered plan))))))))
+    Covers-append plan 1 3 4 27 _ _ (omega arith) (omega arith) (omega arith) (units_covered plan)
+    (Covers-append plan 4 5 6 27 _ _ (omega arith) (omega arith) (omega arith) (groups_covered plan)
+    (Covers-append plan 6 8 9 27 _ _ (omega arith) (omega arith) (omega arith) (signals_covered plan)
+    (Covers-append plan 9 11 12 27 _ _ (omega arith) (omega arith) (omega arith) (flows_covered plan)
+    (Covers-append plan 12 12 13 27 _ _ (omega arith) (omega arith) (omega arith) (kept_covered plan)
+    (Covers-append plan 13 13 14 27 _ _ (omega arith) (omega arith) (omega arith) (unsent_covered plan)
+    (Covers-append plan 14 14 15 27 _ _ (omega arith) (omega arith) (omega arith) (records_covered plan)
+    (Covers-append plan 15 15 19 27 _ _ (omega arith) (omega arith) (omega arith) (texts_covered plan)
+    (Covers-append plan 19 19 21 27 _ _ (omega arith) (omega arith) (omega arith) (needs_covered plan)
+    (Covers-append plan 21 25 26 27 _ _ (omega arith) (omega arith) (omega arith) (requests_covered plan) (silent_covered plan))))))))))
 
 in_units : (plan : Plan) (f : Finding) → Contains (unit_findings plan.keep_free plan.strangers plan.units.items) f → Contains (found plan) f
 unfolding found
@@ -57,7 +67,10 @@ rest plan =
     flow_findings plan.groups.items plan.flows.items
     ++ (kept_findings plan.keep_free plan.units.items
     ++ (unsent_findings plan.groups.items plan.flows.items
-    ++ (record_findings plan.groups.items ++ (text_findings plan.groups.items ++ need_findings plan.flows.items plan.needs.items))))
+    ++ (record_findings plan.groups.items ++ (text_findings plan.groups.items
+    ++ (need_findings plan.requests.items plan.flows.items plan.needs.items
+    ++ (request_findings plan.groups.items plan.flows.items plan.requests.items
+    ++ silent_findings plan.keep_free plan.strangers plan.units.items))))))
 
 in_rest : (plan : Plan) (f : Finding) → Contains (rest plan) f → Contains (found plan) f
 unfolding found
@@ -98,14 +111,44 @@ text_found plan f h =
     (Contains-append_right (unsent_findings plan.groups.items plan.flows.items) _ f
     (Contains-append_right (record_findings plan.groups.items) _ f (Contains-append_left (text_findings plan.groups.items) _ f h)))))
 
-need_found : (plan : Plan) (f : Finding) → Contains (each (is_unmet plan.flows.items) NeedUnmet 0 plan.needs.items) f → Contains (found plan) f
+need_found : (plan : Plan) (f : Finding)
+    → Contains (each (is_unmet plan.requests.items plan.flows.items) NeedUnmet 0 plan.needs.items) f → Contains (found plan) f
 unfolding need_findings
 need_found plan f h =
     in_rest plan f (Contains-append_right (flow_findings plan.groups.items plan.flows.items) _ f
     (Contains-append_right (kept_findings plan.keep_free plan.units.items) _ f
     (Contains-append_right (unsent_findings plan.groups.items plan.flows.items) _ f
     (Contains-append_right (record_findings plan.groups.items) _ f
-    (Contains-append_right (text_findings plan.groups.items) (need_findings plan.flows.items plan.needs.items) f h)))))
+    (Contains-append_right (text_findings plan.groups.items) _ f
+    (Contains-append_left (need_findings plan.requests.items plan.flows.items plan.needs.items) _ f h))))))
+
+in_requests : (plan : Plan) (f : Finding) → Contains (request_findings plan.groups.items plan.flows.items plan.requests.items) f
+    → Contains (found plan) f
+in_requests plan f h =
+    in_rest plan f (Contains-append_right (flow_findings plan.groups.items plan.flows.items) _ f
+    (Contains-append_right (kept_findings plan.keep_free plan.units.items) _ f
+    (Contains-append_right (unsent_findings plan.groups.items plan.flows.items) _ f
+    (Contains-append_right (record_findings plan.groups.items) _ f
+    (Contains-append_right (text_findings plan.groups.items) _ f
+    (Contains-append_right (need_findings plan.requests.items plan.flows.items plan.needs.items) _ f
+    (Contains-append_left (request_findings plan.groups.items plan.flows.items plan.requests.items) _ f h)))))))
+
+silent_found : (plan : Plan) (f : Finding)
+    → Contains (pairs have_silent_address SilentAddress plan.units.items) f
+    ⊎ Contains (each (is_silent_in_pool plan.keep_free plan.strangers) SilentInPool 0 plan.units.items) f
+    → Contains (found plan) f
+unfolding silent_findings
+silent_found plan f h =
+    let addresses = pairs have_silent_address SilentAddress plan.units.items in
+    let in_pool = each (is_silent_in_pool plan.keep_free plan.strangers) SilentInPool 0 plan.units.items in
+    in_rest plan f (Contains-append_right (flow_findings plan.groups.items plan.flows.items) _ f
+    (Contains-append_right (kept_findings plan.keep_free plan.units.items) _ f
+    (Contains-append_right (unsent_findings plan.groups.items plan.flows.items) _ f
+    (Contains-append_right (record_findings plan.groups.items) _ f
+    (Contains-append_right (text_findings plan.groups.items) _ f
+    (Contains-append_right (need_findings plan.requests.items plan.flows.items plan.needs.items) _ f
+    (Contains-append_right (request_findings plan.groups.items plan.flows.items plan.requests.items) _ f
+    (elim h [ inl first ↦ Contains-append_left addresses in_pool f first | inr second ↦ Contains-append_right addresses in_pool f second ]))))))))
 
 of_group : (plan : Plan) (find : ℕ → GroupPlan → List Finding) (g : ℕ) (group : GroupPlan) (f : Finding)
     → slice_get plan.groups.items g ≡ Some group
@@ -117,6 +160,12 @@ of_three : (xs ys zs : List Finding) (f : Finding) → Contains xs f ⊎ (Contai
 of_three xs ys zs f (inl one) = Contains-append_left xs (ys ++ zs) f one
 of_three xs ys zs f (inr (inl two)) = Contains-append_right xs (ys ++ zs) f (Contains-append_left ys zs f two)
 of_three xs ys zs f (inr (inr three)) = Contains-append_right xs (ys ++ zs) f (Contains-append_right ys zs f three)
+
+-- in one of its four
+of_four : (xs ys zs us : List Finding) (f : Finding) → Contains xs f ⊎ (Contains ys f ⊎ (Contains zs f ⊎ Contains us f))
+    → Contains (xs ++ (ys ++ (zs ++ us))) f
+of_four xs ys zs us f (inl one) = Contains-append_left xs (ys ++ (zs ++ us)) f one
+of_four xs ys zs us f (inr more) = Contains-append_right xs (ys ++ (zs ++ us)) f (of_three ys zs us f more)
 
 unit_found : (plan : Plan) (f : Finding)
     → Contains (pairs have_same_name SameName plan.units.items) f
@@ -156,6 +205,22 @@ flow_found plan f h =
     let to_one = each (cannot_go_to_one plan.groups.items) FlowToOne 0 flows in
     in_flows plan f (of_three to_one (each goes_to_its_sender FlowToSelf 0 flows) (pairs are_one_flow FlowRepeated flows) f h)
 
+request_found : (plan : Plan) (f : Finding)
+    → Contains (each (goes_unanswered plan.flows.items) RequestUnanswered 0 plan.requests.items) f
+    ⊎ (Contains (each (goes_unheard plan.flows.items) RequestUnheard 0 plan.requests.items) f
+    ⊎ (Contains (each (is_answered_astray plan.groups.items plan.flows.items) AnswerAstray 0 plan.requests.items) f
+    ⊎ Contains (pairs (ask_the_same plan.groups.items) RequestRepeated plan.requests.items) f))
+    → Contains (found plan) f
+unfolding request_findings
+request_found plan f h =
+    let groups = plan.groups.items in
+    let flows = plan.flows.items in
+    let requests = plan.requests.items in
+    let unanswered = each (goes_unanswered flows) RequestUnanswered 0 requests in
+    let unheard = each (goes_unheard flows) RequestUnheard 0 requests in
+    let astray = each (is_answered_astray groups flows) AnswerAstray 0 requests in
+    in_requests plan f (of_four unanswered unheard astray (pairs (ask_the_same groups) RequestRepeated requests) f h)
+
 found_of : (plan : Plan) (f : Finding) → Holds plan f → Contains (found plan) f
 found_of plan (SameName i j) h = unit_found plan _ (inl (pairs_of HaveSameName Decides-have_same_name SameName plan.units.items i j h))
 found_of plan (SameFixedAddress i j) h =
@@ -192,7 +257,26 @@ found_of plan (RecordOverlap g s t) h =
 found_of plan (TextOutside g t) h =
     text_found plan _ (of_group plan outside_text_findings g h.value (TextOutside g t) h.value_is
     (each_of (IsOutside h.value) (Decides-lies_outside h.value) (TextOutside g) h.value.texts.items t h.meets))
-found_of plan (NeedUnmet n) h = need_found plan _ (each_of (IsUnmet plan.flows.items) (Decides-is_unmet plan.flows.items) NeedUnmet plan.needs.items n h)
+found_of plan (NeedUnmet n) h =
+    need_found plan _ (each_of (IsUnmet plan.requests.items plan.flows.items) (Decides-is_unmet plan.requests.items plan.flows.items)
+    NeedUnmet plan.needs.items n h)
+found_of plan (RequestUnanswered r) h =
+    request_found plan _ (inl (each_of (GoesUnanswered plan.flows.items) (Decides-goes_unanswered plan.flows.items) RequestUnanswered
+    plan.requests.items r h))
+found_of plan (RequestUnheard r) h =
+    request_found plan _ (inr (inl (each_of (GoesUnheard plan.flows.items) (Decides-goes_unheard plan.flows.items) RequestUnheard
+    plan.requests.items r h)))
+found_of plan (AnswerAstray r) h =
+    request_found plan _ (inr (inr (inl (each_of (IsAnsweredAstray plan.groups.items plan.flows.items)
+    (Decides-is_answered_astray plan.groups.items plan.flows.items) AnswerAstray plan.requests.items r h))))
+found_of plan (RequestRepeated r s) h =
+    request_found plan _ (inr (inr (inr (pairs_of (AskTheSame plan.groups.items) (Decides-ask_the_same plan.groups.items) RequestRepeated
+    plan.requests.items r s h))))
+found_of plan (SilentAddress u v) h =
+    silent_found plan _ (inl (pairs_of HaveSilentAddress Decides-have_silent_address SilentAddress plan.units.items u v h))
+found_of plan (SilentInPool u) h =
+    silent_found plan _ (inr (each_of (IsSilentInPool plan.keep_free plan.strangers) (Decides-is_silent_in_pool plan.keep_free plan.strangers) SilentInPool
+    plan.units.items u h))
 found_of plan (FlowRepeated f k) h = flow_found plan _ (inr (inr (pairs_of AreOneFlow Decides-are_one_flow FlowRepeated plan.flows.items f k h)))
 
 pub are_findings : (plan : Plan) → AreFindings plan (found plan)

@@ -2,6 +2,7 @@
 use Rattle.std.specs.Prelude.{◌≡◌, ◌≢◌, ℕ, true, false, ◌+◌, ◌*◌, ◌<◌, ◌≤◌, ◌↔◌, ◌⊎◌, unwrap_or, All, AllPairs, Contains}
 use Rattle.std.specs.FinSet.{contains}
 use Rattle.j39_claim.specs.AddressSets.{free_count}
+use Rattle.j39_id.specs.Addresses.{in_pool}
 use Rattle.j39_id.specs.Name.{is_arbitrary}
 use Rattle.j39_id.specs.Pgn.{IsPgn, extended_page}
 use Rattle.j39_id.specs.Services.{service_groups}
@@ -10,15 +11,25 @@ use Rattle.j39_findings.specs.ListPlaces.{ValueAt, SomeMeets}
 use Rattle.j39_findings.specs.Records.{record_count}
 use Rattle.j39_findings.specs.TextPlaces.{last_byte}
 use Rattle.j39_findings.specs.Findings.{IsFixed, AreNeeded, IsProprietary, IsToOne, IsOneFrameToAll, AreOneFlow, Sends, AreSentTogether, Meets}
+use Rattle.j39_findings.specs.Findings.{AskTheSame, AsksAll, AsksOne, IsServed, IsServedToAll, IsServedToOne, MayNameReceiver}
 use Rattle.j39_findings.specs.declared.plan.Plan.{Plan}
 use Rattle.j39_findings.specs.declared.plan.group_plan.GroupPlan.{GroupPlan}
+use Rattle.j39_findings.specs.declared.plan.request_plan.RequestPlan.{RequestPlan}
 use Rattle.j39_findings.specs.declared.plan.text_plan.TextPlan.{TextPlan}
 use Rattle.j39_findings.specs.declared.plan.unit_plan.UnitPlan.{UnitPlan}
 use Rattle.j39_findings.specs.declared.plan.to.To.TheVariants.{One}
 
--- two units that never move have two addresses
+-- two units that claim and never move have two addresses
 abbrev pub HoldApart : UnitPlan → UnitPlan → Type 0
-HoldApart u v = IsFixed u → IsFixed v → u.address ≢ v.address
+HoldApart u v = IsFixed u → IsFixed v → u.claims ≡ true → v.claims ≡ true → u.address ≢ v.address
+
+-- a unit that never claims has an address to itself: no other one is planned there, and none moves there
+abbrev pub IsApartFromSilent : UnitPlan → UnitPlan → Type 0
+IsApartFromSilent u v = ((u.claims ≡ false) ⊎ (v.claims ≡ false)) → u.address ≢ v.address
+
+pub record IsUnreached (plan : Plan) (u : UnitPlan) : Type 0 where
+  pub kept : in_pool u.address ≡ true → contains plan.keep_free u.address ≡ true
+  pub known : in_pool u.address ≡ true → plan.strangers ≡ 0
 
 -- a group of one data page that is no service of the network, and a maker's own exactly where it is private
 pub record CanBePlanned (g : GroupPlan) : Type 0 where
@@ -49,6 +60,12 @@ pub record LiesInside (g : GroupPlan) (t : TextPlan) : Type 0 where
   pub begins : t.byte ≤ g.length + 1
   pub ends : last_byte t ≤ g.most
 
+-- where one unit is asked, for a group whose messages can name a receiver, some flow answers to one unit, and where all are asked, some answers
+-- to all
+pub record IsAnsweredWell (plan : Plan) (r : RequestPlan) : Type 0 where
+  pub to_one : AsksOne r → MayNameReceiver plan.groups.items r → IsServedToOne plan.flows.items r
+  pub to_all : AsksAll r → IsServedToAll plan.flows.items r
+
 pub record CleanParts (plan : Plan) : Type 0 where
   pub names : AllPairs (λ u v. u.name ≢ v.name) plan.units.items
   pub fixed_addresses : AllPairs HoldApart plan.units.items
@@ -63,4 +80,9 @@ pub record CleanParts (plan : Plan) : Type 0 where
   pub sent : All (λ g. g.private ≡ true → SomeMeets (Sends plan.groups.items g) plan.flows.items) plan.groups.items
   pub records : All HasBitsOnce plan.groups.items
   pub texts : All (λ g. All (LiesInside g) g.texts.items) plan.groups.items
-  pub needs : All (λ d. SomeMeets (Meets d) plan.flows.items) plan.needs.items
+  pub needs : All (λ d. SomeMeets (Meets plan.requests.items d) plan.flows.items) plan.needs.items
+  pub requests : All (IsServed plan.flows.items) plan.requests.items
+  pub answers : All (IsAnsweredWell plan) plan.requests.items
+  pub asked_once : AllPairs (λ r s. ¬ AskTheSame plan.groups.items r s) plan.requests.items
+  pub silent_addresses : AllPairs IsApartFromSilent plan.units.items
+  pub unreached : All (λ u. u.claims ≡ false → IsUnreached plan u) plan.units.items

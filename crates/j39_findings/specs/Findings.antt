@@ -1,10 +1,11 @@
--- What can be wrong with a plan: each finding as a plain statement on its units, groups, signals, flows and needs, by their
+-- What can be wrong with a plan: each finding as a plain statement on its units, groups, signals, flows, needs and requests, by their
 -- places from 0 (addresses and NAMEs: SAE J1939-81; groups and their destinations: SAE J1939-21; signals: SAE J1939-71).
 use Rattle.std.specs.Prelude.{◌≡◌, ◌≢◌, ℕ, ◌+◌, ◌*◌, ◌<◌, ◌≤◌, ◌⊎◌, List, [], ◌∷◌, Some}
 use Rattle.std.specs.Prelude.{true, false, Contains, AllPairs}
 use Rattle.std.specs.FinSet.{FinSet, contains}
 use Rattle.std.specs.Ordering.{nat_cmp}
 use Rattle.j39_claim.specs.AddressSets.{IsFreeIn, free_count}
+use Rattle.j39_id.specs.Addresses.{in_pool}
 use Rattle.j39_id.specs.Limits.{frame_bytes}
 use Rattle.j39_id.specs.Name.{is_arbitrary}
 use Rattle.j39_id.specs.Pgn.{IsPgn, extended_page, pdu2_first, pf_of}
@@ -21,11 +22,14 @@ use Rattle.j39_findings.specs.declared.plan.unit_plan.UnitPlan.{UnitPlan}
 use Rattle.j39_findings.specs.declared.plan.group_plan.GroupPlan.{GroupPlan}
 use Rattle.j39_findings.specs.declared.plan.flow_plan.FlowPlan.{FlowPlan}
 use Rattle.j39_findings.specs.declared.plan.need_plan.NeedPlan.{NeedPlan}
+use Rattle.j39_findings.specs.declared.plan.request_plan.RequestPlan.{RequestPlan}
 use Rattle.j39_findings.specs.declared.plan.text_plan.TextPlan.{TextPlan}
 use Rattle.j39_findings.specs.declared.plan.to.To.TheVariants.{All, One}
 use Rattle.j39_findings.specs.declared.checking.finding.Finding.{Finding}
 use Rattle.j39_findings.specs.declared.checking.finding.Finding.TheVariants.{SameName, SameFixedAddress, TooFewAddresses, BadPgn, SamePgn, SignalWidth}
 use Rattle.j39_findings.specs.declared.checking.finding.Finding.TheVariants.{SignalOutside, SignalOverlap, FlowToOne, FlowToSelf, FlowRepeated, KeptAddress, PrivateUnsent, RecordOverlap, TextOutside, NeedUnmet}
+use Rattle.j39_findings.specs.declared.checking.finding.Finding.TheVariants.{RequestUnanswered, RequestUnheard, AnswerAstray, RequestRepeated}
+use Rattle.j39_findings.specs.declared.checking.finding.Finding.TheVariants.{SilentAddress, SilentInPool}
 
 -- ---- units
 
@@ -36,8 +40,9 @@ IsFixed unit = is_arbitrary unit.name ≡ false
 abbrev pub HaveSameName : UnitPlan → UnitPlan → Type 0
 HaveSameName u v = u.name ≡ v.name
 
+-- two of those claim one address
 abbrev pub HaveSameFixedAddress : UnitPlan → UnitPlan → Type 0
-HaveSameFixedAddress u v = IsFixed u × IsFixed v × (u.address ≡ v.address)
+HaveSameFixedAddress u v = IsFixed u × IsFixed v × (u.address ≡ v.address) × (u.claims ≡ true) × (v.claims ≡ true)
 
 -- a unit that needs an address of the pool that isn't kept free: an arbitrary one may have to move to any of them, a fixed one may
 -- have its own there
@@ -52,6 +57,16 @@ AreNeeded plan n = (m : ℕ) × SoManyMeet (NeedsPoolAddress plan.keep_free) pla
 -- an arbitrary unit that prefers an address that is kept free
 abbrev pub PrefersKept : FinSet nat_cmp → UnitPlan → Type 0
 PrefersKept kept unit = (is_arbitrary unit.name ≡ true) × (contains kept unit.address ≡ true)
+
+-- two units have one address, and not both of them claim it: neither hears that the other one is there
+abbrev pub HaveSilentAddress : UnitPlan → UnitPlan → Type 0
+HaveSilentAddress u v = (u.address ≡ v.address) × ((u.claims ≡ false) ⊎ (v.claims ≡ false))
+
+-- a unit that never claims has an address to which others may move: one of the pool, which isn't kept free, or which strangers, that don't
+-- know what is, may take
+abbrev pub IsSilentInPool : FinSet nat_cmp → ℕ → UnitPlan → Type 0
+IsSilentInPool kept strangers unit =
+    (unit.claims ≡ false) × (in_pool unit.address ≡ true) × ((contains kept unit.address ≡ false) ⊎ (0 < strangers))
 
 -- ---- groups
 
@@ -149,18 +164,76 @@ pub record HasRecordsOver (group : GroupPlan) (i j : ℕ) : Type 0 where
   pub second_is : slice_get group.signals.items j ≡ Some second
   pub meet : DoRecordsMeet every (record_count group group.most) i j first second
 
+-- ---- requests
+
+-- the flow answers the request: it sends the group that is asked for, comes from another unit than the one that asks, which is the one that
+-- is asked where only one is, and goes to the one that asks or to all (SAE J1939-21, requests)
+pub record Serves (request : RequestPlan) (flow : FlowPlan) : Type 0 where
+  pub group : flow.group ≡ request.group
+  pub other : flow.sender ≢ request.sender
+  pub asked : (request.to ≡ All) ⊎ (request.to ≡ One flow.sender)
+  pub reaches : (flow.to ≡ All) ⊎ (flow.to ≡ One request.sender)
+
+-- some flow answers it, some that goes to one unit, some that goes to all
+abbrev pub IsServed : List FlowPlan → RequestPlan → Type 0
+IsServed flows request = SomeMeets (Serves request) flows
+
+abbrev pub IsServedToOne : List FlowPlan → RequestPlan → Type 0
+IsServedToOne flows request = SomeMeets (λ flow. Serves request flow × IsToOne flow) flows
+
+abbrev pub IsServedToAll : List FlowPlan → RequestPlan → Type 0
+IsServedToAll flows request = SomeMeets (λ flow. Serves request flow × (flow.to ≡ All)) flows
+
+abbrev pub AsksOne : RequestPlan → Type 0
+AsksOne request = (unit : ℕ) × (request.to ≡ One unit)
+
+abbrev pub AsksAll : RequestPlan → Type 0
+AsksAll request = request.to ≡ All
+
+-- the one unit that is asked would refuse
+abbrev pub GoesUnanswered : List FlowPlan → RequestPlan → Type 0
+GoesUnanswered flows request = AsksOne request × (¬ IsServed flows request)
+
+-- of all that are asked none would answer
+abbrev pub GoesUnheard : List FlowPlan → RequestPlan → Type 0
+GoesUnheard flows request = AsksAll request × (¬ IsServed flows request)
+
+-- some message of the group asked for can name a receiver
+abbrev pub MayNameReceiver : List GroupPlan → RequestPlan → Type 0
+MayNameReceiver groups request = ValueAt (λ group. ¬ IsOneFrameToAll group) groups request.group
+
+-- where one unit is asked, for a group whose messages can name a receiver, those that answer go to all; where all are asked, those that
+-- answer go to one unit each (SAE J1939-21: one is answered to one, all are answered to all)
+abbrev pub IsAnsweredAstray : List GroupPlan → List FlowPlan → RequestPlan → Type 0
+IsAnsweredAstray groups flows request =
+    (AsksOne request × MayNameReceiver groups request × IsServedToAll flows request × (¬ IsServedToOne flows request))
+    ⊎ (AsksAll request × IsServedToOne flows request × (¬ IsServedToAll flows request))
+
+-- both ask for groups of one number
+abbrev pub AskForOneNumber : List GroupPlan → RequestPlan → RequestPlan → Type 0
+AskForOneNumber groups r s = ValueAt (λ g. ValueAt (λ h. g.pgn ≡ h.pgn) groups s.group) groups r.group
+
+-- on the bus they are one: a request names a number, who asks, and who is asked
+abbrev pub AskTheSame : List GroupPlan → RequestPlan → RequestPlan → Type 0
+AskTheSame groups r s = AskForOneNumber groups r s × (r.sender ≡ s.sender) × (r.to ≡ s.to)
+
 -- ---- needs
 
--- the flow brings the need's unit what it needs: it goes to this unit or to all, and comes from another one, which is the need's where it
--- names one
-pub record Meets (need : NeedPlan) (flow : FlowPlan) : Type 0 where
+-- a flow that is sent only as an answer comes where some request is there that it serves; any other comes by itself
+abbrev pub IsAskedFor : List RequestPlan → FlowPlan → Type 0
+IsAskedFor requests flow = flow.on_request ≡ true → SomeMeets (λ request. Serves request flow) requests
+
+-- the flow brings the need's unit what it needs: it goes to this unit or to all, comes from another one, which is the need's where it
+-- names one, and is asked for where it has to be
+pub record Meets (requests : List RequestPlan) (need : NeedPlan) (flow : FlowPlan) : Type 0 where
   pub group : flow.group ≡ need.group
   pub other : flow.sender ≢ need.unit
   pub from : (u : ℕ) → need.from ≡ Some u → flow.sender ≡ u
   pub reaches : (flow.to ≡ All) ⊎ (flow.to ≡ One need.unit)
+  pub comes : IsAskedFor requests flow
 
-abbrev pub IsUnmet : List FlowPlan → NeedPlan → Type 0
-IsUnmet flows need = ¬ SomeMeets (Meets need) flows
+abbrev pub IsUnmet : List RequestPlan → List FlowPlan → NeedPlan → Type 0
+IsUnmet requests flows need = ¬ SomeMeets (Meets requests need) flows
 
 -- ---- the findings
 
@@ -181,7 +254,13 @@ Holds plan (KeptAddress i) = ValueAt (PrefersKept plan.keep_free) plan.units.ite
 Holds plan (PrivateUnsent g) = ValueAt (IsPrivateUnsent plan.groups.items plan.flows.items) plan.groups.items g
 Holds plan (RecordOverlap g s t) = ValueAt (λ group. HasRecordsOver group s t) plan.groups.items g
 Holds plan (TextOutside g t) = ValueAt (λ group. ValueAt (IsOutside group) group.texts.items t) plan.groups.items g
-Holds plan (NeedUnmet n) = ValueAt (IsUnmet plan.flows.items) plan.needs.items n
+Holds plan (NeedUnmet n) = ValueAt (IsUnmet plan.requests.items plan.flows.items) plan.needs.items n
+Holds plan (RequestUnanswered r) = ValueAt (GoesUnanswered plan.flows.items) plan.requests.items r
+Holds plan (RequestUnheard r) = ValueAt (GoesUnheard plan.flows.items) plan.requests.items r
+Holds plan (AnswerAstray r) = ValueAt (IsAnsweredAstray plan.groups.items plan.flows.items) plan.requests.items r
+Holds plan (RequestRepeated r s) = PairAt (AskTheSame plan.groups.items) plan.requests.items r s
+Holds plan (SilentAddress u v) = PairAt HaveSilentAddress plan.units.items u v
+Holds plan (SilentInPool u) = ValueAt (IsSilentInPool plan.keep_free plan.strangers) plan.units.items u
 
 -- nothing is wrong with the plan
 abbrev pub Clean : Plan → Type 0
@@ -207,6 +286,12 @@ finding_number (PrivateUnsent g) = 13
 finding_number (RecordOverlap g s t) = 14
 finding_number (TextOutside g t) = 15
 finding_number (NeedUnmet n) = 19
+finding_number (RequestUnanswered r) = 21
+finding_number (RequestUnheard r) = 22
+finding_number (AnswerAstray r) = 23
+finding_number (RequestRepeated r s) = 25
+finding_number (SilentAddress u v) = 26
+finding_number (SilentInPool u) = 27
 
 -- the places that it names
 abbrev pub places_of : Finding → List ℕ
@@ -226,6 +311,12 @@ places_of (PrivateUnsent g) = g ∷ []
 places_of (RecordOverlap g s t) = g ∷ s ∷ t ∷ []
 places_of (TextOutside g t) = g ∷ t ∷ []
 places_of (NeedUnmet n) = n ∷ []
+places_of (RequestUnanswered r) = r ∷ []
+places_of (RequestUnheard r) = r ∷ []
+places_of (AnswerAstray r) = r ∷ []
+places_of (RequestRepeated r s) = r ∷ s ∷ []
+places_of (SilentAddress u v) = u ∷ v ∷ []
+places_of (SilentInPool u) = u ∷ []
 
 -- the first place in which two lists differ is smaller in the first list
 abbrev pub IsBelow : List ℕ → List ℕ → Type 0

@@ -1,5 +1,5 @@
 -- The findings of a plan as a list: a test for each statement, and the list of all that pass.
-use Rattle.std.specs.Prelude.{ℕ, ◌+◌, ◌-◌, ◌*◌, ◌/◌, max, min, List, [], ◌++◌, Bool, true, false, not, ◌&&◌, ◌||◌, ◌==◌, nat_le, nat_lt, if◌then◌else◌, count_by, Option, Some, None}
+use Rattle.std.specs.Prelude.{ℕ, ◌+◌, ◌-◌, ◌*◌, ◌/◌, List, [], ◌++◌, Bool, true, false, not, ◌&&◌, ◌||◌, ◌==◌, nat_le, nat_lt, if◌then◌else◌, count_by, Option, Some, None}
 use Rattle.std.specs.List.{slice_get, list_any}
 use Rattle.std.specs.Option.{option_map_or}
 use Rattle.std.specs.Str.{bytes_eq}
@@ -22,12 +22,15 @@ use Rattle.j39_findings.specs.declared.plan.unit_plan.UnitPlan.{UnitPlan}
 use Rattle.j39_findings.specs.declared.plan.group_plan.GroupPlan.{GroupPlan}
 use Rattle.j39_findings.specs.declared.plan.flow_plan.FlowPlan.{FlowPlan}
 use Rattle.j39_findings.specs.declared.plan.need_plan.NeedPlan.{NeedPlan}
+use Rattle.j39_findings.specs.declared.plan.request_plan.RequestPlan.{RequestPlan}
 use Rattle.j39_findings.specs.declared.plan.text_plan.TextPlan.{TextPlan}
 use Rattle.j39_findings.specs.declared.plan.to.To.{To}
 use Rattle.j39_findings.specs.declared.plan.to.To.TheVariants.{All, One}
 use Rattle.j39_findings.specs.declared.checking.finding.Finding.{Finding}
 use Rattle.j39_findings.specs.declared.checking.finding.Finding.TheVariants.{SameName, SameFixedAddress, TooFewAddresses, BadPgn, SamePgn, SignalWidth}
 use Rattle.j39_findings.specs.declared.checking.finding.Finding.TheVariants.{SignalOutside, SignalOverlap, FlowToOne, FlowToSelf, FlowRepeated, KeptAddress, PrivateUnsent, RecordOverlap, TextOutside, NeedUnmet}
+use Rattle.j39_findings.specs.declared.checking.finding.Finding.TheVariants.{RequestUnanswered, RequestUnheard, AnswerAstray, RequestRepeated}
+use Rattle.j39_findings.specs.declared.checking.finding.Finding.TheVariants.{SilentAddress, SilentInPool}
 
 -- ---- units
 
@@ -38,7 +41,7 @@ abbrev pub is_fixed : UnitPlan → Bool
 is_fixed unit = not (is_arbitrary unit.name)
 
 abbrev pub have_same_fixed_address : UnitPlan → UnitPlan → Bool
-have_same_fixed_address u v = is_fixed u && (is_fixed v && u.address == v.address)
+have_same_fixed_address u v = is_fixed u && (is_fixed v && (u.address == v.address && (u.claims && v.claims)))
 
 -- whether a unit needs an address of the pool that isn't kept free, and how many are needed
 abbrev pub needs_pool_address : FinSet nat_cmp → UnitPlan → Bool
@@ -209,24 +212,97 @@ unfoldable pub flow_findings : List GroupPlan → List FlowPlan → List Finding
 flow_findings groups flows =
     each (cannot_go_to_one groups) FlowToOne 0 flows ++ (each goes_to_its_sender FlowToSelf 0 flows ++ pairs are_one_flow FlowRepeated flows)
 
+-- ---- requests
+
+abbrev pub is_reached : To → ℕ → Bool
+is_reached to unit = not (is_to_one to) || is_to to unit
+
+abbrev pub serves : RequestPlan → FlowPlan → Bool
+serves request flow =
+    flow.group == request.group
+    && (not (flow.sender == request.sender) && (is_reached request.to flow.sender && is_reached flow.to request.sender))
+
+abbrev pub is_served : List FlowPlan → RequestPlan → Bool
+is_served flows request = list_any (serves request) flows
+
+abbrev pub serves_one : RequestPlan → FlowPlan → Bool
+serves_one request flow = serves request flow && is_to_one flow.to
+
+abbrev pub serves_all : RequestPlan → FlowPlan → Bool
+serves_all request flow = serves request flow && not (is_to_one flow.to)
+
+abbrev pub is_served_to_one : List FlowPlan → RequestPlan → Bool
+is_served_to_one flows request = list_any (serves_one request) flows
+
+abbrev pub is_served_to_all : List FlowPlan → RequestPlan → Bool
+is_served_to_all flows request = list_any (serves_all request) flows
+
+abbrev pub goes_unanswered : List FlowPlan → RequestPlan → Bool
+goes_unanswered flows request = is_to_one request.to && not (is_served flows request)
+
+abbrev pub goes_unheard : List FlowPlan → RequestPlan → Bool
+goes_unheard flows request = not (is_to_one request.to) && not (is_served flows request)
+
+abbrev pub may_name_receiver : List GroupPlan → RequestPlan → Bool
+may_name_receiver groups request = is_group_of (λ group. not (is_one_frame_to_all group)) (slice_get groups request.group)
+
+-- one is asked, and it is answered to all only; or all are asked, and answered to one each only
+abbrev pub is_one_astray : List GroupPlan → List FlowPlan → RequestPlan → Bool
+is_one_astray groups flows request =
+    is_to_one request.to && (may_name_receiver groups request && (is_served_to_all flows request && not (is_served_to_one flows request)))
+
+abbrev pub is_all_astray : List FlowPlan → RequestPlan → Bool
+is_all_astray flows request = not (is_to_one request.to) && (is_served_to_one flows request && not (is_served_to_all flows request))
+
+abbrev pub is_answered_astray : List GroupPlan → List FlowPlan → RequestPlan → Bool
+is_answered_astray groups flows request = is_one_astray groups flows request || is_all_astray flows request
+
+abbrev pub ask_for_one_number : List GroupPlan → RequestPlan → RequestPlan → Bool
+ask_for_one_number groups r s = is_group_of (λ g. is_group_of (λ h. g.pgn == h.pgn) (slice_get groups s.group)) (slice_get groups r.group)
+
+abbrev pub ask_the_same : List GroupPlan → RequestPlan → RequestPlan → Bool
+ask_the_same groups r s = ask_for_one_number groups r s && (r.sender == s.sender && have_same_receiver r.to s.to)
+
+unfoldable pub request_findings : List GroupPlan → List FlowPlan → List RequestPlan → List Finding
+request_findings groups flows requests =
+    each (goes_unanswered flows) RequestUnanswered 0 requests
+    ++ (each (goes_unheard flows) RequestUnheard 0 requests
+    ++ (each (is_answered_astray groups flows) AnswerAstray 0 requests ++ pairs (ask_the_same groups) RequestRepeated requests))
+
 -- ---- needs that no flow meets
 
 abbrev pub is_from : Option ℕ → ℕ → Bool
 is_from None sender = true
 is_from (Some unit) sender = sender == unit
 
-abbrev pub is_reached : To → ℕ → Bool
-is_reached to unit = not (is_to_one to) || is_to to unit
+abbrev pub serves_some : List RequestPlan → FlowPlan → Bool
+serves_some requests flow = list_any (λ request. serves request flow) requests
 
-abbrev pub meets : NeedPlan → FlowPlan → Bool
-meets need flow =
-    flow.group == need.group && (not (flow.sender == need.unit) && (is_from need.from flow.sender && is_reached flow.to need.unit))
+abbrev pub is_asked_for : List RequestPlan → FlowPlan → Bool
+is_asked_for requests flow = not flow.on_request || serves_some requests flow
 
-abbrev pub is_unmet : List FlowPlan → NeedPlan → Bool
-is_unmet flows need = not (list_any (meets need) flows)
+abbrev pub meets : List RequestPlan → NeedPlan → FlowPlan → Bool
+meets requests need flow =
+    flow.group == need.group
+    && (not (flow.sender == need.unit)
+    && (is_from need.from flow.sender && (is_reached flow.to need.unit && is_asked_for requests flow)))
 
-unfoldable pub need_findings : List FlowPlan → List NeedPlan → List Finding
-need_findings flows needs = each (is_unmet flows) NeedUnmet 0 needs
+abbrev pub is_unmet : List RequestPlan → List FlowPlan → NeedPlan → Bool
+is_unmet requests flows need = not (list_any (meets requests need) flows)
+
+unfoldable pub need_findings : List RequestPlan → List FlowPlan → List NeedPlan → List Finding
+need_findings requests flows needs = each (is_unmet requests flows) NeedUnmet 0 needs
+
+-- ---- units that never claim
+
+abbrev pub have_silent_address : UnitPlan → UnitPlan → Bool
+have_silent_address u v = u.address == v.address && not (u.claims && v.claims)
+
+abbrev pub is_silent_in_pool : FinSet nat_cmp → ℕ → UnitPlan → Bool
+is_silent_in_pool kept strangers unit = not unit.claims && (in_pool unit.address && (not (contains kept unit.address) || nat_lt 0 strangers))
+
+unfoldable pub silent_findings : FinSet nat_cmp → ℕ → List UnitPlan → List Finding
+silent_findings kept strangers units = pairs have_silent_address SilentAddress units ++ each (is_silent_in_pool kept strangers) SilentInPool 0 units
 
 -- ---- the whole list
 
@@ -235,4 +311,7 @@ found plan =
     unit_findings plan.keep_free plan.strangers plan.units.items ++ (group_findings plan.groups.items plan.flows.items ++ (signal_findings plan.groups.items
     ++ (flow_findings plan.groups.items plan.flows.items ++ (kept_findings plan.keep_free plan.units.items
     ++ (unsent_findings plan.groups.items plan.flows.items
-    ++ (record_findings plan.groups.items ++ (text_findings plan.groups.items ++ need_findings plan.flows.items plan.needs.items)))))))
+    ++ (record_findings plan.groups.items ++ (text_findings plan.groups.items
+    ++ (need_findings plan.requests.items plan.flows.items plan.needs.items
+    ++ (request_findings plan.groups.items plan.flows.items plan.requests.items
+    ++ silent_findings plan.keep_free plan.strangers plan.units.items)))))))))

@@ -13,6 +13,7 @@ pub mod PlannedGroups
 pub mod PrivateGroups
 pub mod Records
 pub mod Refused
+pub mod Requests
 pub mod SoundSignals
 pub mod TextPlaces
 pub mod WithoutRecords

@@ -7,7 +7,7 @@ use Rattle.j39_findings.specs.declared.checking.finding.Finding.TheVariants.{Nee
 
 -- some flow brings each unit what it needs
 abbrev pub AreNeedsMet : Plan → Type 0
-AreNeedsMet plan = All (λ need. SomeMeets (Meets need) plan.flows.items) plan.needs.items
+AreNeedsMet plan = All (λ need. SomeMeets (Meets plan.requests.items need) plan.flows.items) plan.needs.items
 
 -- of a plan without needs F19 says nothing
 abbrev pub IsWithoutNeeds : Plan → Type 0

@@ -12,8 +12,10 @@ mod needs;
 mod private;
 mod records;
 mod refused;
+mod requests;
 mod rules;
 mod signals;
+mod silent;
 mod texts;
 mod units;
 
@@ -28,7 +30,10 @@ pub use needs::{is_met, meets};
 use private::find_unsent;
 use records::find_in_records;
 pub use refused::{Refused, RefusedCause};
+use requests::find_in_requests;
+pub use requests::{is_asked_for, is_served, serves};
 use signals::find_in_signals;
+use silent::find_silent;
 use std::alloc::{AllocError, Global};
 use texts::find_in_texts;
 use units::find_in_units;
@@ -50,6 +55,8 @@ pub fn check(alloc: Global, plan: &Plan) -> Result<Findings, AllocError>
     find_unsent(&mut findings, &plan.groups, &plan.flows)?;
     find_in_records(&mut findings, &plan.groups)?;
     find_in_texts(&mut findings, &plan.groups)?;
-    find_in_needs(&mut findings, &plan.flows, &plan.needs)?;
+    find_in_needs(&mut findings, &plan.requests, &plan.flows, &plan.needs)?;
+    find_in_requests(&mut findings, &plan.groups, &plan.flows, &plan.requests)?;
+    find_silent(&mut findings, &plan.keep_free, plan.strangers, &plan.units)?;
     Ok(findings)
 }

@@ -13,6 +13,8 @@ fn are_in_conflict(first: &UnitPlan, second: &UnitPlan) -> bool
     !first.name.is_arbitrary()
         && !second.name.is_arbitrary()
         && first.address == second.address
+        && first.claims
+        && second.claims
         && first.name != second.name
 }
 

@@ -6,6 +6,7 @@ mod lengths;
 mod needs;
 mod private_groups;
 mod records;
+mod requests;
 mod signals;
 mod texts;
 
@@ -15,5 +16,6 @@ pub use lengths::plans_of_one_length_each;
 pub use needs::{needs_are_met, plans_without_needs};
 pub use private_groups::{one_group_fits, plans_without_private_groups};
 pub use records::{plans_without_records, records_are_counted};
+pub use requests::{plans_without_requests, requests_are_served};
 pub use signals::signals_are_sound;
 pub use texts::plans_without_texts;

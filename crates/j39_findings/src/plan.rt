@@ -3,14 +3,16 @@ ghost use Rattle.std.specs.Prelude.{◌≡◌, ◌≢◌, ℕ, true, ◌<◌, �
 ghost use Rattle.std.specs.FinSet.{contains};
 ghost use Rattle.j39_id.specs.Addresses.{in_pool, pool_size};
 ghost use Rattle.j39_id.specs.Limits.{unit_limit};
-ghost use Rattle.j39_findings.specs.PlanLimits.{flow_limit, group_limit, need_limit};
+ghost use Rattle.j39_findings.specs.PlanLimits.{flow_limit, group_limit, need_limit, request_limit};
 ghost use Rattle.j39_findings.specs.NeedPlaces.{signal_count};
 ghost use Rattle.j39_findings.specs.declared.plan.to.To.TheVariants.{One};
 
 mod flow_plan;
 mod group_plan;
+mod meaning;
 mod need_plan;
 mod pace;
+mod request_plan;
 mod text_places;
 mod text_plan;
 mod timing;
@@ -21,15 +23,18 @@ mod way;
 pub use flow_plan::FlowPlan;
 pub use group_plan::GroupPlan;
 use j39_claim::AddressSet;
+pub use meaning::{Meaning, ValueName};
 pub use need_plan::NeedPlan;
 pub use pace::Pace;
+pub use request_plan::RequestPlan;
 pub use text_plan::TextPlan;
 pub use timing::{Bitrate, ErrorRate, Timing};
 pub use to::To;
 pub use unit_plan::UnitPlan;
 pub use way::Way;
 
-/// A plan of a network: at most 128 units, 256 groups, 512 flows and 4096 needs, named by their places from 0.
+/// A plan of a network: at most 128 units, 256 groups, 512 flows, 4096 needs and 512 requests, named by their places from
+/// 0.
 /// No two units have one label, and no two groups.
 #[derive(Debug, Drop)]
 pub struct Plan {
@@ -43,12 +48,14 @@ pub struct Plan {
     pub groups: Vec<GroupPlan>,
     pub flows: Vec<FlowPlan>,
     pub needs: Vec<NeedPlan>,
+    pub requests: Vec<RequestPlan>,
     pub ghost keep_free_range: { (a : ℕ) → contains keep_free a ≡ true → in_pool a ≡ true },
     pub ghost strangers_range: { strangers ≤ pool_size },
     pub ghost unit_count: { length units.items ≤ unit_limit },
     pub ghost group_count: { length groups.items ≤ group_limit },
     pub ghost flow_count: { length flows.items ≤ flow_limit },
     pub ghost need_count: { length needs.items ≤ need_limit },
+    pub ghost request_count: { length requests.items ≤ request_limit },
     pub ghost unit_labels: { AllPairs (λ u w. u.label.bytes ≢ w.label.bytes) units.items },
     pub ghost group_labels: { AllPairs (λ g h. g.label.bytes ≢ h.label.bytes) groups.items },
     pub ghost flow_groups: { All (λ f. f.group < length groups.items) flows.items },
@@ -58,4 +65,7 @@ pub struct Plan {
     pub ghost need_groups: { All (λ d. d.group < length groups.items) needs.items },
     pub ghost need_signals: { All (λ d. (s : ℕ) → d.signal ≡ Some s → s < signal_count groups.items d.group) needs.items },
     pub ghost need_senders: { All (λ d. (u : ℕ) → d.from ≡ Some u → u < length units.items) needs.items },
+    pub ghost request_groups: { All (λ d. d.group < length groups.items) requests.items },
+    pub ghost request_senders: { All (λ d. d.sender < length units.items) requests.items },
+    pub ghost request_receivers: { All (λ d. (r : ℕ) → d.to ≡ One r → r < length units.items) requests.items },
 }

@@ -13,6 +13,8 @@ pub enum Step {
     Ask(usize),
     /// The sender of the flow at this place begins to send these bytes.
     Begin(usize, Vec<u8>),
+    /// The sender of the flow at this place sends these bytes at once, in one frame, beside whatever message it sends or receives.
+    Send(usize, Vec<u8>),
     /// The unit sends the next data packet of its message.
     Emit(usize),
     /// The second unit takes the oldest transport frame of the first that it has not taken yet.

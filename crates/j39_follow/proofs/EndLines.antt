@@ -7,6 +7,7 @@ use Rattle.j39_findings.specs.declared.plan.Plan.{Plan}
 use Rattle.j39_findings.specs.declared.plan.flow_plan.FlowPlan.{FlowPlan}
 use Rattle.j39_findings.specs.declared.plan.group_plan.GroupPlan.{GroupPlan}
 use Rattle.j39_findings.specs.declared.plan.need_plan.NeedPlan.{NeedPlan}
+use Rattle.j39_findings.specs.declared.plan.request_plan.RequestPlan.{RequestPlan}
 use Rattle.j39_findings.specs.declared.plan.unit_plan.UnitPlan.{UnitPlan}
 use Rattle.j39_follow.specs.FollowText.{AreUnitLines, IsUnitLine, flow_end, flow_ends, group_end, group_ends, is_of_flow, is_without_flow, others_of_number, rest_line, flow_sent_line}
 use Rattle.j39_follow.specs.FollowText.{met_by, need_end, need_ends, need_met_line, times_met}
@@ -51,7 +52,7 @@ unfolding need_ends
 needs_from plan sent needs k d more = let next = drop_more needs k d more in rw next refl
 
 pub one_more_need : (plan : Plan) (sent : List Sort) (needs : List NeedPlan) (old new all : List ℕ) (k times : ℕ) (need : NeedPlan)
-    → k < length needs → need ≡ get_or needs k need → times ≡ times_met sent need 0 plan.flows.items → new ≡ old ++ need_met_line plan k need times
+    → k < length needs → need ≡ get_or needs k need → times ≡ times_met plan.requests.items sent need 0 plan.flows.items → new ≡ old ++ need_met_line plan k need times
     → old ++ need_ends plan sent k (drop k needs) ≡ all → new ++ need_ends plan sent (k + 1) (drop (k + 1) needs) ≡ all
 one_more_need plan sent needs old new all k times need more here count written before =
     let rest : List ℕ = need_ends plan sent (k + 1) (drop (k + 1) needs) in
@@ -65,18 +66,19 @@ unfolding need_ends
 no_needs plan sent k text = append-nil text
 
 -- one flow more is looked at
-pub one_more_met : (sent : List Sort) (need : NeedPlan) (flows : List FlowPlan) (k : ℕ) (flow : FlowPlan) → k < length flows
+pub one_more_met : (requests : List RequestPlan) (sent : List Sort) (need : NeedPlan) (flows : List FlowPlan) (k : ℕ) (flow : FlowPlan) → k < length flows
     → flow ≡ get_or flows k flow
-    → times_met sent need k (drop k flows) ≡ met_by sent need k flow + times_met sent need (k + 1) (drop (k + 1) flows)
+    → times_met requests sent need k (drop k flows)
+    ≡ met_by requests sent need k flow + times_met requests sent need (k + 1) (drop (k + 1) flows)
 unfolding times_met
-one_more_met sent need flows k flow more here =
+one_more_met requests sent need flows k flow more here =
     let next = drop_more flows k flow more in
-    let first : met_by sent need k (get_or flows k flow) ≡ met_by sent need k flow = ap (met_by sent need k) (sym here) in
-    rw next (ap (λ (n : ℕ). n + times_met sent need (k + 1) (drop (k + 1) flows)) first)
+    let first : met_by requests sent need k (get_or flows k flow) ≡ met_by requests sent need k flow = ap (met_by requests sent need k) (sym here) in
+    rw next (ap (λ (n : ℕ). n + times_met requests sent need (k + 1) (drop (k + 1) flows)) first)
 
-pub none_met : (sent : List Sort) (need : NeedPlan) (k : ℕ) → times_met sent need k [] ≡ 0
+pub none_met : (requests : List RequestPlan) (sent : List Sort) (need : NeedPlan) (k : ℕ) → times_met requests sent need k [] ≡ 0
 unfolding times_met
-none_met sent need k = refl
+none_met requests sent need k = refl
 
 pub no_flows : (plan : Plan) (sent : List Sort) (k : ℕ) (text : List ℕ) → text ++ flow_ends plan sent k [] ≡ text
 unfolding flow_ends

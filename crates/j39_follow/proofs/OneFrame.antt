@@ -9,7 +9,7 @@ use Rattle.j39_findings.specs.declared.plan.Plan.{Plan}
 use Rattle.j39_findings.specs.declared.plan.group_plan.GroupPlan.{GroupPlan}
 use Rattle.j39_log.proofs.OneText.{one_packet}
 use Rattle.j39_log.specs.LogPairs.{Seen, heard}
-use Rattle.j39_log.specs.LogReports.{reading_lines}
+use Rattle.j39_log.specs.NamedReports.{named_reading_lines}
 use Rattle.j39_text.specs.FrameText.{cannot_claim, claims_address, requested_group, requests_group}
 use Rattle.j39_text.specs.Texts.{field}
 use Rattle.j39_tp.proofs.Tracking.{one_message, one_pgn}
@@ -97,8 +97,8 @@ one_grouped plan log front m sent (Some g) s z t u a b =
     let group = some_same a.3.value b.3.value (sym a.3.value_is ∙ b.3.value_is) in (
       a.0 ∙ sym b.0,
       a.3.meets
-          ∙ ap (λ (w : List ℕ). message_line a.3.value front w (fitting_flow plan g sent) m ++ reading_lines a.3.value m.bytes) way
-          ∙ ap (λ (x : GroupPlan). message_line x front b.1 (fitting_flow plan g sent) m ++ reading_lines x m.bytes) group
+          ∙ ap (λ (w : List ℕ). message_line a.3.value front w (fitting_flow plan g sent) m ++ named_reading_lines plan a.3.value m.bytes) way
+          ∙ ap (λ (x : GroupPlan). message_line x front b.1 (fitting_flow plan g sent) m ++ named_reading_lines plan x m.bytes) group
           ∙ sym b.3.meets,
     )
 

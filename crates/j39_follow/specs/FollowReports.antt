@@ -11,7 +11,7 @@ use Rattle.j39_id.specs.declared.ident.Ident.{Ident}
 use Rattle.j39_findings.specs.ListPlaces.{ValueAt}
 use Rattle.j39_findings.specs.declared.plan.Plan.{Plan}
 use Rattle.j39_findings.specs.declared.plan.group_plan.GroupPlan.{GroupPlan}
-use Rattle.j39_log.specs.LogReports.{reading_lines}
+use Rattle.j39_log.specs.NamedReports.{named_reading_lines}
 use Rattle.j39_text.specs.FrameText.{cannot_claim, claims_address, name_in, requested_group, requests_group}
 use Rattle.j39_text.specs.Labels.{unit_label}
 use Rattle.j39_text.specs.Texts.{field, place_field}
@@ -113,7 +113,7 @@ message_line group front way flow m = front ++ (codes "group " ++ (group.label.b
 abbrev pub IsGrouped : Plan → List Timed → List ℕ → Message → Sending → Option ℕ → Sort → List ℕ → Type 0
 IsGrouped plan log front m sent (Some g) sort text =
     (sort ≡ Grouped g (fitting_flow plan g sent)) × (way : List ℕ) × IsWay plan log m.ident way
-    × ValueAt (λ (group : GroupPlan). text ≡ message_line group front way (fitting_flow plan g sent) m ++ reading_lines group m.bytes)
+    × ValueAt (λ (group : GroupPlan). text ≡ message_line group front way (fitting_flow plan g sent) m ++ named_reading_lines plan group m.bytes)
     plan.groups.items g
 IsGrouped plan log front m sent None sort text = (sort ≡ Other m.pgn) × (text ≡ [])
 

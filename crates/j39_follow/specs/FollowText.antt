@@ -15,6 +15,7 @@ use Rattle.j39_findings.specs.declared.plan.Plan.{Plan}
 use Rattle.j39_findings.specs.declared.plan.flow_plan.FlowPlan.{FlowPlan}
 use Rattle.j39_findings.specs.declared.plan.group_plan.GroupPlan.{GroupPlan}
 use Rattle.j39_findings.specs.declared.plan.need_plan.NeedPlan.{NeedPlan}
+use Rattle.j39_findings.specs.declared.plan.request_plan.RequestPlan.{RequestPlan}
 use Rattle.j39_findings.specs.declared.plan.to.To.{To}
 use Rattle.j39_findings.specs.declared.plan.to.To.TheVariants.{All as ToAll, One as ToOne}
 use Rattle.j39_findings.specs.declared.plan.unit_plan.UnitPlan.{UnitPlan}
@@ -234,14 +235,14 @@ AreUnitLines frames [] text = text ≡ []
 AreUnitLines frames (unit ∷ units) text =
     (front : List ℕ) × (back : List ℕ) × IsUnitLine frames unit front × AreUnitLines frames units back × (text ≡ front ++ back)
 
--- how often the flow at a place was sent, where it meets the need
-abbrev pub met_by : List Sort → NeedPlan → ℕ → FlowPlan → ℕ
-met_by sent need n flow = if meets need flow then count_by (is_of_flow n) sent else 0
+-- how often the flow at a place was sent, where it meets the need of a plan with these requests
+abbrev pub met_by : List RequestPlan → List Sort → NeedPlan → ℕ → FlowPlan → ℕ
+met_by requests sent need n flow = if meets requests need flow then count_by (is_of_flow n) sent else 0
 
 -- how often all flows together were sent that meet it
-unfoldable pub times_met : List Sort → NeedPlan → ℕ → List FlowPlan → ℕ
-times_met sent need n [] = 0
-times_met sent need n (flow ∷ flows) = met_by sent need n flow + times_met sent need (n + 1) flows
+unfoldable pub times_met : List RequestPlan → List Sort → NeedPlan → ℕ → List FlowPlan → ℕ
+times_met requests sent need n [] = 0
+times_met requests sent need n (flow ∷ flows) = met_by requests sent need n flow + times_met requests sent need (n + 1) flows
 
 -- the signal that a need names, if it names one
 unfoldable pub met_signal_text : Plan → NeedPlan → List ℕ
@@ -258,7 +259,7 @@ need_met_line plan n need times = met_need_text plan n need ++ (field (codes " m
 
 -- of each need how often it was met
 abbrev pub need_end : Plan → List Sort → ℕ → NeedPlan → List ℕ
-need_end plan sent n need = need_met_line plan n need (times_met sent need 0 plan.flows.items)
+need_end plan sent n need = need_met_line plan n need (times_met plan.requests.items sent need 0 plan.flows.items)
 
 unfoldable pub need_ends : Plan → List Sort → ℕ → List NeedPlan → List ℕ
 need_ends plan sent n [] = []

@@ -1,7 +1,7 @@
 //! The texts of who stands behind each address, kept from one report to the next as long as no memory is refused to them.
 ghost use Rattle.std.specs.Prelude.{◌≡◌, IfOk};
 ghost use Rattle.j39_follow.specs.Who.{who_text};
-ghost use Rattle.j39_follow.specs.inside.Recounting.{AreNames};
+ghost use Rattle.j39_follow.specs.inside.Recounting.{ArePartyNames};
 
 use crate::party_text::write_who;
 use crate::who::Who;
@@ -24,7 +24,7 @@ pub(crate) fn names_of(
     plan: &Plan,
     parties: &[Who; 256],
 ) -> Result<Vec<TextBuffer>, AllocError>
-    ensures { IfOk result (λ names. AreNames plan.now parties.now 256 names.items) }
+    ensures { IfOk result (λ names. ArePartyNames plan.now parties.now 256 names.items) }
 {
     let mut names = Vec::new(alloc);
     for address in 0..256 {

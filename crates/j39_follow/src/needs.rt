@@ -7,16 +7,22 @@ ghost use Rattle.j39_follow.specs.declared.message.Sort.{Sort as ASort};
 ghost use Rattle.j39_follow.specs.inside.Tallies.{IsTally, tally_at};
 
 use crate::tally::Tally;
-use j39_findings::{FlowPlan, NeedPlan, Plan, meets};
+use j39_findings::{FlowPlan, NeedPlan, Plan, RequestPlan, meets};
 use j39_text::{TextBuffer, group_label, signal_label, unit_label};
 use std::alloc::AllocError;
 
 // How often the flow at a place was sent, where it meets the need.
-fn met_by(tally: &Tally, need: &NeedPlan, place: usize, flow: &FlowPlan) -> u64
+fn met_by(
+    tally: &Tally,
+    requests: &[RequestPlan],
+    need: &NeedPlan,
+    place: usize,
+    flow: &FlowPlan,
+) -> u64
     requires { place < flow_limit }
-    ensures { result ≡ (if brings need.now flow.now then tally_at tally.now.flows place else 0) }
+    ensures { result ≡ (if brings requests.now need.now flow.now then tally_at tally.now.flows place else 0) }
 {
-    if meets(need, flow) {
+    if meets(requests, need, flow) {
         tally.of_flow(place)
     } else {
         0
@@ -25,11 +31,11 @@ fn met_by(tally: &Tally, need: &NeedPlan, place: usize, flow: &FlowPlan) -> u64
 
 // How often all flows together were sent that meet it.
 fn times_met(plan: &Plan, tally: &Tally, need: &NeedPlan) -> u128
-    ensures { (sent : List ASort) → IsTally plan.now tally.now sent → result ≡ times_sent sent need.now 0 plan.now.flows.items }
+    ensures { (sent : List ASort) → IsTally plan.now tally.now sent → result ≡ times_sent plan.now.requests.items sent need.now 0 plan.now.flows.items }
 {
     let mut times = 0;
     for place in 0..plan.flows.len() {
-        times += u128::from(met_by(tally, need, place, &plan.flows[place]));
+        times += u128::from(met_by(tally, &plan.requests, need, place, &plan.flows[place]));
     }
     times
 }

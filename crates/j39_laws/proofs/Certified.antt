@@ -1,5 +1,5 @@
 -- What the laws say together of one plan.
-use Rattle.std.proofs.Common.{◌≡◌, ℕ, List, [], arith, subst}
+use Rattle.std.proofs.Common.{◌≡◌, ℕ, ◌<◌, false, List, [], length, arith, subst}
 use Rattle.std.specs.List.{Contains}
 use Rattle.j39_claim.specs.declared.item.Say.TheVariants.{Claim, Cannot}
 use Rattle.j39_claim.specs.declared.item.Item.{Item}
@@ -11,13 +11,13 @@ use Rattle.j39_findings.specs.declared.plan.Plan.{Plan}
 use Rattle.j39_findings.specs.declared.steps.Step.{Step}
 use Rattle.j39_world.specs.World.{World, Undelivered, all_off}
 use Rattle.j39_world.specs.Run.{Run}
-use Rattle.j39_world.specs.PlannedUnits.{units_of}
+use Rattle.j39_world.specs.PlannedUnits.{unit_at, units_of}
 use Rattle.j39_world.specs.Opening.{AreNamesDistinct}
 use Rattle.j39_world.specs.Settling.{Settles}
 use Rattle.j39_world.specs.Ending.{TransfersEnd}
 use Rattle.j39_world.specs.Arriving.{ArrivesUnanswered, ArrivesAnswered}
 use Rattle.j39_world.specs.Needed.{Delivered, ReportsNeeded, LastWrite, ReadsAsWritten}
-use Rattle.j39_world.specs.Sound.{AreAddressesSound, AreAddressesDifferent, AreNotesRight, AreKeptFree, IsQuiet, AreReportsSound, IsAcknowledgedReported}
+use Rattle.j39_world.specs.Sound.{AreAddressesSound, AreAddressesDifferent, AreNotesRight, AreKeptFree, IsQuiet, AreReportsSound, AreSentFramesSound, IsAcknowledgedReported}
 use Rattle.j39_world.specs.SoundPlan.{AlwaysBeside, IsSound}
 use Rattle.j39_world.specs.Staying.{ArePlannedApart, HoldsAlone, HoldsPlanned, IsAloneThere}
 use Rattle.j39_laws.proofs.Addresses.CleanUnits.{clean_units}
@@ -38,6 +38,8 @@ pub sound_by_laws : (plan : Plan) → Clean plan
     → ((p : Plan) (steps : List Step) (w : World) → ArePlannedApart (units_of p) → Run p all_off steps w → (u : ℕ) → HoldsPlanned (units_of p) w u)
     → ((p : Plan) (steps : List Step) (w : World) → Clean p → Run p all_off steps w
     → (u : ℕ) → IsAloneThere p.keep_free (units_of p) u → HoldsAlone (units_of p) w u)
+    → ((p : Plan) (steps : List Step) (w : World) → Clean p → Run p all_off steps w
+    → (u : ℕ) → u < length (units_of p) → (unit_at (units_of p) u).claims ≡ false → HoldsAlone (units_of p) w u)
     → ((p : Plan) → Clean p → AlwaysBeside p AreAddressesSound)
     → ((p : Plan) → Clean p → AlwaysBeside p (λ joined w. IsQuiet w.claims → AreAddressesDifferent w))
     → ((p : Plan) (steps : List Step) (w : World) → AreNamesDistinct (units_of p) → Run p all_off steps w → IsQuiet w.claims → AreNotesRight p w)
@@ -45,6 +47,7 @@ pub sound_by_laws : (plan : Plan) → Clean plan
     → ((p : Plan) (steps : List Step) (w : World) → AreNamesDistinct (units_of p) → Run p all_off steps w → Settles p w)
     → ((p : Plan) → Clean p → SoundSignals p)
     → ((p : Plan) (steps : List Step) (w : World) → Run p all_off steps w → AreReportsSound w)
+    → ((p : Plan) (steps : List Step) (w : World) → Run p all_off steps w → AreSentFramesSound w)
     → ((p : Plan) (steps : List Step) (w : World) → Run p all_off steps w → IsAcknowledgedReported w)
     → ((p : Plan) (steps : List Step) (w : World) → Run p all_off steps w → TransfersEnd p w)
     → ((p : Plan) (steps : List Step) (w : World) → Run p all_off steps w → ArrivesUnanswered p w)
@@ -54,13 +57,14 @@ pub sound_by_laws : (plan : Plan) → Clean plan
     → ((p : Plan) (steps : List Step) (w : World) → Clean p → Run p all_off steps w
     → (d : Delivered p w) (x : LastWrite d.message) → ReadsAsWritten d.message x x.write.place)
     → IsSound plan
-sound_by_laws plan clean addresses different planned alone strangers strangers_quiet notes kept settles signals reports acknowledged ends arrives
-    arrives_answered needs needed read = record {
+sound_by_laws plan clean addresses different planned alone silent strangers strangers_quiet notes kept settles signals reports sent_frames acknowledged ends
+    arrives arrives_answered needs needed read = record {
       addresses = λ steps w run. addresses plan steps w clean run;
       quiet = λ steps w run. different plan steps w clean run;
       sending = λ steps w run (u, o, is). different plan steps w clean run (quiet_where_empty w.claims ((reports plan steps w run).delivered u o is));
       planned = λ apart steps w run. planned plan steps w apart run;
       alone = λ steps w run. alone plan steps w clean run;
+      silent = λ steps w run. silent plan steps w clean run;
       strangers = strangers plan clean;
       strangers_quiet = strangers_quiet plan clean;
       notes = λ steps w run. notes plan steps w (clean_units plan clean).names run;
@@ -68,6 +72,7 @@ sound_by_laws plan clean addresses different planned alone strangers strangers_q
       settles = λ steps w run. settles plan steps w (clean_units plan clean).names run;
       signals = signals plan clean;
       reports = λ steps w run. reports plan steps w run;
+      sent_frames = λ steps w run. sent_frames plan steps w run;
       acknowledged = λ steps w run. acknowledged plan steps w run;
       ends = λ steps w run. ends plan steps w run;
       arrives = λ steps w run. arrives plan steps w run;

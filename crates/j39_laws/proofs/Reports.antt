@@ -9,3 +9,4 @@ pub mod TransferInvariant
 pub mod SenderSteps
 pub mod ReceiverSteps
 pub mod SoundReports
+pub mod SentFrames

@@ -3,6 +3,7 @@ pub mod Changes
 pub mod Responses
 pub mod Measure
 pub mod Lowered
+pub mod Silences
 pub mod Deliveries
 pub mod SettlingRuns
 pub mod KnownAddresses

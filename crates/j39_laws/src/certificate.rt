@@ -5,12 +5,14 @@ use crate::laws::{
     a_needed_value_arrives, acknowledged_messages_were_reported, addresses_are_sound,
     alone_units_are_undisturbed, answered_messages_arrive, claims_die_down, every_transfer_ends,
     kept_addresses_stay_free, planned_addresses_stay, quiet_notes_are_right, reports_are_sound,
-    strangers_keep_addresses, unanswered_messages_arrive,
+    sent_frames_are_sound, silent_units_are_undisturbed, strangers_keep_addresses,
+    unanswered_messages_arrive,
 };
 use j39_findings::{CheckedPlan, needs_are_met, signals_are_sound};
 
 /// A checked plan is sound: in every world of every run of it, with all lawful choices and whatever is lost, addresses and reports
-/// are sound, addresses also with strangers, planned addresses stay where they differ, a unit that is alone at its own is undisturbed, what
+/// are sound, addresses also with strangers, planned addresses stay where they differ, a unit that is alone at its own is undisturbed, and
+/// so is one that never claims, what
 /// units have noted of one another is right where no claim is undelivered, what it keeps free stays free, claims die down, messages come to
 /// their end, those of which nothing is lost arrive, its signals read back what they were last given, and what its units need is sent to
 /// them and reads there as it was written. `docs/PROMISES.md` has it in plain words. It does nothing when it runs; it rests on the laws
@@ -22,12 +24,14 @@ pub fn certify(checked: &CheckedPlan)
     addresses_are_sound();
     planned_addresses_stay();
     alone_units_are_undisturbed();
+    silent_units_are_undisturbed();
     strangers_keep_addresses();
     quiet_notes_are_right();
     kept_addresses_stay_free();
     claims_die_down();
     signals_are_sound();
     reports_are_sound();
+    sent_frames_are_sound();
     acknowledged_messages_were_reported();
     every_transfer_ends();
     unanswered_messages_arrive();

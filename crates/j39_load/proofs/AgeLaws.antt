@@ -13,12 +13,13 @@ use Rattle.j39_findings.proofs.Deciding.{Decides-is_unmet, Decides-meets}
 use Rattle.j39_findings.specs.declared.plan.Plan.{Plan}
 use Rattle.j39_findings.specs.declared.plan.flow_plan.FlowPlan.{FlowPlan}
 use Rattle.j39_findings.specs.declared.plan.need_plan.NeedPlan.{NeedPlan}
+use Rattle.j39_findings.specs.declared.plan.request_plan.RequestPlan.{RequestPlan}
 use Rattle.j39_findings.specs.declared.plan.timing.Timing.{Timing}
 use Rattle.j39_findings.specs.declared.plan.unit_plan.UnitPlan.{UnitPlan}
 use Rattle.j39_load.specs.declared.delay.Delay.{Delay}
 use Rattle.j39_load.specs.declared.delay.Delay.TheVariants.{Within, Late, Long, Whole}
 use Rattle.j39_load.specs.declared.load_finding.LoadFinding.TheVariants.{NeedTooOld}
-use Rattle.j39_load.specs.Ages.{ages_for, ages_of, is_too_old, is_young, least, old_needs, oldness, smaller_known}
+use Rattle.j39_load.specs.Ages.{ages_for, ages_of, is_in_limit, is_too_old, least, old_needs, oldness, smaller_known}
 use Rattle.j39_load.specs.FreshNeeds.{AreNeedsFresh, IsNeedFresh}
 use Rattle.j39_load.specs.LoadFindings.{AreLoadFindings, AsksOfBus, load_findings}
 use Rattle.j39_load.specs.Asked.{asked_of, total_load}
@@ -56,17 +57,27 @@ module _ (timing : Timing) (age : ℕ) where
   -- what a single age is the sum of
   record IsSumOf (met : Bool) (flow : FlowPlan) (delay : Option Delay) : Type 0 where
     pub meets : met ≡ true
+    pub unasked : flow.on_request ≡ false
     pub pause : ℕ
     pub paused : flow.pause ≡ Some pause
     pub bits : ℕ
     pub delayed : delay ≡ Some (Within bits)
     pub sum : age ≡ bits_of_ms timing pause + bits
 
-  sum_within : (flow : FlowPlan) (bits : ℕ) (pause : Option ℕ) → flow.pause ≡ pause
-      → least (option_map_or (λ p. (bits_of_ms timing p + bits) ∷ []) pause []) ≡ Some age → IsSumOf true flow (Some (Within bits))
-  sum_within flow bits None paused is = absurd (none-some age is)
-  sum_within flow bits (Some pause) paused is =
-      record { meets = refl; pause = pause; paused = paused; bits = bits; delayed = refl; sum = sym (same_Some _ _ is) }
+  sum_within : (flow : FlowPlan) (bits : ℕ) (asked : Bool) (pause : Option ℕ) → flow.on_request ≡ asked → flow.pause ≡ pause
+      → least (if asked then [] else option_map_or (λ p. (bits_of_ms timing p + bits) ∷ []) pause []) ≡ Some age
+      → IsSumOf true flow (Some (Within bits))
+  sum_within flow bits true pause asked paused is = absurd (none-some age is)
+  sum_within flow bits false None asked paused is = absurd (none-some age is)
+  sum_within flow bits false (Some pause) asked paused is = record {
+    meets = refl;
+    unasked = asked;
+    pause = pause;
+    paused = paused;
+    bits = bits;
+    delayed = refl;
+    sum = sym (same_Some _ _ is);
+  }
 
   sum_of : (met : Bool) (flow : FlowPlan) (delay : Option Delay) → least (if met then ages_of timing flow delay else []) ≡ Some age → IsSumOf met flow delay
   sum_of false flow delay is = absurd (none-some age is)
@@ -74,16 +85,16 @@ module _ (timing : Timing) (age : ℕ) where
   sum_of true flow (Some Late) is = absurd (none-some age is)
   sum_of true flow (Some (Long frames)) is = absurd (none-some age is)
   sum_of true flow (Some (Whole whole)) is = absurd (none-some age is)
-  sum_of true flow (Some (Within bits)) is = sum_within flow bits flow.pause refl is
+  sum_of true flow (Some (Within bits)) is = sum_within flow bits flow.on_request flow.pause refl refl is
 
-  module _ (delays : List (Option Delay)) (need : NeedPlan) where
+  module _ (requests : List RequestPlan) (delays : List (Option Delay)) (need : NeedPlan) where
     -- it is that of a flow
-    of_flow : (place : ℕ) (flows : List FlowPlan) → least (told_from (ages_for timing delays need) place flows) ≡ Some age
-        → (k : ℕ) × (flow : FlowPlan) × (slice_get flows k ≡ Some flow) × (least (ages_for timing delays need (place + k) flow) ≡ Some age)
+    of_flow : (place : ℕ) (flows : List FlowPlan) → least (told_from (ages_for timing requests delays need) place flows) ≡ Some age
+        → (k : ℕ) × (flow : FlowPlan) × (slice_get flows k ≡ Some flow) × (least (ages_for timing requests delays need (place + k) flow) ≡ Some age)
     unfolding told_from
     of_flow place [] is = absurd (none-some age is)
     of_flow place (flow ∷ flows) is =
-        let tell = ages_for timing delays need in
+        let tell = ages_for timing requests delays need in
         elim (one_of_smaller (least (tell place flow)) (least (told_from tell (place + 1) flows)) age
         (sym (least_of_both (tell place flow) (told_from tell (place + 1) flows)) ∙ is)) [
           | inl here ↦ (0, flow, refl, ap (λ (n : ℕ). least (tell n flow)) (omega arith) ∙ here)
@@ -94,7 +105,7 @@ module _ (timing : Timing) (age : ℕ) where
 
 -- ---- needs that aren't too old
 
-young_age : (limit : ℕ) (age : Option ℕ) → is_young limit age ≡ true → (n : ℕ) × (age ≡ Some n) × (n ≤ limit)
+young_age : (limit : ℕ) (age : Option ℕ) → is_in_limit limit age ≡ true → (n : ℕ) × (age ≡ Some n) × (n ≤ limit)
 young_age limit None young = absurd (false≢true young)
 young_age limit (Some n) young = (n, refl, leb-true n limit young)
 
@@ -102,12 +113,13 @@ never_told : {X : Type 0} (test : Bool) (x : X) → (if test then x ∷ [] else 
 never_told true x none = cc
 never_told false x none = refl
 
-asked_old : (timing : Timing) (flows : List FlowPlan) (delays : List (Option Delay)) (place : ℕ) (need : NeedPlan) (within : ℕ) (asked : Option ℕ)
-    → asked ≡ Some within → option_map_or (λ w. if is_too_old timing flows delays need w then NeedTooOld place ∷ [] else []) asked [] ≡ []
-    → is_too_old timing flows delays need within ≡ false
-asked_old timing flows delays place need within None is none = absurd (none-some within is)
-asked_old timing flows delays place need within (Some w) is none =
-    subst (λ (n : ℕ). is_too_old timing flows delays need n ≡ false) (same_Some w within is) (never_told _ _ none)
+asked_old : (timing : Timing) (requests : List RequestPlan) (flows : List FlowPlan) (delays : List (Option Delay)) (place : ℕ) (need : NeedPlan) (within : ℕ) (asked : Option ℕ)
+    → asked ≡ Some within
+    → option_map_or (λ w. if is_too_old timing requests flows delays need w then NeedTooOld place ∷ [] else []) asked [] ≡ []
+    → is_too_old timing requests flows delays need within ≡ false
+asked_old timing requests flows delays place need within None is none = absurd (none-some within is)
+asked_old timing requests flows delays place need within (Some w) is none =
+    subst (λ (n : ℕ). is_too_old timing requests flows delays need n ≡ false) (same_Some w within is) (never_told _ _ none)
 
 young_where : (unmet young : Bool) → unmet ≡ false → (not unmet && not young) ≡ false → young ≡ true
 young_where true young met none = absurd (true≢false met)
@@ -115,33 +127,33 @@ young_where false true met none = refl
 young_where false false met none = absurd (true≢false none)
 
 module _ (plan : Plan) (timing : Timing) (clean : Clean plan) (stays : UnitPlan → Bool) (delays : List (Option Delay)) (asks : AsksOfBus plan timing stays delays)
-    (none : load_findings timing (total_load timing (asked_of timing plan stays)) delays ++ old_needs timing plan.flows.items delays plan.needs.items ≡ []) where
-  parts : (load_findings timing (total_load timing (asked_of timing plan stays)) delays ≡ []) × (old_needs timing plan.flows.items delays plan.needs.items ≡ [])
-  parts = none_of_two (load_findings timing (total_load timing (asked_of timing plan stays)) delays) (old_needs timing plan.flows.items delays plan.needs.items) none
+    (none : load_findings timing (total_load timing (asked_of timing plan stays)) delays ++ old_needs timing plan.requests.items plan.flows.items delays plan.needs.items ≡ []) where
+  parts : (load_findings timing (total_load timing (asked_of timing plan stays)) delays ≡ []) × (old_needs timing plan.requests.items plan.flows.items delays plan.needs.items ≡ [])
+  parts = none_of_two (load_findings timing (total_load timing (asked_of timing plan stays)) delays) (old_needs timing plan.requests.items plan.flows.items delays plan.needs.items) none
 
   module _ (n : ℕ) (need : NeedPlan) (within : ℕ) (at : slice_get plan.needs.items n ≡ Some need) (asked : need.within ≡ Some within) where
-    not_too_old : is_too_old timing plan.flows.items delays need within ≡ false
+    not_too_old : is_too_old timing plan.requests.items plan.flows.items delays need within ≡ false
     not_too_old =
-        let told = told_nothing (oldness timing plan.flows.items delays) 0 plan.needs.items parts.1 n need at in
-        asked_old timing plan.flows.items delays (0 + n) need within need.within asked told
+        let told = told_nothing (oldness timing plan.requests.items plan.flows.items delays) 0 plan.needs.items parts.1 n need at in
+        asked_old timing plan.requests.items plan.flows.items delays (0 + n) need within need.within asked told
 
-    met : is_unmet plan.flows.items need ≡ false
-    met = elim (cases_Bool (is_unmet plan.flows.items need)) [
-      | inl unmet ↦ absurd ((Decides-is_unmet plan.flows.items need).0 unmet (met_at n need at))
+    met : is_unmet plan.requests.items plan.flows.items need ≡ false
+    met = elim (cases_Bool (is_unmet plan.requests.items plan.flows.items need)) [
+      | inl unmet ↦ absurd ((Decides-is_unmet plan.requests.items plan.flows.items need).0 unmet (met_at n need at))
       | inr is ↦ is
     ]
       where
-        met_at : (k : ℕ) (d : NeedPlan) → slice_get plan.needs.items k ≡ Some d → SomeMeets (Meets d) plan.flows.items
+        met_at : (k : ℕ) (d : NeedPlan) → slice_get plan.needs.items k ≡ Some d → SomeMeets (Meets plan.requests.items d) plan.flows.items
         met_at k d is =
             let below = slice_get_within plan.needs.items k d is in
             let here : get_or plan.needs.items k d ≡ d = get_or_from_slice_get plan.needs.items k d d is in
-            subst (λ (x : NeedPlan). SomeMeets (Meets x) plan.flows.items) here ((parts_of plan clean).needs k d below)
+            subst (λ (x : NeedPlan). SomeMeets (Meets plan.requests.items x) plan.flows.items) here ((parts_of plan clean).needs k d below)
 
     fresh_need : IsNeedFresh plan timing (asked_of timing plan stays) delays need within
     fresh_need =
         let (age, is_age, young) = young_age _ _ (young_where _ _ met not_too_old) in
-        let (place, flow, its, single) = of_flow timing age delays need 0 plan.flows.items is_age in
-        let sum = sum_of timing age (meets need flow) flow (slice_index_or delays (0 + place) None) single in
+        let (place, flow, its, single) = of_flow timing age plan.requests.items delays need 0 plan.flows.items is_age in
+        let sum = sum_of timing age (meets plan.requests.items need flow) flow (slice_index_or delays (0 + place) None) single in
         let below : place < length delays =
         let inside = slice_get_within plan.flows.items place flow its in
         let count = asks.waits.count in
@@ -156,7 +168,8 @@ module _ (plan : Plan) (timing : Timing) (clean : Clean plan) (stays : UnitPlan 
           place = place;
           flow = flow;
           its = its;
-          meets = (Decides-meets need flow).0 sum.meets;
+          meets = (Decides-meets plan.requests.items need flow).0 sum.meets;
+          unasked = sum.unasked;
           pause = sum.pause;
           paused = sum.paused;
           bits = sum.bits;

@@ -14,8 +14,9 @@ use Rattle.j39_load.specs.declared.flow_frames.FlowFrames.{FlowFrames}
 use Rattle.j39_load.specs.declared.flow_load.FlowLoad.{FlowLoad}
 use Rattle.j39_load.specs.declared.messages.Messages.{Messages}
 use Rattle.j39_load.specs.declared.messages.Messages.TheVariants.{Short, ToAll, ToOne}
+use Rattle.j39_load.specs.declared.request_load.RequestLoad.{RequestLoad}
 use Rattle.j39_load.specs.declared.unit_load.UnitLoad.{UnitLoad}
-use Rattle.j39_load.specs.Asked.{Asked, all_frames, announcements_of_unit, asked_of, frames_asked, frames_of_flow, packets_of_unit, singles_of_flow, total_load}
+use Rattle.j39_load.specs.Asked.{Asked, all_frames, announcements_of_unit, asked_of, frames_asked, frames_of_flow, frames_of_request, packets_of_unit, singles_of_flow, total_load}
 use Rattle.j39_load.specs.Damage.{damage_frames, damage_streams, first_of_all}
 use Rattle.j39_load.specs.Delays.{HasDelay, IsDelay, IsDelayOf, frames_before, going_before, need_of, streams_before}
 use Rattle.j39_load.specs.LoadFindings.{AsksOfBus, lateness, load_findings, overload, without_period}
@@ -178,12 +179,14 @@ get_or_inside (y ∷ ys) zero x is = omega arith
 get_or_inside (y ∷ ys) (suc i) x is = let inside = get_or_inside ys i x is in omega (arith, inside)
 
 -- at a flow's place stand its own frames
-own_read : (flows : List (Option FlowLoad)) (units : List (Option UnitLoad)) (flow : ℕ) (load : FlowLoad) (frames : FlowFrames)
-    → slice_get flows flow ≡ Some (Some load) → load.messages ≡ Short frames → get_or (all_frames flows units) flow None ≡ Some frames
-own_read flows units flow load frames its short =
+own_read : (flows : List (Option FlowLoad)) (units : List (Option UnitLoad)) (requests : List (Option RequestLoad)) (flow : ℕ) (load : FlowLoad)
+    (frames : FlowFrames) → slice_get flows flow ≡ Some (Some load) → load.messages ≡ Short frames
+    → get_or (all_frames flows units requests) flow None ≡ Some frames
+own_read flows units requests flow load frames its short =
     let below = slice_get_within flows flow (Some load) its in
-    let front : get_or (all_frames flows units) flow None ≡ get_or (map frames_of_flow flows) flow None =
-    get_or_append_left (map frames_of_flow flows) (map singles_of_flow flows ++ (map packets_of_unit units ++ map announcements_of_unit units)) None flow
+    let front : get_or (all_frames flows units requests) flow None ≡ get_or (map frames_of_flow flows) flow None =
+    get_or_append_left (map frames_of_flow flows)
+    (map singles_of_flow flows ++ (map packets_of_unit units ++ (map announcements_of_unit units ++ map frames_of_request requests))) None flow
     (omega (arith, below, length-map flows frames_of_flow)) in
     let own : get_or (map frames_of_flow flows) flow None ≡ frames_of_flow (Some load) =
     get_or_from_slice_get (map frames_of_flow flows) flow (frames_of_flow (Some load)) None
@@ -231,7 +234,7 @@ module _ (plan : Plan) (timing : Timing) (stays : UnitPlan → Bool) (delays : L
         inside = inside;
         least = least;
         bounds = on_every_bus timing (frames_asked asked) (all_paced timing plan stays) flow frames
-            (with_damage timing (frames_asked asked) flow frames (own_read asked.flows asked.units flow load frames its short)) wait inside.room
+            (with_damage timing (frames_asked asked) flow frames (own_read asked.flows asked.units asked.requests flow load frames its short)) wait inside.room
             known.1 load.limit known.2 inside.within;
       }
 

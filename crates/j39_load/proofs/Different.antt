@@ -1,4 +1,5 @@
--- Two flows of a clean plan whose messages go in one frame have two identifiers, while units hold different addresses.
+-- Two flows of a clean plan whose messages go in one frame have two identifiers, while units hold different addresses; and no request has that
+-- of such a flow.
 use Rattle.std.proofs.Common.{◌≡◌, ◌≢◌, ℕ, ◌+◌, ◌*◌, ◌^◌, ◌%◌, ◌<◌, ◌≤◌, Bool, true, false, if◌then◌else◌, inl, inr, Some}
 use Rattle.std.proofs.Common.{refl, sym, ap, ◌∙◌, subst, arith}
 use Rattle.std.proofs.lemmas.Bool.{cases_eq, cases_lt, leb-false, leb-true, true≢false}
@@ -12,12 +13,15 @@ use Rattle.j39_findings.specs.declared.checking.finding.Finding.TheVariants.{Flo
 use Rattle.j39_findings.specs.declared.plan.Plan.{Plan}
 use Rattle.j39_findings.specs.declared.plan.flow_plan.FlowPlan.{FlowPlan}
 use Rattle.j39_findings.specs.declared.plan.group_plan.GroupPlan.{GroupPlan}
+use Rattle.j39_findings.specs.declared.plan.request_plan.RequestPlan.{RequestPlan}
 use Rattle.j39_findings.specs.declared.plan.to.To.{To}
 use Rattle.j39_findings.specs.declared.plan.to.To.TheVariants.{All as ToAll, One}
 use Rattle.j39_findings.proofs.CleanLaws.{parts_of}
 use Rattle.j39_findings.proofs.PrivateGroups.{one_fits}
 use Rattle.j39_load.specs.Loads.{destination_at, group_ident}
-use Rattle.j39_load.specs.Ranks.{AreHeldApart, IsShortFlow}
+use Rattle.j39_id.specs.Services.{claim_priority, request as request_group}
+use Rattle.j39_load.specs.Ranks.{AreHeldApart, IsAskedBetween, IsShortFlow}
+use Rattle.j39_load.specs.Requests.{request_ident}
 
 -- an identifier tells its group, its source, and in PDU1 its destination
 tells : (p q n m d e s t : ℕ) → n < 131072 → m < 131072 → d < 256 → e < 256 → s < 256 → t < 256 → (pf_of n < 240 → n % 256 ≡ 0)
@@ -176,3 +180,15 @@ module _ (plan : Plan) (clean : Clean plan) (on : ℕ → Bool) (held : ℕ → 
       );
     })
   ]
+
+  -- requests are a service of the network, which no group of the plan is
+  pub other_than_requests : (f : ℕ) (flow : FlowPlan) (group : GroupPlan) → IsShortFlow plan on f flow group → (request : RequestPlan)
+      → IsAskedBetween on request → group_ident held group flow ≢ request_ident held request
+  other_than_requests f flow group is request asked same =
+      let can = planned flow.group group is.sent in
+      let low = apart.range flow.sender is.sender in
+      let less = apart.range request.sender asked.sender in
+      let told = tells group.priority claim_priority group.pgn request_group (destination_at held flow.to) (destination_at held request.to)
+      (held flow.sender) (held request.sender) can.page (omega arith) (few flow.to is.receiver) (few request.to asked.receiver) (omega (arith, low))
+      (omega (arith, less)) can.group.low (λ _. refl) same in
+      can.not_service (1, omega arith, sym told.0)

@@ -1,6 +1,6 @@
 -- What a plan asks of a bus is one: whoever tells who stays tells the same loads and the same delays.
 use Rattle.std.proofs.Common.{◌≡◌, ℕ, ◌≤◌, Bool, true, false, not, ◌&&◌, if◌then◌else◌, List, [], ◌∷◌, length, map, min, max, inl, inr, Option, Some, None}
-use Rattle.std.proofs.Common.{refl, sym, ap, ◌∙◌, subst, arith}
+use Rattle.std.proofs.Common.{refl, sym, ap, ◌∙◌, subst, arith, option_map}
 use Rattle.std.proofs.lemmas.Bool.{cases_lt}
 use Rattle.std.proofs.lemmas.List.{ext_get_or}
 use Rattle.std.proofs.lemmas.Option.{same_Some, none-some}
@@ -13,6 +13,7 @@ use Rattle.j39_findings.specs.declared.plan.Plan.{Plan}
 use Rattle.j39_findings.specs.declared.plan.flow_plan.FlowPlan.{FlowPlan}
 use Rattle.j39_findings.specs.declared.plan.group_plan.GroupPlan.{GroupPlan}
 use Rattle.j39_findings.specs.declared.plan.pace.Pace.{Pace}
+use Rattle.j39_findings.specs.declared.plan.request_plan.RequestPlan.{RequestPlan}
 use Rattle.j39_findings.specs.declared.plan.timing.Timing.{Timing}
 use Rattle.j39_findings.specs.declared.plan.to.To.{To}
 use Rattle.j39_findings.specs.declared.plan.to.To.TheVariants.{All as ToAllUnits, One}
@@ -24,6 +25,7 @@ use Rattle.j39_load.specs.declared.flow_frames.FlowFrames.{FlowFrames}
 use Rattle.j39_load.specs.declared.flow_load.FlowLoad.{FlowLoad}
 use Rattle.j39_load.specs.declared.messages.Messages.{Messages}
 use Rattle.j39_load.specs.declared.messages.Messages.TheVariants.{Short, ToAll, ToOne}
+use Rattle.j39_load.specs.declared.request_load.RequestLoad.{RequestLoad}
 use Rattle.j39_load.specs.declared.unit_load.UnitLoad.{UnitLoad}
 use Rattle.j39_load.specs.declared.whole_time.WholeTime.{WholeTime}
 use Rattle.j39_load.specs.Asked.{Asked, asked_by, asked_of, frames_asked}
@@ -31,6 +33,7 @@ use Rattle.j39_load.specs.Broadcasts.{broadcast_frames, broadcasts_by, known_uni
 use Rattle.j39_load.specs.Delays.{HasDelay, IsDelay, IsDelayOf, IsLeastWait, IsShortDelay, IsTurnTimeBy, IsWaitOf, IsWholeTime, TellDelays, announcements_place, known_turn_time, need_of, packets_place, whole_time}
 use Rattle.j39_load.specs.LoadFindings.{AsksOfBus}
 use Rattle.j39_load.specs.Loads.{destination_at, flow_load, group_ident, load_of_flow, loads_of, long_messages, of_unit, packet_frames, packet_ident, single_frames}
+use Rattle.j39_load.specs.Requests.{load_of_request, request_ident, request_load, request_loads_of}
 use Rattle.j39_load.specs.Standing.{TellsWhoStays}
 use Rattle.j39_timing.specs.Traffic.{delay_of}
 use Rattle.j39_tp.specs.Chunks.{packets_of}
@@ -69,6 +72,10 @@ module _ (plan : Plan) (timing : Timing) (stays other : UnitPlan → Bool) (tell
     pub packet_same : (flow : FlowPlan)
         → packet_ident timing (of_unit plan.units.items (λ x. by (stays x) x)) flow ≡ packet_ident timing (of_unit plan.units.items (λ x. by (other x) x)) flow
     packet_same flow = rw (destination_same flow.to, unit_same flow.sender) refl
+
+    pub asking_same : (request : RequestPlan)
+        → request_ident (of_unit plan.units.items (λ x. by (stays x) x)) request ≡ request_ident (of_unit plan.units.items (λ x. by (other x) x)) request
+    asking_same request = rw (destination_same request.to, unit_same request.sender) refl
 
   abbrev least_by : Bool → UnitPlan → ℕ
   least_by b x = if is_arbitrary x.name && not b then min x.address 128 else x.address
@@ -132,11 +139,32 @@ module _ (plan : Plan) (timing : Timing) (stays other : UnitPlan → Bool) (tell
   unit_loads_same [] = refl
   unit_loads_same (load ∷ loads) = units_same (load ∷ loads) (range_with_len 0 (length plan.units.items))
 
-  pub one_request : asked_of timing plan stays ≡ asked_of timing plan other
-  one_request =
-      ap (λ (loads : List (Option FlowLoad)). asked_by loads (unit_loads_of timing plan.units.items stays loads)) one_load
-      ∙ ap (λ (units : List (Option UnitLoad)). asked_by (loads_of timing plan other) units)
+  request_load_same : (request : RequestPlan) (period : ℕ)
+      → request_load timing plan.units.items stays request period ≡ request_load timing plan.units.items other request period
+  request_load_same request period = rw (asking_same least_by request, asking_same greatest_by request) refl
+
+  request_same : (request : RequestPlan) (period : Option ℕ)
+      → option_map (request_load timing plan.units.items stays request) period
+      ≡ option_map (request_load timing plan.units.items other request) period
+  request_same request None = refl
+  request_same request (Some period) = ap Some (request_load_same request period)
+
+  requests_same : (requests : List RequestPlan)
+      → map (load_of_request timing plan.units.items stays) requests ≡ map (load_of_request timing plan.units.items other) requests
+  requests_same [] = refl
+  requests_same (request ∷ requests) =
+      ap (λ (x : Option RequestLoad). x ∷ map (load_of_request timing plan.units.items stays) requests) (request_same request request.period)
+      ∙ ap (λ (xs : List (Option RequestLoad)). load_of_request timing plan.units.items other request ∷ xs) (requests_same requests)
+
+  pub same_asked : asked_of timing plan stays ≡ asked_of timing plan other
+  same_asked =
+      ap (λ (loads : List (Option FlowLoad)).
+      asked_by loads (unit_loads_of timing plan.units.items stays loads) (request_loads_of timing plan stays)) one_load
+      ∙ ap (λ (units : List (Option UnitLoad)). asked_by (loads_of timing plan other) units (request_loads_of timing plan stays))
       (unit_loads_same (loads_of timing plan other))
+      ∙ ap (λ (requests : List (Option RequestLoad)).
+      asked_by (loads_of timing plan other) (unit_loads_of timing plan.units.items other (loads_of timing plan other)) requests)
+      (requests_same plan.requests.items)
 
 -- ---- delays
 
@@ -231,7 +259,7 @@ pub one_asked : (plan : Plan) (timing : Timing) (stays other : UnitPlan → Bool
     → AsksOfBus plan timing stays delays → AsksOfBus plan timing other others
     → (asked_of timing plan stays ≡ asked_of timing plan other) × (delays ≡ others)
 one_asked plan timing stays other delays others asks another =
-    let same = one_request plan timing stays other asks.standing another.standing in (
+    let same = same_asked plan timing stays other asks.standing another.standing in (
       same,
       delays_same timing (asked_of timing plan other) delays others
           (subst (λ (a : Asked). TellDelays timing a delays) same asks.waits) another.waits,

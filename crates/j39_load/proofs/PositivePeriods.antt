@@ -5,10 +5,12 @@ use Rattle.std.proofs.Math.Nat.{mul-le-mul_left}
 use Rattle.std.proofs.lemmas.List.Elements.{All-append, All-cons, All-head, All-map, All-tail}
 use Rattle.std.proofs.lemmas.Option.{same_Some, none-some, slice_get-map}
 use Rattle.std.specs.List.{cons_option, range_with_len, slice_get}
+use Rattle.std.specs.Option.{ForSome}
 use Rattle.j39_findings.specs.declared.plan.Plan.{Plan}
 use Rattle.j39_findings.specs.declared.plan.flow_plan.FlowPlan.{FlowPlan}
 use Rattle.j39_findings.specs.declared.plan.group_plan.GroupPlan.{GroupPlan}
 use Rattle.j39_findings.specs.declared.plan.pace.Pace.{Pace}
+use Rattle.j39_findings.specs.declared.plan.request_plan.RequestPlan.{RequestPlan}
 use Rattle.j39_findings.specs.declared.plan.timing.Bitrate.{Bitrate}
 use Rattle.j39_findings.specs.declared.plan.timing.Bitrate.TheVariants.{Kbit125, Kbit250, Kbit500, Mbit1}
 use Rattle.j39_findings.specs.declared.plan.timing.ErrorRate.{ErrorRate}
@@ -22,11 +24,13 @@ use Rattle.j39_load.specs.declared.flow_frames.FlowFrames.{FlowFrames}
 use Rattle.j39_load.specs.declared.flow_load.FlowLoad.{FlowLoad}
 use Rattle.j39_load.specs.declared.messages.Messages.{Messages}
 use Rattle.j39_load.specs.declared.messages.Messages.TheVariants.{Short, ToAll, ToOne}
+use Rattle.j39_load.specs.declared.request_load.RequestLoad.{RequestLoad}
 use Rattle.j39_load.specs.declared.unit_load.UnitLoad.{UnitLoad}
-use Rattle.j39_load.specs.Asked.{announcements_of_unit, asked_of, frames_asked, frames_of_flow, own_frames, packets_of_unit, singles_of_flow}
+use Rattle.j39_load.specs.Asked.{announcements_of_unit, asked_of, frames_asked, frames_of_flow, frames_of_request, own_frames, packets_of_unit, singles_of_flow}
 use Rattle.j39_load.specs.Broadcasts.{broadcast_by, broadcast_from, broadcasts_by, known_unit_load, least_packets, unit_loads_of}
 use Rattle.j39_load.specs.Damage.{damage_frames, damage_stream, first_of_all}
 use Rattle.j39_load.specs.Loads.{bits_per_ms, deadline_of, flow_load, has_short, is_always_short, load_of_flow, load_of_messages, loads_of, long_messages, single_frames, time_limit}
+use Rattle.j39_load.specs.Requests.{load_of_request, request_load, request_loads_of}
 use Rattle.j39_timing.specs.FrameBits.{error_frame, longest_frame}
 use Rattle.j39_timing.specs.Traffic.{IsSingle}
 
@@ -182,6 +186,16 @@ unit_paced timing units stays u (b ∷ bs) all = (
   positive_gaps timing.bitrate (least_packets (b ∷ bs)) timing.broadcast_gap (some_packets (b ∷ bs) all) timing.broadcast_gap_least,
 )
 
+-- ---- requests
+
+abbrev IsPacedRequest : Option RequestLoad → Type 0
+IsPacedRequest load = HasPeriod (frames_of_request load)
+
+request_paced : (timing : Timing) (units : List UnitPlan) (stays : UnitPlan → Bool) (request : RequestPlan) (period : Option ℕ)
+    → ForSome period (λ n. 1 ≤ n) → IsPacedRequest (option_map (request_load timing units stays request) period)
+request_paced timing units stays request None some = tt
+request_paced timing units stays request (Some period) some = positive_ms timing.bitrate period (some period refl)
+
 -- ---- all of them
 
 abbrev ArePacedUnits : Option UnitLoad → Type 0
@@ -197,9 +211,12 @@ units_paced timing plan stays (flow ∷ flows) each =
 
 asked_paced : (timing : Timing) (plan : Plan) (stays : UnitPlan → Bool) → All HasPeriod (frames_asked (asked_of timing plan stays))
 asked_paced timing plan stays =
-    All-append HasPeriod (map frames_of_flow flows) (map singles_of_flow flows ++ (map packets_of_unit units ++ map announcements_of_unit units)) own
-    (All-append HasPeriod (map singles_of_flow flows) (map packets_of_unit units ++ map announcements_of_unit units) singles
-    (All-append HasPeriod (map packets_of_unit units) (map announcements_of_unit units) packets announcements))
+    All-append HasPeriod (map frames_of_flow flows)
+    (map singles_of_flow flows ++ (map packets_of_unit units ++ (map announcements_of_unit units ++ map frames_of_request requests))) own
+    (All-append HasPeriod (map singles_of_flow flows)
+    (map packets_of_unit units ++ (map announcements_of_unit units ++ map frames_of_request requests)) singles
+    (All-append HasPeriod (map packets_of_unit units) (map announcements_of_unit units ++ map frames_of_request requests) packets
+    (All-append HasPeriod (map announcements_of_unit units) (map frames_of_request requests) announcements asked)))
   where
     flows : List (Option FlowLoad)
     flows = loads_of timing plan stays
@@ -224,6 +241,17 @@ asked_paced timing plan stays =
 
     announcements : All HasPeriod (map announcements_of_unit units)
     announcements = All-map HasPeriod announcements_of_unit units (λ k d below. (of_units k d below).1)
+
+    requests : List (Option RequestLoad)
+    requests = request_loads_of timing plan stays
+
+    of_requests : All IsPacedRequest requests
+    of_requests = All-map IsPacedRequest (load_of_request timing plan.units.items stays) plan.requests.items
+        (λ k d below. let request = get_or plan.requests.items k d in
+        request_paced timing plan.units.items stays request request.period request.period_positive)
+
+    asked : All HasPeriod (map frames_of_request requests)
+    asked = All-map HasPeriod frames_of_request requests (λ k d below. of_requests k d below)
 
 damage_paced : (timing : Timing) (errors : Option ErrorRate) → timing.errors ≡ errors → All HasPeriod (damage_frames timing)
 damage_paced timing None is = rw (is) (λ k d below. absurd (omega arith))

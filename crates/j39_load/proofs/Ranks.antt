@@ -1,5 +1,5 @@
 -- A greater address of either end makes a greater identifier, and units hold addresses between the least and the greatest.
-use Rattle.std.proofs.Common.{◌≡◌, ℕ, ◌+◌, ◌*◌, ◌^◌, ◌<◌, ◌≤◌, Bool, true, false, not, if◌then◌else◌, leb, length, List, inl, inr}
+use Rattle.std.proofs.Common.{◌≡◌, ℕ, ◌+◌, ◌*◌, ◌^◌, ◌<◌, ◌≤◌, Bool, true, false, not, if◌then◌else◌, leb, length, List, inl, inr, Some}
 use Rattle.std.proofs.Common.{refl, sym, ap, subst, ◌∙◌, arith, min, max}
 use Rattle.std.proofs.lemmas.Bool.{and_from, and_parts, cases_Bool, leb-true}
 use Rattle.std.proofs.lemmas.List.{length-map}
@@ -8,16 +8,19 @@ use Rattle.j39_id.specs.Addresses.{global_address, in_pool}
 use Rattle.j39_id.specs.Ident.{identifier_of}
 use Rattle.j39_id.specs.Name.{is_arbitrary}
 use Rattle.j39_id.specs.Pgn.{is_pdu2}
-use Rattle.j39_id.specs.Services.{data_transfer}
+use Rattle.std.specs.List.{slice_get}
+use Rattle.j39_id.specs.Services.{claim_priority, data_transfer, request as request_group}
 use Rattle.j39_findings.specs.declared.plan.Plan.{Plan}
 use Rattle.j39_findings.specs.declared.plan.flow_plan.FlowPlan.{FlowPlan}
 use Rattle.j39_findings.specs.declared.plan.group_plan.GroupPlan.{GroupPlan}
+use Rattle.j39_findings.specs.declared.plan.request_plan.RequestPlan.{RequestPlan}
 use Rattle.j39_findings.specs.declared.plan.timing.Timing.{Timing}
 use Rattle.j39_findings.specs.declared.plan.to.To.{To}
 use Rattle.j39_findings.specs.declared.plan.to.To.TheVariants.{All as ToAll, One}
 use Rattle.j39_findings.specs.declared.plan.unit_plan.UnitPlan.{UnitPlan}
 use Rattle.j39_load.specs.Loads.{destination_at, greatest_address, least_address, may_move, of_unit}
-use Rattle.j39_load.specs.Ranks.{AreHeldByPlan, AreUnitsPlanned, LieBetween}
+use Rattle.j39_findings.proofs.Members.{all_at}
+use Rattle.j39_load.specs.Ranks.{AreHeldByPlan, AreUnitsPlanned, LieBetween, RequestLiesBetween}
 use Rattle.j39_load.specs.Standing.{TellsWhoStays}
 use Rattle.j39_load.proofs.WhoStays.{placed}
 use Rattle.j39_claim.specs.ClaimRule.{PlannedUnit}
@@ -72,24 +75,26 @@ module _ (plan : Plan) (stays : UnitPlan → Bool) (tells : TellsWhoStays plan s
         | inr moved ↦ pool_between unit (held u) (moves_where_told unit (StaysBeside plan.strangers (units_of plan) u) (tells u unit at) (sym name ∙ moved.1) moved.2) moved.0
       ])
 
-  module _ (flow : FlowPlan) (known : AreUnitsPlanned plan flow) where
-    destination_between : (to : To) → flow.to ≡ to
-        → (destination_at (of_unit units (least_address stays)) to ≤ destination_at held to) × (destination_at held to ≤ destination_at (of_unit units (greatest_address stays)) to)
-    destination_between ToAll is = (omega arith, omega arith)
-    destination_between (One v) is = unit_between v (known.receiver v is)
+  destination_between : (to : To) → ((v : ℕ) → to ≡ One v → v < length units)
+      → (destination_at (of_unit units (least_address stays)) to ≤ destination_at held to) × (destination_at held to ≤ destination_at (of_unit units (greatest_address stays)) to)
+  destination_between ToAll known = (omega arith, omega arith)
+  destination_between (One v) known = unit_between v (known v refl)
 
+  -- from a unit to another one, or to all
+  module _ (u : ℕ) (to : To) (sender : u < length units) (receiver : (v : ℕ) → to ≡ One v → v < length units) where
     between : (priority pgn : ℕ)
-        → (identifier_of priority pgn (destination_at (of_unit units (least_address stays)) flow.to) (of_unit units (least_address stays) flow.sender)
-        ≤ identifier_of priority pgn (destination_at held flow.to) (held flow.sender))
-        × (identifier_of priority pgn (destination_at held flow.to) (held flow.sender)
-        ≤ identifier_of priority pgn (destination_at (of_unit units (greatest_address stays)) flow.to) (of_unit units (greatest_address stays) flow.sender))
+        → (identifier_of priority pgn (destination_at (of_unit units (least_address stays)) to) (of_unit units (least_address stays) u)
+        ≤ identifier_of priority pgn (destination_at held to) (held u))
+        × (identifier_of priority pgn (destination_at held to) (held u)
+        ≤ identifier_of priority pgn (destination_at (of_unit units (greatest_address stays)) to) (of_unit units (greatest_address stays) u))
     between priority pgn =
-        let source = unit_between flow.sender known.sender in
-        let destination = destination_between flow.to refl in (
+        let source = unit_between u sender in
+        let destination = destination_between to receiver in (
           identifier-mono priority pgn _ _ _ _ destination.0 source.0,
           identifier-mono priority pgn _ _ _ _ destination.1 source.1,
         )
 
+  module _ (flow : FlowPlan) (known : AreUnitsPlanned plan flow) where
     -- to all
     broadcast_between : (priority pgn : ℕ)
         → (identifier_of priority pgn global_address (of_unit units (least_address stays) flow.sender) ≤ identifier_of priority pgn global_address (held flow.sender))
@@ -102,8 +107,8 @@ module _ (plan : Plan) (stays : UnitPlan → Bool) (tells : TellsWhoStays plan s
 
     pub lie_between : (timing : Timing) (group : GroupPlan) → LieBetween plan timing stays held group flow
     lie_between timing group =
-        let own = between group.priority group.pgn in
-        let packets = between timing.transport_priority data_transfer in
+        let own = between flow.sender flow.to known.sender known.receiver group.priority group.pgn in
+        let packets = between flow.sender flow.to known.sender known.receiver timing.transport_priority data_transfer in
         record {
           least = own.0;
           greatest = own.1;
@@ -112,3 +117,11 @@ module _ (plan : Plan) (stays : UnitPlan → Bool) (tells : TellsWhoStays plan s
           least_broadcast = λ pgn. (broadcast_between timing.transport_priority pgn).0;
           greatest_broadcast = λ pgn. (broadcast_between timing.transport_priority pgn).1;
         }
+
+  pub request_between : (r : ℕ) (request : RequestPlan) → slice_get plan.requests.items r ≡ Some request
+      → RequestLiesBetween plan stays held request
+  request_between r request at =
+      let sender = all_at (λ (d : RequestPlan). d.sender < length units) plan.requests.items plan.request_senders r request at in
+      let receiver = all_at (λ (d : RequestPlan). (v : ℕ) → d.to ≡ One v → v < length units) plan.requests.items plan.request_receivers r request at in
+      let own = between request.sender request.to sender receiver claim_priority request_group in
+      record { least = own.0; greatest = own.1 }

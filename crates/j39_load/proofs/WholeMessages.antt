@@ -20,13 +20,14 @@ use Rattle.j39_load.specs.declared.flow_load.FlowLoad.{FlowLoad}
 use Rattle.j39_load.specs.declared.load_finding.LoadFinding.TheVariants.{LateFlow}
 use Rattle.j39_load.specs.declared.messages.Messages.{Messages}
 use Rattle.j39_load.specs.declared.messages.Messages.TheVariants.{Short, ToAll, ToOne}
+use Rattle.j39_load.specs.declared.request_load.RequestLoad.{RequestLoad}
 use Rattle.j39_load.specs.declared.unit_load.UnitLoad.{UnitLoad}
 use Rattle.j39_load.specs.declared.whole_time.WholeTime.{WholeTime}
-use Rattle.j39_load.specs.Ages.{old_needs}
-use Rattle.j39_load.specs.Asked.{Asked, announcements_of_unit, asked_of, frames_asked, frames_of_flow, packets_of_unit, singles_of_flow, total_load}
+use Rattle.j39_load.specs.Ages.{is_in_limit, old_needs}
+use Rattle.j39_load.specs.Asked.{Asked, announcements_of_unit, asked_of, frames_asked, frames_of_flow, frames_of_request, packets_of_unit, singles_of_flow, total_load}
 use Rattle.j39_load.specs.Broadcasts.{broadcasts_by, known_unit_load, unit_loads_of}
 use Rattle.j39_load.specs.Delays.{IsDelayOf, IsTurnTimeBy, IsWaitOf, IsWholeTime, announcements_place, known_turn_time, longest_pause, packet_time, packets_place, turn_time, whole_time}
-use Rattle.j39_load.specs.LoadFindings.{AreLoadFindings, AsksOfBus, is_in_limit, is_whole_late, lateness, load_findings, without_period}
+use Rattle.j39_load.specs.LoadFindings.{AreLoadFindings, AsksOfBus, is_whole_late, lateness, load_findings, without_period}
 use Rattle.j39_load.specs.Loads.{bits_of_ms}
 use Rattle.j39_load.specs.Places.{told_from}
 use Rattle.j39_load.specs.PlannedFrames.{AreDeadlinesKept, AreMessagesOf, ArePlannedFramesInTime, AreTimesBounds, AreWholeOnEveryBus, AreWholeWithin, IsOneTurn}
@@ -97,6 +98,9 @@ module _ (asked : Asked) (u : ℕ) (load : UnitLoad) (its : get_or asked.units u
   abbrev units : List (Option UnitLoad)
   units = asked.units
 
+  abbrev requests : List (Option RequestLoad)
+  requests = asked.requests
+
   inside : u < length units
   inside = get_or_inside units u load its
 
@@ -112,9 +116,10 @@ module _ (asked : Asked) (u : ℕ) (load : UnitLoad) (its : get_or asked.units u
 
   -- behind both lists of the flows
   behind_flows : (n : ℕ) → get_or (frames_asked asked) (2 * length flows + n) None
-      ≡ get_or (map packets_of_unit units ++ map announcements_of_unit units) n None
+      ≡ get_or (map packets_of_unit units ++ (map announcements_of_unit units ++ map frames_of_request requests)) n None
   behind_flows n =
-      let rest : List (Option FlowFrames) = map packets_of_unit units ++ map announcements_of_unit units in
+      let rest : List (Option FlowFrames) =
+      map packets_of_unit units ++ (map announcements_of_unit units ++ map frames_of_request requests) in
       let first : length (map frames_of_flow flows) + (length (map singles_of_flow flows) + n) ≡ 2 * length flows + n =
       omega (arith, length-map flows frames_of_flow, length-map flows singles_of_flow) in
       ap (λ (k : ℕ). get_or (frames_asked asked) k None) (sym first)
@@ -123,14 +128,17 @@ module _ (asked : Asked) (u : ℕ) (load : UnitLoad) (its : get_or asked.units u
 
   pub packets_read : get_or (frames_asked asked) (packets_place asked u) None ≡ Some load.packets
   packets_read = behind_flows u
-      ∙ get_or_append_left (map packets_of_unit units) (map announcements_of_unit units) None u
+      ∙ get_or_append_left (map packets_of_unit units) (map announcements_of_unit units ++ map frames_of_request requests) None u
       (let here = inside in omega (arith, here, length-map units packets_of_unit))
       ∙ read_of packets_of_unit
 
   pub announcements_read : get_or (frames_asked asked) (announcements_place asked u) None ≡ Some load.announcements
   announcements_read = behind_flows (length units + u)
-      ∙ ap (λ (k : ℕ). get_or (map packets_of_unit units ++ map announcements_of_unit units) (k + u) None) (sym (length-map units packets_of_unit))
-      ∙ get_or-append-add (map packets_of_unit units) (map announcements_of_unit units) u None
+      ∙ ap (λ (k : ℕ). get_or (map packets_of_unit units ++ (map announcements_of_unit units ++ map frames_of_request requests)) (k + u) None)
+      (sym (length-map units packets_of_unit))
+      ∙ get_or-append-add (map packets_of_unit units) (map announcements_of_unit units ++ map frames_of_request requests) u None
+      ∙ get_or_append_left (map announcements_of_unit units) (map frames_of_request requests) None u
+      (let here = inside in omega (arith, here, length-map units announcements_of_unit))
       ∙ read_of announcements_of_unit
 
 -- ---- bounds
@@ -254,5 +262,5 @@ module _ (plan : Plan) (timing : Timing) (stays : UnitPlan → Bool) where
 
 pub in_time_where_checked : (plan : Plan) (timing : Timing) → AreLoadFindings plan (Some timing) [] → ArePlannedFramesInTime plan timing
 in_time_where_checked plan timing (stays, delays, asks, none) =
-    let both = none_of_two (load_findings timing (total_load timing (asked_of timing plan stays)) delays) (old_needs timing plan.flows.items delays plan.needs.items) (sym none) in
+    let both = none_of_two (load_findings timing (total_load timing (asked_of timing plan stays)) delays) (old_needs timing plan.requests.items plan.flows.items delays plan.needs.items) (sym none) in
     (stays, delays, asks, short_bounded plan timing stays delays asks both.0, deadlines_kept plan timing stays delays asks both.0)

@@ -5,6 +5,7 @@ use Rattle.std.specs.Option.{option_map_or}
 use Rattle.j39_findings.specs.Found.{is_unmet, meets}
 use Rattle.j39_findings.specs.declared.plan.flow_plan.FlowPlan.{FlowPlan}
 use Rattle.j39_findings.specs.declared.plan.need_plan.NeedPlan.{NeedPlan}
+use Rattle.j39_findings.specs.declared.plan.request_plan.RequestPlan.{RequestPlan}
 use Rattle.j39_findings.specs.declared.plan.timing.Timing.{Timing}
 use Rattle.j39_load.specs.declared.delay.Delay.{Delay}
 use Rattle.j39_load.specs.declared.delay.Delay.TheVariants.{Within}
@@ -13,14 +14,16 @@ use Rattle.j39_load.specs.declared.load_finding.LoadFinding.TheVariants.{NeedToo
 use Rattle.j39_load.specs.Loads.{bits_of_ms}
 use Rattle.j39_load.specs.Places.{told_from}
 
--- the age of what a flow brings, in bits: that of one with a pause and with a delay that is told
+-- the age of what a flow brings, in bits: that of one with a pause and with a delay that is told, which isn't sent as an answer
 abbrev pub ages_of : Timing → FlowPlan → Option Delay → List ℕ
-ages_of timing flow (Some (Within bits)) = option_map_or (λ pause. (bits_of_ms timing pause + bits) ∷ []) flow.pause []
+ages_of timing flow (Some (Within bits)) =
+    if flow.on_request then [] else option_map_or (λ pause. (bits_of_ms timing pause + bits) ∷ []) flow.pause []
 ages_of timing flow _ = []
 
 -- the same of the flow at a place, where it meets the need
-abbrev pub ages_for : Timing → List (Option Delay) → NeedPlan → ℕ → FlowPlan → List ℕ
-ages_for timing delays need place flow = if meets need flow then ages_of timing flow (slice_index_or delays place None) else []
+abbrev pub ages_for : Timing → List RequestPlan → List (Option Delay) → NeedPlan → ℕ → FlowPlan → List ℕ
+ages_for timing requests delays need place flow =
+    if meets requests need flow then ages_of timing flow (slice_index_or delays place None) else []
 
 -- the smaller one of two numbers that may be known
 abbrev pub smaller_known : Option ℕ → Option ℕ → Option ℕ
@@ -34,24 +37,24 @@ least [] = None
 least (x ∷ xs) = smaller_known (Some x) (least xs)
 
 -- how old what a unit needs is at most: by that of the flows that meet the need of which it is youngest
-abbrev pub least_age : Timing → List FlowPlan → List (Option Delay) → NeedPlan → Option ℕ
-least_age timing flows delays need = least (told_from (ages_for timing delays need) 0 flows)
+abbrev pub least_age : Timing → List RequestPlan → List FlowPlan → List (Option Delay) → NeedPlan → Option ℕ
+least_age timing requests flows delays need = least (told_from (ages_for timing requests delays need) 0 flows)
 
--- the age is known, and within so many bits
-abbrev pub is_young : ℕ → Option ℕ → Bool
-is_young limit None = false
-is_young limit (Some age) = nat_le age limit
+-- a time is known, and within so many bits
+abbrev pub is_in_limit : ℕ → Option ℕ → Bool
+is_in_limit limit None = false
+is_in_limit limit (Some bits) = nat_le bits limit
 
 -- some flow meets the need, and what none of these brings is shown to be within so many milliseconds
-abbrev pub is_too_old : Timing → List FlowPlan → List (Option Delay) → NeedPlan → ℕ → Bool
-is_too_old timing flows delays need within =
-    not (is_unmet flows need) && not (is_young (bits_of_ms timing within) (least_age timing flows delays need))
+abbrev pub is_too_old : Timing → List RequestPlan → List FlowPlan → List (Option Delay) → NeedPlan → ℕ → Bool
+is_too_old timing requests flows delays need within =
+    not (is_unmet requests flows need) && not (is_in_limit (bits_of_ms timing within) (least_age timing requests flows delays need))
 
 -- what is wrong with the need at a place: nothing where it asks for no age
-abbrev pub oldness : Timing → List FlowPlan → List (Option Delay) → ℕ → NeedPlan → List LoadFinding
-oldness timing flows delays place need =
-    option_map_or (λ within. if is_too_old timing flows delays need within then NeedTooOld place ∷ [] else []) need.within []
+abbrev pub oldness : Timing → List RequestPlan → List FlowPlan → List (Option Delay) → ℕ → NeedPlan → List LoadFinding
+oldness timing requests flows delays place need =
+    option_map_or (λ within. if is_too_old timing requests flows delays need within then NeedTooOld place ∷ [] else []) need.within []
 
 -- what is wrong with the ages of what units need
-abbrev pub old_needs : Timing → List FlowPlan → List (Option Delay) → List NeedPlan → List LoadFinding
-old_needs timing flows delays needs = told_from (oldness timing flows delays) 0 needs
+abbrev pub old_needs : Timing → List RequestPlan → List FlowPlan → List (Option Delay) → List NeedPlan → List LoadFinding
+old_needs timing requests flows delays needs = told_from (oldness timing requests flows delays) 0 needs

@@ -1,5 +1,5 @@
 -- What a plan is good for that finds no need too old: on every bus what the unit needs is never older than it asks for.
-use Rattle.std.specs.Prelude.{◌≡◌, ℕ, ◌+◌, ◌<◌, ◌≤◌, Bool, List, Option, Some}
+use Rattle.std.specs.Prelude.{◌≡◌, ℕ, ◌+◌, ◌<◌, ◌≤◌, Bool, false, List, Option, Some}
 use Rattle.std.specs.List.{slice_get}
 use Rattle.j39_findings.specs.Findings.{Meets}
 use Rattle.j39_findings.specs.declared.plan.Plan.{Plan}
@@ -25,13 +25,14 @@ IsFreshOnEveryBus timing asked flow pause stream wait delay = (s : Schedule) (pl
     → AreFramesOfPlan timing (frames_asked asked) s planned of flow → (from to : ℕ) → KeepsComing s planned of flow pause from to
     → to + (stream.late + wait) < s.now → IsFresh s planned of flow (pause + delay) (from + delay) (to + delay)
 
--- some flow meets the need; for the longest time that it may be silent and its delay, which bounds its frames' time on every bus, together
+-- some flow that isn't sent as an answer meets the need; for the longest time that it may be silent and its delay, which bounds its frames' time on every bus, together
 -- no more is asked than the need allows; and what comes by it is never older
 pub record IsNeedFresh (plan : Plan) (timing : Timing) (asked : Asked) (delays : List (Option Delay)) (need : NeedPlan) (within : ℕ) : Type 0 where
   pub place : ℕ
   pub flow : FlowPlan
   pub its : slice_get plan.flows.items place ≡ Some flow
-  pub meets : Meets need flow
+  pub meets : Meets plan.requests.items need flow
+  pub unasked : flow.on_request ≡ false
   pub pause : ℕ
   pub paused : flow.pause ≡ Some pause
   pub bits : ℕ

@@ -9,6 +9,7 @@ pub mod Loads
 pub mod Places
 pub mod PlannedFrames
 pub mod Ranks
+pub mod Requests
 pub mod SoundLoads
 pub mod Standing
 pub mod inside

@@ -1,6 +1,6 @@
 -- What is wrong with what the flows of a plan ask of its bus, in the order in which it is told: flows without a period, a load above the
 -- bitrate, flows that aren't shown to be in time, and needs for what isn't shown to be young enough.
-use Rattle.std.specs.Prelude.{◌≡◌, ℕ, ◌<◌, Bool, false, not, nat_le, nat_lt, if◌then◌else◌, List, [], ◌∷◌, ◌++◌, Option, Some, None}
+use Rattle.std.specs.Prelude.{◌≡◌, ℕ, ◌<◌, Bool, false, not, nat_lt, if◌then◌else◌, List, [], ◌∷◌, ◌++◌, Option, Some, None}
 use Rattle.std.specs.Option.{option_map_or}
 use Rattle.j39_findings.specs.declared.plan.Plan.{Plan}
 use Rattle.j39_findings.specs.declared.plan.timing.Timing.{Timing}
@@ -10,7 +10,7 @@ use Rattle.j39_load.specs.declared.delay.Delay.TheVariants.{Late, Whole}
 use Rattle.j39_load.specs.declared.load_finding.LoadFinding.{LoadFinding}
 use Rattle.j39_load.specs.declared.load_finding.LoadFinding.TheVariants.{NoPeriod, Overload, LateFlow, NeedTooOld}
 use Rattle.j39_load.specs.declared.whole_time.WholeTime.{WholeTime}
-use Rattle.j39_load.specs.Ages.{old_needs}
+use Rattle.j39_load.specs.Ages.{is_in_limit, old_needs}
 use Rattle.j39_load.specs.Asked.{asked_of, total_load}
 use Rattle.j39_load.specs.Damage.{load_of_damage}
 use Rattle.j39_load.specs.Delays.{TellDelays}
@@ -30,12 +30,7 @@ abbrev pub without_period : ℕ → Option Delay → List LoadFinding
 without_period flow None = NoPeriod flow ∷ []
 without_period flow (Some delay) = []
 
--- a long message to all is whole within a time that is known and so short
-abbrev pub is_in_limit : ℕ → Option ℕ → Bool
-is_in_limit limit None = false
-is_in_limit limit (Some bits) = nat_le bits limit
-
--- its deadline is written, and it isn't
+-- the deadline of long messages to all is written, and they aren't shown to be whole within it
 abbrev pub is_whole_late : WholeTime → Bool
 is_whole_late whole = option_map_or (λ limit. not (is_in_limit limit whole.bits)) whole.limit false
 
@@ -60,7 +55,7 @@ IsFullOfDamage (Some timing) = bits_of_second timing.bitrate < load_of_damage ti
 
 -- with what is wrong with the ages of what units need
 abbrev pub all_findings : Plan → Timing → ℕ → List (Option Delay) → List LoadFinding
-all_findings plan timing load delays = load_findings timing load delays ++ old_needs timing plan.flows.items delays plan.needs.items
+all_findings plan timing load delays = load_findings timing load delays ++ old_needs timing plan.requests.items plan.flows.items delays plan.needs.items
 
 -- what a plan asks of a bus: what each flow does, by who stays, and how long its frames wait
 pub record AsksOfBus (plan : Plan) (timing : Timing) (stays : UnitPlan → Bool) (delays : List (Option Delay)) : Type 0 where

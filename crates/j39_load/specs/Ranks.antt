@@ -1,4 +1,4 @@
--- Between which identifiers the frames of a flow lie, whatever addresses the units of a plan come to hold.
+-- Between which identifiers the frames of a flow lie, and those of a request, whatever addresses the units of a plan come to hold.
 use Rattle.std.specs.Prelude.{◌≡◌, ◌≢◌, ℕ, ◌<◌, ◌≤◌, ◌⊎◌, Bool, true, length, Some}
 use Rattle.std.specs.List.{slice_get}
 use Rattle.j39_id.specs.Addresses.{global_address, in_pool}
@@ -6,10 +6,12 @@ use Rattle.j39_id.specs.Name.{is_arbitrary}
 use Rattle.j39_findings.specs.declared.plan.Plan.{Plan}
 use Rattle.j39_findings.specs.declared.plan.flow_plan.FlowPlan.{FlowPlan}
 use Rattle.j39_findings.specs.declared.plan.group_plan.GroupPlan.{GroupPlan}
+use Rattle.j39_findings.specs.declared.plan.request_plan.RequestPlan.{RequestPlan}
 use Rattle.j39_findings.specs.declared.plan.timing.Timing.{Timing}
 use Rattle.j39_findings.specs.declared.plan.to.To.TheVariants.{One}
 use Rattle.j39_findings.specs.declared.plan.unit_plan.UnitPlan.{UnitPlan}
 use Rattle.j39_load.specs.Loads.{broadcast_ident, greatest_address, group_ident, is_always_short, least_address, of_unit, packet_ident}
+use Rattle.j39_load.specs.Requests.{request_ident}
 use Rattle.j39_world.specs.PlannedUnits.{unit_at, units_of}
 use Rattle.j39_world.specs.Staying.{StaysBeside}
 
@@ -36,6 +38,11 @@ pub record LieBetween (plan : Plan) (timing : Timing) (stays : UnitPlan → Bool
   pub greatest_broadcast : (pgn : ℕ) → broadcast_ident timing pgn held flow.sender
       ≤ broadcast_ident timing pgn (of_unit plan.units.items (greatest_address stays)) flow.sender
 
+-- so does the identifier of a request
+pub record RequestLiesBetween (plan : Plan) (stays : UnitPlan → Bool) (held : ℕ → ℕ) (request : RequestPlan) : Type 0 where
+  pub least : request_ident (of_unit plan.units.items (least_address stays)) request ≤ request_ident held request
+  pub greatest : request_ident held request ≤ request_ident (of_unit plan.units.items (greatest_address stays)) request
+
 -- of the units that are on each holds an address, and no two of them one
 pub record AreHeldApart (on : ℕ → Bool) (held : ℕ → ℕ) : Type 0 where
   pub range : (u : ℕ) → on u ≡ true → held u < global_address
@@ -48,3 +55,8 @@ pub record IsShortFlow (plan : Plan) (on : ℕ → Bool) (place : ℕ) (flow : F
   pub short : is_always_short group ≡ true
   pub sender : on flow.sender ≡ true
   pub receiver : (v : ℕ) → flow.to ≡ One v → on v ≡ true
+
+-- a request of a unit that is on, to one that is on or to all
+pub record IsAskedBetween (on : ℕ → Bool) (request : RequestPlan) : Type 0 where
+  pub sender : on request.sender ≡ true
+  pub receiver : (v : ℕ) → request.to ≡ One v → on v ≡ true

@@ -1,10 +1,11 @@
--- What holds of what each flow and each unit asks of the bus, so that waits can be computed from it.
+-- What holds of what each flow, each unit and each request asks of the bus, so that waits can be computed from it.
 use Rattle.std.specs.Prelude.{◌^◌, ◌<◌, ◌≤◌, Option, Some, None, IfSome}
 use Rattle.j39_load.specs.declared.broadcast.Broadcast.{Broadcast}
 use Rattle.j39_load.specs.declared.flow_frames.FlowFrames.{FlowFrames}
 use Rattle.j39_load.specs.declared.flow_load.FlowLoad.{FlowLoad}
 use Rattle.j39_load.specs.declared.messages.Messages.{Messages}
 use Rattle.j39_load.specs.declared.messages.Messages.TheVariants.{Short, ToAll, ToOne}
+use Rattle.j39_load.specs.declared.request_load.RequestLoad.{RequestLoad}
 use Rattle.j39_load.specs.declared.unit_load.UnitLoad.{UnitLoad}
 use Rattle.j39_load.specs.Asked.{own_frames}
 use Rattle.j39_timing.specs.Waits.{IsStream}
@@ -43,3 +44,9 @@ pub record IsSoundUnit (load : UnitLoad) : Type 0 where
 
 abbrev pub IsSoundIfSent : Option UnitLoad → Type 0
 IsSoundIfSent load = IfSome load IsSoundUnit
+
+abbrev pub IsSoundRequest : RequestLoad → Type 0
+IsSoundRequest load = AreSound load.frames
+
+abbrev pub IsSoundIfAsked : Option RequestLoad → Type 0
+IsSoundIfAsked load = IfSome load IsSoundRequest

@@ -1,18 +1,21 @@
 //! How old what units need is at most.
 ghost use Rattle.std.specs.Prelude.{◌≡◌, ◌≢◌, ◌∷◌, ◌++◌, [], length, ◌<◌, IfSome, IfNone, OnOk, OnErr};
-ghost use Rattle.j39_load.specs.Ages.{ages_for, ages_of, is_too_old, is_young, least, least_age, old_needs, oldness, smaller_known};
+ghost use Rattle.j39_load.specs.Ages.{ages_for, ages_of, is_in_limit, is_too_old, least, least_age, old_needs, oldness, smaller_known};
 
 use crate::delay::Delay;
 use crate::load_finding::LoadFinding;
 use crate::streams::bits_of_ms;
-use j39_findings::{FlowPlan, NeedPlan, Timing, is_met, meets};
+use j39_findings::{FlowPlan, NeedPlan, RequestPlan, Timing, is_met, meets};
 use std::alloc::AllocError;
 
-// The age of what a flow of this delay brings, in bits, where one is known.
+// The age of what a flow of this delay brings, in bits, where one is known: it isn't known when answers are asked for.
 fn age_of(timing: Timing, flow: &FlowPlan, delay: Option<Delay>) -> Option<u64>
     ensures some { IfSome result (λ age. ages_of timing flow.now delay ≡ age ∷ []) }
     ensures none { IfNone result (ages_of timing flow.now delay ≡ []) }
 {
+    if flow.on_request {
+        return None;
+    }
     match (delay, flow.pause) {
         (Some(Delay::Within(bits)), Some(pause)) => {
             Some(u64::from(bits_of_ms(timing, pause)) + u64::from(bits))
@@ -35,15 +38,16 @@ fn smaller(one: Option<u64>, other: Option<u64>) -> Option<u64>
 // The age of what the flow at a place brings, where it meets the need and one is known.
 fn age_for(
     timing: Timing,
+    requests: &[RequestPlan],
     delays: &[Option<Delay>],
     need: &NeedPlan,
     place: usize,
     flow: &FlowPlan,
 ) -> Option<u64>
     requires { place < length delays.now }
-    ensures { result ≡ least (ages_for timing delays.now need.now place flow.now) }
+    ensures { result ≡ least (ages_for timing requests.now delays.now need.now place flow.now) }
 {
-    if meets(need, flow) {
+    if meets(requests, need, flow) {
         age_of(timing, flow, delays[place])
     } else {
         None
@@ -54,57 +58,62 @@ fn age_for(
 #[tactic(auto, unfolding(crate::specs::Places::told_from))]
 pub fn least_age(
     timing: Timing,
+    requests: &[RequestPlan],
     flows: &[FlowPlan],
     delays: &[Option<Delay>],
     need: &NeedPlan,
 ) -> Option<u64>
     requires { length delays.now ≡ length flows.now }
-    ensures { result ≡ least_age timing flows.now delays.now need.now }
+    ensures { result ≡ least_age timing requests.now flows.now delays.now need.now }
 {
     let mut least = None;
     for (place, flow) in flows.iter().enumerate() {
-        least = smaller(least, age_for(timing, delays, need, place, flow));
+        least = smaller(least, age_for(timing, requests, delays, need, place, flow));
     }
     least
 }
 
-fn is_young(limit: u64, age: Option<u64>) -> bool
-    ensures { result ≡ is_young limit age }
+/// Whether a time is known, and within so many bits.
+pub(crate) fn is_in_limit(limit: u32, bits: Option<u64>) -> bool
+    ensures { result ≡ is_in_limit limit bits }
 {
-    match age {
+    match bits {
         None => false,
-        Some(age) => age <= limit,
+        Some(bits) => bits <= u64::from(limit),
     }
 }
 
 fn is_too_old(
     timing: Timing,
+    requests: &[RequestPlan],
     flows: &[FlowPlan],
     delays: &[Option<Delay>],
     need: &NeedPlan,
     within: u16,
 ) -> bool
     requires { length delays.now ≡ length flows.now }
-    ensures { result ≡ is_too_old timing flows.now delays.now need.now within }
+    ensures { result ≡ is_too_old timing requests.now flows.now delays.now need.now within }
 {
-    let limit = u64::from(bits_of_ms(timing, within));
-    is_met(flows, need) && !is_young(limit, least_age(timing, flows, delays, need))
+    let limit = bits_of_ms(timing, within);
+    is_met(requests, flows, need)
+        && !is_in_limit(limit, least_age(timing, requests, flows, delays, need))
 }
 
 // What is wrong with the need at a place.
 fn oldness(
     timing: Timing,
+    requests: &[RequestPlan],
     flows: &[FlowPlan],
     delays: &[Option<Delay>],
     place: usize,
     need: &NeedPlan,
 ) -> Option<LoadFinding>
     requires { length delays.now ≡ length flows.now }
-    ensures some { IfSome result (λ finding. oldness timing flows.now delays.now place need.now ≡ finding ∷ []) }
-    ensures none { IfNone result (oldness timing flows.now delays.now place need.now ≡ []) }
+    ensures some { IfSome result (λ finding. oldness timing requests.now flows.now delays.now place need.now ≡ finding ∷ []) }
+    ensures none { IfNone result (oldness timing requests.now flows.now delays.now place need.now ≡ []) }
 {
     match need.within {
-        Some(within) if is_too_old(timing, flows, delays, need, within) => {
+        Some(within) if is_too_old(timing, requests, flows, delays, need, within) => {
             Some(LoadFinding::NeedTooOld(place))
         }
         _ => None,
@@ -116,16 +125,17 @@ fn oldness(
 pub(crate) fn find_old_needs(
     findings: &mut Vec<LoadFinding>,
     timing: Timing,
+    requests: &[RequestPlan],
     flows: &[FlowPlan],
     delays: &[Option<Delay>],
     needs: &[NeedPlan],
 ) -> Result<(), AllocError>
     requires { length delays.now ≡ length flows.now }
-    ensures found { OnOk result (findings.new.items ≡ findings.old.items ++ old_needs timing flows.now delays.now needs.now) }
-    ensures memory { OnErr result (old_needs timing flows.now delays.now needs.now ≢ []) }
+    ensures found { OnOk result (findings.new.items ≡ findings.old.items ++ old_needs timing requests.now flows.now delays.now needs.now) }
+    ensures memory { OnErr result (old_needs timing requests.now flows.now delays.now needs.now ≢ []) }
 {
     for (place, need) in needs.iter().enumerate() {
-        if let Some(finding) = oldness(timing, flows, delays, place, need) {
+        if let Some(finding) = oldness(timing, requests, flows, delays, place, need) {
             findings.push(finding)?;
         }
     }

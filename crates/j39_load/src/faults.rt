@@ -1,11 +1,11 @@
 //! What is wrong with what a plan asks of its bus.
 ghost use Rattle.std.specs.Prelude.{◌≡◌, ◌≢◌, ◌⊎◌, ◌∷◌, ◌++◌, [], None, length, IfOk, IfSome, IfNone, OnOk, OnErr};
-ghost use Rattle.j39_load.specs.LoadFindings.{AreLoadFindings, IsFullOfDamage, all_findings, is_whole_late, is_in_limit, load_findings};
+ghost use Rattle.j39_load.specs.LoadFindings.{AreLoadFindings, IsFullOfDamage, all_findings, is_whole_late, load_findings};
 ghost use Rattle.j39_load.specs.Loads.{bits_of_second};
 ghost use Rattle.j39_load.specs.Places.{told_from};
 ghost use Rattle.j39_load.specs.inside.Faults.{found_at};
 
-use crate::ages::find_old_needs;
+use crate::ages::{find_old_needs, is_in_limit};
 use crate::delay::Delay;
 use crate::load_finding::LoadFinding;
 use crate::loads::Loads;
@@ -21,22 +21,12 @@ pub(crate) enum Fault {
     Lateness,
 }
 
-// Whether long messages to all are whole within a time that is known and so short.
-fn is_within(limit: u32, bits: Option<u64>) -> bool
-    ensures { result ≡ is_in_limit limit bits }
-{
-    match bits {
-        Some(bits) => bits <= u64::from(limit),
-        None => false,
-    }
-}
-
-// Whether their deadline is written, and they aren't.
+// Whether the deadline of long messages to all is written, and they aren't shown to be whole within it.
 fn is_whole_late(whole: &WholeTime) -> bool
     ensures { result ≡ is_whole_late whole.now }
 {
     match whole.limit {
-        Some(limit) => !is_within(limit, whole.bits),
+        Some(limit) => !is_in_limit(limit, whole.bits),
         None => false,
     }
 }
@@ -81,10 +71,11 @@ pub fn bits_of_second(bitrate: Bitrate) -> u32
 }
 
 /// What is wrong with what a plan asks of its bus: nothing where nothing is known of this, and no memory is asked for
-/// then. Nor is it of a plan without flows, unless damaged frames alone are too many for the bus.
+/// then. Nor is it of a plan without flows and requests, unless damaged frames alone are too many for the bus.
 pub fn check_load(alloc: Global, plan: &Plan) -> Result<Vec<LoadFinding>, AllocError>
     ensures findings { IfOk result (λ findings. AreLoadFindings plan.now plan.now.timing findings.items) }
-    ensures memory { OnErr result ((plan.now.timing ≢ None) × ((plan.now.flows.items ≢ []) ⊎ IsFullOfDamage plan.now.timing)) }
+    ensures memory { OnErr result ((plan.now.timing ≢ None)
+        × ((plan.now.flows.items ≢ []) ⊎ ((plan.now.requests.items ≢ []) ⊎ IsFullOfDamage plan.now.timing))) }
 {
     let Some(timing) = plan.timing else {
         return Ok(Vec::new(alloc));
@@ -126,6 +117,13 @@ pub fn all_findings(
     ensures memory { OnErr result (all_findings plan.now timing load delays.now ≢ []) }
 {
     let mut findings = load_findings(alloc, timing, load, delays)?;
-    find_old_needs(&mut findings, timing, &plan.flows, delays, &plan.needs)?;
+    find_old_needs(
+        &mut findings,
+        timing,
+        &plan.requests,
+        &plan.flows,
+        delays,
+        &plan.needs,
+    )?;
     Ok(findings)
 }

@@ -1,16 +1,17 @@
-//! Identifiers of the frames of a flow.
+//! Identifiers of the frames of a flow, and of requests.
 ghost use Rattle.std.specs.Prelude.{◌≡◌, ◌<◌, ℕ, length};
 ghost use Rattle.j39_id.specs.Ident.{identifier_of};
 ghost use Rattle.j39_findings.specs.declared.plan.to.To.TheVariants.{One};
 ghost use Rattle.j39_load.specs.Loads.{broadcast_ident, destination_at, group_ident, of_unit, packet_ident};
+ghost use Rattle.j39_load.specs.Requests.{request_ident};
 ghost use Rattle.j39_load.specs.Standing.{stays_of};
 ghost use Rattle.j39_load.specs.inside.Extremes.{extreme_address};
 
 use crate::extreme::Extreme;
 use crate::standing::Standing;
-use j39_findings::{FlowPlan, GroupPlan, Timing, To, UnitPlan};
+use j39_findings::{FlowPlan, GroupPlan, RequestPlan, Timing, To, UnitPlan};
 use j39_id::addresses::GLOBAL_ADDRESS;
-use j39_id::services::DATA_TRANSFER;
+use j39_id::services::{CLAIM_PRIORITY, DATA_TRANSFER, REQUEST};
 use j39_id::{PDU2_FIRST, Pgn, pf_of};
 
 // The number of the identifier by which a group is sent, whose number need be no group's.
@@ -92,5 +93,24 @@ pub(crate) fn broadcast_ident(
         pgn.number(),
         GLOBAL_ADDRESS,
         extreme.address(standing, &units[unit]),
+    )
+}
+
+/// That of a request.
+pub(crate) fn request_ident(
+    units: &[UnitPlan],
+    standing: &Standing,
+    extreme: Extreme,
+    request: &RequestPlan,
+) -> u64
+    requires sender { request.now.sender < length units.now }
+    requires receiver { (v : ℕ) → request.now.to ≡ One v → v < length units.now }
+    ensures { result ≡ request_ident (of_unit units.now (extreme_address extreme (stays_of standing.now))) request.now }
+{
+    identifier(
+        CLAIM_PRIORITY,
+        REQUEST.number(),
+        destination(units, standing, extreme, request.to),
+        extreme.address(standing, &units[request.sender]),
     )
 }

@@ -1,9 +1,11 @@
 //! Laws of the frames of a plan's flows.
 ghost use Rattle.std.specs.Prelude.{◌≡◌, ◌≢◌, ℕ, List, [], Bool, Option, Some};
+ghost use Rattle.std.specs.List.{slice_get};
 ghost use Rattle.j39_findings.specs.Findings.{Clean};
 ghost use Rattle.j39_findings.specs.declared.plan.Plan.{Plan as Plans};
 ghost use Rattle.j39_findings.specs.declared.plan.flow_plan.FlowPlan.{FlowPlan as PlannedFlows};
 ghost use Rattle.j39_findings.specs.declared.plan.group_plan.GroupPlan.{GroupPlan as PlannedGroups};
+ghost use Rattle.j39_findings.specs.declared.plan.request_plan.RequestPlan.{RequestPlan as PlannedRequests};
 ghost use Rattle.j39_findings.specs.declared.plan.timing.Timing.{Timing as Timings};
 ghost use Rattle.j39_findings.specs.declared.plan.unit_plan.UnitPlan.{UnitPlan as PlannedUnits};
 ghost use Rattle.j39_load.specs.declared.delay.Delay.{Delay as Delays};
@@ -12,7 +14,8 @@ ghost use Rattle.j39_load.specs.LoadFindings.{AreLoadFindings, AsksOfBus, load_f
 ghost use Rattle.j39_load.specs.Loads.{group_ident};
 ghost use Rattle.j39_load.specs.Asked.{asked_of, total_load};
 ghost use Rattle.j39_load.specs.PlannedFrames.{AreDeadlinesKept, AreDelaysBounds, AreShortFlowsBounded, AreTimesBounds, ArePlannedFramesInTime};
-ghost use Rattle.j39_load.specs.Ranks.{AreHeldApart, AreHeldByPlan, AreUnitsPlanned, IsShortFlow, LieBetween};
+ghost use Rattle.j39_load.specs.Ranks.{AreHeldApart, AreHeldByPlan, AreUnitsPlanned, IsAskedBetween, IsShortFlow, LieBetween, RequestLiesBetween};
+ghost use Rattle.j39_load.specs.Requests.{request_ident};
 ghost use Rattle.j39_load.specs.Standing.{TellsWhoStays};
 
 /// The delays of a plan bound the time of its frames. A delay that `Loads::delays` tells holds in every legal schedule
@@ -43,16 +46,21 @@ pub fn needs_stay_fresh()
 
 /// Where each unit holds its planned address, or one of 128 to 247 if it may choose and isn't one that stays, the identifiers of a flow's
 /// frames lie between the least and the greatest one that are told of the flow, and so do those of a long message's packets, and of its
-/// sender's announcements and packets to all.
+/// sender's announcements and packets to all (`flows`); and that of a request lies between those that are told of it (`requests`).
 pub fn identifiers_lie_between()
-    ensures { (plan : Plans) (timing : Timings) (stays : PlannedUnits → Bool) (held : ℕ → ℕ) → TellsWhoStays plan stays → AreHeldByPlan plan held
+    ensures flows { (plan : Plans) (timing : Timings) (stays : PlannedUnits → Bool) (held : ℕ → ℕ) → TellsWhoStays plan stays → AreHeldByPlan plan held
         → (flow : PlannedFlows) → AreUnitsPlanned plan flow → (group : PlannedGroups) → LieBetween plan timing stays held group flow }
+    ensures requests { (plan : Plans) (stays : PlannedUnits → Bool) (held : ℕ → ℕ) → TellsWhoStays plan stays → AreHeldByPlan plan held
+        → (r : ℕ) (request : PlannedRequests) → slice_get plan.requests.items r ≡ Some request → RequestLiesBetween plan stays held request }
 {}
 
 /// While units hold different addresses, frames of two flows of a clean plan between units that are on, each message of which goes in
-/// one frame, have two identifiers.
+/// one frame, have two identifiers (`flows`); and no request between units that are on has that of such a frame (`requests`).
 pub fn short_flows_have_different_identifiers()
-    ensures { (plan : Plans) → Clean plan → (on : ℕ → Bool) (held : ℕ → ℕ) → AreHeldApart on held
+    ensures flows { (plan : Plans) → Clean plan → (on : ℕ → Bool) (held : ℕ → ℕ) → AreHeldApart on held
         → (f h : ℕ) (flow other : PlannedFlows) (group second : PlannedGroups) → f ≢ h → IsShortFlow plan on f flow group
         → IsShortFlow plan on h other second → group_ident held group flow ≢ group_ident held second other }
+    ensures requests { (plan : Plans) → Clean plan → (on : ℕ → Bool) (held : ℕ → ℕ) → AreHeldApart on held
+        → (f : ℕ) (flow : PlannedFlows) (group : PlannedGroups) → IsShortFlow plan on f flow group
+        → (request : PlannedRequests) → IsAskedBetween on request → group_ident held group flow ≢ request_ident held request }
 {}

@@ -18,6 +18,8 @@ mod laws;
 mod load_finding;
 mod loads;
 mod messages;
+mod request_load;
+mod requests;
 mod standing;
 mod streams;
 mod turns;
@@ -37,6 +39,7 @@ pub use laws::{
 pub use load_finding::LoadFinding;
 pub use loads::Loads;
 pub use messages::Messages;
+pub use request_load::RequestLoad;
 pub use standing::Standing;
 pub use streams::bits_of_ms;
 pub use unit_load::UnitLoad;

@@ -1,10 +1,10 @@
 //! What a plan asks of its bus.
-ghost use Rattle.std.specs.Prelude.{◌≡◌, ◌≢◌, [], ◌≤◌, ◌<◌, ◌^◌, ◌*◌, ◌+◌, ◌++◌, Bool, All, length, map, sum_by, IfOk, OnOk, OnErr};
-ghost use Rattle.j39_findings.specs.PlanLimits.{flow_limit};
+ghost use Rattle.std.specs.Prelude.{◌≡◌, ◌≢◌, [], ◌≤◌, ◌<◌, ◌⊎◌, ◌^◌, ◌*◌, ◌+◌, ◌++◌, Bool, All, length, map, sum_by, IfOk, OnOk, OnErr};
+ghost use Rattle.j39_findings.specs.PlanLimits.{flow_limit, request_limit};
 ghost use Rattle.j39_findings.specs.declared.plan.unit_plan.UnitPlan.{UnitPlan as APlannedUnit};
-ghost use Rattle.j39_load.specs.Asked.{all_frames, announcements_of_unit, asked_by, asked_of, frames_of_flow, packets_of_unit, singles_of_flow, total_load};
+ghost use Rattle.j39_load.specs.Asked.{all_frames, announcements_of_unit, asked_by, asked_of, frames_of_flow, frames_of_request, packets_of_unit, singles_of_flow, total_load};
 ghost use Rattle.j39_load.specs.Delays.{HasDelay, TellDelays};
-ghost use Rattle.j39_load.specs.SoundLoads.{AreSoundIfAny, IsSoundIfKnown, IsSoundIfSent};
+ghost use Rattle.j39_load.specs.SoundLoads.{AreSoundIfAny, IsSoundIfAsked, IsSoundIfKnown, IsSoundIfSent};
 ghost use Rattle.j39_load.specs.Standing.{TellsWhoStays, stays_of};
 ghost use Rattle.j39_load.specs.inside.FramesBy.{frames_by, broadcasts_by_unit};
 ghost use Rattle.j39_load.specs.inside.TurnTimes.{AreShortTimes, TellTurnTimes};
@@ -20,8 +20,9 @@ use crate::flow_frames::FlowFrames;
 use crate::flow_load::FlowLoad;
 use crate::flow_loads::loads_of;
 use crate::messages::Messages;
+use crate::request_load::RequestLoad;
+use crate::requests::request_loads_of;
 use crate::standing::Standing;
-use crate::turns::turn_times;
 use crate::unit_load::UnitLoad;
 use j39_findings::{Plan, Timing};
 use std::alloc::{AllocError, Global};
@@ -78,6 +79,18 @@ fn announcements_of_unit(load: &Option<UnitLoad>) -> Option<FlowFrames>
     }
 }
 
+// The frames of a request.
+fn frames_of_request(load: &Option<RequestLoad>) -> Option<FlowFrames>
+    requires { IsSoundIfAsked load.now }
+    ensures frames { result ≡ frames_of_request load.now }
+    ensures fit { AreSoundIfAny result }
+{
+    match load {
+        Some(load) => Some(load.frames),
+        None => None,
+    }
+}
+
 // Adds the frames of the flows to those of these places: their own, or the single ones of those that have long messages too.
 fn add_flows(
     all: &mut Vec<Option<FlowFrames>>,
@@ -122,23 +135,43 @@ fn add_units(
     Ok(())
 }
 
-// All frames that come of what the flows and the units ask.
+// Adds the requests.
+fn add_requests(
+    all: &mut Vec<Option<FlowFrames>>,
+    requests: &[Option<RequestLoad>],
+) -> Result<(), AllocError>
+    requires sound { All IsSoundIfAsked requests.now }
+    requires fit { All AreSoundIfAny all.old.items }
+    ensures frames { OnOk result (all.new.items ≡ all.old.items ++ map frames_of_request requests.now) }
+    ensures fit { OnOk result (All AreSoundIfAny all.new.items) }
+{
+    for load in requests {
+        all.push(frames_of_request(load))?;
+    }
+    Ok(())
+}
+
+// All frames that come of what the flows, the units and the requests ask.
 fn all_frames(
     alloc: Global,
     flows: &[Option<FlowLoad>],
     units: &[Option<UnitLoad>],
+    requests: &[Option<RequestLoad>],
 ) -> Result<Vec<Option<FlowFrames>>, AllocError>
     requires flows { All IsSoundIfKnown flows.now }
     requires units { All IsSoundIfSent units.now }
-    ensures frames { IfOk result (λ all. all.items ≡ all_frames flows.now units.now) }
+    requires requests { All IsSoundIfAsked requests.now }
+    ensures frames { IfOk result (λ all. all.items ≡ all_frames flows.now units.now requests.now) }
     ensures fit { IfOk result (λ all. All AreSoundIfAny all.items) }
-    ensures count { IfOk result (λ all. length all.items ≡ 2 * length flows.now + 2 * length units.now) }
+    ensures count { IfOk result (λ all. length all.items ≡ 2 * length flows.now + 2 * length units.now + length requests.now) }
 {
-    let mut all = Vec::with_capacity(alloc, 2 * flows.len() + 2 * units.len())?;
+    let count = 2 * flows.len() + 2 * units.len() + requests.len();
+    let mut all = Vec::with_capacity(alloc, count)?;
     add_flows(&mut all, flows, false)?;
     add_flows(&mut all, flows, true)?;
     add_units(&mut all, units, false)?;
     add_units(&mut all, units, true)?;
+    add_requests(&mut all, requests)?;
     Ok(all)
 }
 
@@ -164,6 +197,17 @@ fn bits_of_unit(load: &Option<UnitLoad>) -> u64
     }
 }
 
+// How many bits a request takes in a second at most, and none where it isn't known how often it is sent.
+fn bits_of_request(load: &Option<RequestLoad>) -> u64
+    ensures bits { result ≡ option_map_or (λ l. l.bits_per_second) load.now 0 }
+    ensures few { result < 2 ^ 32 }
+{
+    match load {
+        Some(load) => u64::from(load.bits_per_second),
+        None => 0,
+    }
+}
+
 /// What a plan asks of its bus.
 #[derive(Drop)]
 pub struct Loads {
@@ -172,20 +216,24 @@ pub struct Loads {
     pub flows: Vec<Option<FlowLoad>>,
     /// What the broadcasts of each unit ask, in order: nothing where it has none.
     pub units: Vec<Option<UnitLoad>>,
+    /// What each request asks, in order: nothing where it isn't known how often it is sent.
+    pub requests: Vec<Option<RequestLoad>>,
     pub ghost count: { length flows.items ≤ flow_limit },
     pub ghost unit_count: { length units.items ≤ unit_limit },
+    pub ghost request_count: { length requests.items ≤ request_limit },
     pub ghost sound: { All IsSoundIfKnown flows.items } by { Prim.hlevel props },
     pub ghost sound_units: { All IsSoundIfSent units.items } by { Prim.hlevel props },
+    pub ghost sound_requests: { All IsSoundIfAsked requests.items } by { Prim.hlevel props },
 }
 
 impl Loads {
-    /// What a plan asks of its bus. No memory is asked for where it has no flows.
+    /// What a plan asks of its bus. No memory is asked for where it has neither flows nor requests.
     pub fn new(alloc: Global, timing: Timing, plan: &Plan) -> Result<Self, AllocError>
         ensures timing { IfOk result (λ loads. loads.timing ≡ timing) }
         ensures asked { IfOk result (λ loads. (stays : APlannedUnit → Bool) × TellsWhoStays plan.now stays
-            × (asked_by loads.flows.items loads.units.items ≡ asked_of timing plan.now stays)) }
+            × (asked_by loads.flows.items loads.units.items loads.requests.items ≡ asked_of timing plan.now stays)) }
         ensures count { IfOk result (λ loads. length loads.flows.items ≡ length plan.now.flows.items) }
-        ensures memory { OnErr result (plan.now.flows.items ≢ []) }
+        ensures memory { OnErr result ((plan.now.flows.items ≢ []) ⊎ (plan.now.requests.items ≢ [])) }
     {
         let standing = Standing::new(plan);
         let flows = loads_of(alloc, timing, plan, &standing)?;
@@ -196,10 +244,12 @@ impl Loads {
             &standing,
             flows.as_slice(),
         )?;
+        let requests = request_loads_of(alloc, timing, plan, &standing)?;
         Ok(Loads {
             timing,
             flows,
             units,
+            requests,
         })
     }
 
@@ -227,12 +277,24 @@ impl Loads {
         total
     }
 
+    // How many bits all requests do.
+    fn total_of_requests(&self) -> u64
+        ensures total { result ≡ sum_by (λ load. option_map_or (λ l. l.bits_per_second) load 0) self.now.requests.items }
+        ensures few { result < 2 ^ 42 }
+    {
+        let mut total = 0;
+        for load in &self.requests {
+            total += bits_of_request(load);
+        }
+        total
+    }
+
     /// How many bits all of it takes in a second at most.
     pub fn total(&self) -> u64
-        ensures { result ≡ total_load self.now.timing (asked_by self.now.flows.items self.now.units.items) }
+        ensures { result ≡ total_load self.now.timing (asked_by self.now.flows.items self.now.units.items self.now.requests.items) }
     {
         let damage = load_of_damage(self.timing);
-        damage + (self.total_of_flows() + self.total_of_units())
+        damage + (self.total_of_flows() + (self.total_of_units() + self.total_of_requests()))
     }
 
     // The delay of the flow at this place among all these frames, where the broadcasts of the units take these times,
@@ -245,12 +307,12 @@ impl Loads {
         flow: usize,
     ) -> Result<Option<Delay>, AllocError>
         requires place { flow < length self.now.flows.items }
-        requires all { all.now ≡ all_frames self.now.flows.items self.now.units.items }
+        requires all { all.now ≡ all_frames self.now.flows.items self.now.units.items self.now.requests.items }
         requires fit { All AreSoundIfAny all.now }
         requires few { length all.now ≤ 2000 }
-        requires times { TellTurnTimes self.now.timing (asked_by self.now.flows.items self.now.units.items) times.now }
+        requires times { TellTurnTimes self.now.timing (asked_by self.now.flows.items self.now.units.items self.now.requests.items) times.now }
         requires short { AreShortTimes times.now }
-        ensures { IfOk result (HasDelay self.now.timing (asked_by self.now.flows.items self.now.units.items) flow) }
+        ensures { IfOk result (HasDelay self.now.timing (asked_by self.now.flows.items self.now.units.items self.now.requests.items) flow) }
     {
         match &self.flows[flow] {
             Some(load) => Ok(Some(delay_of(alloc, self.timing, all, times, flow, load)?)),
@@ -261,16 +323,19 @@ impl Loads {
     /// The delay of each flow, in order, and none where it isn't known how often it is sent. No memory is asked for
     /// where there are no flows.
     pub fn delays(&self, alloc: Global) -> Result<Vec<Option<Delay>>, AllocError>
-        ensures delays { IfOk result (λ delays. TellDelays self.now.timing (asked_by self.now.flows.items self.now.units.items) delays.items) }
+        ensures delays { IfOk result (λ delays. TellDelays self.now.timing (asked_by self.now.flows.items self.now.units.items self.now.requests.items) delays.items) }
         ensures memory { OnErr result (self.now.flows.items ≢ []) }
     {
         if self.flows.is_empty() {
             return Ok(Vec::new(alloc));
         }
-        let flows = self.flows.as_slice();
-        let units = self.units.as_slice();
-        let all = all_frames(alloc, flows, units)?;
-        let times = turn_times(alloc, self.timing, all.as_slice(), flows, units)?;
+        let all = all_frames(
+            alloc,
+            self.flows.as_slice(),
+            self.units.as_slice(),
+            self.requests.as_slice(),
+        )?;
+        let times = self.turn_times(alloc, all.as_slice())?;
         let mut delays = Vec::with_capacity(alloc, self.flows.len())?;
         for flow in 0..self.flows.len() {
             delays.push_reserved(self.delay(alloc, all.as_slice(), times.as_slice(), flow)?);

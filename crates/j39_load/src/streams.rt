@@ -1,6 +1,7 @@
 //! The frames of a flow.
 ghost use Rattle.std.specs.Prelude.{◌≡◌, ◌<◌, ◌≤◌, ◌*◌, ◌^◌, length};
 ghost use Rattle.j39_load.specs.Broadcasts.{bits_each, spaced_stream};
+ghost use Rattle.j39_load.specs.Requests.{request_stream};
 ghost use Rattle.j39_load.specs.Loads.{bits_of_ms, bits_per_ms, frames_to_all, frames_to_one, load_of, most_bytes, packet_stream, single_stream};
 ghost use Rattle.j39_timing.specs.Waits.{IsStream};
 
@@ -100,6 +101,21 @@ pub(crate) fn spaced_stream(timing: Timing, gaps: u8) -> Stream
         frames: 1,
         period: u32::from(gaps) * bits_of_ms(timing, timing.broadcast_gap),
         bits: frame_bits(FRAME_BYTES as u8),
+        late: 0,
+    }
+}
+
+/// Requests, each of which carries the number of a group.
+pub(crate) fn request_stream(timing: Timing, period: u16) -> Stream
+    requires { 1 ≤ period }
+    ensures stream { result ≡ request_stream timing period }
+    ensures fits { IsStream result }
+    ensures few { result.frames ≤ 512 }
+{
+    Stream {
+        frames: 1,
+        period: bits_of_ms(timing, period),
+        bits: frame_bits(3),
         late: 0,
     }
 }

@@ -1,14 +1,14 @@
 //! How long the broadcasts of units take, one of each flow.
-ghost use Rattle.std.specs.Prelude.{◌≡◌, ◌≤◌, ◌<◌, ◌^◌, ◌*◌, ◌+◌, All, length, IfOk};
+ghost use Rattle.std.specs.Prelude.{◌≡◌, ◌≤◌, ◌<◌, ◌^◌, All, length, IfOk};
 ghost use Rattle.std.specs.Option.{ForSome};
 ghost use Rattle.j39_load.specs.Asked.{all_frames, asked_by};
 ghost use Rattle.j39_load.specs.Delays.{IsTurnTime, known_turn_time, packet_time, turn_time};
-ghost use Rattle.j39_load.specs.SoundLoads.{AreSoundIfAny, IsSoundIfSent, IsSoundUnit};
+ghost use Rattle.j39_load.specs.SoundLoads.{AreSoundIfAny, IsSoundUnit};
 ghost use Rattle.j39_load.specs.inside.TurnTimes.{AreShortTimes, IsShortTime, TellTurnTimes};
 
 use crate::delays::wait_of;
 use crate::flow_frames::FlowFrames;
-use crate::flow_load::FlowLoad;
+use crate::loads::Loads;
 use crate::streams::bits_of_ms;
 use crate::unit_load::UnitLoad;
 use j39_findings::Timing;
@@ -65,54 +65,49 @@ fn known_turn_time(
     }
 }
 
-// The time of the unit at a place, among all these frames.
-fn time_of_unit(
-    alloc: Global,
-    timing: Timing,
-    all: &[Option<FlowFrames>],
-    flows: &[Option<FlowLoad>],
-    units: &[Option<UnitLoad>],
-    unit: usize,
-) -> Result<Option<u64>, AllocError>
-    requires all { all.now ≡ all_frames flows.now units.now }
-    requires fit { All AreSoundIfAny all.now }
-    requires few { length all.now ≤ 2000 }
-    requires unit { unit < length units.now }
-    requires count { length all.now ≡ 2 * length flows.now + 2 * length units.now }
-    requires sound { All IsSoundIfSent units.now }
-    ensures time { IfOk result (IsTurnTime timing (asked_by flows.now units.now) unit) }
-    ensures short { IfOk result IsShortTime }
-{
-    let Some(load) = &units[unit] else {
-        return Ok(None);
-    };
-    let packets = 2 * flows.len() + unit;
-    let announcements = 2 * flows.len() + (units.len() + unit);
-    let announced = wait_of(alloc, timing, all, announcements, &load.announcements)?;
-    let sent = wait_of(alloc, timing, all, packets, &load.packets)?;
-    Ok(known_turn_time(timing, load, announced, sent))
-}
-
-/// The times of the units, in order, among all these frames.
-pub(crate) fn turn_times(
-    alloc: Global,
-    timing: Timing,
-    all: &[Option<FlowFrames>],
-    flows: &[Option<FlowLoad>],
-    units: &[Option<UnitLoad>],
-) -> Result<Vec<Option<u64>>, AllocError>
-    requires all { all.now ≡ all_frames flows.now units.now }
-    requires fit { All AreSoundIfAny all.now }
-    requires few { length all.now ≤ 2000 }
-    requires count { length all.now ≡ 2 * length flows.now + 2 * length units.now }
-    requires sound { All IsSoundIfSent units.now }
-    ensures times { IfOk result (λ times. TellTurnTimes timing (asked_by flows.now units.now) times.items) }
-    ensures short { IfOk result (λ times. AreShortTimes times.items) }
-{
-    let mut times = Vec::new(alloc);
-    for unit in 0..units.len() {
-        let time = time_of_unit(alloc, timing, all, flows, units, unit)?;
-        times.push(time)?;
+impl Loads {
+    // The time of the unit at a place, among all these frames.
+    fn time_of_unit(
+        &self,
+        alloc: Global,
+        all: &[Option<FlowFrames>],
+        unit: usize,
+    ) -> Result<Option<u64>, AllocError>
+        requires all { all.now ≡ all_frames self.now.flows.items self.now.units.items self.now.requests.items }
+        requires fit { All AreSoundIfAny all.now }
+        requires few { length all.now ≤ 2000 }
+        requires unit { unit < length self.now.units.items }
+        ensures time { IfOk result (IsTurnTime self.now.timing (asked_by self.now.flows.items self.now.units.items self.now.requests.items) unit) }
+        ensures short { IfOk result IsShortTime }
+    {
+        let Some(load) = &self.units[unit] else {
+            return Ok(None);
+        };
+        let packets = 2 * self.flows.len() + unit;
+        let announcements = 2 * self.flows.len() + (self.units.len() + unit);
+        let announced = wait_of(alloc, self.timing, all, announcements, &load.announcements)?;
+        let sent = wait_of(alloc, self.timing, all, packets, &load.packets)?;
+        Ok(known_turn_time(self.timing, load, announced, sent))
     }
-    Ok(times)
+
+    /// The times of the units, in order, among all these frames.
+    pub(crate) fn turn_times(
+        &self,
+        alloc: Global,
+        all: &[Option<FlowFrames>],
+    ) -> Result<Vec<Option<u64>>, AllocError>
+        requires all { all.now ≡ all_frames self.now.flows.items self.now.units.items self.now.requests.items }
+        requires fit { All AreSoundIfAny all.now }
+        requires few { length all.now ≤ 2000 }
+        ensures times { IfOk result (λ times.
+            TellTurnTimes self.now.timing (asked_by self.now.flows.items self.now.units.items self.now.requests.items) times.items) }
+        ensures short { IfOk result (λ times. AreShortTimes times.items) }
+    {
+        let mut times = Vec::new(alloc);
+        for unit in 0..self.units.len() {
+            let time = self.time_of_unit(alloc, all, unit)?;
+            times.push(time)?;
+        }
+        Ok(times)
+    }
 }

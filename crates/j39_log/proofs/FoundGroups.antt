@@ -1,5 +1,5 @@
 -- The group that is found for a number and a length.
-use Rattle.std.proofs.Common.{◌≡◌, ℕ, ◌<◌, true, nat_le, List, length, get_or, Option, Some, refl, sym, ap, ◌∙◌}
+use Rattle.std.proofs.Common.{◌≡◌, ℕ, ◌<◌, true, nat_le, List, [], map, length, get_or, All, Option, Some, None, refl, sym, ap, subst, ◌∙◌}
 use Rattle.std.proofs.Common.{Vec, Global, arith}
 use Rattle.std.specs.List.{HoldsAt}
 use Rattle.std.proofs.lemmas.Bool.{and_parts, leb-true}
@@ -13,7 +13,14 @@ use Rattle.j39_log.specs.inside.Listening.{IsCatalogOf}
 use Rattle.j39_log.specs.inside.ValueLines.{items_of, value_lines_of}
 use Rattle.j39_log.specs.declared.value_line.ValueLine.{ValueLine}
 use Rattle.j39_log.specs.LogFrames.{planned_group, is_planned_as, is_shared_as, planned}
-use Rattle.j39_log.specs.LogReports.{group_report}
+use Rattle.j39_log.specs.NamedReports.{NumberNames, named_report, named_reading_lines}
+use Rattle.j39_findings.specs.declared.plan.meaning.Meaning.{Meaning}
+use Rattle.j39_log.specs.declared.name_table.NameTable.{NameTable}
+use Rattle.j39_log.specs.declared.names.GroupNames.{GroupNames}
+use Rattle.j39_log.specs.declared.names.PlanNames.{PlanNames}
+use Rattle.j39_log.specs.inside.NameTables.{AreGroupNames, AreNamesOf, lines_by, names_in, names_of_tables, value_names_of}
+use Rattle.j39_log.proofs.NamedLists.{reads_by}
+use Rattle.j39_log.proofs.Unnamed.{states_of}
 use Rattle.j39_log.specs.ReadText.{IsGroupReport}
 use Rattle.j39_id.specs.Ident.{pgn_of}
 use Rattle.j39_id.specs.declared.frame.Frame.{Frame}
@@ -48,7 +55,7 @@ planned_there plan pgn bytes place group found here =
 
 -- its report is that of the place
 pub report_there : (plan : Plan) (place : ℕ) (group : GroupPlan) (i : Ident) (bytes : List ℕ) → place < length plan.groups.items
-    → HoldsAt (λ (g : GroupPlan). g ≡ group) plan.groups.items place → IsGroupReport plan (Some place) i bytes (group_report group i bytes)
+    → HoldsAt (λ (g : GroupPlan). g ≡ group) plan.groups.items place → IsGroupReport plan (Some place) i bytes (named_report plan group i bytes)
 report_there plan place group i bytes less here = record {
   value = group;
   value_is = slice_get-get_or plan.groups.items place group less ∙ ap Some (here group);
@@ -60,3 +67,30 @@ pub found_for : (plan : Plan) (f : Frame) (pgn : ℕ) (bytes : List ℕ) (place 
     → place ≡ planned plan pgn (length bytes) → place ≡ planned_group plan f
 found_for plan f pgn bytes place number payload found =
     found ∙ ap (λ (n : ℕ). planned plan n (length bytes)) number ∙ ap (λ (xs : List ℕ). planned plan (pgn_of f.ident) (length xs)) payload
+
+-- the names of a group's place are those of the group
+pub named_there : (plan : Plan) (place : ℕ) (group : GroupPlan) (names : Option GroupNames) → HoldsAt (λ (g : GroupPlan). g ≡ group) plan.groups.items place
+    → HoldsAt (λ (g : GroupPlan). AreGroupNames plan g names) plan.groups.items place → AreGroupNames plan group names
+named_there plan place group names here are = subst (λ (g : GroupPlan). AreGroupNames plan g names) (here group) (are group)
+
+-- what the group reads by them is what it reads in the plan
+pub lines_there : (plan : Plan) (place : ℕ) (group : GroupPlan) (names : Option GroupNames) (bytes : List ℕ) → place < length plan.groups.items
+    → HoldsAt (λ (g : GroupPlan). g ≡ group) plan.groups.items place
+    → HoldsAt (λ (g : GroupPlan). AreGroupNames plan g names) plan.groups.items place
+    → lines_by names group bytes ≡ named_reading_lines plan group bytes
+lines_there plan place group names bytes less here are =
+    reads_by plan group names bytes (named_there plan place group names here are)
+    (λ none. states_of plan group bytes none
+    (subst (λ (g : GroupPlan). All (λ (m : Meaning). (m.spn ≡ None) × (m.values.items ≡ [])) g.meanings.items) (here group) (none place group less)))
+
+-- at a place of a catalog stand the names of the group there
+pub names_at : (plan : Plan) (names : PlanNames) (place : ℕ) (values : Vec NameTable Global) → AreNamesOf plan (Some names)
+    → place < length plan.groups.items → values ≡ get_or names.values.items place values
+    → HoldsAt (λ (group : GroupPlan). map names_in values.items ≡ value_names_of group) plan.groups.items place
+names_at plan names place values of less at group =
+    let rows = names.values.items in
+    let groups = plan.groups.items in
+    let count : length rows ≡ length groups = sym (length-map rows names_of_tables) ∙ ap length of.0 ∙ length-map groups value_names_of in
+    ap names_of_tables at ∙ sym (get_or-map names_of_tables rows place values (names_of_tables values) (omega (arith, less, count)))
+    ∙ ap (λ (xs : List (List NumberNames)). get_or xs place (names_of_tables values)) of.0
+    ∙ get_or-map value_names_of groups place group (names_of_tables values) less

@@ -3,6 +3,8 @@ pub mod FoundGroups
 pub mod Indexes
 pub mod ListenerTables
 pub mod LogReading
+pub mod NamedLists
+pub mod Naming
 pub mod OlderPlans
 pub mod OneText
 pub mod Outcomes
@@ -11,4 +13,5 @@ pub mod RecordLists
 pub mod ReportHeads
 pub mod SignalLists
 pub mod TextLists
+pub mod Unnamed
 pub mod ValueLines

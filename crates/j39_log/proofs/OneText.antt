@@ -21,7 +21,7 @@ use Rattle.j39_stream.specs.declared.verdict.Verdict.{Verdict}
 use Rattle.j39_stream.specs.declared.verdict.Verdict.TheVariants.{Done, Findings, Refused, Unreadable}
 use Rattle.j39_log.specs.LogFrames.{IsPacket, IsHeardAs, planned_group, planned}
 use Rattle.j39_log.specs.LogPairs.{Seen}
-use Rattle.j39_log.specs.LogReports.{group_report}
+use Rattle.j39_log.specs.NamedReports.{named_report}
 use Rattle.j39_log.specs.ReadText.{IsFrameReport, IsGroupReport, IsLogText, IsMessageText, IsReadText, Past, ReadsFrame, ReadsLine}
 use Rattle.j39_log.specs.ReadText.{ReadsLines, count_line, heard_before, nothing_yet, passed_over, refused_plan_line, with_frame}
 
@@ -52,7 +52,7 @@ one_group_report : (plan : Plan) (place : Option ℕ) (i : Ident) (bytes t u : L
 one_group_report plan None i bytes t u a b = a ∙ sym b
 one_group_report plan (Some g) i bytes t u a b =
     let same : a.value ≡ b.value = some_same a.value b.value (sym a.value_is ∙ b.value_is) in
-    a.meets ∙ ap (λ (group : GroupPlan). group_report group i bytes) same ∙ sym b.meets
+    a.meets ∙ ap (λ (group : GroupPlan). named_report plan group i bytes) same ∙ sym b.meets
 
 one_message_text : (plan : Plan) (h : List Packet) (place : ℕ) (i : Ident) (t u : List ℕ)
     → IsMessageText plan h place i t → IsMessageText plan h place i u → t ≡ u

@@ -15,7 +15,7 @@ use Rattle.j39_text.specs.Labels.{group_label}
 use Rattle.j39_text.specs.Texts.{field}
 use Rattle.j39_log.specs.LogFrames.{IsHeardAs, planned_group, planned}
 use Rattle.j39_log.specs.LogPairs.{Seen, heard}
-use Rattle.j39_log.specs.LogReports.{group_report}
+use Rattle.j39_log.specs.NamedReports.{named_report}
 use Rattle.j39_stream.specs.declared.verdict.Verdict.{Verdict}
 use Rattle.j39_stream.specs.declared.verdict.Verdict.TheVariants.{Done, Findings, Refused, Unreadable}
 
@@ -24,7 +24,7 @@ use Rattle.j39_stream.specs.declared.verdict.Verdict.TheVariants.{Done, Findings
 -- the report of these bytes as the group at this place of the plan; nothing where none is planned
 abbrev pub IsGroupReport : Plan → Option ℕ → Ident → List ℕ → List ℕ → Type 0
 IsGroupReport plan None i bytes text = text ≡ []
-IsGroupReport plan (Some g) i bytes text = ValueAt (λ group. text ≡ group_report group i bytes) plan.groups.items g
+IsGroupReport plan (Some g) i bytes text = ValueAt (λ group. text ≡ named_report plan group i bytes) plan.groups.items g
 
 -- the list of packets carries no message at this place
 abbrev pub CarriesNone : List Packet → ℕ → Type 0

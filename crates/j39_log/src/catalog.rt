@@ -5,6 +5,7 @@ ghost use Rattle.j39_findings.specs.PlannedGroups.{IsSendable, layout_of as part
 ghost use Rattle.j39_findings.specs.declared.plan.group_plan.GroupPlan.{GroupPlan as APlannedGroup};
 
 use crate::first_flows::first_flows;
+use crate::names::{PlanNames, plan_names};
 use crate::report_head::report_heads;
 use crate::value_line::{ValueLine, value_lines_of};
 use j39_findings::limits::GROUP_LIMIT;
@@ -32,12 +33,13 @@ pub struct Span {
 }
 
 /// The groups of a plan: by place what their reports begin with, their layouts and what stands around the values of their
-/// signals, by its number where they stand, and where their flows begin.
+/// signals, the names that the plan has, by its number where they stand, and where their flows begin.
 #[derive(Drop)]
 pub(crate) struct Catalog {
     pub heads: Vec<TextBuffer>,
     pub layouts: Vec<Layout>,
     pub lines: Vec<Vec<ValueLine>>,
+    pub names: Option<PlanNames>,
     pub spans: HashMap<u32, Span>,
     pub flows: [usize; GROUP_LIMIT],
 }
@@ -119,6 +121,9 @@ impl Catalog {
         let Ok(lines) = value_lines_of(alloc, plan.groups.as_slice()) else {
             return Err(CatalogError::Memory);
         };
+        let Ok(names) = plan_names(alloc, plan) else {
+            return Err(CatalogError::Memory);
+        };
         let Ok(spans) = spans_of(alloc, plan.groups.as_slice()) else {
             return Err(CatalogError::Memory);
         };
@@ -126,6 +131,7 @@ impl Catalog {
             heads,
             layouts,
             lines,
+            names,
             spans,
             flows: first_flows(plan.flows.as_slice()),
         })

@@ -5,10 +5,13 @@ ghost use Rattle.j39_signal.specs.Parts.{IsDivisor};
 ghost use Rattle.j39_findings.specs.Records.{single_signals};
 ghost use Rattle.j39_text.specs.Decimals.{quotient_text};
 ghost use Rattle.j39_text.specs.Texts.{field};
-ghost use Rattle.j39_log.specs.LogReports.{all_records_lines, group_report, reading_lines, signal_line, signal_lines};
+ghost use Rattle.j39_log.specs.LogReports.{all_records_lines, group_line, reading_lines, signal_line, signal_lines};
+ghost use Rattle.j39_log.specs.inside.NameTables.{HasTables, lines_by};
 ghost use Rattle.j39_log.specs.inside.ReportHeads.{behind_head, report_head};
 ghost use Rattle.j39_log.specs.inside.ValueLines.{value_line_of, value_lines_of};
 
+use crate::named_lines::write_named;
+use crate::names::GroupNames;
 use crate::record_lines::write_records;
 use crate::text_lines::write_texts;
 use crate::trouble_code::write_code_line;
@@ -160,9 +163,10 @@ fn write_group_line(
     text.end_line()
 }
 
-/// Writes what the signals, the records and the texts of a group read.
+// The same by the states of the signals alone, as most plans have it.
+#[inline(never)]
 #[tactic(auto, unfolding(crate::specs::LogReports::reading_lines))]
-pub(super) fn write_readings(
+fn write_states(
     text: &mut TextBuffer,
     group: &GroupPlan,
     lines: &[ValueLine],
@@ -179,11 +183,35 @@ pub(super) fn write_readings(
     write_texts(text, group.texts.as_slice(), bytes)
 }
 
+/// Writes what the signals, the records and the texts of a group read, in the form that the plan asks for.
+#[inline(always)]
+pub(super) fn write_readings(
+    text: &mut TextBuffer,
+    group: &GroupPlan,
+    names: Option<GroupNames<'_>>,
+    lines: &[ValueLine],
+    layout: &Layout,
+    bytes: &[u8],
+) -> Result<(), AllocError>
+    requires signals { layout.now.signals ≡ group.now.signals.items }
+    requires names { HasTables group.now names }
+    requires lines { lines.now ≡ value_lines_of group.now }
+    requires bytes { layout.now.length ≤ length bytes.now }
+    ensures { OnOk result (text.new ≡ text.old ++ lines_by names.entry group.now bytes.now) }
+{
+    match names {
+        None => write_states(text, group, lines, layout, bytes),
+        Some(names) => write_named(text, names, group, layout, bytes),
+    }
+}
+
 /// Writes who sent which bytes of a group to whom, and what each of its signals, records and texts reads.
+#[inline(always)]
 pub(super) fn write_report(
     text: &mut TextBuffer,
     group: &GroupPlan,
     head: &[u8],
+    names: Option<GroupNames<'_>>,
     lines: &[ValueLine],
     layout: &Layout,
     ident: Ident,
@@ -191,10 +219,11 @@ pub(super) fn write_report(
 ) -> Result<(), AllocError>
     requires head { head.now ≡ report_head group.now }
     requires signals { layout.now.signals ≡ group.now.signals.items }
+    requires names { HasTables group.now names }
     requires lines { lines.now ≡ value_lines_of group.now }
     requires bytes { layout.now.length ≤ length bytes.now }
-    ensures { OnOk result (text.new ≡ text.old ++ group_report group.now ident bytes.now) }
+    ensures { OnOk result (text.new ≡ text.old ++ (group_line group.now ident bytes.now ++ lines_by names.entry group.now bytes.now)) }
 {
     write_group_line(text, head, ident, bytes)?;
-    write_readings(text, group, lines, layout, bytes)
+    write_readings(text, group, names, lines, layout, bytes)
 }

@@ -7,10 +7,12 @@ ghost use Rattle.j39_findings.specs.PlanLimits.{group_limit};
 ghost use Rattle.j39_findings.specs.declared.plan.flow_plan.FlowPlan.{FlowPlan as APlannedFlow};
 ghost use Rattle.j39_log.specs.inside.FirstFlows.{first_flow, is_flow_of};
 ghost use Rattle.j39_log.specs.inside.Listening.{HasAllOf, IsBadCatalog, IsSpanOf};
+ghost use Rattle.j39_log.specs.inside.NameTables.{AreGroupNames};
 ghost use Rattle.j39_log.specs.inside.ReportHeads.{report_head};
 ghost use Rattle.j39_log.specs.inside.ValueLines.{value_lines_of};
 
 use crate::catalog::{Catalog, CatalogError, Span};
+use crate::names::GroupNames;
 use crate::value_line::ValueLine;
 use j39_findings::limits::GROUP_LIMIT;
 use j39_findings::{GroupPlan, Plan};
@@ -133,6 +135,21 @@ impl<'a> Groups<'a> {
         ensures { HoldsAt (λ group. layout_of group ≡ result.now) self.now.groups.items place }
     {
         &self.catalog.layouts[place]
+    }
+
+    /// The names that the plan has, of the group at a place, if it has any. It is asked for at each report.
+    #[inline(always)]
+    pub(crate) fn names(&self, place: usize) -> Option<GroupNames<'_>>
+        requires { place < length self.now.groups.items }
+        ensures { HoldsAt (λ group. AreGroupNames self.now group result) self.now.groups.items place }
+    {
+        match &self.catalog.names {
+            Some(names) => Some(GroupNames {
+                values: names.values[place].as_slice(),
+                parameters: &names.parameters,
+            }),
+            None => None,
+        }
     }
 
     /// What stands around the values of the signals of the group at a place.

@@ -1,5 +1,6 @@
 //! The laws of the text of a log.
 ghost use Rattle.j39_log.specs.OlderPlans.{GroupsAreFoundByNumber, SignalsAlone, ValuesAreShownWhole};
+ghost use Rattle.j39_log.specs.NamedReports.{StatesAlone};
 ghost use Rattle.j39_log.specs.ReadText.{LogHasOneText};
 
 /// For a plan and a log the definition allows one text, with one verdict.
@@ -13,4 +14,10 @@ pub fn older_plans_are_read_as_before()
     ensures groups { GroupsAreFoundByNumber }
     ensures values { ValuesAreShownWhole }
     ensures texts { SignalsAlone }
+{}
+
+/// In a plan in which no signal has a number, and none a name of a raw number, a group reads the states of its signals, as in versions 1
+/// to 3.
+pub fn plans_without_names_are_read_as_before()
+    ensures { StatesAlone }
 {}

@@ -10,6 +10,9 @@ mod listeners;
 mod log_reader;
 mod log_reading;
 mod log_text;
+mod name_table;
+mod named_lines;
+mod names;
 mod readings;
 mod record_lines;
 mod report_head;
@@ -21,7 +24,9 @@ mod value_line;
 pub use catalog::{CatalogError, Span};
 pub use group_report::write_digits;
 pub use groups::Groups;
-pub use laws::{a_log_has_one_text, older_plans_are_read_as_before};
+pub use laws::{
+    a_log_has_one_text, older_plans_are_read_as_before, plans_without_names_are_read_as_before,
+};
 pub use listeners::{Listeners, listen};
 pub use log_text::{read_text, refuse};
 pub use readings::write_group_readings;

@@ -45,6 +45,7 @@ fn write_group(
         text,
         groups.group(place),
         groups.head(place),
+        groups.names(place),
         groups.lines(place),
         groups.layout(place),
         ident,

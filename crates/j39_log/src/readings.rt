@@ -2,7 +2,7 @@
 ghost use Rattle.std.specs.Prelude.{◌≡◌, ◌≤◌, ◌++◌, length, OnOk};
 ghost use Rattle.j39_findings.specs.ListPlaces.{ValueAt};
 ghost use Rattle.j39_findings.specs.declared.plan.group_plan.GroupPlan.{GroupPlan as APlannedGroup};
-ghost use Rattle.j39_log.specs.LogReports.{reading_lines};
+ghost use Rattle.j39_log.specs.NamedReports.{named_reading_lines};
 
 use crate::group_report::write_readings;
 use crate::groups::Groups;
@@ -17,12 +17,13 @@ pub fn write_group_readings(
     bytes: &[u8],
 ) -> Result<(), AllocError>
     requires { ValueAt (λ (group : APlannedGroup). group.length ≤ length bytes.now) groups.now.groups.items place }
-    ensures { OnOk result (ValueAt (λ (group : APlannedGroup). text.new ≡ text.old ++ reading_lines group bytes.now)
+    ensures { OnOk result (ValueAt (λ (group : APlannedGroup). text.new ≡ text.old ++ named_reading_lines groups.now group bytes.now)
         groups.now.groups.items place) }
 {
     write_readings(
         text,
         groups.group(place),
+        groups.names(place),
         groups.lines(place),
         groups.layout(place),
         bytes,

@@ -13,7 +13,11 @@ use j39_text::{TextBuffer, write_quotient};
 use std::alloc::AllocError;
 
 #[tactic(auto, unfolding(crate::specs::LogReports::scaled_text, j39_text::specs::Texts::field_text))]
-fn write_scaled(text: &mut TextBuffer, signal: &Signal, value: i64) -> Result<(), AllocError>
+pub(crate) fn write_scaled(
+    text: &mut TextBuffer,
+    signal: &Signal,
+    value: i64,
+) -> Result<(), AllocError>
     ensures { OnOk result (text.new ≡ text.old ++ scaled_text signal.now.per signal.now.unit.bytes value) }
 {
     text.word(" value ")?;
@@ -32,7 +36,11 @@ fn write_value(text: &mut TextBuffer, signal: &Signal, value: i64) -> Result<(),
 }
 
 #[tactic(auto, unfolding(crate::specs::LogReports::signal_state_text))]
-fn write_state(text: &mut TextBuffer, signal: &Signal, state: State) -> Result<(), AllocError>
+pub(crate) fn write_state(
+    text: &mut TextBuffer,
+    signal: &Signal,
+    state: State,
+) -> Result<(), AllocError>
     ensures { OnOk result (text.new ≡ text.old ++ signal_state_text signal.now state) }
 {
     match state {

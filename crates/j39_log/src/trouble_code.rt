@@ -6,7 +6,7 @@ use j39_signal::Signal;
 use j39_text::TextBuffer;
 use std::alloc::AllocError;
 
-fn suspect_parameter(code: u64) -> u64
+pub(crate) fn suspect_parameter(code: u64) -> u64
     ensures { result ≡ suspect_parameter code }
 {
     code % 0x1_0000 + 0x1_0000 * (code / 0x20_0000 % 8)

@@ -10,12 +10,12 @@ use Rattle.j39_plan.specs.declared.reading.key.Key.TheVariants as key
 use Rattle.j39_plan.specs.declared.reading.place.Table.{Table}
 use Rattle.j39_plan.specs.declared.reading.place.Table.TheVariants as at
 use Rattle.j39_plan.specs.Words.{word_of}
-use Rattle.j39_plan.specs.Schema.{bitrate_of_bus, natural, standing, number_of, given_number, table_of}
+use Rattle.j39_plan.specs.Schema.{bitrate_of_bus, natural, standing, number_of, given_number, flag_of, table_of}
 use Rattle.j39_plan.specs.TableFaults.{is_bitrate, standing_cause, key_faults, table_faults, is_key_word}
 use Rattle.j39_plan.specs.Elements.{inside}
-use Rattle.j39_plan.specs.FlowTables.{has_key, period_rule, given_period, jitter_rule, jitter_most, jitter_of, pause_rule, flow_rules, flow_table_faults, flow_faults, IsFlowOf}
+use Rattle.j39_plan.specs.FlowTables.{has_key, period_rule, given_period, jitter_rule, jitter_most, jitter_of, pause_rule, on_request_rule, on_request_of, flow_rules, flow_table_faults, flow_faults, IsFlowOf}
 use Rattle.j39_plan.specs.TimingTables.{bitrate_of, TellsErrors, bitrate_rule, unplanned_priority_rule, transport_priority_rule, gap_rule, gap_most_rule, errors_rule, timing_table_faults, errors_table, TellsBus}
-use Rattle.j39_plan.specs.Versions.{fourth_bus_keys, IsThirdBus, IsThirdFlow}
+use Rattle.j39_plan.specs.Versions.{fourth_bus_keys, fourth_flow_keys, IsThirdBus, IsThirdFlow}
 use Rattle.j39_plan.proofs.Absent.{lacked, IsNone, only_same, Alike, alike_both, alike_unknown, alike_inside}
 
 -- ---- flows
@@ -26,6 +26,9 @@ no_jitter_key ms lacks = lacks 0 key.Jitter (omega arith)
 no_jitter : (ms : Members) → IsThirdFlow ms → get_member (word_of key.Jitter) ms ≡ None
 no_jitter ms lacks = lacked key.Jitter ms (no_jitter_key ms lacks)
 
+no_on_request : (ms : Members) → IsThirdFlow ms → get_member (word_of key.OnRequest) ms ≡ None
+no_on_request ms lacks = lacked key.OnRequest ms (lacks 2 key.OnRequest (omega arith))
+
 no_pause : (ms : Members) → IsThirdFlow ms → get_member (word_of key.Pause) ms ≡ None
 no_pause ms lacks = lacked key.Pause ms (lacks 1 key.Pause (omega arith))
 
@@ -33,15 +36,14 @@ period_same : (ms : Members) → IsThirdFlow ms → period_rule true ms ≡ peri
 period_same ms lacks = rw (no_jitter_key ms lacks)
 
 -- the keys of a flow in the third version, and in the fourth
-abbrev third_flow_keys : Key → List Key
-third_flow_keys period = key.Group ∷ key.From ∷ key.To ∷ period ∷ key.Deadline ∷ []
+abbrev older_keys : Key → List Key
+older_keys period = key.Group ∷ key.From ∷ key.To ∷ period ∷ key.Deadline ∷ []
 
-abbrev fourth_flow_keys : Key → List Key
-fourth_flow_keys period = key.Group ∷ key.From ∷ key.To ∷ period ∷ key.Deadline ∷ key.Jitter ∷ key.Pause ∷ []
+abbrev later_keys : Key → List Key
+later_keys period = key.Group ∷ key.From ∷ key.To ∷ period ∷ key.Deadline ∷ key.Jitter ∷ key.Pause ∷ key.OnRequest ∷ []
 
-flow_words : (period : Key) (l : List ℕ) → IsNone (key.Jitter ∷ key.Pause ∷ []) l
-    → is_key_word (fourth_flow_keys period) l ≡ is_key_word (third_flow_keys period) l
-flow_words period l none = rw (none 0 key.Jitter (omega arith), none 1 key.Pause (omega arith))
+flow_words : (period : Key) (l : List ℕ) → IsNone fourth_flow_keys l → is_key_word (later_keys period) l ≡ is_key_word (older_keys period) l
+flow_words period l none = rw (none 0 key.Jitter (omega arith), none 1 key.Pause (omega arith), none 2 key.OnRequest (omega arith))
 
 jitter_unfaulted : (at : Table) (ms : Members) (period : Option ℕ) → get_member (word_of key.Jitter) ms ≡ None → key_faults at ms (jitter_rule period) ≡ []
 unfolding key_faults
@@ -51,16 +53,21 @@ pause_unfaulted : (at : Table) (ms : Members) (period : Option ℕ) → get_memb
 unfolding key_faults
 pause_unfaulted at ms period none = rw none
 
+on_request_unfaulted : (at : Table) (ms : Members) → get_member (word_of key.OnRequest) ms ≡ None → key_faults at ms on_request_rule ≡ []
+unfolding key_faults
+on_request_unfaulted at ms none = rw none
+
 flow_keys_alike : (at : Table) (ms : Members) → IsThirdFlow ms
     → Alike (table_faults at (flow_rules true true ms) ms) (table_faults at (flow_rules true false ms) ms)
 flow_keys_alike at ms lacks =
     let period = (period_rule false ms).key in
     rw (no_jitter_key ms lacks)
     (alike_both _ _ _ _ (alike_unknown at _ _ ms ms
-    (only_same (fourth_flow_keys period) (third_flow_keys period) (key.Jitter ∷ key.Pause ∷ []) (flow_words period) ms lacks))
+    (only_same (later_keys period) (older_keys period) fourth_flow_keys (flow_words period) ms lacks))
     (rw (
       jitter_unfaulted at ms (given_number (period_rule false ms) ms) (no_jitter ms lacks),
       pause_unfaulted at ms (given_number (period_rule false ms) ms) (no_pause ms lacks),
+      on_request_unfaulted at ms (no_on_request ms lacks),
     ) refl))
 
 pub flow_alike : (groups units : List (List ℕ)) (i : ℕ) (d : Data) → IsThirdFlow (inside d)
@@ -79,6 +86,10 @@ pause_none : (ms : Members) (period : Option ℕ) → get_member (word_of key.Pa
 unfolding given_number
 pause_none ms period none = rw none
 
+on_request_none : (ms : Members) → get_member (word_of key.OnRequest) ms ≡ None → on_request_of true ms ≡ false
+unfolding flag_of
+on_request_none ms none = rw none
+
 period_told : (ms : Members) → IsThirdFlow ms → given_period true true ms ≡ given_period true false ms
 period_told ms lacks = ap (λ r. given_number r ms) (period_same ms lacks)
 
@@ -94,6 +105,7 @@ third_flow groups units d f lacks told = record {
     has_jitter = subst (λ n. IfSome f.pace (λ p. p.jitter ≡ n)) (jitter_none (inside d) (given_period true true (inside d)) (no_jitter (inside d) lacks)) told.has_pace.has_jitter;
   };
   has_pause = told.has_pause ∙ pause_none (inside d) (given_number (period_rule true (inside d)) (inside d)) (no_pause (inside d) lacks);
+  has_on_request = told.has_on_request ∙ on_request_none (inside d) (no_on_request (inside d) lacks);
 }
 
 pub fourth_flow : (groups units : List (List ℕ)) (d : Data) (f : FlowPlan) → IsThirdFlow (inside d)
@@ -108,6 +120,7 @@ fourth_flow groups units d f lacks told = record {
     has_jitter = subst (λ n. IfSome f.pace (λ p. p.jitter ≡ n)) (sym (jitter_none (inside d) (given_period true true (inside d)) (no_jitter (inside d) lacks))) told.has_pace.has_jitter;
   };
   has_pause = told.has_pause ∙ sym (pause_none (inside d) (given_number (period_rule true (inside d)) (inside d)) (no_pause (inside d) lacks));
+  has_on_request = told.has_on_request ∙ sym (on_request_none (inside d) (no_on_request (inside d) lacks));
 }
 
 -- ---- the bus

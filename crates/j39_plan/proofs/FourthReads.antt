@@ -11,23 +11,27 @@ use Rattle.j39_plan.specs.Words.{word_of}
 use Rattle.j39_plan.specs.Outcome.{first}
 use Rattle.j39_plan.specs.Schema.{number_of, table_of, tables_of}
 use Rattle.j39_plan.specs.TableFaults.{key_faults, keys_faults, is_key_word, has_only}
-use Rattle.j39_plan.specs.Elements.{each_faults}
+use Rattle.j39_plan.specs.Elements.{each_faults, label_in}
+use Rattle.j39_plan.specs.UnitTables.{IsUnitOf, unit_faults, unit_label_in}
+use Rattle.j39_plan.specs.GroupTables.{IsGroupOf, group_faults}
 use Rattle.j39_plan.specs.FlowTables.{IsFlowOf, flow_faults}
 use Rattle.j39_plan.specs.TimingTables.{timing_table_faults, TellsTiming}
-use Rattle.j39_plan.specs.Faults.{version_rule, keep_free_rule, strangers_rule, strangers_of, strangers_faults, timing_rule, units_rule, groups_rule, flows_rule, needs_rule, knows_fourth, head_faults, timing_faults, array_rules, top_faults, unit_labels, group_labels, units_faults, groups_faults, flows_faults, needs_faults, need_tables_of, no_label, faults}
+use Rattle.j39_plan.specs.Faults.{version_rule, keep_free_rule, strangers_rule, strangers_of, strangers_faults, timing_rule, units_rule, groups_rule, flows_rule, needs_rule, requests_rule, knows_fourth, head_faults, timing_faults, array_rules, top_faults, unit_labels, group_labels, units_faults, groups_faults, flows_faults, needs_faults, need_tables_of, requests_faults, request_tables_of, no_label, faults}
 use Rattle.j39_plan.specs.Described.{keep_free_of, TellsPlan}
-use Rattle.j39_plan.specs.Versions.{with_version, fourth_top_keys, Lacks, IsThirdBus, IsThirdFlow, IsThirdPlan, ReadAlike}
+use Rattle.j39_plan.specs.Versions.{with_version, fourth_top_keys, Lacks, IsThirdBus, IsThirdUnit, IsThirdGroup, IsThirdFlow, IsThirdPlan, ReadAlike}
 use Rattle.j39_plan.proofs.Absent.{lacked, IsNone, only_same, Alike, alike_both, alike_unknown, alike_each, told_alike}
-use Rattle.j39_plan.proofs.KnownVersions.{version_unfaulted, knows_4, knows_3, units_alike, each_nothing}
+use Rattle.j39_plan.proofs.KnownVersions.{version_unfaulted, knows_4, knows_3, each_nothing}
 use Rattle.j39_plan.proofs.ReadAlike.{reads_alike}
 use Rattle.j39_plan.proofs.OtherVersion.{only_other, key_faults_other, table_other, tables_other, addresses_other, version_other}
+use Rattle.j39_plan.proofs.FourthUnits.{unit_alike, third_unit, fourth_unit}
+use Rattle.j39_plan.proofs.FourthGroups.{group_alike, third_group, fourth_group}
 use Rattle.j39_plan.proofs.FourthPlans.{flow_alike, third_flow, fourth_flow, timing_alike, third_bus, fourth_bus}
 
 -- ---- the top table
 
 -- the keys of the top table in both versions
 abbrev fourth_keys : List Key
-fourth_keys = key.Version ∷ key.KeepFree ∷ key.Strangers ∷ key.Timing ∷ key.Unit ∷ key.Group ∷ key.Flow ∷ key.Need ∷ []
+fourth_keys = key.Version ∷ key.KeepFree ∷ key.Strangers ∷ key.Timing ∷ key.Unit ∷ key.Group ∷ key.Flow ∷ key.Need ∷ key.Request ∷ []
 
 abbrev third_keys : List Key
 third_keys = key.Version ∷ key.KeepFree ∷ key.Timing ∷ key.Unit ∷ key.Group ∷ key.Flow ∷ []
@@ -35,7 +39,7 @@ third_keys = key.Version ∷ key.KeepFree ∷ key.Timing ∷ key.Unit ∷ key.Gr
 top_words : (l : List ℕ) → IsNone fourth_top_keys l
     → is_key_word fourth_keys l
     ≡ is_key_word third_keys l
-top_words l none = rw (none 0 key.Strangers (omega arith), none 1 key.Need (omega arith))
+top_words l none = rw (none 0 key.Strangers (omega arith), none 1 key.Need (omega arith), none 2 key.Request (omega arith))
 
 known_alike : (n : ℕ) (tree : Members) → Lacks fourth_top_keys tree
     → has_only fourth_keys tree
@@ -108,6 +112,17 @@ no_need_tables : (s : Members) → get_member (word_of key.Need) s ≡ None → 
 unfolding tables_of
 no_need_tables s none = rw none
 
+no_requests : (s : Members) → Lacks fourth_top_keys s → get_member (word_of key.Request) s ≡ None
+no_requests s lacks = lacked key.Request s (lacks 2 key.Request (omega arith))
+
+requests_unfaulted : (s : Members) → get_member (word_of key.Request) s ≡ None → key_faults at.Top s requests_rule ≡ []
+unfolding key_faults
+requests_unfaulted s none = rw none
+
+no_request_tables : (s : Members) → get_member (word_of key.Request) s ≡ None → request_tables_of true s ≡ no_items
+unfolding tables_of
+no_request_tables s none = rw none
+
 arrays_alike : (s : Members) → Beside s
     → Alike (keys_faults at.Top s (array_rules (knows_fourth s))) (keys_faults at.Top (with_version 3 s) (array_rules (knows_fourth (with_version 3 s))))
 arrays_alike s b =
@@ -118,13 +133,22 @@ arrays_alike s b =
       key_faults_other 3 at.Top groups_rule s refl,
       key_faults_other 3 at.Top flows_rule s refl,
       needs_unfaulted s (no_needs s b.older.keys),
+      requests_unfaulted s (no_requests s b.older.keys),
     ) refl
 
 -- ---- the arrays
 
-groups_alike : (s : Members) → Beside s → groups_faults (with_version 3 s) ≡ groups_faults s
+units_alike : (s : Members) → Beside s → Alike (units_faults s) (units_faults (with_version 3 s))
+units_alike s b =
+    rw ((knows_4 s b.is).of_fourth, (knows_3 (with_version 3 s) b.other).of_fourth, tables_other 3 units_rule s refl)
+    (alike_each IsThirdUnit (unit_faults true) (unit_faults false) unit_alike unit_label_in 0 [] (tables_of units_rule s) b.older.units)
+
+groups_alike : (s : Members) → Beside s → Alike (groups_faults s) (groups_faults (with_version 3 s))
 groups_alike s b =
-    rw ((knows_4 s b.is).of_third, (knows_3 (with_version 3 s) b.other).of_third, tables_other 3 groups_rule s refl)
+    let k = knows_4 s b.is in
+    let o = knows_3 (with_version 3 s) b.other in
+    rw (k.of_third, k.of_fourth, o.of_third, o.of_fourth, tables_other 3 groups_rule s refl)
+    (alike_each IsThirdGroup (group_faults true true) (group_faults true false) group_alike label_in 0 [] (tables_of groups_rule s) b.older.groups)
 
 flows_alike : (s : Members) → Beside s → Alike (flows_faults s) (flows_faults (with_version 3 s))
 flows_alike s b =
@@ -140,15 +164,21 @@ unfolding each_faults
 needs_alike s b =
     rw ((knows_4 s b.is).of_fourth, (knows_3 (with_version 3 s) b.other).of_fourth, no_need_tables s (no_needs s b.older.keys)) refl
 
+requests_alike : (s : Members) → Beside s → Alike (requests_faults s) (requests_faults (with_version 3 s))
+unfolding each_faults
+requests_alike s b =
+    rw ((knows_4 s b.is).of_fourth, (knows_3 (with_version 3 s) b.other).of_fourth, no_request_tables s (no_requests s b.older.keys)) refl
+
 faults_alike : (s : Members) → Beside s → Alike (faults s) (faults (with_version 3 s))
 faults_alike s b =
     alike_both (top_faults s) _ (top_faults (with_version 3 s)) _
     (alike_both (head_faults s) _ (head_faults (with_version 3 s)) _ (head_alike s b)
     (alike_both (strangers_faults s) _ (strangers_faults (with_version 3 s)) _ (strangers_alike s b)
     (alike_both (timing_faults s) _ (timing_faults (with_version 3 s)) _ (timing_part_alike s b) (arrays_alike s b))))
-    (alike_both (units_faults s) _ (units_faults (with_version 3 s)) _ (ap first (sym (units_alike 3 s)))
-    (alike_both (groups_faults s) _ (groups_faults (with_version 3 s)) _ (ap first (sym (groups_alike s b)))
-    (alike_both (flows_faults s) _ (flows_faults (with_version 3 s)) _ (flows_alike s b) (needs_alike s b))))
+    (alike_both (units_faults s) _ (units_faults (with_version 3 s)) _ (units_alike s b)
+    (alike_both (groups_faults s) _ (groups_faults (with_version 3 s)) _ (groups_alike s b)
+    (alike_both (flows_faults s) _ (flows_faults (with_version 3 s)) _ (flows_alike s b)
+    (alike_both (needs_faults s) _ (needs_faults (with_version 3 s)) _ (needs_alike s b) (requests_alike s b)))))
 
 -- ---- what is told
 
@@ -176,12 +206,18 @@ third_plan s p b told =
       has_strangers = told.has_strangers ∙ sym (as_many s b);
       has_timing = rw (o.of_third, o.of_fourth, table_other 3 timing_rule s refl)
           (bus_older (table_of timing_rule s) p.timing b.older.bus (rw (k.of_third, k.of_fourth) at told.has_timing));
-      has_units = rw (tables_other 3 units_rule s refl) told.has_units;
-      has_groups = rw (o.of_third, tables_other 3 groups_rule s refl) (rw k.of_third at told.has_groups);
+      has_units = rw (o.of_fourth, tables_other 3 units_rule s refl)
+          (told_alike IsThirdUnit (IsUnitOf true) (IsUnitOf false) third_unit (tables_of units_rule s) p.units.items b.older.units
+          (rw k.of_fourth at told.has_units));
+      has_groups = rw (o.of_third, o.of_fourth, tables_other 3 groups_rule s refl)
+          (told_alike IsThirdGroup (IsGroupOf true true) (IsGroupOf true false) third_group (tables_of groups_rule s) p.groups.items b.older.groups
+          (rw (k.of_third, k.of_fourth) at told.has_groups));
       has_flows = rw (o.of_third, o.of_fourth, tables_other 3 units_rule s refl, tables_other 3 groups_rule s refl, tables_other 3 flows_rule s refl)
           (told_alike IsThirdFlow (IsFlowOf true true (group_labels s) (unit_labels s)) (IsFlowOf true false (group_labels s) (unit_labels s))
           (third_flow (group_labels s) (unit_labels s)) (tables_of flows_rule s) p.flows.items b.older.flows (rw (k.of_third, k.of_fourth) at told.has_flows));
       has_needs = rw o.of_fourth (each_nothing _ _ p.needs.items (rw (k.of_fourth, no_need_tables s (no_needs s b.older.keys)) at told.has_needs));
+      has_requests = rw o.of_fourth
+          (each_nothing _ _ p.requests.items (rw (k.of_fourth, no_request_tables s (no_requests s b.older.keys)) at told.has_requests));
     }
 
 fourth_plan : (s : Members) (p : Plan) → Beside s → TellsPlan (with_version 3 s) p → TellsPlan s p
@@ -193,13 +229,19 @@ fourth_plan s p b told =
       has_strangers = told.has_strangers ∙ as_many s b;
       has_timing = rw (k.of_third, k.of_fourth)
           (bus_newer (table_of timing_rule s) p.timing b.older.bus (rw (o.of_third, o.of_fourth, table_other 3 timing_rule s refl) at told.has_timing));
-      has_units = rw (tables_other 3 units_rule s refl) at told.has_units;
-      has_groups = rw k.of_third (rw (o.of_third, tables_other 3 groups_rule s refl) at told.has_groups);
+      has_units = rw k.of_fourth
+          (told_alike IsThirdUnit (IsUnitOf false) (IsUnitOf true) fourth_unit (tables_of units_rule s) p.units.items b.older.units
+          (rw (o.of_fourth, tables_other 3 units_rule s refl) at told.has_units));
+      has_groups = rw (k.of_third, k.of_fourth)
+          (told_alike IsThirdGroup (IsGroupOf true false) (IsGroupOf true true) fourth_group (tables_of groups_rule s) p.groups.items b.older.groups
+          (rw (o.of_third, o.of_fourth, tables_other 3 groups_rule s refl) at told.has_groups));
       has_flows = rw (k.of_third, k.of_fourth)
           (told_alike IsThirdFlow (IsFlowOf true false (group_labels s) (unit_labels s)) (IsFlowOf true true (group_labels s) (unit_labels s))
           (fourth_flow (group_labels s) (unit_labels s)) (tables_of flows_rule s) p.flows.items b.older.flows
           (rw (o.of_third, o.of_fourth, tables_other 3 units_rule s refl, tables_other 3 groups_rule s refl, tables_other 3 flows_rule s refl) at told.has_flows));
       has_needs = rw (k.of_fourth, no_need_tables s (no_needs s b.older.keys)) (each_nothing _ _ p.needs.items (rw o.of_fourth at told.has_needs));
+      has_requests = rw (k.of_fourth, no_request_tables s (no_requests s b.older.keys))
+          (each_nothing _ _ p.requests.items (rw o.of_fourth at told.has_requests));
     }
 
 pub fourth_reads : (s : Members) → number_of version_rule s ≡ 4 → IsThirdPlan s → ReadAlike s (with_version 3 s)

@@ -1,5 +1,5 @@
 -- What versions know, and what stands alike in a tree with another one.
-use Rattle.std.proofs.Common.{◌≡◌, ◌≤◌, ℕ, pos, negsuc, Bool, true, false, arith, List, [], ◌∷◌, Option, Some, None, unwrap_or, refl}
+use Rattle.std.proofs.Common.{◌≡◌, ◌≤◌, ℕ, pos, negsuc, Bool, true, false, arith, List, [], ◌∷◌, Option, Some, None, unwrap_or}
 use Rattle.std.specs.Option.{option_and_then, option_or}
 use Rattle.std.proofs.lemmas.Bool.{le-ltb}
 use Rattle.toml.specs.Data.{Data, string, integer, float, boolean, datetime, array, table, no_items, Members, get_member, as_integer}
@@ -9,9 +9,7 @@ use Rattle.j39_plan.specs.Words.{word_of}
 use Rattle.j39_plan.specs.Schema.{integer_in, natural, number_of}
 use Rattle.j39_plan.specs.TableFaults.{standing_cause, key_faults}
 use Rattle.j39_plan.specs.Elements.{Each}
-use Rattle.j39_plan.specs.Faults.{version_rule, units_rule, may_keep, knows_third, knows_fourth, units_faults}
-use Rattle.j39_plan.specs.Versions.{with_version}
-use Rattle.j39_plan.proofs.OtherVersion.{tables_other}
+use Rattle.j39_plan.specs.Faults.{version_rule, may_keep, knows_third, knows_fourth}
 
 no_version : (n : ℕ) → 1 ≤ n → 0 ≡ n → ⊥
 no_version n some is = omega (arith, is)
@@ -51,9 +49,6 @@ knows_2 tree is = record { of_head = rw is; of_third = rw is; of_fourth = rw is 
 pub knows_3 : (tree : Members) → number_of version_rule tree ≡ 3 → Knows tree true true false
 unfolding may_keep knows_third knows_fourth
 knows_3 tree is = record { of_head = rw is; of_third = rw is; of_fourth = rw is }
-
-pub units_alike : (n : ℕ) (s : Members) → units_faults (with_version n s) ≡ units_faults s
-units_alike n s = rw (tables_other n units_rule s refl)
 
 -- no elements tell nothing
 pub each_nothing : {T : Type 0} (Is Was : Data → T → Type 0) (xs : List T) → Each Is no_items xs → Each Was no_items xs

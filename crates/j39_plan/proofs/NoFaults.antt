@@ -52,6 +52,14 @@ Each-weaken Is Was weaker no_items (x ∷ xs) each = each
 Each-weaken Is Was weaker (item d ds) [] each = each
 Each-weaken Is Was weaker (item d ds) (x ∷ xs) each = (weaker d x each.0, Each-weaken Is Was weaker ds xs each.1)
 
+pub Each-map : {X Y : Type 0} (f : X → Y) (Is : Data → X → Type 0) (Was : Data → Y → Type 0) (holds : (d : Data) (x : X) → Is d x → Was d (f x))
+    (ds : Items) (xs : List X) → Each Is ds xs → Each Was ds (map f xs)
+unfolding Each
+Each-map f Is Was holds no_items [] each = tt
+Each-map f Is Was holds no_items (x ∷ xs) each = absurd each
+Each-map f Is Was holds (item d ds) [] each = absurd each
+Each-map f Is Was holds (item d ds) (x ∷ xs) each = (holds d x each.0, Each-map f Is Was holds ds xs each.1)
+
 pub All-from_Each : {T : Type 0} (Is : Data → T → Type 0) (P : T → Type 0) (holds : (d : Data) (x : T) → Is d x → P x) (ds : Items) (xs : List T)
     → Each Is ds xs → All P xs
 unfolding Each

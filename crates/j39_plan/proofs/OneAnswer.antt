@@ -1,15 +1,18 @@
 -- Reading a file gives one answer.
-use Rattle.std.proofs.Common.{◌≡◌, ◌≢◌, ℕ, Bool, List, [], ◌∷◌, Option, Some, None, Result, Ok, Err, option_and_then, refl, sym, ap, subst, ◌∙◌}
+use Rattle.std.proofs.Common.{◌≡◌, ◌≢◌, ℕ, Bool, ◌&&◌, List, [], ◌∷◌, Option, Some, None, Result, Ok, Err, option_and_then, refl, sym, ap, subst, ◌∙◌}
 use Rattle.std.specs.List.{AllZip}
 use Rattle.std.proofs.lemmas.Option.{same_Some, none-some}
-use Rattle.toml.specs.Data.{Data, Items, no_items, item, Members}
+use Rattle.toml.specs.Data.{Data, Items, no_items, item, Members, no_members, member}
 use Rattle.j39_signal.specs.Parts.{SignalParts}
 use Rattle.j39_findings.specs.declared.plan.Plan.{Plan}
 use Rattle.j39_findings.specs.declared.plan.unit_plan.UnitPlan.{UnitPlan}
 use Rattle.j39_findings.specs.declared.plan.group_plan.GroupPlan.{GroupPlan}
 use Rattle.j39_findings.specs.declared.plan.flow_plan.FlowPlan.{FlowPlan}
+use Rattle.j39_findings.specs.declared.plan.meaning.Meaning.{Meaning}
+use Rattle.j39_findings.specs.declared.plan.meaning.ValueName.{ValueName}
 use Rattle.j39_findings.specs.declared.plan.text_plan.TextPlan.{TextPlan}
 use Rattle.j39_findings.specs.declared.plan.need_plan.NeedPlan.{NeedPlan}
+use Rattle.j39_findings.specs.declared.plan.request_plan.RequestPlan.{RequestPlan}
 use Rattle.j39_findings.specs.declared.plan.pace.Pace.{Pace}
 use Rattle.j39_findings.specs.declared.plan.timing.ErrorRate.{ErrorRate}
 use Rattle.j39_findings.specs.declared.plan.timing.Timing.{Timing}
@@ -19,16 +22,18 @@ use Rattle.j39_plan.specs.declared.reading.plan_error.PlanError.TheVariants as e
 use Rattle.j39_plan.specs.Elements.{Each, inside}
 use Rattle.j39_plan.specs.Outcome.{first}
 use Rattle.j39_plan.specs.UnitTables.{IsUnitOf}
-use Rattle.j39_plan.specs.SignalTables.{IsSignalOf}
+use Rattle.j39_plan.specs.SignalTables.{IsMeaningOf, IsSignalOf}
+use Rattle.j39_plan.specs.MeaningTables.{AreValueNames, name_table}
 use Rattle.j39_plan.specs.TextTables.{IsTextOf}
 use Rattle.j39_plan.specs.GroupTables.{IsGroupOf, signal_rule, text_tables_of}
 use Rattle.j39_plan.specs.FlowTables.{IsFlowOf, TellsPace, place_of}
 use Rattle.j39_plan.specs.NeedTables.{IsNeedOf, need_signal_rule, signals_at}
+use Rattle.j39_plan.specs.RequestTables.{IsRequestOf}
 use Rattle.j39_plan.specs.TimingTables.{TellsBus, TellsErrors, TellsTiming, errors_table}
 use Rattle.j39_plan.specs.Schema.{tables_of, found_text}
-use Rattle.j39_plan.specs.Faults.{faults, units_rule, groups_rule, flows_rule, timing_table, need_tables, unit_labels, group_labels, group_signals, knows_third, knows_fourth}
+use Rattle.j39_plan.specs.Faults.{faults, units_rule, groups_rule, flows_rule, timing_table, need_tables, request_tables, unit_labels, group_labels, group_signals, knows_third, knows_fourth}
 use Rattle.j39_plan.specs.Described.{TellsPlan, Described, Reads}
-use Rattle.j39_plan.specs.OnePlan.{AreOneUnit, AreOneSignal, AreOneText, AreOneGroup, AreOneErrorRate, AreOneBus, AreOneTiming, AreOnePace, AreOneFlowPlan, AreOneNeed, AreOnePlan, AreOneAnswer}
+use Rattle.j39_plan.specs.OnePlan.{AreOneUnit, AreOneSignal, AreOneValueName, AreOneMeaning, AreOneText, AreOneGroup, AreOneErrorRate, AreOneBus, AreOneTiming, AreOnePace, AreOneFlowPlan, AreOneNeed, AreOneRequest, AreOnePlan, AreOneAnswer}
 
 -- what elements tell is one, where what each tells is
 one_each : {T : Type 0} (Is : Data → T → Type 0) (One : T → T → Type 0) (one : (d : Data) (x y : T) → Is d x → Is d y → One x y)
@@ -41,13 +46,14 @@ one_each Is One one (item d ds) [] ys a b = absurd a
 one_each Is One one (item d ds) (x ∷ xs) [] a b = absurd b
 one_each Is One one (item d ds) (x ∷ xs) (y ∷ ys) a b = (one d x y a.0 b.0, one_each Is One one ds xs ys a.1 b.1)
 
-one_unit : (d : Data) (u v : UnitPlan) → IsUnitOf d u → IsUnitOf d v → AreOneUnit u v
-one_unit d u v a b = record {
+one_unit : (fourth : Bool) (d : Data) (u v : UnitPlan) → IsUnitOf fourth d u → IsUnitOf fourth d v → AreOneUnit u v
+one_unit fourth d u v a b = record {
   labels = a.has_label ∙ sym b.has_label;
   addresses = a.has_address ∙ sym b.has_address;
   names = a.has_name ∙ sym b.has_name;
   ways = a.has_way ∙ sym b.has_way;
   windows = a.has_window ∙ sym b.has_window;
+  claims = a.has_claims ∙ sym b.has_claims;
 }
 
 one_signal : (third : Bool) (d : Data) (s t : SignalParts) → IsSignalOf third d s → IsSignalOf third d t → AreOneSignal s t
@@ -70,8 +76,24 @@ one_text d t u a b = record {
   lengths = a.has_bytes ∙ sym b.has_bytes;
 }
 
-one_group : (third : Bool) (d : Data) (g h : GroupPlan) → IsGroupOf third d g → IsGroupOf third d h → AreOneGroup g h
-one_group third d g h a b = record {
+one_names : (ms : Members) (xs ys : List ValueName) → AreValueNames ms xs → AreValueNames ms ys → AllZip AreOneValueName xs ys
+unfolding AreValueNames
+one_names no_members [] [] a b = tt
+one_names no_members [] (y ∷ ys) a b = absurd b
+one_names no_members (x ∷ xs) ys a b = absurd a
+one_names (member k d ms) [] ys a b = absurd a
+one_names (member k d ms) (x ∷ xs) [] a b = absurd b
+one_names (member k d ms) (x ∷ xs) (y ∷ ys) a b =
+    (record { raws = a.0 ∙ sym b.0; names = same_Some _ _ (sym a.1 ∙ b.1) }, one_names ms xs ys a.2 b.2)
+
+one_meaning : (third fourth : Bool) (d : Data) (m n : Meaning) → IsMeaningOf third fourth d m → IsMeaningOf third fourth d n → AreOneMeaning m n
+one_meaning third fourth d m n a b = record {
+  spns = a.has_spn ∙ sym b.has_spn;
+  values = one_names (name_table (third && fourth) (inside d)) m.values.items n.values.items a.has_values b.has_values;
+}
+
+one_group : (third fourth : Bool) (d : Data) (g h : GroupPlan) → IsGroupOf third fourth d g → IsGroupOf third fourth d h → AreOneGroup g h
+one_group third fourth d g h a b = record {
   labels = a.has_label ∙ sym b.has_label;
   pgns = a.has_pgn ∙ sym b.has_pgn;
   priorities = a.has_priority ∙ sym b.has_priority;
@@ -80,6 +102,7 @@ one_group third d g h a b = record {
   mosts = a.has_most ∙ sym b.has_most;
   everys = a.has_every ∙ sym b.has_every;
   signals = one_each (IsSignalOf third) AreOneSignal (one_signal third) (tables_of signal_rule (inside d)) _ _ a.has_signals b.has_signals;
+  meanings = one_each (IsMeaningOf third fourth) AreOneMeaning (one_meaning third fourth) (tables_of signal_rule (inside d)) _ _ a.has_meanings b.has_meanings;
   texts = one_each IsTextOf AreOneText one_text (text_tables_of third (inside d)) _ _ a.has_texts b.has_texts;
 }
 
@@ -127,6 +150,7 @@ one_flow third fourth groups units d f h a b = record {
   );
   paces = one_pace third fourth (inside d) f.pace h.pace a.has_pace b.has_pace;
   pauses = a.has_pause ∙ sym b.has_pause;
+  answers = a.has_on_request ∙ sym b.has_on_request;
 }
 
 one_need : (groups : List (List ℕ)) (signals : List (List (List ℕ))) (units : List (List ℕ)) (d : Data) (m n : NeedPlan)
@@ -141,17 +165,27 @@ one_need groups signals units d m n a b =
       ages = a.has_within ∙ sym b.has_within;
     }
 
+one_request : (groups units : List (List ℕ)) (d : Data) (r s : RequestPlan) → IsRequestOf groups units d r → IsRequestOf groups units d s → AreOneRequest r s
+one_request groups units d r s a b = record {
+  groups = same_Some _ _ (sym a.has_group ∙ b.has_group);
+  senders = same_Some _ _ (sym a.has_sender ∙ b.has_sender);
+  receivers = same_Some _ _ (sym a.has_receivers ∙ b.has_receivers);
+  periods = a.has_period ∙ sym b.has_period;
+}
+
 one_plan : (tree : Members) (p q : Plan) → TellsPlan tree p → TellsPlan tree q → AreOnePlan p q
 one_plan tree p q a b = record {
   keep_free = a.has_keep_free ∙ sym b.has_keep_free;
   strangers = a.has_strangers ∙ sym b.has_strangers;
   timing = one_timing (knows_fourth tree) (timing_table tree) p.timing q.timing a.has_timing b.has_timing;
-  units = one_each IsUnitOf AreOneUnit one_unit (tables_of units_rule tree) _ _ a.has_units b.has_units;
-  groups = one_each (IsGroupOf (knows_third tree)) AreOneGroup (one_group (knows_third tree)) (tables_of groups_rule tree) _ _ a.has_groups b.has_groups;
+  units = one_each (IsUnitOf (knows_fourth tree)) AreOneUnit (one_unit (knows_fourth tree)) (tables_of units_rule tree) _ _ a.has_units b.has_units;
+  groups = one_each (IsGroupOf (knows_third tree) (knows_fourth tree)) AreOneGroup (one_group (knows_third tree) (knows_fourth tree)) (tables_of groups_rule tree) _ _ a.has_groups b.has_groups;
   flows = one_each (IsFlowOf (knows_third tree) (knows_fourth tree) (group_labels tree) (unit_labels tree)) AreOneFlowPlan
       (one_flow (knows_third tree) (knows_fourth tree) (group_labels tree) (unit_labels tree)) (tables_of flows_rule tree) _ _ a.has_flows b.has_flows;
   needs = one_each (IsNeedOf (group_labels tree) (group_signals tree) (unit_labels tree)) AreOneNeed
       (one_need (group_labels tree) (group_signals tree) (unit_labels tree)) (need_tables tree) _ _ a.has_needs b.has_needs;
+  requests = one_each (IsRequestOf (group_labels tree) (unit_labels tree)) AreOneRequest
+      (one_request (group_labels tree) (unit_labels tree)) (request_tables tree) _ _ a.has_requests b.has_requests;
 }
 
 -- a tree without faults has no first one

@@ -1,5 +1,5 @@
 -- What is true of the signals and the texts of a group that was read.
-use Rattle.std.proofs.Common.{◌≡◌, ◌≢◌, ℕ, suc, Bool, true, false, List, [], ◌∷◌, ◌++◌, ◌||◌, ◌≤◌, All, AllPairs, map, sym, ◌∙◌, arith}
+use Rattle.std.proofs.Common.{◌≡◌, ◌≢◌, ℕ, suc, Bool, true, false, List, [], ◌∷◌, ◌++◌, ◌||◌, ◌≤◌, All, AllPairs, map, refl, inr, sym, subst, ◌∙◌, arith}
 use Rattle.std.proofs.lemmas.Bool.{or_parts}
 use Rattle.std.proofs.lemmas.List.{length-map, get_or-map}
 use Rattle.std.proofs.lemmas.List.Elements.{All-cons}
@@ -12,27 +12,61 @@ use Rattle.j39_plan.specs.declared.reading.text_kind.TextKind.TheVariants as tex
 use Rattle.j39_plan.specs.declared.reading.key.Key.TheVariants as key
 use Rattle.j39_plan.specs.Schema.{items_count}
 use Rattle.j39_plan.specs.Elements.{each_faults, Each, is_label_among, labels_of, label_in}
-use Rattle.j39_plan.specs.SignalTables.{IsSignalOf, IsFit, signal_faults}
+use Rattle.j39_plan.specs.SignalTables.{IsMeaningOf, IsSignalOf, IsFit, signal_faults}
+use Rattle.j39_plan.specs.Growing.{EachGrows, SignalGrows}
+use Rattle.j39_plan.specs.declared.reading.signals.PlannedSignal.{PlannedSignal}
+use Rattle.j39_findings.specs.declared.plan.meaning.Meaning.{Meaning}
 use Rattle.j39_plan.specs.TextTables.{IsTextOf, text_faults}
 use Rattle.j39_plan.specs.GroupTables.{text_tables_of}
 use Rattle.j39_plan.proofs.Labelled.{is_among_both}
-use Rattle.j39_plan.proofs.NoFaults.{none_left, none_right, fresh_label, labels_apart, labels_told, apart_from, tables_count}
+use Rattle.j39_plan.proofs.NoFaults.{Each-map, none_left, none_right, fresh_label, labels_apart, labels_told, apart_from, tables_count}
 
 abbrev pub IsRead : Bool → Bool → Data → SignalParts → Type 0
 IsRead third records d s = IsSignalOf third d s × IsFit records s
 
-fresh_signal : (third records : Bool) (g i : ℕ) (seen : List (List ℕ)) (d : Data) (s : SignalParts) → IsRead third records d s
-    → signal_faults third records g i seen d ≡ []
+fresh_signal : (third fourth records : Bool) (g i : ℕ) (seen : List (List ℕ)) (d : Data) (s : SignalParts) → IsRead third records d s
+    → signal_faults third fourth records g i seen d ≡ []
     → is_label_among seen (label_in d) ≡ false
 unfolding signal_faults
-fresh_signal third records g i seen d s read none =
+fresh_signal third fourth records g i seen d s read none =
     fresh_label (at.Signal g i) texts.Label seen (label_in d) (rw (← read.0.has_label) read.1.label_form) (none_right _ _ none)
 
-pub signals_apart : (third records : Bool) (g : ℕ) (ds : Items) (xs : List SignalParts) → Each (IsRead third records) ds xs
-    → each_faults (signal_faults third records g) label_in 0 [] ds ≡ [] → AllPairs (λ s t. s.label.bytes ≢ t.label.bytes) xs
-signals_apart third records g ds xs each none =
-    labels_apart (IsRead third records) (signal_faults third records g) label_in (λ s. s.label.bytes) (λ d s read. read.0.has_label)
-    (fresh_signal third records g) ds xs each none
+pub signals_apart : (third fourth records : Bool) (g : ℕ) (ds : Items) (xs : List SignalParts) → Each (IsRead third records) ds xs
+    → each_faults (signal_faults third fourth records g) label_in 0 [] ds ≡ [] → AllPairs (λ s t. s.label.bytes ≢ t.label.bytes) xs
+signals_apart third fourth records g ds xs each none =
+    labels_apart (IsRead third records) (signal_faults third fourth records g) label_in (λ s. s.label.bytes) (λ d s read. read.0.has_label)
+    (fresh_signal third fourth records g) ds xs each none
+
+-- a signal with what is said of it besides
+abbrev pub IsPlanned : Bool → Bool → Bool → Data → PlannedSignal → Type 0
+IsPlanned third fourth records d x = IsRead third records d x.signal × IsMeaningOf third fourth d x.meaning
+
+pub signals_read : (third fourth records : Bool) (ds : Items) (xs : List PlannedSignal) (signals : List SignalParts)
+    → signals ≡ map (λ x. x.signal) xs → Each (IsPlanned third fourth records) ds xs → Each (IsRead third records) ds signals
+signals_read third fourth records ds xs signals are each =
+    rw are (Each-map (λ x. x.signal) (IsPlanned third fourth records) (IsRead third records) (λ d x is. is.0) ds xs each)
+
+pub meanings_read : (third fourth records : Bool) (ds : Items) (xs : List PlannedSignal) (meanings : List Meaning)
+    → meanings ≡ map (λ x. x.meaning) xs → Each (IsPlanned third fourth records) ds xs → Each (IsMeaningOf third fourth) ds meanings
+meanings_read third fourth records ds xs meanings are each =
+    rw are (Each-map (λ x. x.meaning) (IsPlanned third fourth records) (IsMeaningOf third fourth) (λ d x is. is.1) ds xs each)
+
+grows_at : (third fourth records : Bool) (g : ℕ) (ds : Items) (xs : List PlannedSignal) → xs ≢ [] → Each (IsPlanned third fourth records) ds xs
+    → each_faults (signal_faults third fourth records g) label_in 0 [] ds ≡ []
+    → EachGrows (signal_faults third fourth records g) (SignalGrows third fourth records g) ds
+unfolding Each each_faults
+grows_at third fourth records g no_items [] some each none = absurd (some refl)
+grows_at third fourth records g no_items (x ∷ xs) some each none = absurd each
+grows_at third fourth records g (item d ds) xs some each none = inr (none_left _ _ none)
+
+-- elements without faults of which room was asked for
+pub grows_among : (third fourth records has : Bool) (g : ℕ) (ds all : Items) (xs : List PlannedSignal) → records ≡ has → ds ≡ all → xs ≢ []
+    → Each (IsPlanned third fourth records) ds xs → each_faults (signal_faults third fourth records g) label_in 0 [] ds ≡ []
+    → EachGrows (signal_faults third fourth has g) (SignalGrows third fourth has g) all
+grows_among third fourth records has g ds all xs is same some each none =
+    let Of : Bool → Type 0 = λ r. EachGrows (signal_faults third fourth r g) (SignalGrows third fourth r g) ds in
+    let In : Items → Type 0 = λ items. EachGrows (signal_faults third fourth has g) (SignalGrows third fourth has g) items in
+    subst In same (subst Of is (grows_at third fourth records g ds xs some each none))
 
 -- the labels of signals
 abbrev pub signal_texts : List SignalParts → List (List ℕ)

@@ -25,15 +25,15 @@ abbrev pub signals_texts : List GroupPlan → List (List (List ℕ))
 signals_texts = map (λ g. map (λ s. s.label.bytes) g.signals.items)
 
 -- those of groups that were read are those of the file
-pub signals_texts_told : (third : Bool) (ds : Items) (gs : List GroupPlan) → Each (IsGroupOf third) ds gs → signals_texts gs ≡ signals_of_groups ds
+pub signals_texts_told : (third fourth : Bool) (ds : Items) (gs : List GroupPlan) → Each (IsGroupOf third fourth) ds gs → signals_texts gs ≡ signals_of_groups ds
 unfolding Each signals_of_groups
-signals_texts_told third no_items [] each = refl
-signals_texts_told third no_items (g ∷ gs) each = absurd each
-signals_texts_told third (item d ds) [] each = absurd each
-signals_texts_told third (item d ds) (g ∷ gs) each =
+signals_texts_told third fourth no_items [] each = refl
+signals_texts_told third fourth no_items (g ∷ gs) each = absurd each
+signals_texts_told third fourth (item d ds) [] each = absurd each
+signals_texts_told third fourth (item d ds) (g ∷ gs) each =
     rw (
       labels_told (IsSignalOf third) label_in (λ s. s.label.bytes) (λ e s is. is.has_label) (tables_of signal_rule (inside d)) g.signals.items each.0.has_signals,
-      signals_texts_told third ds gs each.1,
+      signals_texts_told third fourth ds gs each.1,
     )
 
 pub needs_count : (fourth : Bool) (ms : Members) → items_count (need_tables_of fourth ms) ≤ need_limit

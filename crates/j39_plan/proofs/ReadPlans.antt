@@ -19,27 +19,27 @@ use Rattle.j39_findings.specs.declared.plan.flow_plan.FlowPlan.{FlowPlan}
 use Rattle.j39_plan.specs.FlowTables.{place_of, receivers, IsFlowOf}
 use Rattle.j39_plan.proofs.NoFaults.{none_right, All-from_Each, fresh_label, labels_apart, labels_told}
 
-fresh_unit : (i : ℕ) (seen : List (List ℕ)) (d : Data) (u : UnitPlan) → IsUnitOf d u → unit_faults i seen d ≡ []
+fresh_unit : (fourth : Bool) (i : ℕ) (seen : List (List ℕ)) (d : Data) (u : UnitPlan) → IsUnitOf fourth d u → unit_faults fourth i seen d ≡ []
     → is_label_among seen (unit_label_in d) ≡ false
 unfolding unit_faults
-fresh_unit i seen d u is none =
+fresh_unit fourth i seen d u is none =
     fresh_label (at.Unit i) texts.UnitLabel seen (unit_label_in d) (rw (← is.has_label) u.label_form) (none_right _ _ none)
 
-pub units_apart : (ds : Items) (xs : List UnitPlan) → Each IsUnitOf ds xs → each_faults unit_faults unit_label_in 0 [] ds ≡ []
+pub units_apart : (fourth : Bool) (ds : Items) (xs : List UnitPlan) → Each (IsUnitOf fourth) ds xs → each_faults (unit_faults fourth) unit_label_in 0 [] ds ≡ []
     → AllPairs (λ u w. u.label.bytes ≢ w.label.bytes) xs
-units_apart ds xs each none =
-    labels_apart IsUnitOf unit_faults unit_label_in (λ u. u.label.bytes) (λ d u is. is.has_label) fresh_unit ds xs each none
+units_apart fourth ds xs each none =
+    labels_apart (IsUnitOf fourth) (unit_faults fourth) unit_label_in (λ u. u.label.bytes) (λ d u is. is.has_label) (fresh_unit fourth) ds xs each none
 
-fresh_group : (third : Bool) (i : ℕ) (seen : List (List ℕ)) (d : Data) (g : GroupPlan) → IsGroupOf third d g → group_faults third i seen d ≡ []
+fresh_group : (third fourth : Bool) (i : ℕ) (seen : List (List ℕ)) (d : Data) (g : GroupPlan) → IsGroupOf third fourth d g → group_faults third fourth i seen d ≡ []
     → is_label_among seen (label_in d) ≡ false
 unfolding group_faults
-fresh_group third i seen d g is none =
+fresh_group third fourth i seen d g is none =
     fresh_label (at.Group i) texts.Label seen (label_in d) (rw (← is.has_label) g.label_form) (none_right _ _ none)
 
-pub groups_apart : (third : Bool) (ds : Items) (xs : List GroupPlan) → Each (IsGroupOf third) ds xs → each_faults (group_faults third) label_in 0 [] ds ≡ []
+pub groups_apart : (third fourth : Bool) (ds : Items) (xs : List GroupPlan) → Each (IsGroupOf third fourth) ds xs → each_faults (group_faults third fourth) label_in 0 [] ds ≡ []
     → AllPairs (λ g h. g.label.bytes ≢ h.label.bytes) xs
-groups_apart third ds xs each none =
-    labels_apart (IsGroupOf third) (group_faults third) label_in (λ g. g.label.bytes) (λ d g is. is.has_label) (fresh_group third) ds xs each none
+groups_apart third fourth ds xs each none =
+    labels_apart (IsGroupOf third fourth) (group_faults third fourth) label_in (λ g. g.label.bytes) (λ d g is. is.has_label) (fresh_group third fourth) ds xs each none
 
 place_below : (labels : List (List ℕ)) (label : List ℕ) (p : ℕ) → place_of labels label ≡ Some p → p < length labels
 unfolding place_of
@@ -73,11 +73,11 @@ abbrev pub group_texts : List GroupPlan → List (List ℕ)
 group_texts = map (λ g. g.label.bytes)
 
 -- those of units and of groups that were read are those of the file
-pub unit_texts_told : (ds : Items) (us : List UnitPlan) → Each IsUnitOf ds us → unit_texts us ≡ labels_of unit_label_in ds
-unit_texts_told = labels_told IsUnitOf unit_label_in (λ u. u.label.bytes) (λ d u is. is.has_label)
+pub unit_texts_told : (fourth : Bool) (ds : Items) (us : List UnitPlan) → Each (IsUnitOf fourth) ds us → unit_texts us ≡ labels_of unit_label_in ds
+unit_texts_told fourth = labels_told (IsUnitOf fourth) unit_label_in (λ u. u.label.bytes) (λ d u is. is.has_label)
 
-pub group_texts_told : (third : Bool) (ds : Items) (gs : List GroupPlan) → Each (IsGroupOf third) ds gs → group_texts gs ≡ labels_of label_in ds
-group_texts_told third = labels_told (IsGroupOf third) label_in (λ g. g.label.bytes) (λ d g is. is.has_label)
+pub group_texts_told : (third fourth : Bool) (ds : Items) (gs : List GroupPlan) → Each (IsGroupOf third fourth) ds gs → group_texts gs ≡ labels_of label_in ds
+group_texts_told third fourth = labels_told (IsGroupOf third fourth) label_in (λ g. g.label.bytes) (λ d g is. is.has_label)
 
 -- what a table tells is a flow between these units of one of these groups
 abbrev pub IsBetween : Bool → Bool → List GroupPlan → List UnitPlan → Data → FlowPlan → Type 0

@@ -16,12 +16,13 @@ use Rattle.j39_plan.specs.Words.{word_of}
 use Rattle.j39_plan.specs.Schema.{integer_in, natural, standing, number_of, given_number, flag_of, tables_of}
 use Rattle.j39_plan.specs.TableFaults.{fault, standing_cause, key_faults, table_faults, table_only_faults, is_key_word}
 use Rattle.j39_plan.specs.Elements.{inside, label_in, label_rule, repeated_faults, Each}
-use Rattle.j39_plan.specs.SignalTables.{signal_faults, IsSignalOf}
+use Rattle.j39_plan.specs.SignalTables.{signal_faults, IsMeaningOf, IsSignalOf}
 use Rattle.j39_plan.specs.GroupTables.{pgn_rule, priority_rule, length_rule, private_rule, private_of, most_rule, most_of, every_rule, every_of, signal_rule, text_rule, text_tables_of, group_rules, signals_faults, texts_faults, group_table_faults, group_faults, IsGroupOf}
 use Rattle.j39_plan.specs.TextTables.{IsTextOf}
 use Rattle.j39_plan.specs.FlowTables.{has_key, period_of, given_period, deadline_rule, flow_rules, flow_table_faults, flow_faults, IsFlowOf}
 use Rattle.j39_plan.specs.Versions.{third_group_keys, IsSecondSignal, IsSecondGroup, IsSecondFlow}
 use Rattle.j39_plan.proofs.Absent.{lacked, IsNone, only_same, Alike, alike_both, alike_between, alike_behind, alike_unknown, alike_inside, alike_each, told_alike}
+use Rattle.j39_plan.proofs.NoFaults.{Each-weaken}
 use Rattle.j39_plan.proofs.ThirdSignals.{signal_alike, second_signal, third_signal}
 
 -- ---- groups
@@ -112,19 +113,19 @@ no_texts : (ms : Members) → IsSecondGroup ms → text_tables_of true ms ≡ no
 unfolding tables_of
 no_texts ms second = rw (without ms second).text
 
-signals_alike : (g : ℕ) (ms : Members) → IsSecondGroup ms → Alike (signals_faults true g ms) (signals_faults false g ms)
+signals_alike : (g : ℕ) (ms : Members) → IsSecondGroup ms → Alike (signals_faults true false g ms) (signals_faults false false g ms)
 signals_alike g ms second =
     rw (no_every ms second)
-    (alike_each IsSecondSignal (signal_faults true false g) (signal_faults false false g) (signal_alike g) label_in 0 [] (tables_of signal_rule ms) second.signals)
+    (alike_each IsSecondSignal (signal_faults true false false g) (signal_faults false false false g) (signal_alike g) label_in 0 [] (tables_of signal_rule ms) second.signals)
 
 texts_alike : (g : ℕ) (ms : Members) → IsSecondGroup ms → Alike (texts_faults true g ms) (texts_faults false g ms)
 texts_alike g ms second = rw (no_texts ms second) refl
 
-pub group_alike : (g : ℕ) (seen : List (List ℕ)) (d : Data) → IsSecondGroup (inside d) → Alike (group_faults true g seen d) (group_faults false g seen d)
+pub group_alike : (g : ℕ) (seen : List (List ℕ)) (d : Data) → IsSecondGroup (inside d) → Alike (group_faults true false g seen d) (group_faults false false g seen d)
 unfolding group_faults group_table_faults
 group_alike g seen d second =
-    let third = group_table_faults true g in
-    let older = group_table_faults false g in
+    let third = group_table_faults true false g in
+    let older = group_table_faults false false g in
     alike_between (table_only_faults (at.Group g) d) (option_map_or third (as_table d) []) (option_map_or older (as_table d) [])
     (repeated_faults (at.Group g) texts.Label seen (label_in d))
     (alike_inside third older d
@@ -139,7 +140,7 @@ most_is : (length : ℕ) (ms : Members) → IsSecondGroup ms → most_of true le
 unfolding number_of
 most_is length ms second = rw (without ms second).most
 
-pub second_group : (d : Data) (g : GroupPlan) → IsSecondGroup (inside d) → IsGroupOf true d g → IsGroupOf false d g
+pub second_group : (d : Data) (g : GroupPlan) → IsSecondGroup (inside d) → IsGroupOf true false d g → IsGroupOf false false d g
 second_group d g second told = record {
   has_label = told.has_label;
   has_pgn = told.has_pgn;
@@ -149,10 +150,11 @@ second_group d g second told = record {
   has_most = told.has_most ∙ most_is (number_of length_rule (inside d)) (inside d) second;
   has_every = told.has_every ∙ no_every (inside d) second;
   has_signals = told_alike IsSecondSignal (IsSignalOf true) (IsSignalOf false) second_signal (tables_of signal_rule (inside d)) g.signals.items second.signals told.has_signals;
+  has_meanings = Each-weaken (IsMeaningOf true false) (IsMeaningOf false false) (λ d m is. is) _ _ told.has_meanings;
   has_texts = subst (λ ds. Each IsTextOf ds g.texts.items) (no_texts (inside d) second) told.has_texts;
 }
 
-pub third_group : (d : Data) (g : GroupPlan) → IsSecondGroup (inside d) → IsGroupOf false d g → IsGroupOf true d g
+pub third_group : (d : Data) (g : GroupPlan) → IsSecondGroup (inside d) → IsGroupOf false false d g → IsGroupOf true false d g
 third_group d g second told = record {
   has_label = told.has_label;
   has_pgn = told.has_pgn;
@@ -162,6 +164,7 @@ third_group d g second told = record {
   has_most = told.has_most ∙ sym (most_is (number_of length_rule (inside d)) (inside d) second);
   has_every = told.has_every ∙ sym (no_every (inside d) second);
   has_signals = told_alike IsSecondSignal (IsSignalOf false) (IsSignalOf true) third_signal (tables_of signal_rule (inside d)) g.signals.items second.signals told.has_signals;
+  has_meanings = Each-weaken (IsMeaningOf false false) (IsMeaningOf true false) (λ d m is. is) _ _ told.has_meanings;
   has_texts = subst (λ ds. Each IsTextOf ds g.texts.items) (sym (no_texts (inside d) second)) told.has_texts;
 }
 
@@ -216,6 +219,7 @@ second_flow groups units d f lacks told = record {
     has_jitter = told.has_pace.has_jitter;
   };
   has_pause = told.has_pause;
+  has_on_request = told.has_on_request;
 }
 
 pub third_flow : (groups units : List (List ℕ)) (d : Data) (f : FlowPlan) → IsSecondFlow (inside d)
@@ -230,4 +234,5 @@ third_flow groups units d f lacks told = record {
     has_jitter = told.has_pace.has_jitter;
   };
   has_pause = told.has_pause;
+  has_on_request = told.has_on_request;
 }

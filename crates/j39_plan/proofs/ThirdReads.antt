@@ -12,11 +12,11 @@ use Rattle.j39_plan.specs.TableFaults.{key_faults, keys_faults, is_key_word, has
 use Rattle.j39_plan.specs.Elements.{each_faults, label_in}
 use Rattle.j39_plan.specs.GroupTables.{IsGroupOf, group_faults}
 use Rattle.j39_plan.specs.FlowTables.{IsFlowOf, flow_faults}
-use Rattle.j39_plan.specs.Faults.{version_rule, keep_free_rule, strangers_of, strangers_faults, timing_rule, units_rule, groups_rule, flows_rule, knows_fourth, head_faults, timing_faults, array_rules, top_faults, unit_labels, group_labels, units_faults, groups_faults, flows_faults, needs_faults, no_label, faults}
+use Rattle.j39_plan.specs.Faults.{version_rule, keep_free_rule, strangers_of, strangers_faults, timing_rule, units_rule, groups_rule, flows_rule, knows_fourth, head_faults, timing_faults, array_rules, top_faults, unit_labels, group_labels, units_faults, groups_faults, flows_faults, needs_faults, requests_faults, no_label, faults}
 use Rattle.j39_plan.specs.Described.{keep_free_of, TellsPlan}
 use Rattle.j39_plan.specs.Versions.{with_version, Lacks, IsSecondGroup, IsSecondFlow, IsSecondPlan, ReadAlike}
 use Rattle.j39_plan.proofs.Absent.{lacked, IsNone, only_same, Alike, alike_both, alike_unknown, alike_each, told_alike}
-use Rattle.j39_plan.proofs.KnownVersions.{version_unfaulted, knows_3, knows_2, units_alike, each_nothing}
+use Rattle.j39_plan.proofs.KnownVersions.{version_unfaulted, knows_3, knows_2, each_nothing}
 use Rattle.j39_plan.proofs.ReadAlike.{reads_alike}
 use Rattle.j39_plan.proofs.OtherVersion.{only_other, key_faults_other, tables_other, addresses_other, version_other}
 use Rattle.j39_plan.proofs.ThirdPlans.{group_alike, second_group, third_group, flow_alike, second_flow, third_flow}
@@ -99,10 +99,16 @@ arrays_alike s b =
 
 -- ---- the arrays
 
+units_alike : (s : Members) → Beside s → units_faults (with_version 2 s) ≡ units_faults s
+units_alike s b =
+    rw ((knows_3 s b.is).of_fourth, (knows_2 (with_version 2 s) b.other).of_fourth, tables_other 2 units_rule s refl)
+
 groups_alike : (s : Members) → Beside s → Alike (groups_faults s) (groups_faults (with_version 2 s))
 groups_alike s b =
-    rw ((knows_3 s b.is).of_third, (knows_2 (with_version 2 s) b.other).of_third, tables_other 2 groups_rule s refl)
-    (alike_each IsSecondGroup (group_faults true) (group_faults false) group_alike label_in 0 [] (tables_of groups_rule s) b.older.groups)
+    let k = knows_3 s b.is in
+    let o = knows_2 (with_version 2 s) b.other in
+    rw (k.of_third, k.of_fourth, o.of_third, o.of_fourth, tables_other 2 groups_rule s refl)
+    (alike_each IsSecondGroup (group_faults true false) (group_faults false false) group_alike label_in 0 [] (tables_of groups_rule s) b.older.groups)
 
 flows_alike : (s : Members) → Beside s → Alike (flows_faults s) (flows_faults (with_version 2 s))
 flows_alike s b =
@@ -117,15 +123,20 @@ needs_alike : (s : Members) → Beside s → Alike (needs_faults s) (needs_fault
 unfolding each_faults
 needs_alike s b = rw ((knows_3 s b.is).of_fourth, (knows_2 (with_version 2 s) b.other).of_fourth) refl
 
+requests_alike : (s : Members) → Beside s → Alike (requests_faults s) (requests_faults (with_version 2 s))
+unfolding each_faults
+requests_alike s b = rw ((knows_3 s b.is).of_fourth, (knows_2 (with_version 2 s) b.other).of_fourth) refl
+
 faults_alike : (s : Members) → Beside s → Alike (faults s) (faults (with_version 2 s))
 faults_alike s b =
     alike_both (top_faults s) _ (top_faults (with_version 2 s)) _
     (alike_both (head_faults s) _ (head_faults (with_version 2 s)) _ (head_alike s b)
     (alike_both (strangers_faults s) _ (strangers_faults (with_version 2 s)) _ (strangers_alike s b)
     (alike_both (timing_faults s) _ (timing_faults (with_version 2 s)) _ (timing_part_alike s b) (arrays_alike s b))))
-    (alike_both (units_faults s) _ (units_faults (with_version 2 s)) _ (ap first (sym (units_alike 2 s)))
+    (alike_both (units_faults s) _ (units_faults (with_version 2 s)) _ (ap first (sym (units_alike s b)))
     (alike_both (groups_faults s) _ (groups_faults (with_version 2 s)) _ (groups_alike s b)
-    (alike_both (flows_faults s) _ (flows_faults (with_version 2 s)) _ (flows_alike s b) (needs_alike s b))))
+    (alike_both (flows_faults s) _ (flows_faults (with_version 2 s)) _ (flows_alike s b)
+    (alike_both (needs_faults s) _ (needs_faults (with_version 2 s)) _ (needs_alike s b) (requests_alike s b)))))
 
 -- ---- what is told
 
@@ -140,14 +151,15 @@ second_plan s p b told =
       has_keep_free = told.has_keep_free ∙ sym (kept_alike s b);
       has_strangers = told.has_strangers ∙ sym (as_many s b);
       has_timing = rw o.of_third (rw (k.of_third, k.of_fourth, no_bus_table s (no_bus s b.older.keys)) at told.has_timing);
-      has_units = rw (tables_other 2 units_rule s refl) told.has_units;
-      has_groups = rw (o.of_third, tables_other 2 groups_rule s refl)
-          (told_alike IsSecondGroup (IsGroupOf true) (IsGroupOf false) second_group (tables_of groups_rule s) p.groups.items b.older.groups
-          (rw k.of_third at told.has_groups));
+      has_units = rw (o.of_fourth, tables_other 2 units_rule s refl) (rw k.of_fourth at told.has_units);
+      has_groups = rw (o.of_third, o.of_fourth, tables_other 2 groups_rule s refl)
+          (told_alike IsSecondGroup (IsGroupOf true false) (IsGroupOf false false) second_group (tables_of groups_rule s) p.groups.items b.older.groups
+          (rw (k.of_third, k.of_fourth) at told.has_groups));
       has_flows = rw (o.of_third, o.of_fourth, tables_other 2 units_rule s refl, tables_other 2 groups_rule s refl, tables_other 2 flows_rule s refl)
           (told_alike IsSecondFlow (IsFlowOf true false (group_labels s) (unit_labels s)) (IsFlowOf false false (group_labels s) (unit_labels s))
           (second_flow (group_labels s) (unit_labels s)) (tables_of flows_rule s) p.flows.items b.older.flows (rw (k.of_third, k.of_fourth) at told.has_flows));
       has_needs = rw o.of_fourth (each_nothing _ _ p.needs.items (rw k.of_fourth at told.has_needs));
+      has_requests = rw o.of_fourth (each_nothing _ _ p.requests.items (rw k.of_fourth at told.has_requests));
     }
 
 third_plan : (s : Members) (p : Plan) → Beside s → TellsPlan (with_version 2 s) p → TellsPlan s p
@@ -158,15 +170,16 @@ third_plan s p b told =
       has_keep_free = told.has_keep_free ∙ kept_alike s b;
       has_strangers = told.has_strangers ∙ as_many s b;
       has_timing = rw (k.of_third, k.of_fourth, no_bus_table s (no_bus s b.older.keys)) (rw o.of_third at told.has_timing);
-      has_units = rw (tables_other 2 units_rule s refl) at told.has_units;
-      has_groups = rw k.of_third
-          (told_alike IsSecondGroup (IsGroupOf false) (IsGroupOf true) third_group (tables_of groups_rule s) p.groups.items b.older.groups
-          (rw (o.of_third, tables_other 2 groups_rule s refl) at told.has_groups));
+      has_units = rw k.of_fourth (rw (o.of_fourth, tables_other 2 units_rule s refl) at told.has_units);
+      has_groups = rw (k.of_third, k.of_fourth)
+          (told_alike IsSecondGroup (IsGroupOf false false) (IsGroupOf true false) third_group (tables_of groups_rule s) p.groups.items b.older.groups
+          (rw (o.of_third, o.of_fourth, tables_other 2 groups_rule s refl) at told.has_groups));
       has_flows = rw (k.of_third, k.of_fourth)
           (told_alike IsSecondFlow (IsFlowOf false false (group_labels s) (unit_labels s)) (IsFlowOf true false (group_labels s) (unit_labels s))
           (third_flow (group_labels s) (unit_labels s)) (tables_of flows_rule s) p.flows.items b.older.flows
           (rw (o.of_third, o.of_fourth, tables_other 2 units_rule s refl, tables_other 2 groups_rule s refl, tables_other 2 flows_rule s refl) at told.has_flows));
       has_needs = rw k.of_fourth (each_nothing _ _ p.needs.items (rw o.of_fourth at told.has_needs));
+      has_requests = rw k.of_fourth (each_nothing _ _ p.requests.items (rw o.of_fourth at told.has_requests));
     }
 
 pub third_reads : (s : Members) → number_of version_rule s ≡ 3 → IsSecondPlan s → ReadAlike s (with_version 2 s)

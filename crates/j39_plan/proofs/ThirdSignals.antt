@@ -85,18 +85,18 @@ signal_words : (l : List ℕ) → IsNone (key.Per ∷ key.Repeated ∷ []) l
 signal_words l none = rw (none 0 key.Per (omega arith), none 1 key.Repeated (omega arith))
 
 signal_keys_alike : (at : Table) (ms : Members) → IsSecondSignal ms
-    → Alike (table_faults at (signal_rules true false ms) ms) (table_faults at (signal_rules false false ms) ms)
+    → Alike (table_faults at (signal_rules true false false ms) ms) (table_faults at (signal_rules false false false ms) ms)
 signal_keys_alike at ms second =
     rw (no_code ms second, older_code ms)
     (alike_both _ _ _ _ (alike_unknown at _ _ ms ms (only_same third_keys second_keys (key.Per ∷ key.Repeated ∷ []) signal_words ms second.keys))
     (rw (kind_faults at ms second, per_unfaulted at ms second, repeated_unfaulted at ms second) refl))
 
 pub signal_alike : (g i : ℕ) (seen : List (List ℕ)) (d : Data) → IsSecondSignal (inside d)
-    → Alike (signal_faults true false g i seen d) (signal_faults false false g i seen d)
+    → Alike (signal_faults true false false g i seen d) (signal_faults false false false g i seen d)
 unfolding signal_faults signal_table_faults
 signal_alike g i seen d second =
-    let third = signal_table_faults true false (at.Signal g i) in
-    let older = signal_table_faults false false (at.Signal g i) in
+    let third = signal_table_faults true false false (at.Signal g i) in
+    let older = signal_table_faults false false false (at.Signal g i) in
     alike_between (table_only_faults (at.Signal g i) d) (option_map_or third (as_table d) []) (option_map_or older (as_table d) [])
     (repeated_faults (at.Signal g i) texts.Label seen (label_in d))
     (alike_inside third older d (signal_keys_alike (at.Signal g i) (inside d) second))

@@ -4,7 +4,7 @@ use Rattle.std.specs.Option.{option_map_or}
 use Rattle.toml.specs.Data.{Data, Items, no_items, Members}
 use Rattle.j39_id.specs.Addresses.{pool_size}
 use Rattle.j39_id.specs.Limits.{unit_limit}
-use Rattle.j39_findings.specs.PlanLimits.{flow_limit, group_limit, need_limit}
+use Rattle.j39_findings.specs.PlanLimits.{flow_limit, group_limit, need_limit, request_limit}
 use Rattle.j39_plan.specs.declared.reading.key.Key.TheVariants as key
 use Rattle.j39_plan.specs.declared.reading.place.Table.TheVariants as at
 use Rattle.j39_plan.specs.declared.reading.fault.Fault.{Fault}
@@ -15,6 +15,7 @@ use Rattle.j39_plan.specs.UnitTables.{unit_faults, unit_label_in}
 use Rattle.j39_plan.specs.GroupTables.{group_faults}
 use Rattle.j39_plan.specs.FlowTables.{flow_faults}
 use Rattle.j39_plan.specs.NeedTables.{need_faults, signals_of_groups}
+use Rattle.j39_plan.specs.RequestTables.{request_faults}
 use Rattle.j39_plan.specs.TimingTables.{timing_table_faults}
 
 abbrev pub version_rule : Rule
@@ -56,17 +57,20 @@ flows_rule = tables key.Flow flow_limit
 abbrev pub needs_rule : Rule
 needs_rule = tables key.Need need_limit
 
+abbrev pub requests_rule : Rule
+requests_rule = tables key.Request request_limit
+
 -- the first keys of tables: a plan of the first version keeps no address free
 abbrev pub head_rules : Members → List Rule
 head_rules tree = if may_keep tree then version_rule ∷ keep_free_rule ∷ [] else version_rule ∷ []
 
-abbrev pub need_array_rules : Bool → List Rule
-need_array_rules true = needs_rule ∷ []
-need_array_rules false = []
+abbrev pub later_array_rules : Bool → List Rule
+later_array_rules true = needs_rule ∷ requests_rule ∷ []
+later_array_rules false = []
 
--- the fourth version knows needs too
+-- the fourth version knows needs and requests too
 abbrev pub array_rules : Bool → List Rule
-array_rules fourth = units_rule ∷ groups_rule ∷ flows_rule ∷ need_array_rules fourth
+array_rules fourth = units_rule ∷ groups_rule ∷ flows_rule ∷ later_array_rules fourth
 
 -- the fourth version knows strangers
 abbrev pub strangers_rules : Bool → List Rule
@@ -105,6 +109,14 @@ need_tables_of false tree = no_items
 abbrev pub need_tables : Members → Items
 need_tables tree = need_tables_of (knows_fourth tree) tree
 
+-- and those of requests
+abbrev pub request_tables_of : Bool → Members → Items
+request_tables_of true tree = tables_of requests_rule tree
+request_tables_of false tree = no_items
+
+abbrev pub request_tables : Members → Items
+request_tables tree = request_tables_of (knows_fourth tree) tree
+
 abbrev pub unit_labels : Members → List (List ℕ)
 unit_labels tree = labels_of unit_label_in (tables_of units_rule tree)
 
@@ -114,15 +126,15 @@ group_labels tree = labels_of label_in (tables_of groups_rule tree)
 abbrev pub group_signals : Members → List (List (List ℕ))
 group_signals tree = signals_of_groups (tables_of groups_rule tree)
 
--- a flow and a need have no label that another may not repeat
+-- a flow, a need and a request have no label that another may not repeat
 abbrev pub no_label : Data → List ℕ
 no_label d = []
 
 abbrev pub units_faults : Members → List Fault
-units_faults tree = each_faults unit_faults unit_label_in 0 [] (tables_of units_rule tree)
+units_faults tree = each_faults (unit_faults (knows_fourth tree)) unit_label_in 0 [] (tables_of units_rule tree)
 
 abbrev pub groups_faults : Members → List Fault
-groups_faults tree = each_faults (group_faults (knows_third tree)) label_in 0 [] (tables_of groups_rule tree)
+groups_faults tree = each_faults (group_faults (knows_third tree) (knows_fourth tree)) label_in 0 [] (tables_of groups_rule tree)
 
 abbrev pub flows_faults : Members → List Fault
 flows_faults tree =
@@ -130,6 +142,9 @@ flows_faults tree =
 
 abbrev pub needs_faults : Members → List Fault
 needs_faults tree = each_faults (λ i seen. need_faults (group_labels tree) (group_signals tree) (unit_labels tree) i) no_label 0 [] (need_tables tree)
+
+abbrev pub requests_faults : Members → List Fault
+requests_faults tree = each_faults (λ i seen. request_faults (group_labels tree) (unit_labels tree) i) no_label 0 [] (request_tables tree)
 
 -- a key that no rule names, and what stands at the version and at the addresses to keep free
 abbrev pub head_faults : Members → List Fault
@@ -148,6 +163,7 @@ abbrev pub top_faults : Members → List Fault
 top_faults tree =
     head_faults tree ++ (strangers_faults tree ++ (timing_faults tree ++ keys_faults at.Top tree (array_rules (knows_fourth tree))))
 
--- the top table's keys, then the units, the groups, the flows and the needs, each in order
+-- the top table's keys, then the units, the groups, the flows, the needs and the requests, each in order
 abbrev pub faults : Members → List Fault
-faults tree = top_faults tree ++ (units_faults tree ++ (groups_faults tree ++ (flows_faults tree ++ needs_faults tree)))
+faults tree =
+    top_faults tree ++ (units_faults tree ++ (groups_faults tree ++ (flows_faults tree ++ (needs_faults tree ++ requests_faults tree))))

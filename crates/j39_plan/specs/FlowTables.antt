@@ -1,5 +1,5 @@
--- The tables of flows. The third version knows how often a flow is sent, the fourth one also how far behind its moments, and for how long it
--- is silent.
+-- The tables of flows. The third version knows how often a flow is sent, the fourth one also how far behind its moments, for how long it
+-- is silent, and whether it is sent on request alone.
 use Rattle.std.specs.Prelude.{◌≡◌, ℕ, ◌-◌, List, [], ◌∷◌, ◌++◌, Bool, true, false, ◌&&◌, ◌||◌, if◌then◌else◌, Option}
 use Rattle.std.specs.Prelude.{Some, None, IfSome, option_map, option_and_then, codes, is_some, position}
 use Rattle.std.specs.Str.{bytes_eq}
@@ -16,7 +16,7 @@ use Rattle.j39_plan.specs.declared.reading.place.Table.{Table}
 use Rattle.j39_plan.specs.declared.reading.place.Table.TheVariants as at
 use Rattle.j39_plan.specs.declared.reading.fault.Fault.{Fault}
 use Rattle.j39_plan.specs.declared.reading.text_kind.TextKind.TheVariants as texts
-use Rattle.j39_plan.specs.Schema.{Rule, text, number, optional, found_text, number_of, given_number}
+use Rattle.j39_plan.specs.Schema.{Rule, text, number, optional, flag, found_text, number_of, given_number, flag_of}
 use Rattle.j39_plan.specs.Words.{word_of}
 use Rattle.j39_plan.specs.TableFaults.{table_faults, table_only_faults, fault}
 use Rattle.j39_plan.specs.Elements.{inside}
@@ -65,9 +65,13 @@ pause_least (Some period) = period
 abbrev pub pause_rule : Option ℕ → Rule
 pause_rule period = optional key.Pause (pause_least period) 65535
 
+-- whether a flow is sent only as the answer to a request
+abbrev pub on_request_rule : Rule
+on_request_rule = flag key.OnRequest false
+
 -- behind the deadline, by the period, in the fourth version and in another
 abbrev pub later_pace_rules : Bool → Option ℕ → List Rule
-later_pace_rules true period = jitter_rule period ∷ pause_rule period ∷ []
+later_pace_rules true period = jitter_rule period ∷ pause_rule period ∷ on_request_rule ∷ []
 later_pace_rules false period = []
 
 abbrev pub pace_rules : Bool → Bool → Members → List Rule
@@ -96,7 +100,7 @@ abbrev pub given_period : Bool → Bool → Members → Option ℕ
 given_period true fourth ms = given_number (period_rule fourth ms) ms
 given_period false fourth ms = None
 
--- the jitter and the pause, by the period: none in a version that doesn't know them
+-- the jitter and the pause, by the period: none in a version that doesn't know them, where no flow is sent on request alone
 abbrev pub jitter_of : Bool → Option ℕ → Members → ℕ
 jitter_of true period ms = number_of (jitter_rule period) ms
 jitter_of false period ms = 0
@@ -105,9 +109,17 @@ abbrev pub pause_of : Bool → Option ℕ → Members → Option ℕ
 pause_of true period ms = given_number (pause_rule period) ms
 pause_of false period ms = None
 
+abbrev pub on_request_of : Bool → Members → Bool
+on_request_of true ms = flag_of on_request_rule ms
+on_request_of false ms = false
+
 abbrev pub given_pause : Bool → Bool → Members → Option ℕ
 given_pause true fourth ms = pause_of fourth (given_number (period_rule fourth ms) ms) ms
 given_pause false fourth ms = None
+
+abbrev pub given_on_request : Bool → Bool → Members → Bool
+given_on_request true fourth ms = on_request_of fourth ms
+given_on_request false fourth ms = false
 
 -- how often a flow is sent, where its table tells it
 pub record TellsPace (third fourth : Bool) (ms : Members) (pace : Option Pace) : Type 0 where
@@ -122,6 +134,7 @@ pub record TellsFlow (third fourth : Bool) (groups units : List (List ℕ)) (ms 
   pub has_receivers : option_and_then (receivers units) (found_text to_rule ms) ≡ Some f.to
   pub has_pace : TellsPace third fourth ms f.pace
   pub has_pause : f.pause ≡ given_pause third fourth ms
+  pub has_on_request : f.on_request ≡ given_on_request third fourth ms
 
 abbrev pub IsFlowOf : Bool → Bool → List (List ℕ) → List (List ℕ) → Data → FlowPlan → Type 0
 IsFlowOf third fourth groups units d f = TellsFlow third fourth groups units (inside d) f

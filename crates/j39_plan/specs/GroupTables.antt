@@ -13,7 +13,7 @@ use Rattle.j39_plan.specs.declared.reading.text_kind.TextKind.TheVariants as tex
 use Rattle.j39_plan.specs.Schema.{Rule, number, optional, flag, tables, number_of, given_number, flag_of, text_of, tables_of}
 use Rattle.j39_plan.specs.TableFaults.{table_faults, table_only_faults}
 use Rattle.j39_plan.specs.Elements.{inside, repeated_faults, each_faults, labels_of, Each, label_in, label_rule}
-use Rattle.j39_plan.specs.SignalTables.{IsSignalOf, signal_faults}
+use Rattle.j39_plan.specs.SignalTables.{IsMeaningOf, IsSignalOf, signal_faults}
 use Rattle.j39_plan.specs.TextTables.{IsTextOf, text_faults}
 
 abbrev pub pgn_rule : Rule
@@ -74,7 +74,7 @@ text_tables_of true ms = tables_of text_rule ms
 text_tables_of false ms = no_items
 
 -- the group that a table tells
-pub record TellsGroup (third : Bool) (ms : Members) (g : GroupPlan) : Type 0 where
+pub record TellsGroup (third fourth : Bool) (ms : Members) (g : GroupPlan) : Type 0 where
   pub has_label : g.label.bytes ≡ text_of label_rule ms
   pub has_pgn : g.pgn ≡ number_of pgn_rule ms
   pub has_priority : g.priority ≡ number_of priority_rule ms
@@ -83,6 +83,7 @@ pub record TellsGroup (third : Bool) (ms : Members) (g : GroupPlan) : Type 0 whe
   pub has_most : g.most ≡ most_of third (number_of length_rule ms) ms
   pub has_every : g.every ≡ every_of third ms
   pub has_signals : Each (IsSignalOf third) (tables_of signal_rule ms) g.signals.items
+  pub has_meanings : Each (IsMeaningOf third fourth) (tables_of signal_rule ms) g.meanings.items
   pub has_texts : Each IsTextOf (text_tables_of third ms) g.texts.items
 
 -- but in the third version a group has these keys, and its messages have one length and no records
@@ -90,13 +91,13 @@ abbrev pub OlderGroupRules : Type 0
 OlderGroupRules = (ms : Members) → group_rules false ms ≡ label_rule ∷ pgn_rule ∷ priority_rule ∷ length_rule ∷ signal_rule ∷ []
 
 abbrev pub OlderLengths : Type 0
-OlderLengths = (ms : Members) (g : GroupPlan) → TellsGroup false ms g → (g.most ≡ g.length) × (g.every ≡ None)
+OlderLengths = (fourth : Bool) (ms : Members) (g : GroupPlan) → TellsGroup false fourth ms g → (g.most ≡ g.length) × (g.every ≡ None)
 
-abbrev pub IsGroupOf : Bool → Data → GroupPlan → Type 0
-IsGroupOf third d g = TellsGroup third (inside d) g
+abbrev pub IsGroupOf : Bool → Bool → Data → GroupPlan → Type 0
+IsGroupOf third fourth d g = TellsGroup third fourth (inside d) g
 
-abbrev pub signals_faults : Bool → ℕ → Members → List Fault
-signals_faults third g ms = each_faults (signal_faults third (has_records third ms) g) label_in 0 [] (tables_of signal_rule ms)
+abbrev pub signals_faults : Bool → Bool → ℕ → Members → List Fault
+signals_faults third fourth g ms = each_faults (signal_faults third fourth (has_records third ms) g) label_in 0 [] (tables_of signal_rule ms)
 
 -- of its texts, whose labels none of its signals may have either
 abbrev pub signal_labels : Members → List (List ℕ)
@@ -105,12 +106,12 @@ signal_labels ms = labels_of label_in (tables_of signal_rule ms)
 abbrev pub texts_faults : Bool → ℕ → Members → List Fault
 texts_faults third g ms = each_faults (text_faults (signal_labels ms) g) label_in 0 [] (text_tables_of third ms)
 
-unfoldable pub group_table_faults : Bool → ℕ → Members → List Fault
-group_table_faults third g ms =
-    table_faults (at.Group g) (group_rules third ms) ms ++ (signals_faults third g ms ++ texts_faults third g ms)
+unfoldable pub group_table_faults : Bool → Bool → ℕ → Members → List Fault
+group_table_faults third fourth g ms =
+    table_faults (at.Group g) (group_rules third ms) ms ++ (signals_faults third fourth g ms ++ texts_faults third g ms)
 
 -- the faults of the g-th group, behind those with the labels seen
-unfoldable pub group_faults : Bool → ℕ → List (List ℕ) → Data → List Fault
-group_faults third g seen d = table_only_faults (at.Group g) d
-    ++ option_map_or (group_table_faults third g) (as_table d) []
+unfoldable pub group_faults : Bool → Bool → ℕ → List (List ℕ) → Data → List Fault
+group_faults third fourth g seen d = table_only_faults (at.Group g) d
+    ++ option_map_or (group_table_faults third fourth g) (as_table d) []
     ++ repeated_faults (at.Group g) texts.Label seen (label_in d)

@@ -6,13 +6,14 @@ use Rattle.j39_plan.specs.declared.reading.place.Table.TheVariants as at
 use Rattle.j39_plan.specs.Schema.{tables_of}
 use Rattle.j39_plan.specs.TableFaults.{table_faults}
 use Rattle.j39_plan.specs.Elements.{inside}
-use Rattle.j39_plan.specs.SignalTables.{signal_faults}
+use Rattle.j39_plan.specs.SignalTables.{signal_faults, signal_table_faults}
 use Rattle.j39_plan.specs.UnitTables.{unit_faults}
 use Rattle.j39_plan.specs.GroupTables.{group_rules, has_records, signal_rule, signal_labels, signals_faults, text_tables_of, group_faults}
 use Rattle.j39_plan.specs.TextTables.{text_faults}
 use Rattle.j39_plan.specs.FlowTables.{flow_faults}
 use Rattle.j39_plan.specs.NeedTables.{need_faults}
-use Rattle.j39_plan.specs.Faults.{top_faults, units_rule, groups_rule, flows_rule, units_faults, groups_faults, flows_faults, need_tables}
+use Rattle.j39_plan.specs.RequestTables.{request_faults}
+use Rattle.j39_plan.specs.Faults.{top_faults, units_rule, groups_rule, flows_rule, units_faults, groups_faults, flows_faults, needs_faults, need_tables, request_tables}
 use Rattle.j39_plan.specs.Faults.{group_labels, group_signals, unit_labels, knows_third, knows_fourth}
 
 -- the reader of an element asks for none
@@ -24,22 +25,28 @@ abbrev pub EachGrows : (ℕ → List (List ℕ) → Data → List Fault) → (�
 EachGrows faults Grows no_items = ⊥
 EachGrows faults Grows (item d ds) = Grows 0 d ⊎ (faults 0 [] d ≡ [])
 
+-- behind a signal whose table has no fault, for the names of its raw numbers
+abbrev pub SignalGrows : Bool → Bool → Bool → ℕ → ℕ → Data → Type 0
+SignalGrows third fourth records g i d = signal_table_faults third fourth records (at.Signal g i) (inside d) ≡ []
+
 -- in a group, whose table has no fault, among its signals, or behind these among its texts
-abbrev pub GroupGrows : Bool → ℕ → Members → Type 0
-GroupGrows third g ms = (table_faults (at.Group g) (group_rules third ms) ms ≡ [])
-    × (EachGrows (signal_faults third (has_records third ms) g) NeverGrows (tables_of signal_rule ms)
-    ⊎ ((signals_faults third g ms ≡ []) × EachGrows (text_faults (signal_labels ms) g) NeverGrows (text_tables_of third ms)))
+abbrev pub GroupGrows : Bool → Bool → ℕ → Members → Type 0
+GroupGrows third fourth g ms = (table_faults (at.Group g) (group_rules third ms) ms ≡ [])
+    × (EachGrows (signal_faults third fourth (has_records third ms) g) (SignalGrows third fourth (has_records third ms) g) (tables_of signal_rule ms)
+    ⊎ ((signals_faults third fourth g ms ≡ []) × EachGrows (text_faults (signal_labels ms) g) NeverGrows (text_tables_of third ms)))
 
-abbrev pub GroupElementGrows : Bool → ℕ → Data → Type 0
-GroupElementGrows third g d = GroupGrows third g (inside d)
+abbrev pub GroupElementGrows : Bool → Bool → ℕ → Data → Type 0
+GroupElementGrows third fourth g d = GroupGrows third fourth g (inside d)
 
--- in a plan, whose top table has no fault, among its units, behind these among its groups, behind these among its flows, or behind these
--- among its needs
+-- in a plan, whose top table has no fault, among its units, behind these among its groups, behind these among its flows, behind these
+-- among its needs, or behind these among its requests
 abbrev pub PlanGrows : Members → Type 0
 PlanGrows tree = (top_faults tree ≡ [])
-    × (EachGrows unit_faults NeverGrows (tables_of units_rule tree)
-    ⊎ ((units_faults tree ≡ []) × (EachGrows (group_faults (knows_third tree)) (GroupElementGrows (knows_third tree)) (tables_of groups_rule tree)
+    × (EachGrows (unit_faults (knows_fourth tree)) NeverGrows (tables_of units_rule tree)
+    ⊎ ((units_faults tree ≡ []) × (EachGrows (group_faults (knows_third tree) (knows_fourth tree)) (GroupElementGrows (knows_third tree) (knows_fourth tree)) (tables_of groups_rule tree)
     ⊎ ((groups_faults tree ≡ []) × (EachGrows (λ i seen. flow_faults (knows_third tree) (knows_fourth tree) (group_labels tree) (unit_labels tree) i)
     NeverGrows (tables_of flows_rule tree)
-    ⊎ ((flows_faults tree ≡ []) × EachGrows (λ i seen. need_faults (group_labels tree) (group_signals tree) (unit_labels tree) i)
-    NeverGrows (need_tables tree)))))))
+    ⊎ ((flows_faults tree ≡ []) × (EachGrows (λ i seen. need_faults (group_labels tree) (group_signals tree) (unit_labels tree) i)
+    NeverGrows (need_tables tree)
+    ⊎ ((needs_faults tree ≡ []) × EachGrows (λ i seen. request_faults (group_labels tree) (unit_labels tree) i)
+    NeverGrows (request_tables tree)))))))))

@@ -4,7 +4,9 @@ pub mod Faults
 pub mod FlowTables
 pub mod GroupTables
 pub mod Growing
+pub mod MeaningTables
 pub mod NeedTables
+pub mod RequestTables
 pub mod OnePlan
 pub mod Outcome
 pub mod Schema

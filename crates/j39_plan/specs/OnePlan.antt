@@ -5,9 +5,12 @@ use Rattle.j39_signal.specs.Parts.{SignalParts}
 use Rattle.j39_findings.specs.declared.plan.Plan.{Plan}
 use Rattle.j39_findings.specs.declared.plan.unit_plan.UnitPlan.{UnitPlan}
 use Rattle.j39_findings.specs.declared.plan.group_plan.GroupPlan.{GroupPlan}
+use Rattle.j39_findings.specs.declared.plan.meaning.Meaning.{Meaning}
+use Rattle.j39_findings.specs.declared.plan.meaning.ValueName.{ValueName}
 use Rattle.j39_findings.specs.declared.plan.text_plan.TextPlan.{TextPlan}
 use Rattle.j39_findings.specs.declared.plan.flow_plan.FlowPlan.{FlowPlan}
 use Rattle.j39_findings.specs.declared.plan.need_plan.NeedPlan.{NeedPlan}
+use Rattle.j39_findings.specs.declared.plan.request_plan.RequestPlan.{RequestPlan}
 use Rattle.j39_findings.specs.declared.plan.pace.Pace.{Pace}
 use Rattle.j39_findings.specs.declared.plan.timing.ErrorRate.{ErrorRate}
 use Rattle.j39_findings.specs.declared.plan.timing.Timing.{Timing}
@@ -24,6 +27,7 @@ pub record AreOneUnit (u v : UnitPlan) : Type 0 where
   pub names : u.name ≡ v.name
   pub ways : u.way ≡ v.way
   pub windows : u.window ≡ v.window
+  pub claims : u.claims ≡ v.claims
 
 pub record AreOneSignal (s t : SignalParts) : Type 0 where
   pub labels : s.label.bytes ≡ t.label.bytes
@@ -35,6 +39,14 @@ pub record AreOneSignal (s t : SignalParts) : Type 0 where
   pub pers : s.per ≡ t.per
   pub units : s.unit.bytes ≡ t.unit.bytes
   pub repetitions : s.repeated ≡ t.repeated
+
+pub record AreOneValueName (n m : ValueName) : Type 0 where
+  pub raws : n.raw ≡ m.raw
+  pub names : n.name.bytes ≡ m.name.bytes
+
+pub record AreOneMeaning (m n : Meaning) : Type 0 where
+  pub spns : m.spn ≡ n.spn
+  pub values : AllZip AreOneValueName m.values.items n.values.items
 
 pub record AreOneText (t u : TextPlan) : Type 0 where
   pub labels : t.label.bytes ≡ u.label.bytes
@@ -50,6 +62,7 @@ pub record AreOneGroup (g h : GroupPlan) : Type 0 where
   pub mosts : g.most ≡ h.most
   pub everys : g.every ≡ h.every
   pub signals : AllZip AreOneSignal g.signals.items h.signals.items
+  pub meanings : AllZip AreOneMeaning g.meanings.items h.meanings.items
   pub texts : AllZip AreOneText g.texts.items h.texts.items
 
 -- as many damaged frames at most, or none
@@ -83,6 +96,7 @@ pub record AreOneFlowPlan (f h : FlowPlan) : Type 0 where
   pub flows : AreOneFlow f h
   pub paces : AreOnePace f.pace h.pace
   pub pauses : f.pause ≡ h.pause
+  pub answers : f.on_request ≡ h.on_request
 
 pub record AreOneNeed (d e : NeedPlan) : Type 0 where
   pub units : d.unit ≡ e.unit
@@ -90,6 +104,12 @@ pub record AreOneNeed (d e : NeedPlan) : Type 0 where
   pub signals : d.signal ≡ e.signal
   pub senders : d.from ≡ e.from
   pub ages : d.within ≡ e.within
+
+pub record AreOneRequest (r s : RequestPlan) : Type 0 where
+  pub groups : r.group ≡ s.group
+  pub senders : r.sender ≡ s.sender
+  pub receivers : r.to ≡ s.to
+  pub periods : r.period ≡ s.period
 
 pub record AreOnePlan (p q : Plan) : Type 0 where
   pub keep_free : p.keep_free ≡ q.keep_free
@@ -99,6 +119,7 @@ pub record AreOnePlan (p q : Plan) : Type 0 where
   pub groups : AllZip AreOneGroup p.groups.items q.groups.items
   pub flows : AllZip AreOneFlowPlan p.flows.items q.flows.items
   pub needs : AllZip AreOneNeed p.needs.items q.needs.items
+  pub requests : AllZip AreOneRequest p.requests.items q.requests.items
 
 -- ---- the law
 

@@ -4,7 +4,7 @@ use Rattle.std.specs.Prelude.{if◌then◌else◌, Option, Some, None, option_ma
 use Rattle.std.specs.FinSet.{FinSet, from_list}
 use Rattle.std.specs.Option.{option_or}
 use Rattle.std.specs.Ordering.{nat_cmp}
-use Rattle.toml.specs.Data.{Data, string, integer, boolean, array, Items, no_items, item, Members, get_member, as_integer, as_str, as_bool, as_table, as_array}
+use Rattle.toml.specs.Data.{Data, string, integer, boolean, array, Items, no_items, item, Members, no_members, member, get_member, as_integer, as_str, as_bool, as_table, as_array}
 use Rattle.j39_plan.specs.declared.reading.key.Key.{Key}
 use Rattle.j39_plan.specs.declared.reading.text_kind.TextKind.{TextKind}
 use Rattle.j39_plan.specs.Words.{word_of}
@@ -25,6 +25,7 @@ pub data Kind : Type 0 where
   given_table : Kind
   given_text : Kind
   bitrate_of_bus : Bool → Kind
+  names_below : Bool → ℕ → Kind
 
 -- a key, what its value is to be, and what an absent one stands for: nothing where the key is required, or where its absence means
 -- something by itself
@@ -63,6 +64,10 @@ bitrate k more = record { key = k; kind = bitrate_of_bus more; default = None }
 -- a text that may be absent
 abbrev pub optional_text : Key → Rule
 optional_text k = record { key = k; kind = given_text; default = None }
+
+-- a table of names that may be absent, and may stand only where this says so: of numbers below a limit
+abbrev pub names : Key → Bool → ℕ → Rule
+names k may limit = record { key = k; kind = names_below may limit; default = None }
 
 abbrev pub tables : Key → ℕ → Rule
 tables k limit = record { key = k; kind = tables_up_to limit; default = Some (array no_items) }
@@ -109,6 +114,10 @@ found_text r ms = option_and_then as_str (standing r ms)
 
 unfoldable pub table_of : Rule → Members → Option Members
 table_of r ms = option_and_then as_table (standing r ms)
+
+abbrev pub members_count : Members → ℕ
+members_count no_members = 0
+members_count (member k d ms) = suc (members_count ms)
 
 abbrev pub items_count : Items → ℕ
 items_count no_items = 0

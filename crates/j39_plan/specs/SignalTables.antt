@@ -9,6 +9,7 @@ use Rattle.j39_signal.specs.declared.kind.Kind.{Kind}
 use Rattle.j39_signal.specs.declared.kind.Kind.TheVariants.{Measured, Discrete, Raw, States, Signed, Dtc}
 use Rattle.j39_signal.specs.Parts.{SignalParts, IsSignal}
 use Rattle.j39_findings.specs.LabelForm.{is_label}
+use Rattle.j39_findings.specs.declared.plan.meaning.Meaning.{Meaning}
 use Rattle.j39_plan.specs.declared.reading.key.Key.TheVariants as key
 use Rattle.j39_plan.specs.declared.reading.place.Table.{Table}
 use Rattle.j39_plan.specs.declared.reading.place.Table.TheVariants as at
@@ -16,6 +17,7 @@ use Rattle.j39_plan.specs.declared.reading.fault.Fault.{Fault}
 use Rattle.j39_plan.specs.declared.reading.text_kind.TextKind.TheVariants as texts
 use Rattle.j39_plan.specs.Schema.{Rule, number, signed, divisor, flag_if, text, number_of, integer_of, flag_of, text_of}
 use Rattle.j39_plan.specs.TableFaults.{table_faults, table_only_faults}
+use Rattle.j39_plan.specs.MeaningTables.{TellsMeaning, meaning_rules}
 use Rattle.j39_plan.specs.Elements.{inside, label_in, label_rule, repeated_faults}
 
 abbrev pub byte_rule : Rule
@@ -78,16 +80,23 @@ abbrev pub scale_rules : Bool → Bool → Bool → List Rule
 scale_rules true records code = step_rule code ∷ per_rule code ∷ offset_rule code ∷ unit_rule code ∷ repeated_rule records ∷ []
 scale_rules false records code = step_rule code ∷ offset_rule code ∷ unit_rule code ∷ []
 
-abbrev pub signal_rules : Bool → Bool → Members → List Rule
-signal_rules third records ms = place_rules third ++ scale_rules third records (is_code third ms)
+-- and behind them those of its meaning, which the fourth version alone knows
+abbrev pub signal_rules : Bool → Bool → Bool → Members → List Rule
+signal_rules third fourth records ms =
+    place_rules third ++ (scale_rules third records (is_code third ms)
+    ++ meaning_rules (third && fourth) (is_code third ms) (number_of bits_rule ms))
 
 -- ---- a law
 
--- but in the third version, a signal has these keys, with these ranges and kinds
-abbrev pub OlderSignalRules : Type 0
-OlderSignalRules = (records : Bool) (ms : Members) → signal_rules false records ms
+-- in the first two versions a signal has these keys, with these ranges and kinds, and in the third those of its place and its scale alone
+abbrev pub SecondSignalRules : Type 0
+SecondSignalRules = (records : Bool) (ms : Members) → signal_rules false false records ms
     ≡ label_rule ∷ byte_rule ∷ bit_rule ∷ bits_rule ∷ text key.Kind texts.SignalKind None ∷ number key.Step 1 1000000 (Some 1)
     ∷ signed key.Offset (negsuc 999999999999) (pos 1000000000000) (Some (pos 0)) ∷ text key.Unit texts.SignalUnit (Some []) ∷ []
+
+pub record OlderSignalRules : Type 0 where
+  pub second : SecondSignalRules
+  pub third : (records : Bool) (ms : Members) → signal_rules true false records ms ≡ place_rules true ++ scale_rules true records (is_code true ms)
 
 -- ---- what a table tells
 
@@ -120,17 +129,21 @@ pub record TellsSignal (third : Bool) (ms : Members) (s : SignalParts) : Type 0 
 abbrev pub IsSignalOf : Bool → Data → SignalParts → Type 0
 IsSignalOf third d s = TellsSignal third (inside d) s
 
+-- what is said of it besides
+abbrev pub IsMeaningOf : Bool → Bool → Data → Meaning → Type 0
+IsMeaningOf third fourth d m = TellsMeaning (third && fourth) (inside d) m
+
 -- what is true of every signal that is read, in a group with records or without
 pub record IsFit (records : Bool) (s : SignalParts) : Type 0 where
   pub label_form : IsTrue (is_label s.label.bytes)
   pub ranges : IsSignal s.start s.bits s.step s.offset
   pub single : records ≡ false → s.repeated ≡ false
 
-unfoldable pub signal_table_faults : Bool → Bool → Table → Members → List Fault
-signal_table_faults third records at ms = table_faults at (signal_rules third records ms) ms
+unfoldable pub signal_table_faults : Bool → Bool → Bool → Table → Members → List Fault
+signal_table_faults third fourth records at ms = table_faults at (signal_rules third fourth records ms) ms
 
 -- the faults of the i-th signal of the g-th group, which has records or hasn't, behind those with the labels seen
-unfoldable pub signal_faults : Bool → Bool → ℕ → ℕ → List (List ℕ) → Data → List Fault
-signal_faults third records g i seen d = table_only_faults (at.Signal g i) d
-    ++ option_map_or (signal_table_faults third records (at.Signal g i)) (as_table d) []
+unfoldable pub signal_faults : Bool → Bool → Bool → ℕ → ℕ → List (List ℕ) → Data → List Fault
+signal_faults third fourth records g i seen d = table_only_faults (at.Signal g i) d
+    ++ option_map_or (signal_table_faults third fourth records (at.Signal g i)) (as_table d) []
     ++ repeated_faults (at.Signal g i) texts.Label seen (label_in d)

@@ -1,19 +1,20 @@
--- The tables of units, and of their NAMEs (SAE J1939-81, NAME fields).
-use Rattle.std.specs.Prelude.{◌≡◌, ℕ, List, [], ◌∷◌, ◌++◌, false, if◌then◌else◌, Some, None, unwrap_or, codes}
+-- The tables of units, and of their NAMEs (SAE J1939-81, NAME fields). The fourth version knows units that never claim.
+use Rattle.std.specs.Prelude.{◌≡◌, ℕ, List, [], ◌∷◌, ◌++◌, Bool, true, false, not, ◌&&◌, if◌then◌else◌, Some, None, unwrap_or, codes}
 use Rattle.std.specs.Str.{bytes_eq}
 use Rattle.std.specs.Option.{option_map_or}
 use Rattle.toml.specs.Data.{Data, Members, no_members, as_table}
 use Rattle.j39_id.specs.declared.name_fields.NameFields.{NameFields}
-use Rattle.j39_id.specs.Name.{name_number}
+use Rattle.j39_id.specs.Name.{name_number, is_arbitrary}
 use Rattle.j39_findings.specs.declared.plan.way.Way.{Way}
 use Rattle.j39_findings.specs.declared.plan.way.Way.TheVariants.{Lowest, Upward}
 use Rattle.j39_findings.specs.declared.plan.unit_plan.UnitPlan.{UnitPlan}
+use Rattle.j39_plan.specs.declared.reading.cause.Cause.TheVariants.{Range}
 use Rattle.j39_plan.specs.declared.reading.key.Key.TheVariants as key
 use Rattle.j39_plan.specs.declared.reading.place.Table.TheVariants as at
 use Rattle.j39_plan.specs.declared.reading.fault.Fault.{Fault}
 use Rattle.j39_plan.specs.declared.reading.text_kind.TextKind.TheVariants as texts
 use Rattle.j39_plan.specs.Schema.{Rule, number, flag, text, inner_table, number_of, flag_of, text_of, table_of}
-use Rattle.j39_plan.specs.TableFaults.{table_faults, table_only_faults}
+use Rattle.j39_plan.specs.TableFaults.{table_faults, table_only_faults, fault}
 use Rattle.j39_plan.specs.Elements.{inside, repeated_faults}
 
 -- ---- the NAME
@@ -84,31 +85,60 @@ window_rule = number key.Window 1 255 (Some 255)
 abbrev pub name_rule : Rule
 name_rule = inner_table key.Name
 
-abbrev pub unit_rules : List Rule
-unit_rules = unit_label_rule ∷ address_rule ∷ chooser_rule ∷ window_rule ∷ name_rule ∷ []
+-- whether it claims its address
+abbrev pub claims_rule : Rule
+claims_rule = flag key.Claims true
+
+-- behind the NAME, in the fourth version and in another
+abbrev pub claims_rules : Bool → List Rule
+claims_rules true = claims_rule ∷ []
+claims_rules false = []
+
+abbrev pub unit_rules : Bool → List Rule
+unit_rules fourth = unit_label_rule ∷ address_rule ∷ chooser_rule ∷ window_rule ∷ name_rule ∷ claims_rules fourth
+
+-- but in the fourth version a unit has these keys
+abbrev pub OlderUnitRules : Type 0
+OlderUnitRules = unit_rules false ≡ unit_label_rule ∷ address_rule ∷ chooser_rule ∷ window_rule ∷ name_rule ∷ []
 
 abbrev pub way_of : List ℕ → Way
 way_of t = if bytes_eq t (codes "upward") then Upward else Lowest
 
+-- a unit claims in a version that knows no other
+abbrev pub claims_of : Bool → Members → Bool
+claims_of true ms = flag_of claims_rule ms
+claims_of false ms = true
+
+-- the NAME that the inner table tells
+abbrev pub name_of : Members → ℕ
+name_of ms = name_number (name_fields_of (unwrap_or (table_of name_rule ms) no_members))
+
 -- the unit that a table tells
-pub record TellsUnit (ms : Members) (u : UnitPlan) : Type 0 where
+pub record TellsUnit (fourth : Bool) (ms : Members) (u : UnitPlan) : Type 0 where
   pub has_label : u.label.bytes ≡ text_of unit_label_rule ms
   pub has_address : u.address ≡ number_of address_rule ms
   pub has_way : u.way ≡ way_of (text_of chooser_rule ms)
   pub has_window : u.window ≡ number_of window_rule ms
-  pub has_name : u.name ≡ name_number (name_fields_of (unwrap_or (table_of name_rule ms) no_members))
+  pub has_name : u.name ≡ name_of ms
+  pub has_claims : u.claims ≡ claims_of fourth ms
 
-abbrev pub IsUnitOf : Data → UnitPlan → Type 0
-IsUnitOf d u = TellsUnit (inside d) u
+abbrev pub IsUnitOf : Bool → Data → UnitPlan → Type 0
+IsUnitOf fourth d u = TellsUnit fourth (inside d) u
 
 abbrev pub unit_label_in : Data → List ℕ
 unit_label_in d = text_of unit_label_rule (inside d)
 
-unfoldable pub unit_table_faults : ℕ → Members → List Fault
-unit_table_faults i ms = table_faults (at.Unit i) unit_rules ms ++ option_map_or (name_faults i) (table_of name_rule ms) []
+-- a unit that doesn't claim, and whose NAME says that it may choose another address
+unfoldable pub silent_faults : ℕ → Bool → ℕ → List Fault
+silent_faults i claims name = if not claims && is_arbitrary name then fault Range (at.Unit i) (Some key.Claims) ∷ [] else []
+
+unfoldable pub unit_table_faults : Bool → ℕ → Members → List Fault
+unit_table_faults fourth i ms = table_faults (at.Unit i) (unit_rules fourth) ms
+    ++ (option_map_or (name_faults i) (table_of name_rule ms) []
+    ++ silent_faults i (claims_of fourth ms) (name_of ms))
 
 -- the faults of the i-th unit, behind those with the labels seen
-unfoldable pub unit_faults : ℕ → List (List ℕ) → Data → List Fault
-unit_faults i seen d = table_only_faults (at.Unit i) d
-    ++ option_map_or (unit_table_faults i) (as_table d) []
+unfoldable pub unit_faults : Bool → ℕ → List (List ℕ) → Data → List Fault
+unit_faults fourth i seen d = table_only_faults (at.Unit i) d
+    ++ option_map_or (unit_table_faults fourth i) (as_table d) []
     ++ repeated_faults (at.Unit i) texts.UnitLabel seen (unit_label_in d)

@@ -13,7 +13,7 @@ use Rattle.j39_plan.specs.SignalTables.{kind_rule}
 use Rattle.j39_plan.specs.GroupTables.{signal_rule}
 use Rattle.j39_plan.specs.FlowTables.{has_key}
 use Rattle.j39_plan.specs.TimingTables.{bitrate_rule}
-use Rattle.j39_plan.specs.Faults.{version_rule, timing_rule, groups_rule, flows_rule}
+use Rattle.j39_plan.specs.Faults.{version_rule, timing_rule, units_rule, groups_rule, flows_rule}
 use Rattle.j39_plan.specs.Described.{Reads}
 
 -- the same tree with this number at the version
@@ -45,16 +45,34 @@ pub record IsThirdBus (ms : Members) : Type 0 where
   pub not_slowest : number_of (bitrate_rule true) ms ≢ 125000
   pub not_fastest : number_of (bitrate_rule true) ms ≢ 1000000
 
+-- nor in the table of a unit
+abbrev pub IsThirdUnit : Members → Type 0
+IsThirdUnit = Lacks (key.Claims ∷ [])
+
+-- nor in that of a signal
+abbrev pub IsThirdSignal : Members → Type 0
+IsThirdSignal = Lacks (key.Spn ∷ key.Values ∷ [])
+
+-- nor among the signals of a group
+abbrev pub IsThirdGroup : Members → Type 0
+IsThirdGroup ms = EachTable IsThirdSignal (tables_of signal_rule ms)
+
+-- nor in the table of a flow
+abbrev pub fourth_flow_keys : List Key
+fourth_flow_keys = key.Jitter ∷ key.Pause ∷ key.OnRequest ∷ []
+
 abbrev pub IsThirdFlow : Members → Type 0
-IsThirdFlow = Lacks (key.Jitter ∷ key.Pause ∷ [])
+IsThirdFlow = Lacks fourth_flow_keys
 
 abbrev pub fourth_top_keys : List Key
-fourth_top_keys = key.Strangers ∷ key.Need ∷ []
+fourth_top_keys = key.Strangers ∷ key.Need ∷ key.Request ∷ []
 
 -- nor in a plan
 pub record IsThirdPlan (tree : Members) : Type 0 where
   pub keys : Lacks fourth_top_keys tree
   pub bus : IfSome (table_of timing_rule tree) IsThirdBus
+  pub units : EachTable IsThirdUnit (tables_of units_rule tree)
+  pub groups : EachTable IsThirdGroup (tables_of groups_rule tree)
   pub flows : EachTable IsThirdFlow (tables_of flows_rule tree)
 
 -- such a plan of version 4 is read as the same plan of version 3

@@ -5,24 +5,26 @@ ghost use Rattle.j39_plan.specs.GroupTables.{OlderLengths, OlderGroupRules};
 ghost use Rattle.j39_plan.specs.SignalTables.{OlderSignalRules};
 ghost use Rattle.j39_plan.specs.FlowTables.{OlderFlowRules};
 ghost use Rattle.j39_plan.specs.TimingTables.{OlderTimingRules};
+ghost use Rattle.j39_plan.specs.UnitTables.{OlderUnitRules};
 ghost use Rattle.j39_plan.specs.Faults.{OlderArrays, OlderStrangers};
 ghost use Rattle.j39_plan.specs.Versions.{FourthReadsAsThird, ThirdReadsAsSecond};
 
 /// But for want of memory, the definition allows one answer for a file: it describes one plan, or it has one first fault, or it
 /// is no TOML text, and never two of these. Two plans are one where they keep the same addresses free, tell of as many strangers and
-/// have the same units, groups, signals, flows and needs, place by place, labels by their bytes.
+/// have the same units, groups, signals, flows, needs and requests, place by place, labels by their bytes.
 pub fn a_file_describes_one_plan()
     ensures { (bytes : List ℕ) → HasOneAnswer bytes }
 {}
 
 /// In a plan of version 1 or 2 a group and a flow have the keys that they had before there was a third, and groups messages of one
-/// length without records; and a signal has the keys, the ranges and the kinds. In one of version 3 too a flow and the bus have the keys
-/// that they had before there was a fourth, and there are no strangers and no needs.
+/// length without records; and a signal has the keys, the ranges and the kinds. In one of version 3 too a unit, a signal, a flow and the
+/// bus have the keys that they had before there was a fourth, and there are no strangers, no needs and no requests.
 pub fn older_versions_know_what_they_knew()
     ensures groups { OlderGroupRules }
     ensures lengths { OlderLengths }
     ensures signals { OlderSignalRules }
     ensures flows { OlderFlowRules }
+    ensures units { OlderUnitRules }
     ensures timing { OlderTimingRules }
     ensures arrays { OlderArrays }
     ensures strangers { OlderStrangers }

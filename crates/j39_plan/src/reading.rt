@@ -14,10 +14,13 @@ mod groups;
 mod heads;
 mod key;
 mod labels;
+mod later_arrays;
+mod meanings;
 mod names;
 mod needs;
 mod place;
 mod plan_error;
+mod requests;
 mod signals;
 mod tables;
 mod text_kind;
@@ -35,9 +38,11 @@ use heads::{head, knows_fourth, knows_third, strangers};
 use j39_findings::Plan;
 use j39_findings::limits::{FLOW_LIMIT, GROUP_LIMIT, UNIT_LIMIT};
 pub use key::Key;
-use needs::{Needs, need_values};
+use later_arrays::later_arrays;
+use needs::Needs;
 pub use place::{Place, Table};
 pub use plan_error::PlanError;
+use requests::Requests;
 use std::alloc::Global;
 use std::str;
 use tables::array;
@@ -56,9 +61,9 @@ fn read_top(alloc: Global, members: &toml::Table) -> Result<Plan, PlanError>
     let unit_values = array(members, Table::Top, Key::Unit, UNIT_LIMIT)?;
     let group_values = array(members, Table::Top, Key::Group, GROUP_LIMIT)?;
     let flow_values = array(members, Table::Top, Key::Flow, FLOW_LIMIT)?;
-    let need_values = need_values(members, fourth)?;
-    let units = read_each(alloc, &Units, unit_values)?;
-    let groups = read_each(alloc, &Groups { third }, group_values)?;
+    let later = later_arrays(members, fourth)?;
+    let units = read_each(alloc, &Units { fourth }, unit_values)?;
+    let groups = read_each(alloc, &Groups { third, fourth }, group_values)?;
     let flows = read_each(
         alloc,
         &Flows {
@@ -75,7 +80,15 @@ fn read_top(alloc: Global, members: &toml::Table) -> Result<Plan, PlanError>
             groups: &groups,
             units: &units,
         },
-        need_values,
+        later.needs,
+    )?;
+    let requests = read_each(
+        alloc,
+        &Requests {
+            groups: &groups,
+            units: &units,
+        },
+        later.requests,
     )?;
     Ok(Plan {
         keep_free,
@@ -85,14 +98,17 @@ fn read_top(alloc: Global, members: &toml::Table) -> Result<Plan, PlanError>
         groups,
         flows,
         needs,
+        requests,
     })
 }
 
-/// The plan that a file describes: TOML of UTF-8 bytes, at most 128 units, 256 groups of 64 signals, 512 flows and 4096 needs. One of
+/// The plan that a file describes: TOML of UTF-8 bytes, at most 128 units, 256 groups of 64 signals, 512 flows, 4096 needs and 512
+/// requests. One of
 /// version 2, 3 or 4 may keep up to 120 addresses of 128 to 247 free; one of version 1 keeps none. Versions 3 and 4 know groups of several
 /// lengths, with records of signals that are repeated, more kinds of signals, what their values are divided by, 64 texts of a group, what
 /// is known of the bus itself, and how often flows are sent. Version 4 knows more of the bus, how far behind its moments a flow is sent,
-/// for how long it is silent, which unit needs what, and how many strangers may come.
+/// for how long it is silent, whether it is sent on request alone, which unit needs what and which one asks whom for what, units that
+/// never claim, how many strangers may come, the numbers of signals, and names of their raw numbers.
 ///
 /// Refuses bytes that are no TOML text, and else the first fault, in the order of the file's tables and keys. Takes no
 /// memory of bytes that are no UTF-8, or white space and comments alone.

@@ -7,7 +7,7 @@ use Rattle.j39_claim.specs.declared.item.Item.{Item}
 use Rattle.j39_claim.specs.ClaimRule.{PlannedUnit}
 use Rattle.j39_findings.specs.declared.plan.Plan.{Plan}
 use Rattle.j39_findings.specs.declared.steps.Step.{Step}
-use Rattle.j39_findings.specs.declared.steps.Step.TheVariants.{Up, Down, Give, Ask, Begin, Emit, Take, Lose, LateSender, LateReceiver, Rest}
+use Rattle.j39_findings.specs.declared.steps.Step.TheVariants.{Up, Down, Give, Ask, Begin, Send, Emit, Take, Lose, LateSender, LateReceiver, Rest}
 use Rattle.j39_world.specs.declared.wired.Wired.{Wired}
 use Rattle.j39_world.specs.declared.wired.Wired.TheVariants as wired
 use Rattle.j39_bus.specs.BusState.{BusState}
@@ -18,7 +18,7 @@ use Rattle.j39_world.specs.declared.flow.Flow.{Flow}
 use Rattle.j39_world.specs.Run.{StepsTo, count_of}
 use Rattle.j39_world.specs.Sent.{Sent, sent_of}
 use Rattle.j39_bus.specs.Stands.{Stands}
-use Rattle.j39_world.specs.TransferSteps.{BeginsAt, LostFrom, TakenFrom}
+use Rattle.j39_world.specs.TransferSteps.{BeginsAt, SendsAt, LostFrom, TakenFrom}
 use Rattle.j39_world.specs.World.{World}
 use Rattle.std.specs.List.{slice_get}
 use Rattle.j39_run.specs.RunText.{sent_line, sent_lines}
@@ -43,10 +43,15 @@ begin_grows : (count : ℕ) (w : World) (f : ℕ) (flow : Option Flow) (bytes : 
 begin_grows count w f None bytes after leads = absurd leads
 begin_grows count w f (Some flow) bytes after is = sends w after _ (ap (λ (x : World). x.frames) is)
 
+send_grows : (count : ℕ) (w : World) (f : ℕ) (flow : Option Flow) (bytes : List ℕ) (after : World) → SendsAt count w f flow bytes after → Grows w after
+send_grows count w f None bytes after leads = absurd leads
+send_grows count w f (Some flow) bytes after is = sends w after _ (ap (λ (x : World). x.frames) is)
+
 take_grows : (windows : List ℕ) (w : World) (u v : ℕ) (items : List Wired) (after : World) → TakenFrom windows w u v items after → Grows w after
 take_grows windows w u v [] after leads = absurd leads
 take_grows windows w u v (wired.Short bytes ∷ rest) after is = sends_none w after (ap (λ (x : World). x.frames) is)
 take_grows windows w u v (wired.Packet p ∷ rest) after (reports, told, is) = sends w after _ (ap (λ (x : World). x.frames) is)
+take_grows windows w u v (wired.Alone f bytes ∷ rest) after is = sends_none w after (ap (λ (x : World). x.frames) is)
 
 lose_grows : (w : World) (u v : ℕ) (items : List Wired) (after : World) → LostFrom w u v items after → Grows w after
 lose_grows w u v [] after leads = absurd leads
@@ -58,6 +63,7 @@ step_grows plan w (Down u) after is = sends_none w after (ap (λ (x : World). x.
 step_grows plan w (Give u v) after leads = given_grows (units_of plan) w u v (w.claims u v) after leads
 step_grows plan w (Ask u) after is = sends w after _ (ap (λ (x : World). x.frames) is)
 step_grows plan w (Begin f bytes) after leads = begin_grows (count_of plan) w f (slice_get (flows_of plan) f) bytes.items after leads
+step_grows plan w (Send f bytes) after leads = send_grows (count_of plan) w f (slice_get (flows_of plan) f) bytes.items after leads
 step_grows plan w (Emit u) after (s, p, session, packet, is) = sends w after _ (ap (λ (x : World). x.frames) is)
 step_grows plan w (Take u v) after leads = take_grows (windows_of plan) w u v (w.wire u v) after leads
 step_grows plan w (Lose u v) after leads = lose_grows w u v (w.wire u v) after leads

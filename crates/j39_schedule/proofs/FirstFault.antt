@@ -10,6 +10,7 @@ use Rattle.j39_id.specs.FirstFault.{first_fault}
 use Rattle.j39_id.specs.Lines.{Long, Short}
 use Rattle.j39_findings.specs.declared.plan.Plan.{Plan}
 use Rattle.j39_findings.specs.declared.steps.Step.{Step}
+use Rattle.j39_schedule.specs.Schedule.{Ordered}
 use Rattle.j39_schedule.specs.Schedule.{does, Order, of_unit, of_units, of_unit_or_units, of_message, Reading, begins_comment, flow_place, line_order, spelled_number, order_named, order_of, unit_named, with_bytes, words_of, words_order}
 use Rattle.j39_schedule.specs.LineFaults.{TellsFirstFault, order_faults, values_faults, words_faults}
 use Rattle.j39_schedule.specs.declared.line_fault.LineFault.TheVariants.{UnknownWord, UnknownLabel, BadNumber, BadHex}
@@ -40,12 +41,12 @@ of_two None p step r is = rw is refl
 of_two (Some u) None step r is = rw is refl
 of_two (Some u) (Some v) step r is = rw is refl
 
-of_a_message : (plan : Plan) (o : Option ℕ) (bytes : Result (List ℕ) FromHexError) (r : Reading)
-    → r ≡ option_map_or (λ n. with_bytes (flow_place plan n) bytes) o (Err BadNumber)
+of_a_message : (plan : Plan) (order : ℕ → List ℕ → Ordered) (o : Option ℕ) (bytes : Result (List ℕ) FromHexError) (r : Reading)
+    → r ≡ option_map_or (λ n. with_bytes order (flow_place plan n) bytes) o (Err BadNumber)
     → result_err r ≡ (if is_none o || false then Some BadNumber else (if is_err bytes || false then Some BadHex else None))
-of_a_message plan None bytes r is = rw is refl
-of_a_message plan (Some n) (Ok bytes) r is = rw is refl
-of_a_message plan (Some n) (Err e) r is = rw is refl
+of_a_message plan order None bytes r is = rw is refl
+of_a_message plan order (Some n) (Ok bytes) r is = rw is refl
+of_a_message plan order (Some n) (Err e) r is = rw is refl
 
 -- ---- a line
 
@@ -62,10 +63,10 @@ values_first plan (of_unit_or_units one two) [] = refl
 values_first plan (of_unit_or_units one two) (a ∷ []) = of_one (unit_named plan a) one _ refl
 values_first plan (of_unit_or_units one two) (a ∷ b ∷ []) = of_two (unit_named plan a) (unit_named plan b) two _ refl
 values_first plan (of_unit_or_units one two) (a ∷ b ∷ c ∷ more) = let many = neither (length more) in rw many refl
-values_first plan of_message [] = refl
-values_first plan of_message (a ∷ []) = refl
-values_first plan of_message (n ∷ hex ∷ []) = of_a_message plan (spelled_number n) (decode_of hex) _ refl
-values_first plan of_message (a ∷ b ∷ c ∷ more) = let many = not_two (length more) in rw many refl
+values_first plan (of_message message) [] = refl
+values_first plan (of_message message) (a ∷ []) = refl
+values_first plan (of_message message) (n ∷ hex ∷ []) = of_a_message plan message (spelled_number n) (decode_of hex) _ refl
+values_first plan (of_message message) (a ∷ b ∷ c ∷ more) = let many = not_two (length more) in rw many refl
 
 order_first : (plan : Plan) (order : Option Order) (values : List (List ℕ))
     → result_err (option_map_or (λ order. order_of plan order values) order (Err UnknownWord)) ≡ first_fault (order_faults plan order values)

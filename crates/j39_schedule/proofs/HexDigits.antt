@@ -6,8 +6,8 @@ use Rattle.hex.specs.Hex.{decode_of, is_hex_digit}
 use Rattle.hex.specs.declared.error.FromHexError.{FromHexError}
 use Rattle.hex.proofs.HexLemmas.{decode_of-digits, decode_of-ok}
 use Rattle.j39_findings.specs.declared.plan.Plan.{Plan}
-use Rattle.j39_schedule.specs.Schedule.{flow_place, spelled_number, with_bytes, with_flow}
-use Rattle.j39_schedule.specs.Scheduling.{OrdersBegin}
+use Rattle.j39_schedule.specs.Schedule.{Ordered, flow_place, spelled_number, with_bytes, with_flow}
+use Rattle.j39_schedule.specs.Scheduling.{IsOfMessage, OrdersMessage}
 
 decodes_if : (text : List ℕ) (all : Bool) (r : Result (List ℕ) FromHexError) → length text % 2 ≡ 0 → list_all is_hex_digit text ≡ all
     → decode_of text ≡ r → all ≡ is_ok r
@@ -22,11 +22,16 @@ decodes_if text false (Ok bytes) even all is =
 pub decodes : (text : List ℕ) → length text % 2 ≡ 0 → list_all is_hex_digit text ≡ is_ok (decode_of text)
 decodes text even = decodes_if text (list_all is_hex_digit text) (decode_of text) even refl refl
 
-begun_with : (flow : ℕ) (r : Result (List ℕ) FromHexError) → is_ok r ≡ true → OrdersBegin (with_bytes flow r)
-begun_with flow (Ok bytes) is = (flow, bytes, refl)
-begun_with flow (Err e) is = cc is
+-- one that is begun or sent
+abbrev pub AreMessages : (ℕ → List ℕ → Ordered) → Type 0
+AreMessages order = (flow : ℕ) (bytes : List ℕ) → IsOfMessage (order flow bytes)
 
--- a number and pairs of digits order a Begin
-pub begun : (plan : Plan) (number digits : List ℕ) (n : ℕ) → Some n ≡ spelled_number number → is_ok (decode_of digits) ≡ true
-    → OrdersBegin (with_flow plan number digits)
-begun plan number digits n is spelled = rw (← is) (begun_with (flow_place plan n) (decode_of digits) spelled)
+ordered_with : (order : ℕ → List ℕ → Ordered) → AreMessages order → (flow : ℕ) (r : Result (List ℕ) FromHexError) → is_ok r ≡ true
+    → OrdersMessage (with_bytes order flow r)
+ordered_with order are flow (Ok bytes) is = (order flow bytes, are flow bytes, refl)
+ordered_with order are flow (Err e) is = cc is
+
+-- a number and pairs of digits order it
+pub message_ordered : (order : ℕ → List ℕ → Ordered) → AreMessages order → (plan : Plan) (number digits : List ℕ) (n : ℕ)
+    → Some n ≡ spelled_number number → is_ok (decode_of digits) ≡ true → OrdersMessage (with_flow plan order number digits)
+message_ordered order are plan number digits n is spelled = rw (← is) (ordered_with order are (flow_place plan n) (decode_of digits) spelled)

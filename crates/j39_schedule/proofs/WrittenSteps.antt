@@ -11,11 +11,12 @@ use Rattle.j39_id.specs.Limits.{message_bytes}
 use Rattle.j39_id.specs.Lines.{Short, line_of, lines}
 use Rattle.j39_findings.specs.declared.plan.Plan.{Plan}
 use Rattle.j39_findings.specs.declared.steps.Step.{Step}
-use Rattle.j39_findings.specs.declared.steps.Step.TheVariants.{Up, Down, Give, Ask, Begin, Emit, Take, Lose, LateSender, LateReceiver, Rest}
+use Rattle.j39_findings.specs.declared.steps.Step.TheVariants.{Up, Down, Give, Ask, Begin, Send, Emit, Take, Lose, LateSender, LateReceiver, Rest}
 use Rattle.j39_text.specs.Labels.{unit_label, units_text}
 use Rattle.j39_text.specs.Texts.{field_text, place_field}
-use Rattle.j39_schedule.specs.Schedule.{Reading, as_ordered, begins, does, line_order, order_named, read_as, readings_of, with_unit, with_units, words_of, words_order}
-use Rattle.j39_schedule.specs.StepLines.{IsStepOf, IsUnit, step_line, step_lines, step_text, step_unit_text}
+use Rattle.j39_schedule.specs.Schedule.{Ordered, Reading, as_ordered, begins, sends, does, line_order, order_named, read_as, readings_of}
+use Rattle.j39_schedule.specs.Schedule.{with_flow, with_unit, with_units, words_of, words_order}
+use Rattle.j39_schedule.specs.StepLines.{IsMessageOf, IsStepOf, IsUnit, step_line, step_lines, step_text, step_unit_text}
 use Rattle.j39_schedule.proofs.BegunFlows.{bytes_word, number_is, number_word, place_is}
 use Rattle.j39_schedule.proofs.Splits.{lines-append}
 use Rattle.j39_schedule.proofs.TextWords.{IsVisible, IsWord, after_spaces, first_word, is_spelled, one_line, only_word, visible, visible_parted}
@@ -83,29 +84,33 @@ units_step plan word step u v inside is few begun other =
       visible = visible_word word (a ++ 32 ∷ b) is (visible_parted a b (visible a one.word) (visible b two.word));
     }
 
--- ---- the step that begins a message
+-- ---- the steps that begin and that send a message
 
-begin_step : (plan : Plan) (step : Step) (f : ℕ) (bytes : List ℕ) → f < length plan.flows.items → 0 < length bytes
-    → length bytes ≤ message_bytes → IsBytes bytes → as_ordered step ≡ begins f bytes
-    → Spells plan (place_field (codes "begin ") f ++ (codes " " ++ encode_upper bytes)) step
-unfolding field_text words_order order_named
-begin_step plan step f bytes inside some few are is =
+-- the word begins an order of a message
+abbrev BeginsMessage : Plan → List ℕ → (ℕ → List ℕ → Ordered) → Type 0
+BeginsMessage plan word order = (a b : List ℕ) → words_order plan (word ∷ a ∷ b ∷ []) ≡ with_flow plan order a b
+
+message_step : (plan : Plan) (word : List ℕ) (makes : ℕ → List ℕ → Ordered) (step : Step) (f : ℕ) (bytes : List ℕ) → IsMessageOf plan f bytes
+    → IsWord word → length word ≤ 5 → BeginsMessage plan word makes → as_ordered step ≡ makes f bytes
+    → Spells plan (place_field (word ++ 32 ∷ []) f ++ (codes " " ++ encode_upper bytes)) step
+unfolding field_text
+message_step plan word makes step f bytes (inside, some, few, are) is_word short begun is =
     let known : f < 512 = omega (arith, plan.flow_count) in
     let number = number_word (f + 1) (omega arith) in
     let digits = bytes_word bytes some are in
-    let word : IsWord (codes "begin") = is_spelled (codes "begin") refl in
     let a = decimal (f + 1) in
     let b = encode_upper bytes in
-    let same : (codes "begin " ++ a) ++ (32 ∷ b) ≡ codes "begin " ++ (a ++ 32 ∷ b) = append_assoc (codes "begin ") a (32 ∷ b) in
+    let front : List ℕ = word ++ 32 ∷ [] in
+    let same : (front ++ a) ++ (32 ∷ b) ≡ front ++ (a ++ 32 ∷ b) = append_assoc front a (32 ∷ b) in
     let reads = number_is (f + 1) (omega arith) in
     let place = place_is plan f in
     let decodes = decode_of-encode_upper bytes are in
     let twice = length-encode_with upper_digits bytes in
-    let order : words_order plan (codes "begin" ∷ a ∷ b ∷ []) ≡ read_as (Some step) = rw (reads, place, decodes, is) refl in
-    let whole : Spells plan (codes "begin " ++ (a ++ 32 ∷ b)) step = record {
-      order = ap (words_order plan) (three_words (codes "begin") a word number.0 b digits) ∙ order;
-      short = omega (arith, length_word (codes "begin") (a ++ 32 ∷ b), length-append a (32 ∷ b), number.1, twice);
-      visible = visible_word (codes "begin") (a ++ 32 ∷ b) word (visible_parted a b (visible a number.0) (visible b digits));
+    let order : with_flow plan makes a b ≡ read_as (Some step) = rw (reads, place, decodes, is) refl in
+    let whole : Spells plan (front ++ (a ++ 32 ∷ b)) step = record {
+      order = ap (words_order plan) (three_words word a is_word number.0 b digits) ∙ (begun a b ∙ order);
+      short = omega (arith, short, length_word word (a ++ 32 ∷ b), length-append a (32 ∷ b), number.1, twice);
+      visible = visible_word word (a ++ 32 ∷ b) is_word (visible_parted a b (visible a number.0) (visible b digits));
     } in
     rw same whole
 
@@ -117,7 +122,10 @@ spelled plan (Up u) of = unit_step plan (codes "up") Up u of (is_spelled (codes 
 spelled plan (Down u) of = unit_step plan (codes "down") Down u of (is_spelled (codes "down") refl) (omega arith) (λ a. refl) refl
 spelled plan (Give u v) of = units_step plan (codes "give") Give u v of (is_spelled (codes "give") refl) (omega arith) (λ a b. refl) refl
 spelled plan (Ask u) of = unit_step plan (codes "ask") Ask u of (is_spelled (codes "ask") refl) (omega arith) (λ a. refl) refl
-spelled plan (Begin f bytes) of = begin_step plan (Begin f bytes) f bytes.items of.0 of.1 of.2 of.3 refl
+spelled plan (Begin f bytes) of =
+    message_step plan (codes "begin") begins (Begin f bytes) f bytes.items of (is_spelled (codes "begin") refl) (omega arith) (λ a b. refl) refl
+spelled plan (Send f bytes) of =
+    message_step plan (codes "send") sends (Send f bytes) f bytes.items of (is_spelled (codes "send") refl) (omega arith) (λ a b. refl) refl
 spelled plan (Emit u) of = unit_step plan (codes "emit") Emit u of (is_spelled (codes "emit") refl) (omega arith) (λ a. refl) refl
 spelled plan (Take u v) of = units_step plan (codes "take") Take u v of (is_spelled (codes "take") refl) (omega arith) (λ a b. refl) refl
 spelled plan (Lose u v) of = units_step plan (codes "lose") Lose u v of (is_spelled (codes "lose") refl) (omega arith) (λ a b. refl) refl

@@ -15,19 +15,19 @@ abbrev pub takes_values : Order → ℕ → Bool
 takes_values (of_unit step) count = count == 1
 takes_values (of_units step) count = count == 2
 takes_values (of_unit_or_units one two) count = count == 1 || count == 2
-takes_values of_message count = count == 2
+takes_values (of_message message) count = count == 2
 
 -- which of them are labels, which a number, and which hex digits
 abbrev pub labels_in : Order → List (List ℕ) → List (List ℕ)
-labels_in of_message values = []
+labels_in (of_message message) values = []
 labels_in order values = values
 
 abbrev pub numerals_in : Order → List (List ℕ) → List (List ℕ)
-numerals_in of_message values = take 1 values
+numerals_in (of_message message) values = take 1 values
 numerals_in order values = []
 
 abbrev pub digits_in : Order → List (List ℕ) → List (List ℕ)
-digits_in of_message values = drop 1 values
+digits_in (of_message message) values = drop 1 values
 digits_in order values = []
 
 -- the faults of an order's values, in the order in which they are looked for, each with whether it holds

@@ -11,7 +11,7 @@ use Rattle.j39_id.specs.FrameLine.{is_separator}
 use Rattle.j39_findings.specs.declared.plan.Plan.{Plan}
 use Rattle.j39_findings.specs.declared.plan.unit_plan.UnitPlan.{UnitPlan}
 use Rattle.j39_findings.specs.declared.steps.Step.{Step}
-use Rattle.j39_findings.specs.declared.steps.Step.TheVariants.{Up, Down, Give, Ask, Begin, Emit, Take, Lose, LateSender, LateReceiver, Rest}
+use Rattle.j39_findings.specs.declared.steps.Step.TheVariants.{Up, Down, Give, Ask, Begin, Send, Emit, Take, Lose, LateSender, LateReceiver, Rest}
 use Rattle.j39_id.specs.Lines.{Line, Long, Short, lines}
 use Rattle.j39_schedule.specs.declared.line_fault.LineFault.{LineFault}
 use Rattle.j39_schedule.specs.declared.line_fault.LineFault.TheVariants.{LongLine, UnknownWord, WordCount, UnknownLabel, BadNumber, BadHex}
@@ -27,14 +27,16 @@ words_of line = filter is_word (slice_split is_separator line)
 
 -- ---- what the words order
 
--- a step that a line orders: the Begin of the flow at a place with these bytes, or another one
+-- a step that a line orders: the Begin or the Send of the flow at a place with these bytes, or another one
 pub data Ordered : Type 0 where
   begins : ℕ → List ℕ → Ordered
+  sends : ℕ → List ℕ → Ordered
   does : Step → Ordered
 
 -- where the bytes of a step lie makes no difference
 abbrev pub as_ordered : Step → Ordered
 as_ordered (Begin f bytes) = begins f bytes.items
+as_ordered (Send f bytes) = sends f bytes.items
 as_ordered step = does step
 
 -- what a line is read as: an order for a step, an order for nothing, or why it can't be read
@@ -68,20 +70,20 @@ spelled_number text = if is_number text then Some (digits_value 10 text) else No
 abbrev pub flow_place : Plan → ℕ → ℕ
 flow_place plan number = if number == 0 then length plan.flows.items else number - 1
 
--- the Begin of a flow with what hex digits spell
-abbrev pub with_bytes : ℕ → Result (List ℕ) FromHexError → Reading
-with_bytes f (Ok bytes) = Ok (Some (begins f bytes))
-with_bytes f (Err e) = Err BadHex
+-- what is ordered of a flow with what hex digits spell
+abbrev pub with_bytes : (ℕ → List ℕ → Ordered) → ℕ → Result (List ℕ) FromHexError → Reading
+with_bytes order f (Ok bytes) = Ok (Some (order f bytes))
+with_bytes order f (Err e) = Err BadHex
 
-abbrev pub with_flow : Plan → List ℕ → List ℕ → Reading
-with_flow plan number hex = option_map_or (λ n. with_bytes (flow_place plan n) (decode_of hex)) (spelled_number number) (Err BadNumber)
+abbrev pub with_flow : Plan → (ℕ → List ℕ → Ordered) → List ℕ → List ℕ → Reading
+with_flow plan order number hex = option_map_or (λ n. with_bytes order (flow_place plan n) (decode_of hex)) (spelled_number number) (Err BadNumber)
 
 -- what stands behind the word of an order, and what is ordered then
 pub data Order : Type 0 where
   of_unit : (ℕ → Step) → Order
   of_units : (ℕ → ℕ → Step) → Order
   of_unit_or_units : (ℕ → Step) → (ℕ → ℕ → Step) → Order
-  of_message : Order
+  of_message : (ℕ → List ℕ → Ordered) → Order
 
 -- the orders, each with its word
 abbrev pub orders : List (List ℕ × Order)
@@ -90,7 +92,8 @@ orders =
     ∷ (codes "down", of_unit Down)
     ∷ (codes "give", of_units Give)
     ∷ (codes "ask", of_unit Ask)
-    ∷ (codes "begin", of_message)
+    ∷ (codes "begin", of_message begins)
+    ∷ (codes "send", of_message sends)
     ∷ (codes "emit", of_unit Emit)
     ∷ (codes "take", of_units Take)
     ∷ (codes "lose", of_units Lose)
@@ -108,7 +111,7 @@ order_of plan (of_unit step) (a ∷ []) = with_unit plan a step
 order_of plan (of_units step) (a ∷ b ∷ []) = with_units plan a b step
 order_of plan (of_unit_or_units one two) (a ∷ []) = with_unit plan a one
 order_of plan (of_unit_or_units one two) (a ∷ b ∷ []) = with_units plan a b two
-order_of plan of_message (n ∷ hex ∷ []) = with_flow plan n hex
+order_of plan (of_message message) (n ∷ hex ∷ []) = with_flow plan message n hex
 order_of plan order values = Err WordCount
 
 -- a word that begins with a number sign makes its line a comment

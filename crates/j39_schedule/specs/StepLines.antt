@@ -5,7 +5,7 @@ use Rattle.j39_id.specs.Limits.{message_bytes}
 use Rattle.j39_id.specs.Lines.{Short}
 use Rattle.j39_findings.specs.declared.plan.Plan.{Plan}
 use Rattle.j39_findings.specs.declared.steps.Step.{Step}
-use Rattle.j39_findings.specs.declared.steps.Step.TheVariants.{Up, Down, Give, Ask, Begin, Emit, Take, Lose, LateSender, LateReceiver, Rest}
+use Rattle.j39_findings.specs.declared.steps.Step.TheVariants.{Up, Down, Give, Ask, Begin, Send, Emit, Take, Lose, LateSender, LateReceiver, Rest}
 use Rattle.j39_text.specs.Labels.{unit_label, units_text}
 use Rattle.j39_text.specs.Texts.{place_field}
 use Rattle.j39_schedule.specs.Schedule.{line_order, read_as, readings_of}
@@ -21,6 +21,7 @@ step_text plan (Down u) = step_unit_text (codes "down ") plan u
 step_text plan (Give u v) = units_text (codes "give ") plan u v
 step_text plan (Ask u) = step_unit_text (codes "ask ") plan u
 step_text plan (Begin f bytes) = place_field (codes "begin ") f ++ (codes " " ++ encode_upper bytes.items)
+step_text plan (Send f bytes) = place_field (codes "send ") f ++ (codes " " ++ encode_upper bytes.items)
 step_text plan (Emit u) = step_unit_text (codes "emit ") plan u
 step_text plan (Take u v) = units_text (codes "take ") plan u v
 step_text plan (Lose u v) = units_text (codes "lose ") plan u v
@@ -39,18 +40,22 @@ step_lines plan (step ∷ steps) = step_line plan step ++ step_lines plan steps
 
 -- ---- what the reader makes of them
 
+-- some bytes of a flow of the plan, no more than the longest message has
+abbrev pub IsMessageOf : Plan → ℕ → List ℕ → Type 0
+IsMessageOf plan f bytes = (f < length plan.flows.items) × (0 < length bytes) × (length bytes ≤ message_bytes) × IsBytes bytes
+
 -- a place of a unit
 abbrev pub IsUnit : Plan → ℕ → Type 0
 IsUnit plan u = u < length plan.units.items
 
--- the step names units or a flow of the plan, and begins some bytes, no more than the longest message has
+-- the step names units of the plan, or a message of it
 abbrev pub IsStepOf : Plan → Step → Type 0
 IsStepOf plan (Up u) = IsUnit plan u
 IsStepOf plan (Down u) = IsUnit plan u
 IsStepOf plan (Give u v) = IsUnit plan u × IsUnit plan v
 IsStepOf plan (Ask u) = IsUnit plan u
-IsStepOf plan (Begin f bytes) =
-    (f < length plan.flows.items) × (0 < length bytes.items) × (length bytes.items ≤ message_bytes) × IsBytes bytes.items
+IsStepOf plan (Begin f bytes) = IsMessageOf plan f bytes.items
+IsStepOf plan (Send f bytes) = IsMessageOf plan f bytes.items
 IsStepOf plan (Emit u) = IsUnit plan u
 IsStepOf plan (Take u v) = IsUnit plan u × IsUnit plan v
 IsStepOf plan (Lose u v) = IsUnit plan u × IsUnit plan v

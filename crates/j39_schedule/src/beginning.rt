@@ -3,7 +3,7 @@ ghost use Rattle.std.specs.Prelude.{◌≡◌, is_ok};
 ghost use Rattle.std.specs.Char.{is_ascii_digit};
 ghost use Rattle.std.specs.List.{list_all};
 ghost use Rattle.hex.specs.Hex.{decode_of, is_hex_digit};
-ghost use Rattle.j39_schedule.specs.Schedule.{flow_place, is_number, spelled_number, with_flow};
+ghost use Rattle.j39_schedule.specs.Schedule.{begins, flow_place, is_number, spelled_number, with_flow};
 ghost use Rattle.j39_schedule.specs.Scheduling.{IsReadAs};
 
 use crate::line_fault::LineFault;
@@ -36,7 +36,7 @@ fn is_number(text: &[u8]) -> bool
 
 /// The number of 1 to 9 decimal digits.
 #[tactic(auto, unfolding(crate::specs::Schedule::spelled_number))]
-fn number_of(text: &[u8]) -> Option<usize>
+pub(crate) fn number_of(text: &[u8]) -> Option<usize>
     ensures { result ≡ spelled_number text.now }
 {
     if !is_number(text) {
@@ -50,7 +50,7 @@ fn number_of(text: &[u8]) -> Option<usize>
 }
 
 /// The place of the flow of a number; that of the flow 0, which no plan has, is the place behind the last flow.
-fn flow_place(plan: &Plan, number: usize) -> usize
+pub(crate) fn flow_place(plan: &Plan, number: usize) -> usize
     ensures { result ≡ flow_place plan.now number }
 {
     if number == 0 {
@@ -72,8 +72,8 @@ fn are_hex_digits(text: &[u8]) -> bool
     text.iter().all(|byte| is_hex_digit(*byte))
 }
 
-// Whether pairs of hex digits spell bytes.
-fn spell_bytes(digits: &[u8]) -> bool
+/// Whether pairs of hex digits spell bytes.
+pub(crate) fn spell_bytes(digits: &[u8]) -> bool
     ensures { result ≡ is_ok (decode_of digits.now) }
 {
     digits.len() % 2 == 0 && are_hex_digits(digits)
@@ -86,7 +86,7 @@ pub fn begin(
     number: &[u8],
     digits: &[u8],
 ) -> Result<Option<Step>, Unread>
-    ensures { IsReadAs (with_flow plan.now number.now digits.now) result }
+    ensures { IsReadAs (with_flow plan.now begins number.now digits.now) result }
 {
     let Some(number) = number_of(number) else {
         return Err(Unread::Fault(LineFault::BadNumber));

@@ -7,6 +7,7 @@ mod line_fault;
 mod line_words;
 mod order_line;
 mod order_word;
+mod sending;
 mod step_lines;
 mod unit_index;
 mod units;

@@ -9,6 +9,7 @@ use crate::beginning::begin;
 use crate::line_fault::LineFault;
 use crate::line_words::next_word;
 use crate::order_word::OrderWord;
+use crate::sending::send;
 use crate::units::Units;
 use crate::unread::Unread;
 use crate::values::{Values, values_of};
@@ -50,6 +51,7 @@ fn order_of(
             number,
             digits,
         ),
+        (OrderWord::Send, Values::Two(number, digits)) => send(alloc, units.plan(), number, digits),
         (OrderWord::Emit, Values::One(a)) => Ok(Some(Step::Emit(unit(units, a)?))),
         (OrderWord::Take, Values::Two(a, b)) => Ok(Some(Step::Take(
             unit(units, a)?,

@@ -1,6 +1,6 @@
 //! Writing the steps of a plan as lines of a schedule.
 ghost use Rattle.std.specs.Prelude.{◌≡◌, ◌++◌, OnOk};
-ghost use Rattle.j39_findings.specs.declared.steps.Step.TheVariants.{Begin};
+ghost use Rattle.j39_findings.specs.declared.steps.Step.TheVariants.{Begin, Send};
 ghost use Rattle.j39_schedule.specs.StepLines.{step_line, step_lines, step_text, step_unit_text};
 
 use j39_findings::{Plan, Step};
@@ -30,6 +30,20 @@ fn write_begin(
 }
 
 #[tactic(auto, unfolding(crate::specs::StepLines::step_text))]
+fn write_send(
+    text: &mut TextBuffer,
+    plan: &Plan,
+    flow: usize,
+    bytes: &Vec<u8>,
+) -> Result<(), AllocError>
+    ensures { OnOk result (text.new ≡ text.old ++ step_text plan.now (Send flow bytes.now)) }
+{
+    text.place("send ", flow)?;
+    text.word(" ")?;
+    text.hex(bytes.as_slice())
+}
+
+#[tactic(auto, unfolding(crate::specs::StepLines::step_text))]
 fn write_step(text: &mut TextBuffer, plan: &Plan, step: &Step) -> Result<(), AllocError>
     ensures { OnOk result (text.new ≡ text.old ++ step_text plan.now step.now) }
 {
@@ -39,6 +53,7 @@ fn write_step(text: &mut TextBuffer, plan: &Plan, step: &Step) -> Result<(), All
         Step::Give(from, to) => write_units(text, "give ", plan, *from, *to),
         Step::Ask(unit) => write_unit(text, "ask ", plan, *unit),
         Step::Begin(flow, bytes) => write_begin(text, plan, *flow, bytes),
+        Step::Send(flow, bytes) => write_send(text, plan, *flow, bytes),
         Step::Emit(unit) => write_unit(text, "emit ", plan, *unit),
         Step::Take(from, to) => write_units(text, "take ", plan, *from, *to),
         Step::Lose(from, to) => write_units(text, "lose ", plan, *from, *to),

@@ -4,6 +4,7 @@ use Rattle.j39_signal.specs.Bits.{Put}
 use Rattle.j39_signal.specs.Parts.{SignalParts}
 use Rattle.j39_signal.specs.declared.kind.Kind.{Kind}
 use Rattle.j39_signal.specs.declared.kind.Kind.TheVariants.{Measured, Discrete, Raw, States, Signed, Dtc}
+use Rattle.j39_signal.specs.declared.state.Shown.{Shown}
 use Rattle.j39_signal.specs.declared.state.State.{State}
 use Rattle.j39_signal.specs.declared.state.State.TheVariants.{Value, Specific, Reserved, Fault, Absent}
 use Rattle.j39_signal.specs.declared.write_error.WriteError.{WriteError}
@@ -53,6 +54,10 @@ state_in ranges value raw =
 
 abbrev pub state_of : SignalParts → ℕ → State
 state_of s raw = state_in (ranges_of s.kind s.bits) (value_of s raw) raw
+
+-- a raw number with what it means, and the value that it has whatever its state
+abbrev pub shown_of : SignalParts → ℕ → Shown
+shown_of s raw = record { raw = raw; value = value_of s raw; state = state_of s raw }
 
 -- the raw number stands for a value
 abbrev pub IsValue : SignalParts → ℕ → Type 0

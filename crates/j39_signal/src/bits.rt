@@ -75,7 +75,8 @@ fn merged(number: u64, bits: u64, shift: u16, width: u8) -> u64
     number & !(mask(width) << shift) | bits << shift
 }
 
-/// The number of `width` bits from bit `start` on.
+/// The number of `width` bits from bit `start` on. It is asked for at each signal of a frame.
+#[inline(always)]
 pub(crate) fn bits_of(payload: &[u8], start: u16, width: u8) -> u32
     requires some { 0 < width }
     requires width { width ≤ 32 }

@@ -6,9 +6,9 @@ ghost use Rattle.j39_signal.specs.Bits.{Put, raw_of, all_ones};
 ghost use Rattle.j39_signal.specs.Laid.{blank};
 ghost use Rattle.j39_signal.specs.Places.{WidthFits, IsInside, SharesBit, LaysOut, further};
 ghost use Rattle.j39_signal.specs.Refusals.{HasLayoutFault, first_sharer as sharer_of, placement_faults};
-ghost use Rattle.j39_signal.specs.State.{state_of, RefusesValue, WritesValue};
+ghost use Rattle.j39_signal.specs.State.{shown_of, state_of, RefusesValue, WritesValue};
 
-use crate::{LayoutError, Signal, State, WriteError};
+use crate::{LayoutError, Shown, Signal, State, WriteError};
 use j39_id::limits::MESSAGE_BYTES;
 use std::alloc::{AllocError, Global};
 use std::marker::Model;
@@ -152,5 +152,25 @@ impl Layout {
         ensures { HoldsAt (λ s. result ≡ state_of s (raw_of payload.now (further bytes s))) self.now.signals i }
     {
         self.signal(i).read_further(payload, bytes)
+    }
+
+    /// The raw number of the signal at place `i` with what it means, in a payload that may be longer than what is laid out.
+    #[tactic(auto, using(crate::proofs::AtPlace::at_place))]
+    pub fn show(&self, payload: &[u8], i: usize) -> Shown
+        requires place { i < length self.now.signals }
+        requires bytes { self.now.length ≤ length payload.now }
+        ensures { HoldsAt (λ s. result ≡ shown_of s (raw_of payload.now s)) self.now.signals i }
+    {
+        self.signal(i).show(payload)
+    }
+
+    /// The same as it stands so many bytes further on, in a payload of any length that has it.
+    #[tactic(auto, using(crate::proofs::AtPlace::at_place))]
+    pub fn show_further(&self, payload: &[u8], i: usize, bytes: usize) -> Shown
+        requires place { i < length self.now.signals }
+        requires inside { HoldsAt (λ s. IsInside (length payload.now) (further bytes s)) self.now.signals i }
+        ensures { HoldsAt (λ s. result ≡ shown_of s (raw_of payload.now (further bytes s))) self.now.signals i }
+    {
+        self.signal(i).show_further(payload, bytes)
     }
 }

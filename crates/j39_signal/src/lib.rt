@@ -17,5 +17,5 @@ pub use laws::{others_count_up, signals_are_sound};
 pub use layout::Layout;
 pub use layout_error::LayoutError;
 pub use signal::{Signal, divides_decimally};
-pub use state::State;
+pub use state::{Shown, State};
 pub use write_error::WriteError;

@@ -2,10 +2,10 @@
 ghost use Rattle.std.specs.Prelude.{◌≡◌, length, IfErr, OnOk, OnErr};
 ghost use Rattle.j39_signal.specs.Bits.{Put, raw_of, all_ones};
 ghost use Rattle.j39_signal.specs.Places.{WidthFits, IsInside, further};
-ghost use Rattle.j39_signal.specs.State.{state_of, RefusesValue, WritesValue};
+ghost use Rattle.j39_signal.specs.State.{shown_of, state_of, RefusesValue, WritesValue};
 
 use crate::bits::{bits_of, set_bits};
-use crate::{Signal, State, WriteError};
+use crate::{Shown, Signal, State, WriteError};
 
 impl Signal {
     /// Writes a value.
@@ -46,5 +46,28 @@ impl Signal {
         ensures { result ≡ state_of self.now (raw_of payload.now (further bytes self.now)) }
     {
         self.read(&payload[bytes..])
+    }
+
+    /// The raw number with what it means.
+    pub(crate) fn show(&self, payload: &[u8]) -> Shown
+        requires width { WidthFits self.now }
+        requires inside { IsInside (length payload.now) self.now }
+        ensures { result ≡ shown_of self.now (raw_of payload.now self.now) }
+    {
+        let raw = bits_of(payload, self.start(), self.bits());
+        Shown {
+            raw,
+            value: self.value_of(raw),
+            state: self.state_of(raw),
+        }
+    }
+
+    /// The same so many bytes further on.
+    pub(crate) fn show_further(&self, payload: &[u8], bytes: usize) -> Shown
+        requires width { WidthFits self.now }
+        requires inside { IsInside (length payload.now) (further bytes self.now) }
+        ensures { result ≡ shown_of self.now (raw_of payload.now (further bytes self.now)) }
+    {
+        self.show(&payload[bytes..])
     }
 }

@@ -47,7 +47,7 @@ impl Signal {
     }
 
     #[tactic(auto, using(crate::proofs::Steps::value_up, crate::proofs::Steps::value_down))]
-    fn value_of(&self, raw: u32) -> i64
+    pub(crate) fn value_of(&self, raw: u32) -> i64
         requires width { WidthFits self.now }
         requires range { raw < 2 ^ self.now.bits }
         ensures { result ≡ value_of self.now raw }
@@ -106,7 +106,8 @@ impl Signal {
         }
     }
 
-    /// The state that a raw number shows.
+    /// The state that a raw number shows. It is asked for at each signal of a frame.
+    #[inline(always)]
     pub(crate) fn state_of(&self, raw: u32) -> State
         requires width { WidthFits self.now }
         requires range { raw < 2 ^ self.now.bits }

@@ -14,3 +14,11 @@ pub enum State {
     /// Not available.
     Absent,
 }
+
+/// A raw number with what it means, and the value that it has whatever its state.
+#[derive(Clone, Copy)]
+pub struct Shown {
+    pub raw: u32,
+    pub value: i64,
+    pub state: State,
+}

@@ -22,28 +22,28 @@ use Rattle.j39_claim.specs.declared.item.Item.{Item}
 use Rattle.j39_claim.specs.declared.item.Item.TheVariants.{Told, Request}
 use Rattle.j39_claim.specs.declared.item.Say.{Say}
 use Rattle.j39_claim.specs.declared.item.Say.TheVariants.{Claim}
-use Rattle.j39_claim.specs.ClaimRule.{ClaimState, claim_of, started}
+use Rattle.j39_claim.specs.ClaimRule.{ClaimState, claim_of, said_by, started}
 use Rattle.j39_findings.specs.declared.plan.Plan.{Plan}
 use Rattle.j39_findings.specs.declared.plan.unit_plan.UnitPlan.{UnitPlan}
 use Rattle.j39_findings.specs.declared.plan.to.To.{To}
 use Rattle.j39_findings.specs.declared.plan.to.To.TheVariants.{All, One}
 use Rattle.j39_findings.specs.declared.steps.Step.{Step}
-use Rattle.j39_findings.specs.declared.steps.Step.TheVariants.{Up, Down, Give, Ask, Begin, Emit, Take, Lose, LateSender, LateReceiver, Rest}
+use Rattle.j39_findings.specs.declared.steps.Step.TheVariants.{Up, Down, Give, Ask, Begin, Send, Emit, Take, Lose, LateSender, LateReceiver, Rest}
 use Rattle.j39_world.proofs.Refusals.{none_hold}
 use Rattle.j39_world.specs.declared.flow.Flow.{Flow}
 use Rattle.j39_world.specs.declared.step_error.StepError.{StepError}
 use Rattle.j39_world.specs.declared.wired.Wired.{Wired}
 use Rattle.j39_world.specs.declared.wired.Wired.TheVariants as wired
-use Rattle.j39_world.specs.ClaimSteps.{GivenFrom, answer_items}
+use Rattle.j39_world.specs.ClaimSteps.{GivenFrom, answer_items, asking_items, first_items}
 use Rattle.j39_world.specs.Flows.{dest_of, flows_of, is_short, window_at, windows_of}
 use Rattle.j39_world.specs.Opening.{AreNamesDistinct}
 use Rattle.j39_world.specs.PlannedUnits.{planned_unit, unit_at, units_of}
-use Rattle.j39_world.specs.Run.{StepsTo, begin_refusal, begin_refusals, count_of, refusal}
+use Rattle.j39_world.specs.Run.{StepsTo, begin_refusal, begin_refusals, send_refusal, send_refusals, count_of, refusal}
 use Rattle.j39_world.specs.Sent.{Sent, frame_of, sent_of, source_of}
 use Rattle.j39_world.specs.SentTransfers.{address_of, destination_of, group_of, packet_frame, short_frame}
 use Rattle.j39_world.specs.SoundPlan.{Always}
 use Rattle.j39_world.specs.Transfers.{Outgoing}
-use Rattle.j39_world.specs.TransferSteps.{BeginsAt, LostFrom, TakenFrom, first_frame, hearing, packets_in, reaction_of, receiver_replies, sender_replies}
+use Rattle.j39_world.specs.TransferSteps.{BeginsAt, SendsAt, LostFrom, TakenFrom, first_frame, hearing, packets_in, reaction_of, receiver_replies, sender_replies}
 use Rattle.j39_world.specs.World.{World, changed}
 use Rattle.j39_laws.proofs.Reports.Orderly.{DeliveredBefore, all_delivered}
 use Rattle.j39_laws.proofs.Runs.Changed.{changed_here}
@@ -55,12 +55,12 @@ use Rattle.j39_follow.specs.Holders.{HoldsByFrames}
 use Rattle.j39_follow.specs.Who.{unit_of_name}
 use Rattle.j39_traces.specs.Between.{GoesToHolder, IsKnownAt, FlowGoes, IsOfStep, IsSentBehind, IsSentBy, IsTransport, MessagesGoBetweenHolders, SendsTo, tells_of_addresses}
 use Rattle.j39_traces.specs.Telling.{HaveOwnNumbers}
-use Rattle.j39_traces.proofs.Ends.{HasEnds, IsForHolding, IsHolding, all_ends, begun_ends, ends_of}
+use Rattle.j39_traces.proofs.Ends.{HasEnds, IsForHolding, IsHolding, all_ends, begun_ends, sent_ends, ends_of}
 use Rattle.j39_traces.proofs.Identifiers.{IsOther, carries_none, sent_as}
 use Rattle.j39_traces.proofs.Logs.{IsItemInRange, TellsNothing, silent_keep, split, tells_addresses, tells_nothing}
 use Rattle.j39_traces.proofs.Replies.{GoesOnTo, late_answers, takers_answer}
-use Rattle.j39_traces.proofs.Standing.{preferred_below, source_below, turn, turned}
-use Rattle.j39_traces.proofs.Telling.{AreTold, all_told, flow_other, packet_group}
+use Rattle.j39_traces.proofs.Standing.{preferred_below, said_held, source_below, turned_any}
+use Rattle.j39_traces.proofs.Telling.{AreTold, all_told, asking_below, first_below, flow_other, packet_group}
 
 -- ---- lists
 
@@ -170,16 +170,17 @@ module _ (plan : Plan) (distinct : AreNamesDistinct (units_of plan)) (own : Have
       let same : a ≡ address_of w.stations u = sym (ap source_of address) in
       let row : s.0 ++ (s.1 ++ f ∷ []) ≡ log ++ f ∷ [] =
       sym (append_assoc s.0 s.1 (f ∷ [])) ∙ ap (λ (l : List Frame). l ++ f ∷ []) (sym s.2) in
-      let holds : HoldsByFrames s.0 (name u) a = elim (told.tells s.0 s.3 u a on address) [
+      let holds : (unit_at (units_of plan) u).claims ≡ true → HoldsByFrames s.0 (name u) a =
+      λ claims. elim (told.tells s.0 s.3 u a claims on address) [
         | inl is ↦ is
         | inr (v, claim) ↦ absurd (nothing_there a (subst (λ (xs : List Item). Contains xs (Told (Claim a))) (heard v u) claim))
       ] in
-      let then : HoldsByFrames (log ++ f ∷ []) (name u) a =
-      subst (λ (l : List Frame). HoldsByFrames l (name u) a) row (silent_keep s.0 (s.1 ++ f ∷ []) (name u) a (silent s.1 s.4) holds) in
+      let then : (unit_at (units_of plan) u).claims ≡ true → HoldsByFrames (log ++ f ∷ []) (name u) a =
+      λ claims. subst (λ (l : List Frame). HoldsByFrames l (name u) a) row (silent_keep s.0 (s.1 ++ f ∷ []) (name u) a (silent s.1 s.4) (holds claims)) in
       subst (IsKnownAt plan w (log ++ f ∷ []) u) same (record {
         on = on;
         holds = address;
-        told = (name u, then, named plan distinct u (told.standing.0 u on));
+        told = λ claims. (name u, then claims, named plan distinct u (told.standing.0 u on));
       })
 
   between : (IsGroup : ℕ → Type 0) → AllHeard → (u : ℕ) (to : To) → IsHolding w.stations u → IsForHolding w.stations to
@@ -283,7 +284,8 @@ module _ (plan : Plan) (distinct : AreNamesDistinct (units_of plan)) (own : Have
       let less = preferred_below plan u unit in
       let source : source_of (now u).address < 256 =
       subst (λ (c : ClaimState). source_of c.address < 256) (sym (changed_here w.stations u (started (unit_at (units_of plan) u)))) (omega (arith, less)) in
-      absurd (true≢false (sym (tells u unit (now u).address source (Told (Claim (unit_at (units_of plan) u).preferred) ∷ []) (less, tt) after log f sent
+      absurd (true≢false (sym (tells u unit (now u).address source (first_items (unit_at (units_of plan) u))
+      (first_below (unit_at (units_of plan) u) less) after log f sent
       (ap (λ (x : World). x.frames) e)) ∙ other))
 
   item_below : (o : Option ℕ) → ((a : ℕ) → o ≡ Some a → a < 254) → IsItemInRange (Told (claim_of o))
@@ -294,20 +296,20 @@ module _ (plan : Plan) (distinct : AreNamesDistinct (units_of plan)) (own : Have
   ask u allowed after e log f sent other =
       let (known, more) = none_refuses plan w (Ask u) allowed in
       let held = (w.stations u).address in
-      absurd (true≢false (sym (tells u (not-false _ known) held (below u) (Request ∷ Told (claim_of held) ∷ [])
-      (tt, (item_below held (told.standing.1 u), tt)) after log f sent (ap (λ (x : World). x.frames) e)) ∙ other))
+      absurd (true≢false (sym (tells u (not-false _ known) held (below u) (asking_items (said_by (unit_at (units_of plan) u) (claim_of held)))
+      (asking_below (unit_at (units_of plan) u) (claim_of held) (item_below held (told.standing.1 u))) after log f sent (ap (λ (x : World). x.frames) e)) ∙ other))
 
   give : (u v : ℕ) → is_unit plan v ≡ true → (list : List Item) (after : World) → GivenFrom (units_of plan) w u v list after → Goes (Give u v) after
   give u v unit [] after never log f sent other = absurd never
-  give u v unit (item ∷ rest) after (says, s, answers, e) log f sent other =
+  give u v unit (item ∷ rest) after (says, s, reacts, e) log f sent other =
       let now = changed w.stations v s in
-      let holds = turned (unit_at (units_of plan) v) (w.stations v) (name u) item says s answers (told.standing.1 v) in
+      let holds = turned_any (unit_at (units_of plan) v) (w.stations v) (name u) item says s reacts (told.standing.1 v) in
       let source : source_of (now v).address < 256 =
       subst (λ (c : ClaimState). source_of c.address < 256) (sym (changed_here w.stations v s)) (source_below s holds) in
       let range : AllByRecursion IsItemInRange (answer_items says) =
-      elim (turn (unit_at (units_of plan) v) (w.stations v) (name u) item says s answers) [
-        | inl silent ↦ subst (λ (o : Option Say). AllByRecursion IsItemInRange (answer_items o)) (sym silent.0) tt
-        | inr said ↦ subst (λ (o : Option Say). AllByRecursion IsItemInRange (answer_items o)) (sym said.0) (item_below s.address holds, tt)
+      elim (said_held (unit_at (units_of plan) v) (w.stations v) (name u) item says s reacts) [
+        | inl silent ↦ subst (λ (o : Option Say). AllByRecursion IsItemInRange (answer_items o)) (sym silent) tt
+        | inr said ↦ subst (λ (o : Option Say). AllByRecursion IsItemInRange (answer_items o)) (sym said) (item_below s.address holds, tt)
       ] in
       absurd (true≢false (sym (tells v unit (now v).address source (answer_items says) range after log f sent (ap (λ (x : World). x.frames) e)) ∙ other))
 
@@ -327,6 +329,26 @@ module _ (plan : Plan) (distinct : AreNamesDistinct (units_of plan)) (own : Have
       cond_both (is_short (length bytes)) (short_frame d s flow bytes) (packet_frame d s (sender.announcement (dest_of flow.to) flow.pgn (length bytes)))
       (IsMessageFrame (IsFirst flow) d s) (λ _. short_is d s flow bytes other) (λ _. announcement_is d s flow _) in
       let goes = goes_between after log f sent (first_frame w.stations flow bytes ∷ []) (ap (λ (x : World). x.frames) e) (IsFirst flow)
+      (all_delivered plan w.stations w.claims w.sessions order (not-false _ heard)) flow.sender flow.to hold.0 hold.1 (of, tt) in
+      (flow, refl, goes.0, goes.1, goes.2)
+
+  -- a frame is sent alone
+  send : (k : ℕ) (bytes : List ℕ) (o : Option Flow) → slice_get (flows_of plan) k ≡ o → send_refusal (count_of plan) w o bytes ≡ None
+      → (after : World) → SendsAt (count_of plan) w k o bytes after → (log : List Frame) (f : Frame) → IsSentBehind w after log f
+      → (flow : Flow) × (o ≡ Some flow) × (pgn_of f.ident ≡ flow.pgn) × IsKnownAt plan w (log ++ f ∷ []) flow.sender f.ident.sa
+      × GoesToHolder plan w (log ++ f ∷ []) flow.to f.ident
+  send k bytes None is allowed after never log f sent = absurd never
+  send k bytes (Some flow) is allowed after e log f sent =
+      let d : ℕ = destination_of w.stations flow.to in
+      let s : ℕ = address_of w.stations flow.sender in
+      let other = flow_other plan own k flow is in
+      let (sendable, (on, (heard, rest))) = none_hold (send_refusals (count_of plan) w (Some flow) bytes) allowed in
+      let order = ends.kept.kept.transfers.order in
+      let hold = sent_ends plan w flow bytes allowed in
+      let IsGroup : ℕ → Type 0 = λ pgn. pgn ≡ flow.pgn in
+      let of : IsMessageFrame IsGroup d s (short_frame d s flow bytes) =
+      record { priority = flow.priority; pgn = flow.pgn; group = refl; other = other; number = refl } in
+      let goes = goes_between after log f sent (short_frame d s flow bytes ∷ []) (ap (λ (x : World). x.frames) e) IsGroup
       (all_delivered plan w.stations w.claims w.sessions order (not-false _ heard)) flow.sender flow.to hold.0 hold.1 (of, tt) in
       (flow, refl, goes.0, goes.1, goes.2)
 
@@ -352,6 +374,8 @@ module _ (plan : Plan) (distinct : AreNamesDistinct (units_of plan)) (own : Have
   take : (u v : ℕ) (list : List Wired) → w.wire u v ≡ list → (after : World) → TakenFrom (windows_of plan) w u v list after → Goes (Take u v) after
   take u v [] is after never log f sent other = absurd never
   take u v (wired.Short bytes ∷ rest) is after e log f sent other =
+      same_frames (Take u v) after (ap (λ (x : World). x.frames) e) log f sent other
+  take u v (wired.Alone k bytes ∷ rest) is after e log f sent other =
       same_frames (Take u v) after (ap (λ (x : World). x.frames) e) log f sent other
   take u v (wired.Packet p ∷ rest) is after (reports, reported, e) log f sent other =
       let ps : List Packet = receiver_replies (hearing (windows_of plan) w u v p).1 ++ sender_replies (reaction_of (w.sessions v) u p) in
@@ -396,6 +420,9 @@ module _ (plan : Plan) (distinct : AreNamesDistinct (units_of plan)) (own : Have
   step_goes (Begin k bytes) allowed after leads = λ log f sent other.
       let (flow, is, group, source, goes) = begin k bytes.items (slice_get (flows_of plan) k) refl allowed after leads log f sent in
       (flow.sender, flow.to, (flow, is, refl, refl), elim group [ inl its ↦ inl (flow, is, its) | inr transport ↦ inr transport ], source, goes)
+  step_goes (Send k bytes) allowed after leads = λ log f sent other.
+      let (flow, is, number, source, goes) = send k bytes.items (slice_get (flows_of plan) k) refl allowed after leads log f sent in
+      (flow.sender, flow.to, (flow, is, refl, refl), (flow, is, number), source, goes)
   step_goes (Emit u) allowed after (s, p, session, next, e) = λ log f sent other.
       let goes = goes_on u s p session after (ap (λ (x : World). x.frames) e) log f sent in
       (u, s.to, (refl, of_flow u s.to (s, session, refl)), goes.0, goes.1, goes.2)

@@ -10,7 +10,7 @@ use Rattle.j39_findings.specs.declared.plan.Plan.{Plan}
 use Rattle.j39_findings.specs.declared.plan.to.To.{To}
 use Rattle.j39_findings.specs.declared.plan.to.To.TheVariants.{All, One}
 use Rattle.j39_findings.specs.declared.steps.Step.{Step}
-use Rattle.j39_findings.specs.declared.steps.Step.TheVariants.{Up, Down, Give, Ask, Begin, Emit, Take, Lose, LateSender, LateReceiver, Rest}
+use Rattle.j39_findings.specs.declared.steps.Step.TheVariants.{Up, Down, Give, Ask, Begin, Send, Emit, Take, Lose, LateSender, LateReceiver, Rest}
 use Rattle.j39_claim.specs.declared.item.Item.{Item}
 use Rattle.j39_claim.specs.ClaimRule.{off, started}
 use Rattle.j39_world.proofs.Refusals.{none_hold}
@@ -21,10 +21,10 @@ use Rattle.j39_world.specs.declared.wired.Wired.TheVariants as wired
 use Rattle.j39_world.specs.ClaimSteps.{GivenFrom}
 use Rattle.j39_world.specs.Flows.{dest_of, flows_of, windows_of}
 use Rattle.j39_world.specs.PlannedUnits.{unit_at, units_of}
-use Rattle.j39_world.specs.Run.{StepsTo, at_ends, begin_refusal, begin_refusals, count_of, has_address, is_on, refusal}
+use Rattle.j39_world.specs.Run.{StepsTo, at_ends, begin_refusal, begin_refusals, send_refusal, send_refusals, count_of, has_address, is_on, refusal}
 use Rattle.j39_world.specs.SoundPlan.{Always, IsSending}
 use Rattle.j39_world.specs.Transfers.{Outgoing}
-use Rattle.j39_world.specs.TransferSteps.{BeginsAt, LostFrom, TakenFrom, outgoing, session_after}
+use Rattle.j39_world.specs.TransferSteps.{BeginsAt, SendsAt, LostFrom, TakenFrom, outgoing, session_after}
 use Rattle.j39_world.specs.World.{Stations, World, changed, all_off}
 use Rattle.j39_laws.proofs.Runs.Always.{IsPreserved, always}
 use Rattle.j39_laws.proofs.Runs.Changed.{changed_each}
@@ -74,6 +74,13 @@ begun_ends plan w flow bytes allowed =
     let (sendable, (on, (told, (addressed, (free, rest))))) = none_hold (begin_refusals (count_of plan) w (Some flow) bytes) allowed in
     begin_ends w.stations flow.sender flow.to (not-false _ on) (not-false _ addressed)
 
+-- a Send that isn't
+pub sent_ends : (plan : Plan) (w : World) (flow : Flow) (bytes : List ℕ) → send_refusal (count_of plan) w (Some flow) bytes ≡ None
+    → IsHolding w.stations flow.sender × IsForHolding w.stations flow.to
+sent_ends plan w flow bytes allowed =
+    let (sendable, (on, (told, (addressed, (free, rest))))) = none_hold (send_refusals (count_of plan) w (Some flow) bytes) allowed in
+    begin_ends w.stations flow.sender flow.to (not-false _ on) (not-false _ addressed)
+
 -- ---- each step
 
 after_heard : (plan : Plan) (stations : Stations) (v u : ℕ) (p : Packet) (o : Option Outgoing) → AreEndsHolding plan stations v o
@@ -111,12 +118,17 @@ module _ (plan : Plan) (w : World) (inv : HasEnds plan w) where
       subst EndsAfter (sym e)
       (session_changed flow.sender (Some (outgoing (count_of plan) w.stations f flow bytes)) (hold.0, hold.1, (flow, is, refl, refl)))
 
+  sends_at : (f : ℕ) (o : Option Flow) (bytes : List ℕ) (new : World) → SendsAt (count_of plan) w f o bytes new → EndsAfter new
+  sends_at f None bytes new never = absurd never
+  sends_at f (Some flow) bytes new e = subst EndsAfter (sym e) inv.ends
+
   taken : (u v : ℕ) (list : List Wired) (new : World) → TakenFrom (windows_of plan) w u v list new → EndsAfter new
   taken u v [] new never = absurd never
   taken u v (wired.Short bytes ∷ rest) new e = subst EndsAfter (sym e) inv.ends
   taken u v (wired.Packet p ∷ rest) new (reports, reported, e) =
       subst EndsAfter (sym e)
       (session_changed v (session_after (w.sessions v) u p) (after_heard plan w.stations v u p (w.sessions v) (inv.ends v)))
+  taken u v (wired.Alone f bytes ∷ rest) new e = subst EndsAfter (sym e) inv.ends
 
   lost : (u v : ℕ) (list : List Wired) (new : World) → LostFrom w u v list new → EndsAfter new
   lost u v [] new never = absurd never
@@ -131,6 +143,7 @@ module _ (plan : Plan) (w : World) (inv : HasEnds plan w) where
   step_ends (Give u v) allowed new leads = gives u v allowed (w.claims u v) new leads
   step_ends (Ask u) allowed new e = subst EndsAfter (sym e) (claims_keep (Ask u) tt allowed w.stations)
   step_ends (Begin f bytes) allowed new leads = begins_at f (slice_get (flows_of plan) f) bytes.items refl allowed new leads
+  step_ends (Send f bytes) allowed new leads = sends_at f (slice_get (flows_of plan) f) bytes.items new leads
   step_ends (Emit u) allowed new (s, p, session, next, e) =
       subst EndsAfter (sym e) (session_changed u (Some (record s { stage = sender.after_packet (dest_of s.to) s.stage })) (ends_of u s session))
   step_ends (Take u v) allowed new leads = taken u v (w.wire u v) new leads
@@ -163,6 +176,11 @@ module _ (plan : Plan) (w : World) (inv : HasEnds plan w) where
       begun : (o : Option Flow) → BeginsAt (count_of plan) w f o bytes.items after → after.stations ≡ w.stations
       begun None never = absurd never
       begun (Some flow) e = ap (λ (x : World). x.stations) e
+  same_stations sends (Send f bytes) allowed after leads = sent (slice_get (flows_of plan) f) leads
+    where
+      sent : (o : Option Flow) → SendsAt (count_of plan) w f o bytes.items after → after.stations ≡ w.stations
+      sent None never = absurd never
+      sent (Some flow) e = ap (λ (x : World). x.stations) e
   same_stations sends (Emit u) allowed after (s, p, session, next, e) = ap (λ (x : World). x.stations) e
   same_stations sends (Take u v) allowed after leads = took (w.wire u v) leads
     where
@@ -170,6 +188,7 @@ module _ (plan : Plan) (w : World) (inv : HasEnds plan w) where
       took [] never = absurd never
       took (wired.Short bytes ∷ rest) e = ap (λ (x : World). x.stations) e
       took (wired.Packet p ∷ rest) (reports, reported, e) = ap (λ (x : World). x.stations) e
+      took (wired.Alone f bytes ∷ rest) e = ap (λ (x : World). x.stations) e
   same_stations sends (Lose u v) allowed after leads = gone (w.wire u v) leads
     where
       gone : (list : List Wired) → LostFrom w u v list after → after.stations ≡ w.stations

@@ -9,7 +9,7 @@ use Rattle.j39_findings.specs.declared.plan.Plan.{Plan}
 use Rattle.j39_findings.specs.declared.plan.to.To.{To}
 use Rattle.j39_findings.specs.declared.plan.to.To.TheVariants.{All, One}
 use Rattle.j39_findings.specs.declared.steps.Step.{Step}
-use Rattle.j39_findings.specs.declared.steps.Step.TheVariants.{Up, Down, Give, Ask, Begin, Emit, Take, Lose, LateSender, LateReceiver, Rest}
+use Rattle.j39_findings.specs.declared.steps.Step.TheVariants.{Up, Down, Give, Ask, Begin, Send, Emit, Take, Lose, LateSender, LateReceiver, Rest}
 use Rattle.j39_world.specs.declared.flow.Flow.{Flow}
 use Rattle.j39_world.specs.declared.wired.Wired.{Wired}
 use Rattle.j39_world.specs.declared.wired.Wired.TheVariants as wired
@@ -20,12 +20,10 @@ use Rattle.j39_world.specs.PlannedUnits.{units_of}
 use Rattle.j39_world.specs.Run.{StepsTo, count_of}
 use Rattle.j39_world.specs.Sent.{Sent, sent_of}
 use Rattle.j39_world.specs.SoundPlan.{Always}
-use Rattle.j39_world.specs.TransferSteps.{BeginsAt, LostFrom, TakenFrom}
+use Rattle.j39_world.specs.TransferSteps.{BeginsAt, SendsAt, LostFrom, TakenFrom}
 use Rattle.j39_world.specs.World.{World, all_off}
 use Rattle.j39_laws.proofs.Runs.Always.{IsPreserved, always}
-use Rattle.j39_follow.specs.Who.{IsWho}
-use Rattle.j39_follow.specs.declared.who.Who.TheVariants.{Holder}
-use Rattle.j39_traces.specs.Between.{AreJoined, ComesTo, EachGoesBetweenUnits, GoesToHolder, FlowGoes, IsOfStep, IsSentBehind, IsSentBy}
+use Rattle.j39_traces.specs.Between.{AreJoined, ComesTo, EachGoesBetweenUnits, GoesToHolder, FlowGoes, IsOfStep, IsSentBehind, IsSentBy, StandsBehind}
 use Rattle.j39_traces.specs.Telling.{HaveOwnNumbers}
 use Rattle.j39_traces.proofs.Between.{step_goes}
 use Rattle.j39_traces.proofs.Ends.{HasEnds, all_ends, ends_keep}
@@ -69,10 +67,15 @@ module _ (plan : Plan) (w : World) where
   begun_grows k None bytes new never = absurd never
   begun_grows k (Some flow) bytes new e = (_, ap (λ (x : World). x.frames) e)
 
+  sent_grows : (k : ℕ) (o : Option Flow) (bytes : List ℕ) (new : World) → SendsAt (count_of plan) w k o bytes new → Grows w new
+  sent_grows k None bytes new never = absurd never
+  sent_grows k (Some flow) bytes new e = (_, ap (λ (x : World). x.frames) e)
+
   taken_grows : (u v : ℕ) (list : List Wired) (new : World) → TakenFrom (windows_of plan) w u v list new → Grows w new
   taken_grows u v [] new never = absurd never
   taken_grows u v (wired.Short bytes ∷ rest) new e = stays w new (ap (λ (x : World). x.frames) e)
   taken_grows u v (wired.Packet p ∷ rest) new (reports, reported, e) = (_, ap (λ (x : World). x.frames) e)
+  taken_grows u v (wired.Alone f bytes ∷ rest) new e = stays w new (ap (λ (x : World). x.frames) e)
 
   lost_grows : (u v : ℕ) (list : List Wired) (new : World) → LostFrom w u v list new → Grows w new
   lost_grows u v [] new never = absurd never
@@ -84,6 +87,7 @@ module _ (plan : Plan) (w : World) where
   grows (Give u v) new leads = given_grows u v (w.claims u v) new leads
   grows (Ask u) new e = (_, ap (λ (x : World). x.frames) e)
   grows (Begin k bytes) new leads = begun_grows k (slice_get (flows_of plan) k) bytes.items new leads
+  grows (Send k bytes) new leads = sent_grows k (slice_get (flows_of plan) k) bytes.items new leads
   grows (Emit u) new (s, p, session, next, e) = (_, ap (λ (x : World). x.frames) e)
   grows (Take u v) new leads = taken_grows u v (w.wire u v) new leads
   grows (Lose u v) new leads = lost_grows u v (w.wire u v) new leads
@@ -101,7 +105,7 @@ record IsLogged (plan : Plan) (w : World) : Type 0 where
 comes_to : (plan : Plan) (w : World) (log : List Frame) (to : To) (i : Ident) → GoesToHolder plan w log to i → ComesTo plan log to i
 comes_to plan w log All i goes = goes
 comes_to plan w log (One v) i (a, at, inl two) = inl two
-comes_to plan w log (One v) i (a, at, inr same) = inr (subst (λ (k : ℕ). IsWho plan log k (Holder v)) (sym same) at.told)
+comes_to plan w log (One v) i (a, at, inr same) = inr (subst (λ (k : ℕ). StandsBehind plan log v k) (sym same) at.told)
 
 -- whoever sends by a step, a flow joins it with those that this is for
 joins : (plan : Plan) (w : World) (step : Step) (u : ℕ) (to : To) (i : Ident) → IsSentBy plan w step u to → IsOfStep plan step i → AreJoined plan u to i
@@ -110,6 +114,7 @@ joins plan w (Down x) u to i never group = absurd never
 joins plan w (Give x y) u to i never group = absurd never
 joins plan w (Ask x) u to i never group = absurd never
 joins plan w (Begin f bytes) u to i flow group = inl (f, flow, group)
+joins plan w (Send f bytes) u to i flow group = inl (f, flow, inl group)
 joins plan w (Emit x) u to i (same, (s, session, flow)) group = inl (s.flow, subst (λ (k : ℕ). FlowGoes plan s.flow k to) same flow, inr group)
 joins plan w (LateSender x) u to i (same, (s, session, flow)) group = inl (s.flow, subst (λ (k : ℕ). FlowGoes plan s.flow k to) same flow, inr group)
 joins plan w (Take x y) u to i (same, is, inl (s, session, flow)) group =

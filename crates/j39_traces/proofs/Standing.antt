@@ -1,16 +1,17 @@
 -- Units alone are on, what they hold is an address, and what they answer is what they hold.
-use Rattle.std.proofs.Common.{◌≡◌, ◌≢◌, ◌⊎◌, ℕ, ◌<◌, true, Option, Some, None, inl, inr, refl, sym, ap, subst, ◌∙◌, arith, nat_le}
+use Rattle.std.proofs.Common.{◌≡◌, ◌≢◌, ◌⊎◌, ℕ, ◌<◌, true, false, Option, Some, None, inl, inr, refl, sym, ap, subst, ◌∙◌, arith, nat_le}
 use Rattle.std.proofs.lemmas.Bool.{and_parts, leb-true, true≢false}
+use Rattle.std.specs.Bool.{MatchBool}
 use Rattle.j39_id.specs.Addresses.{in_pool, null_address}
 use Rattle.j39_claim.specs.declared.item.Item.{Item}
 use Rattle.j39_claim.specs.declared.item.Item.TheVariants.{Told, Request}
 use Rattle.j39_claim.specs.declared.item.Say.{Say}
 use Rattle.j39_claim.specs.declared.item.Say.TheVariants.{Claim, Cannot}
-use Rattle.j39_claim.specs.ClaimRule.{Answers, ClaimState, PlannedUnit, claim_of, off, started}
+use Rattle.j39_claim.specs.ClaimRule.{Answers, ClaimState, PlannedUnit, Reacts, claim_of, off, started}
 use Rattle.j39_findings.specs.declared.plan.Plan.{Plan}
 use Rattle.j39_world.specs.PlannedUnits.{unit_at, units_of}
 use Rattle.j39_world.specs.Sent.{source_of}
-use Rattle.j39_world.specs.World.{Stations, Undelivered, all_off}
+use Rattle.j39_world.specs.World.{Stations, Undelivered, all_off, changed}
 use Rattle.j39_laws.proofs.Addresses.CleanUnits.{placed}
 use Rattle.j39_laws.proofs.Addresses.Notes.{claim_cases}
 use Rattle.j39_laws.proofs.Runs.Changed.{changed_each}
@@ -96,24 +97,48 @@ turned p s n item says new answers old a e = elim (turn p s n item says new answ
   | inr said ↦ elim (said.1 a e) [ inl held ↦ old a held | inr pool ↦ in_pool_below a pool ]
 ]
 
+-- one that doesn't claim is what it was
+pub turned_any : (p : PlannedUnit) (s : ClaimState) (n : ℕ) (item : Item) (says : Option Say) (new : ClaimState) → Reacts p s n item says new
+    → HoldsAddress s → HoldsAddress new
+turned_any p s n item says new reacts old =
+    elim (p.claims) as (λ b. MatchBool b (Answers p s n item says new) ((says ≡ None) × (new ≡ s)) → HoldsAddress new) [
+      | true ↦ λ answers. turned p s n item says new answers old
+      | false ↦ λ nothing. subst HoldsAddress (sym nothing.1) old
+    ] reacts
+
+-- a unit says nothing, or what it then holds
+pub said_held : (p : PlannedUnit) (s : ClaimState) (n : ℕ) (item : Item) (says : Option Say) (new : ClaimState) → Reacts p s n item says new
+    → (says ≡ None) ⊎ (says ≡ Some (claim_of new.address))
+said_held p s n item says new reacts =
+    elim (p.claims) as (λ b. MatchBool b (Answers p s n item says new) ((says ≡ None) × (new ≡ s)) → (says ≡ None) ⊎ (says ≡ Some (claim_of new.address))) [
+      | true ↦ λ answers. elim (turn p s n item says new answers) [ inl silent ↦ inl silent.0 | inr said ↦ inr said.0 ]
+      | false ↦ λ nothing. inl nothing.0
+    ] reacts
+
 pub preferred_below : (plan : Plan) (u : ℕ) → is_unit plan u ≡ true → (unit_at (units_of plan) u).preferred < null_address
 preferred_below plan u unit =
     let (p, is, at) = placed plan.keep_free plan.units.items u (in_units plan u unit) in
     rw at p.address_range
 
+stands_on : (plan : Plan) (stations : Stations) → ((x : ℕ) → HoldsAddress (stations x)) → (u : ℕ) → is_unit plan u ≡ true
+    → (x : ℕ) → HoldsAddress (changed stations u (started (unit_at (units_of plan) u)) x)
+stands_on plan stations hold u unit =
+    changed_each (λ x s. HoldsAddress s) stations u (started (unit_at (units_of plan) u))
+    (λ a e. subst (λ (k : ℕ). k < null_address) (some_same (unit_at (units_of plan) u).preferred a e) (preferred_below plan u unit)) hold
+
 pub standing_keeps : (plan : Plan) → IsKeptByClaimSteps plan (AreStanding plan)
 standing_keeps plan = record {
-  switched_on = λ stations claims here u unit. (
-    units_on plan stations u (started (unit_at (units_of plan) u)) unit here.0,
-    changed_each (λ x s. HoldsAddress s) stations u (started (unit_at (units_of plan) u))
-        (λ a e. subst (λ (k : ℕ). k < null_address) (some_same (unit_at (units_of plan) u).preferred a e) (preferred_below plan u unit)) here.1,
-  );
+  switched_on = λ stations claims here u unit _.
+      (units_on plan stations u (started (unit_at (units_of plan) u)) unit here.0, stands_on plan stations here.1 u unit);
+  switched_on_silently = λ stations claims here u unit _.
+      (units_on plan stations u (started (unit_at (units_of plan) u)) unit here.0, stands_on plan stations here.1 u unit);
   switched_off = λ stations claims here u. (
     changed_each (λ x s. s.on ≡ true → is_unit plan x ≡ true) stations u off (λ on. absurd (true≢false (sym on))) here.0,
     changed_each (λ x s. HoldsAddress s) stations u off (λ a e. some_none a e) here.1,
   );
-  asked = λ stations claims here u unit on. here;
-  given = λ stations claims here u v unit_u unit_v on item rest list says new answers. (
+  asked = λ stations claims here u unit _ on. here;
+  passed_over = λ stations claims here u v unit_u unit_v on _ item rest list. here;
+  given = λ stations claims here u v unit_u unit_v on _ item rest list says new answers. (
     units_on plan stations v new unit_v here.0,
     changed_each (λ x s. HoldsAddress s) stations v new
         (turned (unit_at (units_of plan) v) (stations v) (unit_at (units_of plan) u).name item says new answers (here.1 v)) here.1,

@@ -1,9 +1,9 @@
 -- Each step keeps that the frames tell who holds what.
-use Rattle.std.proofs.Common.{◌≡◌, ◌≢◌, ◌⊎◌, ℕ, suc, zero, ◌<◌, ◌^◌, ◌&&◌, eqb, true, false, List, [], ◌∷◌, ◌++◌, length, map, get_or, Option, Some, None}
+use Rattle.std.proofs.Common.{◌≡◌, ◌≢◌, ◌⊎◌, ℕ, suc, zero, ◌<◌, ◌^◌, ◌&&◌, cond, eqb, true, false, List, [], ◌∷◌, ◌++◌, length, map, get_or, Option, Some, None}
 use Rattle.std.proofs.Common.{inl, inr, refl, sym, ap, subst, ◌∙◌, arith}
 use Rattle.std.specs.List.{AllByRecursion, Contains, slice_get}
 use Rattle.std.specs.Option.{option_map, option_map_or}
-use Rattle.std.proofs.lemmas.Bool.{and_parts, cases_Bool, cases_eq, cond-false, cond_both, eqb-true, ne_eqb, not-false, true≢false}
+use Rattle.std.proofs.lemmas.Bool.{MatchBool-at_true, and_parts, cases_Bool, cases_eq, cond-false, cond_both, eqb-true, ne_eqb, not-false, true≢false}
 use Rattle.std.proofs.lemmas.List.{append-nil}
 use Rattle.std.proofs.lemmas.Option.{get_or_from_slice_get, slice_get-map, slice_get_within}
 use Rattle.j39_id.specs.Addresses.{null_address}
@@ -14,7 +14,7 @@ use Rattle.j39_claim.specs.declared.item.Item.{Item}
 use Rattle.j39_claim.specs.declared.item.Item.TheVariants.{Told, Request}
 use Rattle.j39_claim.specs.declared.item.Say.{Say}
 use Rattle.j39_claim.specs.declared.item.Say.TheVariants.{Claim}
-use Rattle.j39_claim.specs.ClaimRule.{Answers, ClaimState, PlannedUnit, claim_of, off, started}
+use Rattle.j39_claim.specs.ClaimRule.{ClaimState, PlannedUnit, Reacts, claim_of, off, said_by, started}
 use Rattle.j39_tp.specs.Sender as sender
 use Rattle.j39_tp.specs.declared.packet.Packet.{Packet}
 use Rattle.j39_tp.specs.declared.packet.Packet.TheVariants.{Rts, Cts, EndAck, Bam, Abort, Dt}
@@ -24,11 +24,11 @@ use Rattle.j39_findings.specs.declared.plan.group_plan.GroupPlan.{GroupPlan}
 use Rattle.j39_findings.specs.declared.plan.to.To.{To}
 use Rattle.j39_findings.specs.declared.plan.to.To.TheVariants.{All, One}
 use Rattle.j39_findings.specs.declared.steps.Step.{Step}
-use Rattle.j39_findings.specs.declared.steps.Step.TheVariants.{Up, Down, Give, Ask, Begin, Emit, Take, Lose, LateSender, LateReceiver, Rest}
+use Rattle.j39_findings.specs.declared.steps.Step.TheVariants.{Up, Down, Give, Ask, Begin, Send, Emit, Take, Lose, LateSender, LateReceiver, Rest}
 use Rattle.j39_world.specs.declared.flow.Flow.{Flow}
 use Rattle.j39_world.specs.declared.wired.Wired.{Wired}
 use Rattle.j39_world.specs.declared.wired.Wired.TheVariants as wired
-use Rattle.j39_world.specs.ClaimSteps.{GivenFrom, answer_items, asked as asks, heard_and_answered, switched_off, switched_on, told_to_others, without_lists_to}
+use Rattle.j39_world.specs.ClaimSteps.{GivenFrom, answer_items, asked as asks, asking_items, first_items, heard_and_answered, switched_off, switched_on, told_to_others, without_lists_to}
 use Rattle.j39_world.specs.Flows.{dest_of, flow_of, flows_of, is_short, windows_of}
 use Rattle.j39_world.specs.Opening.{AreNamesDistinct}
 use Rattle.j39_world.specs.PlannedUnits.{unit_at, units_of}
@@ -37,21 +37,21 @@ use Rattle.j39_world.specs.Sent.{Sent, frame_of, sent_of, source_of}
 use Rattle.j39_world.specs.SentTransfers.{address_of, destination_of, group_of, packet_frame, short_frame}
 use Rattle.j39_world.specs.Sound.{IsQuiet}
 use Rattle.j39_world.specs.SoundPlan.{Always, IsSending}
-use Rattle.j39_world.specs.TransferSteps.{BeginsAt, LostFrom, TakenFrom, first_frame}
+use Rattle.j39_world.specs.TransferSteps.{BeginsAt, SendsAt, LostFrom, TakenFrom, first_frame}
 use Rattle.j39_world.specs.World.{Stations, Undelivered, World, changed, changed_pair, all_off}
 use Rattle.j39_laws.proofs.Addresses.CleanUnits.{names_in_range}
 use Rattle.j39_laws.proofs.Addresses.Telling.{still, told}
 use Rattle.j39_laws.proofs.Reports.SoundReports.{reports_sound}
 use Rattle.j39_laws.proofs.Runs.Always.{IsPreserved, always}
 use Rattle.j39_laws.proofs.Runs.Changed.{changed_elsewhere, changed_here, pair_elsewhere}
-use Rattle.j39_laws.proofs.Runs.ClaimInvariants.{claim_steps_keep}
+use Rattle.j39_laws.proofs.Runs.ClaimInvariants.{asking_said, claim_steps_keep, first_said}
 use Rattle.j39_laws.proofs.Runs.Conditions.{is_unit, none_refuses, units_known}
 use Rattle.j39_laws.proofs.Runs.Units.{in_units, names_differ}
 use Rattle.j39_follow.specs.Holders.{HoldsByFrames}
 use Rattle.j39_traces.specs.Telling.{EachIsTold, FramesTellHolders, HaveOwnNumbers, IsStillToHear}
 use Rattle.j39_traces.proofs.Identifiers.{IsOther, carries_none, planned_other}
 use Rattle.j39_traces.proofs.Logs.{IsItemInRange, TellsNothing, asked, claimed, others, silent_keep, split, tells_nothing}
-use Rattle.j39_traces.proofs.Standing.{AreStanding, HoldsAddress, at_first, preferred_below, source_below, standing_keeps, turn, turned}
+use Rattle.j39_traces.proofs.Standing.{AreStanding, HoldsAddress, at_first, preferred_below, said_held, source_below, standing_keeps, turn, turned_any}
 
 some_same : (a b : ℕ) → Some a ≡ Some b → a ≡ b
 some_same a b e = cc
@@ -120,6 +120,22 @@ flow_other plan own k flow at =
     of_flow groups (Some x) e =
         subst (λ (y : Flow). IsOther y.pgn) (flow_same (flow_of plan.groups.items x) flow e) (of_group (slice_get plan.groups.items x.group) x.group refl)
 
+-- ---- what units say is an address
+
+-- what a unit says first
+pub first_below : (p : PlannedUnit) → p.preferred < null_address → AllByRecursion IsItemInRange (first_items p)
+first_below p less = elim (p.claims) as (λ b. AllByRecursion IsItemInRange (answer_items (cond b (Some (Claim p.preferred)) None))) [
+  | true ↦ (less, tt)
+  | false ↦ tt
+]
+
+-- what one says that asks
+pub asking_below : (p : PlannedUnit) (say : Say) → IsItemInRange (Told say) → AllByRecursion IsItemInRange (asking_items (said_by p say))
+asking_below p say less = elim (p.claims) as (λ b. AllByRecursion IsItemInRange (asking_items (cond b (Some say) None))) [
+  | true ↦ (tt, (less, tt))
+  | false ↦ tt
+]
+
 -- ---- in each world
 
 in_rest : (x y : Item) (xs : List Item) → Contains (x ∷ xs) y → x ≢ y → Contains xs y
@@ -146,11 +162,12 @@ module _ (plan : Plan) (distinct : AreNamesDistinct (units_of plan)) (own : Have
 
   -- a step that tells nothing of addresses
   silent_step : (more : List Sent) (new : List Sent) → new ≡ w.frames ++ more → ((tail : List Frame) → map sent_of tail ≡ more → AllByRecursion TellsNothing tail)
-      → (log : List Frame) → map sent_of log ≡ new → (u a : ℕ) → (w.stations u).on ≡ true → (w.stations u).address ≡ Some a
+      → (log : List Frame) → map sent_of log ≡ new → (u a : ℕ) → (unit_at units u).claims ≡ true → (w.stations u).on ≡ true
+      → (w.stations u).address ≡ Some a
       → HoldsByFrames log (name u) a ⊎ IsStillToHear w.claims u a
-  silent_step more new is silent log e u a on address =
+  silent_step more new is silent log e u a claims on address =
       let s = split sent_of log w.frames more (e ∙ is) in
-      elim (inv.tells s.0 s.3 u a on address) [
+      elim (inv.tells s.0 s.3 u a claims on address) [
         | inl holds ↦ inl (subst (λ (l : List Frame). HoldsByFrames l (name u) a) (sym s.2) (silent_keep s.0 s.1 (name u) a (silent s.1 s.4) holds))
         | inr hears ↦ inr hears
       ]
@@ -159,14 +176,14 @@ module _ (plan : Plan) (distinct : AreNamesDistinct (units_of plan)) (own : Have
   module _ (v : ℕ) (unit_v : is_unit plan v ≡ true) (held : Option ℕ) (source : source_of held < 256) (stations : Stations) (mid : Undelivered)
       (items : List Item) (all : AllByRecursion IsItemInRange items) where
     other_unit : (log : List Frame) → map sent_of log ≡ w.frames ++ map (frame_of (name v) held) items → (x a : ℕ) → x ≢ v
-        → (stations x).on ≡ true → (w.stations x).on ≡ true → (w.stations x).address ≡ Some a
+        → (unit_at units x).claims ≡ true → (stations x).on ≡ true → (w.stations x).on ≡ true → (w.stations x).address ≡ Some a
         → ((y : ℕ) → Contains (w.claims y x) (Told (Claim a)) → Contains (mid y x) (Told (Claim a)))
         → HoldsByFrames log (name x) a ⊎ IsStillToHear (told_to_others stations mid v items) x a
-    other_unit log e x a other on was_on address kept =
+    other_unit log e x a other claims on was_on address kept =
         let s = split sent_of log w.frames (map (frame_of (name v) held) items) e in
         let unit_x = inv.standing.0 x was_on in
         let apart = names_differ units distinct x v (in_units plan x unit_x) (in_units plan v unit_v) other in
-        elim (inv.tells s.0 s.3 x a was_on address) [
+        elim (inv.tells s.0 s.3 x a claims was_on address) [
           | inl holds ↦
               elim (others (name v) (range v unit_v) held source s.0 s.1 items (name x) a apart all s.4 holds) [
                 | inl keeps ↦ inl (subst (λ (l : List Frame). HoldsByFrames l (name x) a) (sym s.2) keeps)
@@ -181,32 +198,35 @@ module _ (plan : Plan) (distinct : AreNamesDistinct (units_of plan)) (own : Have
   start u = started (unit_at units u)
 
   up_tells : (u : ℕ) → is_unit plan u ≡ true → FramesTellHolders plan (switched_on units w u)
-  up_tells u unit log e x a on address =
+  up_tells u unit log e x a claims on address =
       let now : Stations = changed w.stations u (start u) in
       let less = preferred_below plan u unit in
       let held : Option ℕ = (now u).address in
       let source : source_of held < 256 =
       subst (λ (s : ClaimState). source_of s.address < 256) (sym (changed_here w.stations u (start u))) (omega (arith, less)) in
-      let items : List Item = Told (Claim (unit_at units u).preferred) ∷ [] in
+      let items : List Item = first_items (unit_at units u) in
       elim (cases_eq x u) [
         | inl same ↦
             let here : (now x).address ≡ Some (unit_at units u).preferred =
             ap (λ (k : ℕ). (now k).address) same ∙ ap (λ (s : ClaimState). s.address) (changed_here w.stations u (start u)) in
             let is : (unit_at units u).preferred ≡ a = some_same (unit_at units u).preferred a (sym here ∙ address) in
             let s = split sent_of log w.frames (map (frame_of (name u) held) items) e in
+            let claiming : (unit_at units u).claims ≡ true = ap (λ (k : ℕ). (unit_at units k).claims) (sym same) ∙ claims in
+            let frames : map sent_of s.1 ≡ frame_of (name u) held (Told (Claim (unit_at units u).preferred)) ∷ [] =
+            s.4 ∙ ap (map (frame_of (name u) held)) (first_said (unit_at units u) claiming) in
             inl (subst (λ (k : ℕ). HoldsByFrames log (name k) a) (sym same)
             (subst (λ (k : ℕ). HoldsByFrames log (name u) k) is
             (subst (λ (l : List Frame). HoldsByFrames l (name u) (unit_at units u).preferred) (sym s.2)
-            (claimed (name u) (range u unit) held source s.0 s.1 (unit_at units u).preferred less s.4))))
+            (claimed (name u) (range u unit) held source s.0 s.1 (unit_at units u).preferred less frames))))
         | inr other ↦
             let before : now x ≡ w.stations x = changed_elsewhere w.stations u (start u) x other in
-            other_unit u unit held source now (without_lists_to u w.claims) items (less, tt) log e x a other on
+            other_unit u unit held source now (without_lists_to u w.claims) items (first_below (unit_at units u) less) log e x a other claims on
             (sym (ap (λ (s : ClaimState). s.on) before) ∙ on) (sym (ap (λ (s : ClaimState). s.address) before) ∙ address)
             (λ y claim. subst (λ (xs : List Item). Contains xs (Told (Claim a))) (sym (cond-false (eqb x u) [] (w.claims y x) (ne_eqb x u other))) claim)
       ]
 
   down_tells : (u : ℕ) → FramesTellHolders plan (switched_off w u)
-  down_tells u log e x a on address =
+  down_tells u log e x a claims on address =
       elim (cases_eq x u) [
         | inl same ↦
             let here : (changed w.stations u off x).on ≡ false =
@@ -214,7 +234,7 @@ module _ (plan : Plan) (distinct : AreNamesDistinct (units_of plan)) (own : Have
             absurd (true≢false (sym on ∙ here))
         | inr other ↦
             let before : changed w.stations u off x ≡ w.stations x = changed_elsewhere w.stations u off x other in
-            elim (inv.tells log e x a (sym (ap (λ (s : ClaimState). s.on) before) ∙ on) (sym (ap (λ (s : ClaimState). s.address) before) ∙ address)) [
+            elim (inv.tells log e x a claims (sym (ap (λ (s : ClaimState). s.on) before) ∙ on) (sym (ap (λ (s : ClaimState). s.address) before) ∙ address)) [
               | inl holds ↦ inl holds
               | inr (y, claim) ↦
                   inr (y, subst (λ (xs : List Item). Contains xs (Told (Claim a))) (sym (cond-false (eqb x u) [] (w.claims y x) (ne_eqb x u other))) claim)
@@ -226,26 +246,28 @@ module _ (plan : Plan) (distinct : AreNamesDistinct (units_of plan)) (own : Have
   item_below (Some a) below = below a refl
 
   ask_tells : (u : ℕ) → is_unit plan u ≡ true → FramesTellHolders plan (asks units w u)
-  ask_tells u unit log e x a on address =
+  ask_tells u unit log e x a claims on address =
       let held : Option ℕ = (w.stations u).address in
       let below = inv.standing.1 u in
       let source = source_below (w.stations u) below in
-      let items : List Item = Request ∷ Told (claim_of held) ∷ [] in
+      let items : List Item = asking_items (said_by (unit_at units u) (claim_of held)) in
       elim (cases_eq x u) [
         | inl same ↦
             let here : held ≡ Some a = ap (λ (k : ℕ). (w.stations k).address) (sym same) ∙ address in
             let s = split sent_of log w.frames (map (frame_of (name u) held) items) e in
             let frames : map sent_of s.1 ≡ frame_of (name u) held Request ∷ frame_of (name u) held (Told (Claim a)) ∷ [] =
-            s.4 ∙ ap (λ (o : Option ℕ). frame_of (name u) held Request ∷ frame_of (name u) held (Told (claim_of o)) ∷ []) here in
+            s.4 ∙ ap (map (frame_of (name u) held)) (asking_said (unit_at units u) (claim_of held) (ap (λ (k : ℕ). (unit_at units k).claims) (sym same) ∙ claims))
+            ∙ ap (λ (o : Option ℕ). frame_of (name u) held Request ∷ frame_of (name u) held (Told (claim_of o)) ∷ []) here in
             inl (subst (λ (k : ℕ). HoldsByFrames log (name k) a) (sym same)
             (subst (λ (l : List Frame). HoldsByFrames l (name u) a) (sym s.2)
             (asked (name u) (range u unit) held source s.0 s.1 Request a (below a here) frames)))
         | inr other ↦
-            other_unit u unit held source w.stations w.claims items (tt, (item_below held below, tt)) log e x a other on on address (λ y claim. claim)
+            other_unit u unit held source w.stations w.claims items (asking_below (unit_at units u) (claim_of held) (item_below held below)) log e x a other
+            claims on on address (λ y claim. claim)
       ]
 
   module _ (u v : ℕ) (unit_v : is_unit plan v ≡ true) (item : Item) (rest : List Item) (list : w.claims u v ≡ item ∷ rest) (says : Option Say)
-      (new : ClaimState) (answers : Answers (unit_at units v) (w.stations v) (name u) item says new) (on_v : (w.stations v).on ≡ true)
+      (new : ClaimState) (reacts : Reacts (unit_at units v) (w.stations v) (name u) item says new) (on_v : (w.stations v).on ≡ true)
       (below : HoldsAddress new) where
     abbrev now : Stations
     now = changed w.stations v new
@@ -273,20 +295,20 @@ module _ (plan : Plan) (distinct : AreNamesDistinct (units_of plan)) (own : Have
         (λ _. had)
 
     items_below : AllByRecursion IsItemInRange items
-    items_below = elim (turn (unit_at units v) (w.stations v) (name u) item says new answers) [
-      | inl silent ↦ subst (λ (o : Option Say). AllByRecursion IsItemInRange (answer_items o)) (sym silent.0) tt
-      | inr said ↦ subst (λ (o : Option Say). AllByRecursion IsItemInRange (answer_items o)) (sym said.0) (item_below new.address below, tt)
+    items_below = elim (said_held (unit_at units v) (w.stations v) (name u) item says new reacts) [
+      | inl silent ↦ subst (λ (o : Option Say). AllByRecursion IsItemInRange (answer_items o)) (sym silent) tt
+      | inr said ↦ subst (λ (o : Option Say). AllByRecursion IsItemInRange (answer_items o)) (sym said) (item_below new.address below, tt)
     ]
 
-    -- the unit that heard
-    itself : (log : List Frame) → map sent_of log ≡ w.frames ++ map (frame_of (name v) held) items → (a : ℕ) → new.address ≡ Some a
+    -- the unit that heard, which claims
+    itself : (unit_at units v).claims ≡ true → (log : List Frame) → map sent_of log ≡ w.frames ++ map (frame_of (name v) held) items → (a : ℕ) → new.address ≡ Some a
         → HoldsByFrames log (name v) a ⊎ IsStillToHear (told_to_others now mid v items) v a
-    itself log e a address = elim (turn (unit_at units v) (w.stations v) (name u) item says new answers) [
+    itself claims log e a address = elim (turn (unit_at units v) (w.stations v) (name u) item says new (MatchBool-at_true _ _ claims reacts)) [
       | inl silent ↦
           let none : map sent_of log ≡ w.frames =
           e ∙ ap (λ (o : Option Say). w.frames ++ map (frame_of (name v) held) (answer_items o)) silent.0 ∙ append-nil w.frames in
           let was : (w.stations v).address ≡ Some a = sym silent.1 ∙ address in
-          elim (inv.tells log none v a on_v was) [
+          elim (inv.tells log none v a claims on_v was) [
             | inl holds ↦ inl holds
             | inr (y, claim) ↦ inr (y, still now mid v items y v (Told (Claim a)) (kept_list y a (silent.2 a was) claim))
           ]
@@ -300,13 +322,14 @@ module _ (plan : Plan) (distinct : AreNamesDistinct (units_of plan)) (own : Have
     ]
 
     give_tells : FramesTellHolders plan (heard_and_answered units w u v rest says new)
-    give_tells log e x a on address = elim (cases_eq x v) [
+    give_tells log e x a claims on address = elim (cases_eq x v) [
       | inl same ↦
           let here : new.address ≡ Some a = sym held_is ∙ ap (λ (k : ℕ). (now k).address) (sym same) ∙ address in
-          subst (λ (k : ℕ). HoldsByFrames log (name k) a ⊎ IsStillToHear (told_to_others now mid v items) k a) (sym same) (itself log e a here)
+          subst (λ (k : ℕ). HoldsByFrames log (name k) a ⊎ IsStillToHear (told_to_others now mid v items) k a) (sym same)
+          (itself (ap (λ (k : ℕ). (unit_at units k).claims) (sym same) ∙ claims) log e a here)
       | inr other ↦
           let before : now x ≡ w.stations x = changed_elsewhere w.stations v new x other in
-          other_unit v unit_v held source now mid items items_below log e x a other on
+          other_unit v unit_v held source now mid items items_below log e x a other claims on
           (sym (ap (λ (s : ClaimState). s.on) before) ∙ on) (sym (ap (λ (s : ClaimState). s.address) before) ∙ address)
           (λ y claim. subst (λ (xs : List Item). Contains xs (Told (Claim a))) (sym (pair_elsewhere w.claims u v rest y x (λ _ same. other same))) claim)
     ]
@@ -326,9 +349,9 @@ module _ (plan : Plan) (distinct : AreNamesDistinct (units_of plan)) (own : Have
       give_from : (u v : ℕ) → is_unit plan u ≡ true → is_unit plan v ≡ true → (w.stations v).on ≡ true → (list : List Item) → w.claims u v ≡ list
           → (new : World) → GivenFrom units w u v list new → FramesTellHolders plan new
       give_from u v unit_u unit_v on [] is new never = absurd never
-      give_from u v unit_u unit_v on (item ∷ rest) is new (says, s, answers, e) =
+      give_from u v unit_u unit_v on (item ∷ rest) is new (says, s, reacts, e) =
           subst (FramesTellHolders plan) (sym e)
-          (give_tells u v unit_v item rest is says s answers on (turned (unit_at units v) (w.stations v) (name u) item says s answers (inv.standing.1 v)))
+          (give_tells u v unit_v item rest is says s reacts on (turned_any (unit_at units v) (w.stations v) (name u) item says s reacts (inv.standing.1 v)))
   step_tells (Ask u) allowed new e =
       let (known, more) = none_refuses plan w (Ask u) allowed in
       subst (FramesTellHolders plan) (sym e) (ask_tells u (not-false _ known))
@@ -353,6 +376,18 @@ module _ (plan : Plan) (distinct : AreNamesDistinct (units_of plan)) (own : Have
           subst (FramesTellHolders plan) (sym e)
           (silent_step (first_frame w.stations flow bytes.items ∷ []) _ refl
           (one_silent (first_frame w.stations flow bytes.items) (first_silent flow (flow_other plan own f flow is) bytes.items)))
+  step_tells (Send f bytes) allowed new leads = send_tells (slice_get (flows_of plan) f) refl new leads
+    where
+      send_tells : (o : Option Flow) → slice_get (flows_of plan) f ≡ o → (new : World) → SendsAt (count_of plan) w f o bytes.items new
+          → FramesTellHolders plan new
+      send_tells None is new never = absurd never
+      send_tells (Some flow) is new e =
+          let d : ℕ = destination_of w.stations flow.to in
+          let s : ℕ = address_of w.stations flow.sender in
+          subst (FramesTellHolders plan) (sym e)
+          (silent_step (short_frame d s flow bytes.items ∷ []) _ refl
+          (one_silent (short_frame d s flow bytes.items) (λ frame at. short_silent frame d s flow bytes.items (flow_other plan own f flow is)
+          (destination_below flow.to) (source_below (w.stations flow.sender) (inv.standing.1 flow.sender)) at)))
   step_tells (Emit u) allowed new (s, p, session, next, e) =
       subst (FramesTellHolders plan) (sym e)
       (silent_step (packet_frame (destination_of w.stations s.to) (address_of w.stations u) p ∷ []) _ refl
@@ -363,6 +398,7 @@ module _ (plan : Plan) (distinct : AreNamesDistinct (units_of plan)) (own : Have
       take_tells : (list : List Wired) → (new : World) → TakenFrom (windows_of plan) w u v list new → FramesTellHolders plan new
       take_tells [] new never = absurd never
       take_tells (wired.Short bytes ∷ rest) new e = subst (FramesTellHolders plan) (sym e) inv.tells
+      take_tells (wired.Alone k bytes ∷ rest) new e = subst (FramesTellHolders plan) (sym e) inv.tells
       take_tells (wired.Packet p ∷ rest) new (reports, reported, e) =
           subst (FramesTellHolders plan) (sym e)
           (silent_step _ _ refl (packets_silent (address_of w.stations u) (address_of w.stations v) (source_below (w.stations u) (inv.standing.1 u))
@@ -392,7 +428,7 @@ told_keep plan distinct own w inv step allowed new leads = record {
 pub all_told : (plan : Plan) → AreNamesDistinct (units_of plan) → HaveOwnNumbers plan → Always plan (AreTold plan)
 all_told plan distinct own =
     always plan (AreTold plan)
-    (record { standing = at_first plan; tells = λ log is u a on. absurd (true≢false (sym on)) })
+    (record { standing = at_first plan; tells = λ log is u a claims on. absurd (true≢false (sym on)) })
     (told_keep plan distinct own)
 
 pub frames_tell : (plan : Plan) → AreNamesDistinct (units_of plan) → HaveOwnNumbers plan → Always plan (FramesTellHolders plan)
@@ -400,16 +436,16 @@ frames_tell plan distinct own steps w run = (all_told plan distinct own steps w 
 
 pub quiet_frames_tell : (plan : Plan) → AreNamesDistinct (units_of plan) → HaveOwnNumbers plan
     → Always plan (λ w. IsQuiet w.claims → EachIsTold plan w)
-quiet_frames_tell plan distinct own steps w run quiet log is u a on address =
-    elim (frames_tell plan distinct own steps w run log is u a on address) [
+quiet_frames_tell plan distinct own steps w run quiet log is u a claims on address =
+    elim (frames_tell plan distinct own steps w run log is u a claims on address) [
       | inl holds ↦ holds
       | inr (v, claim) ↦ absurd ((quiet v u).0 a claim)
     ]
 
 -- while a message is sent nothing is undelivered
 pub sent_frames_tell : (plan : Plan) → AreNamesDistinct (units_of plan) → HaveOwnNumbers plan → Always plan (λ w. IsSending w → EachIsTold plan w)
-sent_frames_tell plan distinct own steps w run (sender, o, is) log of u a on address =
-    elim (frames_tell plan distinct own steps w run log of u a on address) [
+sent_frames_tell plan distinct own steps w run (sender, o, is) log of u a claims on address =
+    elim (frames_tell plan distinct own steps w run log of u a claims on address) [
       | inl holds ↦ holds
       | inr (v, claim) ↦
           let none : w.claims v u ≡ [] = (reports_sound plan steps w run).delivered sender o is v u in

@@ -10,10 +10,11 @@ use Rattle.j39_findings.specs.declared.plan.Plan.{Plan}
 use Rattle.j39_findings.specs.declared.plan.to.To.{To}
 use Rattle.j39_findings.specs.declared.plan.to.To.TheVariants.{All, One}
 use Rattle.j39_findings.specs.declared.steps.Step.{Step}
-use Rattle.j39_findings.specs.declared.steps.Step.TheVariants.{Begin, Emit, Take, LateSender, LateReceiver}
+use Rattle.j39_findings.specs.declared.steps.Step.TheVariants.{Begin, Send, Emit, Take, LateSender, LateReceiver}
 use Rattle.j39_text.specs.FrameText.{carries_name, requests_group}
 use Rattle.j39_world.specs.declared.flow.Flow.{Flow}
 use Rattle.j39_world.specs.Flows.{flows_of}
+use Rattle.j39_world.specs.PlannedUnits.{unit_at, units_of}
 use Rattle.j39_world.specs.Run.{Follows}
 use Rattle.j39_world.specs.Sent.{Sent, sent_of}
 use Rattle.j39_world.specs.SoundPlan.{IsSending}
@@ -38,6 +39,7 @@ SendsTo plan w u to = (s : Outgoing) × (w.sessions u ≡ Some s) × FlowGoes pl
 -- that is answered, one of the two being the sender of a message to the other alone
 abbrev pub IsSentBy : Plan → World → Step → ℕ → To → Type 0
 IsSentBy plan w (Begin f bytes) u to = FlowGoes plan f u to
+IsSentBy plan w (Send f bytes) u to = FlowGoes plan f u to
 IsSentBy plan w (Emit s) u to = (s ≡ u) × SendsTo plan w s to
 IsSentBy plan w (LateSender s) u to = (s ≡ u) × SendsTo plan w s to
 IsSentBy plan w (Take s r) u to = (r ≡ u) × (One s ≡ to) × (SendsTo plan w s (One r) ⊎ SendsTo plan w r (One s))
@@ -50,13 +52,19 @@ IsSentBy plan w _ u to = ⊥
 abbrev pub IsTransport : ℕ → Type 0
 IsTransport pgn = (pgn ≡ connection_management) ⊎ (pgn ≡ data_transfer)
 
--- a frame of the flow at this place of the plan has its group's number, or is a transport frame
-abbrev pub IsOfFlow : Plan → ℕ → Ident → Type 0
-IsOfFlow plan f i = ((flow : Flow) × (slice_get (flows_of plan) f ≡ Some flow) × (pgn_of i ≡ flow.pgn)) ⊎ IsTransport (pgn_of i)
+-- it has the number of the group of the flow at this place of the plan
+abbrev pub HasNumberOf : Plan → ℕ → Ident → Type 0
+HasNumberOf plan f i = (flow : Flow) × (slice_get (flows_of plan) f ≡ Some flow) × (pgn_of i ≡ flow.pgn)
 
--- what a step sends that begins a message is a frame of its flow; any other step sends transport frames
+-- a frame of the flow has this number, or is a transport frame
+abbrev pub IsOfFlow : Plan → ℕ → Ident → Type 0
+IsOfFlow plan f i = HasNumberOf plan f i ⊎ IsTransport (pgn_of i)
+
+-- what a step sends that begins a message is a frame of its flow, and one that is sent alone has its group's number; any other step sends
+-- transport frames
 abbrev pub IsOfStep : Plan → Step → Ident → Type 0
 IsOfStep plan (Begin f bytes) i = IsOfFlow plan f i
+IsOfStep plan (Send f bytes) i = HasNumberOf plan f i
 IsOfStep plan _ i = IsTransport (pgn_of i)
 
 -- ---- they hold addresses
@@ -74,11 +82,15 @@ pub record EndsKeepAddresses (plan : Plan) (w : World) : Type 0 where
 
 -- ---- their addresses
 
--- the unit is on and holds the address, and these frames tell so
+-- these frames tell that the unit stands behind the address, if it claims
+abbrev pub StandsBehind : Plan → List Frame → ℕ → ℕ → Type 0
+StandsBehind plan log u a = (unit_at (units_of plan) u).claims ≡ true → IsWho plan log a (Holder u)
+
+-- the unit is on and holds the address, and these frames tell so, if it claims
 pub record IsKnownAt (plan : Plan) (w : World) (log : List Frame) (u a : ℕ) : Type 0 where
   pub on : (w.stations u).on ≡ true
   pub holds : (w.stations u).address ≡ Some a
-  pub told : IsWho plan log a (Holder u)
+  pub told : StandsBehind plan log u a
 
 -- what is for all goes to all; what is for one unit goes to its address, unless its identifier names none (PDU2)
 abbrev pub GoesToHolder : Plan → World → List Frame → To → Ident → Type 0
@@ -116,17 +128,18 @@ AreJoined plan u to i =
     ((f : ℕ) × FlowGoes plan f u to × IsOfFlow plan f i)
     ⊎ ((f : ℕ) × (v : ℕ) × (to ≡ One v) × FlowGoes plan f v (One u) × IsTransport (pgn_of i))
 
--- it goes to all, or to an address behind which the one unit stands, if its identifier names any
+-- it goes to all, or to an address behind which the one unit stands, if its identifier names any and this unit claims
 abbrev pub ComesTo : Plan → List Frame → To → Ident → Type 0
 ComesTo plan log All i = is_to_all i ≡ true
-ComesTo plan log (One v) i = (is_pdu2 (pgn_of i) ≡ true) ⊎ IsWho plan log i.ps (Holder v)
+ComesTo plan log (One v) i = (is_pdu2 (pgn_of i) ≡ true) ⊎ StandsBehind plan log v i.ps
 
--- a unit stands behind the address from which it comes, and it goes to all, or to a unit that stands behind the address to which it goes
+-- a unit stands behind the address from which it comes, and it goes to all, or to a unit that stands behind the address to which it goes;
+-- of a unit that never claims the frames tell nothing
 pub record IsBetweenUnits (plan : Plan) (log : List Frame) (i : Ident) : Type 0 where
   pub sender : ℕ
   pub to : To
   pub joined : AreJoined plan sender to i
-  pub comes : IsWho plan log i.sa (Holder sender)
+  pub comes : StandsBehind plan log sender i.sa
   pub goes : ComesTo plan log to i
 
 -- so it is of each frame that was sent so far and doesn't tell of addresses, by the frames up to it

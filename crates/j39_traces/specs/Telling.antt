@@ -25,14 +25,14 @@ IsLogOf w log = map sent_of log ≡ w.frames
 abbrev pub IsStillToHear : Undelivered → ℕ → ℕ → Type 0
 IsStillToHear claims u a = (v : ℕ) × Contains (claims v u) (Told (Claim a))
 
--- the frames tell that each unit that is on holds its address, unless it has still to hear a claim of that address
+-- the frames tell that each unit that claims and is on holds its address, unless it has still to hear a claim of that address
 abbrev pub FramesTellHolders : Plan → World → Type 0
 FramesTellHolders plan w =
-    (log : List Frame) → IsLogOf w log → (u a : ℕ) → (w.stations u).on ≡ true → (w.stations u).address ≡ Some a
-    → HoldsByFrames log (unit_at (units_of plan) u).name a ⊎ IsStillToHear w.claims u a
+    (log : List Frame) → IsLogOf w log → (u a : ℕ) → (unit_at (units_of plan) u).claims ≡ true → (w.stations u).on ≡ true
+    → (w.stations u).address ≡ Some a → HoldsByFrames log (unit_at (units_of plan) u).name a ⊎ IsStillToHear w.claims u a
 
 -- they tell it of each
 abbrev pub EachIsTold : Plan → World → Type 0
 EachIsTold plan w =
-    (log : List Frame) → IsLogOf w log → (u a : ℕ) → (w.stations u).on ≡ true → (w.stations u).address ≡ Some a
-    → HoldsByFrames log (unit_at (units_of plan) u).name a
+    (log : List Frame) → IsLogOf w log → (u a : ℕ) → (unit_at (units_of plan) u).claims ≡ true → (w.stations u).on ≡ true
+    → (w.stations u).address ≡ Some a → HoldsByFrames log (unit_at (units_of plan) u).name a

@@ -11,6 +11,7 @@ const LINES: &str = "  up A
   give A B
   ask B
   begin 2 00FF1A
+  send 2 1AFF
   emit A
   take A B
   lose B A
@@ -41,6 +42,7 @@ fn each_step_has_its_line(rt: HostRuntime) -> Result<(), Fail> {
         Step::Give(0, 1),
         Step::Ask(1),
         Step::Begin(1, vec![in alloc; 0x00, 0xFF, 0x1A]?),
+        Step::Send(1, vec![in alloc; 0x1A, 0xFF]?),
         Step::Emit(0),
         Step::Take(0, 1),
         Step::Lose(1, 0),

@@ -1,6 +1,6 @@
 -- How messages arrive of which nothing is lost (SAE J1939-21, transport protocol functions): one that no receiver answers, to all or of
 -- one frame, whatever other messages go beside it and whatever is lost of them; and one of several frames to one unit, which answers it.
-use Rattle.std.specs.Prelude.{◌≡◌, ◌≢◌, ℕ, Bool, true, false, ◌⊎◌, List, [], ◌∷◌, ◌++◌, length, Option, None, Some}
+use Rattle.std.specs.Prelude.{◌≡◌, ◌≢◌, ℕ, Bool, true, false, ◌||◌, ◌⊎◌, List, [], ◌∷◌, ◌++◌, length, Option, None, Some}
 use Rattle.std.specs.List.{All, slice_get}
 use Rattle.j39_tp.specs.declared.sending.outcome.Outcome.{Outcome}
 use Rattle.j39_tp.specs.declared.sending.outcome.Outcome.TheVariants.{Sent, Acked}
@@ -12,7 +12,7 @@ use Rattle.j39_findings.specs.declared.steps.Step.TheVariants.{Begin, Emit, Take
 use Rattle.j39_world.specs.declared.flow.Flow.{Flow}
 use Rattle.j39_world.specs.declared.wired.Wired.{Wired}
 use Rattle.j39_world.specs.Flows.{flows_of, is_short}
-use Rattle.j39_world.specs.Resting.{is_of_sender, is_of_receiver}
+use Rattle.j39_world.specs.Resting.{is_alone, is_of_sender, is_of_receiver}
 use Rattle.j39_world.specs.Run.{count_of, begin_refusal, refusal, Follows}
 use Rattle.j39_world.specs.Sound.{reported}
 use Rattle.j39_world.specs.Transfers.{Outgoing, is_among}
@@ -32,13 +32,13 @@ pub record HasArrived (before after : World) (u : ℕ) (message : Outgoing) (out
 abbrev pub IsUnanswered : Flow → List ℕ → Type 0
 IsUnanswered flow bytes = (flow.to ≡ tos.All) ⊎ (is_short (length bytes) ≡ true)
 
--- the oldest of these, if there is one, passes
+-- the oldest of these, if there is one, passes, or was sent alone
 abbrev pub oldest_passes : (Wired → Bool) → List Wired → Bool
 oldest_passes test [] = true
-oldest_passes test (item ∷ rest) = test item
+oldest_passes test (item ∷ rest) = is_alone item || test item
 
 -- by the step nothing of u's message to these units is lost, none of them hears nothing of u in time, and u isn't idle; what u answers them
--- may be lost
+-- may be lost, and what it sends alone
 abbrev pub Spares : World → ℕ → List ℕ → Step → Type 0
 Spares w u targets (Lose s t) = s ≡ u → is_among targets t ≡ true → oldest_passes is_of_receiver (w.wire u t) ≡ true
 Spares w u targets (LateReceiver s t) = s ≡ u → is_among targets t ≡ true → ⊥

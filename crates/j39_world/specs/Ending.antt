@@ -3,18 +3,19 @@
 use Rattle.std.specs.Prelude.{◌≡◌, ℕ, ◌≤◌, List, [], ◌∷◌, length, All, Some}
 use Rattle.j39_findings.specs.declared.plan.Plan.{Plan}
 use Rattle.j39_findings.specs.declared.steps.Step.{Step}
-use Rattle.j39_findings.specs.declared.steps.Step.TheVariants.{Up, Down, Give, Ask, Begin}
+use Rattle.j39_findings.specs.declared.steps.Step.TheVariants.{Up, Down, Give, Ask, Begin, Send}
 use Rattle.j39_world.specs.Transfers.{Outgoing}
 use Rattle.j39_world.specs.World.{World}
 use Rattle.j39_world.specs.Run.{RunsThrough}
 
--- it goes on with what was begun: no unit is switched, tells or hears of addresses, and none begins a message
+-- it goes on with what was begun: no unit is switched, tells or hears of addresses, and none begins a message or sends one alone
 abbrev pub IsOfTransfers : Step → Type 0
 IsOfTransfers (Up u) = ⊥
 IsOfTransfers (Down u) = ⊥
 IsOfTransfers (Give u v) = ⊥
 IsOfTransfers (Ask u) = ⊥
 IsOfTransfers (Begin f bytes) = ⊥
+IsOfTransfers (Send f bytes) = ⊥
 IsOfTransfers _ = Unit {0}
 
 pub record TransfersEnd (plan : Plan) (w : World) : Type 0 where

@@ -30,7 +30,7 @@ pub record NeededMessage (plan : Plan) : Type 0 where
   pub place : ℕ
   pub flow : FlowPlan
   pub its : slice_get plan.flows.items place ≡ Some flow
-  pub meets : Meets need flow
+  pub meets : Meets plan.requests.items need flow
   pub group : GroupPlan
   pub of : slice_get plan.groups.items flow.group ≡ Some group
   pub count : ℕ

@@ -8,10 +8,16 @@ use Rattle.j39_world.specs.declared.wired.Wired.TheVariants as wired
 use Rattle.j39_world.specs.Transfers.{outcome_in}
 use Rattle.j39_world.specs.World.{World}
 
--- what a sender sends its receivers, and an Abort, which may be of either
+-- a frame that was sent alone
+abbrev pub is_alone : Wired → Bool
+is_alone (wired.Alone f bytes) = true
+is_alone _ = false
+
+-- what a sender sends its receivers, and an Abort, which may be of either; nobody waits for a frame that was sent alone
 abbrev pub is_of_sender : Wired → Bool
 is_of_sender (wired.Packet (Cts count first pgn)) = false
 is_of_sender (wired.Packet (EndAck size pgn)) = false
+is_of_sender (wired.Alone f bytes) = false
 is_of_sender _ = true
 
 -- what a receiver answers, and an Abort

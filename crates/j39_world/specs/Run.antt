@@ -10,19 +10,19 @@ use Rattle.j39_findings.specs.declared.plan.Plan.{Plan}
 use Rattle.j39_findings.specs.declared.plan.to.To.{To}
 use Rattle.j39_findings.specs.declared.plan.to.To.TheVariants.{All, One}
 use Rattle.j39_findings.specs.declared.steps.Step.{Step}
-use Rattle.j39_findings.specs.declared.steps.Step.TheVariants.{Up, Down, Give, Ask, Begin, Emit, Take, Lose, LateSender, LateReceiver, Rest}
+use Rattle.j39_findings.specs.declared.steps.Step.TheVariants.{Up, Down, Give, Ask, Begin, Send, Emit, Take, Lose, LateSender, LateReceiver, Rest}
 use Rattle.j39_world.specs.declared.step_error.StepError.{StepError}
 use Rattle.j39_world.specs.declared.step_error.StepError.TheVariants.{UnknownUnit, NoSuchFlow, NotStarted, AlreadyStarted, NothingUndelivered, TransferOpen}
 use Rattle.j39_world.specs.declared.step_error.StepError.TheVariants.{NotSettled, NoAddress}
 use Rattle.j39_world.specs.declared.step_error.StepError.TheVariants.{Busy, WrongLength, NothingToSend, NoSession, CannotRest, Memory}
 use Rattle.j39_world.specs.PlannedUnits.{units_of}
-use Rattle.j39_world.specs.Flows.{flows_of, windows_of, can_be_sent, has_length}
+use Rattle.j39_world.specs.Flows.{flows_of, windows_of, can_be_sent, has_length, is_short}
 use Rattle.j39_world.specs.declared.flow.Flow.{Flow}
 use Rattle.j39_world.specs.Transfers.{Outgoing}
-use Rattle.j39_world.specs.World.{World, Stations, Undelivered}
+use Rattle.j39_world.specs.World.{World, Stations}
 use Rattle.j39_world.specs.ClaimSteps.{switched_on, switched_off, asked, GivenFrom}
 use Rattle.j39_world.specs.Resting.{can_rest}
-use Rattle.j39_world.specs.TransferSteps.{BeginsAt, Emits, TakenFrom, LostFrom, SenderTimesOut, receiver_timed_out, rested}
+use Rattle.j39_world.specs.TransferSteps.{BeginsAt, SendsAt, Emits, TakenFrom, LostFrom, SenderTimesOut, receiver_timed_out, rested}
 
 -- ---- what refusals ask
 
@@ -54,20 +54,29 @@ abbrev pub at_ends : (ℕ → Bool) → ℕ → To → Bool
 at_ends test u All = test u
 at_ends test u (One v) = both test u v
 
--- no unit is between its Begin and its Rest, or one is
-abbrev pub is_no_transfer_open : ℕ → World → Bool
-is_no_transfer_open count w = list_all (λ u. not (is_some (w.sessions u))) (range_with_len 0 count)
-
-abbrev pub is_a_transfer_open : ℕ → World → Bool
-is_a_transfer_open count w = not (is_no_transfer_open count w)
-
 -- nothing of this is left to deliver
 abbrev pub is_empty : {X : Type 0} → List X → Bool
 is_empty xs = not (nat_lt 0 (length xs))
 
--- no claim and no request is undelivered
-abbrev pub is_nothing_undelivered : ℕ → Undelivered → Bool
-is_nothing_undelivered count claims = list_all (λ u. list_all (λ v. length (claims u v) == 0) (range_with_len 0 count)) (range_with_len 0 count)
+-- nothing of this is undelivered between so many units: no claim and no request, or nothing of a message
+abbrev pub is_nothing_undelivered : {X : Type 0} → ℕ → (ℕ → ℕ → List X) → Bool
+is_nothing_undelivered count lists = list_all (λ u. list_all (λ v. length (lists u v) == 0) (range_with_len 0 count)) (range_with_len 0 count)
+
+-- no unit is between its Begin and its Rest
+abbrev pub is_none_sending : ℕ → World → Bool
+is_none_sending count w = list_all (λ u. not (is_some (w.sessions u))) (range_with_len 0 count)
+
+-- and nothing of a message is undelivered, or one of the two isn't so: a frame that was sent alone may lie where no unit sends a message
+abbrev pub is_no_transfer_open : ℕ → World → Bool
+is_no_transfer_open count w = is_none_sending count w && is_nothing_undelivered count w.wire
+
+abbrev pub is_a_transfer_open : ℕ → World → Bool
+is_a_transfer_open count w = not (is_no_transfer_open count w)
+
+-- this message is one of the group
+abbrev pub is_of_group : Option Outgoing → ℕ → Bool
+is_of_group None pgn = false
+is_of_group (Some s) pgn = s.pgn == pgn
 
 abbrev pub can_emit : Option Outgoing → Bool
 can_emit None = false
@@ -102,6 +111,18 @@ begin_refusals count w (Some flow) bytes =
     ∷ (WrongLength, not (has_length flow (length bytes)))
     ∷ []
 
+-- of these bytes by a flow in a frame that is sent alone: its group's messages stay in their order
+abbrev pub send_refusals : ℕ → World → Option Flow → List ℕ → List (StepError × Bool)
+send_refusals count w None bytes = (NoSuchFlow, true) ∷ []
+send_refusals count w (Some flow) bytes =
+    (NoSuchFlow, not (can_be_sent flow))
+    ∷ (NotStarted, not (at_ends (is_on w.stations) flow.sender flow.to))
+    ∷ (NotSettled, not (is_nothing_undelivered count w.claims))
+    ∷ (NoAddress, not (at_ends (has_address w.stations) flow.sender flow.to))
+    ∷ (Busy, is_of_group (w.sessions flow.sender) flow.pgn)
+    ∷ (WrongLength, not (has_length flow (length bytes) && is_short (length bytes)))
+    ∷ []
+
 -- of a step among so many units with these flows; want of memory is none of the world's
 abbrev pub step_refusals : ℕ → List Flow → World → Step → List (StepError × Bool)
 step_refusals count flows w (Up u) =
@@ -111,6 +132,7 @@ step_refusals count flows w (Give u v) =
     (UnknownUnit, either (is_unknown count) u v) ∷ (NotStarted, is_off w.stations v) ∷ (NothingUndelivered, is_empty (w.claims u v)) ∷ []
 step_refusals count flows w (Ask u) = unit_refusals count w.stations u ++ (TransferOpen, is_a_transfer_open count w) ∷ []
 step_refusals count flows w (Begin f bytes) = begin_refusals count w (slice_get flows f) bytes.items
+step_refusals count flows w (Send f bytes) = send_refusals count w (slice_get flows f) bytes.items
 step_refusals count flows w (Emit u) = unit_refusals count w.stations u ++ (NothingToSend, not (can_emit (w.sessions u))) ∷ []
 step_refusals count flows w (Take u v) = pair_refusals count w.stations u v ++ (NothingUndelivered, is_empty (w.wire u v)) ∷ []
 step_refusals count flows w (Lose u v) = pair_refusals count w.stations u v ++ (NothingUndelivered, is_empty (w.wire u v)) ∷ []
@@ -121,6 +143,9 @@ step_refusals count flows w (Rest u) = unit_refusals count w.stations u ++ (Cann
 -- the first that holds
 abbrev pub begin_refusal : ℕ → World → Option Flow → List ℕ → Option StepError
 begin_refusal count w flow bytes = first_fault (begin_refusals count w flow bytes)
+
+abbrev pub send_refusal : ℕ → World → Option Flow → List ℕ → Option StepError
+send_refusal count w flow bytes = first_fault (send_refusals count w flow bytes)
 
 abbrev pub refusal_among : ℕ → List Flow → World → Step → Option StepError
 refusal_among count flows w step = first_fault (step_refusals count flows w step)
@@ -149,6 +174,7 @@ StepsTo plan w (Down u) new = new ≡ switched_off w u
 StepsTo plan w (Give u v) new = GivenFrom (units_of plan) w u v (w.claims u v) new
 StepsTo plan w (Ask u) new = new ≡ asked (units_of plan) w u
 StepsTo plan w (Begin f bytes) new = BeginsAt (count_of plan) w f (slice_get (flows_of plan) f) bytes.items new
+StepsTo plan w (Send f bytes) new = SendsAt (count_of plan) w f (slice_get (flows_of plan) f) bytes.items new
 StepsTo plan w (Emit u) new = Emits w u new
 StepsTo plan w (Take u v) new = TakenFrom (windows_of plan) w u v (w.wire u v) new
 StepsTo plan w (Lose u v) new = LostFrom w u v (w.wire u v) new

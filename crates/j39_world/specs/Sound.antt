@@ -1,5 +1,5 @@
 -- What holds in every world of every run of a plan without findings: addresses are sound, and so are reports.
-use Rattle.std.specs.Prelude.{◌≡◌, ◌≢◌, ℕ, ◌&&◌, nat_eq, true, false, ◌⊎◌, List, [], ◌∷◌, ◌++◌, map, Some, Contains}
+use Rattle.std.specs.Prelude.{◌≡◌, ◌≢◌, ℕ, Bool, not, ◌&&◌, nat_eq, true, false, ◌⊎◌, List, [], ◌∷◌, ◌++◌, map, Some, Contains}
 use Rattle.std.specs.FinMap.{get}
 use Rattle.std.specs.FinSet.{contains}
 use Rattle.std.specs.List.{filter}
@@ -7,6 +7,7 @@ use Rattle.j39_tp.specs.declared.sending.outcome.Outcome.TheVariants.{Acked}
 use Rattle.j39_tp.specs.declared.sending.stage.Stage.TheVariants.{Resting}
 use Rattle.j39_findings.specs.declared.plan.to.To.TheVariants.{One}
 use Rattle.j39_world.specs.Transfers.{Outgoing, Begun, Reported}
+use Rattle.j39_world.specs.declared.wired.Wired.TheVariants.{Alone}
 use Rattle.j39_id.specs.Name.{is_arbitrary}
 use Rattle.j39_claim.specs.declared.item.Say.TheVariants.{Claim, Cannot}
 use Rattle.j39_claim.specs.declared.item.Item.TheVariants.{Told}
@@ -48,10 +49,16 @@ AreKeptFree plan w =
 
 -- ---- reports
 
--- what one unit reported of another, in order
+-- what one unit reported of another, in order: of messages that were begun, and of frames that were sent alone
+abbrev pub reports_of : (Reported → Bool) → List Reported → ℕ → ℕ → List Begun
+reports_of are reports v u =
+    map (λ r. record { flow = r.flow; bytes = r.bytes }) (filter (λ r. are r && (nat_eq r.receiver v && nat_eq r.sender u)) reports)
+
 abbrev pub reported : List Reported → ℕ → ℕ → List Begun
-reported reports v u =
-    map (λ r. record { flow = r.flow; bytes = r.bytes }) (filter (λ r. nat_eq r.receiver v && nat_eq r.sender u) reports)
+reported reports v u = reports_of (λ r. not r.alone) reports v u
+
+abbrev pub reported_alone : List Reported → ℕ → ℕ → List Begun
+reported_alone reports v u = reports_of (λ r. r.alone) reports v u
 
 -- the second list without some of its elements is the first
 abbrev pub IsSubsequence : List Begun → List Begun → Type 0
@@ -64,6 +71,16 @@ pub record AreReportsSound (w : World) : Type 0 where
   pub begun : (v u : ℕ) → IsSubsequence (reported w.reports v u) (w.begun u v)
   -- while a unit sends a message nothing is undelivered that could move an address
   pub delivered : (u : ℕ) (o : Outgoing) → w.sessions u ≡ Some o → (s t : ℕ) → w.claims s t ≡ []
+
+-- a frame that was sent alone is undelivered
+abbrev pub DoesOneLie : World → Type 0
+DoesOneLie w = (u : ℕ) × (v : ℕ) × (f : ℕ) × (bytes : List ℕ) × Contains (w.wire u v) (Alone f bytes)
+
+pub record AreSentFramesSound (w : World) : Type 0 where
+  -- what a unit reports of frames that another sent alone was sent by it, with this flow and these bytes, in this order, and nothing twice
+  pub sent : (v u : ℕ) → IsSubsequence (reported_alone w.reports v u) (w.sent_alone u v)
+  -- while one is undelivered nothing is undelivered that could move an address
+  pub delivered : DoesOneLie w → (s t : ℕ) → w.claims s t ≡ []
 
 -- a sender that rests acknowledged sends to one unit, and the last message that this one reported of it is the sender's
 abbrev pub IsAcknowledgedReported : World → Type 0

@@ -2,7 +2,7 @@
 -- differ stay, what units have noted of one another is right where no claim is undelivered, what it keeps free stays free, its claims die
 -- down, and its messages come to their end; one of which nothing is lost arrives; and what its units need is sent to them, and reads there
 -- as it was written.
-use Rattle.std.specs.Prelude.{◌≡◌, ℕ, List, Some}
+use Rattle.std.specs.Prelude.{◌≡◌, ℕ, ◌<◌, false, List, length, Some}
 use Rattle.j39_findings.specs.Needs.{AreNeedsMet}
 use Rattle.j39_findings.specs.SoundSignals.{SoundSignals}
 use Rattle.j39_findings.specs.declared.plan.Plan.{Plan}
@@ -11,12 +11,12 @@ use Rattle.j39_findings.specs.declared.steps.Step.{Step}
 use Rattle.j39_world.specs.Transfers.{Outgoing}
 use Rattle.j39_world.specs.World.{World, all_off}
 use Rattle.j39_world.specs.Run.{Run}
-use Rattle.j39_world.specs.PlannedUnits.{units_of}
+use Rattle.j39_world.specs.PlannedUnits.{unit_at, units_of}
 use Rattle.j39_world.specs.Settling.{Settles}
 use Rattle.j39_world.specs.Ending.{TransfersEnd}
 use Rattle.j39_world.specs.Arriving.{ArrivesUnanswered, ArrivesAnswered}
 use Rattle.j39_world.specs.Needed.{NeededValuesArrive}
-use Rattle.j39_world.specs.Sound.{AreAddressesSound, AreAddressesDifferent, AreNotesRight, AreKeptFree, IsQuiet, AreReportsSound, IsAcknowledgedReported}
+use Rattle.j39_world.specs.Sound.{AreAddressesSound, AreAddressesDifferent, AreNotesRight, AreKeptFree, IsQuiet, AreReportsSound, AreSentFramesSound, IsAcknowledgedReported}
 use Rattle.j39_world.specs.Staying.{ArePlannedApart, HoldsAlone, HoldsPlanned, IsAloneThere}
 use Rattle.j39_world.specs.Strangers.{HasStrangers}
 
@@ -42,6 +42,8 @@ pub record IsSound (plan : Plan) : Type 0 where
   pub planned : ArePlannedApart (units_of plan) → Always plan (λ w. (u : ℕ) → HoldsPlanned (units_of plan) w u)
   -- a unit that is alone at its planned address holds it while it is on, and no other one that is on does
   pub alone : Always plan (λ w. (u : ℕ) → IsAloneThere plan.keep_free (units_of plan) u → HoldsAlone (units_of plan) w u)
+  -- a unit that never claims holds its planned address while it is on, and no other one that is on does
+  pub silent : Always plan (λ w. (u : ℕ) → u < length (units_of plan) → (unit_at (units_of plan) u).claims ≡ false → HoldsAlone (units_of plan) w u)
   -- with strangers, addresses are sound too, and differ where no claim is undelivered
   pub strangers : AlwaysBeside plan AreAddressesSound
   pub strangers_quiet : AlwaysBeside plan (λ joined w. IsQuiet w.claims → AreAddressesDifferent w)
@@ -55,6 +57,8 @@ pub record IsSound (plan : Plan) : Type 0 where
   pub signals : SoundSignals plan
   -- what a unit reports of another was begun by that one, in this order, and nothing twice
   pub reports : Always plan AreReportsSound
+  -- what it reports of frames that were sent alone was sent by that one, in this order, and nothing twice, and no address moves meanwhile
+  pub sent_frames : Always plan AreSentFramesSound
   -- where a sender rests acknowledged, its receiver has reported the message
   pub acknowledged : Always plan IsAcknowledgedReported
   -- whoever goes on with messages comes to an end, where no unit is between its Begin and its Rest

@@ -1,6 +1,6 @@
 -- The steps of transfers (SAE J1939-21, transport protocol functions). What senders and receivers do is told by the rules of
 -- a sender and of a receiver; here is what becomes of it on a bus.
-use Rattle.std.specs.Prelude.{◌≡◌, ℕ, if◌then◌else◌, List, [], ◌∷◌, ◌++◌, length, map, Option, Some, None}
+use Rattle.std.specs.Prelude.{◌≡◌, ℕ, true, false, if◌then◌else◌, List, [], ◌∷◌, ◌++◌, length, map, Option, Some, None}
 use Rattle.std.specs.List.{range_with_len, filter}
 use Rattle.j39_tp.specs.Carried.{Carried}
 use Rattle.j39_tp.specs.Sender as sender
@@ -92,6 +92,21 @@ abbrev pub BeginsAt : ℕ → World → ℕ → Option Flow → List ℕ → Wor
 BeginsAt count w f None bytes new = ⊥
 BeginsAt count w f (Some flow) bytes new = new ≡ begins count w f flow bytes
 
+-- ---- a frame is sent alone
+
+-- the sender of flow f sends these bytes at once, in one frame, and goes on with whatever message it sends
+abbrev pub sends_alone : ℕ → World → ℕ → Flow → List ℕ → World
+sends_alone count w f flow bytes =
+    let targets : List ℕ = targets_of count w.stations flow.sender flow.to in
+    let frame : frames.Sent = short_frame (destination_of w.stations flow.to) (address_of w.stations flow.sender) flow bytes in
+    record (sent_to w flow.sender targets (wired.Alone f bytes) frame) {
+      sent_alone = added w.sent_alone flow.sender targets (record { flow = f; bytes = bytes });
+    }
+
+abbrev pub SendsAt : ℕ → World → ℕ → Option Flow → List ℕ → World → Type 0
+SendsAt count w f None bytes new = ⊥
+SendsAt count w f (Some flow) bytes new = new ≡ sends_alone count w f flow bytes
+
 -- ---- the sender goes on
 
 -- u sends the next data packet of its message
@@ -140,7 +155,11 @@ flow_in None = 0
 flow_in (Some s) = s.flow
 
 abbrev pub report : World → ℕ → ℕ → List ℕ → Reported
-report w u v bytes = record { receiver = v; sender = u; flow = flow_in (w.sessions u); bytes = bytes }
+report w u v bytes = record { receiver = v; sender = u; flow = flow_in (w.sessions u); bytes = bytes; alone = false }
+
+-- of a frame that was sent alone
+abbrev pub alone_report : ℕ → ℕ → ℕ → List ℕ → Reported
+alone_report u v f bytes = record { receiver = v; sender = u; flow = f; bytes = bytes; alone = true }
 
 -- what v's receiver for u does with a packet of u
 abbrev pub hearing : List ℕ → World → ℕ → ℕ → Packet → Progress × Heard
@@ -179,6 +198,8 @@ TakenFrom windows w u v (wired.Short bytes ∷ rest) new =
 TakenFrom windows w u v (wired.Packet p ∷ rest) new =
     (reports : List Reported) × Reports w u v p (hearing windows w u v p).1 reports
     × (new ≡ packet_taken windows w u v rest p reports)
+TakenFrom windows w u v (wired.Alone f bytes ∷ rest) new =
+    new ≡ record w { wire = changed_pair w.wire u v rest; reports = w.reports ++ alone_report u v f bytes ∷ [] }
 
 -- the oldest of these items of u to v is lost
 abbrev pub LostFrom : World → ℕ → ℕ → List Wired → World → Type 0

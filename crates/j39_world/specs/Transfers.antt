@@ -24,12 +24,13 @@ pub record Begun : Type 0 where
   pub flow : ℕ
   pub bytes : List ℕ
 
--- a message that was received whole
+-- a message that was received whole, and whether its frame was sent alone
 pub record Reported : Type 0 where
   pub receiver : ℕ
   pub sender : ℕ
   pub flow : ℕ
   pub bytes : List ℕ
+  pub alone : Bool
 
 abbrev pub Sessions : Type 0
 Sessions = ℕ → Option Outgoing

@@ -26,6 +26,8 @@ pub record World : Type 0 where
   pub taken : ℕ → ℕ → List Packet
   -- all messages that the first unit began and that had the second among their receivers, in order
   pub begun : ℕ → ℕ → List Begun
+  -- all frames that the first unit sent alone and that had the second among their receivers, in order
+  pub sent_alone : ℕ → ℕ → List Begun
   -- all messages that were received whole, in order
   pub reports : List Reported
   -- all frames that were sent, in order
@@ -41,6 +43,7 @@ all_off = record {
   receivers = λ v u. Closed;
   taken = λ v u. [];
   begun = λ u v. [];
+  sent_alone = λ u v. [];
   reports = [];
   frames = [];
 }

@@ -17,7 +17,7 @@ pub enum StepError {
     AlreadyStarted,
     #[error("NothingUndelivered")]
     NothingUndelivered,
-    /// A unit is between its Begin and its Rest.
+    /// A unit is between its Begin and its Rest, or something of a message is undelivered.
     #[error("TransferOpen")]
     TransferOpen,
     /// A claim or a request is undelivered.
@@ -26,10 +26,10 @@ pub enum StepError {
     /// The flow's sender or its one receiver holds no address.
     #[error("NoAddress")]
     NoAddress,
-    /// The flow's sender is between its Begin and its Rest.
+    /// The flow's sender is between its Begin and its Rest; for a frame that is sent alone, of a message of the same group.
     #[error("Busy")]
     Busy,
-    /// The bytes are more or fewer than the group has.
+    /// The bytes are more or fewer than the group has, or more than one frame has where one is sent alone.
     #[error("WrongLength")]
     WrongLength,
     #[error("NothingToSend")]

@@ -39,11 +39,13 @@ impl Short {
     }
 }
 
-/// What one unit sends another of a transfer: a whole message of one frame, or a transport packet.
+/// What one unit sends another of a message: a whole one of one frame, a transport packet, or a whole one that was sent alone, beside
+/// whatever message its unit sends, with the place of its flow.
 #[derive(Drop)]
 pub enum Wired {
     Short(Short),
     Packet(Packet),
+    Alone(usize, Short),
 }
 
 impl Wired {
@@ -54,6 +56,7 @@ impl Wired {
         match self {
             Wired::Short(short) => Wired::Short(Short::new(short.bytes())),
             Wired::Packet(packet) => Wired::Packet(*packet),
+            Wired::Alone(flow, short) => Wired::Alone(*flow, Short::new(short.bytes())),
         }
     }
 }

@@ -81,9 +81,27 @@ fn a_fixed_unit_that_loses_its_address_holds_none(rt: HostRuntime) -> Result<(),
         &[(3, 5, Some(5)), (1, 5, Some(CANNOT))],
     );
     assert!(rt; unit.is_started() && unit.address().is_none());
-    assert_eq!(rt; number_of(unit.hear_request()), CANNOT);
+    assert_eq!(rt;
+        unit.hear_request().map(|said| number_of(said)),
+        Some(CANNOT)
+    );
     unit.stop();
     assert!(rt; !unit.is_started());
+    Ok(())
+}
+
+#[test]
+fn a_unit_that_never_claims_says_nothing_and_stays(rt: HostRuntime) -> Result<(), Fail> {
+    let mut unit = Claimer::planned(Name::from_bits(2), address(5)?, AddressSet::new(), false);
+    assert!(rt; unit.start().is_none());
+    hears(
+        &rt,
+        &mut unit,
+        &Lowest,
+        &[(3, 5, None), (1, 5, None), (1, CANNOT, None)],
+    );
+    assert!(rt; unit.is_started() && unit.address() == Address::new(5));
+    assert!(rt; unit.hear_request().is_none());
     Ok(())
 }
 

@@ -1,7 +1,7 @@
 //! Plans as they are read and checked.
 use j39_plan::{
     Bitrate, Cause, ErrorRate, Finding, FlowPlan, GroupPlan, Key, NeedPlan, Pace, Refused,
-    RefusedCause, Step, Timing, To, UnitPlan, Way, bad_run, checked, read_plan,
+    RefusedCause, RequestPlan, Step, Timing, To, UnitPlan, Way, bad_run, checked, read_plan,
 };
 use j39_signal::{Kind, Signal};
 use std::process::Abort;
@@ -178,6 +178,7 @@ fn a_network_is_read_whole(rt: HostRuntime) -> Result<(), Fail> {
         to: To::All,
         pace: None,
         pause: None,
+        on_request: false,
     };
     let to_one = FlowPlan {
         group: 0,
@@ -185,6 +186,7 @@ fn a_network_is_read_whole(rt: HostRuntime) -> Result<(), Fail> {
         to: To::One(1),
         pace: None,
         pause: None,
+        on_request: false,
     };
     assert!(rt; plan.flows.as_slice() == [to_all, to_one].as_slice());
     Ok(())
@@ -192,6 +194,7 @@ fn a_network_is_read_whole(rt: HostRuntime) -> Result<(), Fail> {
 
 // A plan of version 4 that has each key which this version knows.
 const NEEDED: &[u8] = b"version = 4
+strangers = 3
 
 [timing]
 bitrate = 1000000
@@ -211,6 +214,7 @@ name = { identity = 1 }
 label = \"B\"
 address = 3
 name = { identity = 2 }
+claims = false
 
 [[group]]
 label = \"ET1\"
@@ -239,6 +243,12 @@ deadline = 500
 jitter = 9
 pause = 2000
 
+[[flow]]
+group = \"ET1\"
+from = \"A\"
+to = \"B\"
+on_request = true
+
 [[need]]
 unit = \"B\"
 group = \"ET1\"
@@ -249,7 +259,34 @@ within = 2500
 [[need]]
 unit = \"B\"
 group = \"ET1\"
+
+[[request]]
+group = \"ET1\"
+from = \"B\"
+to = \"A\"
+period = 65535
+
+[[request]]
+group = \"ET1\"
+from = \"B\"
+to = \"all\"
 ";
+
+fn are_requests(rt: &impl Abort, requests: &[RequestPlan]) {
+    let of_one = RequestPlan {
+        group: 0,
+        sender: 1,
+        to: To::One(0),
+        period: Some(65535),
+    };
+    let of_all = RequestPlan {
+        group: 0,
+        sender: 1,
+        to: To::All,
+        period: None,
+    };
+    assert!(rt; requests == [of_one, of_all].as_slice());
+}
 
 #[test]
 fn what_version_4_knows_is_read_whole(rt: HostRuntime) -> Result<(), Fail> {
@@ -276,6 +313,15 @@ fn what_version_4_knows_is_read_whole(rt: HostRuntime) -> Result<(), Fail> {
             jitter: 9,
         }),
         pause: Some(2000),
+        on_request: false,
+    };
+    let answer = FlowPlan {
+        group: 0,
+        sender: 0,
+        to: To::One(1),
+        pace: None,
+        pause: None,
+        on_request: true,
     };
     let of_a_signal = NeedPlan {
         unit: 1,
@@ -292,8 +338,11 @@ fn what_version_4_knows_is_read_whole(rt: HostRuntime) -> Result<(), Fail> {
         within: None,
     };
     assert!(rt; plan.timing == Some(timing));
-    assert!(rt; plan.flows.as_slice() == [flow].as_slice());
+    assert!(rt; plan.flows.as_slice() == [flow, answer].as_slice());
     assert!(rt; plan.needs.as_slice() == [of_a_signal, of_a_group].as_slice());
+    assert!(rt; plan.units.iter().map(|unit| unit.claims).eq([true, false]));
+    assert_eq!(rt; plan.strangers, 3);
+    are_requests(&rt, &plan.requests);
     Ok(())
 }
 

@@ -257,6 +257,18 @@ fn a_record_is_read_further_on(rt: HostRuntime) -> Result<(), Fail> {
 }
 
 #[test]
+fn a_signal_is_shown_with_its_raw_number(rt: HostRuntime) -> Result<(), Fail> {
+    let layout = Layout::new(rt.alloc(), 2, &[wide(8, 8, Kind::Measured)?])?;
+    let shown = layout.show(&[0, 0xFB], 0);
+    assert_eq!(rt; (shown.raw, shown.value), (0xFB, 2 * 0xFB - 40));
+    assert_eq!(rt; shown.state, State::Specific(0xFB));
+    let further = layout.show_further(&[0, 0xFB, 3], 0, 1);
+    assert_eq!(rt; (further.raw, further.value), (3, 2 * 3 - 40));
+    assert_eq!(rt; further.state, State::Value(2 * 3 - 40));
+    Ok(())
+}
+
+#[test]
 fn faults_have_texts(rt: HostRuntime) -> Result<(), Fail> {
     let overlap = format!(in rt.alloc(); "{}", LayoutError::Overlap(1, 2))?;
     assert_eq!(rt; overlap.as_str(), "signals 1 and 2 share a bit");

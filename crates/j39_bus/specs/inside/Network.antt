@@ -5,12 +5,12 @@ use Rattle.std.specs.FinMap.{get}
 use Rattle.j39_id.specs.Limits.{unit_limit}
 use Rattle.j39_claim.specs.declared.item.Say.{Say}
 use Rattle.j39_claim.specs.declared.item.Item.{Item}
-use Rattle.j39_claim.specs.ClaimRule.{PlannedUnit, ClaimState, Answers}
+use Rattle.j39_claim.specs.ClaimRule.{PlannedUnit, ClaimState, Reacts}
 use Rattle.j39_claim.specs.ClaimerValue.{ClaimerValue}
 use Rattle.j39_tp.specs.declared.packet.Packet.{Packet}
 use Rattle.j39_findings.specs.declared.plan.Plan.{Plan}
 use Rattle.j39_findings.specs.declared.steps.Step.{Step}
-use Rattle.j39_findings.specs.declared.steps.Step.TheVariants.{Up, Down, Give, Ask, Begin, Emit, Take, Lose, LateSender, LateReceiver, Rest}
+use Rattle.j39_findings.specs.declared.steps.Step.TheVariants.{Up, Down, Give, Ask, Begin, Send, Emit, Take, Lose, LateSender, LateReceiver, Rest}
 use Rattle.j39_bus.specs.declared.network.Network.{Network}
 use Rattle.j39_world.specs.declared.step_error.StepError.{StepError}
 use Rattle.j39_world.specs.Sent.{sent_of}
@@ -32,6 +32,10 @@ planned_units cs = map (λ c. c.planned) cs
 -- these histories once a message was begun
 abbrev pub has_begun : Histories → ℕ → Flow → List ℕ → List ℕ → Histories
 has_begun h f flow targets bytes = record h { begun = added h.begun flow.sender targets (record { flow = f; bytes = bytes }) }
+
+-- once a frame was sent alone
+abbrev pub has_sent : Histories → ℕ → Flow → List ℕ → List ℕ → Histories
+has_sent h f flow targets bytes = record h { sent_alone = added h.sent_alone flow.sender targets (record { flow = f; bytes = bytes }) }
 
 -- once v took a packet of u
 abbrev pub has_taken : Histories → ℕ → ℕ → Packet → Histories
@@ -118,6 +122,7 @@ Finds net (Down u) = u < length net.claimers.items
 Finds net (Give u v) = AreInside net u v × (0 < length (pair_in net.claims.lists u v))
 Finds net (Ask u) = u < length net.claimers.items
 Finds net (Begin f bytes) = f < length net.flows.items
+Finds net (Send f bytes) = f < length net.flows.items
 Finds net (Emit u) = (u < length net.claimers.items) × (can_emit (session_at net.sessions.items u) ≡ true)
 Finds net (Take u v) = AreInside net u v × (0 < length (pair_in net.wire.lists u v))
 Finds net (Lose u v) = AreInside net u v × (0 < length (pair_in net.wire.lists u v))
@@ -134,7 +139,7 @@ pub record IsAllowed (net : Network) (step : Step) : Type 0 where
 abbrev pub HasAnswered : List ClaimerValue → ℕ → ℕ → Item → Option Say → List ClaimerValue → Type 0
 HasAnswered cs v name item says new =
     (s : ClaimState) × (new ≡ slice_set cs v (record (slice_index_or cs v absent_unit) { state = s }))
-    × Answers (slice_index_or cs v absent_unit).planned (station_at cs v) name item says s
+    × Reacts (slice_index_or cs v absent_unit).planned (station_at cs v) name item says s
 
 -- nothing that a contract sees has changed
 pub record IsSameNetwork (old new : Network) : Type 0 where

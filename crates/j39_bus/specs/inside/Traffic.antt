@@ -66,6 +66,7 @@ HasRoomAlong wire u (Some s) = HasRoomTo wire u s.targets
 abbrev pub item_frame : ℕ → ℕ → Flow → Wired → frames.Sent
 item_frame destination source flow (wired.Short bytes) = short_frame destination source flow bytes
 item_frame destination source flow (wired.Packet p) = packet_frame destination source p
+item_frame destination source flow (wired.Alone f bytes) = short_frame destination source flow bytes
 
 -- a world once v's receiver for u and v's sender have heard a packet, before anything is reported or answered
 abbrev pub packet_heard : List ℕ → World → ℕ → ℕ → Packet → World

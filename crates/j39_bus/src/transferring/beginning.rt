@@ -30,6 +30,7 @@ fn frame_of(destination: u8, source: u8, flow: &Flow, item: &Wired) -> Frame
     match item {
         Wired::Short(short) => short_frame(destination, source, flow, short.bytes()),
         Wired::Packet(packet) => packet_frame(destination, source, packet),
+        Wired::Alone(_flow, short) => short_frame(destination, source, flow, short.bytes()),
     }
 }
 
@@ -73,7 +74,7 @@ impl Network {
     }
 
     /// The units that a message of the flow goes to, and room for what is sent first.
-    fn prepare(&mut self, flow: &Flow) -> Result<Vec<usize>, AllocError>
+    pub(super) fn prepare(&mut self, flow: &Flow) -> Result<Vec<usize>, AllocError>
         requires network { IsNetwork self.old }
         requires flow { IsFlow (length self.old.claimers.items) flow.now }
         ensures same { IsSameNetwork self.old self.new }

@@ -7,7 +7,7 @@ ghost use Rattle.j39_tp.specs.Carried.{Carried};
 ghost use Rattle.j39_bus.specs.BusState.{Histories};
 ghost use Rattle.j39_bus.specs.inside.Network.{HasHeld, IsAllowed, IsNetwork, IsSameNetwork, KeepsPlan, TakesOldest, has_taken, world_in, Steps};
 ghost use Rattle.j39_bus.specs.inside.Traffic.{packet_heard};
-ghost use Rattle.j39_world.specs.TransferSteps.{hearing, packets_in, reaction_of, receiver_replies, report, sender_replies};
+ghost use Rattle.j39_world.specs.TransferSteps.{alone_report, hearing, packets_in, reaction_of, receiver_replies, report, sender_replies};
 
 use crate::network::Network;
 use crate::report::Report;
@@ -71,6 +71,7 @@ impl Network {
         match item {
             Wired::Short(short) => self.take_short(from, to, short.bytes()),
             Wired::Packet(packet) => self.take_packet(from, to, packet),
+            Wired::Alone(flow, short) => self.take_alone(from, to, *flow, short.bytes()),
         }
     }
 
@@ -88,6 +89,30 @@ impl Network {
         self.reports.reserve(1)?;
         drop(self.wire.pop(from, to));
         self.report(from, to, copy);
+        Ok(())
+    }
+
+    // A frame that was sent alone: no session has its flow.
+    fn take_alone(
+        &mut self,
+        from: usize,
+        to: usize,
+        flow: usize,
+        bytes: &[u8],
+    ) -> Result<(), AllocError>
+        requires network { IsNetwork self.old }
+        requires from { from < length self.old.claimers.items }
+        requires to { to < length self.old.claimers.items }
+        requires oldest { pair_in self.old.wire.lists from to ≡ Wired.Alone flow bytes.now ∷ drop 1 (pair_in self.old.wire.lists from to) }
+        ensures network { IsNetwork self.new }
+        ensures plan { KeepsPlan self.old self.new }
+        ensures takes { OnOk result (TakesOldest self.old from to self.new) }
+        ensures same { OnErr result (IsSameNetwork self.old self.new) }
+    {
+        let copy = Vec::from_slice(*self.frames.allocator(), bytes)?;
+        self.reports.reserve(1)?;
+        drop(self.wire.pop(from, to));
+        self.report_alone(from, to, flow, copy);
         Ok(())
     }
 
@@ -177,6 +202,24 @@ impl Network {
             sender: from,
             flow,
             bytes,
+            alone: false,
+        });
+    }
+
+    /// The second unit reports a frame that the first sent alone by a flow.
+    fn report_alone(&mut self, from: usize, to: usize, flow: usize, bytes: Vec<u8>)
+        requires network { IsNetwork self.old }
+        requires room { vec_len self.old.reports < vec_capacity self.old.reports }
+        ensures rest { self.new ≡ record self.old { reports = self.new.reports } }
+        ensures world { (h : Histories) → world_in h self.new ≡ record
+            (world_in h self.old) { reports = (world_in h self.old).reports ++ alone_report from to flow bytes.items ∷ [] } }
+    {
+        self.reports.push_reserved(Report {
+            receiver: to,
+            sender: from,
+            flow,
+            bytes,
+            alone: true,
         });
     }
 }

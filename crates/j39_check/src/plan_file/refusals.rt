@@ -30,6 +30,7 @@ fn write_table(text: &mut TextBuffer, table: Table) -> Result<(), AllocError>
         }
         Table::Flow(flow) => text.place("flow ", flow),
         Table::Need(need) => text.place("need ", need),
+        Table::Request(request) => text.place("request ", request),
     }
 }
 

@@ -7,7 +7,7 @@ ghost use Rattle.std.specs.Prelude.{◌≡◌};
 pub enum Finding {
     /// F1: two units have one NAME.
     SameName(usize, usize),
-    /// F2: two fixed units have one address.
+    /// F2: two fixed units that claim have one address.
     SameFixedAddress(usize, usize),
     /// F3: this many units need an address of 128 to 247 that isn't kept free, and there are fewer.
     TooFewAddresses(usize),
@@ -40,6 +40,20 @@ pub enum Finding {
     TextOutside(usize, usize),
     /// F19: no flow brings the need's unit what it needs.
     NeedUnmet(usize),
+    /// F21: one unit is asked, and no flow answers the request.
+    RequestUnanswered(usize),
+    /// F22: all units are asked, and no flow answers the request.
+    RequestUnheard(usize),
+    /// F23: one unit is asked, for a group whose messages can name a receiver, and only answered to all; or all are asked, and each answer
+    /// goes to one unit.
+    AnswerAstray(usize),
+    /// F25: two requests are for one number, from one unit, and to the same.
+    RequestRepeated(usize, usize),
+    /// F26: two units have one address, and not both of them claim it.
+    SilentAddress(usize, usize),
+    /// F27: the unit never claims, and others may move to its address: it is one of 128 to 247, and isn't kept free, or strangers, which
+    /// don't know what is, may come.
+    SilentInPool(usize),
 }
 
 impl Finding {
@@ -66,6 +80,12 @@ impl Finding {
             Finding::RecordOverlap(..) => 14,
             Finding::TextOutside(..) => 15,
             Finding::NeedUnmet(_) => 19,
+            Finding::RequestUnanswered(_) => 21,
+            Finding::RequestUnheard(_) => 22,
+            Finding::AnswerAstray(_) => 23,
+            Finding::RequestRepeated(..) => 25,
+            Finding::SilentAddress(..) => 26,
+            Finding::SilentInPool(_) => 27,
         }
     }
 }

@@ -11,8 +11,8 @@ use j39_id::limits::FRAME_BYTES;
 use j39_id::{PDU2_FIRST, pf_of};
 use std::alloc::AllocError;
 
-// Whether each message of the group is sent in one frame, which has no destination.
-fn is_one_frame_to_all(group: &GroupPlan) -> bool
+/// Whether each message of the group is sent in one frame, which has no destination.
+pub fn is_one_frame_to_all(group: &GroupPlan) -> bool
     ensures { result ≡ is_one_frame_to_all group.now }
 {
     pf_of(group.pgn) >= PDU2_FIRST && usize::from(group.most) <= FRAME_BYTES

@@ -47,7 +47,11 @@ impl PairRule<UnitPlan> for SameFixedAddress {
     ghost make = { λ _ i j. SameAddresses i j };
 
     fn holds(&self, first: &UnitPlan, second: &UnitPlan) -> bool {
-        is_fixed(first) && is_fixed(second) && first.address == second.address
+        is_fixed(first)
+            && is_fixed(second)
+            && first.address == second.address
+            && first.claims
+            && second.claims
     }
 
     fn finding(&self, first: usize, second: usize) -> Finding {

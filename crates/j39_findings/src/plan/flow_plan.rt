@@ -13,5 +13,7 @@ pub struct FlowPlan {
     pub pace: Option<Pace>,
     /// In so many milliseconds at least one message of the flow has its moment, however they lie.
     pub pause: Option<u16>,
+    /// Whether the flow is sent only as the answer to a request.
+    pub on_request: bool,
     pub ghost pause_positive: { ForSome pause (λ n. 1 ≤ n) },
 }

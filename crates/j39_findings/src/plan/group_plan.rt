@@ -6,7 +6,7 @@ ghost use Rattle.j39_signal.specs.Parts.{IsSignal};
 ghost use Rattle.j39_findings.specs.LabelForm.{is_label};
 ghost use Rattle.j39_findings.specs.PlanLimits.{signal_limit, text_limit};
 
-use super::TextPlan;
+use super::{Meaning, TextPlan};
 use j39_id::Label;
 use j39_signal::Signal;
 
@@ -30,6 +30,8 @@ pub struct GroupPlan {
     /// it.
     pub every: Option<u8>,
     pub signals: Vec<Signal>,
+    /// What is said of each signal beside that, in their order.
+    pub meanings: Vec<Meaning>,
     pub texts: Vec<TextPlan>,
     pub ghost label_form: { IsTrue (is_label label.bytes) },
     pub ghost priority_range: { priority ≤ 7 },
@@ -43,6 +45,7 @@ pub struct GroupPlan {
     pub ghost signal_forms: { All (λ s. IsTrue (is_label s.label.bytes)) signals.items },
     pub ghost signal_ranges: { All (λ s. IsSignal s.start s.bits s.step s.offset) signals.items },
     pub ghost signal_labels: { AllPairs (λ s t. s.label.bytes ≢ t.label.bytes) signals.items },
+    pub ghost meaning_count: { count meanings.items ≡ count signals.items },
     pub ghost text_count: { count texts.items ≤ text_limit },
     pub ghost text_labels: { AllPairs (λ s t. s.label.bytes ≢ t.label.bytes) texts.items },
     pub ghost other_labels: { All (λ t. All (λ s. s.label.bytes ≢ t.label.bytes) signals.items) texts.items },

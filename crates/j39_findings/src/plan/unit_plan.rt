@@ -1,6 +1,7 @@
 //! A unit of a plan.
-ghost use Rattle.std.specs.Prelude.{◌^◌, ◌<◌, ◌≤◌, IsTrue};
+ghost use Rattle.std.specs.Prelude.{◌≡◌, ◌^◌, ◌<◌, ◌≤◌, false, IsTrue};
 ghost use Rattle.j39_id.specs.Addresses.{null_address};
+ghost use Rattle.j39_id.specs.Name.{is_arbitrary};
 ghost use Rattle.j39_findings.specs.LabelForm.{is_unit_label};
 
 use super::Way;
@@ -17,9 +18,12 @@ pub struct UnitPlan {
     pub way: Way,
     /// How many packets the unit takes in a row, 1 to 255.
     pub window: u8,
+    /// Whether the unit claims its address. One that doesn't hears claims and does nothing, and it may not choose.
+    pub claims: bool,
     pub ghost label_form: { IsTrue (is_unit_label label.bytes) },
     pub ghost address_range: { address < null_address },
     pub ghost name_range: { name < 2 ^ 64 },
     pub ghost window_positive: { 1 ≤ window },
     pub ghost window_range: { window ≤ 255 },
+    pub ghost silent_stays: { claims ≡ false → is_arbitrary name ≡ false },
 }

@@ -69,14 +69,14 @@ abbrev pub ArePartiesOf : Plan → List Frame → List Who → Type 0
 ArePartiesOf plan frames parties = (address : ℕ) → address < 256 → IsWho plan frames address (party_at parties address)
 
 -- the texts of the parties of so many addresses
-pub record AreNames (plan : Plan) (parties : List Who) (many : ℕ) (names : List (List ℕ)) : Type 0 where
+pub record ArePartyNames (plan : Plan) (parties : List Who) (many : ℕ) (names : List (List ℕ)) : Type 0 where
   pub all : length names ≡ many
   pub each : (a : ℕ) → a < many → slice_index_or names a [] ≡ who_text plan (party_at parties a) a
 
 -- the same, where they were kept
 abbrev pub HasNames : Plan → List Who → Option (Vec (List ℕ) Global) → Type 0
 HasNames plan parties None = Unit {0}
-HasNames plan parties (Some names) = AreNames plan parties 256 names.items
+HasNames plan parties (Some names) = ArePartyNames plan parties 256 names.items
 
 -- a directory has what these frames tell
 pub record Knows (plan : Plan) (directory : Directory) (frames : List Frame) : Type 0 where

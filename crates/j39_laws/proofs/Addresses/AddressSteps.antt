@@ -1,5 +1,5 @@
 -- The steps of units that claim addresses keep the address invariant.
-use Rattle.std.proofs.Common.{◌≡◌, ◌≢◌, ℕ, zero, suc, true, ◌&&◌, inl, inr, eqb, List, [], ◌∷◌, refl, sym, ap, ◌∙◌, subst, arith, Option, Some}
+use Rattle.std.proofs.Common.{◌≡◌, ◌≢◌, ℕ, ◌<◌, zero, suc, true, ◌&&◌, inl, inr, eqb, List, [], ◌∷◌, length, refl, sym, ap, ◌∙◌, subst, arith, Option, Some}
 use Rattle.std.proofs.lemmas.Bool.{cases_eq, eqb-true, ne_eqb, cond_both, cond-false, and_parts, and_right, true≢false}
 use Rattle.std.specs.Ordering.{nat_cmp}
 use Rattle.std.specs.FinMap.{get-empty}
@@ -94,20 +94,19 @@ module _ (units : List PlannedUnit) (stations : Stations) (claims : Undelivered)
     without_itself : (s : ℕ) → without s s ≡ []
     without_itself s = cond_both (eqb s u) [] (claims s s) (λ xs. xs ≡ []) (λ _. refl) (λ _. inv.itself s)
 
-    pub up_keeps : IsOwn (unit_at units u) (unit_at units u).preferred
+    -- u is switched on, and tells these to the others, of which none holds its address unless it is told so
+    on_keeps : u < length units → IsOwn (unit_at units u) (unit_at units u).preferred → (items : List Item)
+        → AllByRecursion (IsSaid (unit_at units u)) items
         → let new : Stations = changed stations u (started (unit_at units u)) in
-        AddressInvariant units new (told_to_others new without u (Told (Claim (unit_at units u).preferred) ∷ []))
-    up_keeps own =
+        ((z b : ℕ) → z ≢ u → IsHolding (stations z) b → (started (unit_at units u)).address ≡ Some b
+        → IsClaimUndelivered (told_to_others new without u items) u z b)
+        → AddressInvariant units new (told_to_others new without u items)
+    on_keeps in_u own items said told_other =
         let p : PlannedUnit = unit_at units u in
-        let items : List Item = Told (Claim p.preferred) ∷ [] in
         let now : Stations = changed stations u (started p) in
         let after : Undelivered = told_to_others now without u items in
-        let told_other : (z b : ℕ) → z ≢ u → IsHolding (stations z) b → (started p).address ≡ Some b → IsClaimUndelivered after u z b =
-        λ z b z_other holding has.
-        let same : p.preferred ≡ b = cc in
-        let on : (now z).on ≡ true = ap (λ s. s.on) (changed_elsewhere stations u (started p) z z_other) ∙ holding.on in
-        inl (told now without u items z (Told (Claim b)) on z_other (in_one p.preferred b same)) in
         record {
+          inside = changed_each (λ x s. s.on ≡ true → x < length units) stations u (started p) (λ _. in_u) inv.inside;
           holds = changed_each (λ x s. s.on ≡ true → IsHeld (unit_at units x) s.address) stations u (started p)
               (λ _. (p.preferred, refl, own)) inv.holds;
           apart = λ x y a other on_x on_y address_x address_y.
@@ -115,14 +114,37 @@ module _ (units : List PlannedUnit) (stations : Stations) (claims : Undelivered)
               (λ z t b z_other t_other c.
               told_still now without u items z t b (without_still claims u z t b z_other t_other (clash_told z t b c)))
               x y a (record { apart = other; one = record { on = on_x; address = address_x }; other = record { on = on_y; address = address_y } });
-          said = said_more now without u items (λ k. IsSaid (unit_at units k)) without_said (own, tt);
+          said = said_more now without u items (λ k. IsSaid (unit_at units k)) without_said said;
           itself = not_itself now without u items without_itself;
           notes = changed_each (λ x s. AllNoted units x s.notes) stations u (started p)
               (λ n a is. absurd (let e = sym (get-empty {X = ℕ} nat_cmp n) ∙ is in cc)) inv.notes;
         }
 
+    pub up_keeps : u < length units → IsOwn (unit_at units u) (unit_at units u).preferred
+        → let new : Stations = changed stations u (started (unit_at units u)) in
+        AddressInvariant units new (told_to_others new without u (Told (Claim (unit_at units u).preferred) ∷ []))
+    up_keeps in_u own =
+        let p : PlannedUnit = unit_at units u in
+        let items : List Item = Told (Claim p.preferred) ∷ [] in
+        let now : Stations = changed stations u (started p) in
+        on_keeps in_u own items (own, tt) (λ z b z_other holding has.
+        let same : p.preferred ≡ b = cc in
+        let on : (now z).on ≡ true = ap (λ s. s.on) (changed_elsewhere stations u (started p) z z_other) ∙ holding.on in
+        inl (told now without u items z (Told (Claim b)) on z_other (in_one p.preferred b same)))
+
+    -- it says nothing, where no other one ever holds its address
+    pub up_silently : u < length units → IsOwn (unit_at units u) (unit_at units u).preferred
+        → ((z a : ℕ) → z < length units → z ≢ u → IsOwn (unit_at units z) a → a ≢ (unit_at units u).preferred)
+        → let new : Stations = changed stations u (started (unit_at units u)) in
+        AddressInvariant units new (told_to_others new without u [])
+    up_silently in_u own alone = on_keeps in_u own [] tt (λ z b z_other holding has.
+        let (a, is, own_z) = inv.holds z holding.on in
+        let e : Some a ≡ Some (unit_at units u).preferred = sym is ∙ holding.address ∙ sym has in
+        absurd (alone z a (inv.inside z holding.on) z_other own_z (cc)))
+
     pub down_keeps : AddressInvariant units (changed stations u off) without
     down_keeps = record {
+      inside = changed_each (λ x s. s.on ≡ true → x < length units) stations u off (λ on. absurd (true≢false (sym on))) inv.inside;
       holds = changed_each (λ x s. s.on ≡ true → IsHeld (unit_at units x) s.address) stations u off
           (λ on. absurd (true≢false (sym on))) inv.holds;
       apart = λ x y a other on_x on_y address_x address_y.
@@ -141,6 +163,7 @@ module _ (units : List PlannedUnit) (stations : Stations) (claims : Undelivered)
         let items : List Item = Request ∷ Told (claim_of (stations u).address) ∷ [] in
         let (b, has, own) = inv.holds u on in
         record {
+          inside = inv.inside;
           holds = inv.holds;
           apart = λ x y a other on_x on_y address_x address_y.
               told_still stations claims u items x y a (inv.apart x y a other on_x on_y address_x address_y);
@@ -217,6 +240,7 @@ module _ (units : List PlannedUnit) (stations : Stations) (claims : Undelivered)
     give_keeps =
         let items : List Item = answer_items says in
         record {
+          inside = changed_each (λ x s. s.on ≡ true → x < length units) stations v new (λ _. inv.inside v on_v) inv.inside;
           holds = changed_each (λ x s. s.on ≡ true → IsHeld (unit_at units x) s.address) stations v new
               (λ on. elim (t.outcome) [
                 | inl quiet ↦ rw quiet.1 (inv.holds v on_v)

@@ -1,7 +1,7 @@
 -- What a plan without findings has of its units.
-use Rattle.std.proofs.Common.{◌≡◌, ◌≢◌, ℕ, zero, suc, ◌+◌, ◌^◌, ◌<◌, ◌≤◌, Bool, true, false, cond, ◌&&◌, ◌||◌, List, [], ◌∷◌, length, map, inl, inr, Some, refl, sym}
+use Rattle.std.proofs.Common.{◌≡◌, ◌≢◌, ℕ, zero, suc, ◌+◌, ◌^◌, ◌<◌, ◌≤◌, ◌⊎◌, Bool, true, false, cond, ◌&&◌, ◌||◌, List, [], ◌∷◌, length, map, inl, inr, Some, refl, sym}
 use Rattle.std.proofs.Common.{ap, ◌∙◌, arith}
-use Rattle.std.proofs.lemmas.Bool.{cases_Bool, cases_lt}
+use Rattle.std.proofs.lemmas.Bool.{cases_Bool, cases_lt, cases_order}
 use Rattle.std.proofs.lemmas.List.Sums.{sum_by-cons}
 use Rattle.std.specs.List.{count_by, slice_get}
 use Rattle.std.specs.Ordering.{nat_cmp}
@@ -13,7 +13,7 @@ use Rattle.j39_id.specs.Addresses.{in_pool}
 use Rattle.j39_findings.specs.Findings.{Clean, Holds}
 use Rattle.j39_findings.specs.Found.{needed_addresses, needs_pool_address}
 use Rattle.j39_findings.proofs.Deciding.{Decides-needs_pool_address, passing_meet}
-use Rattle.j39_findings.specs.declared.checking.finding.Finding.TheVariants.{SameName, SameFixedAddress, TooFewAddresses, KeptAddress}
+use Rattle.j39_findings.specs.declared.checking.finding.Finding.TheVariants.{SameName, SameFixedAddress, TooFewAddresses, KeptAddress, SilentAddress, SilentInPool}
 use Rattle.j39_findings.specs.declared.plan.Plan.{Plan}
 use Rattle.j39_findings.specs.declared.plan.unit_plan.UnitPlan.{UnitPlan}
 use Rattle.j39_world.specs.PlannedUnits.{planned_unit, units_of, unit_at}
@@ -43,6 +43,11 @@ pub record IsClean (units : List PlannedUnit) : Type 0 where
   -- no arbitrary unit prefers one that is kept free
   pub unkept : (i : ℕ) → i < length units → is_arbitrary (unit_at units i).name ≡ true
       → contains (unit_at units i).kept (unit_at units i).preferred ≡ false
+  -- no other unit has the address of one that doesn't claim, and this is none to which units move
+  pub silent_apart : (s u : ℕ) → s < length units → u < length units → u ≢ s → (unit_at units s).claims ≡ false
+      → (unit_at units u).preferred ≢ (unit_at units s).preferred
+  pub silent_kept : (s : ℕ) → s < length units → (unit_at units s).claims ≡ false → in_pool (unit_at units s).preferred ≡ true
+      → contains (unit_at units s).kept (unit_at units s).preferred ≡ true
 
 -- a place of a unit has its plan
 pub placed : (kept : FinSet nat_cmp) (ps : List UnitPlan) (i : ℕ) → i < length (map (planned_unit kept) ps)
@@ -65,8 +70,10 @@ names_in_range plan i inside =
     rw at p.name_range
 
 -- where that is no finding
-pub fixed_in_order : (plan : Plan) → ((i j : ℕ) → ¬ Holds plan (SameFixedAddress i j)) → AreFixedApart (units_of plan)
-fixed_in_order plan none i j below inside fixed_i fixed_j same =
+silent_in_order : (plan : Plan) → ((i j : ℕ) → ¬ Holds plan (SilentAddress i j)) → (i j : ℕ) → i < j → j < length (units_of plan)
+    → ((unit_at (units_of plan) i).claims ≡ false) ⊎ ((unit_at (units_of plan) j).claims ≡ false)
+    → (unit_at (units_of plan) i).preferred ≢ (unit_at (units_of plan) j).preferred
+silent_in_order plan none i j below inside silent same =
     let (p, p_is, at_i) = placed plan.keep_free plan.units.items i (omega arith) in
     let (q, q_is, at_j) = placed plan.keep_free plan.units.items j inside in
     none i j (record {
@@ -76,11 +83,65 @@ fixed_in_order plan none i j below inside fixed_i fixed_j same =
       first_is = p_is;
       second_is = q_is;
       related = (
-        sym (ap (λ (c : PlannedUnit). is_arbitrary c.name) at_i) ∙ fixed_i,
-        sym (ap (λ (c : PlannedUnit). is_arbitrary c.name) at_j) ∙ fixed_j,
         sym (ap (λ (c : PlannedUnit). c.preferred) at_i) ∙ same ∙ ap (λ (c : PlannedUnit). c.preferred) at_j,
+        elim silent [
+          | inl one ↦ inl (sym (ap (λ (c : PlannedUnit). c.claims) at_i) ∙ one)
+          | inr other ↦ inr (sym (ap (λ (c : PlannedUnit). c.claims) at_j) ∙ other)
+        ],
       );
     })
+
+silent_anywhere : (plan : Plan) → ((i j : ℕ) → ¬ Holds plan (SilentAddress i j)) → (s u : ℕ) → s < length (units_of plan) → u < length (units_of plan)
+    → u ≢ s → (unit_at (units_of plan) s).claims ≡ false → (unit_at (units_of plan) u).preferred ≢ (unit_at (units_of plan) s).preferred
+silent_anywhere plan none s u in_s in_u other silent same = elim (cases_order u s) [
+  | inl is ↦ other is
+  | inr (inl below) ↦ silent_in_order plan none u s below in_s (inr silent) same
+  | inr (inr above) ↦ silent_in_order plan none s u above in_u (inl silent) (sym same)
+]
+
+pub fixed_in_order : (plan : Plan) → ((i j : ℕ) → ¬ Holds plan (SameFixedAddress i j)) → ((i j : ℕ) → ¬ Holds plan (SilentAddress i j))
+    → AreFixedApart (units_of plan)
+fixed_in_order plan none silent i j below inside fixed_i fixed_j same =
+    let (p, p_is, at_i) = placed plan.keep_free plan.units.items i (omega arith) in
+    let (q, q_is, at_j) = placed plan.keep_free plan.units.items j inside in
+    elim (cases_Bool (unit_at (units_of plan) i).claims) [
+      | inr one ↦ silent_in_order plan silent i j below inside (inl one) same
+      | inl claims_i ↦ elim (cases_Bool (unit_at (units_of plan) j).claims) [
+        | inr other ↦ silent_in_order plan silent i j below inside (inr other) same
+        | inl claims_j ↦ none i j (record {
+          first = p;
+          second = q;
+          below = below;
+          first_is = p_is;
+          second_is = q_is;
+          related = (
+            sym (ap (λ (c : PlannedUnit). is_arbitrary c.name) at_i) ∙ fixed_i,
+            sym (ap (λ (c : PlannedUnit). is_arbitrary c.name) at_j) ∙ fixed_j,
+            sym (ap (λ (c : PlannedUnit). c.preferred) at_i) ∙ same ∙ ap (λ (c : PlannedUnit). c.preferred) at_j,
+            sym (ap (λ (c : PlannedUnit). c.claims) at_i) ∙ claims_i,
+            sym (ap (λ (c : PlannedUnit). c.claims) at_j) ∙ claims_j,
+          );
+        })
+      ]
+    ]
+
+-- a unit of the pool that doesn't claim stands at an address that is kept free, and no strangers come
+pub unreached : (plan : Plan) → Clean plan → (s : ℕ) → s < length (units_of plan) → (unit_at (units_of plan) s).claims ≡ false
+    → in_pool (unit_at (units_of plan) s).preferred ≡ true
+    → (contains plan.keep_free (unit_at (units_of plan) s).preferred ≡ true) × (plan.strangers ≡ 0)
+unreached plan clean s inside silent pool =
+    let (p, is, at) = placed plan.keep_free plan.units.items s inside in
+    let silent_p : p.claims ≡ false = sym (ap (λ (c : PlannedUnit). c.claims) at) ∙ silent in
+    let pool_p : in_pool p.address ≡ true = sym (ap (λ (c : PlannedUnit). in_pool c.preferred) at) ∙ pool in
+    let kept : contains plan.keep_free p.address ≡ true = elim (cases_Bool (contains plan.keep_free p.address)) [
+      | inl kept ↦ kept
+      | inr free ↦ absurd (clean (SilentInPool s) (record { value = p; value_is = is; meets = (silent_p, pool_p, inl free) }))
+    ] in
+    let known : plan.strangers ≡ 0 = elim (cases_lt 0 plan.strangers) [
+      | inl some ↦ absurd (clean (SilentInPool s) (record { value = p; value_is = is; meets = (silent_p, pool_p, inr some) }))
+      | inr none ↦ omega (arith, none)
+    ] in
+    (ap (λ (c : PlannedUnit). contains plan.keep_free c.preferred) at ∙ kept, known)
 
 -- no arbitrary unit prefers an address that is kept free
 pub unkept : (plan : Plan) → Clean plan → (i : ℕ) → i < length (units_of plan) → is_arbitrary (unit_at (units_of plan) i).name ≡ true
@@ -125,7 +186,7 @@ clean_units plan clean = record {
         second_is = q_is;
         related = sym (ap (λ (c : PlannedUnit). c.name) at_i) ∙ one.same ∙ ap (λ (c : PlannedUnit). c.name) at_j;
       });
-  fixed = fixed_in_order plan (λ i j. clean (SameFixedAddress i j));
+  fixed = fixed_in_order plan (λ i j. clean (SameFixedAddress i j)) (λ i j. clean (SilentAddress i j));
   kept_free = plan.keep_free;
   kept = λ i inside.
       let (p, is, at) = placed plan.keep_free plan.units.items i inside in
@@ -134,4 +195,8 @@ clean_units plan clean = record {
   unkept = λ i inside arbitrary.
       let (p, is, at) = placed plan.keep_free plan.units.items i inside in
       ap (λ (c : PlannedUnit). contains c.kept (unit_at (units_of plan) i).preferred) at ∙ unkept plan clean i inside arbitrary;
+  silent_apart = silent_anywhere plan (λ i j. clean (SilentAddress i j));
+  silent_kept = λ s inside silent pool.
+      let (p, is, at) = placed plan.keep_free plan.units.items s inside in
+      ap (λ (c : PlannedUnit). contains c.kept (unit_at (units_of plan) s).preferred) at ∙ (unreached plan clean s inside silent pool).0;
 }

@@ -129,20 +129,28 @@ claim_steps : (plan : Plan) → IsKeptByClaimSteps plan (AreSaid (units_of plan)
 claim_steps plan =
     let units : List PlannedUnit = units_of plan in
     record {
-      switched_on = λ stations claims inv u unit. record {
+      switched_on = λ stations claims inv u unit _. record {
         held = held_each units stations u (started (unit_at units u)) (λ _. inl refl) inv.held;
         said = said_more (changed stations u (started (unit_at units u))) (without_lists_to u claims) u
             (Told (Claim (unit_at units u).preferred) ∷ []) (IsSaid units) (said_without (IsSaid units) claims u inv.said) (inl refl, tt);
+      };
+      switched_on_silently = λ stations claims inv u unit _. record {
+        held = held_each units stations u (started (unit_at units u)) (λ _. inl refl) inv.held;
+        said = said_without (IsSaid units) claims u inv.said;
       };
       switched_off = λ stations claims inv u. record {
         held = held_each units stations u off (λ on. absurd (true≢false (sym on))) inv.held;
         said = said_without (IsSaid units) claims u inv.said;
       };
-      asked = λ stations claims inv u unit on. record {
+      asked = λ stations claims inv u unit _ on. record {
         held = inv.held;
         said = said_more stations claims u (Request ∷ Told (claim_of (stations u).address) ∷ []) (IsSaid units) inv.said (tt, (inv.held u on, tt));
       };
-      given = λ stations claims inv u v unit_u unit_v. give_keeps units stations claims inv u v (in_units plan u unit_u);
+      given = λ stations claims inv u v unit_u unit_v on _. give_keeps units stations claims inv u v (in_units plan u unit_u) on;
+      passed_over = λ stations claims inv u v unit_u unit_v on _ item rest list. record {
+        held = inv.held;
+        said = said_rest (IsSaid units) claims u v item rest list inv.said;
+      };
     }
 
 at_first : (units : List PlannedUnit) → AreSaid units all_off.stations all_off.claims

@@ -8,7 +8,7 @@ use Rattle.std.proofs.lemmas.List.Sums.{count_by-le-length, sum_by-append}
 use Rattle.std.proofs.lemmas.Option.{slice_get-get_or}
 use Rattle.std.specs.FinMap.{get}
 use Rattle.std.specs.FinSet.{FinSet, contains, contains-empty, empty}
-use Rattle.std.specs.List.{count_by, range_with_len}
+use Rattle.std.specs.List.{count_by, range_with_len, slice_get}
 use Rattle.std.specs.Ordering.{nat_cmp}
 use Rattle.j39_id.specs.Addresses.{in_pool}
 use Rattle.j39_id.specs.Name.{is_arbitrary}
@@ -16,7 +16,7 @@ use Rattle.j39_claim.specs.AddressSets.{free_count, is_free}
 use Rattle.j39_claim.specs.ClaimRule.{ClaimState, IsFree, PlannedUnit}
 use Rattle.j39_findings.specs.Findings.{Clean}
 use Rattle.j39_findings.specs.Found.{is_fixed, needs_pool_address}
-use Rattle.j39_findings.specs.declared.checking.finding.Finding.TheVariants.{SameFixedAddress}
+use Rattle.j39_findings.specs.declared.checking.finding.Finding.TheVariants.{SameFixedAddress, SilentAddress}
 use Rattle.j39_findings.specs.declared.plan.Plan.{Plan}
 use Rattle.j39_findings.specs.declared.plan.unit_plan.UnitPlan.{UnitPlan}
 use Rattle.j39_world.specs.PlannedUnits.{planned_unit, units_of, unit_at}
@@ -25,7 +25,7 @@ use Rattle.j39_world.specs.SoundPlan.{AlwaysBeside}
 use Rattle.j39_world.specs.Staying.{HoldsPlanned, Stays, StaysBeside}
 use Rattle.j39_world.specs.Strangers.{HasStrangers}
 use Rattle.j39_laws.proofs.Addresses.AddressInvariant.{AllNoted, IsOwn}
-use Rattle.j39_laws.proofs.Addresses.CleanUnits.{IsClean, clean_units, count, names_in_range, needs_pool, placed, room_told}
+use Rattle.j39_laws.proofs.Addresses.CleanUnits.{IsClean, clean_units, count, names_in_range, needs_pool, placed, room_told, unreached}
 use Rattle.j39_laws.proofs.Addresses.Counting.{count_all, count_either, count_none, count_range}
 use Rattle.j39_laws.proofs.Addresses.FreeAddress.{one_left}
 use Rattle.j39_laws.proofs.Addresses.SoundAddresses.{addresses_sound, invariant, quiet_apart}
@@ -38,8 +38,9 @@ use Rattle.j39_laws.proofs.Addresses.Turns.{fixed_below, no_own}
 same_at : (k l : FinSet nat_cmp) (ps ss : List UnitPlan) (u : ℕ) → u < length ps
     → ((unit_at (map (planned_unit k) (ps ++ ss)) u).name ≡ (unit_at (map (planned_unit l) ps) u).name)
     × ((unit_at (map (planned_unit k) (ps ++ ss)) u).preferred ≡ (unit_at (map (planned_unit l) ps) u).preferred)
+    × ((unit_at (map (planned_unit k) (ps ++ ss)) u).claims ≡ (unit_at (map (planned_unit l) ps) u).claims)
 same_at k l [] ss u inside = absurd (omega arith)
-same_at k l (p ∷ ps) ss zero inside = (refl, refl)
+same_at k l (p ∷ ps) ss zero inside = (refl, refl, refl)
 same_at k l (p ∷ ps) ss (suc u) inside = same_at k l ps ss u (omega arith)
 
 arbitrary_at : (k : FinSet nat_cmp) (ss : List UnitPlan) → All (λ s. is_arbitrary s.name ≡ true) ss → (u : ℕ) → u < length ss
@@ -62,6 +63,23 @@ behind_at : (k : FinSet nat_cmp) (ps ss : List UnitPlan) → All (λ s. is_arbit
 behind_at k [] ss choose u past inside = arbitrary_at k ss choose u inside
 behind_at k (p ∷ ps) ss choose zero past inside = absurd (omega arith)
 behind_at k (p ∷ ps) ss choose (suc u) past inside = behind_at k ps ss choose u (omega arith) (omega arith)
+
+-- what holds of all of the first units holds of each, and what holds of all behind them of each behind them
+module _ (P : UnitPlan → Type 0) where
+  of_all : (ss : List UnitPlan) → All P ss → (u : ℕ) (p : UnitPlan) → slice_get ss u ≡ Some p → P p
+  of_all [] all u p is = absurd (cc is)
+  of_all (s ∷ ss) all zero p is = let same : s ≡ p = cc in subst P same (all zero s (omega arith))
+  of_all (s ∷ ss) all (suc u) p is = of_all ss (λ i d less. all (suc i) d (omega arith)) u p is
+
+  of_first : (ps ss : List UnitPlan) → All P ps → (u : ℕ) → u < length ps → (p : UnitPlan) → slice_get (ps ++ ss) u ≡ Some p → P p
+  of_first [] ss all u inside p is = absurd (omega arith)
+  of_first (q ∷ ps) ss all zero inside p is = let same : q ≡ p = cc in subst P same (all zero q (omega arith))
+  of_first (q ∷ ps) ss all (suc u) inside p is = of_first ps ss (λ i d less. all (suc i) d (omega arith)) u (omega arith) p is
+
+  of_behind : (ps ss : List UnitPlan) → All P ss → (u : ℕ) → length ps ≤ u → (p : UnitPlan) → slice_get (ps ++ ss) u ≡ Some p → P p
+  of_behind [] ss all u past p is = of_all ss all u p is
+  of_behind (q ∷ ps) ss all zero past p is = absurd (omega arith)
+  of_behind (q ∷ ps) ss all (suc u) past p is = of_behind ps ss all u (omega arith) p is
 
 -- ---- room
 
@@ -123,13 +141,28 @@ module _ (plan : Plan) (clean : Clean plan) where
   fixed_apart i j d below inside one other same =
       let fixed : (x : UnitPlan) → is_kept_there plan.keep_free x ≡ true → is_arbitrary x.name ≡ false =
       λ x is. not_true (is_arbitrary x.name) (and_parts (is_fixed x) (in_pool x.address && contains plan.keep_free x.address) is).0 in
-      clean (SameFixedAddress i j) (record {
-        first = get_or plan.units.items i d;
-        second = get_or plan.units.items j d;
+      let first : UnitPlan = get_or plan.units.items i d in
+      let second : UnitPlan = get_or plan.units.items j d in
+      let first_is = slice_get-get_or plan.units.items i d (omega arith) in
+      let second_is = slice_get-get_or plan.units.items j d inside in
+      let silent : (first.claims ≡ false) ⊎ (second.claims ≡ false) → ⊥ =
+      λ none. clean (SilentAddress i j) (record {
+        first = first;
+        second = second;
         below = below;
-        first_is = slice_get-get_or plan.units.items i d (omega arith);
-        second_is = slice_get-get_or plan.units.items j d inside;
-        related = (fixed (get_or plan.units.items i d) one, fixed (get_or plan.units.items j d) other, same);
+        first_is = first_is;
+        second_is = second_is;
+        related = (same, none);
+      }) in
+      let claims : (x : UnitPlan) → (x.claims ≡ false → ⊥) → x.claims ≡ true =
+      λ x never. elim (cases_Bool x.claims) [ inl is ↦ is | inr none ↦ absurd (never none) ] in
+      clean (SameFixedAddress i j) (record {
+        first = first;
+        second = second;
+        below = below;
+        first_is = first_is;
+        second_is = second_is;
+        related = (fixed first one, fixed second other, same, claims first (λ none. silent (inl none)), claims second (λ none. silent (inr none)));
       })
 
   -- where nothing is kept free there is room for all of them, and for the strangers
@@ -155,6 +188,26 @@ module _ (plan joined : Plan) (ss : List UnitPlan) (come : HasStrangers plan joi
   preferring : (u : ℕ) → u < length planned → (unit_at (units_of joined) u).preferred ≡ (unit_at (units_of plan) u).preferred
   preferring u inside = rw come.behind ((same_at joined.keep_free plan.keep_free planned ss u inside).1)
 
+  claiming : (u : ℕ) → u < length planned → (unit_at (units_of joined) u).claims ≡ (unit_at (units_of plan) u).claims
+  claiming u inside = rw come.behind ((same_at joined.keep_free plan.keep_free planned ss u inside).2)
+
+  -- what stands at a place of all of them
+  at_place : (u : ℕ) → u < length (units_of joined)
+      → (p : UnitPlan) × (slice_get (planned ++ ss) u ≡ Some p) × (unit_at (units_of joined) u ≡ planned_unit joined.keep_free p)
+  at_place u inside =
+      let (p, is, at) = placed joined.keep_free joined.units.items u inside in
+      (p, ap (λ (xs : List UnitPlan). slice_get xs u) (sym come.behind) ∙ is, at)
+
+  -- a unit that doesn't claim is planned
+  is_planned_silent : (u : ℕ) → u < length (units_of joined) → (unit_at (units_of joined) u).claims ≡ false → u < length planned
+  is_planned_silent u inside silent = elim (cases_lt u (length planned)) [
+    | inl there ↦ there
+    | inr past ↦
+        let (p, is, at) = at_place u inside in
+        let claims : p.claims ≡ true = of_behind (λ s. s.claims ≡ true) planned ss come.claim u past p is in
+        absurd (true≢false (sym claims ∙ sym (ap (λ (c : PlannedUnit). c.claims) at) ∙ silent))
+  ]
+
   choosing : (u : ℕ) → length planned ≤ u → u < length (units_of joined) → is_arbitrary (unit_at (units_of joined) u).name ≡ true
   choosing u past inside =
       rw come.behind (behind_at joined.keep_free planned ss come.choose u past (omega (arith, inside, count_units, length-append planned ss)))
@@ -174,6 +227,23 @@ module _ (plan joined : Plan) (ss : List UnitPlan) (come : HasStrangers plan joi
 
   -- ---- addresses
 
+  silent_beside : Clean plan → (s u : ℕ) → s < length (units_of joined) → u < length (units_of joined) → u ≢ s
+      → (unit_at (units_of joined) s).claims ≡ false → (unit_at (units_of joined) u).preferred ≢ (unit_at (units_of joined) s).preferred
+  silent_beside clean s u in_s in_u other silent same =
+      let there = is_planned_silent s in_s silent in
+      elim (cases_lt u (length planned)) [
+        | inl planned_u ↦
+            (clean_units plan clean).silent_apart s u (in_plan s there) (in_plan u planned_u) other (sym (claiming s there) ∙ silent)
+            (sym (preferring u planned_u) ∙ same ∙ preferring s there)
+        | inr past ↦
+            let (p, p_is, at_s) = at_place s in_s in
+            let (q, q_is, at_u) = at_place u in_u in
+            let apart = of_behind (λ t. All (λ x. x.claims ≡ false → x.address ≢ t.address) planned) planned ss come.apart u past q q_is in
+            of_first (λ x. x.claims ≡ false → x.address ≢ q.address) planned ss apart s there p p_is
+            (sym (ap (λ (c : PlannedUnit). c.claims) at_s) ∙ silent)
+            (sym (ap (λ (c : PlannedUnit). c.preferred) at_s) ∙ sym same ∙ ap (λ (c : PlannedUnit). c.preferred) at_u)
+      ]
+
   pub clean_beside : Clean plan → IsClean (units_of joined)
   clean_beside clean = record {
     range = names_in_range joined;
@@ -192,6 +262,12 @@ module _ (plan joined : Plan) (ss : List UnitPlan) (come : HasStrangers plan joi
         let (p, is, at) = placed joined.keep_free joined.units.items i inside in
         ap (λ (c : PlannedUnit). contains c.kept (unit_at (units_of joined) i).preferred) at
         ∙ ap (λ k. contains k (unit_at (units_of joined) i).preferred) come.unaware ∙ contains-empty nat_cmp (unit_at (units_of joined) i).preferred;
+    silent_apart = silent_beside clean;
+    silent_kept = λ s inside silent pool.
+        let there = is_planned_silent s inside silent in
+        let none = (unreached plan clean s (in_plan s there) (sym (claiming s there) ∙ silent) (ap in_pool (sym (preferring s there)) ∙ pool)).1 in
+        let some = come.told in
+        absurd (omega (arith, none, some));
   }
 
   -- ---- room for planned units that choose none that is kept free

@@ -97,6 +97,23 @@ free_left units clean v in_v arbitrary s all =
 pub fixed_below : (m n : ℕ) → m < n → n < 2 ^ 64 → is_arbitrary n ≡ false → is_arbitrary m ≡ false
 fixed_below m n below range fixed = ne_eqb (m / 2 ^ 63 % 2) 1 (λ one. eqb-false (n / 2 ^ 63 % 2) 1 fixed (omega arith))
 
+-- no other unit ever holds the address of one that doesn't claim
+pub alone_there : (units : List PlannedUnit) → IsClean units → (v : ℕ) → v < length units → (unit_at units v).claims ≡ false
+    → (u a : ℕ) → u < length units → u ≢ v → IsOwn (unit_at units u) a → a ≢ (unit_at units v).preferred
+alone_there units clean v in_v silent u a in_u other own same = elim (own.planned) [
+  | inl planned ↦ clean.silent_apart v u in_v in_u other silent (sym planned ∙ same)
+  | inr pool ↦
+      let there : in_pool (unit_at units v).preferred ≡ true = ap in_pool (sym same) ∙ pool in
+      let kept : contains (unit_at units v).kept (unit_at units v).preferred ≡ true = clean.silent_kept v in_v silent there in
+      elim (cases_Bool (is_arbitrary (unit_at units u).name)) [
+        | inl arbitrary ↦
+            let one : contains (unit_at units v).kept (unit_at units v).preferred ≡ contains (unit_at units u).kept a =
+            ap (λ k. contains k (unit_at units v).preferred) (clean.kept v in_v ∙ sym (clean.kept u in_u)) ∙ ap (contains (unit_at units u).kept) (sym same) in
+            true≢false (sym kept ∙ one ∙ own.unkept arbitrary)
+        | inr fixed ↦ clean.silent_apart v u in_v in_u other silent (sym (own.fixed fixed) ∙ same)
+      ]
+]
+
 module _ (units : List PlannedUnit) (clean : IsClean units) (u v : ℕ) (in_u : u < length units) (in_v : v < length units) (other : u ≢ v) (s : ClaimState)
     (held : IsHeld (unit_at units v) s.address) (all : AllNoted units v s.notes) where
   -- what it then is, where it has noted a
@@ -116,43 +133,58 @@ module _ (units : List PlannedUnit) (clean : IsClean units) (u v : ℕ) (in_u : 
       let same : a ≡ b = cc in
       subst (IsOwn (unit_at units v)) (sym same) own_b
 
-  -- to lose an address is to find another
-  loses : (a : ℕ) → IsOwn (unit_at units u) a → (says : Option Say) (new : ClaimState) → s.address ≡ Some a
-      → (unit_at units u).name < (unit_at units v).name → IsLost (unit_at units v) s (unit_at units u).name a says new
-      → Turn units v s (Told (Claim a)) says new
-  loses a own says new has below (inl (b, arbitrary, free, said, is)) =
-      turn_with a own says new (ap (λ t. t.on) is) (ap (λ t. t.notes) is)
-      (inr (b, said, ap (λ t. t.address) is, record { fixed = λ fixed. absurd (true≢false (sym arbitrary ∙ fixed)); unkept = λ _. free.unkept }))
-  loses a own says new has below (inr (none, said, is)) =
-      let n : ℕ = (unit_at units u).name in
-      absurd (elim (cases_Bool (is_arbitrary (unit_at units v).name)) [
-        | inl arbitrary ↦
-            let (b, free) = free_left units clean v in_v arbitrary (noted s n a) (noted_more units u v a s.notes in_u other own all) in
-            none arbitrary b free
-        | inr fixed ↦
-            let fixed_u = fixed_below n (unit_at units v).name below (clean.range v in_v) fixed in
-            addresses_differ units clean.fixed u v in_u in_v other fixed_u fixed (sym (own.fixed fixed_u) ∙ (own_held a has).fixed fixed)
-      ])
+  module _ (claims : (unit_at units v).claims ≡ true) where
+    -- to lose an address is to find another, for a unit that claims
+    loses : (a : ℕ) → IsOwn (unit_at units u) a → (says : Option Say) (new : ClaimState) → s.address ≡ Some a
+        → (unit_at units u).name < (unit_at units v).name → IsLost (unit_at units v) s (unit_at units u).name a says new
+        → Turn units v s (Told (Claim a)) says new
+    loses a own says new has below (inl (b, arbitrary, free, said, is)) =
+        turn_with a own says new (ap (λ t. t.on) is) (ap (λ t. t.notes) is)
+        (inr (b, said, ap (λ t. t.address) is, record { fixed = λ fixed. absurd (true≢false (sym arbitrary ∙ fixed)); unkept = λ _. free.unkept; planned = inr free.pool; silent = λ silent. absurd (true≢false (sym claims ∙ silent)) }))
+    loses a own says new has below (inr (none, said, is)) =
+        let n : ℕ = (unit_at units u).name in
+        absurd (elim (cases_Bool (is_arbitrary (unit_at units v).name)) [
+          | inl arbitrary ↦
+              let (b, free) = free_left units clean v in_v arbitrary (noted s n a) (noted_more units u v a s.notes in_u other own all) in
+              none arbitrary b free
+          | inr fixed ↦
+              let fixed_u = fixed_below n (unit_at units v).name below (clean.range v in_v) fixed in
+              addresses_differ units clean.fixed u v in_u in_v other fixed_u fixed (sym (own.fixed fixed_u) ∙ (own_held a has).fixed fixed)
+        ])
 
-  claimed : (a : ℕ) → IsOwn (unit_at units u) a → (says : Option Say) (new : ClaimState)
-      → Answers (unit_at units v) s (unit_at units u).name (Told (Claim a)) says new → Turn units v s (Told (Claim a)) says new
-  claimed a own says new =
-      claim_cases (unit_at units v) s (unit_at units u).name a says new (Turn units v s (Told (Claim a)) says new)
-      (loses a own says new)
-      (λ has _ (said, is).
-      turn_with a own says new (ap (λ t. t.on) is) (ap (λ t. t.notes) is) (inr (a, said, ap (λ t. t.address) is ∙ has, own_held a has)))
-      (λ not_held (said, is).
-      turn_with a own says new (ap (λ t. t.on) is) (ap (λ t. t.notes) is)
-      (inl (said, ap (λ t. t.address) is, λ b has same. let e : b ≡ a = sym (cc) in not_held (has ∙ ap Some e))))
+    claimed : (a : ℕ) → IsOwn (unit_at units u) a → (says : Option Say) (new : ClaimState)
+        → Answers (unit_at units v) s (unit_at units u).name (Told (Claim a)) says new → Turn units v s (Told (Claim a)) says new
+    claimed a own says new =
+        claim_cases (unit_at units v) s (unit_at units u).name a says new (Turn units v s (Told (Claim a)) says new)
+        (loses a own says new)
+        (λ has _ (said, is).
+        turn_with a own says new (ap (λ t. t.on) is) (ap (λ t. t.notes) is) (inr (a, said, ap (λ t. t.address) is ∙ has, own_held a has)))
+        (λ not_held (said, is).
+        turn_with a own says new (ap (λ t. t.on) is) (ap (λ t. t.notes) is)
+        (inl (said, ap (λ t. t.address) is, λ b has same. let e : b ≡ a = sym (cc) in not_held (has ∙ ap Some e))))
 
-  pub turn : (item : Item) → IsSaid (unit_at units u) item → (says : Option Say) (new : ClaimState)
-      → Answers (unit_at units v) s (unit_at units u).name item says new → Turn units v s item says new
-  turn (Told (Claim a)) own says new answers = claimed a own says new answers
-  turn (Told Cannot) never says new answers = absurd never
-  turn Request _ says new answers =
-      let (b, holds, own_b) = held in
-      record {
-        on = ap (λ t. t.on) answers.1;
-        notes = subst (λ (t : ClaimState). AllNoted units v t.notes) (sym answers.1) all;
-        outcome = inr (b, answers.0 ∙ ap (λ o. Some (claim_of o)) holds, ap (λ t. t.address) answers.1 ∙ holds, own_b);
-      }
+    pub turn : (item : Item) → IsSaid (unit_at units u) item → (says : Option Say) (new : ClaimState)
+        → Answers (unit_at units v) s (unit_at units u).name item says new → Turn units v s item says new
+    turn (Told (Claim a)) own says new answers = claimed a own says new answers
+    turn (Told Cannot) never says new answers = absurd never
+    turn Request _ says new answers =
+        let (b, holds, own_b) = held in
+        record {
+          on = ap (λ t. t.on) answers.1;
+          notes = subst (λ (t : ClaimState). AllNoted units v t.notes) (sym answers.1) all;
+          outcome = inr (b, answers.0 ∙ ap (λ o. Some (claim_of o)) holds, ap (λ t. t.address) answers.1 ∙ holds, own_b);
+        }
+
+  -- one that doesn't claim does nothing, and never holds what it hears claimed
+  pub passes_over : (unit_at units v).claims ≡ false → (item : Item) → IsSaid (unit_at units u) item → Turn units v s item None s
+  passes_over silent item said = record {
+    on = refl;
+    notes = all;
+    outcome = inl (
+      refl,
+      refl,
+      λ a has is.
+          let own : IsOwn (unit_at units u) a = subst (IsSaid (unit_at units u)) is said in
+          alone_there units clean v in_v silent u a in_u other own ((own_held a has).silent silent),
+    );
+  }

@@ -1,5 +1,5 @@
 -- The steps that show a conflict leave the unit with the larger NAME without an address.
-use Rattle.std.proofs.Common.{◌≡◌, ◌≢◌, ℕ, zero, suc, ◌+◌, ◌<◌, Bool, true, false, cond, not, ◌&&◌, eqb, ltb, inl, inr, List, [], ◌∷◌, ◌++◌, length}
+use Rattle.std.proofs.Common.{◌≡◌, ◌≢◌, ℕ, zero, suc, ◌+◌, ◌<◌, Bool, true, false, cond, not, ◌&&◌, ◌==◌, eqb, ltb, inl, inr, List, [], ◌∷◌, ◌++◌, length}
 use Rattle.std.proofs.Common.{map, refl, sym, ap, ◌∙◌, subst, arith, Option, Some, None}
 use Rattle.std.proofs.lemmas.Bool.{MatchBool-at_true, cases_eq, and_from, and_left, and_right, cond_both, cond-true, cond-false, eq-eqb, ne_eqb}
 use Rattle.std.proofs.lemmas.Bool.{lt-ltb, not_from_true, true≢false}
@@ -21,13 +21,15 @@ use Rattle.j39_findings.specs.declared.plan.unit_plan.UnitPlan.{UnitPlan}
 use Rattle.j39_findings.specs.declared.checking.finding.Finding.{Finding}
 use Rattle.j39_findings.specs.declared.steps.Step.{Step}
 use Rattle.j39_findings.specs.declared.steps.Step.TheVariants.{Up, Give}
+use Rattle.j39_world.specs.declared.wired.Wired.{Wired}
 use Rattle.j39_world.specs.PlannedUnits.{planned_unit, units_of, unit_at}
-use Rattle.j39_world.specs.ClaimSteps.{GivenFrom, switched_on, heard_and_answered, told_to_others, without_lists_to, answer_items}
+use Rattle.j39_world.specs.ClaimSteps.{GivenFrom, switched_on, heard_and_answered, told_to_others, without_lists_to, answer_items, first_items}
 use Rattle.j39_world.specs.Conflict.{IsLeftWithoutAddress, LeavesWithoutAddress}
-use Rattle.j39_world.specs.Run.{count_of, is_on, is_no_transfer_open, refusal, Run, RunsThrough}
+use Rattle.j39_world.specs.Run.{count_of, is_on, is_none_sending, is_nothing_undelivered, is_no_transfer_open, refusal, Run, RunsThrough}
 use Rattle.j39_world.specs.World.{World, Stations, Undelivered, all_off, changed, changed_pair, is_other_on}
 use Rattle.j39_laws.proofs.Certified.{quiet_where_empty}
-use Rattle.j39_laws.proofs.Settling.SettlingRuns.{answered}
+use Rattle.j39_laws.proofs.Settling.SettlingRuns.{reacted}
+use Rattle.j39_laws.proofs.Runs.ClaimInvariants.{first_said}
 use Rattle.j39_laws.proofs.Runs.Changed.{IsElsewhere, changed_here, changed_elsewhere, pair_here_or_elsewhere, pair_here, pair_elsewhere}
 use Rattle.j39_laws.proofs.Runs.Always.{follows_to_leads, leads_to_follows}
 use Rattle.j39_laws.proofs.Runs.Conditions.{is_unit, none_unknown, not_refused}
@@ -86,15 +88,20 @@ all_pass : (test : ℕ → Bool) (a n : ℕ) → ((x : ℕ) → test x ≡ true)
 all_pass test a zero pass = refl
 all_pass test a (suc n) pass = and_from (test a) (list_all test (range_with_len (a + 1) n)) (pass a) (all_pass test (a + 1) n pass)
 
-none_open : (count : ℕ) (w : World) → ((u : ℕ) → w.sessions u ≡ None) → is_no_transfer_open count w ≡ true
-none_open count w none = all_pass (λ u. not (is_some (w.sessions u))) 0 count (λ u. ap (λ o. not (is_some o)) (none u))
+none_open : (count : ℕ) (w : World) → ((u : ℕ) → w.sessions u ≡ None) → ((u v : ℕ) → w.wire u v ≡ []) → is_no_transfer_open count w ≡ true
+none_open count w none empty =
+    let nothing_of : ℕ → Bool = λ u. list_all (λ v. length (w.wire u v) == 0) (range_with_len 0 count) in
+    and_from (is_none_sending count w) (is_nothing_undelivered count w.wire)
+    (all_pass (λ u. not (is_some (w.sessions u))) 0 count (λ u. ap (λ o. not (is_some o)) (none u)))
+    (all_pass nothing_of 0 count (λ u. all_pass (λ v. length (w.wire u v) == 0) 0 count (λ v. ap (λ (xs : List Wired). length xs == 0) (empty u v))))
 
 -- ---- the four steps
 
 module _ (plan : Plan) (l s : ℕ) (unit_l : is_unit plan l ≡ true) (unit_s : is_unit plan s ≡ true)
     (fixed : is_arbitrary (unit_at (units_of plan) l).name ≡ false)
     (same : (unit_at (units_of plan) l).preferred ≡ (unit_at (units_of plan) s).preferred)
-    (smaller : (unit_at (units_of plan) s).name < (unit_at (units_of plan) l).name) where
+    (smaller : (unit_at (units_of plan) s).name < (unit_at (units_of plan) l).name)
+    (claims_l : (unit_at (units_of plan) l).claims ≡ true) (claims_s : (unit_at (units_of plan) s).claims ≡ true) where
   -- the unit of the larger NAME, and that of the smaller one
   abbrev loser : PlannedUnit
   loser = unit_at (units_of plan) l
@@ -108,6 +115,7 @@ module _ (plan : Plan) (l s : ℕ) (unit_l : is_unit plan l ≡ true) (unit_s : 
 
   pub record IsOneOn (w : World) : Type 0 where
     pub silent : (u : ℕ) → w.sessions u ≡ None
+    pub untaken : (x y : ℕ) → w.wire x y ≡ []
     pub one : w.stations l ≡ started loser
     pub off : (t : ℕ) → t ≢ l → (w.stations t).on ≡ false
     pub told : (x y : ℕ) → w.claims x y ≡ []
@@ -120,12 +128,12 @@ module _ (plan : Plan) (l s : ℕ) (unit_l : is_unit plan l ≡ true) (unit_s : 
     pub list : w.claims from to ≡ item ∷ []
     pub told : (x y : ℕ) → IsElsewhere from to x y → w.claims x y ≡ []
 
-  nothing : (b : Bool) (xs : List Item) → xs ≡ [] → cond b [] xs ≡ []
+  nothing : {X : Type 0} (b : Bool) (xs : List X) → xs ≡ [] → cond b [] xs ≡ []
   nothing true xs is = refl
   nothing false xs is = is
 
   up_l : refusal plan all_off (Up l) ≡ None
-  up_l = not_refused plan all_off (Up l) (not_from_true _ unit_l, (refl, (not_from_true _ (none_open (count_of plan) all_off (λ u. refl)), tt)))
+  up_l = not_refused plan all_off (Up l) (not_from_true _ unit_l, (refl, (not_from_true _ (none_open (count_of plan) all_off (λ u. refl) (λ u v. refl)), tt)))
 
   one_on : IsOneOn (switched_on (units_of plan) all_off l)
   one_on =
@@ -134,14 +142,15 @@ module _ (plan : Plan) (l s : ℕ) (unit_l : is_unit plan l ≡ true) (unit_s : 
       λ t other. ap (λ (x : ClaimState). x.on) (changed_elsewhere all_off.stations l (started loser) t other) in
       record {
         silent = λ u. refl;
+        untaken = λ x y. nothing (eqb y l) [] refl;
         one = changed_here all_off.stations l (started loser);
         off = off;
-        told = λ x y. nobody_told new (without_lists_to l all_off.claims) l (Told (Claim loser.preferred) ∷ []) off x y
+        told = λ x y. nobody_told new (without_lists_to l all_off.claims) l (first_items loser) off x y
             ∙ nothing (eqb y l) [] refl;
       }
 
   up_s : (w : World) → IsOneOn w → refusal plan w (Up s) ≡ None
-  up_s w is = not_refused plan w (Up s) (not_from_true _ unit_s, (is.off s (λ e. apart (sym e)), (not_from_true _ (none_open (count_of plan) w is.silent), tt)))
+  up_s w is = not_refused plan w (Up s) (not_from_true _ unit_s, (is.off s (λ e. apart (sym e)), (not_from_true _ (none_open (count_of plan) w is.silent is.untaken), tt)))
 
   still_one : (w : World) → IsOneOn w → (switched_on (units_of plan) w s).stations l ≡ started loser
   still_one w is = changed_elsewhere w.stations s (started winner) l apart ∙ is.one
@@ -150,7 +159,7 @@ module _ (plan : Plan) (l s : ℕ) (unit_l : is_unit plan l ≡ true) (unit_s : 
   two_on w is =
       let new : Stations = changed w.stations s (started winner) in
       let mid : Undelivered = without_lists_to s w.claims in
-      let items : List Item = Told (Claim winner.preferred) ∷ [] in
+      let items : List Item = first_items winner in
       let at_l : new l ≡ started loser = changed_elsewhere w.stations s (started winner) l apart ∙ is.one in
       let on_l : (new l).on ≡ true = ap (λ (x : ClaimState). x.on) at_l in
       let off : (t : ℕ) → t ≢ s → t ≢ l → (new t).on ≡ false =
@@ -160,7 +169,7 @@ module _ (plan : Plan) (l s : ℕ) (unit_l : is_unit plan l ≡ true) (unit_s : 
         on_l = on_l;
         on_s = ap (λ (x : ClaimState). x.on) (changed_here w.stations s (started winner));
         off = λ t not_l not_s. off t not_s not_l;
-        list = one_told new mid s items l apart off on_l ∙ ap (λ (xs : List Item). xs ++ items) (nothing (eqb l s) (w.claims s l) (is.told s l));
+        list = one_told new mid s items l apart off on_l ∙ ap (λ (xs : List Item). xs ++ items) (nothing (eqb l s) (w.claims s l) (is.told s l)) ∙ first_said winner claims_s;
         told = λ x y elsewhere. no_other_told new mid s items l apart off x y elsewhere ∙ nothing (eqb y s) (w.claims x y) (is.told x y);
       }
 
@@ -188,7 +197,8 @@ module _ (plan : Plan) (l s : ℕ) (unit_l : is_unit plan l ≡ true) (unit_s : 
   yielding : (w : World) → AreTwoOn (Told (Claim winner.preferred)) s l w → w.stations l ≡ started loser
       → (new : World) → GivenFrom (units_of plan) w s l (w.claims s l) new → IsYielding new
   yielding w is one new leads =
-      let (says, st, answers, e) = subst (λ (xs : List Item). GivenFrom (units_of plan) w s l xs new) is.list leads in
+      let (says, st, reacts, e) = subst (λ (xs : List Item). GivenFrom (units_of plan) w s l xs new) is.list leads in
+      let answers = MatchBool-at_true _ _ claims_l reacts in
       let item : Item = Told (Claim winner.preferred) in
       let y : Yields loser winner.name fixed smaller says st =
       yields loser winner.name fixed smaller winner.preferred same says st
@@ -217,7 +227,8 @@ module _ (plan : Plan) (l s : ℕ) (unit_l : is_unit plan l ≡ true) (unit_s : 
 
   left : (w : World) → IsYielding w → (new : World) → GivenFrom (units_of plan) w l s (w.claims l s) new → IsLeftWithoutAddress l new
   left w is new leads =
-      let (says, st, answers, e) = subst (λ (xs : List Item). GivenFrom (units_of plan) w l s xs new) is.two.list leads in
+      let (says, st, reacts, e) = subst (λ (xs : List Item). GivenFrom (units_of plan) w l s xs new) is.two.list leads in
+      let answers = MatchBool-at_true _ _ claims_s reacts in
       let mid : Undelivered = changed_pair w.claims l s [] in
       let none : (x y : ℕ) → mid x y ≡ [] = heard_all w.claims l s is.two.told in
       let silent : answer_items says ≡ [] = ap answer_items answers.0 in
@@ -244,12 +255,12 @@ module _ (plan : Plan) (l s : ℕ) (unit_l : is_unit plan l ≡ true) (unit_s : 
       let w2 : World = switched_on (units_of plan) w1 s in
       let is2 = two_on w1 one_on in
       let claim : Item = Told (Claim winner.preferred) in
-      let (says3, st3, answers3) = answered loser (w2.stations l) winner.name claim in
+      let (says3, st3, answers3) = reacted loser (w2.stations l) winner.name claim in
       let w3 : World = heard_and_answered (units_of plan) w2 s l [] says3 st3 in
       let leads3 : GivenFrom (units_of plan) w2 s l (w2.claims s l) w3 =
       subst (λ (xs : List Item). GivenFrom (units_of plan) w2 s l xs w3) (sym is2.list) (says3, st3, answers3, refl) in
       let is3 = yielding w2 is2 (still_one w1 one_on) w3 leads3 in
-      let (says4, st4, answers4) = answered winner (w3.stations s) loser.name (Told Cannot) in
+      let (says4, st4, answers4) = reacted winner (w3.stations s) loser.name (Told Cannot) in
       let w4 : World = heard_and_answered (units_of plan) w3 l s [] says4 st4 in
       let leads4 : GivenFrom (units_of plan) w3 l s (w3.claims l s) w4 =
       subst (λ (xs : List Item). GivenFrom (units_of plan) w3 l s xs w4) (sym is3.two.list) (says4, st4, answers4, refl) in (
@@ -294,6 +305,8 @@ pub record AreFixedAlike (plan : Plan) (l s : ℕ) : Type 0 where
   pub other_is : slice_get plan.units.items s ≡ Some other
   pub fixed : IsFixed one
   pub address : one.address ≡ other.address
+  pub claims_one : one.claims ≡ true
+  pub claims_other : other.claims ≡ true
 
 alike : (plan : Plan) (finding : Finding) (steps : List Step) (c : IsConflictRun plan finding steps) → AreFixedAlike plan c.larger c.smaller
 alike plan finding steps c =
@@ -310,6 +323,8 @@ alike plan finding steps c =
             other_is = ap (λ k. slice_get plan.units.items k) (sym at_j) ∙ pair.second_is;
             fixed = pair.related.0.0;
             address = pair.related.0.2;
+            claims_one = pair.related.0.3;
+            claims_other = pair.related.0.4;
           }
       | inr turned ↦
           let e : SameFixedAddress i j ≡ SameFixedAddress c.smaller c.larger = sym is ∙ turned in
@@ -322,6 +337,8 @@ alike plan finding steps c =
             other_is = ap (λ k. slice_get plan.units.items k) (sym at_i) ∙ pair.first_is;
             fixed = pair.related.0.1;
             address = sym pair.related.0.2;
+            claims_one = pair.related.0.4;
+            claims_other = pair.related.0.3;
           }
     ]
 
@@ -337,6 +354,8 @@ leaves_without_address plan finding steps c =
     ap (λ (x : PlannedUnit). is_arbitrary x.name) at_l ∙ a.fixed in
     let same : (unit_at (units_of plan) c.larger).preferred ≡ (unit_at (units_of plan) c.smaller).preferred =
     ap (λ (x : PlannedUnit). x.preferred) at_l ∙ a.address ∙ sym (ap (λ (x : PlannedUnit). x.preferred) at_s) in
+    let claims_l : (unit_at (units_of plan) c.larger).claims ≡ true = ap (λ (x : PlannedUnit). x.claims) at_l ∙ a.claims_one in
+    let claims_s : (unit_at (units_of plan) c.smaller).claims ≡ true = ap (λ (x : PlannedUnit). x.claims) at_s ∙ a.claims_other in
     let one_same : c.order.one ≡ a.one = let e : Some c.order.one ≡ Some a.one = sym c.order.one_is ∙ a.one_is in cc in
     let other_same : c.order.other ≡ a.other = let e : Some c.order.other ≡ Some a.other = sym c.order.other_is ∙ a.other_is in cc in
     let above : c.order.other.name < c.order.one.name = c.order.above in
@@ -350,6 +369,6 @@ leaves_without_address plan finding steps c =
       ap (λ (x : UnitPlan). x.name) other_same,
     ) in
     subst (λ (xs : List Step). LeavesWithoutAddress plan xs c.larger) (sym c.steps_are) (record {
-      possible = possible plan c.larger c.smaller unit_l unit_s fixed same smaller;
-      shown = shown plan c.larger c.smaller unit_l unit_s fixed same smaller;
+      possible = possible plan c.larger c.smaller unit_l unit_s fixed same smaller claims_l claims_s;
+      shown = shown plan c.larger c.smaller unit_l unit_s fixed same smaller claims_l claims_s;
     })

@@ -38,6 +38,7 @@ answers_answering = all_map wired.Packet IsAnswer IsAnswering (λ p is. is)
 answering_comes_after : (m : Message) (item : Wired) → IsAnswering item → ComesAfter m item
 answering_comes_after m (wired.Short bytes) is = is
 answering_comes_after m (wired.Packet p) is = answers_go_on m.begun.bytes p is
+answering_comes_after m (wired.Alone f bytes) is = tt
 
 begins_more : (m : Message) (xs ys : List Wired) → AllByRecursion (ComesAfter m) ys → BeginsOnce m xs → BeginsOnce m (xs ++ ys)
 begins_more m [] ys more none = absurd none

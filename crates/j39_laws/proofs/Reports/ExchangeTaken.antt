@@ -155,6 +155,7 @@ not_of_sender (wired.Packet (EndAck size pgn)) is = tt
 not_of_sender (wired.Packet (Bam size pgn)) is = absurd (cc is)
 not_of_sender (wired.Packet (Abort reason pgn)) is = tt
 not_of_sender (wired.Packet (Dt number seven)) is = absurd (cc is)
+not_of_sender (wired.Alone f bytes) is = tt
 
 not_of_receiver : (item : Wired) → not (is_of_receiver item) ≡ true → IsUnacknowledging item
 not_of_receiver (wired.Short bytes) is = tt
@@ -164,6 +165,7 @@ not_of_receiver (wired.Packet (EndAck size pgn)) is = absurd (cc is)
 not_of_receiver (wired.Packet (Bam size pgn)) is = tt
 not_of_receiver (wired.Packet (Abort reason pgn)) is = tt
 not_of_receiver (wired.Packet (Dt number seven)) is = tt
+not_of_receiver (wired.Alone f bytes) is = tt
 
 not_true : (b : Bool) → not b ≡ true → b ≡ false
 not_true true is = absurd (cc is)

@@ -51,10 +51,11 @@ message_to (Some s) v = message_for (is_among s.targets v) s
 
 -- ---- what is undelivered
 
--- it answers a message of the other direction
+-- it answers a message of the other direction, or was sent alone
 abbrev pub IsAnswering : Wired → Type 0
 IsAnswering (wired.Short bytes) = ⊥
 IsAnswering (wired.Packet p) = IsAnswer p
+IsAnswering (wired.Alone f bytes) = Unit {0}
 
 -- it is no acknowledgement
 abbrev pub IsUnacknowledging : Wired → Type 0
@@ -65,11 +66,13 @@ IsUnacknowledging _ = Unit {0}
 abbrev pub Begins : Message → Wired → Type 0
 Begins m (wired.Short bytes) = bytes ≡ m.begun.bytes
 Begins m (wired.Packet p) = AnnouncesMessage m.pgn m.begun.bytes p
+Begins m (wired.Alone f bytes) = ⊥
 
 -- it may come after that
 abbrev pub ComesAfter : Message → Wired → Type 0
 ComesAfter m (wired.Short bytes) = ⊥
 ComesAfter m (wired.Packet p) = GoesOn m.begun.bytes p
+ComesAfter m (wired.Alone f bytes) = Unit {0}
 
 -- one begins the message, and all others may come after such a one
 abbrev pub BeginsOnce : Message → List Wired → Type 0

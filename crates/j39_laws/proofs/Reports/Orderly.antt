@@ -35,6 +35,18 @@ pub record IsOrderly (plan : Plan) (stations : Stations) (claims : Undelivered) 
   pub planned : (u : ℕ) → PlannedAt plan u (sessions u)
   pub delivered : (u : ℕ) → DeliveredBefore claims (sessions u)
 
+empty_list : {X : Type 0} (xs : List X) → (length xs == 0) ≡ true → xs ≡ []
+empty_list [] e = refl
+empty_list (x ∷ xs) e = let zero_is : suc (length xs) ≡ 0 = eqb-true (suc (length xs)) 0 e in absurd (omega arith)
+
+-- nothing is undelivered between two units
+pub nothing_between : {X : Type 0} (plan : Plan) (lists : ℕ → ℕ → List X) → is_nothing_undelivered (count_of plan) lists ≡ true → (s t : ℕ)
+    → is_unit plan s ≡ true → is_unit plan t ≡ true → lists s t ≡ []
+nothing_between plan lists none s t unit_s unit_t =
+    let is_empty : ℕ → ℕ → Bool = λ x y. length (lists x y) == 0 in
+    let of_s = units_all plan (λ x. list_all (is_empty x) (range_with_len 0 (count_of plan))) none s unit_s in
+    empty_list (lists s t) (units_all plan (is_empty s) of_s t unit_t)
+
 module _ (plan : Plan) (stations : Stations) (claims : Undelivered) (sessions : Sessions) (o : IsOrderly plan stations claims sessions) where
   -- ---- no message is sent
 
@@ -84,10 +96,6 @@ module _ (plan : Plan) (stations : Stations) (claims : Undelivered) (sessions : 
     delivered = changed_each (λ _ x. DeliveredBefore claims x) sessions u s delivered o.delivered;
   }
 
-  empty_list : (xs : List Item) → (length xs == 0) ≡ true → xs ≡ []
-  empty_list [] e = refl
-  empty_list (x ∷ xs) e = let zero_is : suc (length xs) ≡ 0 = eqb-true (suc (length xs)) 0 e in absurd (omega arith)
-
   -- nothing is undelivered at all, where nothing is between units
   pub all_delivered : is_nothing_undelivered (count_of plan) claims ≡ true → (s t : ℕ) → claims s t ≡ []
   all_delivered none s t =
@@ -95,7 +103,5 @@ module _ (plan : Plan) (stations : Stations) (claims : Undelivered) (sessions : 
         | false ↦ λ outside. o.between s t outside
         | true ↦ λ inside.
             let units = and_parts (is_unit plan s) (is_unit plan t) inside in
-            let is_empty : ℕ → ℕ → Bool = λ x y. length (claims x y) == 0 in
-            let of_s = units_all plan (λ x. list_all (is_empty x) (range_with_len 0 (count_of plan))) none s units.0 in
-            empty_list (claims s t) (units_all plan (is_empty s) of_s t units.1)
+            nothing_between plan claims none s t units.0 units.1
       ] refl

@@ -15,7 +15,7 @@ use Rattle.j39_world.specs.declared.wired.Wired.{Wired}
 use Rattle.j39_world.specs.declared.wired.Wired.TheVariants as wired
 use Rattle.j39_world.specs.Flows.{window_at}
 use Rattle.j39_world.specs.Transfers.{Outgoing, Begun, Reported, Wire, is_among, closed_if_complete}
-use Rattle.j39_world.specs.TransferSteps.{session_after, reaction_of, receiver_replies, sender_replies, flow_in, report, hearing, ReportsOne}
+use Rattle.j39_world.specs.TransferSteps.{alone_report, session_after, reaction_of, receiver_replies, sender_replies, flow_in, report, hearing, ReportsOne}
 use Rattle.j39_world.specs.TransferSteps.{Reports, packet_taken, TakenFrom, LostFrom, packets_in, receiver_timed_out}
 use Rattle.j39_world.specs.World.{World, changed, changed_pair}
 use Rattle.j39_world.specs.Sound.{reported}
@@ -29,10 +29,10 @@ use Rattle.j39_laws.proofs.Reports.Exchanges.{Pair, pair_of, Message, message_fo
 use Rattle.j39_laws.proofs.Reports.ExchangeSteps.{asides_unacknowledging, asides_answer, answers_answering, acknowledged_reported, lost_keeps, late_keeps}
 use Rattle.j39_laws.proofs.Reports.ExchangeTaken as taking
 use Rattle.j39_laws.proofs.Reports.ExchangeTaken.{ReportsShort, TakesOn, Completes, short_taken}
-use Rattle.j39_laws.proofs.Reports.Reporting.{reported_none, reported_here, reported_elsewhere, reported_message, same_messages, message_after}
+use Rattle.j39_laws.proofs.Reports.Reporting.{reported_beside, reported_none, reported_here, reported_elsewhere, reported_message, same_messages, message_after}
 use Rattle.j39_laws.proofs.Reports.Reporting.{AckedAt, acked_now}
 use Rattle.j39_laws.proofs.Reports.SenderSteps.{among_one}
-use Rattle.j39_laws.proofs.Reports.TransferInvariant.{TransferInvariant, ExchangesBy, back_taken, answered}
+use Rattle.j39_laws.proofs.Reports.TransferInvariant.{TransferInvariant, reports_beside, ExchangesBy, back_taken, answered}
 
 -- every pair
 abbrev Anywhere : ℕ → ℕ → Type 0
@@ -367,3 +367,8 @@ module _ (plan : Plan) (w : World) (inv : TransferInvariant plan w) where
   take_keeps windows u v (wired.Short bytes ∷ rest) is new e = subst (TransferInvariant plan) (sym e) (short_keeps u v bytes rest is)
   take_keeps windows u v (wired.Packet p ∷ rest) is new leads =
       subst (TransferInvariant plan) (sym leads.2) (packet_keeps windows u v p rest is leads.0 leads.1)
+  take_keeps windows u v (wired.Alone f bytes ∷ rest) is new e =
+      let less : World = record w { wire = changed_pair w.wire u v rest } in
+      subst (TransferInvariant plan) (sym e)
+      (reports_beside plan less (w.reports ++ alone_report u v f bytes ∷ []) (reported_beside w.reports u v f bytes)
+      (lose_keeps u v (wired.Alone f bytes ∷ rest) is less refl))

@@ -26,7 +26,7 @@ use Rattle.j39_world.specs.Resting.{can_rest, is_over_with}
 use Rattle.j39_world.proofs.Refusals.{none_hold}
 use Rattle.j39_world.specs.Run.{count_of, is_on, at_ends, begin_refusal, begin_refusals}
 use Rattle.j39_world.specs.Transfers.{Outgoing, Wire, outcome_in, is_among, added}
-use Rattle.j39_world.specs.TransferSteps.{targets_of, sent_to_receivers, begun_stage, outgoing, first_item, begins, BeginsAt, Emits, SenderTimesOut, rested}
+use Rattle.j39_world.specs.TransferSteps.{targets_of, sent_to_receivers, begun_stage, outgoing, first_item, begins, BeginsAt, SendsAt, Emits, SenderTimesOut, rested}
 use Rattle.j39_world.specs.World.{World, changed, is_other_on}
 use Rattle.j39_world.specs.Sound.{reported}
 use Rattle.j39_tp.specs.HonestPackets.{GoesOn}
@@ -35,7 +35,7 @@ use Rattle.j39_laws.proofs.Runs.Changed.{changed_each}
 use Rattle.j39_laws.proofs.Runs.Conditions.{is_unit}
 use Rattle.j39_laws.proofs.Runs.Units.{units_all}
 use Rattle.j39_laws.proofs.Reports.Exchanges.{Pair, pair_of, Message, message_for, message_to, begun_of, IsUnacknowledging, Begins, Exchange}
-use Rattle.j39_laws.proofs.Reports.ExchangeSteps.{begins_keeps, goes_on_keeps, back_keeps}
+use Rattle.j39_laws.proofs.Reports.ExchangeSteps.{answers_keep, begins_keeps, goes_on_keeps, back_keeps}
 use Rattle.j39_laws.proofs.Reports.ExchangeTaken.{rests_keeps}
 use Rattle.j39_laws.proofs.Reports.Reporting.{same_messages, AckedAt}
 use Rattle.j39_laws.proofs.Reports.TransferInvariant.{AreExchanges, TransferInvariant}
@@ -178,6 +178,29 @@ module _ (plan : Plan) (w : World) (inv : TransferInvariant plan w) where
       → BeginsAt (count_of plan) w f flow bytes new → TransferInvariant plan new
   begin_keeps f None bytes allowed new never = absurd never
   begin_keeps f (Some flow) bytes allowed new e = subst (TransferInvariant plan) (sym e) (begins_keep f flow bytes allowed)
+
+  -- ---- a frame is sent alone
+
+  alone_exchanges : (u f : ℕ) (targets bytes : List ℕ) (s t : ℕ)
+      → Exchange (message_to (w.sessions s) t) (record (pair_of w s t) {
+        wire = added w.wire u targets (wired.Alone f bytes) s t;
+        back = added w.wire u targets (wired.Alone f bytes) t s;
+      })
+  alone_exchanges u f targets bytes s t =
+      let item : Wired = wired.Alone f bytes in
+      let forth : Exchange (message_to (w.sessions s) t) (record (pair_of w s t) { wire = added w.wire u targets item s t }) =
+      cond_both (eqb s u && is_among targets t) (w.wire s t ++ item ∷ []) (w.wire s t)
+      (λ (list : List Wired). Exchange (message_to (w.sessions s) t) (record (pair_of w s t) { wire = list }))
+      (λ _. answers_keep (message_to (w.sessions s) t) (pair_of w s t) (item ∷ []) (tt, tt) (inv.exchanges s t)) (λ _. inv.exchanges s t) in
+      back_sent (message_to (w.sessions s) t) (record (pair_of w s t) { wire = added w.wire u targets item s t }) (eqb t u && is_among targets s) item tt forth
+
+  pub send_keeps : (f : ℕ) (flow : Option Flow) (bytes : List ℕ) (new : World) → SendsAt (count_of plan) w f flow bytes new → TransferInvariant plan new
+  send_keeps f None bytes new never = absurd never
+  send_keeps f (Some flow) bytes new e = subst (TransferInvariant plan) (sym e) (record {
+    order = inv.order;
+    exchanges = alone_exchanges flow.sender f (targets_of (count_of plan) w.stations flow.sender flow.to) bytes;
+    acknowledged = inv.acknowledged;
+  })
 
   -- ---- the sender goes on
 

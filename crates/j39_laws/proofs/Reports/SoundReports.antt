@@ -1,18 +1,18 @@
 -- In each world of a run reports are sound, and acknowledged messages were reported.
 use Rattle.std.proofs.Common.{Some, ◌≡◌, ℕ, Bool, true, false, cond, not, eqb, ltb, List, [], ◌∷◌, length, refl, sym, ap, subst, Option, None}
-use Rattle.std.proofs.lemmas.Bool.{not-false, true≢false}
+use Rattle.std.proofs.lemmas.Bool.{and_parts, not-false, true≢false}
 use Rattle.std.specs.Option.{is_some}
 use Rattle.std.specs.Prelude.{slice_get}
 use Rattle.j39_claim.specs.declared.item.Item.{Item}
 use Rattle.j39_claim.specs.declared.item.Item.TheVariants.{Told, Request}
 use Rattle.j39_claim.specs.declared.item.Say.TheVariants.{Claim}
-use Rattle.j39_claim.specs.ClaimRule.{claim_of, off, started}
+use Rattle.j39_claim.specs.ClaimRule.{claim_of, off, said_by, started}
 use Rattle.j39_findings.specs.declared.plan.Plan.{Plan}
-use Rattle.j39_findings.specs.declared.steps.Step.TheVariants.{Up, Down, Give, Ask, Begin, Emit, Take, Lose, LateSender, LateReceiver, Rest}
+use Rattle.j39_findings.specs.declared.steps.Step.TheVariants.{Up, Down, Give, Ask, Begin, Send, Emit, Take, Lose, LateSender, LateReceiver, Rest}
 use Rattle.j39_world.specs.PlannedUnits.{units_of, unit_at}
-use Rattle.j39_world.specs.ClaimSteps.{switched_on, switched_off, asked, GivenFrom, told_to_others, without_lists_to, answer_items}
+use Rattle.j39_world.specs.ClaimSteps.{switched_on, switched_off, asked, asking_items, first_items, GivenFrom, told_to_others, without_lists_to, answer_items}
 use Rattle.j39_world.specs.Flows.{flows_of, windows_of}
-use Rattle.j39_world.specs.Run.{count_of, is_no_transfer_open}
+use Rattle.j39_world.specs.Run.{count_of, is_none_sending, is_no_transfer_open, is_nothing_undelivered}
 use Rattle.j39_world.specs.Sound.{AreReportsSound, IsAcknowledgedReported, reported}
 use Rattle.j39_world.specs.SoundPlan.{Always}
 use Rattle.j39_world.specs.Transfers.{Outgoing}
@@ -22,7 +22,7 @@ use Rattle.j39_laws.proofs.Reports.ExchangeSteps.{is_part, dropped_keeps}
 use Rattle.j39_laws.proofs.Reports.Orderly.{DeliveredBefore, IsOrderly, none_sends, none_sends_while, claims_keep, less_between}
 use Rattle.j39_laws.proofs.Reports.ReceiverSteps.{lose_keeps, late_receiver_keeps, take_keeps}
 use Rattle.j39_laws.proofs.Reports.Reporting.{AckedAt}
-use Rattle.j39_laws.proofs.Reports.SenderSteps.{begin_keeps, emit_keeps, late_sender_keeps, rest_keeps}
+use Rattle.j39_laws.proofs.Reports.SenderSteps.{begin_keeps, send_keeps, emit_keeps, late_sender_keeps, rest_keeps}
 use Rattle.j39_laws.proofs.Reports.TransferInvariant.{AreExchanges, TransferInvariant}
 use Rattle.j39_laws.proofs.Runs.Always.{IsPreserved, always}
 use Rattle.j39_laws.proofs.Runs.Conditions.{is_unit, none_refuses, units_known}
@@ -50,7 +50,9 @@ dropped false false pair e = e
 
 module _ (plan : Plan) (w : World) (inv : TransferInvariant plan w) where
   none_open : is_no_transfer_open (count_of plan) w ≡ true → (u : ℕ) → w.sessions u ≡ None
-  none_open closed = none_sends plan w.stations w.claims w.sessions inv.order (units_all plan (λ v. not (is_some (w.sessions v))) closed)
+  none_open closed = none_sends plan w.stations w.claims w.sessions inv.order
+      (units_all plan (λ v. not (is_some (w.sessions v)))
+      (and_parts (is_none_sending (count_of plan) w) (is_nothing_undelivered (count_of plan) w.wire) closed).0)
 
   -- what units claim changes while no message is sent
   orderly : ((u : ℕ) → w.sessions u ≡ None) → (new : Stations) → AreUnitsOn plan new → (claims : Undelivered) → AreBetweenUnits plan claims
@@ -73,7 +75,7 @@ module _ (plan : Plan) (w : World) (inv : TransferInvariant plan w) where
       let now : Stations = changed w.stations u (started (unit_at (units_of plan) u)) in
       let on : AreUnitsOn plan now = units_on plan w.stations u (started (unit_at (units_of plan) u)) unit inv.order.units in
       let mid : Undelivered = without_lists_to u w.claims in
-      let told : List Item = Told (Claim (unit_at (units_of plan) u).preferred) ∷ [] in
+      let told : List Item = first_items (unit_at (units_of plan) u) in
       record {
         order = orderly none now on (told_to_others now mid u told) (told_between plan now on mid (without_between u) u unit told);
         exchanges = dropped_to none u;
@@ -92,7 +94,7 @@ module _ (plan : Plan) (w : World) (inv : TransferInvariant plan w) where
 
   ask_keeps : (u : ℕ) → is_unit plan u ≡ true → is_no_transfer_open (count_of plan) w ≡ true → TransferInvariant plan (asked (units_of plan) w u)
   ask_keeps u unit closed =
-      let told : List Item = Request ∷ Told (claim_of (w.stations u).address) ∷ [] in
+      let told : List Item = asking_items (said_by (unit_at (units_of plan) u) (claim_of (w.stations u).address)) in
       record {
         order = orderly (none_open closed) w.stations inv.order.units (told_to_others w.stations w.claims u told)
             (told_between plan w.stations inv.order.units w.claims inv.order.between u unit told);
@@ -132,6 +134,7 @@ steps_keep plan w inv (Ask u) allowed new e =
     let (known, (on, (idle, none))) = none_refuses plan w (Ask u) allowed in
     subst (TransferInvariant plan) (sym e) (ask_keeps plan w inv u (not-false _ known) (not-false _ idle))
 steps_keep plan w inv (Begin f bytes) allowed new leads = begin_keeps plan w inv f (slice_get (flows_of plan) f) bytes.items allowed new leads
+steps_keep plan w inv (Send f bytes) allowed new leads = send_keeps plan w inv f (slice_get (flows_of plan) f) bytes.items new leads
 steps_keep plan w inv (Emit u) allowed new leads = emit_keeps plan w inv u new leads
 steps_keep plan w inv (Take u v) allowed new leads = take_keeps plan w inv (windows_of plan) u v (w.wire u v) refl new leads
 steps_keep plan w inv (Lose u v) allowed new leads = lose_keeps plan w inv u v (w.wire u v) refl new leads

@@ -1,9 +1,9 @@
 -- What each step keeps of messages.
-use Rattle.std.proofs.Common.{◌≡◌, ℕ, List, ◌∷◌, ◌++◌, Option}
+use Rattle.std.proofs.Common.{◌≡◌, ℕ, List, ◌∷◌, ◌++◌, sym, subst, Option}
 use Rattle.std.specs.List.{AllByRecursion}
 use Rattle.j39_findings.specs.declared.plan.Plan.{Plan}
 use Rattle.j39_world.specs.declared.wired.Wired.{Wired}
-use Rattle.j39_world.specs.Transfers.{Wire}
+use Rattle.j39_world.specs.Transfers.{Begun, Reported, Wire}
 use Rattle.j39_world.specs.World.{World, changed_pair}
 use Rattle.j39_world.specs.Sound.{reported}
 use Rattle.j39_laws.proofs.Reports.Orderly.{IsOrderly}
@@ -22,6 +22,16 @@ pub record TransferInvariant (plan : Plan) (w : World) : Type 0 where
   pub order : IsOrderly plan w.stations w.claims w.sessions
   pub exchanges : AreExchanges w
   pub acknowledged : AreAcknowledged w
+
+-- it speaks of reports of messages that were begun alone
+pub reports_beside : (plan : Plan) (w : World) (rs : List Reported) → ((t s : ℕ) → reported rs t s ≡ reported w.reports t s) → TransferInvariant plan w
+    → TransferInvariant plan (record w { reports = rs })
+reports_beside plan w rs same inv = record {
+  order = inv.order;
+  exchanges = λ s t. subst (λ (xs : List Begun). Exchange (message_to (w.sessions s) t) (record (pair_of w s t) { reports = xs })) (sym (same t s))
+      (inv.exchanges s t);
+  acknowledged = λ s t. subst (λ (xs : List Begun). AckedAt (w.sessions s) t xs) (sym (same t s)) (inv.acknowledged s t);
+}
 
 -- ---- both lists of a pair
 

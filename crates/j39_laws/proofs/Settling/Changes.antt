@@ -64,3 +64,9 @@ changes-told [] noted held new say is =
     omega arith
 changes-told (Told other ∷ items) noted held new say is = omega (arith, changes-told items (claimed_by other) held new say is)
 changes-told (Request ∷ items) noted held new say is = changes-told items noted held new say is
+
+-- what was noted of it otherwise adds one change at most
+pub changes-noted : (items : List Item) (noted other held : Option ℕ) → changes noted items held ≤ differ noted other + changes other items held
+changes-noted [] noted other held = differ-through noted other held
+changes-noted (Told say ∷ items) noted other held = omega (arith, differ-through noted other (claimed_by say))
+changes-noted (Request ∷ items) noted other held = changes-noted items noted other held

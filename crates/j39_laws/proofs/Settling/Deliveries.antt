@@ -1,5 +1,5 @@
 -- What holds in each world of what can be delivered.
-use Rattle.std.proofs.Common.{◌≡◌, ◌≢◌, ℕ, true, false, not, ◌&&◌, eqb, List, [], ◌∷◌, ◌++◌, refl, sym, ap, ◌∙◌, Option}
+use Rattle.std.proofs.Common.{◌≡◌, ◌≢◌, ℕ, true, false, not, ◌&&◌, eqb, List, [], ◌∷◌, ◌++◌, refl, sym, ap, ◌∙◌, subst, Option}
 use Rattle.std.proofs.lemmas.Bool.{eqb-true, and_left, and_right, and_parts, cond_both, cond-true, cond-false, true≢false}
 use Rattle.std.specs.FinMap.{get-empty}
 use Rattle.std.specs.Ordering.{nat_cmp}
@@ -18,7 +18,7 @@ use Rattle.j39_world.specs.World.{Stations, Undelivered, changed, changed_pair, 
 use Rattle.j39_laws.proofs.Addresses.Telling.{not_itself}
 use Rattle.j39_laws.proofs.Runs.Always.{IsPreserved, always}
 use Rattle.j39_laws.proofs.Runs.Changed.{changed_here, changed_elsewhere, changed_each}
-use Rattle.j39_laws.proofs.Runs.ClaimInvariants.{IsKeptByClaimSteps, stations_given, claims_given, claim_steps_keep}
+use Rattle.j39_laws.proofs.Runs.ClaimInvariants.{IsKeptByClaimSteps, stations_given, claims_given, claim_steps_keep, told_nothing}
 use Rattle.j39_laws.proofs.Runs.Units.{AreUnitsOn, AreBetweenUnits, AreEmptyStill, in_units, names_differ, units_on, without_lists_empty, told_between}
 use Rattle.j39_laws.proofs.Settling.Responses.{IsUnclashed, Response, response}
 
@@ -99,16 +99,19 @@ module _ (plan : Plan) (distinct : AreNamesDistinct (units_of plan)) (stations :
         heard = λ s t off. told_off stations claims u items s t off ∙ old.heard s t off;
       }
 
+  -- u is switched on, and says nothing
+  on_silently : (u : ℕ) → is_unit plan u ≡ true → AreDeliverable plan (changed stations u (started (unit_at (units_of plan) u))) (without_lists_to u claims)
+  on_silently u unit =
+      let new : Stations = changed stations u (started (unit_at (units_of plan) u)) in
+      subst (AreDeliverable plan new) (told_nothing new (without_lists_to u claims) u)
+      (told_more u (started (unit_at (units_of plan) u)) unit refl
+      (record { unnoted = λ m a smaller held is. absurd (let e = sym (get-empty {X = ℕ} nat_cmp m) ∙ is in cc) })
+      (without_lists_to u claims) (without_lists_empty claims u) [])
+
   module _ (u v : ℕ) (unit_u : is_unit plan u ≡ true) (unit_v : is_unit plan v ≡ true) (on_v : (stations v).on ≡ true)
-      (item : Item) (rest : List Item) (list : claims u v ≡ item ∷ rest) (says : Option Say) (new : ClaimState)
-      (answers : Answers (unit_at (units_of plan) v) (stations v) (unit_at (units_of plan) u).name item says new) where
+      (item : Item) (rest : List Item) (list : claims u v ≡ item ∷ rest) where
     pub apart : u ≢ v
     apart same = let none : item ∷ rest ≡ [] = sym list ∙ ap (claims u) (sym same) ∙ old.itself u in cc
-
-    pub responds : Response (unit_at (units_of plan) v) (stations v) (unit_at (units_of plan) u).name item says new
-    responds =
-        response (unit_at (units_of plan) v) (stations v) (old.unclashed v) (unit_at (units_of plan) u).name
-        (names_differ (units_of plan) distinct u v (in_units plan u unit_u) (in_units plan v unit_v) apart) item says new answers
 
     less_by_one : AreEmptyStill claims (changed_pair claims u v rest)
     less_by_one s t is = cond_both (eqb s u && eqb t v) rest (claims s t) (λ xs. xs ≡ [])
@@ -116,15 +119,34 @@ module _ (plan : Plan) (distinct : AreNamesDistinct (units_of plan)) (stations :
         let here : claims s t ≡ claims u v = (λ i. claims (eqb-true s u both.0 i) (eqb-true t v both.1 i)) in
         let never : item ∷ rest ≡ [] = sym list ∙ sym here ∙ is in absurd (cc)) (λ _. is)
 
-    give_keeps : AreDeliverable plan (stations_given stations v new) (claims_given stations claims u v rest says new)
-    give_keeps = told_more v new unit_v (responds.on ∙ on_v) responds.unclashed (changed_pair claims u v rest) less_by_one (answer_items says)
+    -- v does nothing about it
+    pass_over : AreDeliverable plan stations (changed_pair claims u v rest)
+    pass_over = record {
+      unclashed = old.unclashed;
+      itself = λ s. less_by_one s s (old.itself s);
+      units = old.units;
+      between = λ s t outside. less_by_one s t (old.between s t outside);
+      heard = λ s t off. less_by_one s t (old.heard s t off);
+    }
+
+    module _ (says : Option Say) (new : ClaimState)
+        (answers : Answers (unit_at (units_of plan) v) (stations v) (unit_at (units_of plan) u).name item says new) where
+      pub responds : Response (unit_at (units_of plan) v) (stations v) (unit_at (units_of plan) u).name item says new
+      responds =
+          response (unit_at (units_of plan) v) (stations v) (old.unclashed v) (unit_at (units_of plan) u).name
+          (names_differ (units_of plan) distinct u v (in_units plan u unit_u) (in_units plan v unit_v) apart) item says new answers
+
+      give_keeps : AreDeliverable plan (stations_given stations v new) (claims_given stations claims u v rest says new)
+      give_keeps = told_more v new unit_v (responds.on ∙ on_v) responds.unclashed (changed_pair claims u v rest) less_by_one (answer_items says)
 
 pub claim_steps : (plan : Plan) → AreNamesDistinct (units_of plan) → IsKeptByClaimSteps plan (AreDeliverable plan)
 claim_steps plan distinct = record {
-  switched_on = up_keeps plan distinct;
+  switched_on = λ stations claims old u unit _. up_keeps plan distinct stations claims old u unit;
+  switched_on_silently = λ stations claims old u unit _. on_silently plan distinct stations claims old u unit;
   switched_off = down_keeps plan distinct;
-  asked = ask_keeps plan distinct;
-  given = give_keeps plan distinct;
+  asked = λ stations claims old u unit _ on. ask_keeps plan distinct stations claims old u unit on;
+  given = λ stations claims old u v unit_u unit_v on _. give_keeps plan distinct stations claims old u v unit_u unit_v on;
+  passed_over = λ stations claims old u v unit_u unit_v on _. pass_over plan distinct stations claims old u v unit_u unit_v on;
 }
 
 pub deliverable_steps : (plan : Plan) → AreNamesDistinct (units_of plan) → IsPreserved plan (λ w. AreDeliverable plan w.stations w.claims)

@@ -1,5 +1,5 @@
 -- Where no claim is undelivered, what a unit has noted of another one that is on is the address that this one holds.
-use Rattle.std.proofs.Common.{◌≡◌, ◌≢◌, ℕ, true, not, ◌&&◌, eqb, List, [], ◌∷◌, ◌++◌, inl, inr, refl, sym, ap, ◌∙◌, subst, Option, Some, None}
+use Rattle.std.proofs.Common.{◌≡◌, ◌≢◌, ℕ, true, false, not, ◌&&◌, eqb, List, [], ◌∷◌, ◌++◌, inl, inr, refl, sym, ap, ◌∙◌, subst, Option, Some, None}
 use Rattle.std.proofs.lemmas.Bool.{cases_eq, eq-eqb, ne_eqb, cond-true, cond-false, cond_both, and_from, true≢false}
 use Rattle.std.specs.List.{Contains}
 use Rattle.std.specs.Ordering.{nat_cmp}
@@ -19,12 +19,13 @@ use Rattle.j39_world.specs.Sound.{AreNotesRight, IsQuiet}
 use Rattle.j39_world.specs.SoundPlan.{Always}
 use Rattle.j39_world.specs.World.{Stations, Undelivered, all_off, changed, changed_pair, is_other_on}
 use Rattle.j39_laws.proofs.Runs.Always.{always}
-use Rattle.j39_laws.proofs.Runs.Changed.{changed_here, changed_elsewhere, pair_here, pair_elsewhere}
-use Rattle.j39_laws.proofs.Runs.ClaimInvariants.{IsKeptByClaimSteps, stations_given, claims_given, claim_steps_keep}
+use Rattle.j39_laws.proofs.Runs.Changed.{changed_here, changed_elsewhere, pair_here, pair_here_or_elsewhere, pair_elsewhere}
+use Rattle.j39_laws.proofs.Runs.ClaimInvariants.{IsKeptByClaimSteps, claims_at, stations_given, claims_given, claim_steps_keep}
 use Rattle.j39_laws.proofs.Runs.Conditions.{is_unit}
-use Rattle.j39_laws.proofs.Runs.Units.{in_units, names_differ}
+use Rattle.j39_laws.proofs.Runs.Units.{AreUnitsOn, in_units, names_differ}
 use Rattle.j39_laws.proofs.Settling.Deliveries.{AreDeliverable, apart, responds, claim_steps, deliverable}
 use Rattle.j39_laws.proofs.Settling.Responses.{Response, IsNotedOf}
+use Rattle.j39_laws.proofs.Settling.Silences.{AreSilent, at_first, given, passed_over, switched, told}
 
 -- the last that is said: by what is undelivered, else by what was noted
 abbrev last_said : Option ℕ → List Item → Option ℕ
@@ -44,7 +45,23 @@ RowAt plan f c x y = x ≢ y → (f x).on ≡ true → (f y).on ≡ true → (a 
 
 record AreKnown (plan : Plan) (stations : Stations) (claims : Undelivered) : Type 0 where
   old : AreDeliverable plan stations claims
+  silent : AreSilent plan stations claims
   row : (x y : ℕ) → RowAt plan stations claims x y
+
+-- nothing is ever known of a unit that doesn't claim
+silent_row : (plan : Plan) (f : Stations) (c : Undelivered) → AreSilent plan f c → AreUnitsOn plan f → (x : ℕ) → claims_at plan x ≡ false
+    → (y : ℕ) → RowAt plan f c x y
+silent_row plan f c silent units x is_silent y apart on_x on_y a is =
+    let name : ℕ = (unit_at (units_of plan) x).name in
+    let none : last_said (get (f y).notes name) (c x y) ≡ None =
+    ap (last_said (get (f y).notes name)) (silent.untold x y is_silent) ∙ silent.unnoted x y (in_units plan x (units x on_x)) is_silent in
+    let never : None ≡ Some a = sym none ∙ is in absurd (cc)
+
+-- what is said last by what is undelivered is said last, whatever was noted
+said_anyway : (items : List Item) (a : ℕ) (noted : Option ℕ) → last_said None items ≡ Some a → last_said noted items ≡ Some a
+said_anyway [] a noted is = absurd (cc is)
+said_anyway (Told say ∷ items) a noted is = is
+said_anyway (Request ∷ items) a noted is = said_anyway items a noted is
 
 says_held : (o : Option ℕ) → claimed_by (claim_of o) ≡ o
 says_held None = refl
@@ -106,20 +123,39 @@ module _ (plan : Plan) (distinct : AreNamesDistinct (units_of plan)) (stations :
             ∙ sym (ap (last_said (get (changed stations u new y).notes (unit_at (units_of plan) x).name)) list) ∙ is)
       ]
 
-  up_keeps : (u : ℕ) → is_unit plan u ≡ true → let new : Stations = changed stations u (started (unit_at (units_of plan) u)) in
+  up_keeps : (u : ℕ) → is_unit plan u ≡ true → claims_at plan u ≡ true → let new : Stations = changed stations u (started (unit_at (units_of plan) u)) in
       AreKnown plan new (told_to_others new (without_lists_to u claims) u (Told (Claim (unit_at (units_of plan) u).preferred) ∷ []))
-  up_keeps u unit =
+  up_keeps u unit claiming =
       let p : PlannedUnit = unit_at (units_of plan) u in
       record {
-        old = (claim_steps plan distinct).switched_on stations claims inv.old u unit;
+        old = (claim_steps plan distinct).switched_on stations claims inv.old u unit claiming;
+        silent = told plan (changed stations u (started p)) (without_lists_to u claims)
+            (switched plan stations claims inv.silent u (started p) (λ n. get-empty nat_cmp n)) u (Told (Claim p.preferred) ∷ []) claiming;
         row = told_rows plan (changed stations u (started p)) (without_lists_to u claims) u (Told (Claim p.preferred) ∷ [])
             (λ noted. sym (ap (λ (s : ClaimState). s.address) (changed_here stations u (started p))))
             (fresh_rows u (started p) no_note);
       }
 
+  -- u says nothing
+  up_silently : (u : ℕ) → is_unit plan u ≡ true → claims_at plan u ≡ false
+      → AreKnown plan (changed stations u (started (unit_at (units_of plan) u))) (without_lists_to u claims)
+  up_silently u unit is_silent =
+      let new : ClaimState = started (unit_at (units_of plan) u) in
+      let old = (claim_steps plan distinct).switched_on_silently stations claims inv.old u unit is_silent in
+      let silent = switched plan stations claims inv.silent u new (λ n. get-empty nat_cmp n) in
+      record {
+        old = old;
+        silent = silent;
+        row = λ x y. elim (cases_eq x u) [
+          | inl same ↦ silent_row plan (changed stations u new) (without_lists_to u claims) silent old.units x (ap (claims_at plan) same ∙ is_silent) y
+          | inr other ↦ fresh_rows u new no_note x y other
+        ];
+      }
+
   down_keeps : (u : ℕ) → AreKnown plan (changed stations u off) (without_lists_to u claims)
   down_keeps u = record {
     old = (claim_steps plan distinct).switched_off stations claims inv.old u;
+    silent = switched plan stations claims inv.silent u off (λ n. get-empty nat_cmp n);
     row = λ x y apart on_x. elim (cases_eq x u) [
       | inl same ↦
           let at_x : changed stations u off x ≡ off = ap (changed stations u off) same ∙ changed_here stations u off in
@@ -128,15 +164,37 @@ module _ (plan : Plan) (distinct : AreNamesDistinct (units_of plan)) (stations :
     ];
   }
 
-  ask_keeps : (u : ℕ) → is_unit plan u ≡ true → (stations u).on ≡ true
+  ask_keeps : (u : ℕ) → is_unit plan u ≡ true → claims_at plan u ≡ true → (stations u).on ≡ true
       → AreKnown plan stations (told_to_others stations claims u (Request ∷ Told (claim_of (stations u).address) ∷ []))
-  ask_keeps u unit on = record {
-    old = (claim_steps plan distinct).asked stations claims inv.old u unit on;
+  ask_keeps u unit claiming on = record {
+    old = (claim_steps plan distinct).asked stations claims inv.old u unit claiming on;
+    silent = told plan stations claims inv.silent u (Request ∷ Told (claim_of (stations u).address) ∷ []) claiming;
     row = told_rows plan stations claims u (Request ∷ Told (claim_of (stations u).address) ∷ [])
         (λ noted. says_held (stations u).address) (λ x y _. inv.row x y);
   }
 
-  module _ (u v : ℕ) (unit_u : is_unit plan u ≡ true) (unit_v : is_unit plan v ≡ true) (on_v : (stations v).on ≡ true)
+  -- v does nothing about what it hears
+  pass_over : (u v : ℕ) → is_unit plan u ≡ true → is_unit plan v ≡ true → (stations v).on ≡ true → claims_at plan v ≡ false
+      → (item : Item) (rest : List Item) → claims u v ≡ item ∷ rest → AreKnown plan stations (changed_pair claims u v rest)
+  pass_over u v unit_u unit_v on_v is_silent item rest list = record {
+    old = (claim_steps plan distinct).passed_over stations claims inv.old u v unit_u unit_v on_v is_silent item rest list;
+    silent = passed_over plan stations claims inv.silent u v item rest list;
+    row = pair_here_or_elsewhere (λ x y. RowAt plan stations (changed_pair claims u v rest) x y) u v
+        (λ apart on_x on_y a is.
+        let name : ℕ = (unit_at (units_of plan) u).name in
+        let none : get (stations v).notes name ≡ None = inv.silent.unnoting v name is_silent in
+        let left : last_said None rest ≡ Some a =
+        ap (λ o. last_said o rest) (sym none) ∙ ap (last_said (get (stations v).notes name)) (sym (pair_here claims u v rest)) ∙ is in
+        inv.row u v apart on_x on_y a (ap (last_said (get (stations v).notes name)) list ∙ heard_anyway (get (stations v).notes name) item rest a left))
+        (λ x y elsewhere apart on_x on_y a is.
+        inv.row x y apart on_x on_y a (ap (last_said (get (stations y).notes (unit_at (units_of plan) x).name)) (sym (pair_elsewhere claims u v rest x y elsewhere)) ∙ is));
+  }
+    where
+      heard_anyway : (noted : Option ℕ) (i : Item) (items : List Item) (a : ℕ) → last_said None items ≡ Some a → last_said noted (i ∷ items) ≡ Some a
+      heard_anyway noted (Told say) items a is = said_anyway items a (claimed_by say) is
+      heard_anyway noted Request items a is = said_anyway items a noted is
+
+  module _ (u v : ℕ) (unit_u : is_unit plan u ≡ true) (unit_v : is_unit plan v ≡ true) (on_v : (stations v).on ≡ true) (claiming : claims_at plan v ≡ true)
       (item : Item) (rest : List Item) (list : claims u v ≡ item ∷ rest) (says : Option Say) (new : ClaimState)
       (answers : Answers (unit_at (units_of plan) v) (stations v) (unit_at (units_of plan) u).name item says new) where
     r : Response (unit_at (units_of plan) v) (stations v) (unit_at (units_of plan) u).name item says new
@@ -210,7 +268,8 @@ module _ (plan : Plan) (distinct : AreNamesDistinct (units_of plan)) (stations :
 
     give_keeps : AreKnown plan (stations_given stations v new) (claims_given stations claims u v rest says new)
     give_keeps = record {
-      old = (claim_steps plan distinct).given stations claims inv.old u v unit_u unit_v on_v item rest list says new answers;
+      old = (claim_steps plan distinct).given stations claims inv.old u v unit_u unit_v on_v claiming item rest list says new answers;
+      silent = given plan stations claims inv.silent u v item rest list distinct unit_u claiming says new r;
       row = elim (r.outcome) [
         | inl silent ↦
             subst (λ o. (x y : ℕ) → RowAt plan (changed stations v new) (told_to_others (changed stations v new) (changed_pair claims u v rest) v (answer_items o)) x y)
@@ -223,15 +282,18 @@ module _ (plan : Plan) (distinct : AreNamesDistinct (units_of plan)) (stations :
 known_steps : (plan : Plan) → AreNamesDistinct (units_of plan) → IsKeptByClaimSteps plan (AreKnown plan)
 known_steps plan distinct = record {
   switched_on = up_keeps plan distinct;
+  switched_on_silently = up_silently plan distinct;
   switched_off = down_keeps plan distinct;
   asked = ask_keeps plan distinct;
   given = give_keeps plan distinct;
+  passed_over = pass_over plan distinct;
 }
 
 known : (plan : Plan) → AreNamesDistinct (units_of plan) → Always plan (λ w. AreKnown plan w.stations w.claims)
 known plan distinct = always plan (λ w. AreKnown plan w.stations w.claims)
     (record {
       old = deliverable plan distinct [] all_off refl;
+      silent = at_first plan;
       row = λ x y apart on_x. absurd (true≢false (sym on_x));
     })
     (claim_steps_keep plan (AreKnown plan) (known_steps plan distinct))

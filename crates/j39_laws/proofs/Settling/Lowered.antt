@@ -13,10 +13,10 @@ use Rattle.j39_world.specs.World.{Stations, Undelivered, changed, changed_pair, 
 use Rattle.j39_world.specs.ClaimSteps.{told_to_others, answer_items}
 use Rattle.j39_laws.proofs.Settling.Totals.{total, total-rise, total-two, total-le, total-less}
 use Rattle.j39_world.specs.Sent.{claimed_by}
-use Rattle.j39_laws.proofs.Settling.Changes.{differ, differ-same, differ-other, differ-most}
+use Rattle.j39_laws.proofs.Settling.Changes.{changes, changes-noted, differ, differ-same, differ-other, differ-most}
 use Rattle.j39_laws.proofs.Settling.Responses.{Response, IsSilent, Repeats, Loses}
 use Rattle.j39_laws.proofs.Runs.Changed.{IsElsewhere, changed_here, changed_elsewhere, pair_here, pair_elsewhere}
-use Rattle.j39_laws.proofs.Settling.Measure.{load, hefts, Says, relief, load_moved, load_told, load_heard, name_at, request_weight, say_weight}
+use Rattle.j39_laws.proofs.Settling.Measure.{heft, load, hefts, Says, relief, load_moved, load_told, load_heard, name_at, request_weight, say_weight}
 use Rattle.j39_laws.proofs.Settling.Measure.{rest_weight, change_weight, load_between, measure, answers_below_request, answers_below_say, say_some}
 use Rattle.j39_laws.proofs.Settling.Measure.{request_some, change_below, change_above, change_none}
 
@@ -46,6 +46,45 @@ at_most_once change times most once less = let more : change * times ≤ change 
 
 lower_by : (now was lost adds after before : ℕ) → after ≡ now → before ≡ was → now + lost ≤ was + adds → adds < lost → after < before
 lower_by now was lost adds after before a b sum less = omega arith
+
+-- what a list loses with its oldest item, where this is heard and not noted
+load_passed : (change request say : ℕ) (noted : Option ℕ) (item : Item) (items : List Item) (held : Option ℕ)
+    → load change request say noted items held + heft request say item ≤ load change request say noted (item ∷ items) held
+load_passed change request say noted (Told said) items held =
+    let times : change * changes noted items held ≤ change * (differ noted (claimed_by said) + changes (claimed_by said) items held) =
+    mul-le-mul_left change (changes-noted items noted (claimed_by said) held) in
+    omega arith
+load_passed change request say noted Request items held = omega arith
+
+heft_some : (request say : ℕ) (item : Item) → 0 < say → 0 < request → 0 < heft request say item
+heft_some request say (Told said) some_say some_request = some_say
+heft_some request say Request some_say some_request = some_request
+
+-- what a unit hears that does nothing about it is gone
+pub passed_lowers : (units : List PlannedUnit) (stations : Stations) (claims : Undelivered) (u v : ℕ) → u < length units → v < length units
+    → (item : Item) (rest : List Item) → claims u v ≡ item ∷ rest
+    → measure units stations (changed_pair claims u v rest) < measure units stations claims
+unfolding measure
+passed_lowers units stations claims u v in_u in_v item rest list =
+    let n : ℕ = length units in
+    let left : Undelivered = changed_pair claims u v rest in
+    let between : ℕ → ℕ → ℕ = load_between units stations claims in
+    let between' : ℕ → ℕ → ℕ = load_between units stations (changed_pair claims u v rest) in
+    let c : ℕ = change_weight units u v in
+    let q : ℕ = request_weight units in
+    let w : ℕ = say_weight units u in
+    let noted : Option ℕ = get (stations v).notes (name_at units u) in
+    let lost : ℕ = heft q w item in
+    let here : load_between units stations (changed_pair claims u v rest) u v + heft q w item ≤ load_between units stations claims u v =
+    rw (pair_here claims u v rest, list) (load_passed c q w noted item rest (stations u).address) in
+    let elsewhere : (s t : ℕ) → IsElsewhere u v s t
+    → load_between units stations (changed_pair claims u v rest) s t ≤ load_between units stations claims s t =
+    λ s t other. rw (pair_elsewhere claims u v rest s t other) (omega arith) in
+    let of_u = total-less n (between' u) (between u) v lost in_v here (λ t in_t other. elsewhere u t (λ _ e. other e)) in
+    let all = total-less n (λ s. total n (between' s)) (λ s. total n (between s)) u lost in_u of_u
+    (λ s in_s other. total-le n (between' s) (between s) (λ t in_t. elsewhere s t (λ e _. other e))) in
+    let some : 0 < heft q w item = heft_some q w item (say_some units u) (request_some units) in
+    omega (arith, all, some)
 
 module _ (units : List PlannedUnit) (stations : Stations) (claims : Undelivered) (u v : ℕ) (in_u : u < length units) (in_v : v < length units) (apart : u ≢ v)
     (distinct : (i : ℕ) → i < length units → i ≢ u → name_at units i ≢ name_at units u)

@@ -23,11 +23,11 @@ use Rattle.j39_tp.specs.declared.sending.stage.Stage.TheVariants.{Sending, Waiti
 use Rattle.j39_tp.proofs.Answering.{IsAnswer}
 use Rattle.j39_world.specs.declared.wired.Wired.{Wired}
 use Rattle.j39_world.specs.declared.wired.Wired.TheVariants as wired
-use Rattle.j39_world.specs.Resting.{is_of_sender, is_of_receiver}
+use Rattle.j39_world.specs.Resting.{is_alone, is_of_sender, is_of_receiver}
 use Rattle.j39_world.specs.Transfers.{Outgoing, Sessions, is_among}
 use Rattle.j39_world.specs.TransferSteps.{session_after, reaction_of, receiver_replies, sender_replies}
 use Rattle.j39_world.specs.Flows.{dest_of}
-use Rattle.j39_world.specs.World.{World, Stations, changed}
+use Rattle.j39_world.specs.World.{World, Stations, Undelivered, changed}
 use Rattle.j39_laws.proofs.Runs.Changed.{changed_each, changed_elsewhere}
 use Rattle.j39_laws.proofs.Runs.Elements.{all_map, all_weaker}
 use Rattle.j39_laws.proofs.Reports.Exchanges.{Pair, message_for, message_to, Exchange}
@@ -39,9 +39,10 @@ abbrev pub SendsTo : Option Outgoing → ℕ → Type 0
 SendsTo None v = ⊥
 SendsTo (Some s) v = is_among s.targets v ≡ true
 
--- what the first has still to hear of the second: it is of a message of the one to the other, or answers one
+-- what the first has still to hear of the second: it is of a message of the one to the other, or answers one, or was sent alone
 abbrev pub IsAccounted : Sessions → ℕ → ℕ → Wired → Type 0
-IsAccounted sessions s t item = ((is_of_sender item ≡ true) × SendsTo (sessions s) t) ⊎ ((is_of_receiver item ≡ true) × SendsTo (sessions t) s)
+IsAccounted sessions s t item =
+    ((is_of_sender item ≡ true) × SendsTo (sessions s) t) ⊎ (((is_of_receiver item ≡ true) × SendsTo (sessions t) s) ⊎ (is_alone item ≡ true))
 
 abbrev pub AreAccounted : Sessions → (ℕ → ℕ → List Wired) → Type 0
 AreAccounted sessions wire = (s t : ℕ) → AllByRecursion (IsAccounted sessions s t) (wire s t)
@@ -51,8 +52,18 @@ abbrev pub AreEndsOn : Stations → ℕ → Option Outgoing → Type 0
 AreEndsOn stations u None = Unit {0}
 AreEndsOn stations u (Some s) = ((stations u).on ≡ true) × ((v : ℕ) → is_among s.targets v ≡ true → (stations v).on ≡ true)
 
+-- between whom a frame lies that was sent alone: both are on, and no claim is undelivered
+abbrev pub IsSettledFor : Stations → Undelivered → ℕ → ℕ → Wired → Type 0
+IsSettledFor stations claims s t (wired.Alone f bytes) =
+    ((stations s).on ≡ true) × ((stations t).on ≡ true) × ((x y : ℕ) → claims x y ≡ [])
+IsSettledFor stations claims s t _ = Unit {0}
+
+abbrev pub AreSettledFor : Stations → Undelivered → (ℕ → ℕ → List Wired) → Type 0
+AreSettledFor stations claims wire = (s t : ℕ) → AllByRecursion (IsSettledFor stations claims s t) (wire s t)
+
 pub record AllAccounted (w : World) : Type 0 where
   pub wire : AreAccounted w.sessions w.wire
+  pub alone : AreSettledFor w.stations w.claims w.wire
   pub ends : (u : ℕ) → AreEndsOn w.stations u (w.sessions u)
 
 -- ---- sessions that send to as many at least
@@ -66,7 +77,11 @@ send_more sessions u o more = changed_each (λ x (p : Option Outgoing). (y : ℕ
 pub still_accounted : (old new : Sessions) → SendMore old new → (s t : ℕ) (items : List Wired) → AllByRecursion (IsAccounted old s t) items
     → AllByRecursion (IsAccounted new s t) items
 still_accounted old new more s t = all_weaker (IsAccounted old s t) (IsAccounted new s t)
-    (λ item is. elim is [ inl here ↦ inl (here.0, more s t here.1) | inr there ↦ inr (there.0, more t s there.1) ])
+    (λ item is. elim is [
+      | inl here ↦ inl (here.0, more s t here.1)
+      | inr (inl there) ↦ inr (inl (there.0, more t s there.1))
+      | inr (inr alone) ↦ inr (inr alone)
+    ])
 
 pub after_sends : (o : Option Outgoing) (u : ℕ) (p : Packet) (y : ℕ) → SendsTo o y → SendsTo (session_after o u p) y
 after_sends None u p y is = is
@@ -100,8 +115,10 @@ replying window (Complete done) (Dt number seven) = inl refl
 
 pub announced_to : (sessions : Sessions) (u v : ℕ) (p : Packet) → Announces p → IsAccounted sessions u v (wired.Packet p) → SendsTo (sessions u) v
 announced_to sessions u v p is (inl here) = here.1
-announced_to sessions u v (Rts size limit pgn) is (inr there) = absurd (true≢false (sym there.0))
-announced_to sessions u v (Bam size pgn) is (inr there) = absurd (true≢false (sym there.0))
+announced_to sessions u v (Rts size limit pgn) is (inr (inl there)) = absurd (true≢false (sym there.0))
+announced_to sessions u v (Bam size pgn) is (inr (inl there)) = absurd (true≢false (sym there.0))
+announced_to sessions u v (Rts size limit pgn) is (inr (inr alone)) = absurd (true≢false (sym alone))
+announced_to sessions u v (Bam size pgn) is (inr (inr alone)) = absurd (true≢false (sym alone))
 announced_to sessions u v (Cts count first pgn) is (inr there) = absurd is
 announced_to sessions u v (EndAck size pgn) is (inr there) = absurd is
 announced_to sessions u v (Abort reason pgn) is (inr there) = absurd is
@@ -117,7 +134,7 @@ answer_of_receiver (Dt number seven) is = absurd is
 
 pub answers_accounted : (sessions : Sessions) (v u : ℕ) → SendsTo (sessions u) v → (ps : List Packet) → AllByRecursion IsAnswer ps
     → AllByRecursion (IsAccounted sessions v u) (map wired.Packet ps)
-answers_accounted sessions v u sends = all_map wired.Packet IsAnswer (IsAccounted sessions v u) (λ p is. inr (answer_of_receiver p is, sends))
+answers_accounted sessions v u sends = all_map wired.Packet IsAnswer (IsAccounted sessions v u) (λ p is. inr (inl (answer_of_receiver p is, sends)))
 
 -- ---- what a sender answers
 
@@ -206,7 +223,8 @@ rested_accounted sessions u s t items old sent answered =
     (λ item. (t ≡ u) × SendsTo (sessions u) s → not (is_of_receiver item) ≡ true) (IsAccounted (changed sessions u None) s t)
     (λ item is none none_back. elim is [
       | inl here ↦ inl (here.0, other_still s t here.1 (λ same sends. none_of (is_of_sender item) here.0 (none (same, sends))))
-      | inr there ↦ inr (there.0, other_still t s there.1 (λ same sends. none_of (is_of_receiver item) there.0 (none_back (same, sends))))
+      | inr (inl there) ↦ inr (inl (there.0, other_still t s there.1 (λ same sends. none_of (is_of_receiver item) there.0 (none_back (same, sends)))))
+      | inr (inr alone) ↦ inr (inr alone)
     ])
     items old
     (all_under ((s ≡ u) × SendsTo (sessions u) t) (λ item. not (is_of_sender item) ≡ true) items (λ both. sent both.0 both.1))

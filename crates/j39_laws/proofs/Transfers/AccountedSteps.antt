@@ -17,7 +17,7 @@ use Rattle.j39_findings.specs.declared.plan.Plan.{Plan}
 use Rattle.j39_findings.specs.declared.plan.to.To.{To}
 use Rattle.j39_findings.specs.declared.plan.to.To.TheVariants.{All, One}
 use Rattle.j39_findings.specs.declared.steps.Step.{Step}
-use Rattle.j39_findings.specs.declared.steps.Step.TheVariants.{Up, Down, Give, Ask, Begin, Emit, Take, Lose, LateSender, LateReceiver, Rest}
+use Rattle.j39_findings.specs.declared.steps.Step.TheVariants.{Up, Down, Give, Ask, Begin, Send, Emit, Take, Lose, LateSender, LateReceiver, Rest}
 use Rattle.j39_world.proofs.Refusals.{none_hold}
 use Rattle.j39_world.specs.declared.flow.Flow.{Flow}
 use Rattle.j39_world.specs.declared.wired.Wired.{Wired}
@@ -25,25 +25,28 @@ use Rattle.j39_world.specs.declared.wired.Wired.TheVariants as wired
 use Rattle.j39_world.specs.ClaimSteps.{GivenFrom, without_lists_to}
 use Rattle.j39_world.specs.Flows.{flows_of, windows_of, window_at, dest_of, is_short}
 use Rattle.j39_world.specs.PlannedUnits.{units_of, unit_at}
-use Rattle.j39_world.specs.Resting.{is_of_sender, is_of_receiver, is_over_with, can_rest}
-use Rattle.j39_world.specs.Run.{count_of, is_on, at_ends, begin_refusal, begin_refusals, is_no_transfer_open, refusal, StepsTo}
+use Rattle.j39_world.specs.Resting.{is_alone, is_of_sender, is_of_receiver, is_over_with, can_rest}
+use Rattle.j39_world.specs.Run.{count_of, is_on, at_ends, begin_refusal, begin_refusals, send_refusal, send_refusals, refusal, StepsTo}
+use Rattle.j39_world.specs.Run.{is_none_sending, is_no_transfer_open, is_nothing_undelivered}
 use Rattle.j39_world.specs.SoundPlan.{Always}
 use Rattle.j39_world.specs.Transfers.{Outgoing, Reported, Sessions, Wire, is_among, added, outcome_in}
-use Rattle.j39_world.specs.TransferSteps.{targets_of, outgoing, first_item, begins, BeginsAt, sent_to_receivers, session_after, reaction_of, receiver_replies}
+use Rattle.j39_world.specs.TransferSteps.{targets_of, outgoing, first_item, begins, BeginsAt, SendsAt, sent_to_receivers, session_after, reaction_of}
+use Rattle.j39_world.specs.TransferSteps.{receiver_replies}
 use Rattle.j39_world.specs.TransferSteps.{sender_replies, hearing, packet_taken, TakenFrom, LostFrom, packets_in, receiver_timed_out, rested}
-use Rattle.j39_world.specs.World.{World, Stations, changed, changed_pair, is_other_on}
+use Rattle.j39_world.specs.World.{World, Stations, Undelivered, changed, changed_pair, is_other_on}
 use Rattle.j39_laws.proofs.Reports.Exchanges.{pair_of}
 use Rattle.j39_laws.proofs.Reports.ExchangeSteps.{asides_answer}
 use Rattle.j39_laws.proofs.Reports.Hearings.{packets_aside}
-use Rattle.j39_laws.proofs.Reports.Orderly.{PlannedAt, none_sends, none_sends_while}
+use Rattle.j39_laws.proofs.Reports.Orderly.{PlannedAt, none_sends, none_sends_while, all_delivered, nothing_between}
 use Rattle.j39_laws.proofs.Reports.SenderSteps.{among_filtered, among_one, no_session, begin_keeps}
 use Rattle.j39_laws.proofs.Reports.SoundReports.{at_first, steps_keep}
 use Rattle.j39_laws.proofs.Reports.TransferInvariant.{TransferInvariant}
 use Rattle.j39_laws.proofs.Runs.Always.{IsPreserved, always}
 use Rattle.j39_laws.proofs.Runs.Changed.{changed_here, changed_each, pair_each}
 use Rattle.j39_laws.proofs.Runs.Conditions.{is_unit, none_refuses}
-use Rattle.j39_laws.proofs.Runs.Elements.{all-append, all_tested}
+use Rattle.j39_laws.proofs.Runs.Elements.{all-append, all_tested, all_weaker}
 use Rattle.j39_laws.proofs.Runs.Units.{units_all}
+use Rattle.j39_laws.proofs.Transfers.Accounted.{IsSettledFor, AreSettledFor}
 use Rattle.j39_laws.proofs.Transfers.Accounted.{SendsTo, IsAccounted, AreAccounted, AreEndsOn, AllAccounted, SendMore, send_more, still_accounted, after_sends}
 use Rattle.j39_laws.proofs.Transfers.Accounted.{open_is_sent, replying, announced_to, answers_accounted, reacted_accounted, data_of_sender}
 use Rattle.j39_laws.proofs.Transfers.Accounted.{timeout_of_sender, announcement_of_sender, rested_accounted}
@@ -58,6 +61,18 @@ first_item_of_sender : (flow : Flow) (bytes : List ℕ) → is_of_sender (first_
 first_item_of_sender flow bytes =
     cond_both (is_short (length bytes)) (wired.Short bytes) (wired.Packet (sender.announcement (dest_of flow.to) flow.pgn (length bytes)))
     (λ (item : Wired). is_of_sender item ≡ true) (λ _. refl) (λ _. announcement_of_sender (dest_of flow.to) flow.pgn (length bytes))
+
+-- what a message begins with isn't sent alone
+first_item_settled : (stations : Stations) (claims : Undelivered) (s t : ℕ) (flow : Flow) (bytes : List ℕ)
+    → IsSettledFor stations claims s t (first_item flow bytes)
+first_item_settled stations claims s t flow bytes =
+    cond_both (is_short (length bytes)) (wired.Short bytes) (wired.Packet (sender.announcement (dest_of flow.to) flow.pgn (length bytes)))
+    (IsSettledFor stations claims s t) (λ _. tt) (λ _. tt)
+
+packets_settled : (stations : Stations) (claims : Undelivered) (s t : ℕ) (ps : List Packet)
+    → AllByRecursion (IsSettledFor stations claims s t) (map wired.Packet ps)
+packets_settled stations claims s t [] = tt
+packets_settled stations claims s t (p ∷ ps) = (tt, packets_settled stations claims s t ps)
 
 begin_ends : (stations : Stations) (count u : ℕ) (to : To) → at_ends (is_on stations) u to ≡ true
     → ((stations u).on ≡ true) × ((v : ℕ) → is_among (targets_of count stations u to) v ≡ true → (stations v).on ≡ true)
@@ -102,19 +117,92 @@ module _ (plan : Plan) (w : World) (inv : TransferInvariant plan w) (old : AllAc
       all-append (IsAccounted now s t) (w.wire s t) (item ∷ []) before (inl (of, among), tt))
       (λ _. before)
 
+  -- ---- lists that change, and what lies there that was sent alone
+
+  abbrev HereSettled : Wire → Type 0
+  HereSettled wire = AreSettledFor w.stations w.claims wire
+
+  less_settled : (u v : ℕ) (item : Wired) (rest : List Wired) → w.wire u v ≡ item ∷ rest → HereSettled (changed_pair w.wire u v rest)
+  less_settled u v item rest is = pair_each (λ s t (xs : List Wired). AllByRecursion (IsSettledFor w.stations w.claims s t) xs) w.wire u v rest
+      (subst (AllByRecursion (IsSettledFor w.stations w.claims u v)) is (old.alone u v)).1 old.alone
+
+  more_settled : (wire : Wire) → HereSettled wire → (v u : ℕ) (ps : List Packet) → HereSettled (changed_pair wire v u (wire v u ++ map wired.Packet ps))
+  more_settled wire here v u ps =
+      pair_each (λ s t (xs : List Wired). AllByRecursion (IsSettledFor w.stations w.claims s t) xs) wire v u (wire v u ++ map wired.Packet ps)
+      (all-append (IsSettledFor w.stations w.claims v u) (wire v u) (map wired.Packet ps) (here v u) (packets_settled w.stations w.claims v u ps)) here
+
+  sent_settled : (u : ℕ) (targets : List ℕ) (item : Wired) → ((t : ℕ) → is_among targets t ≡ true → IsSettledFor w.stations w.claims u t item)
+      → HereSettled (added w.wire u targets item)
+  sent_settled u targets item settled s t =
+      cond_both (eqb s u && is_among targets t) (w.wire s t ++ item ∷ []) (w.wire s t) (AllByRecursion (IsSettledFor w.stations w.claims s t))
+      (λ both. let parts = and_parts (eqb s u) (is_among targets t) both in
+      all-append (IsSettledFor w.stations w.claims s t) (w.wire s t) (item ∷ []) (old.alone s t)
+      (subst (λ k. IsSettledFor w.stations w.claims k t item) (sym (eqb-true s u parts.0)) (settled t parts.1), tt))
+      (λ _. old.alone s t)
+
   -- ---- units that are switched, or hear a claim, while no message is sent
 
   none_ends : ((u : ℕ) → w.sessions u ≡ None) → (stations : Stations) (u : ℕ) → AreEndsOn stations u (w.sessions u)
   none_ends none stations u = subst (AreEndsOn stations u) (sym (none u)) tt
 
   none_open : is_no_transfer_open (count_of plan) w ≡ true → (u : ℕ) → w.sessions u ≡ None
-  none_open closed = none_sends plan w.stations w.claims w.sessions inv.order (units_all plan (λ v. not (is_some (w.sessions v))) closed)
+  none_open closed = none_sends plan w.stations w.claims w.sessions inv.order
+      (units_all plan (λ v. not (is_some (w.sessions v)))
+      (and_parts (is_none_sending (count_of plan) w) (is_nothing_undelivered (count_of plan) w.wire) closed).0)
+
+  -- then nothing of a message is undelivered either
+  none_lies : is_no_transfer_open (count_of plan) w ≡ true → (s t : ℕ) → w.wire s t ≡ []
+  none_lies closed s t = of_list (w.wire s t) refl
+    where
+      idle : (x y : ℕ) → SendsTo (w.sessions x) y → ⊥
+      idle x y sends = subst (λ (o : Option Outgoing). SendsTo o y) (none_open closed x) sends
+
+      between : is_unit plan s ≡ true → is_unit plan t ≡ true → w.wire s t ≡ []
+      between unit_s unit_t =
+          nothing_between plan w.wire (and_parts (is_none_sending (count_of plan) w) (is_nothing_undelivered (count_of plan) w.wire) closed).1 s t unit_s unit_t
+
+      by_ends : (item : Wired) → is_alone item ≡ true → IsSettledFor w.stations w.claims s t item → w.wire s t ≡ []
+      by_ends (wired.Alone f bytes) is settled = between (inv.order.units s settled.0) (inv.order.units t settled.1)
+      by_ends (wired.Short bytes) is settled = absurd (cc is)
+      by_ends (wired.Packet p) is settled = absurd (cc is)
+
+      of_list : (list : List Wired) → w.wire s t ≡ list → w.wire s t ≡ []
+      of_list [] is = is
+      of_list (item ∷ rest) is =
+          let accounted : IsAccounted w.sessions s t item = (subst (AllByRecursion (IsAccounted w.sessions s t)) is (old.wire s t)).0 in
+          elim accounted [
+            | inl here ↦ absurd (idle s t here.1)
+            | inr (inl there) ↦ absurd (idle t s there.1)
+            | inr (inr alone) ↦ by_ends item alone (subst (AllByRecursion (IsSettledFor w.stations w.claims s t)) is (old.alone s t)).0
+          ]
+
+  none_settled : is_no_transfer_open (count_of plan) w ≡ true → (stations : Stations) (claims : Undelivered) → AreSettledFor stations claims w.wire
+  none_settled closed stations claims s t = subst (AllByRecursion (IsSettledFor stations claims s t)) (sym (none_lies closed s t)) tt
+
+  dropped_settled : is_no_transfer_open (count_of plan) w ≡ true → (u : ℕ) (stations : Stations) (claims : Undelivered)
+      → AreSettledFor stations claims (without_lists_to u w.wire)
+  dropped_settled closed u stations claims s t =
+      cond_both (eqb t u) [] (w.wire s t) (AllByRecursion (IsSettledFor stations claims s t)) (λ _. tt) (λ _. none_settled closed stations claims s t)
+
+  -- none lies while a claim is undelivered
+  given_settled : (u v : ℕ) → ltb 0 (length (w.claims u v)) ≡ true → (stations : Stations) (claims : Undelivered) → AreSettledFor stations claims w.wire
+  given_settled u v some stations claims s t =
+      all_weaker (IsSettledFor w.stations w.claims s t) (IsSettledFor stations claims s t) of_item (w.wire s t) (old.alone s t)
+    where
+      never : w.claims u v ≡ [] → ⊥
+      never empty = (let none : ltb 0 (length {A = Item} []) ≡ true = subst (λ (items : List Item). ltb 0 (length items) ≡ true) empty some in cc none)
+
+      of_item : (item : Wired) → IsSettledFor w.stations w.claims s t item → IsSettledFor stations claims s t item
+      of_item (wired.Alone f bytes) settled = absurd (never (settled.2 u v))
+      of_item (wired.Short bytes) settled = tt
+      of_item (wired.Packet p) settled = tt
 
   give_accounted : (u v : ℕ) → ltb 0 (length (w.claims u v)) ≡ true → (list : List Item) (new : World) → GivenFrom (units_of plan) w u v list new
       → AllAccounted new
   give_accounted u v some [] new never = absurd never
   give_accounted u v some (item ∷ rest) new (says, s, answers, e) = subst AllAccounted (sym e) (record {
     wire = old.wire;
+    alone = given_settled u v some (changed w.stations v s) _;
     ends = none_ends (none_sends_while plan w.stations w.claims w.sessions inv.order u v some) (changed w.stations v s);
   })
 
@@ -130,14 +218,33 @@ module _ (plan : Plan) (w : World) (inv : TransferInvariant plan w) (old : AllAc
       subst AllAccounted (sym e) (record {
         wire = sent flow.sender o (first_item flow bytes) (λ y sends. absurd (subst (λ (x : Option Outgoing). SendsTo x y) idle sends))
             (first_item_of_sender flow bytes);
+        alone = sent_settled flow.sender o.targets (first_item flow bytes) (λ t _. first_item_settled w.stations w.claims flow.sender t flow bytes);
         ends = changed_each (AreEndsOn w.stations) w.sessions flow.sender (Some o)
             (begin_ends w.stations (count_of plan) flow.sender flow.to (not-false _ on)) old.ends;
+      })
+
+  -- a frame is sent alone, while no claim is undelivered
+  send_accounted : (f : ℕ) (o : Option Flow) (bytes : List ℕ) → send_refusal (count_of plan) w o bytes ≡ None → (new : World)
+      → SendsAt (count_of plan) w f o bytes new → AllAccounted new
+  send_accounted f None bytes allowed new never = absurd never
+  send_accounted f (Some flow) bytes allowed new e =
+      let (sendable, (on, (told, (addressed, (free, rest))))) = none_hold (send_refusals (count_of plan) w (Some flow) bytes) allowed in
+      let targets : List ℕ = targets_of (count_of plan) w.stations flow.sender flow.to in
+      let item : Wired = wired.Alone f bytes in
+      let ends = begin_ends w.stations (count_of plan) flow.sender flow.to (not-false _ on) in
+      let delivered = all_delivered plan w.stations w.claims w.sessions inv.order (not-false _ told) in
+      subst AllAccounted (sym e) (record {
+        wire = λ s t. cond_both (eqb s flow.sender && is_among targets t) (w.wire s t ++ item ∷ []) (w.wire s t) (AllByRecursion (IsAccounted w.sessions s t))
+            (λ _. all-append (IsAccounted w.sessions s t) (w.wire s t) (item ∷ []) (old.wire s t) (inr (inr refl), tt)) (λ _. old.wire s t);
+        alone = sent_settled flow.sender targets item (λ t among. (ends.0, ends.1 t among, delivered));
+        ends = old.ends;
       })
 
   sends_accounted : (u : ℕ) (s : Outgoing) (stage : Stage) (p : Packet) → w.sessions u ≡ Some s → is_of_sender (wired.Packet p) ≡ true
       → AllAccounted (record (sent_to_receivers w u s p) { sessions = changed w.sessions u (Some (record s { stage = stage })) })
   sends_accounted u s stage p is of = record {
     wire = sent u (record s { stage = stage }) (wired.Packet p) (λ y sends. subst (λ (x : Option Outgoing). SendsTo x y) is sends) of;
+    alone = sent_settled u s.targets (wired.Packet p) (λ t _. tt);
     ends = changed_each (AreEndsOn w.stations) w.sessions u (Some (record s { stage = stage })) (subst (AreEndsOn w.stations u) is (old.ends u)) old.ends;
   }
 
@@ -169,6 +276,7 @@ module _ (plan : Plan) (w : World) (inv : TransferInvariant plan w) (old : AllAc
         wire = more now (changed_pair w.wire u v rest)
             (λ s t. still_accounted w.sessions now keeps s t (changed_pair w.wire u v rest s t) (less u v (wired.Packet p) rest is s t)) v u
             (map wired.Packet (replies ++ reacted)) all;
+        alone = more_settled (changed_pair w.wire u v rest) (less_settled u v (wired.Packet p) rest is) v u (replies ++ reacted);
         ends = changed_each (AreEndsOn w.stations) w.sessions v then (ends_after w.stations v u p (w.sessions v) (old.ends v)) old.ends;
       }
     where
@@ -179,12 +287,14 @@ module _ (plan : Plan) (w : World) (inv : TransferInvariant plan w) (old : AllAc
   take_accounted : (windows : List ℕ) (u v : ℕ) (list : List Wired) → w.wire u v ≡ list → (new : World) → TakenFrom windows w u v list new → AllAccounted new
   take_accounted windows u v [] is new never = absurd never
   take_accounted windows u v (wired.Short bytes ∷ rest) is new e =
-      subst AllAccounted (sym e) (record { wire = less u v (wired.Short bytes) rest is; ends = old.ends })
+      subst AllAccounted (sym e) (record { wire = less u v (wired.Short bytes) rest is; alone = less_settled u v (wired.Short bytes) rest is; ends = old.ends })
   take_accounted windows u v (wired.Packet p ∷ rest) is new (reports, reported, e) = subst AllAccounted (sym e) (packet_accounted windows u v p rest reports is)
+  take_accounted windows u v (wired.Alone f bytes ∷ rest) is new e =
+      subst AllAccounted (sym e) (record { wire = less u v (wired.Alone f bytes) rest is; alone = less_settled u v (wired.Alone f bytes) rest is; ends = old.ends })
 
   lose_accounted : (u v : ℕ) (list : List Wired) → w.wire u v ≡ list → (new : World) → LostFrom w u v list new → AllAccounted new
   lose_accounted u v [] is new never = absurd never
-  lose_accounted u v (item ∷ rest) is new e = subst AllAccounted (sym e) (record { wire = less u v item rest is; ends = old.ends })
+  lose_accounted u v (item ∷ rest) is new e = subst AllAccounted (sym e) (record { wire = less u v item rest is; alone = less_settled u v item rest is; ends = old.ends })
 
   late_receiver_accounted : (windows : List ℕ) (u v : ℕ) → is_open_at (w.receivers v u) ≡ true → AllAccounted (receiver_timed_out windows w u v)
   late_receiver_accounted windows u v is =
@@ -194,6 +304,7 @@ module _ (plan : Plan) (w : World) (inv : TransferInvariant plan w) (old : AllAc
       (timed_out_aside (window_at windows v) (w.receivers v u))) in
       record {
         wire = more w.sessions w.wire old.wire v u (map wired.Packet sends) (answers_accounted w.sessions v u (sent_where_open u v is) sends answers);
+        alone = more_settled w.wire old.alone v u sends;
         ends = old.ends;
       }
 
@@ -225,6 +336,7 @@ module _ (plan : Plan) (w : World) (inv : TransferInvariant plan w) (old : AllAc
     wire = λ s t. rested_accounted w.sessions u s t (w.wire s t) (old.wire s t)
         (λ same sends. subst (λ k. AllByRecursion (λ item. not (is_of_sender item) ≡ true) (w.wire k t)) (sym same) (over_with u can t sends).0)
         (λ same sends. subst (λ k. AllByRecursion (λ item. not (is_of_receiver item) ≡ true) (w.wire s k)) (sym same) (over_with u can s sends).1);
+    alone = old.alone;
     ends = changed_each (AreEndsOn w.stations) w.sessions u None tt old.ends;
   }
 
@@ -235,15 +347,27 @@ module _ (plan : Plan) (w : World) (inv : TransferInvariant plan w) (old : AllAc
       let (known, (off_is, (idle, none))) = none_refuses plan w (Up u) allowed in
       subst AllAccounted (sym e) (record {
         wire = dropped u;
+        alone = dropped_settled (not-false _ idle) u (changed w.stations u (started (unit_at (units_of plan) u))) _;
         ends = none_ends (none_open (not-false _ idle)) (changed w.stations u (started (unit_at (units_of plan) u)));
       })
   accounted_keeps (Down u) allowed new e =
       let (known, (on, (idle, none))) = none_refuses plan w (Down u) allowed in
-      subst AllAccounted (sym e) (record { wire = dropped u; ends = none_ends (none_open (not-false _ idle)) (changed w.stations u off) })
+      subst AllAccounted (sym e) (record {
+        wire = dropped u;
+        alone = dropped_settled (not-false _ idle) u (changed w.stations u off) _;
+        ends = none_ends (none_open (not-false _ idle)) (changed w.stations u off);
+      })
   accounted_keeps (Give u v) allowed new leads =
       let (known, (on, (some, none))) = none_refuses plan w (Give u v) allowed in give_accounted u v (not-false _ some) (w.claims u v) new leads
-  accounted_keeps (Ask u) allowed new e = subst AllAccounted (sym e) (record { wire = old.wire; ends = old.ends })
+  accounted_keeps (Ask u) allowed new e =
+      let (known, (on, (idle, none))) = none_refuses plan w (Ask u) allowed in
+      subst AllAccounted (sym e) (record {
+        wire = old.wire;
+        alone = none_settled (not-false _ idle) w.stations _;
+        ends = old.ends;
+      })
   accounted_keeps (Begin f bytes) allowed new leads = begin_accounted f (slice_get (flows_of plan) f) bytes.items allowed new leads
+  accounted_keeps (Send f bytes) allowed new leads = send_accounted f (slice_get (flows_of plan) f) bytes.items allowed new leads
   accounted_keeps (Emit u) allowed new (s, p, session, next, e) =
       subst AllAccounted (sym e) (sends_accounted u s (sender.after_packet (dest_of s.to) s.stage) p session (data_of_sender s.bytes s.stage p next))
   accounted_keeps (Take u v) allowed new leads = take_accounted (windows_of plan) u v (w.wire u v) refl new leads
@@ -263,7 +387,7 @@ keeps plan w old step allowed new leads = record {
 }
 
 pub all_kept : (plan : Plan) → Always plan (IsKept plan)
-all_kept plan = always plan (IsKept plan) (record { transfers = at_first plan; accounted = record { wire = λ s t. tt; ends = λ u. tt } }) (keeps plan)
+all_kept plan = always plan (IsKept plan) (record { transfers = at_first plan; accounted = record { wire = λ s t. tt; alone = λ s t. tt; ends = λ u. tt } }) (keeps plan)
 
 -- a message that is begun
 pub begin_kept : (plan : Plan) (w : World) → IsKept plan w → (f : ℕ) (flow : Flow) (bytes : List ℕ) → begin_refusal (count_of plan) w (Some flow) bytes ≡ None
@@ -301,6 +425,7 @@ claims_refused plan w kept u o session step of allowed = refused step of allowed
     refused (Give x y) is none = (let (known, (on, (some, rest))) = none_refuses plan w (Give x y) none in
         open_still (none_sends_while plan w.stations w.claims w.sessions kept.transfers.order x y (not-false _ some)))
     refused (Begin f bytes) is none = is
+    refused (Send f bytes) is none = is
     refused (Emit v) is none = is
     refused (Take x y) is none = is
     refused (Lose x y) is none = is

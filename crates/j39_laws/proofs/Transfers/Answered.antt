@@ -25,7 +25,7 @@ use Rattle.j39_world.specs.Resting.{is_of_sender, is_of_receiver}
 use Rattle.j39_world.specs.Run.{count_of, begin_refusal, begin_refusals}
 use Rattle.j39_world.specs.Sound.{reported}
 use Rattle.j39_world.specs.Transfers.{Outgoing, Begun, Reported, Sessions, Wire, is_among, added, closed_if_complete}
-use Rattle.j39_world.specs.TransferSteps.{outgoing, first_item, begins, BeginsAt, sent_to_receivers, session_after}
+use Rattle.j39_world.specs.TransferSteps.{outgoing, first_item, targets_of, begins, BeginsAt, SendsAt, sends_alone, sent_to_receivers, session_after}
 use Rattle.j39_world.specs.TransferSteps.{LostFrom}
 use Rattle.j39_world.specs.TransferSteps.{packets_in, receiver_timed_out, Emits, SenderTimesOut, rested}
 use Rattle.j39_world.specs.World.{World, changed, changed_pair}
@@ -54,6 +54,7 @@ says_beside o t own other (wired.Packet (EndAck size pgn)) is = absurd is
 says_beside o t own other (wired.Packet (Bam size pgn)) is = tt
 says_beside o t own other (wired.Packet (Abort reason pgn)) is = to_other o t own pgn other is
 says_beside o t own other (wired.Packet (Dt number seven)) is = tt
+says_beside o t own other (wired.Alone f bytes) is = tt
 
 pub answers_beside : (pr : Progress) (own : ℕ) → ((pgn : ℕ) → IsOpenFor pr pgn → pgn ≢ own) → (p : Packet) → AnswersAt pr p
     → IsBesideForth own (wired.Packet p)
@@ -94,6 +95,16 @@ module _ (plan : Plan) (u v : ℕ) (o : Outgoing) (before : List Begun) (apart :
     pub session : w.sessions u ≡ Some (at_stage stage)
     pub other : SendsOther (w.sessions v) u o.pgn
     pub way : IsOnItsWay stage (w.wire u v) (w.wire v u) (w.receivers v u) (reported w.reports v u)
+
+  -- of reports it speaks of those of messages that were begun
+  pub reports_beside : (w : World) (rs : List Reported) → ((t s : ℕ) → reported rs t s ≡ reported w.reports t s) → IsAnswering w
+      → IsAnswering (record w { reports = rs })
+  reports_beside w rs same now = record {
+    stage = now.stage;
+    session = now.session;
+    other = now.other;
+    way = subst (λ (xs : List Begun). IsOnItsWay now.stage (w.wire u v) (w.wire v u) (w.receivers v u) xs) (sym (same v u)) now.way;
+  }
 
   pub among_here : is_among o.targets v ≡ true
   among_here = ap (λ (targets : List ℕ). is_among targets v) alone ∙ (let e : eqb v v ≡ true = eq-eqb v v refl in rw e refl)
@@ -187,6 +198,22 @@ module _ (plan : Plan) (u v : ℕ) (o : Outgoing) (before : List Begun) (apart :
         (others_send flow.sender (Some begun) begun.targets (first_item flow bytes) other sends
         (λ same among. says_beside (Some begun) u o.pgn (sends same) (first_item flow bytes) (says_first plan flow.sender begun planned u among flow bytes refl refl))
         (begins (count_of plan) w f flow bytes) refl refl refl refl)
+
+    -- a frame is sent alone, by whomever
+    pub send_keeps : (f : ℕ) (flow : Option Flow) (bytes : List ℕ) (new : World) → SendsAt (count_of plan) w f flow bytes new → IsAnswering new
+    send_keeps f None bytes new never = absurd never
+    send_keeps f (Some flow) bytes new e =
+        let item : Wired = wired.Alone f bytes in
+        let targets : List ℕ = targets_of (count_of plan) w.stations flow.sender flow.to in
+        let more : (Beside : Wired → Type 0) → Beside item → (s t : ℕ) → GrownBy Beside (w.wire s t) (added w.wire flow.sender targets item s t) =
+        λ Beside beside s t. cond_both (eqb s flow.sender && is_among targets t) (w.wire s t ++ item ∷ []) (w.wire s t)
+        (λ (list : List Wired). GrownBy Beside (w.wire s t) list) (λ _. (item ∷ [], (beside, tt), refl)) (λ _. not_grown Beside (w.wire s t) (w.wire s t) refl) in
+        subst IsAnswering (sym e) (record {
+          stage = now.stage;
+          session = now.session;
+          other = now.other;
+          way = grown_in (sends_alone (count_of plan) w f flow bytes) (more (IsBesideForth o.pgn) tt u v) (more (IsBesideBack o.pgn) tt v u) refl refl;
+        })
 
     -- another unit's session, where it is v's
     other_at : (s : ℕ) (sending : Outgoing) → w.sessions s ≡ Some sending → s ≡ v → SendsOther (Some sending) u o.pgn

@@ -1,5 +1,5 @@
 -- A message of several frames to one unit is on its way, as something is taken.
-use Rattle.std.proofs.Common.{◌≡◌, ◌≢◌, ℕ, ◌<◌, inl, inr, true, List, [], ◌∷◌, ◌++◌, length, refl, sym, ap, ◌∙◌, subst, append-nil, Option, Some}
+use Rattle.std.proofs.Common.{◌≡◌, ◌≢◌, ℕ, ◌<◌, inl, inr, Bool, true, List, [], ◌∷◌, ◌++◌, length, refl, sym, ap, ◌∙◌, subst, append-nil, Option, Some}
 use Rattle.std.specs.Prelude.{map}
 use Rattle.std.specs.List.{AllByRecursion}
 use Rattle.std.proofs.lemmas.Bool.{cases_eq, cond-true, cond-false}
@@ -19,14 +19,15 @@ use Rattle.j39_findings.specs.declared.plan.Plan.{Plan}
 use Rattle.j39_findings.specs.declared.plan.to.To.TheVariants as tos
 use Rattle.j39_world.specs.declared.wired.Wired.{Wired}
 use Rattle.j39_world.specs.declared.wired.Wired.TheVariants as wired
-use Rattle.j39_world.specs.Arriving.{SendsOther}
+use Rattle.j39_world.specs.Arriving.{oldest_passes, SendsOther}
 use Rattle.j39_world.specs.Flows.{window_at}
+use Rattle.j39_world.specs.Resting.{is_of_sender, is_of_receiver}
 use Rattle.j39_world.specs.Sound.{reported}
 use Rattle.j39_world.specs.Transfers.{Outgoing, Begun, Reported, Wire, is_among, closed_if_complete}
-use Rattle.j39_world.specs.TransferSteps.{outgoing_hears, session_after, reaction_of}
+use Rattle.j39_world.specs.TransferSteps.{alone_report, outgoing_hears, session_after, reaction_of}
 use Rattle.j39_world.specs.TransferSteps.{receiver_replies, sender_replies, flow_in, report, hearing, Reports, packet_taken, TakenFrom}
 use Rattle.j39_world.specs.World.{World, changed, changed_pair}
-use Rattle.j39_laws.proofs.Reports.Reporting.{reported_elsewhere}
+use Rattle.j39_laws.proofs.Reports.Reporting.{reported_beside, reported_elsewhere}
 use Rattle.j39_laws.proofs.Runs.Changed.{IsElsewhere, changed_here, changed_elsewhere, changed_each, pair_here, pair_elsewhere, pair_each, pair_here_or_elsewhere}
 use Rattle.j39_laws.proofs.Runs.Elements.{all_map, all_weaker}
 use Rattle.j39_laws.proofs.Transfers.Answered as answered
@@ -328,3 +329,12 @@ module _ (plan : Plan) (u v : ℕ) (o : Outgoing) (before : List Begun) (apart :
     take_keeps windows some long x y [] is new never = absurd never
     take_keeps windows some long x y (wired.Short bytes ∷ rest) is new e = subst IsAnswering (sym e) (short_keeps x y bytes rest is)
     take_keeps windows some long x y (wired.Packet p ∷ rest) is new (rs, told, e) = subst IsAnswering (sym e) (packet_keeps windows some long x y p rest is rs told)
+    take_keeps windows some long x y (wired.Alone f bytes ∷ rest) is new e =
+        let less : World = record w { wire = changed_pair w.wire x y rest } in
+        let passes : (test : Wired → Bool) (s t : ℕ) → x ≡ s → y ≡ t → oldest_passes test (w.wire s t) ≡ true =
+        λ test s t is_s is_t. subst (λ (list : List Wired). oldest_passes test list ≡ true)
+        (sym is ∙ (ap (λ k. w.wire k y) is_s ∙ ap (w.wire s) is_t)) refl in
+        subst IsAnswering (sym e) (answered.reports_beside plan u v o before apart one alone less (w.reports ++ alone_report x y f bytes ∷ [])
+        (reported_beside w.reports x y f bytes)
+        (answered.lose_keeps plan u v o before apart one alone w kept now x y (passes is_of_receiver u v, passes is_of_sender v u)
+        (wired.Alone f bytes ∷ rest) is less refl))

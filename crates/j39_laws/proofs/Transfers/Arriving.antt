@@ -14,7 +14,7 @@ use Rattle.j39_findings.specs.declared.plan.Plan.{Plan}
 use Rattle.j39_findings.specs.declared.plan.to.To.{To}
 use Rattle.j39_findings.specs.declared.plan.to.To.TheVariants as tos
 use Rattle.j39_findings.specs.declared.steps.Step.{Step}
-use Rattle.j39_findings.specs.declared.steps.Step.TheVariants.{Up, Down, Give, Ask, Begin, Emit, Take, Lose, LateSender, LateReceiver, Rest}
+use Rattle.j39_findings.specs.declared.steps.Step.TheVariants.{Up, Down, Give, Ask, Begin, Send, Emit, Take, Lose, LateSender, LateReceiver, Rest}
 use Rattle.j39_world.proofs.Refusals.{none_hold}
 use Rattle.j39_world.specs.declared.flow.Flow.{Flow}
 use Rattle.j39_world.specs.declared.step_error.StepError.{StepError}
@@ -56,6 +56,8 @@ module _ (plan : Plan) (u : ℕ) (o : Outgoing) (before : ℕ → List Begun) (u
     step_keeps (Give x y) spares allowed new leads = absurd (none_claims (Give x y) tt allowed)
     step_keeps (Begin f bytes) spares allowed new leads =
         coming.begin_keeps plan u o before unanswered w kept.transfers kept.accounted c f (slice_get (flows_of plan) f) bytes.items allowed new leads
+    step_keeps (Send f bytes) spares allowed new leads =
+        coming.send_keeps plan u o before unanswered w kept.transfers kept.accounted c f (slice_get (flows_of plan) f) bytes.items new leads
     step_keeps (Emit s) spares allowed new leads = coming.emit_keeps plan u o before unanswered w kept.transfers kept.accounted c s new leads
     step_keeps (Take x y) spares allowed new leads =
         taken.take_keeps plan u o before unanswered w kept.transfers c (windows_of plan) x y (w.wire x y) refl new leads

@@ -17,7 +17,7 @@ use Rattle.j39_findings.specs.declared.plan.to.To.{To}
 use Rattle.j39_findings.specs.declared.plan.to.To.TheVariants as tos
 use Rattle.j39_findings.specs.declared.plan.unit_plan.UnitPlan.{UnitPlan}
 use Rattle.j39_findings.specs.declared.steps.Step.{Step}
-use Rattle.j39_findings.specs.declared.steps.Step.TheVariants.{Up, Down, Give, Ask, Begin, Emit, Take, Lose, LateSender, LateReceiver, Rest}
+use Rattle.j39_findings.specs.declared.steps.Step.TheVariants.{Up, Down, Give, Ask, Begin, Send, Emit, Take, Lose, LateSender, LateReceiver, Rest}
 use Rattle.j39_world.proofs.Refusals.{none_hold}
 use Rattle.j39_world.specs.declared.step_error.StepError.{StepError}
 use Rattle.j39_world.specs.declared.wired.Wired.{Wired}
@@ -77,17 +77,20 @@ module _ (sessions : Sessions) (u v own : ℕ) (idle : sessions u ≡ None) (oth
     | inr there ↦ to_other (sessions v) u own pgn other there
   ]
   forth_beside (wired.Packet (Dt number seven)) answers named = answers
+  forth_beside (wired.Alone f bytes) answers named = tt
 
   back_beside : (item : Wired) → IsAccounted sessions v u item → IsNamed sessions v u item → IsBesideBack own item
   back_beside (wired.Short bytes) accounted named = tt
   back_beside (wired.Packet (Rts size limit pgn)) accounted named = to_other (sessions v) u own pgn other named
   back_beside (wired.Packet (Cts count start pgn)) accounted named = elim accounted [
     | inl here ↦ true≢false (sym here.0)
-    | inr there ↦ never_sends there.1
+    | inr (inl there) ↦ never_sends there.1
+    | inr (inr alone) ↦ true≢false (sym alone)
   ]
   back_beside (wired.Packet (EndAck size pgn)) accounted named = elim accounted [
     | inl here ↦ true≢false (sym here.0)
-    | inr there ↦ never_sends there.1
+    | inr (inl there) ↦ never_sends there.1
+    | inr (inr alone) ↦ true≢false (sym alone)
   ]
   back_beside (wired.Packet (Bam size pgn)) accounted named = tt
   back_beside (wired.Packet (Abort reason pgn)) accounted named = elim named [
@@ -95,6 +98,7 @@ module _ (sessions : Sessions) (u v own : ℕ) (idle : sessions u ≡ None) (oth
     | inr there ↦ absurd (never_to v pgn there)
   ]
   back_beside (wired.Packet (Dt number seven)) accounted named = tt
+  back_beside (wired.Alone f bytes) accounted named = tt
 
 -- ---- steps that spare it
 
@@ -118,6 +122,8 @@ module _ (plan : Plan) (u v : ℕ) (o : Outgoing) (before : List Begun) (apart :
     step_keeps (Give x y) spares begins_other allowed new leads = absurd (none_claims (Give x y) tt allowed)
     step_keeps (Begin f bytes) spares begins_other allowed new leads =
         answered.begin_keeps_on plan u v o before apart one alone w kept now f (slice_get (flows_of plan) f) bytes.items allowed begins_other new leads
+    step_keeps (Send f bytes) spares begins_other allowed new leads =
+        answered.send_keeps plan u v o before apart one alone w kept now f (slice_get (flows_of plan) f) bytes.items new leads
     step_keeps (Emit s) spares begins_other allowed new leads = answered.emit_keeps plan u v o before apart one alone w kept now s new leads
     step_keeps (Take x y) spares begins_other allowed new leads =
         taken.take_keeps plan u v o before apart one alone w kept now (windows_of plan) (window_some plan.units.items v) long x y (w.wire x y) refl new leads

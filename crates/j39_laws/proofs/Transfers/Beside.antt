@@ -6,11 +6,12 @@ use Rattle.j39_tp.specs.declared.packet.Packet.TheVariants.{Rts, Cts, EndAck, Ab
 use Rattle.j39_world.specs.declared.wired.Wired.{Wired}
 use Rattle.j39_world.specs.declared.wired.Wired.TheVariants as wired
 
--- beside the message, from its sender: answers to messages of the other direction, of which no Abort names this group
+-- beside the message, from its sender: answers to messages of the other direction, of which no Abort names this group, and what was sent alone
 abbrev pub IsBesideForth : ℕ → Wired → Type 0
 IsBesideForth own (wired.Packet (Cts count start pgn)) = Unit {0}
 IsBesideForth own (wired.Packet (EndAck size pgn)) = Unit {0}
 IsBesideForth own (wired.Packet (Abort reason pgn)) = pgn ≢ own
+IsBesideForth own (wired.Alone f bytes) = Unit {0}
 IsBesideForth own _ = ⊥
 
 -- beside the answers, from its receiver: messages of the other direction, of which no RTS and no Abort names this group

@@ -1,6 +1,6 @@
 -- A message of several frames to one unit, between the two: what of it and of what answers it is on the wire, how far its sender is and how
 -- far its receiver.
-use Rattle.std.proofs.Common.{◌≡◌, ℕ, zero, suc, ◌+◌, ◌<◌, ◌≤◌, ◌⊎◌, inl, inr, false, List, [], ◌∷◌, ◌++◌, length, refl, sym, ap, ◌∙◌, subst, arith, Some}
+use Rattle.std.proofs.Common.{◌≡◌, ℕ, zero, suc, ◌+◌, ◌<◌, ◌≤◌, ◌⊎◌, inl, inr, false, ◌||◌, List, [], ◌∷◌, ◌++◌, length, refl, sym, ap, ◌∙◌, subst, arith, Some}
 use Rattle.std.specs.Prelude.{nat_lt}
 use Rattle.std.proofs.lemmas.Bool.{cond_both, ltb-true, ltb-false, true≢false}
 use Rattle.j39_tp.specs.Chunks.{chunk}
@@ -18,7 +18,7 @@ use Rattle.j39_tp.specs.declared.sending.stage.Stage.{Stage}
 use Rattle.j39_tp.specs.declared.sending.stage.Stage.TheVariants.{Sending, Waiting, Resting}
 use Rattle.j39_world.specs.declared.wired.Wired.{Wired}
 use Rattle.j39_world.specs.declared.wired.Wired.TheVariants as wired
-use Rattle.j39_world.specs.Resting.{is_of_sender, is_of_receiver}
+use Rattle.j39_world.specs.Resting.{is_alone, is_of_sender, is_of_receiver}
 use Rattle.j39_world.specs.Transfers.{Outgoing, Begun, closed_if_complete}
 use Rattle.j39_laws.proofs.Reports.Exchanges.{begun_of}
 use Rattle.j39_laws.proofs.Reports.Hearings.{stays_closed}
@@ -149,32 +149,32 @@ module _ (o : Outgoing) (before : List Begun) where
 
   -- what of it is coming isn't of a receiver, and what answers it isn't of a sender
   pub coming_sent : (item : Wired) (stage : Stage) (coming answering : List Wired) (pr : Progress) (reports : List Begun)
-      → IsAt stage (item ∷ coming) answering pr reports → is_of_receiver item ≡ false
+      → IsAt stage (item ∷ coming) answering pr reports → (is_alone item || is_of_receiver item) ≡ false
   coming_sent item stage coming answering pr reports (inl a) =
-      (let wire = a.wire in let is : item ≡ announcing = cc wire in ap is_of_receiver is)
+      (let wire = a.wire in let is : item ≡ announcing = cc wire in ap (λ (x : Wired). is_alone x || is_of_receiver x) is)
   coming_sent item stage coming answering pr reports (inr (inl c)) = absurd (let wire = c.wire in cc wire)
   coming_sent item stage coming answering pr reports (inr (inr (inr (inl r)))) = absurd (let wire = r.wire in cc wire)
   coming_sent item stage coming answering pr reports (inr (inr (inr (inr e)))) = absurd (let wire = e.wire in cc wire)
   coming_sent item stage coming answering pr reports (inr (inr (inl s))) = sent s.count s.wire
     where
-      sent : (left : ℕ) → item ∷ coming ≡ packets_from o.bytes (suc s.reception.held) left → is_of_receiver item ≡ false
+      sent : (left : ℕ) → item ∷ coming ≡ packets_from o.bytes (suc s.reception.held) left → (is_alone item || is_of_receiver item) ≡ false
       sent zero wire = absurd (cc wire)
       sent (suc left) wire =
           let number : ℕ = suc s.reception.held in
           let is : item ≡ wired.Packet (Dt number (chunk o.bytes number)) = cc wire in
-          ap is_of_receiver is
+          ap (λ (x : Wired). is_alone x || is_of_receiver x) is
 
   pub answering_received : (item : Wired) (stage : Stage) (coming answering : List Wired) (pr : Progress) (reports : List Begun)
-      → IsAt stage coming (item ∷ answering) pr reports → is_of_sender item ≡ false
+      → IsAt stage coming (item ∷ answering) pr reports → (is_alone item || is_of_sender item) ≡ false
   answering_received item stage coming answering pr reports (inl a) = absurd (let answers = a.answers in cc answers)
   answering_received item stage coming answering pr reports (inr (inr (inl s))) = absurd (let answers = s.answers in cc answers)
   answering_received item stage coming answering pr reports (inr (inr (inr (inr e)))) = absurd (let answers = e.answers in cc answers)
   answering_received item stage coming answering pr reports (inr (inl c)) =
       (let answers = c.answers in
       let is : item ≡ wired.Packet (Cts c.count (c.reception.held + 1) o.pgn) = cc answers in
-      ap is_of_sender is)
+      ap (λ (x : Wired). is_alone x || is_of_sender x) is)
   answering_received item stage coming answering pr reports (inr (inr (inr (inl r)))) =
-      (let answers = r.answers in let is : item ≡ wired.Packet (EndAck (length o.bytes) o.pgn) = cc answers in ap is_of_sender is)
+      (let answers = r.answers in let is : item ≡ wired.Packet (EndAck (length o.bytes) o.pgn) = cc answers in ap (λ (x : Wired). is_alone x || is_of_sender x) is)
 
   -- nothing of it is one frame
   pub no_short : (bytes : List ℕ) (stage : Stage) (coming answering : List Wired) (pr : Progress) (reports : List Begun)

@@ -30,7 +30,7 @@ use Rattle.j39_world.specs.Flows.{window_at, dest_of}
 use Rattle.j39_world.specs.Run.{count_of, begin_refusal, begin_refusals}
 use Rattle.j39_world.specs.Sound.{reported}
 use Rattle.j39_world.specs.Transfers.{Outgoing, Begun, Reported, Sessions, Wire, is_among, added}
-use Rattle.j39_world.specs.TransferSteps.{outgoing, first_item, begins, BeginsAt, sent_to_receivers, outgoing_hears}
+use Rattle.j39_world.specs.TransferSteps.{targets_of, outgoing, first_item, begins, BeginsAt, SendsAt, sent_to_receivers, outgoing_hears}
 use Rattle.j39_world.specs.TransferSteps.{flow_in, hearing, ReportsOne, Reports}
 use Rattle.j39_world.specs.TransferSteps.{Emits, SenderTimesOut, rested}
 use Rattle.j39_world.specs.World.{World, changed, changed_pair}
@@ -42,7 +42,7 @@ use Rattle.j39_laws.proofs.Reports.TransferInvariant.{TransferInvariant}
 use Rattle.j39_laws.proofs.Runs.Changed.{IsElsewhere, changed_here, changed_elsewhere, pair_each}
 use Rattle.j39_laws.proofs.Transfers.Accounted.{AllAccounted}
 use Rattle.j39_laws.proofs.Transfers.Flights.{is_whole, packet_count, item_count, IsItem, flight_next, Grown, HasSent}
-use Rattle.j39_laws.proofs.Transfers.Flights.{IsUnderWay}
+use Rattle.j39_laws.proofs.Transfers.Flights.{IsUnderWay, grown_under_way}
 
 -- ---- answers make lists longer
 
@@ -146,6 +146,18 @@ module _ (plan : Plan) (u : ℕ) (o : Outgoing) (before : ℕ → List Begun) (u
     pub sends : HasSent o stage sent
     pub ways : (v : ℕ) → is_among o.targets v ≡ true → IsOnItsWay sent w v
 
+  -- of reports it speaks of those of messages that were begun
+  pub reports_beside : (w : World) (rs : List Reported) → ((t s : ℕ) → reported rs t s ≡ reported w.reports t s) → IsComing w
+      → IsComing (record w { reports = rs })
+  reports_beside w rs same coming = record {
+    stage = coming.stage;
+    sent = coming.sent;
+    session = coming.session;
+    sends = coming.sends;
+    ways = λ v among. subst (λ (xs : List Begun). IsUnderWay o coming.sent (w.wire u v) (w.receivers v u) xs (before v)) (sym (same v u))
+        (coming.ways v among);
+  }
+
   to_all : is_whole o ≡ false → o.to ≡ tos.All
   to_all long = elim unanswered [ inl all ↦ all | inr whole ↦ absurd (true≢false (sym whole ∙ long)) ]
 
@@ -200,6 +212,24 @@ module _ (plan : Plan) (u : ℕ) (o : Outgoing) (before : ℕ → List Begun) (u
         let begun : Outgoing = outgoing (count_of plan) w.stations f flow bytes in
         subst IsComing (sym e)
         (others_send flow.sender (Some begun) begun.targets (first_item flow bytes) other (begins (count_of plan) w f flow bytes) refl refl refl refl)
+
+    -- a frame is sent alone, by whomever
+    pub send_keeps : (f : ℕ) (flow : Option Flow) (bytes : List ℕ) (new : World) → SendsAt (count_of plan) w f flow bytes new → IsComing new
+    send_keeps f None bytes new never = absurd never
+    send_keeps f (Some flow) bytes new e =
+        let item : Wired = wired.Alone f bytes in
+        let targets : List ℕ = targets_of (count_of plan) w.stations flow.sender flow.to in
+        let more : (v : ℕ) → Grown (w.wire u v) (added w.wire flow.sender targets item u v) =
+        λ v. cond_both (eqb u flow.sender && is_among targets v) (w.wire u v ++ item ∷ []) (w.wire u v) (λ (list : List Wired). Grown (w.wire u v) list)
+        (λ _. (item ∷ [], (tt, tt), refl)) (λ _. ([], tt, sym (append-nil (w.wire u v)))) in
+        subst IsComing (sym e) (record {
+          stage = coming.stage;
+          sent = coming.sent;
+          session = coming.session;
+          sends = coming.sends;
+          ways = λ v among. grown_under_way o coming.sent (w.wire u v) (added w.wire flow.sender targets item u v) (w.receivers v u)
+              (reported w.reports v u) (before v) (more v) (coming.ways v among);
+        })
 
     -- ---- it is sent on
 

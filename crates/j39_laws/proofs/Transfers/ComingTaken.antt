@@ -1,5 +1,5 @@
 -- A message that no receiver answers is coming, as something is taken or lost, or a receiver hears nothing in time.
-use Rattle.std.proofs.Common.{◌≡◌, ℕ, zero, suc, ◌⊎◌, inl, inr, true, List, [], ◌∷◌, ◌++◌, refl, sym, ap, ◌∙◌, subst, Option, Some}
+use Rattle.std.proofs.Common.{◌≡◌, ℕ, zero, suc, ◌||◌, ◌⊎◌, inl, inr, true, List, [], ◌∷◌, ◌++◌, refl, sym, ap, ◌∙◌, subst, Option, Some}
 use Rattle.std.specs.Prelude.{map}
 use Rattle.std.specs.List.{AllByRecursion}
 use Rattle.std.proofs.lemmas.Bool.{cases_eq, true≢false}
@@ -16,28 +16,31 @@ use Rattle.j39_world.specs.declared.wired.Wired.{Wired}
 use Rattle.j39_world.specs.declared.wired.Wired.TheVariants as wired
 use Rattle.j39_world.specs.Arriving.{oldest_passes}
 use Rattle.j39_world.specs.Flows.{window_at}
-use Rattle.j39_world.specs.Resting.{is_of_receiver}
+use Rattle.j39_world.specs.Resting.{is_alone, is_of_receiver}
 use Rattle.j39_world.specs.Sound.{reported}
 use Rattle.j39_world.specs.Transfers.{Outgoing, Begun, Reported, Wire, is_among, closed_if_complete}
-use Rattle.j39_world.specs.TransferSteps.{session_after, reaction_of, receiver_replies, sender_replies, flow_in, report, hearing, Reports}
+use Rattle.j39_world.specs.TransferSteps.{alone_report, session_after, reaction_of, receiver_replies, sender_replies, flow_in, report, hearing, Reports}
 use Rattle.j39_world.specs.TransferSteps.{packet_taken, TakenFrom, LostFrom, packets_in, receiver_timed_out}
 use Rattle.j39_world.specs.World.{World, changed, changed_pair}
 use Rattle.j39_laws.proofs.Reports.ExchangeSteps.{asides_answer, answers_answering}
 use Rattle.j39_laws.proofs.Reports.Exchanges.{begun_of, IsAnswering}
 use Rattle.j39_laws.proofs.Reports.Hearings.{packets_aside, reaction_aside}
-use Rattle.j39_laws.proofs.Reports.Reporting.{reported_here, reported_elsewhere}
+use Rattle.j39_laws.proofs.Reports.Reporting.{reported_beside, reported_here, reported_elsewhere}
 use Rattle.j39_laws.proofs.Reports.TransferInvariant.{TransferInvariant}
 use Rattle.j39_laws.proofs.Runs.Changed.{IsElsewhere, changed_here, changed_elsewhere, pair_here, pair_elsewhere, pair_here_or_elsewhere}
 use Rattle.j39_laws.proofs.Runs.Elements.{all-append}
 use Rattle.j39_laws.proofs.Transfers.FitSteps.{receiver_answers}
 use Rattle.j39_laws.proofs.Transfers.Flights.{is_whole, IsItem, InFlight, sent_most, HasTaken, IsUnderWay, grown_under_way, short_heard, HearsOn, packet_heard}
-use Rattle.j39_laws.proofs.Transfers.Coming.{answers_grow, reports_nothing, none_apart, reports_apart, message_reported, at_stage, IsComing, stage_kept}
+use Rattle.j39_laws.proofs.Transfers.Coming.{reports_beside, answers_grow, reports_nothing, none_apart, reports_apart, message_reported, at_stage, IsComing, stage_kept}
 
--- no item of the message is an answer
-no_item_answers : (o : Outgoing) (k : ℕ) (item : Wired) → IsItem o k item → is_of_receiver item ≡ true → ⊥
-no_item_answers o zero item (inl whole) answers = true≢false (sym (subst (λ (x : Wired). is_of_receiver x ≡ true) whole.1 answers))
-no_item_answers o zero item (inr long) answers = true≢false (sym (subst (λ (x : Wired). is_of_receiver x ≡ true) long.1 answers))
-no_item_answers o (suc k) item (seven, is) answers = true≢false (sym (subst (λ (x : Wired). is_of_receiver x ≡ true) is answers))
+-- no item of the message is an answer, or was sent alone
+abbrev IsBeside : Wired → Type 0
+IsBeside item = (is_alone item || is_of_receiver item) ≡ true
+
+no_item_answers : (o : Outgoing) (k : ℕ) (item : Wired) → IsItem o k item → IsBeside item → ⊥
+no_item_answers o zero item (inl whole) answers = true≢false (sym (subst IsBeside whole.1 answers))
+no_item_answers o zero item (inr long) answers = true≢false (sym (subst IsBeside long.1 answers))
+no_item_answers o (suc k) item (seven, is) answers = true≢false (sym (subst IsBeside is answers))
 
 module _ (plan : Plan) (u : ℕ) (o : Outgoing) (before : ℕ → List Begun) (unanswered : (o.to ≡ tos.All) ⊎ (is_whole o ≡ true)) where
   abbrev Coming : World → Type 0
@@ -76,7 +79,7 @@ module _ (plan : Plan) (u : ℕ) (o : Outgoing) (before : ℕ → List Begun) (u
         let way : WayAt coming.sent w x y = way_at x y same among in
         let here : oldest_passes is_of_receiver (w.wire x y) ≡ true =
         subst (λ k. oldest_passes is_of_receiver (w.wire k y) ≡ true) (sym same) passes in
-        let oldest : is_of_receiver item ≡ true = subst (λ (xs : List Wired). oldest_passes is_of_receiver xs ≡ true) is here in
+        let oldest : IsBeside item = subst (λ (xs : List Wired). oldest_passes is_of_receiver xs ≡ true) is here in
         let left : InFlight o rest way.taken coming.sent =
         elim (subst (λ (xs : List Wired). InFlight o xs way.taken coming.sent) is way.flight) [
           | inl beside ↦ beside.1
@@ -208,3 +211,9 @@ module _ (plan : Plan) (u : ℕ) (o : Outgoing) (before : ℕ → List Begun) (u
     take_keeps windows x y [] is new never = absurd never
     take_keeps windows x y (wired.Short bytes ∷ rest) is new e = subst Coming (sym e) (short_keeps x y bytes rest is)
     take_keeps windows x y (wired.Packet p ∷ rest) is new (rs, told, e) = subst Coming (sym e) (packet_keeps windows x y p rest is rs told)
+    take_keeps windows x y (wired.Alone f bytes ∷ rest) is new e =
+        let less : World = record w { wire = changed_pair w.wire x y rest } in
+        let passes : x ≡ u → is_among o.targets y ≡ true → oldest_passes is_of_receiver (w.wire u y) ≡ true =
+        λ same _. subst (λ (list : List Wired). oldest_passes is_of_receiver list ≡ true) (sym is ∙ ap (λ k. w.wire k y) same) refl in
+        subst Coming (sym e) (reports_beside plan u o before unanswered less (w.reports ++ alone_report x y f bytes ∷ [])
+        (reported_beside w.reports x y f bytes) (lose_keeps x y passes (wired.Alone f bytes ∷ rest) is less refl))

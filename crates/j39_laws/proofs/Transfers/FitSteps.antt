@@ -17,7 +17,7 @@ use Rattle.j39_tp.proofs.Answering.{IsAnswer, hears_told, timed_out_aside}
 use Rattle.j39_findings.specs.declared.plan.Plan.{Plan}
 use Rattle.j39_findings.specs.declared.plan.flow_plan.FlowPlan.{FlowPlan}
 use Rattle.j39_findings.specs.declared.plan.group_plan.GroupPlan.{GroupPlan}
-use Rattle.j39_findings.specs.declared.steps.Step.TheVariants.{Up, Down, Give, Ask, Begin, Emit, Take, Lose, LateSender, LateReceiver, Rest}
+use Rattle.j39_findings.specs.declared.steps.Step.TheVariants.{Up, Down, Give, Ask, Begin, Send, Emit, Take, Lose, LateSender, LateReceiver, Rest}
 use Rattle.j39_world.proofs.Refusals.{none_hold}
 use Rattle.j39_world.specs.declared.flow.Flow.{Flow}
 use Rattle.j39_world.specs.declared.wired.Wired.{Wired}
@@ -29,7 +29,7 @@ use Rattle.j39_world.specs.PlannedUnits.{units_of}
 use Rattle.j39_world.specs.Run.{count_of, begin_refusal, begin_refusals}
 use Rattle.j39_world.specs.SoundPlan.{Always}
 use Rattle.j39_world.specs.Transfers.{Outgoing, Reported, Sessions, Wire, Receivers, is_among, added, closed_if_complete}
-use Rattle.j39_world.specs.TransferSteps.{outgoing, first_item, BeginsAt, session_after, reaction_of, receiver_replies, sender_replies, hearing}
+use Rattle.j39_world.specs.TransferSteps.{targets_of, outgoing, first_item, BeginsAt, SendsAt, session_after, reaction_of, receiver_replies, sender_replies, hearing}
 use Rattle.j39_world.specs.TransferSteps.{packet_taken, TakenFrom, LostFrom, packets_in, receiver_timed_out, sent_to_receivers}
 use Rattle.j39_world.specs.World.{World, all_off, changed, changed_pair}
 use Rattle.j39_laws.proofs.Runs.Always.{IsPreserved, always}
@@ -43,6 +43,7 @@ use Rattle.j39_laws.proofs.Transfers.Fitting.{HasGathered, hears_gathered, timed
 abbrev pub IsItemFit : Wired → Type 0
 IsItemFit (wired.Short bytes) = Unit {0}
 IsItemFit (wired.Packet p) = IsFit p
+IsItemFit (wired.Alone f bytes) = Unit {0}
 
 abbrev pub IsMessageFit : Option Outgoing → Type 0
 IsMessageFit None = Unit {0}
@@ -128,6 +129,15 @@ module _ (plan : Plan) (w : World) (inv : IsWorldFit w) where
         gathered = inv.gathered;
       })
 
+  send_fits : (f : ℕ) (bytes : List ℕ) (o : Option Flow) (new : World) → SendsAt (count_of plan) w f o bytes new → IsWorldFit new
+  send_fits f bytes None new never = absurd never
+  send_fits f bytes (Some flow) new e = subst IsWorldFit (sym e) (record {
+    wire = sent_fits flow.sender (targets_of (count_of plan) w.stations flow.sender flow.to) (wired.Alone f bytes) tt;
+    messages = inv.messages;
+    within = inv.within;
+    gathered = inv.gathered;
+  })
+
   sends_fit : (u : ℕ) (s : Outgoing) (stage : Stage) (p : Packet) → w.sessions u ≡ Some s → IsFit p
       → IsWorldFit (record (sent_to_receivers w u s p) { sessions = changed w.sessions u (Some (record s { stage = stage })) })
   sends_fit u s stage p is fit = record {
@@ -172,6 +182,12 @@ module _ (plan : Plan) (w : World) (inv : IsWorldFit w) where
     gathered = inv.gathered;
   })
   take_fits windows u v (wired.Packet p ∷ rest) is new (reports, reported, e) = subst IsWorldFit (sym e) (packet_fits windows u v p rest reports is)
+  take_fits windows u v (wired.Alone f bytes ∷ rest) is new e = subst IsWorldFit (sym e) (record {
+    wire = less_fits u v (wired.Alone f bytes) rest is;
+    messages = inv.messages;
+    within = inv.within;
+    gathered = inv.gathered;
+  })
 
   lose_fits : (u v : ℕ) (list : List Wired) → w.wire u v ≡ list → (new : World) → LostFrom w u v list new → IsWorldFit new
   lose_fits u v [] is new never = absurd never
@@ -223,6 +239,7 @@ steps_fit plan w inv (Down u) allowed new e = subst IsWorldFit (sym e) (switched
 steps_fit plan w inv (Give u v) allowed new leads = give_fits plan w inv u v (w.claims u v) new leads
 steps_fit plan w inv (Ask u) allowed new e = subst IsWorldFit (sym e) (told_fits plan w inv (asked (units_of plan) w u) refl refl refl refl)
 steps_fit plan w inv (Begin f bytes) allowed new leads = begin_fits plan w inv f bytes.items (slice_get (flows_of plan) f) refl allowed new leads
+steps_fit plan w inv (Send f bytes) allowed new leads = send_fits plan w inv f bytes.items (slice_get (flows_of plan) f) new leads
 steps_fit plan w inv (Emit u) allowed new (s, p, session, next, e) =
     subst IsWorldFit (sym e) (sends_fit plan w inv u s (sender.after_packet (dest_of s.to) s.stage) p session (data_fit s.bytes s.stage p next))
 steps_fit plan w inv (Take u v) allowed new leads = take_fits plan w inv (windows_of plan) u v (w.wire u v) refl new leads

@@ -15,7 +15,7 @@ use Rattle.j39_tp.specs.declared.sending.stage.Stage.TheVariants.{Sending, Waiti
 use Rattle.j39_tp.proofs.Gathering.{completes_carried}
 use Rattle.j39_claim.specs.declared.item.Item.{Item}
 use Rattle.j39_findings.specs.declared.plan.Plan.{Plan}
-use Rattle.j39_findings.specs.declared.steps.Step.TheVariants.{Up, Down, Give, Ask, Begin, Emit, Take, Lose, LateSender, LateReceiver, Rest}
+use Rattle.j39_findings.specs.declared.steps.Step.TheVariants.{Up, Down, Give, Ask, Begin, Send, Emit, Take, Lose, LateSender, LateReceiver, Rest}
 use Rattle.j39_world.specs.declared.flow.Flow.{Flow}
 use Rattle.j39_world.specs.declared.wired.Wired.{Wired}
 use Rattle.j39_world.specs.declared.wired.Wired.TheVariants as wired
@@ -23,13 +23,14 @@ use Rattle.j39_world.specs.ClaimSteps.{GivenFrom, heard_and_answered}
 use Rattle.j39_world.specs.Leading.{LeadsOn}
 use Rattle.j39_world.specs.Flows.{flows_of, windows_of, window_at}
 use Rattle.j39_world.specs.PlannedUnits.{units_of, unit_at}
-use Rattle.j39_world.specs.Run.{count_of, begin_refusal, can_emit, is_waiting, is_waiting_at, is_empty}
+use Rattle.j39_world.specs.Run.{count_of, begin_refusal, send_refusal, can_emit, is_waiting, is_waiting_at, is_empty}
 use Rattle.j39_world.specs.SoundPlan.{Always}
 use Rattle.j39_world.specs.Transfers.{Outgoing, Reported}
-use Rattle.j39_world.specs.TransferSteps.{BeginsAt, begins, Emits, SenderTimesOut, hearing, report, ReportsOne, Reports, TakenFrom, LostFrom, packet_taken}
+use Rattle.j39_world.specs.TransferSteps.{BeginsAt, begins, SendsAt, sends_alone, Emits, SenderTimesOut, hearing, report, ReportsOne, Reports, TakenFrom, LostFrom}
+use Rattle.j39_world.specs.TransferSteps.{packet_taken}
 use Rattle.j39_world.specs.World.{World}
 use Rattle.j39_laws.proofs.Runs.Conditions.{none_refuses}
-use Rattle.j39_laws.proofs.Settling.SettlingRuns.{answered}
+use Rattle.j39_laws.proofs.Settling.SettlingRuns.{reacted}
 use Rattle.j39_laws.proofs.Transfers.Fitting.{HasGathered}
 use Rattle.j39_laws.proofs.Transfers.FitSteps.{IsWorldFit, worlds_fit}
 
@@ -49,13 +50,18 @@ module _ (plan : Plan) (w : World) (inv : IsWorldFit w) where
   gives : (u v : ℕ) (list : List Item) → is_empty list ≡ false → (new : World) × GivenFrom (units_of plan) w u v list new
   gives u v [] some = absurd (cc some)
   gives u v (item ∷ rest) some =
-      let (says, s, answers) = answered (unit_at (units_of plan) v) (w.stations v) (unit_at (units_of plan) u).name item in
+      let (says, s, answers) = reacted (unit_at (units_of plan) v) (w.stations v) (unit_at (units_of plan) u).name item in
       (heard_and_answered (units_of plan) w u v rest says s, (says, s, answers, refl))
 
   begun : (f : ℕ) (o : Option Flow) (bytes : List ℕ) → begin_refusal (count_of plan) w o bytes ≡ None
       → (new : World) × BeginsAt (count_of plan) w f o bytes new
   begun f None bytes allowed = absurd (cc allowed)
   begun f (Some flow) bytes allowed = (begins (count_of plan) w f flow bytes, refl)
+
+  sends : (f : ℕ) (o : Option Flow) (bytes : List ℕ) → send_refusal (count_of plan) w o bytes ≡ None
+      → (new : World) × SendsAt (count_of plan) w f o bytes new
+  sends f None bytes allowed = absurd (cc allowed)
+  sends f (Some flow) bytes allowed = (sends_alone (count_of plan) w f flow bytes, refl)
 
   emits : (u : ℕ) (o : Option Outgoing) → w.sessions u ≡ o → can_emit o ≡ true → (new : World) × Emits w u new
   emits u None is can = absurd (cc can)
@@ -93,6 +99,7 @@ module _ (plan : Plan) (w : World) (inv : IsWorldFit w) where
     takes : (list : List Wired) → is_empty list ≡ false → (new : World) × TakenFrom windows w u v list new
     takes [] some = absurd (cc some)
     takes (wired.Short bytes ∷ rest) some = (_, refl)
+    takes (wired.Alone f bytes ∷ rest) some = (_, refl)
     takes (wired.Packet p ∷ rest) some =
         let (reports, is) = reported p (hearing windows w u v p).1 refl in (packet_taken windows w u v rest p reports, (reports, is, refl))
 
@@ -104,6 +111,7 @@ module _ (plan : Plan) (w : World) (inv : IsWorldFit w) where
   leads_on (Give u v) allowed = let (known, (on, (some, none))) = none_refuses plan w (Give u v) allowed in gives u v (w.claims u v) some
   leads_on (Ask u) allowed = (_, refl)
   leads_on (Begin f bytes) allowed = begun f (slice_get (flows_of plan) f) bytes.items allowed
+  leads_on (Send f bytes) allowed = sends f (slice_get (flows_of plan) f) bytes.items allowed
   leads_on (Emit u) allowed =
       let (known, (on, (can, none))) = none_refuses plan w (Emit u) allowed in
       emits u (w.sessions u) refl (not-false (can_emit (w.sessions u)) can)

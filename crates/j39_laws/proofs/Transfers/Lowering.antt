@@ -15,7 +15,7 @@ use Rattle.j39_tp.specs.declared.sending.stage.Stage.{Stage}
 use Rattle.j39_tp.specs.declared.sending.stage.Stage.TheVariants.{Sending, Waiting, Resting}
 use Rattle.j39_findings.specs.declared.plan.Plan.{Plan}
 use Rattle.j39_findings.specs.declared.steps.Step.{Step}
-use Rattle.j39_findings.specs.declared.steps.Step.TheVariants.{Up, Down, Give, Ask, Begin, Emit, Take, Lose, LateSender, LateReceiver, Rest}
+use Rattle.j39_findings.specs.declared.steps.Step.TheVariants.{Up, Down, Give, Ask, Begin, Send, Emit, Take, Lose, LateSender, LateReceiver, Rest}
 use Rattle.j39_world.specs.declared.wired.Wired.{Wired}
 use Rattle.j39_world.specs.declared.wired.Wired.TheVariants as wired
 use Rattle.j39_world.specs.Ending.{IsOfTransfers}
@@ -53,6 +53,7 @@ packets_list n (p ∷ ps) = omega (arith, packets_list n ps)
 some_weight : (n : ℕ) (item : Wired) → 0 < item_weight n item
 some_weight n (wired.Short bytes) = omega arith
 some_weight n (wired.Packet p) = omega arith
+some_weight n (wired.Alone f bytes) = omega arith
 
 -- ---- what a sender hears
 
@@ -150,6 +151,8 @@ module _ (plan : Plan) (w : World) (inv : IsWorldFit w) where
       subst Lowers (sym e) (item_lowers u v (wired.Short bytes) rest in_u in_v is _ refl refl refl)
   take_lowers windows u v in_u in_v (wired.Packet p ∷ rest) is new (reports, reported, e) =
       subst Lowers (sym e) (packet_lowers windows u v p rest reports in_u in_v is)
+  take_lowers windows u v in_u in_v (wired.Alone f bytes ∷ rest) is new e =
+      subst Lowers (sym e) (item_lowers u v (wired.Alone f bytes) rest in_u in_v is _ refl refl refl)
 
   lose_lowers : (u v : ℕ) → u < n → v < n → (list : List Wired) → w.wire u v ≡ list → (new : World) → LostFrom w u v list new → Lowers new
   lose_lowers u v in_u in_v [] is new never = absurd never
@@ -189,6 +192,7 @@ module _ (plan : Plan) (w : World) (inv : IsWorldFit w) where
   lowers (Give u v) never allowed new leads = absurd never
   lowers (Ask u) never allowed new leads = absurd never
   lowers (Begin f bytes) never allowed new leads = absurd never
+  lowers (Send f bytes) never allowed new leads = absurd never
   lowers (Emit u) is allowed new (s, p, session, next, e) =
       let (known, (on, (can, none))) = none_refuses plan w (Emit u) allowed in
       subst Lowers (sym e) (sends_lowers u s (sender.after_packet (dest_of s.to) s.stage) p (below u (not-false _ known)) session

@@ -21,7 +21,7 @@ use Rattle.j39_findings.specs.declared.plan.Plan.{Plan}
 use Rattle.j39_findings.specs.declared.plan.to.To.{To}
 use Rattle.j39_findings.specs.declared.plan.to.To.TheVariants as tos
 use Rattle.j39_findings.specs.declared.steps.Step.{Step}
-use Rattle.j39_findings.specs.declared.steps.Step.TheVariants.{Up, Down, Give, Ask, Begin, Emit, Take, Lose, LateSender, LateReceiver, Rest}
+use Rattle.j39_findings.specs.declared.steps.Step.TheVariants.{Up, Down, Give, Ask, Begin, Send, Emit, Take, Lose, LateSender, LateReceiver, Rest}
 use Rattle.j39_world.proofs.Refusals.{none_hold}
 use Rattle.j39_world.specs.declared.flow.Flow.{Flow}
 use Rattle.j39_world.specs.declared.wired.Wired.{Wired}
@@ -33,7 +33,7 @@ use Rattle.j39_world.specs.Resting.{is_of_sender, is_of_receiver, can_rest}
 use Rattle.j39_world.specs.Run.{count_of, begin_refusal, begin_refusals, refusal, StepsTo}
 use Rattle.j39_world.specs.SoundPlan.{Always}
 use Rattle.j39_world.specs.Transfers.{Outgoing, Reported, Sessions, Wire, is_among, added, closed_if_complete}
-use Rattle.j39_world.specs.TransferSteps.{begun_stage, outgoing, first_item, BeginsAt, sent_to_receivers, session_after, reaction_of}
+use Rattle.j39_world.specs.TransferSteps.{targets_of, begun_stage, outgoing, first_item, BeginsAt, SendsAt, sent_to_receivers, session_after, reaction_of}
 use Rattle.j39_world.specs.TransferSteps.{receiver_replies, sender_replies, hearing, packet_taken, TakenFrom, LostFrom, packets_in, receiver_timed_out, rested}
 use Rattle.j39_world.specs.World.{World, all_off, changed, changed_pair}
 use Rattle.j39_laws.proofs.Reports.Orderly.{IsPlanned, PlannedAt}
@@ -79,6 +79,7 @@ named_item old new keep s t (wired.Packet (EndAck size pgn)) is = tt
 named_item old new keep s t (wired.Packet (Bam size pgn)) is = tt
 named_item old new keep s t (wired.Packet (Abort reason pgn)) is = elim is [ inl here ↦ inl (keep s t pgn here) | inr there ↦ inr (keep t s pgn there) ]
 named_item old new keep s t (wired.Packet (Dt number seven)) is = tt
+named_item old new keep s t (wired.Alone f bytes) is = tt
 
 still_named : (old new : Sessions) → AllKeepTo old new → (s t : ℕ) (items : List Wired) → AllByRecursion (IsNamed old s t) items
     → AllByRecursion (IsNamed new s t) items
@@ -92,6 +93,7 @@ says_named sessions s t (wired.Packet (EndAck size pgn)) is = tt
 says_named sessions s t (wired.Packet (Bam size pgn)) is = tt
 says_named sessions s t (wired.Packet (Abort reason pgn)) is = inl is
 says_named sessions s t (wired.Packet (Dt number seven)) is = tt
+says_named sessions s t (wired.Alone f bytes) is = tt
 
 answers_named : (sessions : Sessions) (v u : ℕ) (pr : Progress) → ((pgn : ℕ) → IsOpenFor pr pgn → IsTo (sessions u) v pgn) → (p : Packet)
     → AnswersAt pr p → IsNamed sessions v u (wired.Packet p)
@@ -110,6 +112,7 @@ says_at s stage t (wired.Packet (EndAck size pgn)) is = is
 says_at s stage t (wired.Packet (Bam size pgn)) is = tt
 says_at s stage t (wired.Packet (Abort reason pgn)) is = is
 says_at s stage t (wired.Packet (Dt number seven)) is = tt
+says_at s stage t (wired.Alone f bytes) is = tt
 
 -- ---- who waits
 
@@ -171,6 +174,7 @@ module _ (sessions : Sessions) (u : ℕ) where
     | inr there ↦ inr (to_still t s pgn there (λ same to. true≢false (sym (answered same pgn to))))
   ]
   rested_item s t (wired.Packet (Dt number seven)) is sent answered = tt
+  rested_item s t (wired.Alone f bytes) is sent answered = tt
 
   rested_items : (s t : ℕ) (items : List Wired) → AllByRecursion (IsNamed sessions s t) items
       → (s ≡ u → (pgn : ℕ) → IsTo (sessions u) t pgn → AllByRecursion (λ item. not (is_of_sender item) ≡ true) items)
@@ -327,6 +331,8 @@ module _ (plan : Plan) (w : World) (kept : IsKept plan w) (old : AllNamed w) whe
   take_named windows u v (wired.Short bytes ∷ rest) is new e =
       subst AllNamed (sym e) (record { wire = less u v (wired.Short bytes) rest is; receivers = old.receivers; waits = old.waits })
   take_named windows u v (wired.Packet p ∷ rest) is new (reports, reported, e) = subst AllNamed (sym e) (packet_named windows u v p rest reports is)
+  take_named windows u v (wired.Alone f bytes ∷ rest) is new e =
+      subst AllNamed (sym e) (record { wire = less u v (wired.Alone f bytes) rest is; receivers = old.receivers; waits = old.waits })
 
   late_receiver_named : (windows : List ℕ) (u v : ℕ) → AllNamed (receiver_timed_out windows w u v)
   late_receiver_named windows u v =
@@ -363,12 +369,25 @@ module _ (plan : Plan) (w : World) (kept : IsKept plan w) (old : AllNamed w) whe
   give_named u v [] new never = absurd never
   give_named u v (item ∷ rest) new (says, s, answers, e) = subst AllNamed (sym e) (record { wire = old.wire; receivers = old.receivers; waits = old.waits })
 
+  send_named : (f : ℕ) (o : Option Flow) (bytes : List ℕ) (new : World) → SendsAt (count_of plan) w f o bytes new → AllNamed new
+  send_named f None bytes new never = absurd never
+  send_named f (Some flow) bytes new e =
+      let targets : List ℕ = targets_of (count_of plan) w.stations flow.sender flow.to in
+      let item : Wired = wired.Alone f bytes in
+      subst AllNamed (sym e) (record {
+        wire = λ s t. cond_both (eqb s flow.sender && is_among targets t) (w.wire s t ++ item ∷ []) (w.wire s t) (AllByRecursion (IsNamed w.sessions s t))
+            (λ _. all-append (IsNamed w.sessions s t) (w.wire s t) (item ∷ []) (old.wire s t) (tt, tt)) (λ _. old.wire s t);
+        receivers = old.receivers;
+        waits = old.waits;
+      })
+
   named_keeps : (step : Step) → refusal plan w step ≡ None → (new : World) → StepsTo plan w step new → AllNamed new
   named_keeps (Up u) allowed new e = subst AllNamed (sym e) (record { wire = dropped u; receivers = old.receivers; waits = old.waits })
   named_keeps (Down u) allowed new e = subst AllNamed (sym e) (record { wire = dropped u; receivers = old.receivers; waits = old.waits })
   named_keeps (Give u v) allowed new leads = give_named u v (w.claims u v) new leads
   named_keeps (Ask u) allowed new e = subst AllNamed (sym e) (record { wire = old.wire; receivers = old.receivers; waits = old.waits })
   named_keeps (Begin f bytes) allowed new leads = begin_named f (slice_get (flows_of plan) f) bytes.items allowed new leads
+  named_keeps (Send f bytes) allowed new leads = send_named f (slice_get (flows_of plan) f) bytes.items new leads
   named_keeps (Emit u) allowed new (s, p, session, next, e) = subst AllNamed (sym e) (emit_named u s p session next)
   named_keeps (Take u v) allowed new leads = take_named (windows_of plan) u v (w.wire u v) refl new leads
   named_keeps (Lose u v) allowed new leads = lose_named u v (w.wire u v) refl new leads

@@ -66,6 +66,7 @@ effect n p = opening n p + clearing n p
 abbrev pub item_weight : ℕ → Wired → ℕ
 item_weight n (wired.Short bytes) = 1
 item_weight n (wired.Packet p) = 1 + effect n p
+item_weight n (wired.Alone f bytes) = 1
 
 abbrev pub list_weight : ℕ → List Wired → ℕ
 list_weight n [] = 0

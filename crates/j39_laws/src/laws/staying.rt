@@ -5,7 +5,7 @@ ghost use Rattle.j39_id.specs.Name.{is_arbitrary};
 ghost use Rattle.j39_claim.specs.ClaimRule.{PlannedUnit as PlannedUnits};
 ghost use Rattle.j39_findings.specs.Findings.{Clean, Holds};
 ghost use Rattle.j39_findings.specs.declared.plan.Plan.{Plan as Plans};
-ghost use Rattle.j39_findings.specs.declared.checking.finding.Finding.TheVariants.{SameFixedAddress};
+ghost use Rattle.j39_findings.specs.declared.checking.finding.Finding.TheVariants.{SameFixedAddress, SilentAddress};
 ghost use Rattle.j39_findings.specs.declared.steps.Step.{Step as Steps};
 ghost use Rattle.j39_world.specs.PlannedUnits.{units_of, unit_at};
 ghost use Rattle.j39_world.specs.Run.{Run};
@@ -13,13 +13,14 @@ ghost use Rattle.j39_world.specs.Staying.{ArePlannedApart, ArePlannedApartTo, Ho
 ghost use Rattle.j39_world.specs.World.{World, all_off};
 
 /// In every world of every run of each plan, with all lawful choices, a unit that stays holds its planned address while it is on. Whether
-/// it stays is told, in rising order of NAME, by those of smaller NAME; a fixed unit stays where no two fixed units have one address.
+/// it stays is told, in rising order of NAME, by those of smaller NAME; a fixed unit stays where no two fixed units have one address, nor
+/// two units of which one doesn't claim.
 pub fn who_stays()
     ensures held { (plan : Plans) (steps : List Steps) (w : World) → Run plan all_off steps w
         → (u : ℕ) → Stays (units_of plan) u → HoldsPlanned (units_of plan) w u }
     ensures by_others { (units : List PlannedUnits) (u : ℕ) → Stays units u → StaysByOthers units u }
     ensures from_others { (units : List PlannedUnits) (u : ℕ) → StaysByOthers units u → Stays units u }
-    ensures fixed { (plan : Plans) → ((i j : ℕ) → ¬ Holds plan (SameFixedAddress i j))
+    ensures fixed { (plan : Plans) → ((i j : ℕ) → ¬ Holds plan (SameFixedAddress i j)) → ((i j : ℕ) → ¬ Holds plan (SilentAddress i j))
         → (u : ℕ) → u < length (units_of plan) → is_arbitrary (unit_at (units_of plan) u).name ≡ false → Stays (units_of plan) u }
 {}
 
@@ -51,4 +52,11 @@ pub fn units_hold_planned_or_pool_addresses()
 pub fn alone_units_are_undisturbed()
     ensures { (plan : Plans) (steps : List Steps) (w : World) → Clean plan → Run plan all_off steps w
         → (u : ℕ) → IsAloneThere plan.keep_free (units_of plan) u → HoldsAlone (units_of plan) w u }
+{}
+
+/// In every world of every run of a plan without findings, with all lawful choices, a unit that never claims holds its planned address
+/// while it is on, and no other unit that is on ever holds it.
+pub fn silent_units_are_undisturbed()
+    ensures { (plan : Plans) (steps : List Steps) (w : World) → Clean plan → Run plan all_off steps w
+        → (u : ℕ) → u < length (units_of plan) → (unit_at (units_of plan) u).claims ≡ false → HoldsAlone (units_of plan) w u }
 {}

@@ -5,6 +5,7 @@ ghost use Rattle.j39_findings.specs.declared.steps.Step.{Step as Steps};
 ghost use Rattle.j39_world.specs.Ending.{TransfersEnd};
 ghost use Rattle.j39_world.specs.Leading.{LeadsOn};
 ghost use Rattle.j39_world.specs.Run.{Run};
+ghost use Rattle.j39_world.specs.Sound.{AreSentFramesSound};
 ghost use Rattle.j39_world.specs.World.{World, all_off};
 
 /// In every world of every run of every plan, each step that isn't refused leads to some world: so what is said of all worlds that
@@ -18,4 +19,11 @@ pub fn steps_lead_somewhere()
 /// between its Begin and its Rest, one of them does. It says nothing of time.
 pub fn every_transfer_ends()
     ensures { (plan : Plans) (steps : List Steps) (w : World) → Run plan all_off steps w → TransfersEnd plan w }
+{}
+
+/// In every world of every run of every plan, with all lawful choices and whatever is lost, what a unit reported of frames that another
+/// sent alone is a subsequence of what that one sent so for it, by its flow and its bytes, and while one of them is undelivered no claim
+/// and no request is.
+pub fn sent_frames_are_sound()
+    ensures { (plan : Plans) (steps : List Steps) (w : World) → Run plan all_off steps w → AreSentFramesSound w }
 {}

@@ -18,6 +18,7 @@ use Rattle.j39_log.specs.declared.catalog.CatalogError.TheVariants.{BadGroup, Me
 use Rattle.j39_log.specs.declared.catalog.Catalog.{Catalog}
 use Rattle.j39_log.specs.declared.catalog.Span.{Span}
 use Rattle.j39_log.specs.inside.FirstFlows.{AreFirstFlows}
+use Rattle.j39_log.specs.inside.NameTables.{AreNamesOf}
 use Rattle.j39_log.specs.inside.ReportHeads.{report_head}
 use Rattle.j39_log.specs.inside.ValueLines.{items_of, value_lines_of}
 
@@ -58,6 +59,7 @@ pub record IsCatalogOf (plan : Plan) (catalog : Catalog) : Type 0 where
   pub heads : catalog.heads.items ≡ map report_head plan.groups.items
   pub layouts : catalog.layouts.items ≡ map layout_of plan.groups.items
   pub lines : map items_of catalog.lines.items ≡ map value_lines_of plan.groups.items
+  pub names : AreNamesOf plan catalog.names
   pub index : IsIndex plan.groups.items catalog.spans
   pub flows : AreFirstFlows plan.flows.items catalog.flows
 

@@ -17,7 +17,7 @@ pub enum Cause {
     /// A label is that of an earlier unit, of an earlier group or of an earlier signal of its group, or an address is kept
     /// free twice.
     Repeated,
-    /// A flow or a need names no group or no unit of the plan, or a need no signal of its group.
+    /// A flow, a need or a request names no group or no unit of the plan, or a need no signal of its group.
     UnknownLabel,
 }
 

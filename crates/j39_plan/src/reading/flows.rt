@@ -9,7 +9,7 @@ ghost use Rattle.j39_plan.specs.FlowTables as spec;
 use super::elements::ReadElement;
 use super::labels::{Labelled, place_of};
 use super::tables::{only, table_of};
-use super::values::{any_text, number, optional_number, refused, value_at};
+use super::values::{any_text, flag, number, optional_number, refused, value_at};
 use super::{Cause, Key, PlanError, Table};
 use j39_findings::{FlowPlan, GroupPlan, Pace, To, UnitPlan};
 use std::alloc::Global;
@@ -22,7 +22,7 @@ const FLOW_KEYS: [Key; 3] = [Key::Group, Key::From, Key::To];
 
 const THIRD_KEYS: [Key; 5] = [Key::Group, Key::From, Key::To, Key::Period, Key::Deadline];
 
-const FOURTH_KEYS: [Key; 7] = [
+const FOURTH_KEYS: [Key; 8] = [
     Key::Group,
     Key::From,
     Key::To,
@@ -30,6 +30,7 @@ const FOURTH_KEYS: [Key; 7] = [
     Key::Deadline,
     Key::Jitter,
     Key::Pause,
+    Key::OnRequest,
 ];
 
 /// The place of the item that a text names.
@@ -60,8 +61,9 @@ fn receivers(units: &[UnitPlan], word: &str) -> Option<To>
     }
 }
 
+/// The receivers that a text names.
 #[tactic(auto, unfolding(crate::specs::FlowTables::receiver_faults))]
-fn to(units: &[UnitPlan], word: &str, table: Table) -> Result<To, PlanError>
+pub fn to(units: &[UnitPlan], word: &str, table: Table) -> Result<To, PlanError>
     ensures { Gives result (spec.receiver_faults table (map (λ u. u.label.bytes) units.now) (Some word.now))
         (λ t. spec.receivers (map (λ u. u.label.bytes) units.now) word.now ≡ Some t) }
 {
@@ -78,8 +80,8 @@ fn has_key(members: &toml::Table, key: Key) -> bool
     value_at(members, key).is_some()
 }
 
-// A number of milliseconds, in the type of a plan.
-fn milliseconds(given: Option<u32>) -> Option<u16>
+/// A number of milliseconds, in the type of a plan.
+pub fn milliseconds(given: Option<u32>) -> Option<u16>
     requires { IfSome given (λ n. n ≤ 65535) }
     ensures { result ≡ given }
 {
@@ -89,11 +91,12 @@ fn milliseconds(given: Option<u32>) -> Option<u16>
     }
 }
 
-// How far behind its moments a flow is sent, and for how long it is silent.
+// How far behind its moments a flow is sent, for how long it is silent, and whether it is sent on request alone.
 #[derive(Clone, Copy)]
 struct LaterPace {
     jitter: u32,
     pause: Option<u32>,
+    on_request: bool,
 }
 
 // The same, by the period, where the version knows it.
@@ -108,7 +111,8 @@ fn later_pace(
     requires few { IfSome period (λ n. n ≤ 65535) }
     ensures gives { Gives result (keys_faults table (table_view members.now) (spec.later_pace_rules fourth period))
         (λ later. (later.jitter ≡ spec.jitter_of fourth period (table_view members.now))
-        × (later.pause ≡ spec.pause_of fourth period (table_view members.now))) }
+        × (later.pause ≡ spec.pause_of fourth period (table_view members.now))
+        × (later.on_request ≡ spec.on_request_of fourth (table_view members.now))) }
     ensures below { IfOk result (λ later. later.jitter ≤ spec.jitter_most period) }
     ensures some { IfOk result (λ later. IfSome later.pause (λ n. 1 ≤ n)) }
     ensures few { IfOk result (λ later. IfSome later.pause (λ n. n ≤ 65535)) }
@@ -117,6 +121,7 @@ fn later_pace(
         return Ok(LaterPace {
             jitter: 0,
             pause: None,
+            on_request: false,
         });
     }
     let (jitter_most, pause_least) = match period {
@@ -125,14 +130,20 @@ fn later_pace(
     };
     let jitter = number(members, table, Key::Jitter, 0, jitter_most, Some(0))?;
     let pause = optional_number(members, table, Key::Pause, pause_least, MS_MOST, false)?;
-    Ok(LaterPace { jitter, pause })
+    let on_request = flag(members, table, Key::OnRequest, false)?;
+    Ok(LaterPace {
+        jitter,
+        pause,
+        on_request,
+    })
 }
 
-// How often a flow is sent, and for how long it is silent, where its table tells it.
+// How often a flow is sent, for how long it is silent, and whether it is sent on request alone, where its table tells it.
 #[derive(Clone, Copy)]
 struct Rhythm {
     pace: Option<Pace>,
     pause: Option<u16>,
+    on_request: bool,
     ghost pause_positive: { ForSome pause (λ n. 1 ≤ n) },
 }
 
@@ -140,7 +151,8 @@ struct Rhythm {
 fn given_rhythm(members: &toml::Table, table: Table, fourth: bool) -> Result<Rhythm, PlanError>
     ensures { Gives result (keys_faults table (table_view members.now) (spec.pace_rules true fourth (table_view members.now)))
         (λ rhythm. spec.TellsPace true fourth (table_view members.now) rhythm.pace
-        × (rhythm.pause ≡ spec.given_pause true fourth (table_view members.now))) }
+        × (rhythm.pause ≡ spec.given_pause true fourth (table_view members.now))
+        × (rhythm.on_request ≡ spec.given_on_request true fourth (table_view members.now))) }
 {
     let asked = fourth && has_key(members, Key::Jitter) || has_key(members, Key::Deadline);
     let period = optional_number(members, table, Key::Period, 1, MS_MOST, asked)?;
@@ -157,6 +169,7 @@ fn given_rhythm(members: &toml::Table, table: Table, fourth: bool) -> Result<Rhy
     Ok(Rhythm {
         pace,
         pause: milliseconds(later.pause),
+        on_request: later.on_request,
     })
 }
 
@@ -169,7 +182,8 @@ fn known_rhythm(
 ) -> Result<Rhythm, PlanError>
     ensures { Gives result (keys_faults table (table_view members.now) (spec.pace_rules third fourth (table_view members.now)))
         (λ rhythm. spec.TellsPace third fourth (table_view members.now) rhythm.pace
-        × (rhythm.pause ≡ spec.given_pause third fourth (table_view members.now))) }
+        × (rhythm.pause ≡ spec.given_pause third fourth (table_view members.now))
+        × (rhythm.on_request ≡ spec.given_on_request third fourth (table_view members.now))) }
 {
     if third {
         given_rhythm(members, table, fourth)
@@ -177,6 +191,7 @@ fn known_rhythm(
         Ok(Rhythm {
             pace: None,
             pause: None,
+            on_request: false,
         })
     }
 }
@@ -237,6 +252,7 @@ fn flow(
         to,
         pace: rhythm.pace,
         pause: rhythm.pause,
+        on_request: rhythm.on_request,
     })
 }
 

@@ -1,5 +1,5 @@
 //! The groups of a plan.
-ghost use Rattle.std.specs.Prelude.{◌≡◌, ◌≤◌, ◌<◌, map, IfOk, IfSome};
+ghost use Rattle.std.specs.Prelude.{◌≡◌, ◌≢◌, ◌≤◌, ◌<◌, [], map, IfOk, OnErr, IfSome};
 ghost use Rattle.toml.specs.View.{items_view, table_view};
 ghost use Rattle.j39_id.specs.Limits.{message_bytes};
 ghost use Rattle.j39_plan.specs.Schema.{tables_of};
@@ -10,16 +10,17 @@ ghost use Rattle.j39_plan.specs.GroupTables.{every_of, group_rules, group_table_
 
 use super::elements::{ReadElement, read_each};
 use super::labels::untaken;
-use super::signals::Signals;
+use super::signals::{PlannedSignal, Signals};
 use super::tables::{array, only, table_of};
 use super::text_kind::TextKind;
 use super::texts::Texts;
 use super::values::{flag, number, optional_number, short_text};
 use super::{Key, PlanError, Table};
-use j39_findings::GroupPlan;
 use j39_findings::limits::{SIGNAL_LIMIT, TEXT_LIMIT};
+use j39_findings::{GroupPlan, Meaning};
 use j39_id::limits::MESSAGE_BYTES;
-use std::alloc::Global;
+use j39_signal::Signal;
+use std::alloc::{AllocError, Global};
 use toml::Value;
 
 const FIRST_KEYS: [Key; 5] = [
@@ -124,15 +125,34 @@ fn distance(every: Option<u32>) -> Option<u8>
     }
 }
 
+// The signals, and what is said of them besides.
+fn parted(
+    alloc: Global,
+    planned: Vec<PlannedSignal>,
+) -> Result<(Vec<Signal>, Vec<Meaning>), AllocError>
+    ensures signals { IfOk result (λ p. p.0.items ≡ map (λ x. x.signal) planned.items) }
+    ensures meanings { IfOk result (λ p. p.1.items ≡ map (λ x. x.meaning) planned.items) }
+    ensures memory { OnErr result (planned.items ≢ []) }
+{
+    let mut signals = Vec::new(alloc);
+    let mut meanings = Vec::new(alloc);
+    for PlannedSignal { signal, meaning } in planned {
+        signals.push(signal)?;
+        meanings.push(meaning)?;
+    }
+    Ok((signals, meanings))
+}
+
 #[tactic(auto, using(crate::proofs::FirstFaults::faults_after), unfolding(crate::specs::GroupTables::group_table_faults))]
 fn group(
     alloc: Global,
     third: bool,
+    fourth: bool,
     index: usize,
     members: &toml::Table,
 ) -> Result<GroupPlan, PlanError>
-    ensures { GivesGrowing (GroupGrows third index (table_view members.now)) result
-        (group_table_faults third index (table_view members.now)) (TellsGroup third (table_view members.now)) }
+    ensures { GivesGrowing (GroupGrows third fourth index (table_view members.now)) result
+        (group_table_faults third fourth index (table_view members.now)) (TellsGroup third fourth (table_view members.now)) }
 {
     let table = Table::Group(index);
     only_known(third, members, table)?;
@@ -145,15 +165,17 @@ fn group(
     let records = later.every.is_some();
     let reader = Signals {
         third,
+        fourth,
         records,
         group: index,
     };
-    let signals = read_each(alloc, &reader, later.signals)?;
+    let planned = read_each(alloc, &reader, later.signals)?;
+    let parts = parted(alloc, planned)?;
     let texts = read_each(
         alloc,
         &Texts {
             group: index,
-            signals: &signals,
+            signals: &parts.0,
         },
         later.texts,
     )?;
@@ -165,15 +187,17 @@ fn group(
         private: later.private,
         most: later.most as u16,
         every,
-        signals,
+        signals: parts.0,
+        meanings: parts.1,
         texts,
     })
 }
 
-/// The reader of groups, in the third version of a plan or in another.
+/// The reader of groups, in the third version of a plan, the fourth or another.
 #[derive(Clone, Copy)]
 pub struct Groups {
     pub third: bool,
+    pub fourth: bool,
 }
 
 impl ReadElement<GroupPlan> for Groups {
@@ -185,11 +209,11 @@ impl ReadElement<GroupPlan> for Groups {
 
     ghost label_of = { label_in };
 
-    ghost faults = { λ r. group_faults r.third };
+    ghost faults = { λ r. group_faults r.third r.fourth };
 
-    ghost Grows = { λ r. GroupElementGrows r.third };
+    ghost Grows = { λ r. GroupElementGrows r.third r.fourth };
 
-    ghost Tells = { λ r. IsGroupOf r.third };
+    ghost Tells = { λ r. IsGroupOf r.third r.fourth };
 
     #[tactic(auto, using(crate::proofs::FirstFaults::faults_after), unfolding(crate::specs::GroupTables::group_faults))]
     fn read(
@@ -200,7 +224,13 @@ impl ReadElement<GroupPlan> for Groups {
         value: &Value,
     ) -> Result<GroupPlan, PlanError> {
         let table = Table::Group(index);
-        let group = group(alloc, self.third, index, table_of(value, table)?)?;
+        let group = group(
+            alloc,
+            self.third,
+            self.fourth,
+            index,
+            table_of(value, table)?,
+        )?;
         untaken(seen, group.label.as_str(), TextKind::Label, table)?;
         Ok(group)
     }

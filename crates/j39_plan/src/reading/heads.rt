@@ -37,7 +37,7 @@ const THIRD_KEYS: [Key; 6] = [
     Key::Flow,
 ];
 
-const FOURTH_KEYS: [Key; 8] = [
+const FOURTH_KEYS: [Key; 9] = [
     Key::Version,
     Key::KeepFree,
     Key::Strangers,
@@ -46,6 +46,7 @@ const FOURTH_KEYS: [Key; 8] = [
     Key::Group,
     Key::Flow,
     Key::Need,
+    Key::Request,
 ];
 
 /// The address that an element tells that stands behind those with the addresses seen.

@@ -7,6 +7,7 @@ ghost use Rattle.j39_plan.specs.Elements.{repeated_faults};
 ghost use Rattle.j39_plan.specs.Outcome.{Gives};
 ghost use Rattle.j39_plan.specs.FlowTables.{place_of};
 
+use super::signals::PlannedSignal;
 use super::text_kind::TextKind;
 use super::values::refused;
 use super::{Cause, Key, PlanError, Table};
@@ -44,6 +45,14 @@ impl Labelled for Signal {
 
     fn label_text(&self) -> &str {
         self.label().as_str()
+    }
+}
+
+impl Labelled for PlannedSignal {
+    ghost label_bytes = { λ x. x.signal.label.bytes };
+
+    fn label_text(&self) -> &str {
+        self.signal.label().as_str()
     }
 }
 

@@ -1,39 +1,23 @@
 //! The needs of a plan.
 ghost use Rattle.std.specs.Prelude.{◌≡◌, [], ◌∷◌, map, option_map, option_and_then, Some};
 ghost use Rattle.std.specs.List.{slice_get};
-ghost use Rattle.toml.specs.View.{items_view, table_view};
-ghost use Rattle.j39_plan.specs.declared.reading.place.Table.TheVariants as at;
-ghost use Rattle.j39_plan.specs.TableFaults.{keys_faults};
+ghost use Rattle.toml.specs.View.{table_view};
 ghost use Rattle.j39_plan.specs.Outcome.{Gives};
-ghost use Rattle.j39_plan.specs.Faults.{need_array_rules, need_tables_of};
 ghost use Rattle.j39_plan.specs.FlowTables.{place_of, place_faults};
 ghost use Rattle.j39_plan.specs.NeedTables as spec;
 
 use super::elements::ReadElement;
 use super::flows::place;
 use super::labels::Labelled;
-use super::tables::{array, only, table_of};
+use super::tables::{only, table_of};
 use super::values::{any_text, optional_number, optional_text};
 use super::{Key, PlanError, Table};
-use j39_findings::limits::NEED_LIMIT;
 use j39_findings::{GroupPlan, NeedPlan, UnitPlan};
 use j39_signal::Signal;
 use std::alloc::Global;
 use toml::Value;
 
 const NEED_KEYS: [Key; 5] = [Key::Unit, Key::Group, Key::Signal, Key::From, Key::Within];
-
-/// The tables of needs, where the version knows them.
-pub fn need_values(members: &toml::Table, fourth: bool) -> Result<&[Value], PlanError>
-    ensures { Gives result (keys_faults at.Top (table_view members.now) (need_array_rules fourth))
-        (λ vs. items_view vs.now ≡ need_tables_of fourth (table_view members.now)) }
-{
-    if fourth {
-        array(members, Table::Top, Key::Need, NEED_LIMIT)
-    } else {
-        Ok(&[])
-    }
-}
 
 // The place of the item that a text names, where there is a text.
 #[tactic(auto, unfolding(crate::specs::FlowTables::place_faults))]

@@ -18,6 +18,7 @@ pub enum Table {
     Text(usize, usize),
     Flow(usize),
     Need(usize),
+    Request(usize),
 }
 
 /// A table, and the key of it that is at fault where there is one.

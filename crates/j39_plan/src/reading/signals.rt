@@ -1,20 +1,24 @@
 //! The signals of a group.
-ghost use Rattle.std.specs.Prelude.{◌≡◌, ◌≤◌, ◌≤ℤ◌, true, false, pos, negsuc, IsTrue, IfOk};
+ghost use Rattle.std.specs.Prelude.{◌≡◌, ◌≤◌, ◌≤ℤ◌, ◌&&◌, true, false, None, pos, negsuc, map, IsTrue, IfOk, IfSome};
 ghost use Rattle.toml.specs.View.{table_view};
 ghost use Rattle.j39_signal.specs.Parts.{IsSignal, IsDivisor};
 ghost use Rattle.j39_findings.specs.LabelForm.{is_label};
 ghost use Rattle.j39_plan.specs.Schema.{flag_of, integer_of, number_of, text_of};
-ghost use Rattle.j39_plan.specs.TableFaults.{key_faults};
+ghost use Rattle.j39_plan.specs.TableFaults.{key_faults, names_cause, unknown_faults};
+ghost use Rattle.j39_plan.specs.MeaningTables.{TellsKeys, raw_limit};
+ghost use Rattle.j39_findings.specs.PlanLimits.{spn_most};
 ghost use Rattle.j39_plan.specs.Outcome.{Gives};
 ghost use Rattle.j39_id.specs.Limits.{message_bytes};
-ghost use Rattle.j39_plan.specs.SignalTables.{is_code, is_dtc, kind_of, kind_rule, offset_rule, per_rule, repeated_rule, signal_table_faults, start_of, step_rule, unit_rule, TellsSignal};
+ghost use Rattle.j39_plan.specs.SignalTables.{is_code, is_dtc, kind_of, kind_rule, offset_rule, per_rule, repeated_rule, signal_rules, signal_table_faults, start_of, step_rule, unit_rule, TellsSignal};
 
 use super::elements::ReadElement;
 use super::labels::{Labelled, untaken};
+use super::meanings::{MeaningKeys, meaning_keys, meaning_of};
 use super::tables::{only, table_of};
 use super::text_kind::TextKind;
 use super::values::{divisor, flag_if, integer, number, short_text, text};
 use super::{Key, PlanError, Table};
+use j39_findings::Meaning;
 use j39_id::Label;
 use j39_id::limits::MESSAGE_BYTES;
 use j39_signal::{Kind, Signal};
@@ -44,6 +48,38 @@ const THIRD_KEYS: [Key; 10] = [
     Key::Unit,
     Key::Repeated,
 ];
+
+const FOURTH_KEYS: [Key; 12] = [
+    Key::Label,
+    Key::Byte,
+    Key::Bit,
+    Key::Bits,
+    Key::Kind,
+    Key::Step,
+    Key::Per,
+    Key::Offset,
+    Key::Unit,
+    Key::Repeated,
+    Key::Spn,
+    Key::Values,
+];
+
+// Refuses a key that the version, the third or the fourth, doesn't know.
+fn only_known(
+    fourth: bool,
+    records: bool,
+    members: &toml::Table,
+    table: Table,
+) -> Result<(), PlanError>
+    ensures { Gives result (unknown_faults table (map (λ r. r.key) (signal_rules true fourth records (table_view members.now))) (table_view members.now))
+        (λ _. Unit {0}) }
+{
+    if fourth {
+        only(members, table, &FOURTH_KEYS)
+    } else {
+        only(members, table, &THIRD_KEYS)
+    }
+}
 
 fn kind_of(word: &str) -> Kind
     ensures { result ≡ kind_of word.now }
@@ -191,9 +227,16 @@ fn whole_signal(
     }
 }
 
+/// What the table of a signal tells, the names of its raw numbers as the file has them.
+#[derive(Clone, Copy)]
+struct SignalKeys<'a> {
+    signal: Signal,
+    meant: MeaningKeys<'a>,
+}
+
 #[tactic(auto, using(crate::proofs::FirstFaults::faults_after), unfolding(crate::specs::SignalTables::signal_table_faults, crate::specs::SignalTables::is_code))]
-fn first_signal(table: Table, members: &toml::Table) -> Result<Signal, PlanError>
-    ensures gives { Gives result (signal_table_faults false false table (table_view members.now)) (TellsSignal false (table_view members.now)) }
+fn first_signal(fourth: bool, table: Table, members: &toml::Table) -> Result<Signal, PlanError>
+    ensures gives { Gives result (signal_table_faults false fourth false table (table_view members.now)) (TellsSignal false (table_view members.now)) }
     ensures label_form { IfOk result (λ s. IsTrue (is_label s.label.bytes)) }
     ensures ranges { IfOk result (λ s. IsSignal s.start s.bits s.step s.offset) }
     ensures single { IfOk result (λ s. s.repeated ≡ false) }
@@ -212,13 +255,21 @@ fn first_signal(table: Table, members: &toml::Table) -> Result<Signal, PlanError
 }
 
 #[tactic(auto, using(crate::proofs::FirstFaults::faults_after), unfolding(crate::specs::SignalTables::signal_table_faults))]
-fn third_signal(records: bool, table: Table, members: &toml::Table) -> Result<Signal, PlanError>
-    ensures gives { Gives result (signal_table_faults true records table (table_view members.now)) (TellsSignal true (table_view members.now)) }
-    ensures label_form { IfOk result (λ s. IsTrue (is_label s.label.bytes)) }
-    ensures ranges { IfOk result (λ s. IsSignal s.start s.bits s.step s.offset) }
-    ensures single { IfOk result (λ s. records ≡ false → s.repeated ≡ false) }
+fn third_signal<'a>(
+    fourth: bool,
+    records: bool,
+    table: Table,
+    members: &'a toml::Table,
+) -> Result<SignalKeys<'a>, PlanError>
+    ensures gives { Gives result (signal_table_faults true fourth records table (table_view members.now))
+        (λ k. TellsSignal true (table_view members.now) k.signal × TellsKeys fourth (table_view members.now) k.meant) }
+    ensures label_form { IfOk result (λ k. IsTrue (is_label k.signal.label.bytes)) }
+    ensures ranges { IfOk result (λ k. IsSignal k.signal.start k.signal.bits k.signal.step k.signal.offset) }
+    ensures single { IfOk result (λ k. records ≡ false → k.signal.repeated ≡ false) }
+    ensures spn { IfOk result (λ k. IfSome k.meant.spn (λ n. n ≤ spn_most)) }
+    ensures named { IfOk result (λ k. IfSome k.meant.names (λ t. names_cause (raw_limit k.signal.bits) (table_view t.now) ≡ None)) }
 {
-    only(members, table, &THIRD_KEYS)?;
+    only_known(fourth, records, members, table)?;
     let label = short_text(members, table, Key::Label, TextKind::Label, None)?;
     let byte = number(members, table, Key::Byte, 1, MESSAGE_BYTES as u32, None)?;
     let bit = number(members, table, Key::Bit, 1, 8, Some(1))?;
@@ -229,66 +280,93 @@ fn third_signal(records: bool, table: Table, members: &toml::Table) -> Result<Si
     let offset = offset(members, table, kind.1)?;
     let unit = unit(members, table, kind.1)?;
     let repeated = repeated(members, table, records)?;
+    let meant = meaning_keys(members, table, fourth, kind.1, bits)?;
     let start = start_of(byte, bit);
     match whole_signal(label, start, bits, kind.0, step, offset, unit).divided_by(per) {
-        Some(signal) => Ok(signal.with_repeated(repeated)),
+        Some(signal) => Ok(SignalKeys {
+            signal: signal.with_repeated(repeated),
+            meant,
+        }),
         None => unreachable!(),
     }
 }
 
 #[tactic(auto, unfolding(crate::specs::SignalTables::signal_table_faults))]
-fn signal(
-    third: bool,
-    records: bool,
+fn signal<'a>(
+    version: &Signals,
     table: Table,
-    members: &toml::Table,
-) -> Result<Signal, PlanError>
-    ensures gives { Gives result (signal_table_faults third records table (table_view members.now)) (TellsSignal third (table_view members.now)) }
-    ensures label_form { IfOk result (λ s. IsTrue (is_label s.label.bytes)) }
-    ensures ranges { IfOk result (λ s. IsSignal s.start s.bits s.step s.offset) }
-    ensures single { IfOk result (λ s. records ≡ false → s.repeated ≡ false) }
+    members: &'a toml::Table,
+) -> Result<SignalKeys<'a>, PlanError>
+    ensures gives { Gives result (signal_table_faults version.now.third version.now.fourth version.now.records table (table_view members.now))
+        (λ k. TellsSignal version.now.third (table_view members.now) k.signal
+        × TellsKeys (version.now.third && version.now.fourth) (table_view members.now) k.meant) }
+    ensures label_form { IfOk result (λ k. IsTrue (is_label k.signal.label.bytes)) }
+    ensures ranges { IfOk result (λ k. IsSignal k.signal.start k.signal.bits k.signal.step k.signal.offset) }
+    ensures single { IfOk result (λ k. version.now.records ≡ false → k.signal.repeated ≡ false) }
+    ensures spn { IfOk result (λ k. IfSome k.meant.spn (λ n. n ≤ spn_most)) }
+    ensures named { IfOk result (λ k. IfSome k.meant.names (λ t. names_cause (raw_limit k.signal.bits) (table_view t.now) ≡ None)) }
 {
-    if third {
-        third_signal(records, table, members)
-    } else {
-        first_signal(table, members)
+    if version.third {
+        return third_signal(version.fourth, version.records, table, members);
     }
+    let signal = first_signal(version.fourth, table, members)?;
+    let meant = MeaningKeys {
+        spn: None,
+        names: None,
+    };
+    Ok(SignalKeys { signal, meant })
 }
 
-/// The reader of the signals of the group at a place, which has records or hasn't, in the third version of a plan or in another.
+/// A signal of a group, with what is said of it besides.
+#[derive(Drop)]
+pub struct PlannedSignal {
+    pub signal: Signal,
+    pub meaning: Meaning,
+}
+
+/// The reader of the signals of the group at a place, which has records or hasn't, in the third version of a plan, the fourth or another.
 #[derive(Clone, Copy)]
 pub struct Signals {
     pub third: bool,
+    pub fourth: bool,
     pub records: bool,
     pub group: usize,
 }
 
-impl ReadElement<Signal> for Signals {
-    ghost use Rattle.j39_plan.specs.Growing.{NeverGrows};
-    ghost use Rattle.j39_plan.specs.SignalTables.{signal_faults, IsSignalOf, IsFit};
+impl ReadElement<PlannedSignal> for Signals {
+    ghost use Rattle.j39_plan.specs.Growing.{SignalGrows};
+    ghost use Rattle.j39_plan.specs.SignalTables.{signal_faults, IsSignalOf, IsMeaningOf, IsFit};
     ghost use Rattle.j39_plan.specs.Elements.{label_in};
 
-    ghost label_bytes = { λ s. s.label.bytes };
+    ghost label_bytes = { λ x. x.signal.label.bytes };
 
     ghost label_of = { label_in };
 
-    ghost faults = { λ r. signal_faults r.third r.records r.group };
+    ghost faults = { λ r. signal_faults r.third r.fourth r.records r.group };
 
-    ghost Grows = { λ _. NeverGrows };
+    ghost Grows = { λ r. SignalGrows r.third r.fourth r.records r.group };
 
-    ghost Tells = { λ r d s. IsSignalOf r.third d s × IsFit r.records s };
+    ghost Tells = { λ r d x. (IsSignalOf r.third d x.signal × IsFit r.records x.signal) × IsMeaningOf r.third r.fourth d x.meaning };
 
     #[tactic(auto, using(crate::proofs::FirstFaults::faults_after), unfolding(crate::specs::SignalTables::signal_faults))]
     fn read(
         &self,
-        _alloc: Global,
+        alloc: Global,
         index: usize,
-        seen: &[Signal],
+        seen: &[PlannedSignal],
         value: &Value,
-    ) -> Result<Signal, PlanError> {
+    ) -> Result<PlannedSignal, PlanError> {
         let table = Table::Signal(self.group, index);
-        let signal = signal(self.third, self.records, table, table_of(value, table)?)?;
-        untaken(seen, signal.label_text(), TextKind::Label, table)?;
-        Ok(signal)
+        let members = table_of(value, table)?;
+        let keys = match signal(self, table, members) {
+            Ok(keys) => keys,
+            Err(error) => return Err(error),
+        };
+        untaken(seen, keys.signal.label_text(), TextKind::Label, table)?;
+        let meaning = meaning_of(alloc, keys.meant, u32::from(keys.signal.bits()))?;
+        Ok(PlannedSignal {
+            signal: keys.signal,
+            meaning,
+        })
     }
 }

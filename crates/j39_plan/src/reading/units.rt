@@ -1,21 +1,22 @@
 //! The units of a plan.
-ghost use Rattle.std.specs.Prelude.{◌≡◌, ◌<◌, IfOk};
+ghost use Rattle.std.specs.Prelude.{◌≡◌, ◌<◌, false, map, IfOk};
 ghost use Rattle.j39_id.specs.Addresses.{null_address};
+ghost use Rattle.j39_id.specs.Name.{is_arbitrary};
 ghost use Rattle.toml.specs.View.{table_view};
 ghost use Rattle.j39_plan.specs.Schema.{text_of, number_of};
-ghost use Rattle.j39_plan.specs.TableFaults.{key_faults};
+ghost use Rattle.j39_plan.specs.TableFaults.{key_faults, keys_faults, unknown_faults};
 ghost use Rattle.j39_plan.specs.Outcome.{Gives};
-ghost use Rattle.j39_plan.specs.UnitTables.{way_of, address_rule, chooser_rule, unit_table_faults, TellsUnit};
+ghost use Rattle.j39_plan.specs.UnitTables.{way_of, address_rule, chooser_rule, claims_rules, claims_of, unit_rules, silent_faults, unit_table_faults, TellsUnit};
 
 use super::elements::ReadElement;
 use super::labels::untaken;
 use super::names::name;
 use super::tables::{inner, only, table_of};
 use super::text_kind::TextKind;
-use super::values::{number, short_text, text};
-use super::{Key, PlanError, Table};
+use super::values::{flag, number, refused, short_text, text};
+use super::{Cause, Key, PlanError, Table};
 use j39_findings::{UnitPlan, Way};
-use j39_id::Address;
+use j39_id::{Address, Name};
 use std::alloc::Global;
 use toml::Value;
 
@@ -26,6 +27,26 @@ const UNIT_KEYS: [Key; 5] = [
     Key::Window,
     Key::Name,
 ];
+
+const FOURTH_KEYS: [Key; 6] = [
+    Key::Label,
+    Key::Address,
+    Key::Chooser,
+    Key::Window,
+    Key::Name,
+    Key::Claims,
+];
+
+// Refuses a key that the version doesn't know.
+fn only_known(members: &toml::Table, table: Table, fourth: bool) -> Result<(), PlanError>
+    ensures { Gives result (unknown_faults table (map (λ r. r.key) (unit_rules fourth)) (table_view members.now)) (λ _. Unit {0}) }
+{
+    if fourth {
+        only(members, table, &FOURTH_KEYS)
+    } else {
+        only(members, table, &UNIT_KEYS)
+    }
+}
 
 fn address(members: &toml::Table, table: Table) -> Result<Address, PlanError>
     ensures gives { Gives result (key_faults table (table_view members.now) address_rule)
@@ -63,30 +84,60 @@ fn way(members: &toml::Table, table: Table) -> Result<Way, PlanError>
     Ok(way_of(word))
 }
 
+// Whether the unit claims its address, where the version knows that it may not.
+fn claims(members: &toml::Table, table: Table, fourth: bool) -> Result<bool, PlanError>
+    ensures { Gives result (keys_faults table (table_view members.now) (claims_rules fourth))
+        (λ b. b ≡ claims_of fourth (table_view members.now)) }
+{
+    if fourth {
+        flag(members, table, Key::Claims, true)
+    } else {
+        Ok(true)
+    }
+}
+
+// Refuses a unit that doesn't claim and may choose.
+#[tactic(auto, unfolding(crate::specs::UnitTables::silent_faults))]
+fn silent_stays(index: usize, claims: bool, name: Name) -> Result<(), PlanError>
+    ensures gives { Gives result (silent_faults index claims name) (λ _. Unit {0}) }
+    ensures stays { IfOk result (λ _. claims ≡ false → is_arbitrary name ≡ false) }
+{
+    if !claims && name.is_arbitrary() {
+        Err(refused(Cause::Range, Table::Unit(index), Key::Claims))
+    } else {
+        Ok(())
+    }
+}
+
 #[tactic(auto, using(crate::proofs::FirstFaults::faults_after), unfolding(crate::specs::UnitTables::unit_table_faults))]
-fn unit(index: usize, members: &toml::Table) -> Result<UnitPlan, PlanError>
-    ensures { Gives result (unit_table_faults index (table_view members.now)) (TellsUnit (table_view members.now)) }
+fn unit(fourth: bool, index: usize, members: &toml::Table) -> Result<UnitPlan, PlanError>
+    ensures { Gives result (unit_table_faults fourth index (table_view members.now)) (TellsUnit fourth (table_view members.now)) }
 {
     let table = Table::Unit(index);
-    only(members, table, &UNIT_KEYS)?;
+    only_known(members, table, fourth)?;
     let label = short_text(members, table, Key::Label, TextKind::UnitLabel, None)?;
     let address = address(members, table)?;
     let way = way(members, table)?;
     let window = number(members, table, Key::Window, 1, 255, Some(255))?;
     let inside = inner(members, table, Key::Name)?;
+    let claims = claims(members, table, fourth)?;
     let name = name(index, inside)?;
+    silent_stays(index, claims, name)?;
     Ok(UnitPlan {
         label,
         address,
         name,
         way,
         window: window as u8,
+        claims,
     })
 }
 
 /// The reader of units.
 #[derive(Clone, Copy)]
-pub struct Units;
+pub struct Units {
+    pub fourth: bool,
+}
 
 impl ReadElement<UnitPlan> for Units {
     ghost use Rattle.j39_plan.specs.Growing.{NeverGrows};
@@ -96,11 +147,11 @@ impl ReadElement<UnitPlan> for Units {
 
     ghost label_of = { unit_label_in };
 
-    ghost faults = { λ _. unit_faults };
+    ghost faults = { λ r. unit_faults r.fourth };
 
     ghost Grows = { λ _. NeverGrows };
 
-    ghost Tells = { λ _. IsUnitOf };
+    ghost Tells = { λ r. IsUnitOf r.fourth };
 
     #[tactic(auto, using(crate::proofs::FirstFaults::faults_after), unfolding(crate::specs::UnitTables::unit_faults))]
     fn read(
@@ -111,7 +162,7 @@ impl ReadElement<UnitPlan> for Units {
         value: &Value,
     ) -> Result<UnitPlan, PlanError> {
         let table = Table::Unit(index);
-        let unit = unit(index, table_of(value, table)?)?;
+        let unit = unit(self.fourth, index, table_of(value, table)?)?;
         untaken(seen, unit.label.as_str(), TextKind::UnitLabel, table)?;
         Ok(unit)
     }

@@ -5,6 +5,7 @@ ghost use Rattle.j39_tp.specs.Sender.{after_packet, after_timeout, announced, an
 use super::stage::Stage;
 use crate::packet::NO_LIMIT;
 use crate::{Dest, Message, Outcome, Packet, Phase, Reaction};
+use j39_id::Pgn;
 use std::marker::Model;
 
 /// A message that is being sent, from its announcement on (SAE J1939-21, transport protocol functions). There is no transfer
@@ -46,6 +47,13 @@ impl Transfer {
             stage,
         };
         (transfer, announcement)
+    }
+
+    /// The PGN of its message.
+    pub fn pgn(&self) -> Pgn
+        ensures { result ≡ self.now.message.pgn }
+    {
+        self.message.pgn()
     }
 
     /// The next data packet, if one may be sent now.

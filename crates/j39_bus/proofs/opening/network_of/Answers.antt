@@ -54,6 +54,7 @@ returns-clause-world c =
       receivers = λ v u. (c.in_ok-receivers.ensures.closed v u i).progress;
       taken = λ v u. [];
       begun = λ u v. [];
+      sent_alone = λ u v. [];
       reports = map reported_of (c.new-4.ensures.items i);
       frames = map sent_of (c.new-5.ensures.items i);
     }

@@ -9,7 +9,7 @@ pub returns : goal.returns
 returns c =
     let plan = c.args.plan.now in
     let timing = c.in-Some.timing in
-    let asked = asked_by c.in_ok-loads.loads.flows.items c.in_ok-loads.loads.units.items in
+    let asked = asked_by c.in_ok-loads.loads.flows.items c.in_ok-loads.loads.units.items c.in_ok-loads.loads.requests.items in
     let delays = c.in_ok-delays.delays.items in
     let others = c.in_ok-others.others.items in
     let findings = c.in_ok-findings.findings.items in

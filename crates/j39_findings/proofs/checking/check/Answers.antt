@@ -3,12 +3,14 @@ use Rattle.j39_findings.specs.declared.checking.finding.Finding.{Finding}
 use Rattle.j39_findings.specs.Findings.{AreFindings}
 use Rattle.j39_findings.specs.Found.{unit_findings}
 use Rattle.j39_findings.proofs.FoundLaws.{are_findings}
-use Rattle.j39_findings.proofs.AddingLemmas.{WantsMemory, wants_memory, units_some, groups_some, signals_some, flows_some, kept_some, unsent_some, records_some, texts_some, needs_some, whole_list}
+use Rattle.j39_findings.proofs.AddingLemmas.{WantsMemory, wants_memory, units_some, groups_some, signals_some, flows_some, kept_some, unsent_some, records_some, texts_some, needs_some, requests_some, whole_list}
+use Rattle.j39_findings.proofs.AddingLemmas.{silent_some}
 use Rattle.j39_findings.proofs.checking.check.Goals as goal
 use Rattle.j39_findings.proofs.checking.check.Goals.{After-drop-findings, After-drop-findings-in_err-find_in_groups}
 use Rattle.j39_findings.proofs.checking.check.Goals.{After-drop-findings-in_err-find_in_signals}
 use Rattle.j39_findings.proofs.checking.check.Goals.{After-drop-findings-in_err-find_in_flows, After-drop-findings-in_err-find_kept}
-use Rattle.j39_findings.proofs.checking.check.Goals.{After-drop-findings-in_err-find_unsent, After-drop-findings-in_err-find_in_records, After-drop-findings-in_err-find_in_texts, After-drop-findings-in_err-find_in_needs}
+use Rattle.j39_findings.proofs.checking.check.Goals.{After-drop-findings-in_err-find_unsent, After-drop-findings-in_err-find_in_records, After-drop-findings-in_err-find_in_texts, After-drop-findings-in_err-find_in_needs, After-drop-findings-in_err-find_in_requests}
+use Rattle.j39_findings.proofs.checking.check.Goals.{After-drop-findings-in_err-find_silent}
 
 units_want : (c : After-drop-findings) → WantsMemory c.args.plan.now c.from_residual.result
 units_want c =
@@ -101,7 +103,7 @@ returns-in_err-find_in_texts-clause-clean c = (texts_want c).1
 needs_want : (c : After-drop-findings-in_err-find_in_needs) → WantsMemory c.args.plan.now c.from_residual-in_err-find_in_needs.result
 needs_want c =
     wants_memory c.args.plan.now _ _ c.from_residual-in_err-find_in_needs.ensures.1
-    (needs_some c.args.plan.now (rw (c.deref-12.ensures.value, c.deref-13.ensures.value) at c.in_err-find_in_needs.ensures))
+    (needs_some c.args.plan.now (rw (c.deref-12.ensures.value, c.deref-13.ensures.value, c.deref-14.ensures.value) at c.in_err-find_in_needs.ensures))
 
 pub returns-in_err-find_in_needs-clause-memory : goal.returns-in_err-find_in_needs-clause-memory
 returns-in_err-find_in_needs-clause-memory c = (needs_want c).0
@@ -109,10 +111,33 @@ returns-in_err-find_in_needs-clause-memory c = (needs_want c).0
 pub returns-in_err-find_in_needs-clause-clean : goal.returns-in_err-find_in_needs-clause-clean
 returns-in_err-find_in_needs-clause-clean c = (needs_want c).1
 
+requests_want : (c : After-drop-findings-in_err-find_in_requests) → WantsMemory c.args.plan.now c.from_residual-in_err-find_in_requests.result
+requests_want c =
+    wants_memory c.args.plan.now _ _ c.from_residual-in_err-find_in_requests.ensures.1
+    (requests_some c.args.plan.now
+    (rw (c.deref-15.ensures.value, c.deref-16.ensures.value, c.deref-17.ensures.value) at c.in_err-find_in_requests.ensures))
+
+pub returns-in_err-find_in_requests-clause-memory : goal.returns-in_err-find_in_requests-clause-memory
+returns-in_err-find_in_requests-clause-memory c = (requests_want c).0
+
+pub returns-in_err-find_in_requests-clause-clean : goal.returns-in_err-find_in_requests-clause-clean
+returns-in_err-find_in_requests-clause-clean c = (requests_want c).1
+
+silent_want : (c : After-drop-findings-in_err-find_silent) → WantsMemory c.args.plan.now c.from_residual-in_err-find_silent.result
+silent_want c =
+    wants_memory c.args.plan.now _ _ c.from_residual-in_err-find_silent.ensures.1
+    (silent_some c.args.plan.now (rw (c.deref-18.ensures.value) at c.in_err-find_silent.ensures))
+
+pub returns-in_err-find_silent-clause-memory : goal.returns-in_err-find_silent-clause-memory
+returns-in_err-find_silent-clause-memory c = (silent_want c).0
+
+pub returns-in_err-find_silent-clause-clean : goal.returns-in_err-find_silent-clause-clean
+returns-in_err-find_silent-clause-clean c = (silent_want c).1
+
 pub returns-clause-list : goal.returns-clause-list
 returns-clause-list c =
     let units : c.find_in_units.new.findings.items ≡ unit_findings c.args.plan.now.keep_free c.args.plan.now.strangers c.args.plan.now.units.items = search rules in
-    whole_list c.args.plan.now _ _ _ _ _ _ _ _ _ units
+    whole_list c.args.plan.now _ _ _ _ _ _ _ _ _ _ _ units
     (rw (c.deref-2.ensures.value, c.deref-3.ensures.value) at c.in_ok-find_in_groups.ensures)
     (rw (c.deref-4.ensures.value) at c.in_ok-find_in_signals.ensures)
     (rw (c.deref-5.ensures.value, c.deref-6.ensures.value) at c.in_ok-find_in_flows.ensures)
@@ -120,7 +145,9 @@ returns-clause-list c =
     (rw (c.deref-8.ensures.value, c.deref-9.ensures.value) at c.in_ok-find_unsent.ensures)
     (rw (c.deref-10.ensures.value) at c.in_ok-find_in_records.ensures)
     (rw (c.deref-11.ensures.value) at c.in_ok-find_in_texts.ensures)
-    (rw (c.deref-12.ensures.value, c.deref-13.ensures.value) at c.in_ok-find_in_needs.ensures)
+    (rw (c.deref-12.ensures.value, c.deref-13.ensures.value, c.deref-14.ensures.value) at c.in_ok-find_in_needs.ensures)
+    (rw (c.deref-15.ensures.value, c.deref-16.ensures.value, c.deref-17.ensures.value) at c.in_ok-find_in_requests.ensures)
+    (rw (c.deref-18.ensures.value) at c.in_ok-find_silent.ensures)
 
 pub returns-clause-exact : goal.returns-clause-exact
 returns-clause-exact c =

@@ -3,7 +3,7 @@ use Rattle.std.proofs.lemmas.List.{append-nil}
 use Rattle.std.proofs.lemmas.Bool.{and_parts, leb-true}
 use Rattle.std.proofs.lemmas.Option.{get_or_from_slice_get, slice_get_within}
 use Rattle.j39_findings.specs.declared.plan.group_plan.GroupPlan.{GroupPlan}
-use Rattle.j39_log.specs.LogReports.{reading_lines}
+use Rattle.j39_log.specs.NamedReports.{named_reading_lines}
 use Rattle.j39_log.specs.inside.ReportHeads.{report_head}
 use Rattle.j39_log.proofs.FoundGroups.{of_group}
 use Rattle.j39_follow.specs.Fits.{IsSentGroup, fitting_flow}
@@ -42,7 +42,7 @@ returns c = λ log shows.
     let same : there ≡ group =
     sym (c.group.ensures there) ∙ get_or_from_slice_get plan.groups.items c.in-Some.group group there reads.value_is in
     let head : List ℕ = message_line group front line.0 flow m in
-    let body : List ℕ = reading_lines group m.bytes in (
+    let body : List ℕ = named_reading_lines plan group m.bytes in (
       head ++ body,
       (
         sent,

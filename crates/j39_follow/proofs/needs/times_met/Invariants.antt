@@ -6,4 +6,5 @@ use Rattle.j39_follow.proofs.needs.times_met.Given as goal
 
 abbrev pub invariant-loop-place : goal.invariant-loop-place
 invariant-loop-place l = (l.times ≤ l.place * 2 ^ 64) × ((sent : List Sort) → IsTally l.plan l.tally sent
-    → l.times + times_met sent l.need l.place (drop l.place l.plan.flows.items) ≡ times_met sent l.need 0 l.plan.flows.items)
+    → l.times + times_met l.plan.requests.items sent l.need l.place (drop l.place l.plan.flows.items)
+    ≡ times_met l.plan.requests.items sent l.need 0 l.plan.flows.items)

@@ -13,7 +13,7 @@ loop-place-preserved c =
     let k = c.loop-place.place in
     let needs = c.args.needs.now in
     let need = c.index-needs-place.result in
-    let tell = oldness c.args.timing c.args.flows.now c.args.delays.now in
+    let tell = oldness c.args.timing c.args.requests.now c.args.flows.now c.args.delays.now in
     let old = c.args.findings.now.items in
     let before : List LoadFinding = told_from tell 0 (take k needs) in
     let step = more tell k needs need c.loop-place-test.true in
@@ -34,7 +34,7 @@ loop-place-preserved c =
 
 pub returns-in_err-push-clause-memory : goal.returns-in_err-push-clause-memory
 returns-in_err-push-clause-memory c =
-    let tell = oldness c.args.timing c.args.flows.now c.args.delays.now in
+    let tell = oldness c.args.timing c.args.requests.now c.args.flows.now c.args.delays.now in
     let at : tell c.loop-place.place c.index-needs-place.result ≢ [] = λ none.
     let never : c.in-Some.finding ∷ [] ≡ [] = sym (c.in-Some.ensures {u = tt}).some ∙ none in cc in
     let some : told_from tell 0 c.args.needs.now ≢ [] =

@@ -5,5 +5,5 @@ use Rattle.j39_load.proofs.ages.find_old_needs.Given as goal
 
 abbrev pub invariant-loop-place : goal.invariant-loop-place
 invariant-loop-place l = record {
-  found : l.findings.items ≡ l.initial.findings.items ++ told_from (oldness l.timing l.flows l.delays) 0 (take l.place l.needs);
+  found : l.findings.items ≡ l.initial.findings.items ++ told_from (oldness l.timing l.requests l.flows l.delays) 0 (take l.place l.needs);
 }

@@ -11,7 +11,7 @@ loop-place-preserved c =
     let k = c.loop-place.place in
     let flows = c.args.flows.now in
     let flow = c.index-flows-place.result in
-    let tell = ages_for c.args.timing c.args.delays.now c.args.need.now in
+    let tell = ages_for c.args.timing c.args.requests.now c.args.delays.now c.args.need.now in
     let before : List ℕ = told_from tell 0 (take k flows) in
     c.smaller-least.ensures
     ∙ ap (λ (o : Option ℕ). smaller_known o c.age_for.result) c.loop-place.invariant

@@ -4,4 +4,4 @@ use Rattle.j39_load.specs.Places.{told_from}
 use Rattle.j39_load.proofs.ages.least_age.Given as goal
 
 abbrev pub invariant-loop-place : goal.invariant-loop-place
-invariant-loop-place l = l.least ≡ least (told_from (ages_for l.timing l.delays l.need) 0 (take l.place l.flows))
+invariant-loop-place l = l.least ≡ least (told_from (ages_for l.timing l.requests l.delays l.need) 0 (take l.place l.flows))

@@ -20,16 +20,20 @@ returns-clause-memory c =
     let delays = c.in_ok-delays.delays.items in
     let (stays, tells, same) = c.in_ok-loads.ensures.asked in
     let total : c.total.result ≡ total_load timing (asked_of timing plan stays) =
-    c.total.ensures ∙ ap (λ (t : Timing). total_load t (asked_by loads.flows.items loads.units.items)) c.in_ok-loads.ensures.timing ∙ ap (total_load timing) same in
+    c.total.ensures ∙ ap (λ (t : Timing). total_load t (asked_by loads.flows.items loads.units.items loads.requests.items)) c.in_ok-loads.ensures.timing ∙ ap (total_load timing) same in
     where_refused c.all_findings.result
     (λ found. (
       some,
       elim (cases_lt 0 (length plan.flows.items)) [
         | inl flows ↦ inl (λ none. absurd (omega (arith, flows, ap length none)))
-        | inr none ↦ inr (subst IsFullOfDamage (sym c.in-Some.is)
-            (full_of_damage timing plan stays delays (omega (arith, none))
-            (omega (arith, none, c.in_ok-loads.ensures.count, c.in_ok-delays.ensures.delays.count))
-            (subst (λ (n : ℕ). load_findings timing n delays ++ old_needs timing plan.flows.items delays plan.needs.items ≢ []) total found)))
+        | inr none ↦ inr (elim (cases_lt 0 (length plan.requests.items)) [
+          | inl requests ↦ inl (λ silent. absurd (omega (arith, requests, ap length silent)))
+          | inr silent ↦ inr (subst IsFullOfDamage (sym c.in-Some.is)
+              (full_of_damage timing plan stays delays (omega (arith, none)) (omega (arith, silent))
+              (omega (arith, none, c.in_ok-loads.ensures.count, c.in_ok-delays.ensures.delays.count))
+              (subst (λ (n : ℕ). load_findings timing n delays ++ old_needs timing plan.requests.items plan.flows.items delays plan.needs.items ≢ [])
+              total found)))
+        ])
       ],
     ))
     (rw (c.as_slice.ensures.value) at c.all_findings.ensures.memory)

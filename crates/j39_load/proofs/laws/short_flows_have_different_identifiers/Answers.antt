@@ -1,6 +1,10 @@
-use Rattle.j39_load.proofs.Different.{different}
+use Rattle.j39_load.proofs.Different.{different, other_than_requests}
 use Rattle.j39_load.proofs.laws.short_flows_have_different_identifiers.Goals as goal
 
 pub returns : goal.returns
-returns c = λ plan clean on held apart f h flow other group second distinct is its.
-    different plan clean on held apart f h flow other group second distinct is its
+returns c = record {
+  flows = λ plan clean on held apart f h flow other group second distinct is its.
+      different plan clean on held apart f h flow other group second distinct is its;
+  requests = λ plan clean on held apart f flow group is request asked.
+      other_than_requests plan clean on held apart f flow group is request asked;
+}

@@ -9,12 +9,14 @@ use Rattle.j39_plan.specs.Growing.{NeverGrows, EachGrows}
 use Rattle.j39_plan.specs.Outcome.{FailsGrowing}
 use Rattle.j39_plan.specs.FlowTables.{flow_faults, IsFlowOf}
 use Rattle.j39_plan.specs.NeedTables.{need_faults, IsNeedOf}
+use Rattle.j39_plan.specs.RequestTables.{request_faults, IsRequestOf}
 use Rattle.j39_plan.specs.Faults.{no_label}
 use Rattle.j39_plan.proofs.FirstFaults.{fails_on, first-append}
 use Rattle.j39_plan.proofs.NoFaults.{tables_count, length-Each}
 use Rattle.j39_plan.proofs.ReadPlans.{units_apart, groups_apart, unit_texts_told, group_texts_told, unit_texts, group_texts}
 use Rattle.j39_plan.proofs.ReadPlans.{flow_groups, flow_senders, flow_receivers}
 use Rattle.j39_plan.proofs.ReadNeeds.{signals_texts, signals_texts_told, needs_count, need_units, need_groups, need_signals, need_senders}
+use Rattle.j39_plan.proofs.ReadRequests.{requests_count, request_groups, request_senders, request_receivers}
 use Rattle.j39_plan.proofs.reading.read_top.Goals as goal
 
 pub returns-in_err-flows : goal.returns-in_err-flows
@@ -24,12 +26,12 @@ returns-in_err-flows c =
     let fourth = c.knows_fourth-fourth.result in
     let gs = c.in_ok-groups.groups.items in
     let us = c.in_ok-units.units.items in
-    let groups = group_texts_told _ _ gs c.in_ok-groups.ensures.1 in
-    let units = unit_texts_told _ us c.in_ok-units.ensures.1 in
-    let no_units = rw c.in_ok-unit_values.ensures.1 at c.in_ok-units.ensures.0 in
-    let no_groups = rw (c.in_ok-group_values.ensures.1, c.knows_third-third.ensures) at c.in_ok-groups.ensures.0 in
+    let groups = group_texts_told _ _ _ gs c.in_ok-groups.ensures.1 in
+    let units = unit_texts_told _ _ us c.in_ok-units.ensures.1 in
+    let no_units = rw (c.in_ok-unit_values.ensures.1, c.knows_fourth-fourth.ensures) at c.in_ok-units.ensures.0 in
+    let no_groups = rw (c.in_ok-group_values.ensures.1, c.knows_third-third.ensures, c.knows_fourth-fourth.ensures) at c.in_ok-groups.ensures.0 in
     let no_strangers_key = rw c.knows_fourth-fourth.ensures at c.in_ok-strangers.ensures.gives.0 in
-    let no_need_key = rw c.knows_fourth-fourth.ensures at c.in_ok-need_values.ensures.0 in
+    let no_later_key = rw c.knows_fourth-fourth.ensures at c.in_ok-later.ensures.0 in
     let ds = items_view c.in_ok-flow_values.flow_values.now in
     let told :
     FailsGrowing (EachGrows (λ i seen. flow_faults third fourth (group_texts gs) (unit_texts us) i) NeverGrows ds) c.in_err-flows.field-0.0
@@ -45,18 +47,28 @@ returns-in_err-flows c =
       c.knows_fourth-fourth.ensures,
     ) at told in
     rw (p.1, p.2, c.in_ok-keep_free.ensures.gives.0, no_strangers_key, c.in_ok-timing.ensures.0, c.in_ok-unit_values.ensures.0, c.in_ok-group_values.ensures.0)
-    (rw (c.in_ok-flow_values.ensures.0, no_need_key, no_units, no_groups)
+    (rw (c.in_ok-flow_values.ensures.0, no_later_key, no_units, no_groups)
     (fails_on _ _ c.in_err-flows.field-0.0 _ _ (λ grows. (refl, inr (refl, inr (refl, inl grows)))) (λ f is. first-append _ _ f is) fails))
+
+pub returns-in_err-units : goal.returns-in_err-units
+returns-in_err-units c =
+    let p = err_from_is_err_and c.from_residual-in_err-units.result c.from_residual-in_err-units.ensures.1 in
+    let no_strangers_key = rw c.knows_fourth-fourth.ensures at c.in_ok-strangers.ensures.gives.0 in
+    let no_later_key = rw c.knows_fourth-fourth.ensures at c.in_ok-later.ensures.0 in
+    let fails = rw (c.in_ok-unit_values.ensures.1, c.knows_fourth-fourth.ensures) at c.in_err-units.ensures in
+    rw (p.1, p.2, c.in_ok-keep_free.ensures.gives.0, no_strangers_key, c.in_ok-timing.ensures.0, c.in_ok-unit_values.ensures.0, c.in_ok-group_values.ensures.0)
+    (rw (c.in_ok-flow_values.ensures.0, no_later_key)
+    (fails_on _ _ c.in_err-units.field-0.0 _ _ (λ grows. (refl, inl grows)) (λ f is. first-append _ _ f is) fails))
 
 pub returns-in_err-groups : goal.returns-in_err-groups
 returns-in_err-groups c =
     let p = err_from_is_err_and c.from_residual-in_err-groups.result c.from_residual-in_err-groups.ensures.1 in
-    let no_units = rw c.in_ok-unit_values.ensures.1 at c.in_ok-units.ensures.0 in
+    let no_units = rw (c.in_ok-unit_values.ensures.1, c.knows_fourth-fourth.ensures) at c.in_ok-units.ensures.0 in
     let no_strangers_key = rw c.knows_fourth-fourth.ensures at c.in_ok-strangers.ensures.gives.0 in
-    let no_need_key = rw c.knows_fourth-fourth.ensures at c.in_ok-need_values.ensures.0 in
-    let fails = rw (c.in_ok-group_values.ensures.1, c.knows_third-third.ensures) at c.in_err-groups.ensures in
+    let no_later_key = rw c.knows_fourth-fourth.ensures at c.in_ok-later.ensures.0 in
+    let fails = rw (c.in_ok-group_values.ensures.1, c.knows_third-third.ensures, c.knows_fourth-fourth.ensures) at c.in_err-groups.ensures in
     rw (p.1, p.2, c.in_ok-keep_free.ensures.gives.0, no_strangers_key, c.in_ok-timing.ensures.0, c.in_ok-unit_values.ensures.0, c.in_ok-group_values.ensures.0)
-    (rw (c.in_ok-flow_values.ensures.0, no_need_key, no_units)
+    (rw (c.in_ok-flow_values.ensures.0, no_later_key, no_units)
     (fails_on _ _ c.in_err-groups.field-0.0 _ _ (λ grows. (refl, inr (refl, inl grows))) (λ f is. first-append _ _ f is) fails))
 
 pub returns-in_err-needs : goal.returns-in_err-needs
@@ -66,13 +78,13 @@ returns-in_err-needs c =
     let fourth = c.knows_fourth-fourth.result in
     let gs = c.in_ok-groups.groups.items in
     let us = c.in_ok-units.units.items in
-    let groups = group_texts_told _ _ gs c.in_ok-groups.ensures.1 in
-    let signals = signals_texts_told _ _ gs c.in_ok-groups.ensures.1 in
-    let units = unit_texts_told _ us c.in_ok-units.ensures.1 in
-    let no_units = rw c.in_ok-unit_values.ensures.1 at c.in_ok-units.ensures.0 in
-    let no_groups = rw (c.in_ok-group_values.ensures.1, c.knows_third-third.ensures) at c.in_ok-groups.ensures.0 in
+    let groups = group_texts_told _ _ _ gs c.in_ok-groups.ensures.1 in
+    let signals = signals_texts_told _ _ _ gs c.in_ok-groups.ensures.1 in
+    let units = unit_texts_told _ _ us c.in_ok-units.ensures.1 in
+    let no_units = rw (c.in_ok-unit_values.ensures.1, c.knows_fourth-fourth.ensures) at c.in_ok-units.ensures.0 in
+    let no_groups = rw (c.in_ok-group_values.ensures.1, c.knows_third-third.ensures, c.knows_fourth-fourth.ensures) at c.in_ok-groups.ensures.0 in
     let no_strangers_key = rw c.knows_fourth-fourth.ensures at c.in_ok-strangers.ensures.gives.0 in
-    let no_need_key = rw c.knows_fourth-fourth.ensures at c.in_ok-need_values.ensures.0 in
+    let no_later_key = rw c.knows_fourth-fourth.ensures at c.in_ok-later.ensures.0 in
     let fs = items_view c.in_ok-flow_values.flow_values.now in
     let flows_told :
     (each_faults (λ i seen. flow_faults third fourth (group_texts gs) (unit_texts us) i) no_label 0 [] fs ≡ []) =
@@ -86,7 +98,7 @@ returns-in_err-needs c =
       c.knows_third-third.ensures,
       c.knows_fourth-fourth.ensures,
     ) at flows_told in
-    let ds = items_view c.in_ok-need_values.need_values.now in
+    let ds = items_view c.in_ok-later.later.needs.now in
     let told :
     FailsGrowing (EachGrows (λ i seen. need_faults (group_texts gs) (signals_texts gs) (unit_texts us) i) NeverGrows ds) c.in_err-needs.field-0.0
     (each_faults (λ i seen. need_faults (group_texts gs) (signals_texts gs) (unit_texts us) i) no_label 0 [] ds) =
@@ -97,12 +109,69 @@ returns-in_err-needs c =
       units,
       c.in_ok-group_values.ensures.1,
       c.in_ok-unit_values.ensures.1,
-      c.in_ok-need_values.ensures.1,
+      c.in_ok-later.ensures.1.0,
       c.knows_fourth-fourth.ensures,
     ) at told in
     rw (p.1, p.2, c.in_ok-keep_free.ensures.gives.0, no_strangers_key, c.in_ok-timing.ensures.0, c.in_ok-unit_values.ensures.0, c.in_ok-group_values.ensures.0)
-    (rw (c.in_ok-flow_values.ensures.0, no_need_key, no_units, no_groups, no_flows)
-    (fails_on _ _ c.in_err-needs.field-0.0 _ _ (λ grows. (refl, inr (refl, inr (refl, inr (refl, grows))))) (λ f is. is) fails))
+    (rw (c.in_ok-flow_values.ensures.0, no_later_key, no_units, no_groups, no_flows)
+    (fails_on _ _ c.in_err-needs.field-0.0 _ _ (λ grows. (refl, inr (refl, inr (refl, inr (refl, inl grows))))) (λ f is. first-append _ _ f is) fails))
+
+pub returns-in_err-requests : goal.returns-in_err-requests
+returns-in_err-requests c =
+    let p = err_from_is_err_and c.from_residual-in_err-requests.result c.from_residual-in_err-requests.ensures.1 in
+    let third = c.knows_third-third.result in
+    let fourth = c.knows_fourth-fourth.result in
+    let gs = c.in_ok-groups.groups.items in
+    let us = c.in_ok-units.units.items in
+    let groups = group_texts_told _ _ _ gs c.in_ok-groups.ensures.1 in
+    let signals = signals_texts_told _ _ _ gs c.in_ok-groups.ensures.1 in
+    let units = unit_texts_told _ _ us c.in_ok-units.ensures.1 in
+    let no_units = rw (c.in_ok-unit_values.ensures.1, c.knows_fourth-fourth.ensures) at c.in_ok-units.ensures.0 in
+    let no_groups = rw (c.in_ok-group_values.ensures.1, c.knows_third-third.ensures, c.knows_fourth-fourth.ensures) at c.in_ok-groups.ensures.0 in
+    let no_strangers_key = rw c.knows_fourth-fourth.ensures at c.in_ok-strangers.ensures.gives.0 in
+    let no_later_key = rw c.knows_fourth-fourth.ensures at c.in_ok-later.ensures.0 in
+    let fs = items_view c.in_ok-flow_values.flow_values.now in
+    let flows_told :
+    (each_faults (λ i seen. flow_faults third fourth (group_texts gs) (unit_texts us) i) no_label 0 [] fs ≡ []) =
+    rw (c.deref.ensures.value, c.deref-2.ensures.value) at c.in_ok-flows.ensures.0 in
+    let no_flows = rw (
+      groups,
+      units,
+      c.in_ok-group_values.ensures.1,
+      c.in_ok-unit_values.ensures.1,
+      c.in_ok-flow_values.ensures.1,
+      c.knows_third-third.ensures,
+      c.knows_fourth-fourth.ensures,
+    ) at flows_told in
+    let ns = items_view c.in_ok-later.later.needs.now in
+    let needs_told :
+    (each_faults (λ i seen. need_faults (group_texts gs) (signals_texts gs) (unit_texts us) i) no_label 0 [] ns ≡ []) =
+    rw (c.deref-3.ensures.value, c.deref-4.ensures.value) at c.in_ok-needs.ensures.0 in
+    let no_needs = rw (
+      groups,
+      signals,
+      units,
+      c.in_ok-group_values.ensures.1,
+      c.in_ok-unit_values.ensures.1,
+      c.in_ok-later.ensures.1.0,
+      c.knows_fourth-fourth.ensures,
+    ) at needs_told in
+    let ds = items_view c.in_ok-later.later.requests.now in
+    let told :
+    FailsGrowing (EachGrows (λ i seen. request_faults (group_texts gs) (unit_texts us) i) NeverGrows ds) c.in_err-requests.field-0.0
+    (each_faults (λ i seen. request_faults (group_texts gs) (unit_texts us) i) no_label 0 [] ds) =
+    rw (c.deref-5.ensures.value, c.deref-6.ensures.value) at c.in_err-requests.ensures in
+    let fails = rw (
+      groups,
+      units,
+      c.in_ok-group_values.ensures.1,
+      c.in_ok-unit_values.ensures.1,
+      c.in_ok-later.ensures.1.1,
+      c.knows_fourth-fourth.ensures,
+    ) at told in
+    rw (p.1, p.2, c.in_ok-keep_free.ensures.gives.0, no_strangers_key, c.in_ok-timing.ensures.0, c.in_ok-unit_values.ensures.0, c.in_ok-group_values.ensures.0)
+    (rw (c.in_ok-flow_values.ensures.0, no_later_key, no_units, no_groups, no_flows, no_needs)
+    (fails_on _ _ c.in_err-requests.field-0.0 _ _ (λ grows. (refl, inr (refl, inr (refl, inr (refl, inr (refl, grows)))))) (λ f is. is) fails))
 
 pub invariant_of-result-clause-unit_count : goal.invariant_of-result-clause-unit_count
 invariant_of-result-clause-unit_count c = rw (length-Each _ _ _ c.in_ok-units.ensures.1, c.in_ok-unit_values.ensures.1) (tables_count key.Unit unit_limit _)
@@ -115,13 +184,17 @@ invariant_of-result-clause-flow_count c = rw (length-Each _ _ _ c.in_ok-flows.en
 
 pub invariant_of-result-clause-need_count : goal.invariant_of-result-clause-need_count
 invariant_of-result-clause-need_count c =
-    rw (length-Each _ _ _ c.in_ok-needs.ensures.1, c.in_ok-need_values.ensures.1) (needs_count c.knows_fourth-fourth.result _)
+    rw (length-Each _ _ _ c.in_ok-needs.ensures.1, c.in_ok-later.ensures.1.0) (needs_count c.knows_fourth-fourth.result _)
+
+pub invariant_of-result-clause-request_count : goal.invariant_of-result-clause-request_count
+invariant_of-result-clause-request_count c =
+    rw (length-Each _ _ _ c.in_ok-requests.ensures.1, c.in_ok-later.ensures.1.1) (requests_count c.knows_fourth-fourth.result _)
 
 pub invariant_of-result-clause-unit_labels : goal.invariant_of-result-clause-unit_labels
-invariant_of-result-clause-unit_labels c = units_apart _ _ c.in_ok-units.ensures.1 c.in_ok-units.ensures.0
+invariant_of-result-clause-unit_labels c = units_apart _ _ _ c.in_ok-units.ensures.1 c.in_ok-units.ensures.0
 
 pub invariant_of-result-clause-group_labels : goal.invariant_of-result-clause-group_labels
-invariant_of-result-clause-group_labels c = groups_apart _ _ _ c.in_ok-groups.ensures.1 c.in_ok-groups.ensures.0
+invariant_of-result-clause-group_labels c = groups_apart _ _ _ _ c.in_ok-groups.ensures.1 c.in_ok-groups.ensures.0
 
 pub invariant_of-result-clause-flow_groups : goal.invariant_of-result-clause-flow_groups
 invariant_of-result-clause-flow_groups c = flow_groups _ _ _ _ _ _ (rw (c.deref.ensures.value, c.deref-2.ensures.value) at c.in_ok-flows.ensures.1)
@@ -144,19 +217,28 @@ invariant_of-result-clause-need_signals c = need_signals _ _ _ _ (rw (c.deref-3.
 pub invariant_of-result-clause-need_senders : goal.invariant_of-result-clause-need_senders
 invariant_of-result-clause-need_senders c = need_senders _ _ _ _ (rw (c.deref-3.ensures.value, c.deref-4.ensures.value) at c.in_ok-needs.ensures.1)
 
+pub invariant_of-result-clause-request_groups : goal.invariant_of-result-clause-request_groups
+invariant_of-result-clause-request_groups c = request_groups _ _ _ _ (rw (c.deref-5.ensures.value, c.deref-6.ensures.value) at c.in_ok-requests.ensures.1)
+
+pub invariant_of-result-clause-request_senders : goal.invariant_of-result-clause-request_senders
+invariant_of-result-clause-request_senders c = request_senders _ _ _ _ (rw (c.deref-5.ensures.value, c.deref-6.ensures.value) at c.in_ok-requests.ensures.1)
+
+pub invariant_of-result-clause-request_receivers : goal.invariant_of-result-clause-request_receivers
+invariant_of-result-clause-request_receivers c = request_receivers _ _ _ _ (rw (c.deref-5.ensures.value, c.deref-6.ensures.value) at c.in_ok-requests.ensures.1)
+
 pub returns : goal.returns
 returns c =
     let third = c.knows_third-third.result in
     let fourth = c.knows_fourth-fourth.result in
     let gs = c.in_ok-groups.groups.items in
     let us = c.in_ok-units.units.items in
-    let groups = group_texts_told _ _ gs c.in_ok-groups.ensures.1 in
-    let signals = signals_texts_told _ _ gs c.in_ok-groups.ensures.1 in
-    let units = unit_texts_told _ us c.in_ok-units.ensures.1 in
-    let no_units = rw c.in_ok-unit_values.ensures.1 at c.in_ok-units.ensures.0 in
-    let no_groups = rw (c.in_ok-group_values.ensures.1, c.knows_third-third.ensures) at c.in_ok-groups.ensures.0 in
+    let groups = group_texts_told _ _ _ gs c.in_ok-groups.ensures.1 in
+    let signals = signals_texts_told _ _ _ gs c.in_ok-groups.ensures.1 in
+    let units = unit_texts_told _ _ us c.in_ok-units.ensures.1 in
+    let no_units = rw (c.in_ok-unit_values.ensures.1, c.knows_fourth-fourth.ensures) at c.in_ok-units.ensures.0 in
+    let no_groups = rw (c.in_ok-group_values.ensures.1, c.knows_third-third.ensures, c.knows_fourth-fourth.ensures) at c.in_ok-groups.ensures.0 in
     let no_strangers_key = rw c.knows_fourth-fourth.ensures at c.in_ok-strangers.ensures.gives.0 in
-    let no_need_key = rw c.knows_fourth-fourth.ensures at c.in_ok-need_values.ensures.0 in
+    let no_later_key = rw c.knows_fourth-fourth.ensures at c.in_ok-later.ensures.0 in
     let fs = items_view c.in_ok-flow_values.flow_values.now in
     let flows_told :
     (each_faults (λ i seen. flow_faults third fourth (group_texts gs) (unit_texts us) i) no_label 0 [] fs ≡ [])
@@ -171,7 +253,7 @@ returns c =
       c.knows_third-third.ensures,
       c.knows_fourth-fourth.ensures,
     ) at flows_told in
-    let ds = items_view c.in_ok-need_values.need_values.now in
+    let ds = items_view c.in_ok-later.later.needs.now in
     let needs_told :
     (each_faults (λ i seen. need_faults (group_texts gs) (signals_texts gs) (unit_texts us) i) no_label 0 [] ds ≡ [])
     × Each (IsNeedOf (group_texts gs) (signals_texts gs) (unit_texts us)) ds c.in_ok-needs.needs.items =
@@ -182,18 +264,32 @@ returns c =
       units,
       c.in_ok-group_values.ensures.1,
       c.in_ok-unit_values.ensures.1,
-      c.in_ok-need_values.ensures.1,
+      c.in_ok-later.ensures.1.0,
       c.knows_fourth-fourth.ensures,
-    ) at needs_told in (
+    ) at needs_told in
+    let rs = items_view c.in_ok-later.later.requests.now in
+    let requests_told :
+    (each_faults (λ i seen. request_faults (group_texts gs) (unit_texts us) i) no_label 0 [] rs ≡ [])
+    × Each (IsRequestOf (group_texts gs) (unit_texts us)) rs c.in_ok-requests.requests.items =
+    rw (c.deref-5.ensures.value, c.deref-6.ensures.value) at c.in_ok-requests.ensures in
+    let requests = rw (
+      groups,
+      units,
+      c.in_ok-group_values.ensures.1,
+      c.in_ok-unit_values.ensures.1,
+      c.in_ok-later.ensures.1.1,
+      c.knows_fourth-fourth.ensures,
+    ) at requests_told in (
       rw (c.in_ok-keep_free.ensures.gives.0, no_strangers_key, c.in_ok-timing.ensures.0, c.in_ok-unit_values.ensures.0, c.in_ok-group_values.ensures.0)
-          (rw (c.in_ok-flow_values.ensures.0, no_need_key, no_units, no_groups, flows.0) needs.0),
+          (rw (c.in_ok-flow_values.ensures.0, no_later_key, no_units, no_groups, flows.0, needs.0) requests.0),
       record {
         has_keep_free = c.in_ok-keep_free.ensures.gives.1;
         has_strangers = rw c.knows_fourth-fourth.ensures at c.in_ok-strangers.ensures.gives.1;
         has_timing = c.in_ok-timing.ensures.1;
-        has_units = rw c.in_ok-unit_values.ensures.1 at c.in_ok-units.ensures.1;
-        has_groups = rw (c.in_ok-group_values.ensures.1, c.knows_third-third.ensures) at c.in_ok-groups.ensures.1;
+        has_units = rw (c.in_ok-unit_values.ensures.1, c.knows_fourth-fourth.ensures) at c.in_ok-units.ensures.1;
+        has_groups = rw (c.in_ok-group_values.ensures.1, c.knows_third-third.ensures, c.knows_fourth-fourth.ensures) at c.in_ok-groups.ensures.1;
         has_flows = flows.1;
         has_needs = needs.1;
+        has_requests = requests.1;
       },
     )

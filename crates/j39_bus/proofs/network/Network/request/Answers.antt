@@ -1,23 +1,30 @@
-use Rattle.std.proofs.Common.{◌≡◌, ◌<◌, List, [], ◌∷◌, length, get_or, ap, ◌∙◌, arith}
+use Rattle.std.proofs.Common.{◌≡◌, ◌<◌, List, [], ◌∷◌, length, get_or, sym, ap, ◌∙◌, arith, Some, None}
 use Rattle.j39_claim.specs.declared.item.Item.TheVariants.{Told, Request}
-use Rattle.j39_claim.specs.ClaimRule.{claim_of}
+use Rattle.j39_claim.specs.ClaimRule.{claim_of, said_by}
 use Rattle.j39_claim.specs.ClaimerValue.{ClaimerValue}
-use Rattle.j39_world.specs.ClaimSteps.{tell}
+use Rattle.j39_world.specs.PlannedUnits.{unit_at}
+use Rattle.j39_world.specs.ClaimSteps.{asking_items, tell}
 use Rattle.j39_bus.specs.Stations.{absent_unit, station_at}
 use Rattle.j39_bus.specs.inside.Network.{planned_units, world_in}
-use Rattle.j39_bus.proofs.Worlds.{any_default, told_twice}
+use Rattle.j39_bus.proofs.Heard.{answer_at}
+use Rattle.j39_bus.proofs.Worlds.{told_nothing, told_twice}
 use Rattle.j39_bus.proofs.network.Network.request.Goals as goal
 
-pub returns-clause-world : goal.returns-clause-world
-returns-clause-world c = λ h.
+pub returns-in-Some-clause-world : goal.returns-in-Some-clause-world
+returns-in-Some-clause-world c = λ h.
     let cs : List ClaimerValue = c.args.self.now.claimers.items in
-    let mid : List ClaimerValue = c.tell.new.self.claimers.items in
-    let same : mid ≡ cs = ap (λ v. v.items) c.tell.ensures.claimers in
-    let place : c.args.unit < length mid = omega (arith, ap length same, c.requires.place) in
-    let at : c.index.result.now ≡ get_or cs c.args.unit absent_unit = c.index.ensures ∙ any_default mid c.args.unit c.index.result.now absent_unit place
-    ∙ ap (λ l. get_or l c.args.unit absent_unit) same in
-    let said : c.hear_request-say.result ≡ claim_of (station_at cs c.args.unit).address = c.hear_request-say.ensures
-    ∙ ap (λ (k : ClaimerValue). claim_of k.state.address) at in
-    c.tell-2.ensures.world h
-    ∙ (λ i. tell (planned_units (same i)) (c.tell.ensures.world h i) c.args.unit (Told (said i) ∷ []))
-    ∙ told_twice (planned_units cs) (world_in h c.args.self.now) c.args.unit Request (Told (claim_of (station_at cs c.args.unit).address))
+    let same : c.tell.new.self.claimers.items ≡ cs = ap (λ v. v.items) c.tell.ensures.claimers in
+    let said : Some c.in-Some.say ≡ said_by (unit_at (planned_units cs) c.args.unit) (claim_of (station_at cs c.args.unit).address) =
+    answer_at cs c.args.unit c.index.result.now (Some c.in-Some.say) c.requires.place c.index.ensures c.in-Some.ensures in
+    c.tell-in-Some.ensures.world h
+    ∙ (λ i. tell (planned_units (same i)) (c.tell.ensures.world h i) c.args.unit (Told c.in-Some.say ∷ []))
+    ∙ told_twice (planned_units cs) (world_in h c.args.self.now) c.args.unit Request (Told c.in-Some.say)
+    ∙ (λ i. tell (planned_units cs) (world_in h c.args.self.now) c.args.unit (asking_items (said i)))
+
+pub returns-in-None-clause-world : goal.returns-in-None-clause-world
+returns-in-None-clause-world c = λ h.
+    let cs : List ClaimerValue = c.args.self.now.claimers.items in
+    let said : None ≡ said_by (unit_at (planned_units cs) c.args.unit) (claim_of (station_at cs c.args.unit).address) =
+    answer_at cs c.args.unit c.index.result.now None c.requires.place c.index.ensures c.in-None.ensures in
+    sym (told_nothing (planned_units cs) (world_in h c.args.self.now) c.args.unit)
+    ∙ (λ i. tell (planned_units cs) (world_in h c.args.self.now) c.args.unit (asking_items (said i)))

@@ -1,4 +1,4 @@
-use Rattle.std.proofs.Common.{List, length, map, set, ap, ◌∙◌}
+use Rattle.std.proofs.Common.{List, length, map, set, refl, sym, ap, subst, ℕ, ◌∙◌, Some, None}
 use Rattle.std.proofs.Math.ListN.{length-set}
 use Rattle.std.specs.Vec.{with_item}
 use Rattle.j39_claim.specs.ClaimerValue.{ClaimerValue}
@@ -8,16 +8,18 @@ use Rattle.j39_bus.proofs.Steady.{told_traffic, wired_traffic}
 use Rattle.j39_bus.proofs.WellFormed.{well_on, well_told}
 use Rattle.j39_bus.proofs.SwitchedOn.{planned_units_on, on_planned_unit, switched}
 use Rattle.j39_queues.specs.Queued.{pair_in}
-use Rattle.j39_bus.specs.inside.Network.{world_in}
+use Rattle.j39_bus.specs.inside.Network.{planned_units, world_in}
+use Rattle.j39_bus.specs.inside.Traffic.{IsTraffic}
+use Rattle.j39_bus.proofs.Worlds.{told_nothing, world}
 use Rattle.j39_bus.proofs.network.Network.switch_on.Goals as goal
 
-pub returns-clause-network : goal.returns-clause-network
-returns-clause-network c =
+pub returns-in-Some-clause-network : goal.returns-in-Some-clause-network
+returns-in-Some-clause-network c =
     let cs : List ClaimerValue = c.args.self.now.claimers.items in
-    let new : ClaimerValue = c.start-say.new.self in
-    let same = on_planned_unit cs c.args.unit c.requires.place c.index_mut.result.now new c.index_mut.ensures.value c.start-say.ensures.started in
+    let new : ClaimerValue = c.start-first.new.self in
+    let same = on_planned_unit cs c.args.unit c.requires.place c.index_mut.result.now new c.index_mut.ensures.value c.start-first.ensures.started in
     let well = well_on cs c.args.self.now.claims.lists c.requires.network.claims c.args.unit c.requires.place new same
-    (ap (λ (k : ClaimerValue). k.state.notes) c.start-say.ensures.started)
+    (ap (λ (k : ClaimerValue). k.state.notes) c.start-first.ensures.started)
     c.clear_to.new.self.lists c.clear_to.ensures.table in
     record {
       claims = well_told (set cs c.args.unit new) c.clear_to.new.self.lists well c.tell.new.self.claimers.items c.tell.new.self.claims.lists
@@ -29,21 +31,59 @@ returns-clause-network c =
           (wired_traffic _ _ _ _ _ _ c.requires.network.traffic c.clear_to-2.ensures.table);
     }
 
-pub returns-clause-plan : goal.returns-clause-plan
-returns-clause-plan c = record {
+pub returns-in-Some-clause-plan : goal.returns-in-Some-clause-plan
+returns-in-Some-clause-plan c = record {
   planned_units =
       let cs : List ClaimerValue = c.args.self.now.claimers.items in
       ap (λ v. map (λ (k : ClaimerValue). k.planned) v.items) c.tell.ensures.claimers
-      ∙ planned_units_on cs c.args.unit c.requires.place c.index_mut.result.now c.start-say.new.self c.index_mut.ensures.value c.start-say.ensures.started;
+      ∙ planned_units_on cs c.args.unit c.requires.place c.index_mut.result.now c.start-first.new.self c.index_mut.ensures.value c.start-first.ensures.started;
   flows = ap (λ (m : Network). m.flows.items) c.tell.ensures.rest;
   windows = ap (λ (m : Network). m.receivers.windows) c.tell.ensures.rest;
 }
 
-pub returns-clause-world : goal.returns-clause-world
-returns-clause-world c = λ h.
-    switched c.args.self.now.claimers.items c.args.unit c.requires.place c.index_mut.result.now c.start-say.new.self c.index_mut.ensures.value
-    c.start-say.ensures.started
+pub returns-in-Some-clause-world : goal.returns-in-Some-clause-world
+returns-in-Some-clause-world c = λ h.
+    switched c.args.self.now.claimers.items c.args.unit c.requires.place c.index_mut.result.now c.start-first.new.self c.index_mut.ensures.value
+    c.start-first.ensures.started
     (world_in h c.args.self.now) (pair_in c.args.self.now.claims.lists) (pair_in c.clear_to.new.self.lists)
     (map sent_of c.args.self.now.frames.items) c.clear_to.ensures.lists
     (pair_in c.clear_to-2.new.self.lists) c.clear_to-2.ensures.lists
-    c.start-say.result c.start-say.ensures.said _ (c.tell.ensures.world h)
+    (Some c.in-Some.say) c.in-Some.ensures.said _ (c.tell.ensures.world h)
+
+pub returns-in-None-clause-network : goal.returns-in-None-clause-network
+returns-in-None-clause-network c =
+    let cs : List ClaimerValue = c.args.self.now.claimers.items in
+    let net = c.args.self.now in
+    let new : ClaimerValue = c.start-first.new.self in
+    let same = on_planned_unit cs c.args.unit c.requires.place c.index_mut.result.now new c.index_mut.ensures.value c.start-first.ensures.started in
+    record {
+      claims = well_on cs net.claims.lists c.requires.network.claims c.args.unit c.requires.place new same
+          (ap (λ (k : ClaimerValue). k.state.notes) c.start-first.ensures.started)
+          c.clear_to.new.self.lists c.clear_to.ensures.table;
+      traffic = subst (λ (n : ℕ). IsTraffic n net.flows.items net.sessions.items c.clear_to-2.new.self.lists net.receivers)
+          (sym (length-set cs c.args.unit new))
+          (wired_traffic _ _ _ _ _ _ c.requires.network.traffic c.clear_to-2.ensures.table);
+    }
+
+pub returns-in-None-clause-plan : goal.returns-in-None-clause-plan
+returns-in-None-clause-plan c = record {
+  planned_units =
+      let cs : List ClaimerValue = c.args.self.now.claimers.items in
+      planned_units_on cs c.args.unit c.requires.place c.index_mut.result.now c.start-first.new.self c.index_mut.ensures.value c.start-first.ensures.started;
+  flows = refl;
+  windows = refl;
+}
+
+pub returns-in-None-clause-world : goal.returns-in-None-clause-world
+returns-in-None-clause-world c = λ h.
+    let cs : List ClaimerValue = c.args.self.now.claimers.items in
+    let new : List ClaimerValue = set cs c.args.unit c.start-first.new.self in
+    let fs = map sent_of c.args.self.now.frames.items in
+    switched cs c.args.unit c.requires.place c.index_mut.result.now c.start-first.new.self c.index_mut.ensures.value
+    c.start-first.ensures.started
+    (world_in h c.args.self.now) (pair_in c.args.self.now.claims.lists) (pair_in c.clear_to.new.self.lists)
+    fs c.clear_to.ensures.lists
+    (pair_in c.clear_to-2.new.self.lists) c.clear_to-2.ensures.lists
+    None c.in-None.ensures.said _
+    (sym (told_nothing (planned_units new)
+    (record (world (world_in h c.args.self.now) new (pair_in c.clear_to.new.self.lists) fs) { wire = pair_in c.clear_to-2.new.self.lists }) c.args.unit))

@@ -1,4 +1,4 @@
-use Rattle.std.proofs.Common.{rules, ◌≡◌, ◌<◌, Some}
+use Rattle.std.proofs.Common.{rules, ◌≡◌, ◌<◌, Some, true}
 use Rattle.std.specs.FinMap.{insert}
 use Rattle.j39_claim.specs.ClaimRule.{ClaimState, say_of}
 use Rattle.j39_claim.specs.ExactAnswer.{Pick, taken_for, said_after, state_after}
@@ -13,7 +13,8 @@ returns-clause-rule g c =
     let said : Some c.claim_of.result ≡ said_after picks c.args.self.now.planned c.args.self.now.state c.args.name (say_of c.args.address) = search rules in
     let left : new ≡ state_after picks c.args.self.now.planned c.args.self.now.state c.args.name (say_of c.args.address) = search rules in
     let inside : c.args.address < 254 = search rules in
-    heard picks c.args.self.now.planned c.args.self.now.state c.args.name c.args.address (Some c.claim_of.result) new inside said left
+    let claims : c.args.self.now.planned.claims ≡ true = search rules in
+    heard picks c.args.self.now.planned c.args.self.now.state c.args.name c.args.address (Some c.claim_of.result) new inside claims said left
     (λ smaller. elim c.if-yields.branch [
       | then-yields w ↦
           let taken = taken_for c.args.self.now.planned (insert c.args.self.now.state.notes c.args.name c.args.address) in

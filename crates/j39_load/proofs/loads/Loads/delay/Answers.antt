@@ -13,7 +13,7 @@ returns-in_ok-delay_of-in-Some c =
     let delay = c.in_ok-delay_of-in-Some.field-0 in (
       load,
       slice_get-get_or self.flows.items c.args.flow c.index.result.now c.requires.place ∙ ap Some (sym c.index.ensures ∙ c.in-Some.is),
-      delay_by self.timing (asked_by self.flows.items self.units.items) c.args.times.now c.requires.times c.args.flow load.messages load.limit delay
+      delay_by self.timing (asked_by self.flows.items self.units.items self.requests.items) c.args.times.now c.requires.times c.args.flow load.messages load.limit delay
           (subst (λ (all : List (Option FlowFrames)). IsDelayBy self.timing all c.args.times.now c.args.flow load.messages load.limit delay) c.requires.all
           c.in_ok-delay_of-in-Some.ensures),
     )

@@ -8,5 +8,5 @@ abbrev pub invariant-loop-flow : goal.invariant-loop-flow
 invariant-loop-flow l = record {
   len : vec_len l.delays ≡ l.flow;
   room : length l.self.flows.items ≤ vec_capacity l.delays;
-  each : (k : ℕ) → k < length l.delays.items → HasDelay l.self.timing (asked_by l.self.flows.items l.self.units.items) k (slice_index_or l.delays.items k None);
+  each : (k : ℕ) → k < length l.delays.items → HasDelay l.self.timing (asked_by l.self.flows.items l.self.units.items l.self.requests.items) k (slice_index_or l.delays.items k None);
 }

@@ -1,0 +1,224 @@
+//! Which requests are answered, and how.
+ghost use Rattle.std.specs.Prelude.{◌≡◌};
+ghost use Rattle.j39_findings.specs.Adding.{Adds};
+ghost use Rattle.j39_findings.specs.ListPlaces.{found_if};
+ghost use Rattle.j39_findings.specs.Found.{ask_the_same, ask_for_one_number, is_all_astray, is_answered_astray, is_asked_for, is_one_astray, is_reached, is_served, is_served_to_all, is_served_to_one, goes_unanswered, goes_unheard, may_name_receiver, request_findings, serves, serves_all, serves_one, serves_some};
+
+use crate::checking::finding::Finding;
+use crate::checking::flows::is_one_frame_to_all;
+use crate::checking::rules::{PairRule, Rule, find_each, find_pairs, push_if};
+use crate::plan::{FlowPlan, GroupPlan, RequestPlan, To};
+use std::alloc::AllocError;
+
+/// Whether what goes there reaches the unit.
+pub(super) fn reaches(to: To, unit: usize) -> bool
+    ensures { result ≡ is_reached to unit }
+{
+    match to {
+        To::All => true,
+        To::One(receiver) => receiver == unit,
+    }
+}
+
+/// Whether the flow answers the request (SAE J1939-21, requests): it sends the group that is asked for to the unit that asks or to all,
+/// and its sender is another unit, and is asked.
+pub fn serves(request: &RequestPlan, flow: &FlowPlan) -> bool
+    ensures { result ≡ serves request.now flow.now }
+{
+    flow.group == request.group
+        && flow.sender != request.sender
+        && reaches(request.to, flow.sender)
+        && reaches(flow.to, request.sender)
+}
+
+/// Whether some flow answers the request.
+pub fn is_served(flows: &[FlowPlan], request: &RequestPlan) -> bool
+    ensures { result ≡ is_served flows.now request.now }
+{
+    flows.iter().any(|flow| serves(request, flow))
+}
+
+// Whether the flow answers some request.
+fn serves_some(requests: &[RequestPlan], flow: &FlowPlan) -> bool
+    ensures { result ≡ serves_some requests.now flow.now }
+{
+    requests.iter().any(|request| serves(request, flow))
+}
+
+/// Whether the flow comes by itself, or some request is there that it answers.
+pub fn is_asked_for(requests: &[RequestPlan], flow: &FlowPlan) -> bool
+    ensures { result ≡ is_asked_for requests.now flow.now }
+{
+    !flow.on_request || serves_some(requests, flow)
+}
+
+fn serves_one(request: &RequestPlan, flow: &FlowPlan) -> bool
+    ensures { result ≡ serves_one request.now flow.now }
+{
+    serves(request, flow) && flow.to != To::All
+}
+
+fn serves_all(request: &RequestPlan, flow: &FlowPlan) -> bool
+    ensures { result ≡ serves_all request.now flow.now }
+{
+    serves(request, flow) && flow.to == To::All
+}
+
+fn is_served_to_one(flows: &[FlowPlan], request: &RequestPlan) -> bool
+    ensures { result ≡ is_served_to_one flows.now request.now }
+{
+    flows.iter().any(|flow| serves_one(request, flow))
+}
+
+fn is_served_to_all(flows: &[FlowPlan], request: &RequestPlan) -> bool
+    ensures { result ≡ is_served_to_all flows.now request.now }
+{
+    flows.iter().any(|flow| serves_all(request, flow))
+}
+
+// Whether some message of the group that is asked for can name a receiver.
+fn may_name_receiver(groups: &[GroupPlan], request: &RequestPlan) -> bool
+    ensures { result ≡ may_name_receiver groups.now request.now }
+{
+    match groups.get(request.group) {
+        Some(group) => !is_one_frame_to_all(group),
+        None => false,
+    }
+}
+
+// Whether one unit is asked, and only answers to all, though it could answer to one.
+fn is_one_astray(groups: &[GroupPlan], flows: &[FlowPlan], request: &RequestPlan) -> bool
+    ensures { result ≡ is_one_astray groups.now flows.now request.now }
+{
+    request.to != To::All
+        && may_name_receiver(groups, request)
+        && is_served_to_all(flows, request)
+        && !is_served_to_one(flows, request)
+}
+
+// Whether all are asked, and each answer goes to one unit.
+fn is_all_astray(flows: &[FlowPlan], request: &RequestPlan) -> bool
+    ensures { result ≡ is_all_astray flows.now request.now }
+{
+    request.to == To::All && is_served_to_one(flows, request) && !is_served_to_all(flows, request)
+}
+
+#[derive(Clone, Copy)]
+struct RequestUnanswered<'a> {
+    flows: &'a [FlowPlan],
+}
+
+impl Rule<RequestPlan> for RequestUnanswered<'_> {
+    ghost use Rattle.j39_findings.specs.declared.checking.finding.Finding.TheVariants.{RequestUnanswered as RequestsUnanswered};
+
+    ghost gives = { λ rule r request. found_if (goes_unanswered rule.flows.now request) (RequestsUnanswered r) };
+
+    fn find(
+        &self,
+        findings: &mut Vec<Finding>,
+        place: usize,
+        request: &RequestPlan,
+    ) -> Result<(), AllocError> {
+        push_if(
+            findings,
+            request.to != To::All && !is_served(self.flows, request),
+            Finding::RequestUnanswered(place),
+        )
+    }
+}
+
+#[derive(Clone, Copy)]
+struct RequestUnheard<'a> {
+    flows: &'a [FlowPlan],
+}
+
+impl Rule<RequestPlan> for RequestUnheard<'_> {
+    ghost use Rattle.j39_findings.specs.declared.checking.finding.Finding.TheVariants.{RequestUnheard as RequestsUnheard};
+
+    ghost gives = { λ rule r request. found_if (goes_unheard rule.flows.now request) (RequestsUnheard r) };
+
+    fn find(
+        &self,
+        findings: &mut Vec<Finding>,
+        place: usize,
+        request: &RequestPlan,
+    ) -> Result<(), AllocError> {
+        push_if(
+            findings,
+            request.to == To::All && !is_served(self.flows, request),
+            Finding::RequestUnheard(place),
+        )
+    }
+}
+
+#[derive(Clone, Copy)]
+struct AnswerAstray<'a> {
+    groups: &'a [GroupPlan],
+    flows: &'a [FlowPlan],
+}
+
+impl Rule<RequestPlan> for AnswerAstray<'_> {
+    ghost use Rattle.j39_findings.specs.declared.checking.finding.Finding.TheVariants.{AnswerAstray as AnswersAstray};
+
+    ghost gives = { λ rule r request. found_if (is_answered_astray rule.groups.now rule.flows.now request) (AnswersAstray r) };
+
+    fn find(
+        &self,
+        findings: &mut Vec<Finding>,
+        place: usize,
+        request: &RequestPlan,
+    ) -> Result<(), AllocError> {
+        push_if(
+            findings,
+            is_one_astray(self.groups, self.flows, request) || is_all_astray(self.flows, request),
+            Finding::AnswerAstray(place),
+        )
+    }
+}
+
+fn ask_for_one_number(groups: &[GroupPlan], first: &RequestPlan, second: &RequestPlan) -> bool
+    ensures { result ≡ ask_for_one_number groups.now first.now second.now }
+{
+    match (groups.get(first.group), groups.get(second.group)) {
+        (Some(one), Some(other)) => one.pgn == other.pgn,
+        _ => false,
+    }
+}
+
+#[derive(Clone, Copy)]
+struct RequestRepeated<'a> {
+    groups: &'a [GroupPlan],
+}
+
+impl PairRule<RequestPlan> for RequestRepeated<'_> {
+    ghost use Rattle.j39_findings.specs.declared.checking.finding.Finding.TheVariants.{RequestRepeated as RequestsRepeated};
+
+    ghost test = { λ rule. ask_the_same rule.groups.now };
+
+    ghost make = { λ _ r s. RequestsRepeated r s };
+
+    fn holds(&self, first: &RequestPlan, second: &RequestPlan) -> bool {
+        ask_for_one_number(self.groups, first, second)
+            && first.sender == second.sender
+            && first.to == second.to
+    }
+
+    fn finding(&self, first: usize, second: usize) -> Finding {
+        Finding::RequestRepeated(first, second)
+    }
+}
+
+/// Adds the requests that no flow answers, those that are answered to others than who asks, and those that are one on the bus.
+pub fn find_in_requests(
+    findings: &mut Vec<Finding>,
+    groups: &[GroupPlan],
+    flows: &[FlowPlan],
+    requests: &[RequestPlan],
+) -> Result<(), AllocError>
+    ensures { Adds result findings.old.items findings.new.items (request_findings groups.now flows.now requests.now) }
+{
+    find_each(findings, &RequestUnanswered { flows }, requests)?;
+    find_each(findings, &RequestUnheard { flows }, requests)?;
+    find_each(findings, &AnswerAstray { groups, flows }, requests)?;
+    find_pairs(findings, &RequestRepeated { groups }, requests)
+}

@@ -1,0 +1,13 @@
+use Rattle.std.proofs.Common.{◌≡◌, ◌≤◌, map, take, length, All, vec_len, vec_capacity}
+use Rattle.j39_load.specs.Requests.{load_of_request}
+use Rattle.j39_load.specs.Standing.{stays_of}
+use Rattle.j39_load.specs.SoundLoads.{IsSoundIfAsked}
+use Rattle.j39_load.proofs.requests.request_loads_of.Given as goal
+
+abbrev pub invariant-loop-place : goal.invariant-loop-place
+invariant-loop-place l = record {
+  loads : l.loads.items ≡ map (load_of_request l.timing l.plan.units.items (stays_of l.standing)) (take l.place l.plan.requests.items);
+  len : vec_len l.loads ≡ l.place;
+  room : length l.plan.requests.items ≤ vec_capacity l.loads;
+  sound : All IsSoundIfAsked l.loads.items;
+}

@@ -1,0 +1,61 @@
+//! What the requests of a plan ask of its bus.
+ghost use Rattle.std.specs.Prelude.{◌≡◌, ◌≢◌, [], ◌<◌, ℕ, All, length, IfOk, OnErr};
+ghost use Rattle.j39_findings.specs.declared.plan.to.To.TheVariants.{One};
+ghost use Rattle.j39_load.specs.Requests.{load_of_request, request_loads_of};
+ghost use Rattle.j39_load.specs.SoundLoads.{IsSoundIfAsked};
+ghost use Rattle.j39_load.specs.Standing.{stays_of};
+
+use crate::extreme::Extreme;
+use crate::flow_frames::FlowFrames;
+use crate::identifiers::request_ident;
+use crate::request_load::RequestLoad;
+use crate::standing::Standing;
+use crate::streams::{load, request_stream};
+use j39_findings::{Plan, RequestPlan, Timing, UnitPlan};
+use std::alloc::{AllocError, Global};
+
+// What a request asks of the bus, where it is known how often it is sent.
+fn load_of_request(
+    timing: Timing,
+    units: &[UnitPlan],
+    standing: &Standing,
+    request: &RequestPlan,
+) -> Option<RequestLoad>
+    requires sender { request.now.sender < length units.now }
+    requires receiver { (v : ℕ) → request.now.to ≡ One v → v < length units.now }
+    ensures load { result ≡ load_of_request timing units.now (stays_of standing.now) request.now }
+    ensures sound { IsSoundIfAsked result }
+{
+    let Some(period) = request.period else {
+        return None;
+    };
+    let stream = request_stream(timing, period);
+    Some(RequestLoad {
+        frames: FlowFrames {
+            stream,
+            least_ident: request_ident(units, standing, Extreme::Least, request),
+            greatest_ident: request_ident(units, standing, Extreme::Greatest, request),
+        },
+        bits_per_second: load(stream, period),
+    })
+}
+
+/// What each request of a plan asks of the bus, in order. No memory is asked for where there are none.
+pub(crate) fn request_loads_of(
+    alloc: Global,
+    timing: Timing,
+    plan: &Plan,
+    standing: &Standing,
+) -> Result<Vec<Option<RequestLoad>>, AllocError>
+    ensures loads { IfOk result (λ loads. loads.items ≡ request_loads_of timing plan.now (stays_of standing.now)) }
+    ensures count { IfOk result (λ loads. length loads.items ≡ length plan.now.requests.items) }
+    ensures sound { IfOk result (λ loads. All IsSoundIfAsked loads.items) }
+    ensures memory { OnErr result (plan.now.requests.items ≢ []) }
+{
+    let mut loads = Vec::with_capacity(alloc, plan.requests.len())?;
+    for place in 0..plan.requests.len() {
+        let request = &plan.requests[place];
+        loads.push_reserved(load_of_request(timing, plan.units.as_slice(), standing, request));
+    }
+    Ok(loads)
+}

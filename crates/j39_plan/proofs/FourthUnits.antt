@@ -1,0 +1,73 @@
+-- A unit of version 4 in whose table nothing stands that it alone knows is one of version 3.
+use Rattle.std.proofs.Common.{◌≡◌, ℕ, true, false, arith, List, [], ◌∷◌, None, refl, sym, ◌∙◌}
+use Rattle.std.specs.Option.{option_map_or}
+use Rattle.toml.specs.Data.{Data, Members, get_member, as_table}
+use Rattle.j39_findings.specs.declared.plan.unit_plan.UnitPlan.{UnitPlan}
+use Rattle.j39_plan.specs.declared.reading.key.Key.{Key}
+use Rattle.j39_plan.specs.declared.reading.key.Key.TheVariants as key
+use Rattle.j39_plan.specs.declared.reading.place.Table.{Table}
+use Rattle.j39_plan.specs.declared.reading.place.Table.TheVariants as at
+use Rattle.j39_plan.specs.declared.reading.text_kind.TextKind.TheVariants as texts
+use Rattle.j39_plan.specs.Words.{word_of}
+use Rattle.j39_plan.specs.Schema.{flag_of}
+use Rattle.j39_plan.specs.TableFaults.{key_faults, table_faults, table_only_faults, is_key_word}
+use Rattle.j39_plan.specs.Elements.{inside, repeated_faults}
+use Rattle.j39_plan.specs.UnitTables.{claims_rule, claims_of, unit_rules, unit_label_in, unit_table_faults, unit_faults, IsUnitOf}
+use Rattle.j39_plan.specs.Versions.{IsThirdUnit}
+use Rattle.j39_plan.proofs.Absent.{lacked, IsNone, only_same, Alike, alike_both, alike_between, alike_unknown, alike_inside}
+
+no_claims : (ms : Members) → IsThirdUnit ms → get_member (word_of key.Claims) ms ≡ None
+no_claims ms lacks = lacked key.Claims ms (lacks 0 key.Claims (omega arith))
+
+-- the keys of a unit in the third version, and in the fourth
+abbrev older_keys : List Key
+older_keys = key.Label ∷ key.Address ∷ key.Chooser ∷ key.Window ∷ key.Name ∷ []
+
+abbrev later_keys : List Key
+later_keys = key.Label ∷ key.Address ∷ key.Chooser ∷ key.Window ∷ key.Name ∷ key.Claims ∷ []
+
+unit_words : (l : List ℕ) → IsNone (key.Claims ∷ []) l → is_key_word later_keys l ≡ is_key_word older_keys l
+unit_words l none = rw (none 0 key.Claims (omega arith))
+
+claims_unfaulted : (at : Table) (ms : Members) → IsThirdUnit ms → key_faults at ms claims_rule ≡ []
+unfolding key_faults
+claims_unfaulted at ms lacks = rw (no_claims ms lacks)
+
+unit_keys_alike : (at : Table) (ms : Members) → IsThirdUnit ms → Alike (table_faults at (unit_rules true) ms) (table_faults at (unit_rules false) ms)
+unit_keys_alike at ms lacks =
+    alike_both _ _ _ _ (alike_unknown at _ _ ms ms (only_same later_keys older_keys (key.Claims ∷ []) unit_words ms lacks))
+    (rw (claims_unfaulted at ms lacks) refl)
+
+claims_is : (ms : Members) → IsThirdUnit ms → claims_of true ms ≡ true
+unfolding flag_of
+claims_is ms lacks = rw (no_claims ms lacks)
+
+pub unit_alike : (i : ℕ) (seen : List (List ℕ)) (d : Data) → IsThirdUnit (inside d) → Alike (unit_faults true i seen d) (unit_faults false i seen d)
+unfolding unit_faults unit_table_faults
+unit_alike i seen d lacks =
+    let fourth = unit_table_faults true i in
+    let third = unit_table_faults false i in
+    alike_between (table_only_faults (at.Unit i) d) (option_map_or fourth (as_table d) []) (option_map_or third (as_table d) [])
+    (repeated_faults (at.Unit i) texts.UnitLabel seen (unit_label_in d))
+    (alike_inside fourth third d
+    (alike_both _ _ _ _ (unit_keys_alike (at.Unit i) (inside d) lacks) (rw (claims_is (inside d) lacks) refl)))
+
+pub third_unit : (d : Data) (u : UnitPlan) → IsThirdUnit (inside d) → IsUnitOf true d u → IsUnitOf false d u
+third_unit d u lacks told = record {
+  has_label = told.has_label;
+  has_address = told.has_address;
+  has_way = told.has_way;
+  has_window = told.has_window;
+  has_name = told.has_name;
+  has_claims = told.has_claims ∙ claims_is (inside d) lacks;
+}
+
+pub fourth_unit : (d : Data) (u : UnitPlan) → IsThirdUnit (inside d) → IsUnitOf false d u → IsUnitOf true d u
+fourth_unit d u lacks told = record {
+  has_label = told.has_label;
+  has_address = told.has_address;
+  has_way = told.has_way;
+  has_window = told.has_window;
+  has_name = told.has_name;
+  has_claims = told.has_claims ∙ sym (claims_is (inside d) lacks);
+}

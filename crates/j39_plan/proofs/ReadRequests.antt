@@ -1,0 +1,39 @@
+-- What is true of the requests of a plan that was read.
+use Rattle.std.proofs.Common.{◌≡◌, ℕ, ◌<◌, ◌≤◌, Bool, true, false, arith, List, length, All}
+use Rattle.std.proofs.lemmas.List.{length-map}
+use Rattle.toml.specs.Data.{Data, Items, Members}
+use Rattle.j39_findings.specs.PlanLimits.{request_limit}
+use Rattle.j39_findings.specs.declared.plan.to.To.TheVariants.{One}
+use Rattle.j39_findings.specs.declared.plan.unit_plan.UnitPlan.{UnitPlan}
+use Rattle.j39_findings.specs.declared.plan.group_plan.GroupPlan.{GroupPlan}
+use Rattle.j39_findings.specs.declared.plan.request_plan.RequestPlan.{RequestPlan}
+use Rattle.j39_plan.specs.Elements.{Each}
+use Rattle.j39_plan.specs.Schema.{items_count}
+use Rattle.j39_plan.specs.declared.reading.key.Key.TheVariants as key
+use Rattle.j39_plan.specs.Faults.{request_tables_of}
+use Rattle.j39_plan.specs.RequestTables.{IsRequestOf}
+use Rattle.j39_plan.proofs.NoFaults.{All-from_Each, tables_count}
+use Rattle.j39_plan.proofs.ReadPlans.{group_texts, unit_texts, placed, received}
+
+pub requests_count : (fourth : Bool) (ms : Members) → items_count (request_tables_of fourth ms) ≤ request_limit
+requests_count true ms = tables_count key.Request request_limit ms
+requests_count false ms = omega arith
+
+-- what a table tells is a request of one of these units for one of these groups
+abbrev pub IsAsked : List GroupPlan → List UnitPlan → Data → RequestPlan → Type 0
+IsAsked gs us = IsRequestOf (group_texts gs) (unit_texts us)
+
+pub request_groups : (gs : List GroupPlan) (us : List UnitPlan) (ds : Items) (rs : List RequestPlan) → Each (IsAsked gs us) ds rs
+    → All (λ r. r.group < length gs) rs
+request_groups gs us = All-from_Each (IsAsked gs us) (λ r. r.group < length gs)
+    (λ d r is. rw length-map at (placed (group_texts gs) _ r.group is.has_group))
+
+pub request_senders : (gs : List GroupPlan) (us : List UnitPlan) (ds : Items) (rs : List RequestPlan) → Each (IsAsked gs us) ds rs
+    → All (λ r. r.sender < length us) rs
+request_senders gs us = All-from_Each (IsAsked gs us) (λ r. r.sender < length us)
+    (λ d r is. rw length-map at (placed (unit_texts us) _ r.sender is.has_sender))
+
+pub request_receivers : (gs : List GroupPlan) (us : List UnitPlan) (ds : Items) (rs : List RequestPlan) → Each (IsAsked gs us) ds rs
+    → All (λ r. (u : ℕ) → r.to ≡ One u → u < length us) rs
+request_receivers gs us = All-from_Each (IsAsked gs us) (λ r. (u : ℕ) → r.to ≡ One u → u < length us)
+    (λ d r is u one. rw length-map at (received (unit_texts us) _ r.to u is.has_receivers one))

@@ -1,0 +1,37 @@
+//! The arrays of tables that the fourth version alone knows.
+ghost use Rattle.std.specs.Prelude.{◌≡◌};
+ghost use Rattle.toml.specs.View.{items_view, table_view};
+ghost use Rattle.j39_plan.specs.declared.reading.place.Table.TheVariants as at;
+ghost use Rattle.j39_plan.specs.TableFaults.{keys_faults};
+ghost use Rattle.j39_plan.specs.Outcome.{Gives};
+ghost use Rattle.j39_plan.specs.Faults.{later_array_rules, need_tables_of, request_tables_of};
+
+use super::tables::array;
+use super::{Key, PlanError, Table};
+use j39_findings::limits::{NEED_LIMIT, REQUEST_LIMIT};
+use toml::Value;
+
+/// The tables of needs and those of requests.
+#[derive(Clone, Copy)]
+pub struct LaterArrays<'a> {
+    pub needs: &'a [Value],
+    pub requests: &'a [Value],
+}
+
+/// Those of a plan: none where its version doesn't know them.
+#[tactic(auto, using(crate::proofs::FirstFaults::faults_after))]
+pub fn later_arrays(members: &toml::Table, fourth: bool) -> Result<LaterArrays<'_>, PlanError>
+    ensures { Gives result (keys_faults at.Top (table_view members.now) (later_array_rules fourth))
+        (λ later. (items_view later.needs.now ≡ need_tables_of fourth (table_view members.now))
+        × (items_view later.requests.now ≡ request_tables_of fourth (table_view members.now))) }
+{
+    if !fourth {
+        return Ok(LaterArrays {
+            needs: &[],
+            requests: &[],
+        });
+    }
+    let needs = array(members, Table::Top, Key::Need, NEED_LIMIT)?;
+    let requests = array(members, Table::Top, Key::Request, REQUEST_LIMIT)?;
+    Ok(LaterArrays { needs, requests })
+}
