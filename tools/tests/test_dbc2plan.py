@@ -258,11 +258,13 @@ class Signals(WithDbc):
         self.assertEqual((signals["SPN4154"]["kind"], signals["SPN4154"]["bit"]), ("raw", 5))
 
     def test_the_earlier_version(self):
-        """It has fractions in the units of measurement, and neither signed signals nor states."""
+        """It has fractions in the units of measurement, and neither signed signals nor states; version 3 has no names of values."""
         plan, said = self.plan("--version", "2")
         signals = {signal["label"]: signal for group in plan["group"] for signal in group.get("signal", [])}
         newer, older = (self.plan("--version", version)[0] for version in ("4", "3"))
         self.assertEqual((plan["version"], older["version"], newer), (2, 3, self.plan()[0]))
+        named = [signal for group in newer["group"] for signal in group.get("signal", []) if signal.pop("values", None)]
+        self.assertEqual([signal["label"] for signal in named], ["SPN695", "SPN897"])
         self.assertEqual([older[key] for key in ("unit", "group", "flow")], [newer[key] for key in ("unit", "group", "flow")])
         self.assertEqual(signals["SPN190"], {"label": "SPN190", "byte": 4, "bits": 16, "kind": "measured", "unit": "1/8 rpm"})
         self.assertEqual((signals["SPN175"]["offset"], signals["SPN175"]["unit"]), (-8736, "1/32 degC"))

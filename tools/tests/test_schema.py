@@ -186,6 +186,7 @@ class Validated(InFolder):
             "group": [{"label": "G", "pgn": 65262, "priority": 6, "length": 1,
                        "signal": [{"label": "S", "byte": 1, "bits": 8, "kind": "raw"}], "text": [{"label": "T", "byte": 1}]}],
             "flow": [{"group": "G", "from": "A", "to": "all", "period": 10, "deadline": 10}], "need": [{"unit": "A", "group": "G", "within": 10}],
+            "request": [{"group": "G", "from": "A", "to": "all", "period": 10}],
         }
         for table, key, kind, _ in page_rows():
             if table is None or (table, key) in FITTED or not (found := re.match(r"integer (-?\d+)\.\.(\d+)", kind)):
@@ -200,15 +201,16 @@ class Validated(InFolder):
 def changed(plan, table, key, value):
     """The plan with another value of a key in its first such table."""
     plan = json.loads(json.dumps(plan))
-    {"timing": plan["timing"], "errors": plan["timing"]["errors"], "need": plan["need"][0], "unit": plan["unit"][0], "flow": plan["flow"][0], "name": plan["unit"][0]["name"], "group": plan["group"][0],
-     "signal": plan["group"][0]["signal"][0], "text": plan["group"][0]["text"][0]}[table][key] = value
+    group, unit = plan["group"][0], plan["unit"][0]
+    inner = {"timing": plan["timing"], "errors": plan["timing"]["errors"], "name": unit["name"], "signal": group["signal"][0], "text": group["text"][0]}
+    (inner.get(table) or plan[table][0])[key] = value
     return plan
 
 
 def spelled(plan):
     """The plan as TOML."""
     lines = ["version = 4", f"timing = {inline(plan['timing'])}"]
-    for kind in ("unit", "group", "flow", "need"):
+    for kind in ("unit", "group", "flow", "need", "request"):
         lines.append(f"[[{kind}]]")
         lines += [f"{key} = {inline(value)}" for key, value in plan[kind][0].items()]
     return "\n".join(lines) + "\n"
