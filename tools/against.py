@@ -10,19 +10,19 @@ import argparse
 from collections.abc import Iterator
 from dataclasses import dataclass
 
-import program
-from asked import Asked
-from clock import Clock, nanoseconds
-from damage import Damage
-from distances import SILENCE, Deviation, Distances, Tolerance
-from hands import Hands
-from j1939 import ADDRESS_CLAIMED, GLOBAL_ADDRESS, NULL_ADDRESS, OTHER_SERVICES, PROPRIETARY, REQUEST, SERVICES
-from logs import Log, interface_option
-from marks import Feed, Kind, Mark
-from plan_tables import NAME_FIELDS, Group, Tables
-from reports import Acknowledgement, Claim, Counts, Message, Report, Request, Who, follow, tables_of
-from transfers import Pair, Route, Transfers, pair_of
-from unplanned import Bound, Unplanned, bounds_of
+from modules import program
+from modules.j1939 import ADDRESS_CLAIMED, GLOBAL_ADDRESS, NAME_FIELDS, NULL_ADDRESS, OTHER_SERVICES, PROPRIETARY, REQUEST, SERVICES
+from modules.log_clock import Clock, nanoseconds
+from modules.log_damage import Damage
+from modules.log_distances import SILENCE, Deviation, Distances, Tolerance
+from modules.log_files import Log, interface_option
+from modules.log_hands import Hands
+from modules.log_marks import Feed, Kind, Mark
+from modules.log_reports import Acknowledgement, Claim, Counts, Message, Report, Request, Who, follow, tables_of
+from modules.log_requests import Asked
+from modules.log_transfers import Pair, Route, Transfers, pair_of
+from modules.log_unplanned import Bound, Unplanned, bounds_of
+from modules.plan_tables import Group, Tables
 
 # Groups that nobody plans.
 UNPLANNED = SERVICES | OTHER_SERVICES | PROPRIETARY

@@ -8,10 +8,10 @@ import json
 import sys
 from collections.abc import Iterator
 
-import program
-from breaks import Break, Breaks
-from differences import Answers, Change, Matched, changes_of
-from parts import Source, sources_of
+from modules import program
+from modules.plan_breaks import Break, Breaks
+from modules.plan_differences import Answers, Change, Matched, changes_of
+from modules.plan_parts import Source, sources_of
 
 
 def answers_of(source: Source) -> Answers:

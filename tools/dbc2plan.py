@@ -13,17 +13,16 @@ import os
 import sys
 from typing import TYPE_CHECKING, Any
 
-import matrix_merge
-import program
-from left_out import LeftOut, Notes, plain
-from matrix_file import KINDS, Form
-from matrix_plan import Plan
-from plan_text import VERSIONS, text_of
+from modules import matrix_merge, program
+from modules.left_out import LeftOut, Notes, plain
+from modules.matrix_file import KINDS, Form
+from modules.matrix_plan import Plan
+from modules.plan_text import WRITTEN, text_of
 
 if TYPE_CHECKING:
     import canmatrix
 
-    from matrix_merge import Sent
+    from modules.matrix_merge import Sent
 
 
 def is_called(frame: canmatrix.Frame, group: str) -> bool:
@@ -51,8 +50,7 @@ def chosen(sent: list[Sent], senders: list[str], groups: list[str]) -> list[Sent
 
 def plan_of(given: argparse.Namespace, notes: Notes) -> Plan:
     """The plan that can be made of the files."""
-    form, bitrates = Form(given.bus, given.kind, given.encoding), matrix_merge.bitrates_of(given.version)
-    network = matrix_merge.load(given.files, form, notes, bitrates)
+    network = matrix_merge.load(given.files, Form(given.bus, given.kind, given.encoding), notes, given.version)
     sent = chosen(network.sent, given.sender, given.group)
     plan = Plan(network, notes, given.strict, given.version, not given.no_needs)
     plan.add_units()
@@ -86,8 +84,8 @@ def options(words: list[str] | None) -> argparse.Namespace:
     """What the command line asks for."""
     parser = program.parser(__doc__, own_version=True)
     parser.epilog = "example: %(prog)s network.dbc > plan.toml"
-    parser.add_argument("--version", action=PlanVersion, nargs="?", type=int, choices=VERSIONS, default=VERSIONS[-1],
-                        help=f"the version of the plan, {VERSIONS[-1]} where none is chosen; without a number: print the version and exit")
+    parser.add_argument("--version", action=PlanVersion, nargs="?", type=int, choices=WRITTEN, default=WRITTEN[-1],
+                        help=f"the version of the plan, {WRITTEN[-1]} where none is chosen; without a number: print the version and exit")
     parser.add_argument("files", metavar="FILE", nargs="+", help="a file with one of the endings .dbc, .arxml, .kcd, .sym; several are one "
                         "network, as each supplier has a part of it")
     parser.add_argument("--sender", action="append", default=[], metavar="UNIT", help="only groups that this unit sends")

@@ -12,12 +12,12 @@ import re
 import sys
 from collections.abc import Iterable, Iterator
 
-import program
-from drives import Drive, answered, command
-from fleet_table import Fleet
-from logs import interface_option
-from plan_tables import Tables
-from workers import Task, team
+from modules import program
+from modules.fleet_drives import Drive, answered, command
+from modules.fleet_table import Fleet
+from modules.fleet_team import Task, team
+from modules.log_files import interface_option
+from modules.plan_tables import Tables
 
 # How wide the bar of progress is.
 WIDTH = 40

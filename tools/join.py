@@ -6,9 +6,9 @@ Where they contradict one another nothing is written, unless --first takes what 
 
 import sys
 
-import program
-from joined import Join, text_of
-from parts import Source, sources_of
+from modules import program
+from modules.plan_joining import Join, text_of
+from modules.plan_parts import Source, sources_of
 
 
 def different(sources: list[Source]) -> list[Source]:

@@ -13,21 +13,19 @@ import sys
 from collections.abc import Iterator
 from dataclasses import dataclass, field
 
-import program
-import remarks
-import request_hints
-from dbc_names import (
+from modules import dbc_remarks, program, request_hints
+from modules.dbc_names import (
     ADDRESS_ATTRIBUTE, ARBITRARY_ATTRIBUTE, BITRATE_ATTRIBUTE, BYTES_ATTRIBUTE, CODE_CONTENT, CONTENT_ATTRIBUTE, CONTENTS, CYCLE_ATTRIBUTE,
     DELAY_ATTRIBUTE, EVERY_ATTRIBUTE, FAST_ATTRIBUTE, GROUP_ATTRIBUTE, IDENTITY_ATTRIBUTE, KIND_ATTRIBUTE, LONG_MESSAGE, LONG_SIGNAL,
     MOST_ATTRIBUTE, NAME_ATTRIBUTES, NOBODY, REPEATED_ATTRIBUTE, SEND_ATTRIBUTE, SIGNAL_ATTRIBUTE, SIGNAL_CYCLE_ATTRIBUTE, SPN_ATTRIBUTE,
     TEXT_CONTENT, UNIT_ATTRIBUTE,
 )
-from dbc_text import Names, decimal, definitions, in_quotes
-from j1939 import GLOBAL_ADDRESS, NULL_ADDRESS
-from left_out import Notes
-from matrix_signals import values_of
-from readings import scale_of
-from toml_places import Place, Places
+from modules.dbc_text import Names, decimal, definitions, in_quotes
+from modules.j1939 import GLOBAL_ADDRESS, NULL_ADDRESS
+from modules.left_out import Notes
+from modules.log_readings import scale_of
+from modules.matrix_signals import values_of
+from modules.toml_places import Place, Places
 
 # What stands behind the text of a key on its line.
 COMMENT = re.compile(r"""["']?\s*=\s*(?:"[^"]*"|'[^']*')\s*#\s*(.*?)\s*$""")
@@ -54,7 +52,7 @@ class Message:
     senders: list[str] = field(default_factory=list)
     receivers: list[str] = field(default_factory=list)
     periods: set[int] = field(default_factory=set)
-    told: list[remarks.Remark] = field(default_factory=list)
+    told: list[dbc_remarks.Remark] = field(default_factory=list)
 
 
 @dataclass
@@ -65,7 +63,7 @@ class Part:
     label: str
     name: str
     long: str
-    told: remarks.Remark
+    told: dbc_remarks.Remark
     is_text: bool
 
 
@@ -96,10 +94,10 @@ class Dbc:
         """The integer of a key, or its default."""
         return self.places.integer(place + (key,)) if place + (key,) in self.places.spelled else default
 
-    def told(self, place: Place, key: str = "label") -> remarks.Remark:
+    def told(self, place: Place, key: str = "label") -> dbc_remarks.Remark:
         """What stands behind the first key of a table."""
         found = COMMENT.match(self.lines[self.places.line(place + (key,)) - 1].partition(key)[2])
-        return remarks.read(found.group(1) if found else "", self.places.texts[place + (key,)])
+        return dbc_remarks.read(found.group(1) if found else "", self.places.texts[place + (key,)])
 
     def add_messages(self) -> None:
         """The messages of all groups: those of each group's flows, or one that stands for the group alone."""
@@ -147,13 +145,13 @@ class Dbc:
         if receiver != "all" and message.identifier >> 16 & 0xFF >= 240:
             self.notes.say(f"flow of {self.label(group)} from {sender} to {receiver}", "its identifier names no destination")
 
-    def add(self, group: Place, name: str, source: int, destination: int, told: remarks.Remark | None = None) -> Message | None:
+    def add(self, group: Place, name: str, source: int, destination: int, told: dbc_remarks.Remark | None = None) -> Message | None:
         """The message of a group with this source and destination, unless one of another group has its identifier."""
         pgn, priority = (self.places.integer(group + (key,)) for key in ("pgn", "priority"))
         identifier = priority << 26 | (pgn & 0x3FFFF) << 8 | source
         if pgn >> 8 & 0xFF < 240:
             identifier |= destination << 8
-        told = told or remarks.Remark()
+        told = told or dbc_remarks.Remark()
         if identifier not in self.messages:
             wanted = next(iter(told.messages), "" if group in self.used else self.long_name(group))
             other = self.taken.label(wanted or name) if group in self.used else name
@@ -290,7 +288,7 @@ class Dbc:
             for part in self.parts_of(message.group):
                 yield from self.comment(f"SG_ {identifier} {part.name}", part.told)
 
-    def comment(self, what: str, told: remarks.Remark) -> Iterator[str]:
+    def comment(self, what: str, told: dbc_remarks.Remark) -> Iterator[str]:
         """The comment of something, if there is one."""
         if told.comments:
             yield f"CM_ {what} {in_quotes('; '.join(told.comments))};"

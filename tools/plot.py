@@ -11,14 +11,14 @@ import os
 from collections import defaultdict
 from collections.abc import Iterable
 
-import program
-from clock import SECOND, ends_of
-from curves import Curve, Timeline, curves_of
-from logs import Log, interface_option
-from plan_tables import Tables
-from cut_plan import cut
-from readings import Choice, Column, Wanted, parted
-from reports import Counts, follow, tables_of
+from modules import program
+from modules.log_clock import SECOND, ends_of
+from modules.log_curves import Curve, Timeline, curves_of
+from modules.log_files import Log, interface_option
+from modules.log_readings import Choice, Column, Wanted, parted
+from modules.log_reports import Counts, follow, tables_of
+from modules.plan_cut import cut
+from modules.plan_tables import Tables
 
 ENDINGS = (".png", ".svg")
 
@@ -115,17 +115,17 @@ def main(words: list[str] | None = None) -> int:
         with Log(logs, given.interface) as log, cut(plan, tables, choice) as shorter:
             curves, timeline = drawn(log, *shorter, choice)
             first, last = ends_of(log)
-    import picture
+    from modules import log_chart
 
     columns, title = in_order(choice.columns, names), ", ".join(map(os.path.basename, logs))
     held = timeline.held() if given.addresses else None
     begin, end = timeline.span(first, last)
     zero = begin if timeline.clock.has_times else 0.0
-    window = picture.Window(begin if given.begin is None else zero + given.begin, end if given.end is None else zero + given.end, zero)
+    window = log_chart.Window(begin if given.begin is None else zero + given.begin, end if given.end is None else zero + given.end, zero)
     if window.begin >= window.end and (given.begin is not None or given.end is not None):
         raise program.Refused(program.UNREADABLE, "nothing to draw: --from is not before --to, or the log has nothing there")
     axis = counted(first if timeline.clock.has_times else None)
-    picture.save(picture.figure_of(columns, curves, held, title, axis, window), given.output)
+    log_chart.save(log_chart.figure_of(columns, curves, held, title, axis, window), given.output)
     for group, signal in choice.columns:
         if (group, signal) not in curves:
             program.say(f"{group}.{signal} isn't in the log")

@@ -9,57 +9,12 @@ import argparse
 import os
 import re
 import sys
-from collections.abc import Iterator
 
-import page_server
-import parts
-import program
-import where
-from left_out import plain
-from plan_tables import Tables
-from report_page import Age, Delay, Finding, Load, Stand, page
-
-
-def findings(plan: where.Plan, answer: str) -> Iterator[Finding]:
-    """The findings of `check`, each with its line, a hint, and the steps of a run that shows it."""
-    for line, *below in where.parted(answer):
-        if line.startswith("F"):
-            at, hint = where.finding(plan, line)
-            yield Finding(line, at, hint or "", [step.strip() for step in below])
-
-
-def stands(answer: str) -> dict[str, Stand]:
-    """Where units stand by `addresses`; of a plan whose addresses have findings that isn't known."""
-    told = (line.split() for line in answer.splitlines())
-    return {words[1]: Stand(words[2] == "stays", int(words[-1])) for words in told if words[0] == "unit"}
-
-
-def delay_of(line: str) -> Delay:
-    """What `load` tells of a flow: `flow N G A B within W of L us`, `late of L us`, or `frames K`, which also `whole within W us`,
-    `whole within W of L us` or `late of L us` may follow."""
-    words = line.split()
-    number, told = int(words[1]), words[5:]
-    frames = int(told[1]) if told[0] == "frames" else 1
-    within = int(told[told.index("within") + 1]) if "within" in told else None
-    return Delay(number, within, int(told[told.index("of") + 1]) if "of" in told else None, frames)
-
-
-def age_of(line: str) -> Age:
-    """What `load` tells of a need: `need N UNIT GROUP [SIGNAL] age A of W us` or `old of W us`."""
-    words = line.split()
-    return Age(int(words[1]), int(words[-4]) if words[-5] == "age" else None, int(words[-2]))
-
-
-def load_of(answer: str) -> Load | None:
-    """What `load` tells of a plan; None of one that says nothing of the bus."""
-    lines = answer.splitlines()
-    if lines == ["refused plan NoTiming"]:
-        return None
-    words = lines[-1].split()
-    if words[0] != "load":
-        return Load([], None)
-    delays = [delay_of(line) for line in lines if line.startswith("flow ")]
-    return Load(delays, (int(words[1]), int(words[3])), [age_of(line) for line in lines if line.startswith("need ")])
+from modules import answer_places, page_server, plan_parts, program
+from modules.answers import findings, load_of, stands
+from modules.left_out import plain
+from modules.plan_page import page
+from modules.plan_tables import Tables
 
 
 def page_of(plan: str, title: str) -> str:
@@ -68,7 +23,7 @@ def page_of(plan: str, title: str) -> str:
     if status not in (0, 1):
         raise program.Refused(status, answer.strip())
     with open(plan, "rb") as file:
-        told = where.Plan(file.read().decode(errors="replace"))
+        told = answer_places.Plan(file.read().decode(errors="replace"))
     _, addresses = program.call(["addresses", "--", plan])
     load = load_of(program.call(["load", "--", plan])[1])
     found = list(findings(told, answer))
@@ -83,7 +38,7 @@ def page_of_file(name: str) -> str:
 
 def drawn(name: str) -> str:
     """The page of a plan's file; of one that can't be read it is said with its line why."""
-    with program.file_of(parts.text_of(name)) as plan:
+    with program.file_of(plan_parts.text_of(name)) as plan:
         return page_of(plan, plain(os.fsencode(name).decode(errors="replace")))
 
 

@@ -15,13 +15,13 @@ from functools import lru_cache
 from itertools import chain
 from typing import Any, Generic
 
-import program
-from clock import Clock
-from cut_plan import cut
-from j1939 import GLOBAL_ADDRESS
-from logs import Log, interface_option
-from readings import Choice, Column, Made, Reading, Told, Wanted, parted
-from reports import FROM, GROUP, LINE, TIME, TO, Counts, Said, Who, said_of, tables_of, who_of
+from modules import program
+from modules.j1939 import GLOBAL_ADDRESS
+from modules.log_clock import Clock
+from modules.log_files import Log, interface_option
+from modules.log_readings import Choice, Column, Made, Reading, Told, Wanted, parted
+from modules.log_reports import FROM, GROUP, LINE, TIME, TO, Counts, Said, Who, said_of, tables_of, who_of
+from modules.plan_cut import cut
 
 ENDS = ("from", "source", "to", "destination")
 HEADS = ("time", "line", *ENDS, "group", "signal", "state", "value", "unit", "detail")

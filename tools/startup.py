@@ -9,9 +9,9 @@ only where nothing in it is refused and it ends settled, and that run shows whic
 import sys
 from collections.abc import Iterable
 
-import program
-from j1939 import NULL_ADDRESS, POOL
-from toml_places import Place, Places, places_of
+from modules import program
+from modules.j1939 import NULL_ADDRESS, POOL
+from modules.toml_places import Place, Places, places_of
 
 Frame = tuple[str, str]
 

@@ -12,7 +12,7 @@ from collections import Counter
 from collections.abc import Iterable, Iterator
 from typing import TYPE_CHECKING
 
-import program
+from modules import program
 
 if TYPE_CHECKING:
     from can import Message

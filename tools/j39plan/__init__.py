@@ -24,14 +24,14 @@ import sys
 from collections.abc import Iterable, Iterator
 from typing import Any
 
-from j39plan._tools import drives, parts, plan_tables, program, report, report_page, reports, where
+from j39plan._tools import answer_places, answers, fleet_drives, log_reports, plan_parts, plan_tables, program
 
 Unit, Group, Signal, Text, Flow = plan_tables.Unit, plan_tables.Group, plan_tables.Signal, plan_tables.Text, plan_tables.Flow
-Need, Asking, Finding, Stand = plan_tables.Need, plan_tables.Request, report_page.Finding, report_page.Stand
-Delay, Age, Load = report_page.Delay, report_page.Age, report_page.Load
-Who, Message, Claim, Request = reports.Who, reports.Message, reports.Claim, reports.Request
-Acknowledgement = reports.Acknowledgement
-Refused, Deviation, Drive = program.Refused, drives.Deviation, drives.Drive
+Need, Asking, Finding, Stand = plan_tables.Need, plan_tables.Request, answers.Finding, answers.Stand
+Delay, Age, Load = answers.Delay, answers.Age, answers.Load
+Who, Message, Claim, Request = log_reports.Who, log_reports.Message, log_reports.Claim, log_reports.Request
+Acknowledgement = log_reports.Acknowledgement
+Refused, Deviation, Drive = program.Refused, fleet_drives.Deviation, fleet_drives.Drive
 
 __all__ = [
     "Acknowledgement", "Age", "Asking", "Claim", "Delay", "Deviation", "Drive", "Finding", "Flow", "Group", "Load", "Message", "Need", "Plan", "Refused", "Request",
@@ -68,16 +68,16 @@ class Plan:
     def findings(self) -> list[Finding]:
         """What `check` finds: of each its `text`, as `F8 SignalOverlap ..`, the `line` of the file, a `hint`, and the `steps` of a run that shows
         it. The list is empty where `check` says ok."""
-        return list(report.findings(where.Plan(self.text), self._answer("check")))
+        return list(answers.findings(answer_places.Plan(self.text), self._answer("check")))
 
     def stands(self) -> dict[str, Stand]:
         """By the labels of units whether each `stays` at its `address` in every run. Empty where the addresses have findings."""
-        return report.stands(self._answer("addresses"))
+        return answers.stands(self._answer("addresses"))
 
     def load(self) -> Load | None:
         """What `load` tells: the `delays` of flows and the `ages` of what is needed, in us, and of how many bits a second how many are `taken`,
         None where the plan has findings before that. None of a plan that says nothing of its bus."""
-        return report.load_of(self._answer("load"))
+        return answers.load_of(self._answer("load"))
 
     def _answer(self, command: str) -> str:
         """What a command of the program writes of the plan."""
@@ -92,7 +92,7 @@ def read_plan(name: str | os.PathLike[str]) -> Plan:
     """
     name = os.fspath(name)
     with _with_program():
-        return Plan(name, parts.text_of(name))
+        return Plan(name, plan_parts.text_of(name))
 
 
 def follow(plan: Plan, log: str | os.PathLike[str]) -> Iterator[Message | Claim | Request | Acknowledgement]:
@@ -111,7 +111,7 @@ def follow(plan: Plan, log: str | os.PathLike[str]) -> Iterator[Message | Claim 
         with subprocess.Popen(words, stdin=subprocess.DEVNULL, stdout=subprocess.PIPE, stderr=subprocess.PIPE) as process:
             assert process.stdout is not None and process.stderr is not None
             ended = _Ended()
-            yield from reports.reports_of(ended.passed(io.TextIOWrapper(process.stdout, "ascii")), plan.tables, reports.Counts())
+            yield from log_reports.reports_of(ended.passed(io.TextIOWrapper(process.stdout, "ascii")), plan.tables, log_reports.Counts())
             said = process.stderr.read().decode(errors="replace").strip()
         if process.returncode:
             raise Refused(process.returncode, ended.refusal or f"{log}: {said}")
@@ -127,7 +127,7 @@ def signals(plan: Plan, log: str | os.PathLike[str], names: Iterable[str] = ()) 
     """
     log = os.fspath(log)
     with open(log, "rb"), _with_program(), program.file_of(plan.text) as copy:
-        words = [sys.executable, drives.command("signals"), "--json", "--", copy, log, *names]
+        words = [sys.executable, fleet_drives.command("signals"), "--json", "--", copy, log, *names]
         with subprocess.Popen(words, stdin=subprocess.DEVNULL, stdout=subprocess.PIPE, stderr=subprocess.PIPE) as process:
             assert process.stdout is not None and process.stderr is not None
             yield from map(json.loads, process.stdout)
@@ -141,13 +141,13 @@ def deviations(plan: Plan, log: str | os.PathLike[str], options: Iterable[str] =
     and how many `times` it was met. `options` are those of that tool, as `["--jitter", "2.5"]`. Raises as `follow` does."""
     log = os.fspath(log)
     with open(log, "rb"), _with_program(), program.file_of(plan.text) as copy:
-        return drives.compared(copy, log, list(options))[0]
+        return fleet_drives.compared(copy, log, list(options))[0]
 
 
 def drive(plan: Plan, log: str | os.PathLike[str], options: Iterable[str] = ()) -> Drive:
     """What `j39plan-fleet` takes of a log: a table with its deviations, counts, silences (in seconds), claims, and the least and greatest
     values of its signals. It raises nothing: a log that can't be read says so by `failed`."""
-    return drives.drive_of(plan.text, os.fspath(log), os.path.abspath(log), list(options))
+    return fleet_drives.drive_of(plan.text, os.fspath(log), os.path.abspath(log), list(options))
 
 
 class _Ended:
@@ -167,7 +167,7 @@ class _Ended:
 
 def fleet_task(plan: str, log: str, path: str, options: list[str]) -> Drive:
     """What `j39plan-fleet` has a worker of a cluster do."""
-    return drives.drive_of(plan, log, path, options)
+    return fleet_drives.drive_of(plan, log, path, options)
 
 
 def fleet_version() -> str:

@@ -3,7 +3,7 @@
 import tomllib
 from typing import Any
 
-import program
+from modules import program
 from tests.support import InFolder, run
 
 DBC = '''VERSION ""

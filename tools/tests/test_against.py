@@ -5,7 +5,7 @@ import re
 import unittest
 from collections import Counter
 
-import program
+from modules import program
 from tests.support import MARKED, NEWER, InFolder, example, run, text_of
 
 PLAN = """version = 1

@@ -3,7 +3,7 @@
 import random
 import unittest
 
-from clock import DAY, SECOND, Clock
+from modules.log_clock import DAY, SECOND, Clock
 
 
 def spelled(rng, at):

@@ -9,14 +9,13 @@ import tomllib
 import unittest
 from types import SimpleNamespace
 
-import matrix_plan
-import program
-from dbc_names import IDENTITY_ATTRIBUTE, NAME_ATTRIBUTES
-from left_out import Notes
-from matrix_file import import_canmatrix
-from matrix_merge import Network
-from matrix_signals import Signals as PlannedSignals
-from plan_text import text_of
+from modules import matrix_plan, program
+from modules.dbc_names import IDENTITY_ATTRIBUTE, NAME_ATTRIBUTES
+from modules.left_out import Notes
+from modules.matrix_file import import_canmatrix
+from modules.matrix_merge import Network
+from modules.matrix_signals import Signals as PlannedSignals
+from modules.plan_text import text_of
 from tests.dbc_files import DBC, WithDbc, message
 from tests.support import InFolder, needs, run
 

@@ -11,10 +11,10 @@ import tomllib
 import unittest
 
 import dbc2plan
-import program
-from left_out import LeftOut, Notes
-from matrix_file import import_canmatrix
-from plan_text import text_of
+from modules import program
+from modules.left_out import LeftOut, Notes
+from modules.matrix_file import import_canmatrix
+from modules.plan_text import text_of
 from tests.dbc_files import DBC, WithDbc, message
 from tests.support import TOOLS, needs, run
 

@@ -11,8 +11,8 @@ import tempfile
 import time
 import unittest
 
-import program
-from reports import CONVERTER
+from modules import program
+from modules.log_reports import CONVERTER
 from tests.support import TOOLS, InFolder, example, run, text_of
 
 PLAN, LOG = example("tractor_and_implement.toml"), example("tractor_and_implement.start.log")

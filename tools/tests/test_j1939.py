@@ -3,8 +3,7 @@
 import os
 import re
 
-import j1939
-import program
+from modules import j1939, plan_format, program
 from tests.support import TOP, InFolder, text_of
 
 GROUP = '[[group]]\nlabel = "G{0}"\npgn = {0}\npriority = 6\nlength = 8\n'
@@ -32,6 +31,14 @@ class Numbers(InFolder):
         self.assertEqual(self.bad(j1939.OTHER_SERVICES), set())
         named = re.search(r"Only these are found\. Other groups .*?\n\n", PAGE, re.DOTALL).group()
         self.assertEqual(sorted(map(int, re.findall(r"\b\d{5}\b", named))), sorted(j1939.OTHER_SERVICES))
+
+    def test_the_fields_of_a_name_are_those_of_the_page_and_of_the_schema(self):
+        """Their bits, and with them the most that each may be."""
+        rows = re.findall(r"\n\| `(\w+)` \|[^|]*\|[^|]*\| (\d+)(?:\.\.(\d+))? \|", PAGE)
+        self.assertEqual([(key, int(first), int(last or first) + 1 - int(first)) for key, first, last in rows], list(j1939.NAME_FIELDS))
+        rules = plan_format.schema()["definitions"]["name"]["properties"]
+        self.assertEqual([(key, rule["maximum"] + 1) for key, rule in rules.items() if key != "arbitrary"],
+                         [(key, 1 << width) for key, _, width in j1939.NAME_FIELDS if key != "arbitrary"])
 
     def test_the_pool_is_that_of_the_page(self):
         self.assertIn(f"lowest free address of {j1939.POOL[0]}..{j1939.POOL[-1]}", PAGE)

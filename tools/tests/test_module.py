@@ -10,7 +10,7 @@ import sys
 import unittest
 
 import j39plan
-import program
+from modules import program
 from tests.support import TOOLS, TOP, InFolder, example, run, text_of
 
 PLAN, LOG = example("tractor_and_implement.toml"), example("tractor_and_implement.start.log")
@@ -30,15 +30,15 @@ class Module(InFolder):
         return ended.stdout
 
     def test_it_is_in_nobodys_way(self):
-        """A program may have modules of the names that the tools' modules have, before and behind it."""
-        for name in ("program", "reports", "signals", "parts"):
+        """A program may have modules of the names that the tools and their modules have, before and behind it."""
+        for name in ("program", "log_reports", "signals", "modules"):
             self.write(f"{name}.py", f"whose = 'mine, {name}'\n")
-        text = ("import program\nimport j39plan, reports, signals, sys, pickle\nfrom parts import whose\n"
-                "print(program.whose, reports.whose, signals.whose, whose, sep='; ')\n"
-                "print(sorted(name for name in sys.modules if name in ('where', 'plan_tables', 'readings', 'report')))\n"
+        text = ("import program\nimport j39plan, log_reports, signals, sys, pickle\nfrom modules import whose\n"
+                "print(program.whose, log_reports.whose, signals.whose, whose, sep='; ')\n"
+                "print(sorted(name for name in sys.modules if name in ('where', 'plan_tables', 'log_readings', 'report')))\n"
                 f"plan = j39plan.read_plan({PLAN!r})\n"
                 "print(pickle.loads(pickle.dumps(plan.units)) == plan.units, pickle.loads(pickle.dumps(j39plan.Refused(2, 'x'))) is not None)\n")
-        self.assertEqual(self.script(text), "mine, program; mine, reports; mine, signals; mine, parts\n[]\nTrue True\n")
+        self.assertEqual(self.script(text), "mine, program; mine, log_reports; mine, signals; mine, modules\n[]\nTrue True\n")
 
     @unittest.skipUnless(importlib.util.find_spec("pandas"), "pandas isn't there: apt-get install python3-pandas")
     def test_the_lines_of_the_page(self):

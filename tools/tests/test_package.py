@@ -13,7 +13,7 @@ import tempfile
 import unittest
 from concurrent.futures import ThreadPoolExecutor
 
-import program
+from modules import program
 from tests.support import TOOLS, TOP, InFolder, text_of
 
 PACKAGE = os.path.join(TOOLS, "package")

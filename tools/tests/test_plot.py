@@ -10,12 +10,12 @@ import sys
 import unittest
 import xml.etree.ElementTree as ElementTree
 
-import program
-from clock import ends_of
-from curves import Held, Timeline, curves_of
-from logs import Log
-from readings import Choice, Wanted
-from reports import Counts, follow, tables_of
+from modules import program
+from modules.log_clock import ends_of
+from modules.log_curves import Held, Timeline, curves_of
+from modules.log_files import Log
+from modules.log_readings import Choice, Wanted
+from modules.log_reports import Counts, follow, tables_of
 from tests.support import TOOLS, InFolder, example, needs, run, signal
 
 PLAN = example("tractor_and_implement.toml")
@@ -197,7 +197,7 @@ class Drawn(WithLog):
 
     def test_lines_end_where_nothing_came(self):
         """For ten times the usual distance and a second: there no line is drawn, and one begins anew."""
-        from picture import broken
+        from modules.log_chart import broken
 
         times = [0.0, 0.1, 0.2, 0.3, 1.3, 1.4, 2.5, 2.6]
         values = [1.0, 2.0, 3.0, 4.0, 5.0, 6.0, 7.0, 8.0]
@@ -209,7 +209,7 @@ class Drawn(WithLog):
         self.assertEqual(broken([0, 1, 2, 3], slow, values)[0], slow)
 
     def test_claims_narrower_than_a_column_are_one_box(self):
-        from picture import merged
+        from modules.log_chart import merged
 
         fight = [Held(128, ("PUMP", "#0000000000000003")[number % 2], 5 + number / 100, 5 + (number + 1) / 100, True) for number in range(500)]
         held = [Held(128, "PUMP", 0.0, 5.0, True), *fight, Held(128, "PUMP", 10.0, 20.0, True), Held(129, "PUMP", 0.0, 0.01, True)]
@@ -224,7 +224,7 @@ class Drawn(WithLog):
 
     def test_units_have_one_colour(self):
         """In each signal and in their boxes, ten of them before lines are dashed."""
-        from picture import Colours
+        from modules.log_chart import Colours
 
         colours = Colours()
         units = [f"U{number}" for number in range(25)]
@@ -268,7 +268,7 @@ class Drawn(WithLog):
         self.assertFalse([text for text in texts if "e" in text and text[0] in "+1"])
 
     def test_many_points_keep_their_extremes(self):
-        from picture import thinned
+        from modules.log_chart import thinned
 
         rng = random.Random(5)
         times = sorted(rng.uniform(0, 100) for _ in range(20000))

@@ -107,7 +107,7 @@ class Premises(InFolder):
 
     def load(self, plan):
         """What `load` says of a plan."""
-        import program
+        from modules import program
 
         return program.call(["load", self.write("plan.toml", plan)])[1].splitlines()
 

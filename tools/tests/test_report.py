@@ -7,10 +7,11 @@ import subprocess
 import unittest
 from html.parser import HTMLParser
 
-import program
-from plan_tables import Tables
+from modules import answers, program
+from modules.answers import Age, Delay
+from modules.plan_tables import Tables
+from modules.toml_places import places_of
 from tests.support import MARKED, NEWER, TOP, InFolder, example, examples, run, signal, text_of
-from toml_places import places_of
 
 PLAN, FAULTY = example("tractor_and_implement.toml"), example("findings/several.toml")
 CHECKS = os.path.join(TOP, "crates", "examples_check", "data", "checks")
@@ -275,18 +276,15 @@ length = 20
 
     def test_lines_of_load(self):
         """Each form: of one frame, of long messages without and with a time, and of needs."""
-        import report
-        from report_page import Age, Delay
-
         for line, delay in (
             ("flow 1 G A all within 1280 of 10000 us", Delay(1, 1280, 10000, 1)), ("flow 2 G A B late of 10000 us", Delay(2, None, 10000, 1)),
             ("flow 3 G A all frames 7", Delay(3, None, None, 7)), ("flow 4 G A all frames 7 whole within 605760 us", Delay(4, 605760, None, 7)),
             ("flow 5 G A all frames 7 whole within 605760 of 700000 us", Delay(5, 605760, 700000, 7)),
             ("flow 6 G A all frames 7 late of 600000 us", Delay(6, None, 600000, 7)),
         ):
-            self.assertEqual(report.delay_of(line), delay)
-        self.assertEqual(report.age_of("need 1 B G age 21280 of 22000 us"), Age(1, 21280, 22000))
-        self.assertEqual(report.age_of("need 2 B G S old of 21000 us"), Age(2, None, 21000))
+            self.assertEqual(answers.delay_of(line), delay)
+        self.assertEqual(answers.age_of("need 1 B G age 21280 of 22000 us"), Age(1, 21280, 22000))
+        self.assertEqual(answers.age_of("need 2 B G S old of 21000 us"), Age(2, None, 21000))
 
     def test_load(self):
         """The delays and the load are those that `load` prints; a plan that says nothing of the bus has no such section."""

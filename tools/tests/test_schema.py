@@ -7,7 +7,7 @@ import re
 import tomllib
 import unittest
 
-import program
+from modules import program
 from tests.support import TOOLS, TOP, InFolder, examples, needs, shown_refusals, text_of
 
 SCHEMA = json.loads(text_of(os.path.join(TOOLS, "plan.schema.json")))

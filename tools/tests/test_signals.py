@@ -10,12 +10,12 @@ import subprocess
 import sys
 import unittest
 
-import program
-from cut_plan import cut
-from cut_plan import shorter as shorter_of
-from plan_tables import Tables
-from readings import Choice
-from reports import tables_of
+from modules import program
+from modules.log_readings import Choice
+from modules.log_reports import tables_of
+from modules.plan_cut import cut
+from modules.plan_cut import shorter as shorter_of
+from modules.plan_tables import Tables
 from tests.support import MARKED, NEWER, TOOLS, InFolder, example, needs, run, signal, text_of
 from tests.test_report import large_plan
 

@@ -2,8 +2,8 @@
 
 import unittest
 
-import program
 import startup
+from modules import program
 from tests.support import MARKED, NEWER, InFolder, example, examples, run
 
 UNIT = '[[unit]]\nlabel = "U{0}"\naddress = 200\nchooser = "{1}"\nname = {{ identity = {0}, arbitrary = true }}\n'

@@ -5,7 +5,7 @@ import subprocess
 import sys
 import unittest
 
-import program
+from modules import program
 from tests.support import TOOLS, InFolder, example, needs, run, text_of
 
 LOG = example("truck.drive.log")

@@ -14,9 +14,8 @@ import threading
 import time
 import unittest
 
-import page_server
-import program
 import report
+from modules import page_server, program
 from tests.support import TOOLS, InFolder, example, run, text_of
 
 FIRST = text_of(example("first_plan.toml"))

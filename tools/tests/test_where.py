@@ -8,8 +8,8 @@ import subprocess
 import sys
 import unittest
 
-import program
 import where
+from modules import answer_places, program
 from tests.support import MARKED, NEWER, TOOLS, TOP, InFolder, example, examples, run, shown_refusals, text_of
 
 CASES = os.path.join(TOP, "crates", "examples_check", "data")
@@ -357,14 +357,12 @@ class Where(InFolder):
 
     def test_long_messages_that_are_late(self):
         """They are looked at by their deadline, those of one frame by their period."""
-        import where
-
         plan = 'version = 3\n' + UNIT.format("A", 0, 1) + '[[group]]\nlabel = "G"\npgn = 61444\npriority = 3\nlength = 8\n'
         flow = '[[flow]]\ngroup = "G"\nfrom = "A"\nto = "all"\nperiod = 10\ndeadline = 5\n'
         lines = plan.count("\n")
         late = "G from A to all: key deadline: its long messages aren't shown to be whole within it"
         for most, at, hint in (("", lines + 5, "G from A to all: key period: within the deadline, or"), ("most = 9\n", lines + 7, late)):
-            line, told = where.finding(where.Plan(plan + most + flow), "F18 LateFlow 1")
+            line, told = answer_places.finding(answer_places.Plan(plan + most + flow), "F18 LateFlow 1")
             self.assertEqual((line, told[:len(hint)]), (at, hint))
 
     def test_names_in_needs(self):
@@ -636,7 +634,7 @@ class Where(InFolder):
                 text = "".join(lines[:at] + [instead] + lines[at + 1:])
                 name = self.write("plan.toml", text)
                 status, answer = program.call(["check", name])
-                shown = list(where.annotate("P", where.placed(text.encode(), answer), where.compiler_message))
+                shown = list(where.annotate("P", answer_places.placed(text.encode(), answer), where.compiler_message))
                 self.assertEqual([part.split(": ", 1)[-1].split("  (")[0] for part in shown], answer.splitlines())
                 for part in shown:
                     if found := re.match(r"P:(\d+): ", part):

@@ -1,0 +1,175 @@
+"""How far apart messages of flows come: the nearest, the longest silence, and what is usual."""
+
+import argparse
+import re
+from collections.abc import Iterator
+from typing import NamedTuple
+
+from .log_clock import MILLISECOND, milliseconds
+from .plan_tables import Flow
+
+# After how many periods without a message a flow is silent, where it isn't said.
+SILENCE = 5
+
+# Distances are told apart by so many nanoseconds where the usual one is looked for.
+STEP = 10_000
+
+# What is told of a line: the line, None of the plan, the text, and how often it was met.
+Deviation = tuple[int | None, str, int]
+
+
+class Tolerance(NamedTuple):
+    """By how much messages may come nearer than their period: a duration in nanoseconds, or a share in millionths; and how it was spelled."""
+
+    duration: int
+    share: int
+    spelled: str
+
+    @classmethod
+    def of(cls, text: str) -> "Tolerance":
+        """`2.5`, in ms, or `10%` of the period."""
+        found = re.fullmatch(r"(\d{1,9})(?:\.(\d{1,6}))?(%| ?ms)?", text)
+        if found is None:
+            raise argparse.ArgumentTypeError(f"{text} is no time in ms, as 2.5, and no share, as 10%")
+        number = int(found.group(1)) * MILLISECOND + int(f"{found.group(2) or '':0<6}")
+        if found.group(3) == "%":
+            return cls(0, number // 100, text)
+        return cls(number, 0, f"{found.group(1)}{'.' if found.group(2) else ''}{found.group(2) or ''} ms")
+
+    def at(self, period: int) -> int:
+        """In nanoseconds, for a period in ms."""
+        return self.duration + period * self.share
+
+
+class Extreme(NamedTuple):
+    """The least or the greatest of distances in nanoseconds, the line at its end, and how many are told."""
+
+    distance: int
+    line: int
+    count: int
+
+
+class Limits(NamedTuple):
+    """How near messages of a flow may come in nanoseconds, and how far apart; what the plan has of that."""
+
+    least: int
+    most: int | None
+    why: str
+
+
+def limits_of(flow: Flow, tolerance: Tolerance, silence: int) -> Limits | None:
+    """The limits of a flow; None of one without a period."""
+    if flow.period is None:
+        return None
+    least = flow.period * MILLISECOND - tolerance.at(flow.period) - flow.jitter * MILLISECOND
+    if flow.pause is not None:
+        most = (flow.pause + flow.jitter) * MILLISECOND + tolerance.at(flow.pause)
+        return Limits(least, most, f"its pause is {flow.pause} ms" + (f" and its jitter {flow.jitter} ms" if flow.jitter else ""))
+    most = silence * flow.period * MILLISECOND
+    return Limits(least, None if flow.on_request or not silence else most, f"its period is {flow.period} ms")
+
+
+class Distances:
+    """The distances of messages of flows. What a flow has begun in the order of the log counts; where a clock was set, from there on."""
+
+    def __init__(self, flows: list[Flow], tolerance: Tolerance, silence: int, is_whole: bool) -> None:
+        self._flows, self._tolerance = flows, tolerance
+        self._limits = {number: limits_of(flow, tolerance, silence) for number, flow in enumerate(flows, 1)}
+        self._looked = {number for number, limits in self._limits.items() if limits or is_whole}
+        self._usual: dict[int, dict[int, int]] | None = {} if is_whole else None
+        self._last: dict[int, tuple[int, int]] = {}
+        self._since: tuple[int, int] | None = None  # where the clock was set last
+        self._silent: set[int] = set()
+        self.counts: dict[int, int] = {}
+        self.nearest: dict[int, Extreme] = {}
+        self.longest: dict[int, Extreme] = {}
+        self.without_time = False
+
+    def anew(self, line: int, at: int) -> None:
+        """The clock was set: distances begin here."""
+        self._since = line, at
+        self._silent.update(self._last)
+        self._last.clear()
+
+    def sent(self, number: int, line: int, at: int | None) -> None:
+        """A message of a flow, by when it began."""
+        if number not in self._looked:
+            return
+        self.counts[number] = self.counts.get(number, 0) + 1
+        if at is None:
+            self.without_time = self.without_time or self._limits[number] is not None
+            return
+        last = self._last.get(number)
+        self._last[number] = line, at
+        if last is not None and last[1] <= at:
+            self._compare(number, line, at - last[1])
+
+    def _compare(self, number: int, line: int, distance: int) -> None:
+        """A distance of a flow."""
+        if self._usual is not None:
+            usual = self._usual.setdefault(number, {})
+            usual[distance // STEP] = usual.get(distance // STEP, 0) + 1
+        limits = self._limits[number]
+        if limits is None:
+            return
+        if distance < limits.least:
+            known = self.nearest.get(number)
+            if known is None or distance < known.distance:
+                self.nearest[number] = Extreme(distance, line, known.count + 1 if known else 1)
+            else:
+                self.nearest[number] = known._replace(count=known.count + 1)
+        elif limits.most is not None and distance > limits.most:
+            known = self.longest.get(number)
+            if known is None or distance > known.distance:
+                self.longest[number] = Extreme(distance, line, known.count + 1 if known else 1)
+            else:
+                self.longest[number] = known._replace(count=known.count + 1)
+
+    def end(self, last: int | None) -> Iterator[Deviation]:
+        """What is told of them where the last time of the log is this one."""
+        for number, nearest in self.nearest.items():
+            flow = self._flows[number - 1]
+            jitter = f" and its jitter {flow.jitter} ms" if flow.jitter else ""
+            text = f"{milliseconds(nearest.distance)} ms behind the one before, its period is {flow.period} ms{jitter}"
+            yield nearest.line, f"{self.name(number)}: {text}", nearest.count
+        for number, longest in self.longest.items():
+            limits = self._limits[number]
+            assert limits is not None
+            yield longest.line, f"{self.name(number)}: not sent for {milliseconds(longest.distance)} ms before, {limits.why}", longest.count
+        for number, limits in self._limits.items():
+            begin = self._last.get(number, self._since if number in self._silent else None)
+            if limits and limits.most is not None and begin and last is not None and last - begin[1] > limits.most:
+                text = f"not sent any more, for {milliseconds(last - begin[1])} ms to the log's end, {limits.why}"
+                yield begin[0], f"{self.name(number)}: {text}", 1
+
+    def name(self, number: int) -> str:
+        """A flow by its number."""
+        flow = self._flows[number - 1]
+        return f"flow {number}, {flow.group} from {flow.sender} to {flow.to}"
+
+    @property
+    def passed_over(self) -> list[int]:
+        """The flows of which no distance is too small, by what is passed over."""
+        return [number for number, limits in self._limits.items() if limits and limits.least <= 0]
+
+    def table(self) -> Iterator[str]:
+        """A line for each flow: its period, how often it was sent, the least, usual and greatest distance, all in ms."""
+        rows = [("flow", "group", "from", "to", "period", "count", "least", "median", "greatest")]
+        for number, flow in enumerate(self._flows, 1):
+            usual = sorted((self._usual or {}).get(number, {}).items())
+            told = [f"{step * STEP / MILLISECOND:.2f}" for step in (usual[0][0], median(usual), usual[-1][0])] if usual else ["-"] * 3
+            rows.append((str(number), flow.group, flow.sender, flow.to, str(flow.period or "-"), str(self.counts.get(number, 0)), *told))
+        widths = [max(len(row[at]) for row in rows) for at in range(9)]
+        for row in rows:
+            left, right = zip(row[:4], widths), zip(row[4:], widths[4:])
+            yield "  ".join([*(f"{cell:<{width}}" for cell, width in left), *(f"{cell:>{width}}" for cell, width in right)])
+
+
+def median(usual: list[tuple[int, int]]) -> int:
+    """The one in the middle of numbers that stand with how often each is there, in their order; of two the lesser."""
+    left = (sum(count for _, count in usual) + 1) // 2
+    for number, count in usual:
+        left -= count
+        if left <= 0:
+            return number
+    return 0

@@ -1,0 +1,126 @@
+"""The nodes and frames of one bus, of one file or of several, as each supplier has one."""
+
+from __future__ import annotations
+
+from collections.abc import Iterator
+from dataclasses import dataclass, field
+from typing import TYPE_CHECKING, NamedTuple
+
+from . import matrix_file
+from .dbc_names import ADDRESS_ATTRIBUTE, ARBITRARY_ATTRIBUTE, BITRATE_ATTRIBUTE, IDENTITY_ATTRIBUTE, NAME_ATTRIBUTES, NOBODY, UNIT_ATTRIBUTE
+from .left_out import LeftOut, Notes, plain
+from .plan_format import VERSIONS, bitrates_of
+
+if TYPE_CHECKING:
+    import canmatrix
+
+# The attributes of nodes that a plan is made of, and those that nodes can share, so that a file's default counts.
+SHARED = (*(attribute for attribute, _ in NAME_ATTRIBUTES.values()), ARBITRARY_ATTRIBUTE)
+OWN = (ADDRESS_ATTRIBUTE, IDENTITY_ATTRIBUTE[0], UNIT_ATTRIBUTE, "LongName", *SHARED)
+
+
+@dataclass
+class Node:
+    """A node by its name: what its files give of it, the defaults that they have for others, and its comment."""
+
+    name: str
+    given: dict[str, object] = field(default_factory=dict)
+    defaults: dict[str, object] = field(default_factory=dict)
+    comment: str = ""
+    files: dict[str, str] = field(default_factory=dict)  # which file has given an attribute
+
+
+class Sent(NamedTuple):
+    """A frame, the bus that it is of, and the name of its file where there are several."""
+
+    frame: canmatrix.Frame
+    matrix: canmatrix.CanMatrix
+    file: str
+
+
+class Network:
+    """The nodes and frames of all files. A node is known by its name; each file may give what an earlier one doesn't."""
+
+    def __init__(self, notes: Notes, version: int = VERSIONS[-1]) -> None:
+        self.notes, self.bitrates = notes, bitrates_of(version)
+        self.nodes: dict[str, Node] = {}
+        self.sent: list[Sent] = []
+        self.bitrate: int | None = None
+        self._bitrate_file = ""
+
+    def add(self, matrix: canmatrix.CanMatrix, file: str = "") -> None:
+        """Adds a file's nodes and frames; what contradicts an earlier one is said with both files' names."""
+        self.notes.file = file
+        here: set[str] = set()
+        for ecu in matrix.ecus:
+            if ecu.name in here:
+                self.notes.say(f"unit {ecu.name}", "an earlier one has its name")
+            elif ecu.name != NOBODY:
+                self.add_node(ecu, matrix, file)
+            here.add(ecu.name)
+        self.sent += [Sent(frame, matrix, file) for frame in matrix.frames]
+        self.add_bitrate(matrix, file)
+        self.notes.file = ""
+
+    def add_node(self, ecu: canmatrix.Ecu, matrix: canmatrix.CanMatrix, file: str) -> None:
+        """Adds what a file gives of a node."""
+        node = self.nodes.setdefault(ecu.name, Node(ecu.name))
+        for attribute in OWN:
+            given = ecu.attributes.get(attribute)
+            known = node.given.get(attribute)
+            if given is not None and known is not None and str(given) != str(known):
+                self.notes.say(f"unit {ecu.name}, {attribute}", f"{given} is passed over: {node.files[attribute]} has {known}")
+            elif given is not None and known is None:
+                node.given[attribute], node.files[attribute] = given, file
+        for attribute in SHARED:
+            default = ecu.attribute(attribute, matrix)
+            if default is not None and attribute not in ecu.attributes:
+                node.defaults.setdefault(attribute, default)
+        node.comment = node.comment or ecu.comment or ""
+
+    def add_bitrate(self, matrix: canmatrix.CanMatrix, file: str) -> None:
+        """Notes how fast the bus is, if a file says so."""
+        told = getattr(matrix, "baudrate", 0) or matrix.attribute(BITRATE_ATTRIBUTE)
+        if not told or str(told) == "0":
+            return
+        bitrate = next((rate for rate in self.bitrates if str(told) in (str(rate), str(rate // 1000))), None)
+        if bitrate is None:
+            self.notes.say(f"the bus, {BITRATE_ATTRIBUTE}", f"{told} is none of {' and '.join(map(str, self.bitrates))}")
+        elif self.bitrate not in (None, bitrate):
+            self.notes.say(f"the bus, {BITRATE_ATTRIBUTE}", f"{told} is passed over: {self._bitrate_file} has {self.bitrate}")
+        else:
+            self.bitrate, self._bitrate_file = bitrate, self._bitrate_file or file
+
+    @property
+    def frames(self) -> Iterator[canmatrix.Frame]:
+        """The frames of all files."""
+        return (sent.frame for sent in self.sent)
+
+
+class Fault(LeftOut):
+    """Why nothing comes of a file of this name."""
+
+    def __init__(self, file: str, why: object) -> None:
+        super().__init__(f"{plain(file)}: {why}")
+
+
+def load(names: list[str], form: matrix_file.Form, notes: Notes, version: int = VERSIONS[-1]) -> Network:
+    """The network of several files, whose bus is one of a plan of this version. One that holds the same as an earlier one is passed over, and that is said."""
+    network, seen = Network(notes, version), dict[bytes, str]()
+    for name in names:
+        with open(name, "rb") as file:
+            data = file.read()
+        several = name if len(names) > 1 else ""
+        if data in seen:
+            notes.file = several
+            notes.say("file", f"it holds the same as {seen[data]}, and is passed over")
+            continue
+        seen[data] = name
+        notes.file = several
+        try:
+            matrix = matrix_file.load(name, data, form, notes)
+        except LeftOut as why:
+            raise Fault(name, why) from why
+        network.add(matrix, several)
+    notes.file = ""
+    return network

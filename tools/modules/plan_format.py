@@ -1,0 +1,62 @@
+"""The format of plan files: its keys with their defaults, as `plan.schema.json` has them, and which version knows what."""
+
+import functools
+import json
+import os
+
+from .program import TOOLS
+
+# A value of a key: a text, an integer, a truth value, a table or an array of these.
+Value = str | int | bool | dict[str, "Value"] | list["Value"] | None
+
+SCHEMA = os.path.join(TOOLS, "plan.schema.json")
+
+# The versions of the format.
+VERSIONS = range(1, 5)
+
+
+@functools.cache
+def schema() -> dict:
+    """What the format has."""
+    with open(SCHEMA, encoding="utf-8") as file:
+        return json.load(file)
+
+
+@functools.cache
+def keys_of(table: str) -> dict[str, Value]:
+    """The keys that a table may have, in the order of the format, each with its default; None of one that has none."""
+    rules = schema()["definitions"][table]["properties"] if table else schema()["properties"]
+    return {key: rule.get("default") for key, rule in rules.items()}
+
+
+@functools.cache
+def since() -> dict[object, int]:
+    """The keys of tables, kinds of signals and bitrates that the first version doesn't know, each with the first that does: by the rules
+    of the schema on what a plan of none of some versions may not have."""
+    found: dict[object, int] = {}
+    for rule in schema()["allOf"]:
+        versions = rule["if"]["not"]["properties"]["version"]
+        _later(None, rule["then"], min(versions.get("enum", [versions.get("const")])), found)
+    return found
+
+
+def _later(table: str | None, rule: dict, first: int, found: dict[object, int]) -> None:
+    """Adds what a rule keeps from a table, and from those in it: a version is the first that knows it."""
+    keys = (schema()["definitions"][table] if table else schema())["properties"]
+    for key, narrower in rule["properties"].items():
+        if narrower is False:
+            found[table, key] = first
+        elif "enum" in narrower:
+            found.update((word, first) for word in keys[key]["enum"] if word not in narrower["enum"])
+        else:
+            _later(key, narrower.get("items", narrower), first, found)
+
+
+def knows(version: int, word: object) -> bool:
+    """Whether a version knows a key of a table, a kind of signals or a bitrate."""
+    return since().get(word, VERSIONS[0]) <= version
+
+
+def bitrates_of(version: int) -> tuple[int, ...]:
+    """How fast a bus of a plan of this version can be, in bits a second."""
+    return tuple(rate for rate in schema()["definitions"]["timing"]["properties"]["bitrate"]["enum"] if knows(version, rate))
