@@ -102,11 +102,16 @@ class Form(unittest.TestCase):
         self.assertEqual(list(sentences(text)), shown)
 
     def test_prose_is_within_120_columns(self):
-        """But for tables, pictures and code; of the pages that are written by hand from one line to the next."""
-        for name in ("README.md", *(f"docs/{page}.md" for page in ("PROMISES", "GUIDE", "PLAN", "PROOFS", "ARCHITECTURE", "DECISIONS"))):
+        """But for tables, pictures and code."""
+        for name in PAGES:
             lines = [line for line in without_code(page(name)).splitlines() if not line.startswith(("|", "![", "#"))]
             self.assertGreaterEqual(len(lines), 60)
             self.assertEqual([line for line in lines if len(line) > 120], [], name)
+
+
+    def test_what_was_tried_and_left_has_a_line_each(self):
+        section = page("docs/DECISIONS.md").split("## Tried and left\n")[1].split("\n## ")[0].strip()
+        self.assertEqual([line for line in section.splitlines() if not re.match(r"- `j39_\w+`: .*\.$", line)], [])
 
 
 class Names(InFolder):
