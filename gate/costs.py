@@ -21,7 +21,6 @@ import signal
 import subprocess
 import sys
 import tempfile
-import threading
 import time
 from bisect import bisect_left
 from collections import defaultdict
@@ -68,21 +67,13 @@ def clocked(words: list[str], folder: str) -> tuple[int, list[tuple[float, str]]
     """Runs a command, and returns its status, the lines that it said and when, and its clock."""
     how = {"stdin": subprocess.DEVNULL, "stdout": subprocess.PIPE, "stderr": subprocess.STDOUT, "preexec_fn": os.setpgrp}
     started = subprocess.Popen(words, cwd=folder, text=True, errors="replace", **how)
-    clock, ended = Clock(started.pid), threading.Event()
-
-    def look() -> None:
-        while not ended.wait(LOOK_SECONDS):
-            clock.look()
-
-    looker = threading.Thread(target=look)
-    looker.start()
-    try:
-        said = [(time.time(), line.rstrip("\n")) for line in started.stdout]
-        status = started.wait()
-    finally:
-        build.stop(started)
-        ended.set()
-        looker.join()
+    clock = Clock(started.pid)
+    with times.looking(clock.look, LOOK_SECONDS):
+        try:
+            said = [(time.time(), line.rstrip("\n")) for line in started.stdout]
+            status = started.wait()
+        finally:
+            build.stop(started)
     return status, said, clock
 
 

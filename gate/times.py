@@ -9,11 +9,13 @@ A check is a process of the prover below the command: the crate that it names is
 copy outside the repository. What a process does after the last look at it, a quarter of a second at most, isn't counted.
 """
 
+import contextlib
 import os
 import subprocess
 import sys
 import threading
 import time
+from collections.abc import Callable, Iterator
 from dataclasses import dataclass
 
 sys.dont_write_bytecode = True
@@ -109,20 +111,30 @@ class Watch:
         return found
 
 
+@contextlib.contextmanager
+def looking(look: Callable[[], None], seconds: float) -> Iterator[None]:
+    """Has a thread look each time that so many seconds are over."""
+    ended = threading.Event()
+
+    def look_on() -> None:
+        while not ended.wait(seconds):
+            look()
+
+    looker = threading.Thread(target=look_on)
+    looker.start()
+    try:
+        yield
+    finally:
+        ended.set()
+        looker.join()
+
+
 def watched(words: list[str]) -> tuple[int, float, dict[Key, Part]]:
     """Runs a command, and returns its status, its seconds by the clock, and what its checks took."""
     started = subprocess.Popen(words, cwd=crates.TOP)
-    watch, ended = Watch(started.pid), threading.Event()
-
-    def look() -> None:
-        while not ended.wait(LOOK_SECONDS):
-            watch.look()
-
-    looker = threading.Thread(target=look)
-    looker.start()
-    status = started.wait()
-    ended.set()
-    looker.join()
+    watch = Watch(started.pid)
+    with looking(watch.look, LOOK_SECONDS):
+        status = started.wait()
     return status, time.monotonic() - watch.begin, watch.parts()
 
 

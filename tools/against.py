@@ -11,7 +11,7 @@ from collections.abc import Iterator
 from dataclasses import dataclass
 
 from modules import program
-from modules.j1939 import ADDRESS_CLAIMED, GLOBAL_ADDRESS, NAME_FIELDS, NULL_ADDRESS, OTHER_SERVICES, PROPRIETARY, REQUEST, SERVICES
+from modules.j1939 import ADDRESS_CLAIMED, FRAME_BYTES, GLOBAL_ADDRESS, NAME_FIELDS, NULL_ADDRESS, OTHER_SERVICES, PROPRIETARY, REQUEST, SERVICES
 from modules.log_clock import Clock, nanoseconds
 from modules.log_damage import Damage
 from modules.log_distances import SILENCE, Deviation, Distances, Tolerance
@@ -26,9 +26,6 @@ from modules.plan_tables import Group, Tables
 
 # Groups that nobody plans.
 UNPLANNED = SERVICES | OTHER_SERVICES | PROPRIETARY
-
-# The most bytes of a message that comes in one frame.
-FRAME = 8
 
 # Group, sender and destination.
 Way = tuple[str, str, str]
@@ -119,7 +116,7 @@ class Comparison:
     def message(self, line: int, at: int | None, message: Message) -> None:
         """A message of a planned group."""
         group, sender, to = message.group, message.sender, message.to
-        begun = self._begun.pop(pair_of(sender, to), None) if len(message.data) > 2 * FRAME else None
+        begun = self._begun.pop(pair_of(sender, to), None) if len(message.data) > 2 * FRAME_BYTES else None
         began = begun.at if begun else at
         if begun is None:
             self._reported = line
@@ -300,7 +297,7 @@ def words_of(words: list[str] | None) -> argparse.Namespace:
                         help=f"after how many periods without a message a flow without a pause is silent; 0: such silences aren't told ({SILENCE})")
     parser.add_argument("--table", action="store_true", help="a table of the flows first: how often each was sent, and how far apart")
     interface_option(parser)
-    parser.add_argument("plan", metavar="PLAN", help="the name of a plan file")
+    program.plan_word(parser)
     parser.add_argument("logs", metavar="LOG", nargs="+", help="names of files as candump -L writes them, in the order of the drive")
     return parser.parse_args(words)
 

@@ -90,7 +90,7 @@ def main(words: list[str] | None = None) -> int:
     """Writes the table; 0 where no log has a deviation, 1 where one has, and the status of a log that failed where one did."""
     parser = program.parser(__doc__)
     parser.epilog = "example: %(prog)s plan.toml drives/*.log"
-    parser.add_argument("plan", metavar="PLAN", help="the name of a plan file")
+    program.plan_word(parser)
     parser.add_argument("logs", metavar="LOG", nargs="+", help="the name of a file as candump -L writes it")
     parser.add_argument("--jitter", metavar="TIME", help="by how much messages may come nearer than their flow's period, as of against")
     interface_option(parser)

@@ -13,7 +13,7 @@ import sys
 from collections.abc import Iterator
 from dataclasses import dataclass, field
 
-from modules import dbc_remarks, program, request_hints
+from modules import dbc_remarks, need_hints, program
 from modules.dbc_names import (
     ADDRESS_ATTRIBUTE, ARBITRARY_ATTRIBUTE, BITRATE_ATTRIBUTE, BYTES_ATTRIBUTE, CODE_CONTENT, CONTENT_ATTRIBUTE, CONTENTS, CYCLE_ATTRIBUTE,
     DELAY_ATTRIBUTE, EVERY_ATTRIBUTE, FAST_ATTRIBUTE, GROUP_ATTRIBUTE, IDENTITY_ATTRIBUTE, KIND_ATTRIBUTE, LONG_MESSAGE, LONG_SIGNAL,
@@ -168,7 +168,7 @@ class Dbc:
         flows or signals receives it as it stands there."""
         for need in self.places.elements(("need",)):
             unit, group = (self.places.texts[need + (key,)] for key in ("unit", "group"))
-            met = [message for flow, message in self.carried if message.label == group and (flow is None or self.meets(flow, need))]
+            met = [message for flow, message in self.carried if message.label == group and (flow is None or need_hints.meets(self.places, flow, need))]
             what = f"need {need[-1]} of {group} by {unit}"
             if not met:
                 self.notes.say(what, "no message of it goes there")
@@ -178,14 +178,6 @@ class Dbc:
             lost = [key for key in ("from", "within") if need + (key,) in self.places.lines]
             if lost:
                 self.notes.say(what, f"a DBC has no {' and no '.join(lost)} of a need")
-
-    def meets(self, flow: Place, need: Place) -> bool:
-        """Whether a flow of its group brings a need's unit what it needs."""
-        sender, to = (self.places.texts[flow + (key,)] for key in ("from", "to"))
-        unit = self.places.texts[need + ("unit",)]
-        if request_hints.is_on_request(self.places, flow) and not request_hints.is_asked_for(self.places, flow):
-            return False
-        return sender != unit and to in (unit, "all") and self.places.texts.get(need + ("from",), sender) == sender
 
     def told_receivers(self, group: str) -> set[str]:
         """Who is named as a receiver beside the flows or signals of a group."""
@@ -406,7 +398,7 @@ class Dbc:
 def options(words: list[str] | None) -> argparse.Namespace:
     """What the command line asks for."""
     parser = program.parser(__doc__)
-    parser.add_argument("plan", metavar="PLAN", help="the name of a plan file")
+    program.plan_word(parser)
     program.note_options(parser)
     parser.epilog = "example: %(prog)s plan.toml > network.dbc"
     return parser.parse_args(words)

@@ -14,7 +14,7 @@ from collections.abc import Iterable
 from modules import program
 from modules.log_clock import SECOND, ends_of
 from modules.log_curves import Curve, Timeline, curves_of
-from modules.log_files import Log, interface_option
+from modules.log_files import Log, drive_words, interface_option
 from modules.log_readings import Choice, Column, Wanted, parted
 from modules.log_reports import Counts, follow, tables_of
 from modules.plan_cut import cut
@@ -86,10 +86,8 @@ def words_of(words: list[str] | None) -> argparse.Namespace:
     """The words of the command line."""
     parser = program.parser(__doc__)
     parser.epilog = "example: %(prog)s plan.toml drive.log SPN190 SPN110 -o drive.png"
-    parser.add_argument("plan", metavar="PLAN", help="the name of a plan file")
-    parser.add_argument("log", metavar="LOG", help="the name of a file as candump -L writes it")
-    parser.add_argument("names", metavar="SIGNAL", nargs="*",
-                        help="signals, GROUP.SIGNAL, or groups with all their signals; any other name is that of a further log of the drive")
+    program.plan_word(parser)
+    drive_words(parser, "SIGNAL", "signals, GROUP.SIGNAL, or groups with all their signals")
     parser.add_argument("-o", "--output", metavar="FILE", required=True,
                         help="the name of the picture, which ends in .png or .svg")
     interface_option(parser)

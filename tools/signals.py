@@ -18,7 +18,7 @@ from typing import Any, Generic
 from modules import program
 from modules.j1939 import GLOBAL_ADDRESS
 from modules.log_clock import Clock
-from modules.log_files import Log, interface_option
+from modules.log_files import Log, drive_words, interface_option
 from modules.log_readings import Choice, Column, Made, Reading, Told, Wanted, parted
 from modules.log_reports import FROM, GROUP, LINE, TIME, TO, Counts, Said, Who, said_of, tables_of, who_of
 from modules.plan_cut import cut
@@ -225,10 +225,8 @@ def words_of(words: list[str] | None) -> argparse.Namespace:
     """The words of the command line."""
     parser = program.parser(__doc__)
     parser.epilog = "example: %(prog)s plan.toml drive.log SPN190 ET1 > signals.csv"
-    parser.add_argument("plan", metavar="PLAN", help="the name of a plan file")
-    parser.add_argument("log", metavar="LOG", help="the name of a file as candump -L writes it")
-    parser.add_argument("names", metavar="NAME", nargs="*",
-                        help="groups, signals, or GROUP.SIGNAL; all, if none is named; any other name is that of a further log of the drive")
+    program.plan_word(parser)
+    drive_words(parser, "NAME", "groups, signals, or GROUP.SIGNAL; all, if none is named")
     forms = parser.add_mutually_exclusive_group()
     forms.add_argument("--csv", dest="form", action="store_const", const=Plain, help="a row a signal (the default)")
     forms.add_argument("--json", dest="form", action="store_const", const=Lines, help="a JSON object a signal, each on a line")

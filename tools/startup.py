@@ -10,13 +10,11 @@ import sys
 from collections.abc import Iterable
 
 from modules import program
-from modules.j1939 import NULL_ADDRESS, POOL
+from modules.j1939 import FRAME_BYTES, NULL_ADDRESS, PACKET_BYTES, POOL
+from modules.plan_tables import WINDOW
 from modules.toml_places import Place, Places, places_of
 
 Frame = tuple[str, str]
-
-FRAME_BYTES, PACKET_BYTES = 8, 7
-WINDOW = 255
 
 
 class Schedule:
@@ -192,7 +190,7 @@ def main(words: list[str] | None = None) -> int:
     """Writes the schedule."""
     parser = program.parser(__doc__)
     parser.epilog = "example: %(prog)s plan.toml > start.schedule"
-    parser.add_argument("plan", metavar="PLAN", help="the name of a plan file")
+    program.plan_word(parser)
     parser.add_argument("first", metavar="UNIT", nargs="*", default=[],
                         help="units that are switched on first, in this order; "
                         "then come the others, in the order of the plan")

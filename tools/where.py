@@ -57,7 +57,7 @@ def main(words: list[str] | None = None) -> int:
     """Runs `j39plan check` and answers its exit status."""
     parser = program.parser(__doc__)
     parser.epilog = "example: %(prog)s --lint plan.toml"
-    parser.add_argument("plan", metavar="PLAN", help="the name of a plan file")
+    program.plan_word(parser)
     parser.add_argument("--github", action="store_true", help="as annotations of GitHub's CI")
     parser.add_argument("--gitlab", metavar="FILE", help="write them into a file too, as a code quality report of GitLab's CI, in which "
                         "those of other plans stay")

@@ -12,7 +12,8 @@ from math import lcm
 from typing import NamedTuple
 
 from . import need_hints, program, request_hints
-from .plan_format import VERSIONS, knows, schema, since
+from .j1939 import FRAME_BYTES
+from .plan_format import VERSIONS, knows, most_of, schema, since
 from .toml_places import MARK, Place, Places, fault_of
 
 # How TOML spells integers, and numbers with a point or a power of ten that aren't too long to be meant.
@@ -28,8 +29,6 @@ WORDS = {
 
 # The keys that a trouble code can't have but with their defaults.
 SCALE = ("step", "per", "offset", "unit")
-# The most that a value is divided by.
-PER_MOST = 10_000_000
 
 # The key to look at, of each finding that names two units or two groups.
 PAIR_KEYS = {"F1": ("unit", "name"), "F2": ("unit", "address"), "F5": ("group", "pgn"), "F26": ("unit", "address")}
@@ -228,7 +227,7 @@ def whole_scale(plan: Plan, signal: Place) -> str:
     if parts == 1:
         return f"; without a point: {', '.join(keys)}"
     per = number_at(plan, signal + ("per",), 1)
-    if plan.knows(("signal", "per")) and per is not None and per * parts <= PER_MOST:
+    if plan.knows(("signal", "per")) and per is not None and per * parts <= most_of("signal", "per"):
         return f"; the fraction goes into per: {', '.join(keys)}, per = {per * parts}"
     unit = f"1/{parts} {plan.places.texts.get(signal + ('unit',), '')}".strip()
     return f"; the fraction goes into the unit: {', '.join(keys)}, unit = \"{unit}\""
@@ -368,7 +367,7 @@ def finding(plan: Plan, line: str) -> Told:
         return plan.line(("unit", 1)), "units with arbitrary = true, and others at addresses of 128..247 that aren't kept free"
     if number == "F17":
         return plan.line(("timing", "bitrate")), "key bitrate: the flows take more at their periods; load shows how much"
-    if number == "F18" and need_hints.longest(plan.places, plan.places.texts.get(("flow", int(words[0]), "group"), "")) > need_hints.FRAME:
+    if number == "F18" and need_hints.longest(plan.places, plan.places.texts.get(("flow", int(words[0]), "group"), "")) > FRAME_BYTES:
         flow = ("flow", int(words[0]))
         return plan.line(flow + ("deadline",)), f"{flow_named(plan, flow)}: key deadline: its long messages aren't shown to be whole within it"
     if number in ("F19", "F20"):

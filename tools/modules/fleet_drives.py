@@ -17,17 +17,11 @@ from functools import lru_cache
 from typing import NamedTuple, TypedDict
 
 from . import program
-from .log_clock import nanoseconds
+from .log_clock import DAY, SECOND, nanoseconds
 from .log_files import OneInterface
 from .log_readings import reading_of, scale_of
 from .log_reports import Writer, as_it_comes
 from .plan_tables import Tables
-
-
-SECOND = 10**9
-
-# A step of a clock that was set: no silence.
-DAY = 86_400 * SECOND
 
 # How many lines of signals are counted before they are looked at.
 COUNTED = 1 << 16
@@ -122,7 +116,7 @@ class Silences:
         self._now = 0
 
     def see(self, at: int) -> None:
-        """A time of the log. Where a clock was set silences begin anew."""
+        """A time of the log. Where a clock was set, by a day or more, silences begin anew."""
         if self._first is None:
             self._first = at
         elif not 0 <= at - self._now < DAY:

@@ -1,4 +1,8 @@
-"""Numbers of SAE J1939 that the tools know: the fields of a NAME, addresses, and the groups by which the network itself runs."""
+"""Numbers of SAE J1939 that the tools know: bytes of frames, the fields of a NAME, addresses, and the groups by which the network itself
+runs."""
+
+# The most bytes of a message that goes in one frame, and how many a packet of a longer one carries (J1939-21).
+FRAME_BYTES, PACKET_BYTES = 8, 7
 
 # The fields of a NAME (J1939-81): the key of a plan, the first bit, the width.
 NAME_FIELDS = (

@@ -144,6 +144,12 @@ class OneInterface:
         return b"\n"
 
 
+def drive_words(words: argparse.ArgumentParser, name: str, names: str) -> None:
+    """The words of a log, of what is chosen of it, and of further logs."""
+    words.add_argument("log", metavar="LOG", help="the name of a file as candump -L writes it")
+    words.add_argument("names", metavar=name, nargs="*", help=f"{names}; any other name is that of a further log of the drive")
+
+
 def interface_option(words: argparse.ArgumentParser) -> None:
     """The option by which a tool reads one interface of a log."""
     words.add_argument("--interface", metavar="NAME", help="the interface that is read of a log of several, as can1 (the first one)")

@@ -19,17 +19,17 @@ from .left_out import LeftOut, Notes, plain
 from .matrix_merge import Network, Node, Sent
 from .matrix_signals import BYTES, Signals
 from .matrix_times import Times, number_of, times_of
-from .plan_format import knows
+from .plan_format import knows, most_of
 from .plan_text import WRITTEN, Labels, Table
 
 if TYPE_CHECKING:
     import canmatrix
 
-# The most of each that a plan has (docs/PLAN.md).
-UNITS, GROUPS, FLOWS, NEEDS = 128, 256, 512, 4096
+# The most of each that a plan has.
+UNITS, GROUPS, FLOWS, NEEDS = (most_of("", array) for array in ("unit", "group", "flow", "need"))
 
-# What the period of a flow and the distance of records may be, in ms and in bytes (docs/PLAN.md).
-PERIODS, DISTANCES = range(1, 65536), range(1, 256)
+# What the period of a flow and the distance of records may be, in ms and in bytes.
+PERIODS, DISTANCES = range(1, most_of("flow", "period") + 1), range(1, most_of("group", "every") + 1)
 
 
 def number_in(node: Node, attribute: str, most: int, value: object, notes: Notes) -> int | None:

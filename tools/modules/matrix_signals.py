@@ -15,18 +15,18 @@ from .dbc_names import (
 )
 from .dbc_remarks import milliseconds, named_values, quoted, received_by, remark
 from .left_out import LeftOut, Notes, plain
-from .plan_format import knows
+from .plan_format import knows, most_of
 from .plan_text import Labels, Table, as_label
 
 if TYPE_CHECKING:
     import canmatrix
 
-# The most of each that a plan has (docs/PLAN.md).
-SIGNALS, TEXTS, BYTES, BITS, UNIT = 64, 64, 1785, 32, 32
-NAMES, NUMBERS = 256, range(524288)
+# The most of each that a plan has; how wide a signal of it is that isn't left out, and its unit of measurement (docs/PLAN.md).
+SIGNALS, TEXTS, BYTES, NAMES = most_of("group", "signal"), most_of("group", "text"), most_of("group", "length"), most_of("signal", "values")
+BITS, UNIT, NUMBERS = 32, 32, range(most_of("signal", "spn") + 1)
 
-# The most that a value is divided by (docs/PLAN.md). What a decimal fraction counts in is always a product of 2s and 5s.
-PER = 10_000_000
+# The most that a step, an offset and the divisor of a value are. What a decimal fraction counts in is always a product of 2s and 5s.
+STEP, OFFSET, PER = (most_of("signal", key) for key in ("step", "offset", "per"))
 
 # What units of measurement are spelled with in ASCII.
 SPELLED = str.maketrans({"°": "deg", "º": "deg", "µ": "u", "μ": "u", "²": "2", "³": "3", "Ω": "Ohm", "·": "*", "–": "-"})
@@ -94,9 +94,9 @@ def scale_of(signal: canmatrix.Signal) -> Scale:
     """Step and offset of a signal, exactly, with the denominator of both."""
     factor, offset = exactly(signal.factor), exactly(signal.offset)
     parts = lcm(factor.denominator if factor else 1, offset.denominator if offset else 1)
-    if factor is None or not 1 <= factor * parts <= 10**6:
-        raise LeftOut(f"factor {signal.factor} is no step of 1 to 1000000")
-    if offset is None or abs(offset * parts) > 10**12:
+    if factor is None or not 1 <= factor * parts <= STEP:
+        raise LeftOut(f"factor {signal.factor} is no step of 1 to {STEP}")
+    if offset is None or abs(offset * parts) > OFFSET:
         raise LeftOut(f"offset {signal.offset} is above 10^12")
     return Scale(int(factor * parts), int(offset * parts), parts)
 

@@ -3,18 +3,16 @@
 from __future__ import annotations
 
 from . import request_hints
+from .j1939 import FRAME_BYTES
+from .plan_tables import Flow, Need
 from .toml_places import Place, Places
-
-# The most bytes of a message that comes in one frame.
-FRAME = 8
 
 
 def meets(places: Places, flow: Place, need: Place) -> bool:
     """Whether a flow brings a need's unit what it needs."""
-    unit, sender = places.texts[need + ("unit",)], places.texts[flow + ("from",)]
-    return (places.texts[flow + ("group",)] == places.texts[need + ("group",)] and sender != unit
-            and places.texts.get(need + ("from",), sender) == sender and places.texts[flow + ("to",)] in ("all", unit)
-            and request_hints.is_asked_for(places, flow))
+    unit, group, sender = (places.texts.get(need + (key,), "") for key in ("unit", "group", "from"))
+    ends = (places.texts[flow + (key,)] for key in request_hints.ENDS)
+    return Need(unit, group, "", sender).is_met_by(Flow(*ends, None)) and request_hints.is_asked_for(places, flow)
 
 
 def named(places: Places, need: Place) -> str:
@@ -52,8 +50,8 @@ def longest(places: Places, label: str) -> int:
 def old(places: Places, need: Place) -> str:
     """Why no flow that meets a need is shown to bring what is so young."""
     within, most = places.number(need + ("within",)) or 0, longest(places, places.texts[need + ("group",)])
-    if most > FRAME:
-        return f"its messages have up to {most} bytes, and those of more than {FRAME} have no age"
+    if most > FRAME_BYTES:
+        return f"its messages have up to {most} bytes, and those of more than {FRAME_BYTES} have no age"
     told = [f"flow {flow[-1]} {why_old(places, flow, within)}" for flow in places.elements(("flow",)) if meets(places, flow, need)]
     return "; ".join(told)
 

@@ -7,7 +7,7 @@ from typing import NamedTuple
 
 from . import plan_scales, program
 from .plan_joining import TOLD_BY, name_of, parts_of
-from .plan_format import keys_of, schema
+from .plan_format import arrays, keys_of
 from .plan_parts import Part, Source, spelled
 
 # What tells a table from others, where its label doesn't.
@@ -96,8 +96,7 @@ class Matched:
 
 def arrays_behind() -> list[str]:
     """The arrays of tables of the format that have no labels: flows and others."""
-    arrays = [key for key, rule in schema()["properties"].items() if "$ref" in rule.get("items", {})]
-    return [key for key in arrays if key not in ("unit", "group")]
+    return [key for key in arrays() if key not in ("unit", "group")]
 
 
 def one_sided(what: str, old: Part | None, new: Part | None) -> Iterator[Change]:

@@ -11,9 +11,6 @@ Value = str | int | bool | dict[str, "Value"] | list["Value"] | None
 
 SCHEMA = os.path.join(TOOLS, "plan.schema.json")
 
-# The versions of the format.
-VERSIONS = range(1, 5)
-
 
 @functools.cache
 def schema() -> dict:
@@ -27,6 +24,28 @@ def keys_of(table: str) -> dict[str, Value]:
     """The keys that a table may have, in the order of the format, each with its default; None of one that has none."""
     rules = schema()["definitions"][table]["properties"] if table else schema()["properties"]
     return {key: rule.get("default") for key, rule in rules.items()}
+
+
+def default_of(table: str, key: str) -> int:
+    """The number that a key is where it isn't said."""
+    default = keys_of(table)[key]
+    assert isinstance(default, int)
+    return default
+
+
+def most_of(table: str, key: str) -> int:
+    """The greatest number that a key may be, or how many tables or names it may have."""
+    rule = (schema()["definitions"][table] if table else schema())["properties"][key]
+    return next(rule[word] for word in ("maximum", "maxItems", "maxProperties") if word in rule)
+
+
+def arrays() -> list[str]:
+    """The arrays of tables of the top, in the order of the format."""
+    return [key for key, rule in schema()["properties"].items() if "$ref" in rule.get("items", {})]
+
+
+# The versions of the format.
+VERSIONS = range(1, most_of("", "version") + 1)
 
 
 @functools.cache

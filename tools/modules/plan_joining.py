@@ -6,18 +6,15 @@ from collections.abc import Iterable, Iterator
 from typing import NamedTuple
 
 from . import plan_scales
-from .j1939 import PROPRIETARY
+from .j1939 import FRAME_BYTES, PROPRIETARY
 from .left_out import plain
-from .plan_format import Value, keys_of, schema
+from .plan_format import Value, arrays, keys_of
 from .plan_parts import Part, Source, spelled
 from .plan_text import Labels
 
 # Keys that say something more where they stand: one plan may have them where another one is silent. Without any other key a
 # plan says something too: its default, or that there is one length alone.
 OPEN = frozenset(("period", "deadline", "pause", "within", "spn", "values"))
-
-# The most bytes of a message that goes in one frame.
-FRAME = 8
 
 # The keys by which tables of these arrays are told apart, each with the array that its label is of.
 TOLD_BY = {"group": "group", "from": "unit", "to": "unit", "unit": "unit", "signal": ""}
@@ -83,7 +80,7 @@ class Join:
         self.contradictions: list[Told] = []
         self.notes: list[Told] = []
         self.top = Merged(sources[0].top)
-        self.arrays: dict[str, list[Merged]] = {array: [] for array in self._arrays()}
+        self.arrays: dict[str, list[Merged]] = {array: [] for array in arrays()}
         self._labels = {array: Labels() for array in ("unit", "group")}
         self._called: dict[tuple[Source, str, str], str] = {}  # of a file, an array and a label there: the label here
         self._told: dict[tuple, Merged] = {}  # flows and the like by what tells them apart
@@ -98,11 +95,6 @@ class Join:
                     for part in source[array]:
                         self._other(array, part)
         self._opposite_ways()
-
-    @staticmethod
-    def _arrays() -> list[str]:
-        """The arrays of tables of the format, in its order."""
-        return [key for key, rule in schema()["properties"].items() if "$ref" in rule.get("items", {})]
 
     def _note(self, part: Part, text: str, key: str = "") -> None:
         self.notes.append(Told(part.at(key), text))
@@ -306,7 +298,7 @@ class Join:
 
 def names_no_receiver(group: Part) -> bool:
     """Whether messages of a group may go in a frame whose identifier names no receiver."""
-    return group.number("pgn") >> 8 & 255 >= 240 and group.number("length") <= FRAME
+    return group.number("pgn") >> 8 & 255 >= 240 and group.number("length") <= FRAME_BYTES
 
 
 def may_choose(unit: Part) -> bool:

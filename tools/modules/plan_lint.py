@@ -5,7 +5,8 @@ from __future__ import annotations
 from collections.abc import Iterator
 
 from . import need_hints, request_hints
-from .j1939 import POOL
+from .j1939 import FRAME_BYTES, PACKET_BYTES, POOL
+from .plan_tables import PACE
 from .toml_places import Place, Places
 
 # The line of a place, and a hint.
@@ -14,8 +15,8 @@ Hint = tuple[int, str]
 # The priorities above that of control, which is 3 by default; that of information is 6 (SAE J1939-21).
 HIGH_PRIORITY = range(3)
 
-# How many bytes a frame has, how many a packet of a longer message carries, and how far apart packets to all are, in ms, where no key says it.
-FRAME_BYTES, CHUNK, GAP = 8, 7, 50
+# How far apart packets to all are, in ms, where no key says it.
+GAP = PACE["broadcast_gap"]
 
 
 class Lint:
@@ -117,7 +118,7 @@ class Lint:
         for flow in self.flows if ("timing",) in self.places.lines else ():
             group, period = groups[self.places.texts[flow + ("group",)]], self.places.number(flow + ("period",))
             most = self.places.number(group + ("most",)) or self.places.integer(group + ("length",))
-            packets = -(-most // CHUNK)
+            packets = -(-most // PACKET_BYTES)
             if self.places.texts[flow + ("to",)] == "all" and most > FRAME_BYTES and period and packets * gap > period:
                 text = f"{packets} packets {gap} ms apart take {packets * gap} ms, more than its period of {period} ms"
                 yield self.at(flow + ("period",), f"{self.named(flow)}: {text}")

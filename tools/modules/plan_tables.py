@@ -5,7 +5,13 @@ from dataclasses import dataclass, field
 from fractions import Fraction
 
 from .j1939 import NAME_FIELDS
+from .plan_format import default_of
 from .toml_places import Place, Places
+
+# What numbers are where they aren't said.
+WINDOW = default_of("unit", "window")
+BIT, STEP, PER = (default_of("signal", key) for key in ("bit", "step", "per"))
+PACE = {key: default_of("timing", key) for key in ("unplanned_priority", "transport_priority", "broadcast_gap", "broadcast_gap_most")}
 
 
 @dataclass(frozen=True)
@@ -235,7 +241,7 @@ class Tables:
         fields["arbitrary"] = int(self._places.spelled.get(name + ("arbitrary",)) == "true")
         return Unit(
             self._text(place, "label"), self._number(place, "address"), self._text(place, "chooser", "lowest"),
-            self._number(place, "window", 255), fields, self._places.spelled.get(place + ("claims",)) != "false",
+            self._number(place, "window", WINDOW), fields, self._places.spelled.get(place + ("claims",)) != "false",
         )
 
     def _group(self, place: Place) -> Group:
@@ -263,18 +269,18 @@ class Tables:
         return Need(unit, group, signal, sender, self._places.number(place + ("within",)))
 
     def _timing(self, place: Place) -> Timing:
-        keys = (("unplanned", 0), ("unplanned_priority", 6), ("transport_priority", 7), ("broadcast_gap", 50), ("broadcast_gap_most", 200))
         errors = place + ("errors",)
         damaged = Errors(self._number(errors, "count"), self._number(errors, "every")) if errors in self._places.lines else None
-        return Timing(*(self._number(place, key, default) for key, default in keys), damaged)
+        pace = {key: self._number(place, key, default) for key, default in PACE.items()}
+        return Timing(unplanned=self._number(place, "unplanned"), errors=damaged, **pace)
 
     def _text_of(self, place: Place) -> Text:
         return Text(self._text(place, "label"), self._number(place, "byte"), self._places.number(place + ("bytes",)))
 
     def _signal(self, place: Place) -> Signal:
         return Signal(
-            self._text(place, "label"), self._number(place, "byte"), self._number(place, "bit", 1), self._number(place, "bits"),
-            self._text(place, "kind"), self._number(place, "step", 1), self._number(place, "per", 1), self._number(place, "offset"),
+            self._text(place, "label"), self._number(place, "byte"), self._number(place, "bit", BIT), self._number(place, "bits"),
+            self._text(place, "kind"), self._number(place, "step", STEP), self._number(place, "per", PER), self._number(place, "offset"),
             self._text(place, "unit"), self._places.spelled.get(place + ("repeated",)) == "true",
             self._places.number(place + ("spn",)), self._values.get(place, {}),
         )

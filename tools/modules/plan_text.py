@@ -12,9 +12,6 @@ from .left_out import plain
 # one says who needs what.
 WRITTEN = plan_format.VERSIONS[1:]
 
-# What a key is where it isn't there (docs/PLAN.md), so that it needn't be written.
-DEFAULTS: dict[str, Any] = {"bit": 1, "step": 1, "per": 1, "offset": 0, "unit": "", "private": False, "repeated": False, "values": {}}
-
 
 @dataclass
 class Table:
@@ -60,12 +57,13 @@ def spelled(value: Any) -> str:
 
 
 def lines_of(table: Table) -> Iterator[str]:
-    """The lines of a table and of the tables in it."""
+    """The lines of a table and of the tables in it. A key that is as it is where it isn't said, or a table without any, needn't be written."""
     yield ""
     yield f"[[{table.header}]]"
     comment = f"  # {'; '.join(table.remarks)}" if table.remarks else ""
+    defaults = plan_format.keys_of(table.header.rpartition(".")[2])
     for key, value in table.keys.items():
-        if value != DEFAULTS.get(key):
+        if value not in (defaults.get(key), {}):
             yield f"{key} = {spelled(value)}{comment}"
             comment = ""
     for part in table.inside:

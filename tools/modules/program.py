@@ -119,6 +119,11 @@ def parser(description: str, own_version: bool = False) -> argparse.ArgumentPars
     return words
 
 
+def plan_word(words: argparse.ArgumentParser) -> None:
+    """The word of a plan, of a tool that takes one."""
+    words.add_argument("plan", metavar="PLAN", help="the name of a plan file")
+
+
 def note_options(words: argparse.ArgumentParser) -> None:
     """The options on notes of a tool that makes them."""
     words.add_argument("--notes", metavar="FILE", help="write the notes into a file too, as JSON objects, each on a line")

@@ -2,14 +2,17 @@
 
 from __future__ import annotations
 
+from . import plan_tables
 from .toml_places import Place, Places
+
+# The keys of a flow and of a request by which they belong together.
+ENDS = ("group", "from", "to")
 
 
 def serves(places: Places, flow: Place, request: Place) -> bool:
     """Whether a flow answers a request."""
-    group, sender, receiver = (places.texts[flow + (key,)] for key in ("group", "from", "to"))
-    wanted, asking, asked = (places.texts[request + (key,)] for key in ("group", "from", "to"))
-    return group == wanted and sender != asking and asked in ("all", sender) and receiver in ("all", asking)
+    group, sender, to = (places.texts[flow + (key,)] for key in ENDS)
+    return plan_tables.serves(group, sender, to, plan_tables.Request(*(places.texts[request + (key,)] for key in ENDS)))
 
 
 def is_on_request(places: Places, flow: Place) -> bool:
