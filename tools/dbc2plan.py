@@ -120,8 +120,7 @@ def main(words: list[str] | None = None) -> int:
     """Writes the plan; 0, or 2 where none can be made, or 1 where there are notes and there were to be none."""
     given, notes = options(words), Notes()
     plan, text = made(given, notes)
-    sys.stdout.reconfigure(encoding="utf-8")
-    sys.stdout.write(text)
+    program.put(text)
     needs = f" {len(plan.needs)} needs" if plan.needs else ""
     print(f"{len(plan.units)} units {len(plan.groups)} groups {len(plan.flows)} flows{needs}, notes {notes.count}", file=sys.stderr)
     return program.noted(given, notes)

@@ -408,14 +408,10 @@ def main(words: list[str] | None = None) -> int:
     """Writes the DBC; 0, or the program's status where it can't read the plan, or 1 where there are notes and there were to be none."""
     given, notes = options(words), Notes()
     with program.copied(given.plan) as plan:
-        status, answer = program.call(["check", "--", plan])
-        if status not in (0, 1):
-            raise program.Refused(status, answer.strip())
+        program.checked(plan)
         with open(plan, encoding="utf-8") as file:
             dbc = Dbc(file.read(), notes)
-    text = dbc.text()
-    sys.stdout.reconfigure(encoding="utf-8")
-    sys.stdout.write(text)
+    program.put(dbc.text())
     print(f"{len(dbc.units)} nodes {len(dbc.messages)} messages, notes {notes.count}", file=sys.stderr)
     return program.noted(given, notes)
 

@@ -19,9 +19,7 @@ from modules.plan_tables import Tables
 
 def page_of(plan: str, title: str) -> str:
     """The page of a plan that can be read."""
-    status, answer = program.call(["check", "--", plan])
-    if status not in (0, 1):
-        raise program.Refused(status, answer.strip())
+    answer = program.checked(plan)
     with open(plan, "rb") as file:
         told = answer_places.Plan(file.read().decode(errors="replace"))
     _, addresses = program.call(["addresses", "--", plan])
@@ -30,16 +28,21 @@ def page_of(plan: str, title: str) -> str:
     return page(title, Tables(told.places), found, stands(addresses), load, program.call(["--version"])[1].strip())
 
 
+def title_of(name: str) -> str:
+    """The name of a plan's file as its page has it."""
+    return plain(os.fsencode(name).decode(errors="replace"))
+
+
 def page_of_file(name: str) -> str:
     """The page of a plan's file, which may be a pipe."""
     with program.copied(name) as plan:
-        return page_of(plan, plain(os.fsencode(name).decode(errors="replace")))
+        return page_of(plan, title_of(name))
 
 
 def drawn(name: str) -> str:
     """The page of a plan's file; of one that can't be read it is said with its line why."""
     with program.file_of(plan_parts.text_of(name)) as plan:
-        return page_of(plan, plain(os.fsencode(name).decode(errors="replace")))
+        return page_of(plan, title_of(name))
 
 
 def port_of(text: str) -> int:

@@ -24,18 +24,16 @@ def named(places: Places, need: Place) -> str:
 def unmet(places: Places, need: Place) -> tuple[str, str]:
     """The key of a need that no flow meets where that shows, and why none does."""
     unit, group, sender = (places.texts.get(need + (key,), "") for key in ("unit", "group", "from"))
-    flows = [flow for flow in places.elements(("flow",)) if places.texts[flow + ("group",)] == group]
-    senders = dict.fromkeys(places.texts[flow + ("from",)] for flow in flows)
-    if not flows:
+    senders = request_hints.sent_by(places, group)
+    if not senders:
         return "group", "no flow sends it"
     if list(senders) == [unit]:
         return "unit", f"only {unit} itself sends it"
     if sender == unit:
         return "from", "what a unit itself sends meets no need of it"
     if sender and sender not in senders:
-        return "from", f"{' and '.join(senders)} send{'s' * (len(senders) == 1)} it, and {sender} doesn't"
-    from_them = [flow for flow in flows if places.texts[flow + ("from",)] in ([sender] if sender else set(senders) - {unit})]
-    to = dict.fromkeys(places.texts[flow + ("to",)] for flow in from_them)
+        return "from", request_hints.others_send(senders, sender)
+    to = request_hints.receivers(places, senders, {sender} if sender else set(senders) - {unit})
     if "all" in to or unit in to:
         return "group", "it is sent only as an answer, and no request of the plan asks for it"
     return "unit", f"it goes to {' and '.join(to)} alone"

@@ -153,20 +153,17 @@ class Join:
         """Whether a table is of earlier files alone: what one file says twice is for `check` to find."""
         return all(origin.source is not part.source for origin in merged.origins)
 
-    def _call(self, array: str, part: Part, merged: Merged) -> None:
-        """Notes what a part is called in the joined plan."""
+    def _call(self, array: str, part: Part, merged: Merged, why: str = "") -> None:
+        """Notes what a part is called in the joined plan, and why, where that is another label: it is that of an earlier file."""
         self._called.setdefault((part.source, array, part.label), merged.label)
         if part.label != merged.label:
-            self._note(part, f"{name_of(part)} is called {merged.label}, as at {merged.first.at()}", "label")
+            self._note(part, f"{name_of(part)} is called {merged.label}, {why or f'as at {merged.first.at()}'}", "label")
             merged.remark("label", f"{part.label} in {part.source.name}")
 
     def _add(self, array: str, part: Part) -> Merged:
         """A table more, under a label that no other one has."""
         merged = Merged(part, self._labels[array].label(part.label))
-        self._called.setdefault((part.source, array, part.label), merged.label)
-        if merged.label != part.label:
-            self._note(part, f"{name_of(part)} is called {merged.label}, since another one has its label", "label")
-            merged.remark("label", f"{part.label} in {part.source.name}")
+        self._call(array, part, merged, "since another one has its label")
         self.arrays[array].append(merged)
         return merged
 

@@ -62,6 +62,14 @@ def call(words: Sequence[str]) -> tuple[int, str]:
     return ended.returncode, ended.stdout.decode()
 
 
+def checked(plan: str) -> str:
+    """What `check` answers of a plan's file, whatever it finds; one that can't be read is refused by it."""
+    status, answer = call(["check", "--", plan])
+    if status not in (0, 1):
+        raise Refused(status, answer.strip())
+    return answer
+
+
 def run(plan: str, steps: Iterable[str]) -> list[str]:
     """The lines that the program answers to a schedule of these steps, which the bus of a plan doesn't refuse."""
     with tempfile.NamedTemporaryFile("w", suffix=".schedule") as schedule:
@@ -128,6 +136,13 @@ def note_options(words: argparse.ArgumentParser) -> None:
     """The options on notes of a tool that makes them."""
     words.add_argument("--notes", metavar="FILE", help="write the notes into a file too, as JSON objects, each on a line")
     words.add_argument("--fail-on-notes", action="store_true", help="exit status 1 where there is a note; what is written stays")
+
+
+def put(text: str) -> None:
+    """Puts a file on standard output, as UTF-8 whatever the terminal has."""
+    if isinstance(sys.stdout, io.TextIOWrapper):
+        sys.stdout.reconfigure(encoding="utf-8")
+    sys.stdout.write(text)
 
 
 def noted(given: argparse.Namespace, notes: Notes) -> int:

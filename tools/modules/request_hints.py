@@ -2,6 +2,8 @@
 
 from __future__ import annotations
 
+from collections.abc import Iterable
+
 from . import plan_tables
 from .toml_places import Place, Places
 
@@ -31,21 +33,40 @@ def named(places: Places, request: Place) -> str:
     return f"{group} of {asked} for {asking}"
 
 
+def sent_by(places: Places, group: str) -> dict[str, list[Place]]:
+    """Who sends a group: of each sender, in the order of the plan, its flows."""
+    found: dict[str, list[Place]] = {}
+    for flow in places.elements(("flow",)):
+        if places.texts[flow + ("group",)] == group:
+            found.setdefault(places.texts[flow + ("from",)], []).append(flow)
+    return found
+
+
+def receivers(places: Places, senders: dict[str, list[Place]], some: set[str]) -> list[str]:
+    """To whom some of the senders send it, in the order of the plan."""
+    flows = sorted(flow for sender, flows in senders.items() if sender in some for flow in flows)
+    return list(dict.fromkeys(places.texts[flow + ("to",)] for flow in flows))
+
+
+def others_send(senders: Iterable[str], unit: str) -> str:
+    """That others send it, and a unit doesn't."""
+    names = list(senders)
+    return f"{' and '.join(names)} send{'s' * (len(names) == 1)} it, and {unit} doesn't"
+
+
 def unserved(places: Places, request: Place) -> tuple[str, str]:
     """The key of a request that no flow answers where that shows, and why none does."""
     group, asking, asked = (places.texts.get(request + (key,), "") for key in ("group", "from", "to"))
-    flows = [flow for flow in places.elements(("flow",)) if places.texts[flow + ("group",)] == group]
-    senders = dict.fromkeys(places.texts[flow + ("from",)] for flow in flows)
-    if not flows:
+    senders = sent_by(places, group)
+    if not senders:
         return "group", "no flow sends it"
     if asked == asking:
         return "to", "the unit that asks"
     if list(senders) == [asking]:
         return "from", f"only {asking} itself sends it"
     if asked != "all" and asked not in senders:
-        return "to", f"{' and '.join(senders)} send{'s' * (len(senders) == 1)} it, and {asked} doesn't"
-    from_them = [flow for flow in flows if places.texts[flow + ("from",)] in ([asked] if asked != "all" else set(senders) - {asking})]
-    to = dict.fromkeys(places.texts[flow + ("to",)] for flow in from_them)
+        return "to", others_send(senders, asked)
+    to = receivers(places, senders, {asked} if asked != "all" else set(senders) - {asking})
     return "from", f"it goes to {' and '.join(to)} alone"
 
 
