@@ -4,7 +4,7 @@ import unittest
 
 import startup
 from modules import program
-from tests.support import MARKED, NEWER, InFolder, example, examples, run
+from tests.support import MARKED, NEWER, InFolder, example, examples, run, text_of
 
 UNIT = '[[unit]]\nlabel = "U{0}"\naddress = 200\nchooser = "{1}"\nname = {{ identity = {0}, arbitrary = true }}\n'
 
@@ -116,7 +116,7 @@ class Startup(InFolder):
                 status, schedule, said = run("startup.py", plan, "--traffic")
                 self.assertEqual(status, 0, said)
                 flows = {line.split()[1] for line in schedule.splitlines() if line.split()[0] in ("begin", "send")}
-                count = sum(line == "[[flow]]" for line in open(plan, encoding="utf-8").read().splitlines())
+                count = sum(line == "[[flow]]" for line in text_of(plan).splitlines())
                 self.assertEqual(len(flows) + said.count("can't be sent"), count, plan)
 
     def test_plans_of_toml_1_1(self):
