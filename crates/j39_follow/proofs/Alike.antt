@@ -30,7 +30,7 @@ part_stays : (plan : Plan) (past : FollowedPast) (line part : List ℕ) (named :
 part_stays plan past line part named next text (inl frame) = ap (λ (p : FollowedPast). p.elsewhere) frame.4.next_is
 part_stays plan past line part named next text (inr fault) = ap (λ (p : FollowedPast). p.elsewhere) fault.2 ∙ same_elsewhere fault.0 past
 
-line_grows : (plan : Plan) (past : FollowedPast) (line : Line) (next : FollowedPast) (text : List ℕ) → FollowsLine plan past line next text
+pub line_grows : (plan : Plan) (past : FollowedPast) (line : Line) (next : FollowedPast) (text : List ℕ) → FollowsLine plan past line next text
     → past.elsewhere ≤ next.elsewhere
 line_grows plan past (Short line) next text follows = elim follows.4 [
   | inl away ↦ (let e = ap (λ (p : FollowedPast). p.elsewhere) away.1 in omega (arith, e))
@@ -38,7 +38,7 @@ line_grows plan past (Short line) next text follows = elim follows.4 [
 ]
 line_grows plan past Long next text follows = let e = ap (λ (p : FollowedPast). p.elsewhere) follows.0 in omega (arith, e)
 
-lines_grow : (plan : Plan) (past : FollowedPast) (log : List Line) (end : FollowedPast) (text : List ℕ) → FollowsLines plan past log end text
+pub lines_grow : (plan : Plan) (past : FollowedPast) (log : List Line) (end : FollowedPast) (text : List ℕ) → FollowsLines plan past log end text
     → past.elsewhere ≤ end.elsewhere
 lines_grow plan past [] end text follows = let e = ap (λ (p : FollowedPast). p.elsewhere) follows.0 in omega (arith, e)
 lines_grow plan past (line ∷ log) end text follows =
@@ -56,7 +56,7 @@ passed_alike BadIdent past read a = record { frames = a.frames; skipped = a.skip
 passed_alike TooLong past read a = record { frames = a.frames; skipped = a.skipped; bad = ap (λ (n : ℕ). n + 1) a.bad }
 passed_alike BadData past read a = record { frames = a.frames; skipped = a.skipped; bad = ap (λ (n : ℕ). n + 1) a.bad }
 
-whole_part : (line part : List ℕ) → IsUndirected (Short line) → IsReadPart line part → part ≡ line
+pub whole_part : (line part : List ℕ) → IsUndirected (Short line) → IsReadPart line part → part ≡ line
 whole_part line part undirected (inl ends) = absurd (undirected part ends)
 whole_part line part undirected (inr whole) = whole.1
 

@@ -3,6 +3,7 @@ pub mod Contested
 pub mod EndLines
 pub mod FirstWords
 pub mod FrameTexts
+pub mod GroupLines
 pub mod Heard
 pub mod HolderLaws
 pub mod Holding

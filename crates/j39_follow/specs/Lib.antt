@@ -3,6 +3,7 @@ pub mod Contests
 pub mod Fits
 pub mod FollowReports
 pub mod FollowText
+pub mod GroupLines
 pub mod Holders
 pub mod LogLines
 pub mod Who

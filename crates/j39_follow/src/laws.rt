@@ -1,6 +1,7 @@
 //! Laws of what frames tell of addresses, and of the text of a log.
 ghost use Rattle.j39_follow.specs.Alike.{FollowAndReadSeeAlike};
 ghost use Rattle.j39_follow.specs.FollowText.{LogHasOneFollowText};
+ghost use Rattle.j39_follow.specs.GroupLines.{GroupsAreToldAlike};
 ghost use Rattle.j39_follow.specs.Holders.{HasOneHolder, HoldsOneAddress};
 
 /// After any frames an address has one holder or none, and a NAME holds one address at most.
@@ -18,4 +19,10 @@ pub fn a_followed_log_has_one_text()
 /// and count as many lines as skipped and as bad.
 pub fn follow_and_read_see_alike()
     ensures { FollowAndReadSeeAlike }
+{}
+
+/// Of a plan without private groups, and a log in which no line ends in a direction and none is of another interface, the messages that
+/// `follow` tells of groups are told by `read` too, line after line, and all that `read` tells are where no address changes hands.
+pub fn groups_are_told_alike()
+    ensures { GroupsAreToldAlike }
 {}

@@ -28,7 +28,10 @@ mod tally;
 mod who;
 mod words;
 
-pub use laws::{a_followed_log_has_one_text, follow_and_read_see_alike, holders_are_one_to_one};
+pub use laws::{
+    a_followed_log_has_one_text, follow_and_read_see_alike, groups_are_told_alike,
+    holders_are_one_to_one,
+};
 pub use log_text::follow_text;
 pub use sending::{Aim, Sending, flow_of, group_of};
 pub use who::Who;

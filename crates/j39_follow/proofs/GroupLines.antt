@@ -1,0 +1,428 @@
+-- What `follow` and `read` write of the groups of one log, line after line.
+use Rattle.std.proofs.Common.{◌≡◌, ◌⊎◌, ◌+◌, ◌-◌, ◌<◌, ◌≤◌, ◌==◌, ◌&&◌, ℕ, zero, suc, Bool, true, false, not, List, [], ◌∷◌, ◌++◌, length}
+use Rattle.std.proofs.Common.{Option, Some, None, inl, inr, refl, sym, ap, subst, ◌∙◌, arith, append_assoc, eq-eqb, eqb-true, get_or}
+use Rattle.std.specs.List.{All, slice_get}
+use Rattle.std.proofs.lemmas.Bool.{cases_Bool, true≢false}
+use Rattle.std.proofs.lemmas.List.{append-nil, length-append, map-append}
+use Rattle.std.proofs.lemmas.List.Elements.{All-cons, All-head, All-nil, All-tail}
+use Rattle.std.proofs.lemmas.Option.{get_or_from_slice_get, slice_get-get_or, slice_get_within}
+use Rattle.j39_id.proofs.LineLaws.{not_both, one_spelled}
+use Rattle.j39_id.specs.FrameLine.{HasLineFault, Spells}
+use Rattle.j39_id.specs.Ident.{pgn_of}
+use Rattle.j39_id.specs.Lines.{Line, Short, Long, lines}
+use Rattle.j39_id.specs.declared.frame.Frame.{Frame}
+use Rattle.j39_id.specs.declared.line_error.LineError.{LineError}
+use Rattle.j39_id.specs.declared.line_error.LineError.TheVariants.{Empty, NoHash, ShortIdent, BadIdent, TooLong, BadData}
+use Rattle.j39_findings.specs.PrivateGroups.{HasNoPrivate}
+use Rattle.j39_findings.specs.declared.plan.Plan.{Plan}
+use Rattle.j39_findings.specs.declared.plan.group_plan.GroupPlan.{GroupPlan}
+use Rattle.j39_log.proofs.Indexes.{first_place, no_place}
+use Rattle.j39_log.proofs.OneText.{one_packet}
+use Rattle.j39_log.specs.LogFrames.{IsHeardAs, is_planned_as, planned, planned_group}
+use Rattle.j39_log.specs.LogPairs.{Seen, heard, heard_of}
+use Rattle.j39_log.specs.NamedReports.{named_report}
+use Rattle.j39_log.specs.ReadText.{IsFrameReport, IsGroupReport, Past, ReadsFrame, ReadsLine, ReadsLines, nothing_yet, passed_over}
+use Rattle.j39_tp.proofs.Tracking.{one_message, one_pgn}
+use Rattle.j39_tp.specs.Carried.{Carried}
+use Rattle.j39_tp.specs.declared.packet.Packet.{Packet}
+use Rattle.j39_follow.specs.Alike.{IsUndirected}
+use Rattle.j39_follow.specs.Contests.{Timed}
+use Rattle.j39_follow.specs.Fits.{IsPlannedAs, IsSentGroup, MayBeGroup, fitting_flow, may_have_bytes}
+use Rattle.j39_follow.specs.FollowReports.{IsGroupOfMessage, IsGrouped, IsMessageReport, Message, stamp}
+use Rattle.j39_follow.specs.FollowText.{FollowedPast, FollowsFrame, FollowsLine, FollowsLines, FollowsPart, HeardSince, IsFollowedAs, IsPacketReport, in_frame}
+use Rattle.j39_follow.specs.FollowText.{frames_seen, line_passed_over, lines_with, nothing_followed, one_line_more}
+use Rattle.j39_follow.specs.GroupLines.{AreToldAlike, GroupsAreToldAlike, IsNoticed, IsThinned, IsWhole, LineTexts, StayInHands, TellOneMessage, all_followed, all_read}
+use Rattle.j39_follow.specs.declared.message.Sort.{Sort}
+use Rattle.j39_follow.specs.declared.sending.Sending.{Sending}
+use Rattle.j39_follow.proofs.Alike.{line_grows, lines_grow, whole_part}
+
+-- ---- groups
+
+both_true : (a b : Bool) → (a && b) ≡ true → (a ≡ true) × (b ≡ true)
+both_true true b e = (refl, e)
+both_true false b e = absurd (true≢false (sym e))
+
+-- of a group that isn't private, to be planned so asks no more than its number and its lengths
+planned_so : (plan : Plan) (pgn bytes : ℕ) (sent : Sending) (place : ℕ) (group : GroupPlan) → group.private ≡ false
+    → IsPlannedAs plan pgn bytes sent place group → is_planned_as pgn bytes group ≡ true
+planned_so plan pgn bytes sent place group shared is =
+    ap (λ (b : Bool). (not b && group.pgn == pgn) && may_have_bytes group bytes) shared
+    ∙ ap (λ (b : Bool). b && may_have_bytes group bytes) (eq-eqb group.pgn pgn is.number) ∙ is.length
+
+may_be_planned : (plan : Plan) (pgn bytes : ℕ) (sent : Sending) (place : ℕ) (group : GroupPlan) → group.private ≡ false
+    → is_planned_as pgn bytes group ≡ true → IsPlannedAs plan pgn bytes sent place group
+may_be_planned plan pgn bytes sent place group shared is =
+    let parts = both_true (not group.private && group.pgn == pgn) (may_have_bytes group bytes) is in
+    let number = both_true (not group.private) (group.pgn == pgn) parts.0 in
+    record { number = eqb-true group.pgn pgn number.1; length = parts.1; own = inl shared }
+
+not_planned : (plan : Plan) → HasNoPrivate plan → (pgn bytes : ℕ) (sent : Sending) (k : ℕ) (d : GroupPlan) → k < length plan.groups.items
+    → ¬ MayBeGroup plan pgn bytes sent k → is_planned_as pgn bytes (get_or plan.groups.items k d) ≡ false
+not_planned plan shared pgn bytes sent k d inside none =
+    let group = get_or plan.groups.items k d in
+    elim (cases_Bool (is_planned_as pgn bytes group)) [
+      | inl found ↦ absurd (none (record {
+        value = group;
+        value_is = slice_get-get_or plan.groups.items k d inside;
+        meets = may_be_planned plan pgn bytes sent k group (shared k d inside) found;
+      }))
+      | inr other ↦ other
+    ]
+
+-- so the group that a message is told as is the one that is planned by its number and its length
+same_group : (plan : Plan) → HasNoPrivate plan → (pgn bytes : ℕ) (sent : Sending) (place : Option ℕ) → IsSentGroup plan pgn bytes sent place
+    → planned plan pgn bytes ≡ place
+same_group plan shared pgn bytes sent (Some place) is =
+    let groups = plan.groups.items in
+    let there = is.0 in
+    let group : GroupPlan = there.value in
+    let inside : place < length groups = slice_get_within groups place group there.value_is in
+    let here : get_or groups place group ≡ group = get_or_from_slice_get groups place group group there.value_is in
+    let own : group.private ≡ false = subst (λ (g : GroupPlan). g.private ≡ false) here (shared place group inside) in
+    first_place (is_planned_as pgn bytes) place groups group inside
+    (ap (is_planned_as pgn bytes) here ∙ planned_so plan pgn bytes sent place group own there.meets)
+    (λ k d below. not_planned plan shared pgn bytes sent k d (omega (arith, below, inside)) (is.1 k below))
+same_group plan shared pgn bytes sent None is =
+    no_place (is_planned_as pgn bytes) plan.groups.items (λ k d inside. not_planned plan shared pgn bytes sent k d inside (is k))
+
+-- ---- packets
+
+slice_get_back : (a h : List Packet) (j : ℕ) → length a ≤ j → slice_get (a ++ h) j ≡ slice_get h (j - length a)
+slice_get_back [] h j less =
+    let same : j ≡ j - 0 = omega arith in
+    ap (slice_get h) same
+slice_get_back (p ∷ a) h zero less = absurd (omega (arith, less))
+slice_get_back (p ∷ a) h (suc j) less =
+    let same : j - length a ≡ suc j - suc (length a) = omega arith in
+    slice_get_back a h j (omega (arith, less)) ∙ ap (slice_get h) same
+
+slice_get_moved : (a h : List Packet) (j : ℕ) → slice_get (a ++ h) (length a + j) ≡ slice_get h j
+slice_get_moved a h j =
+    let same : length a + j - length a ≡ j = omega arith in
+    slice_get_back a h (length a + j) (omega arith) ∙ ap (slice_get h) same
+
+-- a message is carried behind other packets too
+carried_behind : (a h : List Packet) (place pgn : ℕ) (message : List ℕ) → Carried h place pgn message → Carried (a ++ h) (length a + place) pgn message
+carried_behind a h place pgn message c = record {
+  kind = c.kind;
+  size = c.size;
+  announcement = c.announcement;
+  at = λ k. length a + c.at k;
+  chunk = c.chunk;
+  announced = slice_get_moved a h (c.at 0) ∙ c.announced;
+  announces = c.announces;
+  fits = c.fits;
+  carries = λ k less.
+      let next = c.carries k less in record {
+        later = let l = next.later in omega (arith, l);
+        stands = slice_get_moved a h (c.at (suc k)) ∙ next.stands;
+        first = λ j number chunk from to stands.
+            next.first (j - length a) number chunk (omega (arith, from, to)) (omega (arith, from, to))
+            (sym (slice_get_back a h j (omega (arith, from))) ∙ stands);
+      };
+  last = ap (λ (n : ℕ). length a + n) c.last;
+  undisturbed = λ j p from to stands.
+      c.undisturbed (j - length a) p (omega (arith, from, to)) (omega (arith, from, to))
+      (sym (slice_get_back a h j (omega (arith, from))) ∙ stands);
+  bytes = c.bytes;
+}
+
+heard_both : (s d : ℕ) (a b : List Seen) → heard s d (a ++ b) ≡ heard s d a ++ heard s d b
+unfolding heard
+heard_both s d [] b = refl
+heard_both s d (x ∷ a) b =
+    ap (λ (t : List Packet). heard_of s d x.frame.ident x.packet ++ t) (heard_both s d a b)
+    ∙ sym (append_assoc (heard_of s d x.frame.ident x.packet) (heard s d a) (heard s d b))
+
+-- what was carried since an address last changed hands is carried in all that was heard
+carried_in_all : (plan : Plan) (seen : List Seen) (s d : ℕ) (h : List Packet) (p : Packet) (pgn : ℕ) (message : List ℕ) → HeardSince plan seen s d h
+    → Carried (h ++ p ∷ []) (length h) pgn message → Carried (heard s d seen ++ p ∷ []) (length (heard s d seen)) pgn message
+carried_in_all plan seen s d h p pgn message since c =
+    let front = heard s d since.before in
+    let all : heard s d seen ≡ front ++ h =
+    ap (heard s d) since.row ∙ heard_both s d since.before since.since ∙ ap (λ (t : List Packet). front ++ t) (sym since.packets_are) in
+    let moved : Carried (front ++ (h ++ p ∷ [])) (length front + length h) pgn message = carried_behind front (h ++ p ∷ []) (length h) pgn message c in
+    let joined : Carried ((front ++ h) ++ p ∷ []) (length (front ++ h)) pgn message =
+    subst (λ (n : ℕ). Carried ((front ++ h) ++ p ∷ []) n pgn message) (sym (length-append front h))
+    (subst (λ (t : List Packet). Carried t (length front + length h) pgn message) (sym (append_assoc front h (p ∷ []))) moved) in
+    subst (λ (t : List Packet). Carried (t ++ p ∷ []) (length t) pgn message) (sym all) joined
+
+-- ---- hands
+
+frames_both : (a b : List Seen) → frames_seen (a ++ b) ≡ frames_seen a ++ frames_seen b
+frames_both a b = map-append (λ (s : Seen). s.frame) a b
+
+stay_front : (plan : Plan) (a b : List Frame) → StayInHands plan (a ++ b) → StayInHands plan a
+stay_front plan a b stay before f behind is =
+    stay before f (behind ++ b) (ap (λ (t : List Frame). t ++ b) is ∙ append_assoc before (f ∷ behind) b)
+
+-- where none changes hands, all that was heard counts
+all_since : (plan : Plan) (seen : List Seen) (s d : ℕ) (h : List Packet) → HeardSince plan seen s d h → StayInHands plan (frames_seen seen)
+    → h ≡ heard s d seen
+all_since plan seen s d h since stay = elim since.anew [
+  | inl all ↦
+      since.packets_are ∙ ap (λ (t : List Seen). heard s d (t ++ since.since)) (sym all) ∙ ap (heard s d) (sym since.row)
+  | inr parted ↦
+      let x : Seen = parted.1 in
+      let row : seen ≡ parted.0 ++ x ∷ since.since =
+      since.row ∙ ap (λ (t : List Seen). t ++ since.since) parted.2 ∙ append_assoc parted.0 (x ∷ []) since.since in
+      let frames = ap frames_seen row ∙ frames_both parted.0 (x ∷ since.since) in
+      absurd (elim parted.3 [
+        | inl source ↦ stay (frames_seen parted.0) x.frame (frames_seen since.since) frames s source
+        | inr destination ↦ stay (frames_seen parted.0) x.frame (frames_seen since.since) frames d destination
+      ])
+]
+
+-- ---- a frame
+
+some_same : {A : Type 0} (x y : A) → Some x ≡ Some y → x ≡ y
+some_same x y e = cc
+
+none_some : {A : Type 0} (x : A) → None ≡ Some x → ⊥
+none_some x e = cc
+
+planned_there : (plan : Plan) → HasNoPrivate plan → (log : List Timed) (f : Frame) (group : Option ℕ) → IsGroupOfMessage plan log (in_frame f) group
+    → planned_group plan f ≡ group
+planned_there plan shared log f group is = same_group plan shared (pgn_of f.ident) (length f.payload.items) is.0 group is.2
+
+same_packet : (plan : Plan) → HasNoPrivate plan → (log : List Timed) (f : Frame) (p q : Option Packet) → IsFollowedAs plan log f p
+    → IsHeardAs plan f q → p ≡ q
+same_packet plan shared log f (Some p) (Some q) a b = ap Some (one_packet f p q a.1 b.1)
+same_packet plan shared log f (Some p) None a (inl b) = absurd (b (planned_there plan shared log f None a.0))
+same_packet plan shared log f (Some p) None a (inr b) = absurd (b p a.1)
+same_packet plan shared log f None (Some q) (inl a) b = absurd (a q b.1)
+same_packet plan shared log f None (Some q) (inr a) b =
+    absurd (none_some a.0 (sym b.0 ∙ planned_there plan shared log f (Some a.0) a.1))
+same_packet plan shared log f None None a b = refl
+
+-- what both write of one message
+abbrev OneOrNone : Plan → List ℕ → List ℕ → Type 0
+OneOrNone plan t u = ((t ≡ []) × (u ≡ [])) ⊎ TellOneMessage plan t u
+
+grouped_alike : (plan : Plan) (log : List Timed) (front : List ℕ) (m : Message) (sent : Sending) (group : Option ℕ) (sort : Sort) (t u : List ℕ)
+    → IsGrouped plan log front m sent group sort t → IsGroupReport plan group m.ident m.bytes u → OneOrNone plan t u
+grouped_alike plan log front m sent None sort t u a b = inl (a.1, b)
+grouped_alike plan log front m sent (Some g) sort t u a b =
+    let there = a.3 in
+    let same : b.value ≡ there.value = some_same b.value there.value (sym b.value_is ∙ there.value_is) in
+    inr (record {
+      place = g;
+      group = there.value;
+      front = front;
+      way = a.1;
+      flow = fitting_flow plan g sent;
+      message = m;
+      group_is = there.value_is;
+      followed_is = there.meets;
+      read_is = b.meets ∙ ap (λ (group : GroupPlan). named_report plan group m.ident m.bytes) same;
+    })
+
+message_alike : (plan : Plan) → HasNoPrivate plan → (log : List Timed) (front : List ℕ) (m : Message) (sort : Sort) (t u : List ℕ)
+    → IsMessageReport plan log front m sort t → IsGroupReport plan (planned plan m.pgn (length m.bytes)) m.ident m.bytes u → OneOrNone plan t u
+message_alike plan shared log front m sort t u a b =
+    let same = same_group plan shared m.pgn (length m.bytes) a.0 a.1 a.3 in
+    grouped_alike plan log front m a.0 a.1 sort t u a.4 (subst (λ (g : Option ℕ). IsGroupReport plan g m.ident m.bytes u) same b)
+
+-- what `follow` writes of a group at a frame is nothing, or of the message that `read` tells; and where no address changed hands before,
+-- both tell it
+pub record BodyAlike (plan : Plan) (before : List Seen) (t u : List ℕ) : Type 0 where
+  pub thinned : (t ≡ []) ⊎ TellOneMessage plan t u
+  pub whole : StayInHands plan (frames_seen before) → OneOrNone plan t u
+
+one_or_none : (plan : Plan) (before : List Seen) (t u : List ℕ) → OneOrNone plan t u → BodyAlike plan before t u
+one_or_none plan before t u (inl none) = record { thinned = inl none.0; whole = λ _. inl none }
+one_or_none plan before t u (inr one) = record { thinned = inr one; whole = λ _. inr one }
+
+carried_alike : (plan : Plan) → HasNoPrivate plan → (before : List Seen) (log : List Timed) (front : List ℕ) (f : Frame) (p : Packet) (sorts : List Sort)
+    (t u : List ℕ) → IsPacketReport plan before log front f (Some p) sorts t → IsFrameReport plan before f (Some p) u → BodyAlike plan before t u
+carried_alike plan shared before log front f p sorts t u (h, since, inl (pgn, bytes, sort, carried, report, is)) b =
+    let s = f.ident.sa in
+    let d = f.ident.ps in
+    let all = heard s d before in
+    let there : Carried (all ++ p ∷ []) (length all) pgn bytes = carried_in_all plan before s d h p pgn bytes since carried in
+    elim b [
+      | inl (other, words, also, text) ↦
+          let number : other ≡ pgn = one_pgn (all ++ p ∷ []) (length all) other pgn words bytes also there in
+          let same : words ≡ bytes = one_message (all ++ p ∷ []) (length all) other pgn words bytes also there in
+          let at_number : IsGroupReport plan (planned plan pgn (length words)) f.ident words u =
+          subst (λ (n : ℕ). IsGroupReport plan (planned plan n (length words)) f.ident words u) number text in
+          let at_bytes : IsGroupReport plan (planned plan pgn (length bytes)) f.ident bytes u =
+          subst (λ (w : List ℕ). IsGroupReport plan (planned plan pgn (length w)) f.ident w u) same at_number in
+          one_or_none plan before t u
+          (message_alike plan shared log front (record { pgn = pgn; bytes = bytes; ident = f.ident; framed = None }) sort t u report at_bytes)
+      | inr (none, empty) ↦ absurd (none pgn bytes there)
+    ]
+carried_alike plan shared before log front f p sorts t u (h, since, inr (none, is, empty)) b = record {
+  thinned = inl empty;
+  whole = λ stay.
+      let same : h ≡ heard f.ident.sa f.ident.ps before = all_since plan before f.ident.sa f.ident.ps h since stay in
+      elim b [
+        | inl (other, words, also, text) ↦
+            absurd (none other words (subst (λ (x : List Packet). Carried (x ++ p ∷ []) (length x) other words) (sym same) also))
+        | inr (nothing, blank) ↦ inl (empty, blank)
+      ];
+}
+
+no_report : (plan : Plan) → HasNoPrivate plan → (log : List Timed) (front : List ℕ) (f : Frame) (sort : Sort) (t : List ℕ)
+    → IsGroupOfMessage plan log (in_frame f) None → IsMessageReport plan log front (in_frame f) sort t → t ≡ []
+no_report plan shared log front f sort t none (sent, Some g, sending, is, report) =
+    absurd (none_some g (sym (planned_there plan shared log f None none) ∙ planned_there plan shared log f (Some g) (sent, sending, is)))
+no_report plan shared log front f sort t none (sent, None, sending, is, report) = report.1
+
+body_alike : (plan : Plan) → HasNoPrivate plan → (before : List Seen) (log : List Timed) (front : List ℕ) (f : Frame) (p : Option Packet) (sort : Sort)
+    (sorts : List Sort) (report carried u : List ℕ) → IsFollowedAs plan log f p → IsMessageReport plan log front (in_frame f) sort report
+    → IsPacketReport plan before log front f p sorts carried → IsFrameReport plan before f p u → BodyAlike plan before (report ++ carried) u
+body_alike plan shared before log front f None sort sorts report carried u heard_as is also b =
+    let text : report ++ carried ≡ report = ap (λ (t : List ℕ). report ++ t) also.1 ∙ append-nil report in
+    subst (λ (t : List ℕ). BodyAlike plan before t u) (sym text)
+    (one_or_none plan before report u (message_alike plan shared log front (in_frame f) sort report u is b))
+body_alike plan shared before log front f (Some p) sort sorts report carried u heard_as is also b =
+    let text : report ++ carried ≡ carried = ap (λ (t : List ℕ). t ++ carried) (no_report plan shared log front f sort report heard_as.0 is) in
+    subst (λ (t : List ℕ). BodyAlike plan before t u) (sym text) (carried_alike plan shared before log front f p sorts carried u also b)
+
+-- ---- a line
+
+-- the texts of one line, and what came before the next one is the same for both
+pub record LineAlike (plan : Plan) (before : List Seen) (t u : List ℕ) (followed read : List Seen) : Type 0 where
+  pub row : LineTexts
+  pub text_is : t ≡ row.notice ++ row.followed
+  pub read_is : u ≡ row.read
+  pub noticed : IsNoticed plan row
+  pub thinned : IsThinned plan row
+  pub whole : StayInHands plan (frames_seen before) → IsWhole plan row
+  pub seen : followed ≡ read
+  pub grown : (more : List Seen) × (followed ≡ before ++ more)
+
+abbrev blank_row : LineTexts
+blank_row = record { notice = []; followed = []; read = [] }
+
+nothing_alike : (plan : Plan) (before : List Seen) (t u : List ℕ) (followed read : List Seen) → t ≡ [] → u ≡ [] → followed ≡ before → followed ≡ read
+    → LineAlike plan before t u followed read
+nothing_alike plan before t u followed read empty blank same seen = record {
+  row = blank_row;
+  text_is = empty;
+  read_is = blank;
+  noticed = inl refl;
+  thinned = inl refl;
+  whole = λ _. inl (refl, refl);
+  seen = seen;
+  grown = ([], same ∙ sym (append-nil before));
+}
+
+frame_alike : (plan : Plan) → HasNoPrivate plan → (past : FollowedPast) (read : Past) (time : List ℕ) (named : Option (List ℕ)) (f : Frame)
+    (next : FollowedPast) (other : Past) (t u : List ℕ) → past.seen ≡ read.seen → FollowsFrame plan past time named f next t
+    → ReadsFrame plan read f other u → LineAlike plan past.seen t u next.seen other.seen
+frame_alike plan shared past read time named f next other t u seen a b =
+    let packet : a.packet ≡ b.0 = same_packet plan shared (lines_with past f time) f a.packet b.0 a.heard_as b.1 in
+    let at_packet : IsFrameReport plan read.seen f a.packet u = subst (λ (p : Option Packet). IsFrameReport plan read.seen f p u) (sym packet) b.2 in
+    let at_seen : IsFrameReport plan past.seen f a.packet u = subst (λ (s : List Seen). IsFrameReport plan s f a.packet u) (sym seen) at_packet in
+    let body = body_alike plan shared past.seen (lines_with past f time) (stamp past.number time) f a.packet a.sort a.sorts a.report a.carried u
+    a.heard_as a.report_is a.carried_is at_seen in
+    let step : next.seen ≡ past.seen ++ record { frame = f; packet = a.packet } ∷ [] = ap (λ (p : FollowedPast). p.seen) a.next_is in
+    record {
+      row = record { notice = a.notice; followed = a.report ++ a.carried; read = u };
+      text_is = a.text_is;
+      read_is = refl;
+      noticed = inr (lines_with past f time, stamp past.number time, f, a.notice_is);
+      thinned = body.thinned;
+      whole = body.whole;
+      seen =
+          step ∙ ap (λ (s : List Seen). s ++ record { frame = f; packet = a.packet } ∷ []) seen
+          ∙ ap (λ (p : Option Packet). read.seen ++ record { frame = f; packet = p } ∷ []) packet ∙ sym (ap (λ (p : Past). p.seen) b.3);
+      grown = (record { frame = f; packet = a.packet } ∷ [], step);
+    }
+
+passed_seen : (e : LineError) (past : FollowedPast) → (line_passed_over e past).seen ≡ past.seen
+passed_seen Empty past = refl
+passed_seen NoHash past = refl
+passed_seen ShortIdent past = refl
+passed_seen BadIdent past = refl
+passed_seen TooLong past = refl
+passed_seen BadData past = refl
+
+over_seen : (e : LineError) (past : Past) → (passed_over e past).seen ≡ past.seen
+over_seen Empty past = refl
+over_seen NoHash past = refl
+over_seen ShortIdent past = refl
+over_seen BadIdent past = refl
+over_seen TooLong past = refl
+over_seen BadData past = refl
+
+part_alike : (plan : Plan) → HasNoPrivate plan → (past : FollowedPast) (read : Past) (line part : List ℕ) (named : Option (List ℕ)) (next : FollowedPast)
+    (other : Past) (t u : List ℕ) → part ≡ line → past.seen ≡ read.seen → FollowsPart plan past line part named next t
+    → ReadsLine plan read (Short line) other u → LineAlike plan past.seen t u next.seen other.seen
+part_alike plan shared past read line part named next other t u whole seen (inl f) (inl g) =
+    let same : f.0 ≡ g.0 = one_spelled line f.0 g.0 (subst (λ (p : List ℕ). Spells p f.0) whole f.2) g.1 in
+    frame_alike plan shared past read f.1 named g.0 next other t u seen
+    (subst (λ (x : Frame). FollowsFrame plan past f.1 named x next t) same f.4) g.2
+part_alike plan shared past read line part named next other t u whole seen (inl f) (inr g) =
+    absurd (not_both line f.0 g.0 (subst (λ (p : List ℕ). Spells p f.0) whole f.2) g.1)
+part_alike plan shared past read line part named next other t u whole seen (inr f) (inl g) =
+    absurd (not_both line g.0 f.0 g.1 (subst (λ (p : List ℕ). HasLineFault p f.0) whole f.1))
+part_alike plan shared past read line part named next other t u whole seen (inr f) (inr g) =
+    let here : next.seen ≡ past.seen = ap (λ (p : FollowedPast). p.seen) f.2 ∙ passed_seen f.0 past in
+    let there : other.seen ≡ read.seen = ap (λ (p : Past). p.seen) g.2 ∙ over_seen g.0 read in
+    nothing_alike plan past.seen t u next.seen other.seen f.3 g.3 here (here ∙ seen ∙ sym there)
+
+line_alike : (plan : Plan) → HasNoPrivate plan → (past : FollowedPast) (read : Past) (line : Line) (next : FollowedPast) (other : Past) (t u : List ℕ)
+    → past.seen ≡ read.seen → IsUndirected line → FollowsLine plan past line next t → next.elsewhere ≡ past.elsewhere
+    → ReadsLine plan read line other u → LineAlike plan past.seen t u next.seen other.seen
+line_alike plan shared past read (Short line) next other t u seen undirected follows stays reads = elim follows.4 [
+  | inl away ↦ (let e = ap (λ (p : FollowedPast). p.elsewhere) away.1 in absurd (omega (arith, e, stays)))
+  | inr here ↦
+      part_alike plan shared (one_line_more past) read line follows.0 follows.1 next other t u (whole_part line follows.0 undirected follows.2)
+      seen here.1 reads
+]
+line_alike plan shared past read Long next other t u seen undirected follows stays reads =
+    let here : next.seen ≡ past.seen = ap (λ (p : FollowedPast). p.seen) follows.0 in
+    let there : other.seen ≡ read.seen = ap (λ (p : Past). p.seen) reads.0 in
+    nothing_alike plan past.seen t u next.seen other.seen follows.1 reads.1 here (here ∙ seen ∙ sym there)
+
+-- ---- all lines
+
+lines_alike : (plan : Plan) → HasNoPrivate plan → (log : List Line) (past : FollowedPast) (read : Past) (end : FollowedPast) (other : Past) (t u : List ℕ)
+    → past.seen ≡ read.seen → All IsUndirected log → FollowsLines plan past log end t → end.elsewhere ≡ past.elsewhere
+    → ReadsLines plan read log other u → AreToldAlike plan (frames_seen end.seen) t u × ((more : List Seen) × (end.seen ≡ past.seen ++ more))
+unfolding all_followed all_read
+lines_alike plan shared [] past read end other t u seen undirected follows stays reads = (
+  record {
+    rows = [];
+    reports_are = follows.1;
+    texts_are = reads.1;
+    noticed = All-nil (IsNoticed plan);
+    thinned = All-nil (IsThinned plan);
+    whole = λ _. All-nil (IsWhole plan);
+  },
+  ([], ap (λ (p : FollowedPast). p.seen) follows.0 ∙ sym (append-nil past.seen)),
+)
+lines_alike plan shared (line ∷ log) past read end other t u seen undirected follows stays reads =
+    let first = line_grows plan past line follows.0 follows.1 follows.3 in
+    let rest = lines_grow plan follows.0 log end follows.2 follows.4 in
+    let here : follows.0.elsewhere ≡ past.elsewhere = omega (arith, first, rest, stays) in
+    let behind : end.elsewhere ≡ follows.0.elsewhere = omega (arith, first, rest, stays) in
+    let now = line_alike plan shared past read line follows.0 reads.0 follows.1 reads.1 seen (All-head IsUndirected line log undirected) follows.3 here
+    reads.3 in
+    let later = lines_alike plan shared log follows.0 reads.0 end other follows.2 reads.2 now.seen (All-tail IsUndirected line log undirected) follows.4
+    behind reads.4 in
+    let told = later.0 in
+    let more = now.grown.0 ++ later.1.0 in
+    let grown : end.seen ≡ past.seen ++ more =
+    later.1.1 ∙ ap (λ (s : List Seen). s ++ later.1.0) now.grown.1 ∙ append_assoc past.seen now.grown.0 later.1.0 in (
+      record {
+        rows = now.row ∷ told.rows;
+        reports_are = follows.5 ∙ ap (λ (x : List ℕ). x ++ follows.2) now.text_is ∙ ap (λ (x : List ℕ). (now.row.notice ++ now.row.followed) ++ x) told.reports_are;
+        texts_are = reads.5 ∙ ap (λ (x : List ℕ). x ++ reads.2) now.read_is ∙ ap (λ (x : List ℕ). now.row.read ++ x) told.texts_are;
+        noticed = All-cons (IsNoticed plan) now.row told.rows now.noticed told.noticed;
+        thinned = All-cons (IsThinned plan) now.row told.rows now.thinned told.thinned;
+        whole = λ stay.
+            let before : StayInHands plan (frames_seen past.seen) =
+            stay_front plan (frames_seen past.seen) (frames_seen more)
+            (subst (StayInHands plan) (ap frames_seen grown ∙ frames_both past.seen more) stay) in
+            All-cons (IsWhole plan) now.row told.rows (now.whole before) (told.whole stay);
+      },
+      (more, grown),
+    )
+
+pub told_alike : GroupsAreToldAlike
+told_alike plan log followed read reports texts shared undirected follows none reads =
+    (lines_alike plan shared (lines log) nothing_followed nothing_yet followed read reports texts refl undirected follows none reads).0

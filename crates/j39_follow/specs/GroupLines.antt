@@ -1,0 +1,76 @@
+-- What `follow` and `read` write of the groups of one log.
+use Rattle.std.specs.Prelude.{◌≡◌, ◌⊎◌, ℕ, List, [], ◌∷◌, ◌++◌, Option, Some}
+use Rattle.std.specs.List.{All, slice_get}
+use Rattle.j39_id.specs.Lines.{lines}
+use Rattle.j39_id.specs.declared.frame.Frame.{Frame}
+use Rattle.j39_findings.specs.PrivateGroups.{HasNoPrivate}
+use Rattle.j39_findings.specs.declared.plan.Plan.{Plan}
+use Rattle.j39_findings.specs.declared.plan.group_plan.GroupPlan.{GroupPlan}
+use Rattle.j39_log.specs.NamedReports.{named_reading_lines, named_report}
+use Rattle.j39_log.specs.ReadText.{Past, ReadsLines, nothing_yet}
+use Rattle.j39_follow.specs.Alike.{IsUndirected}
+use Rattle.j39_follow.specs.Contests.{Timed}
+use Rattle.j39_follow.specs.FollowReports.{IsNotice, Message, message_line}
+use Rattle.j39_follow.specs.FollowText.{FollowedPast, FollowsLines, frames_seen, nothing_followed}
+use Rattle.j39_follow.specs.Who.{ChangesHands}
+
+-- one message of one group of the plan: `follow` tells it by who sent it to whom and by which flow, `read` by its addresses
+pub record TellOneMessage (plan : Plan) (followed read : List ℕ) : Type 0 where
+  pub place : ℕ
+  pub group : GroupPlan
+  pub front : List ℕ
+  pub way : List ℕ
+  pub flow : Option ℕ
+  pub message : Message
+  pub group_is : slice_get plan.groups.items place ≡ Some group
+  pub followed_is : followed ≡ message_line group front way flow message ++ named_reading_lines plan group message.bytes
+  pub read_is : read ≡ named_report plan group message.ident message.bytes
+
+-- what is written at one line: by `follow` what the frame tells of addresses and requests, and then of a group; by `read` of a group
+pub record LineTexts : Type 0 where
+  pub notice : List ℕ
+  pub followed : List ℕ
+  pub read : List ℕ
+
+unfoldable pub all_followed : List LineTexts → List ℕ
+all_followed [] = []
+all_followed (line ∷ rest) = (line.notice ++ line.followed) ++ all_followed rest
+
+unfoldable pub all_read : List LineTexts → List ℕ
+all_read [] = []
+all_read (line ∷ rest) = line.read ++ all_read rest
+
+-- a notice is what some frame tells
+abbrev pub IsNoticed : Plan → LineTexts → Type 0
+IsNoticed plan line = (line.notice ≡ []) ⊎ ((log : List Timed) × (front : List ℕ) × (f : Frame) × IsNotice plan log front f line.notice)
+
+-- `follow` writes of no group, or of the message that `read` writes of
+abbrev pub IsThinned : Plan → LineTexts → Type 0
+IsThinned plan line = (line.followed ≡ []) ⊎ TellOneMessage plan line.followed line.read
+
+-- both write of no group, or of one message
+abbrev pub IsWhole : Plan → LineTexts → Type 0
+IsWhole plan line = ((line.followed ≡ []) × (line.read ≡ [])) ⊎ TellOneMessage plan line.followed line.read
+
+-- at none of these frames an address changes hands
+abbrev pub StayInHands : Plan → List Frame → Type 0
+StayInHands plan frames =
+    (before : List Frame) (f : Frame) (behind : List Frame) → frames ≡ before ++ f ∷ behind → (address : ℕ) → ¬ ChangesHands plan before f address
+
+-- line after line, the messages that `follow` tells are told by `read`, and all of them where no address changes hands at these frames
+pub record AreToldAlike (plan : Plan) (frames : List Frame) (reports texts : List ℕ) : Type 0 where
+  pub rows : List LineTexts
+  pub reports_are : reports ≡ all_followed rows
+  pub texts_are : texts ≡ all_read rows
+  pub noticed : All (IsNoticed plan) rows
+  pub thinned : All (IsThinned plan) rows
+  pub whole : StayInHands plan frames → All (IsWhole plan) rows
+
+-- ---- a law
+
+-- of a plan without private groups, and a log in which no line ends in a direction and none is elsewhere
+abbrev pub GroupsAreToldAlike : Type 0
+GroupsAreToldAlike = (plan : Plan) (log : List ℕ) (followed : FollowedPast) (read : Past) (reports texts : List ℕ)
+    → HasNoPrivate plan → All IsUndirected (lines log) → FollowsLines plan nothing_followed (lines log) followed reports
+    → followed.elsewhere ≡ 0 → ReadsLines plan nothing_yet (lines log) read texts
+    → AreToldAlike plan (frames_seen followed.seen) reports texts
