@@ -19,7 +19,7 @@ use Rattle.j39_tp.specs.declared.packet.Packet.{Packet}
 use Rattle.j39_tp.specs.declared.packet.Packet.TheVariants.{Rts, Cts, EndAck, Bam, Abort, Dt}
 use Rattle.j39_tp.specs.declared.receiving.manner.Manner.TheVariants.{Answering}
 use Rattle.j39_claim.specs.declared.item.Item.{Item}
-use Rattle.j39_claim.specs.declared.item.Item.TheVariants.{Told, Request}
+use Rattle.j39_claim.specs.declared.item.Item.TheVariants.{Told}
 use Rattle.j39_claim.specs.declared.item.Say.{Say}
 use Rattle.j39_claim.specs.declared.item.Say.TheVariants.{Claim}
 use Rattle.j39_claim.specs.ClaimRule.{ClaimState, claim_of, said_by, started}
@@ -108,7 +108,7 @@ pub record IsMessageFrame (IsGroup : ℕ → Type 0) (destination source : ℕ) 
   pub other : IsOther pgn
   pub number : x.identifier ≡ identifier_of priority pgn destination source
 
-transports : (p : Packet) → IsTransport (group_of p)
+pub transports : (p : Packet) → IsTransport (group_of p)
 transports (Rts size limit pgn) = inl refl
 transports (Cts count first pgn) = inl refl
 transports (EndAck size pgn) = inl refl

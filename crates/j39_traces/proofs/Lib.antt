@@ -6,3 +6,4 @@ pub mod Logs
 pub mod Replies
 pub mod Standing
 pub mod Telling
+pub mod ToldFlows

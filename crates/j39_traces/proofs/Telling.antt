@@ -38,7 +38,7 @@ use Rattle.j39_world.specs.SentTransfers.{address_of, destination_of, group_of, 
 use Rattle.j39_world.specs.Sound.{IsQuiet}
 use Rattle.j39_world.specs.SoundPlan.{Always, IsSending}
 use Rattle.j39_world.specs.TransferSteps.{BeginsAt, SendsAt, LostFrom, TakenFrom, first_frame}
-use Rattle.j39_world.specs.World.{Stations, Undelivered, World, changed, changed_pair, all_off}
+use Rattle.j39_world.specs.World.{Stations, Undelivered, World, changed, changed_pair}
 use Rattle.j39_laws.proofs.Addresses.CleanUnits.{names_in_range}
 use Rattle.j39_laws.proofs.Addresses.Telling.{still, told}
 use Rattle.j39_laws.proofs.Reports.SoundReports.{reports_sound}

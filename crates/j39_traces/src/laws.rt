@@ -10,6 +10,8 @@ ghost use Rattle.j39_world.specs.SoundPlan.{IsSending};
 ghost use Rattle.j39_world.specs.World.{World, all_off};
 ghost use Rattle.j39_traces.specs.Between.{EachGoesBetweenUnits, EndsKeepAddresses, MessagesGoBetweenHolders};
 ghost use Rattle.j39_traces.specs.Telling.{EachIsTold, FramesTellHolders, HaveOwnNumbers};
+ghost use Rattle.j39_traces.specs.ToldFlows.{AreToldAsBegun, EachClaims};
+ghost use Rattle.j39_findings.specs.Findings.{Clean};
 
 /// In every world of every run of a plan whose NAMEs differ and that plans none of the network's own groups, with all lawful choices:
 /// by the frames sent so far the NAME of each unit that is on holds its address, or a claim of that address is undelivered to it.
@@ -42,4 +44,12 @@ pub fn messages_go_between_holders()
         → Run plan all_off steps w → MessagesGoBetweenHolders plan w }
     ensures logged { (plan : Plans) (steps : List Steps) (w : World) → AreNamesDistinct (units_of plan) → HaveOwnNumbers plan
         → Run plan all_off steps w → EachGoesBetweenUnits plan w }
+{}
+
+/// In every world of every run of a plan without findings whose units all claim, with all lawful choices: where `follow` reports a frame that
+/// a step sends as a group's message in one frame, by the log of all frames up to it, this step began or sent it, byte for byte, by the flow
+/// that it is told with, or by one of the same unit and group that looks like it in one frame.
+pub fn single_frames_are_told_as_begun()
+    ensures { (plan : Plans) (steps : List Steps) (w : World) → Clean plan → EachClaims plan → Run plan all_off steps w
+        → AreToldAsBegun plan w }
 {}

@@ -5,5 +5,5 @@ mod laws;
 
 pub use laws::{
     ends_keep_addresses, frames_tell_holders, messages_go_between_holders,
-    quiet_frames_tell_holders,
+    quiet_frames_tell_holders, single_frames_are_told_as_begun,
 };

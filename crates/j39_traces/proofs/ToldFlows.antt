@@ -1,0 +1,644 @@
+-- A message of a run that came in one frame is told with the flow that it was begun by, or with one that looks like it.
+use Rattle.std.proofs.Common.{◌≡◌, ◌≢◌, ◌⊎◌, ℕ, zero, suc, ◌<◌, ◌==◌, ◌&&◌, ◌||◌, nat_le, true, false, Bool, List, [], ◌∷◌, ◌++◌, length, map}
+use Rattle.std.proofs.Common.{Option, Some, None, inl, inr, refl, sym, ap, subst, ◌∙◌, arith, get_or, eq-eqb, eqb-true, if◌then◌else◌}
+use Rattle.std.specs.Bool.{MatchBool}
+use Rattle.std.specs.FinSet.{FinSet}
+use Rattle.std.specs.List.{All, Contains, list_any, position, slice_get}
+use Rattle.std.specs.Option.{is_some, option_map_or, option_or}
+use Rattle.std.specs.Ordering.{nat_cmp}
+use Rattle.std.proofs.lemmas.Bool.{and_parts, cases_Bool, cases_order, false_from_ne_true, leb-true, ne_eqb, not-false, or_cases, or_left, true≢false}
+use Rattle.std.proofs.lemmas.Bool.Decides.{not_from_Decides}
+use Rattle.std.proofs.lemmas.List.{append-nil, append_cancel_left}
+use Rattle.std.proofs.lemmas.List.Elements.{All-head, All-tail}
+use Rattle.std.proofs.lemmas.List.Quantifiers.{position-Some}
+use Rattle.std.proofs.lemmas.Option.{get_or_from_slice_get, slice_get-get_or, slice_get_within}
+use Rattle.j39_id.specs.Addresses.{global_address}
+use Rattle.j39_id.specs.Ident.{pgn_of}
+use Rattle.j39_id.specs.Limits.{frame_bytes}
+use Rattle.j39_id.specs.Pgn.{is_pdu2, is_pgn, pdu2_first, pf_of}
+use Rattle.j39_id.specs.Services.{address_claimed, is_service, request, service_groups}
+use Rattle.j39_id.specs.declared.frame.Frame.{Frame}
+use Rattle.j39_id.specs.declared.ident.Ident.{Ident}
+use Rattle.j39_findings.proofs.Deciding.{Decides-is_pgn}
+use Rattle.j39_findings.specs.Findings.{AreSentTogether, Clean, DoReceiversMeet, IsForNoPlan, MayBeOneFrameToAll}
+use Rattle.j39_findings.specs.declared.checking.finding.Finding.TheVariants.{BadPgn, SamePgn}
+use Rattle.j39_findings.specs.declared.plan.Plan.{Plan}
+use Rattle.j39_findings.specs.declared.plan.flow_plan.FlowPlan.{FlowPlan}
+use Rattle.j39_findings.specs.declared.plan.group_plan.GroupPlan.{GroupPlan}
+use Rattle.j39_findings.specs.declared.plan.unit_plan.UnitPlan.{UnitPlan}
+use Rattle.j39_findings.specs.declared.plan.to.To.{To}
+use Rattle.j39_findings.specs.declared.plan.to.To.TheVariants.{All as ToAll, One as ToOne}
+use Rattle.j39_findings.specs.declared.steps.Step.{Step}
+use Rattle.j39_findings.specs.declared.steps.Step.TheVariants.{Up, Down, Give, Ask, Begin, Send, Emit, Take, Lose, LateSender, LateReceiver, Rest}
+use Rattle.j39_text.specs.FrameText.{carries_name, requests_group}
+use Rattle.j39_tp.specs.Sender as sender
+use Rattle.j39_world.proofs.Refusals.{none_hold}
+use Rattle.j39_world.specs.Flows.{dest_of, flow_of, flows_of, has_length, is_short}
+use Rattle.j39_world.specs.Opening.{AreNamesDistinct}
+use Rattle.j39_world.specs.PlannedUnits.{planned_unit, unit_at, units_of}
+use Rattle.j39_world.specs.Run.{StepsTo, begin_refusal, begin_refusals, send_refusal, send_refusals, count_of, refusal}
+use Rattle.j39_world.specs.Sent.{Sent, sent_of}
+use Rattle.j39_world.specs.SentTransfers.{address_of, destination_of, group_of, packet_frame, short_frame}
+use Rattle.j39_world.specs.SoundPlan.{Always}
+use Rattle.j39_world.specs.TransferSteps.{BeginsAt, SendsAt, first_frame}
+use Rattle.j39_world.specs.World.{World}
+use Rattle.j39_world.specs.declared.flow.Flow.{Flow}
+use Rattle.j39_world.specs.declared.step_error.StepError.{StepError}
+use Rattle.j39_laws.proofs.Addresses.CleanUnits.{clean_units}
+use Rattle.j39_follow.specs.Contests.{IsTaken, Timed, frames_of}
+use Rattle.j39_follow.specs.Fits.{IsSentGroup, MayBeGroup, fits, fits_all, fitting_flow, is_for_all, is_unit, may_have_bytes, reaches}
+use Rattle.j39_follow.specs.FollowReports.{IsMessageReport, IsSendingOf, aim_at, is_to_all}
+use Rattle.j39_follow.specs.FollowText.{in_frame}
+use Rattle.j39_follow.specs.Who.{IsWho, unit_of}
+use Rattle.j39_follow.specs.declared.message.Sort.TheVariants.{Grouped, Other}
+use Rattle.j39_follow.specs.declared.sending.Aim.{Aim}
+use Rattle.j39_follow.specs.declared.sending.Aim.TheVariants as aims
+use Rattle.j39_follow.specs.declared.sending.Sending.{Sending}
+use Rattle.j39_follow.specs.declared.who.Who.{Who}
+use Rattle.j39_follow.specs.declared.who.Who.TheVariants.{Holder}
+use Rattle.j39_follow.proofs.Parties.{one_who}
+use Rattle.j39_follow.proofs.ToAll.{none_fits}
+use Rattle.j39_traces.specs.Between.{GoesToHolder, IsKnownAt, IsOfStep, IsSentBehind, IsTransport, tells_of_addresses}
+use Rattle.j39_traces.specs.Telling.{HaveOwnNumbers}
+use Rattle.j39_traces.specs.ToldFlows.{AreToldAsBegun, EachClaims, IsBegunBy, LooksLike, untimed}
+use Rattle.j39_traces.proofs.Between.{step_goes, transports}
+use Rattle.j39_traces.proofs.Ends.{HasEnds, all_ends}
+use Rattle.j39_traces.proofs.Identifiers.{sent_as}
+use Rattle.j39_traces.proofs.Standing.{source_below}
+use Rattle.j39_traces.proofs.Telling.{AreTold, all_told, packet_group}
+
+some_same : {A : Type 0} (x y : A) → Some x ≡ Some y → x ≡ y
+some_same x y e = cc
+
+none_some : {A : Type 0} (x : A) → None ≡ Some x → ⊥
+none_some x e = cc
+
+-- ---- units that claim
+
+claims_at : (kept : FinSet nat_cmp) (units : List UnitPlan) → All (λ (unit : UnitPlan). unit.claims ≡ true) units → (u : ℕ)
+    → (unit_at (map (planned_unit kept) units) u).claims ≡ true
+claims_at kept [] all u = refl
+claims_at kept (unit ∷ units) all zero = All-head (λ (x : UnitPlan). x.claims ≡ true) unit units all
+claims_at kept (unit ∷ units) all (suc u) = claims_at kept units (All-tail (λ (x : UnitPlan). x.claims ≡ true) unit units all) u
+
+-- ---- lines without a time
+
+frames_untimed : (frames : List Frame) → frames_of (untimed frames) ≡ frames
+frames_untimed [] = refl
+frames_untimed (f ∷ frames) = ap (λ (t : List Frame). f ∷ t) (frames_untimed frames)
+
+no_time : (frames : List Frame) (before : List Timed) (x : Timed) (behind : List Timed) → untimed frames ≡ before ++ x ∷ behind → x.time ≡ None
+no_time [] [] x behind e = absurd (cc e)
+no_time [] (y ∷ before) x behind e = absurd (cc e)
+no_time (f ∷ frames) [] x behind e =
+    let head : record { frame = f; time = None } ≡ x = cc in
+    sym (ap (λ (t : Timed). t.time) head)
+no_time (f ∷ frames) (y ∷ before) x behind e =
+    let tail : untimed frames ≡ before ++ x ∷ behind = cc in
+    no_time frames before x behind tail
+
+-- so nothing is contested, and who is told to be behind an address stands there
+stands : (plan : Plan) (frames : List Frame) (a : ℕ) (who : Who) → IsTaken plan (untimed frames) a who → IsWho plan frames a who
+stands plan frames a who (inl (c, contested, is)) =
+    let (before, x, row, time) = contested.now_is in
+    absurd (none_some contested.now (sym (no_time frames before x [] row) ∙ time))
+stands plan frames a who (inr (calm, is)) = subst (λ (fs : List Frame). IsWho plan fs a who) (frames_untimed frames) is
+
+unit_there : (plan : Plan) (frames : List Frame) (a u : ℕ) (who : Who) → IsWho plan frames a (Holder u) → IsTaken plan (untimed frames) a who
+    → unit_of who ≡ Some u
+unit_there plan frames a u who holder taken = ap unit_of (one_who plan frames a who (Holder u) (stands plan frames a who taken) holder)
+
+-- ---- flows
+
+planned_flow : (groups : List GroupPlan) (flows : List FlowPlan) (k : ℕ) (flow : Flow) → slice_get (map (flow_of groups) flows) k ≡ Some flow
+    → (planned : FlowPlan) × (slice_get flows k ≡ Some planned) × (flow ≡ flow_of groups planned)
+planned_flow groups [] k flow e = absurd (none_some flow e)
+planned_flow groups (x ∷ flows) zero flow e = (x, refl, some_same flow (flow_of groups x) (sym e))
+planned_flow groups (x ∷ flows) (suc k) flow e = planned_flow groups flows k flow e
+
+-- a flow of a group, with what the group has
+abbrev of_group : GroupPlan → FlowPlan → Flow
+of_group group planned = record {
+  pgn = group.pgn;
+  priority = group.priority;
+  length = group.length;
+  most = group.most;
+  sender = planned.sender;
+  to = planned.to;
+}
+
+some_there : (groups : List GroupPlan) (g : ℕ) → g < length groups → (group : GroupPlan) × (slice_get groups g ≡ Some group)
+some_there [] g less = absurd (omega (arith, less))
+some_there (x ∷ groups) zero less = (x, refl)
+some_there (x ∷ groups) (suc g) less = some_there groups g (omega (arith, less))
+
+-- the first that passes is found where some does
+found_where : (p : FlowPlan → Bool) (flows : List FlowPlan) (k : ℕ) (flow : FlowPlan) → slice_get flows k ≡ Some flow → p flow ≡ true
+    → position p flows ≡ None → ⊥
+found_where p flows k flow is passes none =
+    let fails = none_fits p flows k flow none (slice_get_within flows k flow is) in
+    let here = get_or_from_slice_get flows k flow flow is in
+    true≢false (sym passes ∙ sym (ap p here) ∙ fails)
+
+passing : (p : FlowPlan → Bool) (flows : List FlowPlan) (n : ℕ) (d : FlowPlan) → position p flows ≡ Some n
+    → (flow : FlowPlan) × (slice_get flows n ≡ Some flow) × (p flow ≡ true)
+passing p flows n d is =
+    let at = position-Some p flows n d is in
+    (get_or flows n d, slice_get-get_or flows n d at.0, at.1)
+
+-- the flow that a message fits is there, and fits
+fitting_there : (plan : Plan) (g : ℕ) (sent : Sending) (n : ℕ) (d : FlowPlan) → fitting_flow plan g sent ≡ Some n
+    → (flow : FlowPlan) × (slice_get plan.flows.items n ≡ Some flow) × (fits g sent flow ≡ true)
+fitting_there plan g sent n d is = go (position (fits_all g sent) plan.flows.items) refl is
+  where
+    go : (o : Option ℕ) → position (fits_all g sent) plan.flows.items ≡ o → option_or o (position (fits g sent) plan.flows.items) ≡ Some n
+        → (flow : FlowPlan) × (slice_get plan.flows.items n ≡ Some flow) × (fits g sent flow ≡ true)
+    go (Some m) at e =
+        let same : m ≡ n = some_same m n e in
+        let (flow, there, passes) = passing (fits_all g sent) plan.flows.items n d (at ∙ ap Some same) in
+        (flow, there, (and_parts (is_for_all flow.to) (fits g sent flow) passes).1)
+    go None at e = passing (fits g sent) plan.flows.items n d e
+
+fitting_some : (plan : Plan) (g : ℕ) (sent : Sending) (k : ℕ) (flow : FlowPlan) → slice_get plan.flows.items k ≡ Some flow
+    → fits g sent flow ≡ true → (n : ℕ) × (fitting_flow plan g sent ≡ Some n)
+fitting_some plan g sent k flow is passes = go (position (fits_all g sent) plan.flows.items) (position (fits g sent) plan.flows.items) refl
+  where
+    go : (a b : Option ℕ) → position (fits g sent) plan.flows.items ≡ b → (n : ℕ) × (option_or a b ≡ Some n)
+    go (Some n) b at = (n, refl)
+    go None (Some n) at = (n, refl)
+    go None None at = absurd (found_where (fits g sent) plan.flows.items k flow is passes at)
+
+-- what fits came from the flow's sender, and went to its receivers
+pub record FitParts (g : ℕ) (sent : Sending) (flow : FlowPlan) : Type 0 where
+  pub group : flow.group ≡ g
+  pub sender : sent.sender ≡ Some flow.sender
+  pub reached : reaches flow.to sent.aim sent.unaddressed ≡ true
+
+same_unit : (o : Option ℕ) (u : ℕ) → is_unit o u ≡ true → o ≡ Some u
+same_unit None u e = absurd (true≢false (sym e))
+same_unit (Some v) u e = ap Some (eqb-true v u e)
+
+unit_itself : (o : Option ℕ) (u : ℕ) → o ≡ Some u → is_unit o u ≡ true
+unit_itself o u e = subst (λ (x : Option ℕ). is_unit x u ≡ true) (sym e) (eq-eqb u u refl)
+
+fit_parts : (g : ℕ) (sent : Sending) (flow : FlowPlan) → fits g sent flow ≡ true → FitParts g sent flow
+fit_parts g sent flow e =
+    let first = and_parts (flow.group == g) (is_unit sent.sender flow.sender && reaches flow.to sent.aim sent.unaddressed) e in
+    let second = and_parts (is_unit sent.sender flow.sender) (reaches flow.to sent.aim sent.unaddressed) first.1 in
+    record { group = eqb-true flow.group g first.0; sender = same_unit sent.sender flow.sender second.0; reached = second.1 }
+
+both : (a b : Bool) → a ≡ true → b ≡ true → (a && b) ≡ true
+both true b e d = d
+both false b e d = absurd (true≢false (sym e))
+
+fit_whole : (g : ℕ) (sent : Sending) (flow : FlowPlan) → flow.group ≡ g → sent.sender ≡ Some flow.sender
+    → reaches flow.to sent.aim sent.unaddressed ≡ true → fits g sent flow ≡ true
+fit_whole g sent flow group from reached =
+    both (flow.group == g) (is_unit sent.sender flow.sender && reaches flow.to sent.aim sent.unaddressed) (eq-eqb flow.group g group)
+    (both (is_unit sent.sender flow.sender) (reaches flow.to sent.aim sent.unaddressed) (unit_itself sent.sender flow.sender from) reached)
+
+-- two that one message reaches go to the same, or it names no receiver
+same_receivers : (a b : To) (aim : Aim) (unaddressed : Bool) → reaches a aim unaddressed ≡ true → reaches b aim unaddressed ≡ true
+    → (a ≡ b) ⊎ (unaddressed ≡ true)
+same_receivers ToAll ToAll aims.All u x y = inl refl
+same_receivers (ToOne v) b aims.All u x y = inr x
+same_receivers ToAll (ToOne v) aims.All u x y = inr y
+same_receivers (ToOne v) (ToOne t) (aims.One r) u x y = inl (ap ToOne (eqb-true v r x ∙ sym (eqb-true t r y)))
+same_receivers ToAll b (aims.One r) u x y = absurd (true≢false (sym x))
+same_receivers (ToOne v) ToAll (aims.One r) u x y = absurd (true≢false (sym y))
+same_receivers ToAll b aims.Neither u x y = absurd (true≢false (sym x))
+same_receivers (ToOne v) b aims.Neither u x y = absurd (true≢false (sym x))
+
+-- ---- the frame that a step sends
+
+no_row : {A : Type 0} (front : List A) (x : A) (back : List A) → front ++ x ∷ back ≡ [] → ⊥
+no_row [] x back e = cc
+no_row (y ∷ front) x back e = cc
+
+single : (earlier later : List Sent) (y x : Sent) → earlier ++ y ∷ later ≡ x ∷ [] → y ≡ x
+single [] later y x e = cc
+single (z ∷ earlier) later y x e =
+    let tail : earlier ++ y ∷ later ≡ [] = cc in
+    absurd (no_row earlier y later tail)
+
+the_frame : (w after : World) (log : List Frame) (f : Frame) → IsSentBehind w after log f → (x : Sent) → after.frames ≡ w.frames ++ x ∷ []
+    → sent_of f ≡ x
+the_frame w after log f sent x is =
+    single sent.earlier sent.later (sent_of f) x
+    (append_cancel_left w.frames (sent.earlier ++ sent_of f ∷ sent.later) (x ∷ []) (sym sent.sent ∙ is))
+
+not_sent : (w after : World) (log : List Frame) (f : Frame) → IsSentBehind w after log f → after ≡ w → ⊥
+not_sent w after log f sent same =
+    no_row sent.earlier (sent_of f) sent.later
+    (append_cancel_left w.frames (sent.earlier ++ sent_of f ∷ sent.later) []
+    (sym sent.sent ∙ ap (λ (x : World). x.frames) same ∙ sym (append-nil w.frames)))
+
+-- the bytes of a message that a flow may have, in one frame
+pub record IsInFrame (flow : Flow) (bytes : List ℕ) (f : Frame) : Type 0 where
+  pub payload : f.payload.items ≡ bytes
+  pub allowed : has_length flow (length bytes) ≡ true
+  pub short : is_short (length bytes) ≡ true
+
+module _ (plan : Plan) (w : World) (told : AreTold plan w) where
+  below : (u : ℕ) → address_of w.stations u < 256
+  below u = source_below (w.stations u) (told.standing.1 u)
+
+  destination_below : (to : To) → destination_of w.stations to < 256
+  destination_below ToAll = omega arith
+  destination_below (ToOne v) = below v
+
+  -- one that is no transport frame is the whole message
+  whole_message : (flow : Flow) (bytes : List ℕ) (f : Frame) → sent_of f ≡ first_frame w.stations flow bytes → ¬ IsTransport (pgn_of f.ident)
+      → (f.payload.items ≡ bytes) × (is_short (length bytes) ≡ true)
+  whole_message flow bytes f is other =
+      let d : ℕ = destination_of w.stations flow.to in
+      let s : ℕ = address_of w.stations flow.sender in
+      let p = sender.announcement (dest_of flow.to) flow.pgn (length bytes) in
+      let either : Bool → Sent = λ b. if b then short_frame d s flow bytes else packet_frame d s p in
+      elim (cases_Bool (is_short (length bytes))) [
+        | inl short ↦
+            let e : sent_of f ≡ short_frame d s flow bytes = is ∙ ap either short in
+            (ap (λ (x : Sent). x.payload) e, short)
+        | inr long ↦
+            let e : sent_of f ≡ packet_frame d s p = is ∙ ap either long in
+            let i = sent_as f.ident 7 (group_of p) d s (packet_group p) (destination_below flow.to) (below flow.sender) (ap (λ (x : Sent). x.identifier) e) in
+            absurd (other (subst IsTransport (sym i.group_is) (transports p)))
+      ]
+
+  begun : (k : ℕ) (bytes : List ℕ) (o : Option Flow) → begin_refusal (count_of plan) w o bytes ≡ None → (after : World)
+      → BeginsAt (count_of plan) w k o bytes after → (log : List Frame) (f : Frame) → IsSentBehind w after log f → ¬ IsTransport (pgn_of f.ident)
+      → (flow : Flow) × (o ≡ Some flow) × IsInFrame flow bytes f
+  begun k bytes None allowed after never log f sent other = absurd never
+  begun k bytes (Some flow) allowed after e log f sent other =
+      let (sendable, (on, (heard, (address, (free, (long, rest)))))) = none_hold (begin_refusals (count_of plan) w (Some flow) bytes) allowed in
+      let frame = the_frame w after log f sent (first_frame w.stations flow bytes) (ap (λ (x : World). x.frames) e) in
+      let whole = whole_message flow bytes f frame other in
+      (flow, refl, record { payload = whole.0; allowed = not-false _ long; short = whole.1 })
+
+  sent_alone : (k : ℕ) (bytes : List ℕ) (o : Option Flow) → send_refusal (count_of plan) w o bytes ≡ None → (after : World)
+      → SendsAt (count_of plan) w k o bytes after → (log : List Frame) (f : Frame) → IsSentBehind w after log f
+      → (flow : Flow) × (o ≡ Some flow) × IsInFrame flow bytes f
+  sent_alone k bytes None allowed after never log f sent = absurd never
+  sent_alone k bytes (Some flow) allowed after e log f sent =
+      let (sendable, (on, (heard, (address, (free, (long, rest)))))) = none_hold (send_refusals (count_of plan) w (Some flow) bytes) allowed in
+      let d : ℕ = destination_of w.stations flow.to in
+      let s : ℕ = address_of w.stations flow.sender in
+      let frame = the_frame w after log f sent (short_frame d s flow bytes) (ap (λ (x : World). x.frames) e) in
+      let parts = and_parts (has_length flow (length bytes)) (is_short (length bytes)) (not-false _ long) in
+      (flow, refl, record { payload = ap (λ (x : Sent). x.payload) frame; allowed = parts.0; short = parts.1 })
+
+-- ---- numbers that are planned
+
+planned_number : (plan : Plan) → HaveOwnNumbers plan → (g : ℕ) (group : GroupPlan) → slice_get plan.groups.items g ≡ Some group
+    → is_service group.pgn ≡ false
+planned_number plan own g group at =
+    let valid = own g group (slice_get_within plan.groups.items g group at) in
+    let is : get_or plan.groups.items g group ≡ group = get_or_from_slice_get plan.groups.items g group group at in
+    (subst (λ (x : GroupPlan). (is_pgn x.pgn ≡ true) × (is_service x.pgn ≡ false)) is valid).1
+
+contained : (n : ℕ) (xs : List ℕ) → list_any (λ (x : ℕ). x == n) xs ≡ true → Contains xs n
+contained n [] e = absurd (true≢false (sym e))
+contained n (x ∷ xs) e = elim (or_cases (x == n) (list_any (λ (y : ℕ). y == n) xs) e) [
+  | inl same ↦ (0, omega arith, eqb-true x n same)
+  | inr more ↦ (let (k, less, is) = contained n xs more in (suc k, omega (arith, less), is))
+]
+
+-- a plan without findings plans none of the network's own numbers
+own_numbers : (plan : Plan) → Clean plan → HaveOwnNumbers plan
+own_numbers plan clean k d less =
+    let number : ℕ = (get_or plan.groups.items k d).pgn in
+    let fine : ¬ IsForNoPlan number =
+    λ bad. clean (BadPgn k) (record { value = get_or plan.groups.items k d; value_is = slice_get-get_or plan.groups.items k d less; meets = inl bad }) in (
+      elim (cases_Bool (is_pgn number)) [
+        | inl is ↦ is
+        | inr e ↦ absurd (fine (inl (not_from_Decides (is_pgn number) (Decides-is_pgn number) e)))
+      ],
+      false_from_ne_true (is_service number) (λ e. fine (inr (inr (contained number service_groups e)))),
+    )
+
+no_transport : (n : ℕ) → is_service n ≡ false → ¬ IsTransport n
+no_transport n own (inl e) = true≢false (sym (ap is_service e) ∙ own)
+no_transport n own (inr e) = true≢false (sym (ap is_service e) ∙ own)
+
+tells_nothing : (f : Frame) → is_service (pgn_of f.ident) ≡ false → tells_of_addresses f ≡ false
+tells_nothing f own =
+    false_from_ne_true (tells_of_addresses f) (λ tells.
+    elim (or_cases (carries_name f) (requests_group f) tells) [
+      | inl name ↦
+          let number = (and_parts (pgn_of f.ident == address_claimed) (length f.payload.items == 8)
+          (and_parts (f.ident.edp == 0) (pgn_of f.ident == address_claimed && length f.payload.items == 8) name).1).0 in
+          true≢false (sym (ap is_service (eqb-true (pgn_of f.ident) address_claimed number)) ∙ own)
+      | inr asks ↦
+          let number = (and_parts (pgn_of f.ident == request) (length f.payload.items == 3)
+          (and_parts (f.ident.edp == 0) (pgn_of f.ident == request && length f.payload.items == 3) asks).1).0 in
+          true≢false (sym (ap is_service (eqb-true (pgn_of f.ident) request number)) ∙ own)
+    ])
+
+-- ---- what is told
+
+module _ (plan : Plan) (clean : Clean plan) (claims : EachClaims plan) (w : World) (told : AreTold plan w) (log : List Frame) (f : Frame) where
+  abbrev frames : List Frame
+  frames = log ++ f ∷ []
+
+  abbrev number : ℕ
+  number = pgn_of f.ident
+
+  abbrev size : ℕ
+  size = length f.payload.items
+
+  claims_there : (u : ℕ) → (unit_at (units_of plan) u).claims ≡ true
+  claims_there u = claims_at plan.keep_free plan.units.items claims u
+
+  -- whom it went to, where it goes to the receivers of a flow
+  reached_by : (sent : Sending) → IsSendingOf plan (untimed frames) (in_frame f) sent → (to : To) → GoesToHolder plan w frames to f.ident
+      → reaches to sent.aim sent.unaddressed ≡ true
+  reached_by sent sending ToAll goes =
+      let aim : sent.aim ≡ aims.All =
+      sending.aim_is ∙ ap (λ (b : Bool). if b then aims.All else aim_at (unit_of sending.receiver)) goes in
+      ap (λ (x : Aim). reaches ToAll x sent.unaddressed) aim
+  reached_by sent sending (ToOne v) (a, at, where_to) =
+      elim (cases_Bool (is_pdu2 number)) [
+        | inl two ↦
+            let all : is_to_all f.ident ≡ true = or_left (is_pdu2 number) (f.ident.ps == global_address) two in
+            let aim : sent.aim ≡ aims.All =
+            sending.aim_is ∙ ap (λ (b : Bool). if b then aims.All else aim_at (unit_of sending.receiver)) all in
+            ap (λ (x : Aim). reaches (ToOne v) x sent.unaddressed) aim ∙ sending.unaddressed_is ∙ two
+        | inr one ↦
+            let there : f.ident.ps ≡ a = elim where_to [ inl two ↦ absurd (true≢false (sym two ∙ one)) | inr same ↦ same ] in
+            let less = told.standing.1 v a at.holds in
+            let other : (f.ident.ps == global_address) ≡ false = ne_eqb f.ident.ps global_address (λ (e : f.ident.ps ≡ 255). omega (arith, e, there, less)) in
+            let not_all : is_to_all f.ident ≡ false =
+            ap (λ (b : Bool). b || f.ident.ps == global_address) one ∙ other in
+            let holder : IsWho plan frames f.ident.ps (Holder v) =
+            subst (λ (k : ℕ). IsWho plan frames k (Holder v)) (sym there) (at.told (claims_there v)) in
+            let unit = unit_there plan frames f.ident.ps v sending.receiver holder sending.receiver_is in
+            let aim : sent.aim ≡ aims.One v =
+            sending.aim_is ∙ ap (λ (b : Bool). if b then aims.All else aim_at (unit_of sending.receiver)) not_all ∙ ap aim_at unit in
+            ap (λ (x : Aim). reaches (ToOne v) x sent.unaddressed) aim ∙ eq-eqb v v refl
+      ]
+
+  sent_by : (sent : Sending) → IsSendingOf plan (untimed frames) (in_frame f) sent → (u : ℕ) → IsKnownAt plan w frames u f.ident.sa
+      → sent.sender ≡ Some u
+  sent_by sent sending u source =
+      sending.sender_unit
+      ∙ unit_there plan frames f.ident.sa u sending.sender (source.told (claims_there u)) sending.sender_is
+
+  -- a flow whose message it is
+  pub record IsFlowOf (k : ℕ) (planned : FlowPlan) (group : GroupPlan) (sent : Sending) : Type 0 where
+    pub flow_is : slice_get plan.flows.items k ≡ Some planned
+    pub group_is : slice_get plan.groups.items planned.group ≡ Some group
+    pub fits_it : fits planned.group sent planned ≡ true
+    pub number_is : group.pgn ≡ number
+    pub lengths : may_have_bytes group size ≡ true
+    pub short : is_short size ≡ true
+
+  may_be : (k : ℕ) (planned : FlowPlan) (group : GroupPlan) (sent : Sending) → IsFlowOf k planned group sent
+      → MayBeGroup plan number size sent planned.group
+  may_be k planned group sent of = record {
+    value = group;
+    value_is = of.group_is;
+    meets = record {
+      number = of.number_is;
+      length = of.lengths;
+      own = inr (λ (none : fitting_flow plan planned.group sent ≡ None).
+          let some = fitting_some plan planned.group sent k planned of.flow_is of.fits_it in none_some some.0 (sym none ∙ some.1));
+    };
+  }
+
+  -- some message of a group of this number is sent in a frame that names no receiver
+  to_all_by : (group : GroupPlan) (sent : Sending) → sent.unaddressed ≡ is_pdu2 number → sent.unaddressed ≡ true → group.pgn ≡ number
+      → may_have_bytes group size ≡ true → is_short size ≡ true → MayBeOneFrameToAll group
+  to_all_by group sent two yet same lengths short =
+      let pdu2 : is_pdu2 group.pgn ≡ true = ap is_pdu2 same ∙ sym two ∙ yet in
+      let least = leb-true group.length size (and_parts (nat_le group.length size) (nat_le size group.most) lengths).0 in
+      let most = leb-true size frame_bytes short in
+      (leb-true pdu2_first (pf_of group.pgn) pdu2, omega (arith, least, most))
+
+  -- no earlier group of the plan can be that of the message
+  not_earlier : (k : ℕ) (planned : FlowPlan) (group : GroupPlan) (sent : Sending) → IsFlowOf k planned group sent
+      → sent.unaddressed ≡ is_pdu2 number → (g : ℕ) → g < planned.group → ¬ MayBeGroup plan number size sent g
+  not_earlier k planned group sent of two g less earlier =
+      let first : GroupPlan = earlier.value in
+      let same : first.pgn ≡ group.pgn = earlier.meets.number ∙ sym of.number_is in
+      clean (SamePgn g planned.group) (record {
+        first = first;
+        second = group;
+        below = less;
+        first_is = earlier.value_is;
+        second_is = of.group_is;
+        related = (same, elim earlier.meets.own [ inl shared ↦ inl shared | inr fitting ↦ inr (inr (together (fitting_flow plan g sent) refl fitting)) ]);
+      })
+    where
+      together : (o : Option ℕ) → fitting_flow plan g sent ≡ o → fitting_flow plan g sent ≢ None
+          → AreSentTogether plan.groups.items plan.flows.items earlier.value group
+      together None is some = absurd (some is)
+      together (Some n) is some =
+          let (flow, at, passes) = fitting_there plan g sent n planned is in
+          let a = fit_parts g sent flow passes in
+          let b = fit_parts planned.group sent planned of.fits_it in
+          let meets : DoReceiversMeet earlier.value group flow planned =
+          elim (same_receivers flow.to planned.to sent.aim sent.unaddressed a.reached b.reached) [
+            | inl to ↦ inr (inr (inl to))
+            | inr yet ↦
+                inr (inr (inr (
+                  to_all_by earlier.value sent two yet earlier.meets.number earlier.meets.length of.short,
+                  to_all_by group sent two yet of.number_is of.lengths of.short,
+                )))
+          ] in (
+            n,
+            record {
+              value = flow;
+              value_is = at;
+              meets = (
+                record { value = earlier.value; value_is = ap (slice_get plan.groups.items) a.group ∙ earlier.value_is; meets = refl },
+                (
+                  k,
+                  record {
+                    value = planned;
+                    value_is = of.flow_is;
+                    meets = (
+                      some_same planned.sender flow.sender (sym b.sender ∙ a.sender),
+                      record { value = group; value_is = of.group_is; meets = refl },
+                      meets,
+                    );
+                  },
+                ),
+              );
+            },
+          )
+
+  -- so it is told as of the flow's group, with the flow or one that looks like it
+  told_with : (k : ℕ) (planned : FlowPlan) (group : GroupPlan) (sent : Sending) → IsFlowOf k planned group sent
+      → sent.unaddressed ≡ is_pdu2 number → (g : ℕ) → IsSentGroup plan number size sent (Some g)
+      → (other : ℕ) × (fitting_flow plan g sent ≡ Some other) × LooksLike plan g k other
+  told_with k planned group sent of two g is =
+      let same : g ≡ planned.group = elim (cases_order g planned.group) [
+        | inl same ↦ same
+        | inr (inl less) ↦ absurd (not_earlier k planned group sent of two g less is.0)
+        | inr (inr more) ↦ absurd (is.1 planned.group more (may_be k planned group sent of))
+      ] in
+      let (other, found) = fitting_some plan planned.group sent k planned of.flow_is of.fits_it in
+      let (twin, at, passes) = fitting_there plan planned.group sent other planned found in
+      let a = fit_parts planned.group sent twin passes in
+      let b = fit_parts planned.group sent planned of.fits_it in (
+        other,
+        ap (λ (x : ℕ). fitting_flow plan x sent) same ∙ found,
+        record {
+          flow = planned;
+          twin = twin;
+          flow_is = of.flow_is;
+          twin_is = at;
+          flow_group = sym same;
+          twin_group = a.group ∙ sym same;
+          sender = some_same twin.sender planned.sender (sym a.sender ∙ b.sender);
+          receivers = elim (same_receivers twin.to planned.to sent.aim sent.unaddressed a.reached b.reached) [
+            | inl to ↦ inl to
+            | inr yet ↦
+                inr (record {
+                  value = group;
+                  value_is = ap (slice_get plan.groups.items) same ∙ of.group_is;
+                  meets = ap is_pdu2 of.number_is ∙ sym two ∙ yet;
+                })
+          ];
+        },
+      )
+
+  -- a flow of the world is one of the plan, whose message this is
+  flow_there : (k : ℕ) (flow : Flow) (bytes : List ℕ) (sent : Sending) → slice_get (flows_of plan) k ≡ Some flow → pgn_of f.ident ≡ flow.pgn
+      → IsInFrame flow bytes f → IsKnownAt plan w frames flow.sender f.ident.sa → GoesToHolder plan w frames flow.to f.ident
+      → IsSendingOf plan (untimed frames) (in_frame f) sent
+      → (planned : FlowPlan) × (group : GroupPlan) × IsFlowOf k planned group sent
+  flow_there k flow bytes sent is same inside source goes sending =
+      let groups = plan.groups.items in
+      let (planned, at, flow_is) = planned_flow groups plan.flows.items k flow is in
+      let within = slice_get_within plan.flows.items k planned at in
+      let here = get_or_from_slice_get plan.flows.items k planned planned at in
+      let grouped : planned.group < length groups = subst (λ (x : FlowPlan). x.group < length groups) here (plan.flow_groups k planned within) in
+      let (group, there) = some_there groups planned.group grouped in
+      let parts : flow ≡ of_group group planned = flow_is ∙ ap (λ (o : Option GroupPlan). record {
+        pgn = option_map_or (λ (g : GroupPlan). g.pgn) o 0;
+        priority = option_map_or (λ (g : GroupPlan). g.priority) o 0;
+        length = option_map_or (λ (g : GroupPlan). g.length) o 0;
+        most = option_map_or (λ (g : GroupPlan). g.most) o 0;
+        sender = planned.sender;
+        to = planned.to;
+      }) there in
+      let size_is : length bytes ≡ size = ap length (sym inside.payload) in
+      let lengths : may_have_bytes group size ≡ true =
+      ap (may_have_bytes group) (sym size_is) ∙ ap (λ (x : Flow). has_length x (length bytes)) (sym parts) ∙ inside.allowed in
+      let from : sent.sender ≡ Some planned.sender =
+      sent_by sent sending flow.sender source ∙ ap (λ (x : Flow). Some x.sender) parts in
+      let reached : reaches planned.to sent.aim sent.unaddressed ≡ true =
+      ap (λ (x : Flow). reaches x.to sent.aim sent.unaddressed) (sym parts) ∙ reached_by sent sending flow.to goes in (
+        planned,
+        group,
+        record {
+          flow_is = at;
+          group_is = there;
+          fits_it = fit_whole planned.group sent planned refl from reached;
+          number_is = sym (same ∙ ap (λ (x : Flow). x.pgn) parts);
+          lengths = lengths;
+          short = ap is_short (sym size_is) ∙ inside.short;
+        },
+      )
+
+grouped_of : (g h : ℕ) (a b : Option ℕ) → Grouped g a ≡ Grouped h b → (g ≡ h) × (a ≡ b)
+grouped_of g h a b e = (cc, cc)
+
+not_other : (g n : ℕ) (a : Option ℕ) → Grouped g a ≡ Other n → ⊥
+not_other g n a e = cc
+
+module _ (plan : Plan) (clean : Clean plan) (distinct : AreNamesDistinct (units_of plan)) (own : HaveOwnNumbers plan) (claims : EachClaims plan) (w : World)
+    (told : AreTold plan w) (ends : HasEnds plan w) where
+  abbrev Told : Step → World → Type 0
+  Told step after = (log : List Frame) (f : Frame) (front : List ℕ) (group : ℕ) (flow : Option ℕ) (text : List ℕ) → IsSentBehind w after log f
+      → IsMessageReport plan (untimed (log ++ f ∷ [])) front (in_frame f) (Grouped group flow) text
+      → (k : ℕ) × (other : ℕ) × IsBegunBy step k f.payload.items × (flow ≡ Some other) × LooksLike plan group k other
+
+  -- what was sent is told
+  told_so : (log : List Frame) (f : Frame) (front : List ℕ) (group : ℕ) (flow : Option ℕ) (text : List ℕ)
+      → IsMessageReport plan (untimed (log ++ f ∷ [])) front (in_frame f) (Grouped group flow) text
+      → (k : ℕ) (bytes : List ℕ) (sent : Flow) → slice_get (flows_of plan) k ≡ Some sent → pgn_of f.ident ≡ sent.pgn → IsInFrame sent bytes f
+      → IsKnownAt plan w (log ++ f ∷ []) sent.sender f.ident.sa → GoesToHolder plan w (log ++ f ∷ []) sent.to f.ident
+      → (other : ℕ) × (flow ≡ Some other) × LooksLike plan group k other
+  told_so log f front group flow text (sending, None, is, fits, grouped) k bytes sent flow_is same inside source goes =
+      absurd (not_other group _ flow grouped.0)
+  told_so log f front group flow text (sending, Some g, is, fits, grouped) k bytes sent flow_is same inside source goes =
+      let parts = grouped_of group g flow (fitting_flow plan g sending) grouped.0 in
+      let there = flow_there plan clean claims w told log f k sent bytes sending flow_is same inside source goes is in
+      let (other, found, looks) = told_with plan clean claims w told log f k there.0 there.1 sending there.2 is.unaddressed_is g fits in
+      (other, parts.1 ∙ found, subst (λ (x : ℕ). LooksLike plan x k other) (sym parts.0) looks)
+
+  -- the number of what is told is planned
+  own_number : (log : List Frame) (f : Frame) (front : List ℕ) (group : ℕ) (flow : Option ℕ) (text : List ℕ)
+      → IsMessageReport plan (untimed (log ++ f ∷ [])) front (in_frame f) (Grouped group flow) text → is_service (pgn_of f.ident) ≡ false
+  own_number log f front group flow text (sending, None, is, fits, grouped) = absurd (not_other group _ flow grouped.0)
+  own_number log f front group flow text (sending, Some g, is, fits, grouped) =
+      ap is_service (sym fits.0.meets.number) ∙ planned_number plan own g fits.0.value fits.0.value_is
+
+  some_flow : (a b : Flow) → Some a ≡ Some b → a ≡ b
+  some_flow a b e = cc
+
+  -- no other step sends what is told
+  unsent : (step : Step) → ((i : Ident) → IsOfStep plan step i → IsTransport (pgn_of i)) → refusal plan w step ≡ None → (after : World)
+      → StepsTo plan w step after → Told step after
+  unsent step transport allowed after leads log f front group flow text sent report =
+      let number = own_number log f front group flow text report in
+      let (u, to, by, of, source, goes) = step_goes plan distinct own w told ends step allowed after leads log f sent (tells_nothing f number) in
+      absurd (no_transport (pgn_of f.ident) number (transport f.ident of))
+
+  step_told : (step : Step) → refusal plan w step ≡ None → (after : World) → StepsTo plan w step after → Told step after
+  step_told (Begin k bytes) allowed after leads = λ log f front group flow text sent report.
+      let number = own_number log f front group flow text report in
+      let other = no_transport (pgn_of f.ident) number in
+      let (u, to, (a, a_is, sender_is, to_is), of, source, goes) =
+      step_goes plan distinct own w told ends (Begin k bytes) allowed after leads log f sent (tells_nothing f number) in
+      let (b, b_is, inside) = begun plan w told k bytes.items (slice_get (flows_of plan) k) allowed after leads log f sent other in
+      let same : b ≡ a = some_flow b a (sym b_is ∙ a_is) in
+      let its : pgn_of f.ident ≡ a.pgn = elim of [
+        | inl (c, c_is, pgn) ↦ pgn ∙ ap (λ (x : Flow). x.pgn) (some_flow c a (sym c_is ∙ a_is))
+        | inr transport ↦ absurd (other transport)
+      ] in
+      let (twin, found, looks) = told_so log f front group flow text report k bytes.items a a_is its
+      (subst (λ (x : Flow). IsInFrame x bytes.items f) same inside)
+      (subst (λ (x : ℕ). IsKnownAt plan w (log ++ f ∷ []) x f.ident.sa) (sym sender_is) source)
+      (subst (λ (x : To). GoesToHolder plan w (log ++ f ∷ []) x f.ident) (sym to_is) goes) in
+      (k, twin, (refl, sym inside.payload), found, looks)
+  step_told (Send k bytes) allowed after leads = λ log f front group flow text sent report.
+      let number = own_number log f front group flow text report in
+      let (u, to, (a, a_is, sender_is, to_is), (c, c_is, pgn), source, goes) =
+      step_goes plan distinct own w told ends (Send k bytes) allowed after leads log f sent (tells_nothing f number) in
+      let (b, b_is, inside) = sent_alone plan w told k bytes.items (slice_get (flows_of plan) k) allowed after leads log f sent in
+      let same : b ≡ a = some_flow b a (sym b_is ∙ a_is) in
+      let its : pgn_of f.ident ≡ a.pgn = pgn ∙ ap (λ (x : Flow). x.pgn) (some_flow c a (sym c_is ∙ a_is)) in
+      let (twin, found, looks) = told_so log f front group flow text report k bytes.items a a_is its
+      (subst (λ (x : Flow). IsInFrame x bytes.items f) same inside)
+      (subst (λ (x : ℕ). IsKnownAt plan w (log ++ f ∷ []) x f.ident.sa) (sym sender_is) source)
+      (subst (λ (x : To). GoesToHolder plan w (log ++ f ∷ []) x f.ident) (sym to_is) goes) in
+      (k, twin, (refl, sym inside.payload), found, looks)
+  step_told (Up u) allowed after leads = unsent (Up u) (λ i of. of) allowed after leads
+  step_told (Down u) allowed after leads = unsent (Down u) (λ i of. of) allowed after leads
+  step_told (Give u v) allowed after leads = unsent (Give u v) (λ i of. of) allowed after leads
+  step_told (Ask u) allowed after leads = unsent (Ask u) (λ i of. of) allowed after leads
+  step_told (Emit u) allowed after leads = unsent (Emit u) (λ i of. of) allowed after leads
+  step_told (Take u v) allowed after leads = unsent (Take u v) (λ i of. of) allowed after leads
+  step_told (Lose u v) allowed after leads = unsent (Lose u v) (λ i of. of) allowed after leads
+  step_told (LateSender u) allowed after leads = unsent (LateSender u) (λ i of. of) allowed after leads
+  step_told (LateReceiver u v) allowed after leads = unsent (LateReceiver u v) (λ i of. of) allowed after leads
+  step_told (Rest u) allowed after leads = unsent (Rest u) (λ i of. of) allowed after leads
+
+  are_told : AreToldAsBegun plan w
+  are_told step after log f front group flow text follows =
+      elim (refusal plan w step)
+      as (λ (o : Option StepError). refusal plan w step ≡ o → MatchBool (is_some o) (after ≡ w) (StepsTo plan w step after)
+      → IsSentBehind w after log f → IsMessageReport plan (untimed (log ++ f ∷ [])) front (in_frame f) (Grouped group flow) text
+      → (k : ℕ) × (other : ℕ) × IsBegunBy step k f.payload.items × (flow ≡ Some other) × LooksLike plan group k other) [
+        | Some e ↦ λ _ same sent report. absurd (not_sent w after log f sent same)
+        | None ↦ λ allowed leads. step_told step allowed after leads log f front group flow text
+      ] refl follows
+
+pub told_as_begun : (plan : Plan) → Clean plan → EachClaims plan → Always plan (AreToldAsBegun plan)
+told_as_begun plan clean claims steps w run =
+    let distinct = (clean_units plan clean).names in
+    let own = own_numbers plan clean in
+    are_told plan clean distinct own claims w (all_told plan distinct own steps w run) (all_ends plan steps w run)
