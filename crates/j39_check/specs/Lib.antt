@@ -5,3 +5,4 @@ pub mod FindingLines
 pub mod LoadLines
 pub mod LoadText
 pub mod PlanText
+pub mod ShowText

@@ -11,6 +11,8 @@ mod load_report;
 mod plan_file;
 mod plan_report;
 mod report_text;
+mod show;
+mod show_lines;
 mod stays_lines;
 mod stays_report;
 mod timing;
@@ -23,4 +25,5 @@ pub use laws::{
     written_runs_show_the_conflict,
 };
 pub use plan_file::plan_text;
+pub use show::show_text;
 pub use timing::timing_text;

@@ -10,6 +10,7 @@ use j39_findings::Plan;
 use j39_plan::{PlanError, read_plan};
 use j39_stream::{Fault, Sink, Source, load, put_all};
 use refusals::refusal;
+pub(crate) use refusals::write_table;
 use std::alloc::Global;
 
 // Writes the line that says why a file describes no plan.

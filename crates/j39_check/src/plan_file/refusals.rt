@@ -6,8 +6,9 @@ use j39_plan::{Fault, Key, PlanError, Table};
 use j39_text::TextBuffer;
 use std::alloc::{AllocError, Global};
 
+/// Writes the name of a table.
 #[tactic(auto, unfolding(crate::specs::PlanText::table_text))]
-fn write_table(text: &mut TextBuffer, table: Table) -> Result<(), AllocError>
+pub(crate) fn write_table(text: &mut TextBuffer, table: Table) -> Result<(), AllocError>
     ensures { OnOk result (text.new ≡ text.old ++ table_text table) }
 {
     match table {

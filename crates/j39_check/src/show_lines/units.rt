@@ -1,0 +1,81 @@
+//! The lines of units.
+ghost use Rattle.std.specs.Prelude.{◌≡◌, ◌++◌, OnOk};
+ghost use Rattle.j39_check.specs.ShowText.{chooser_text, lower_name_lines, name_lines, unit_lines, upper_name_lines};
+ghost use Rattle.j39_load.specs.Places.{told_from};
+
+use super::values::{write_number, write_truth, write_word};
+use j39_findings::{Plan, UnitPlan, Way};
+use j39_id::NameFields;
+use j39_plan::{Key, Table};
+use j39_text::TextBuffer;
+use std::alloc::AllocError;
+
+fn chooser_word(way: Way) -> &'static str
+    ensures { result.now ≡ chooser_text way }
+{
+    match way {
+        Way::Lowest => "lowest",
+        Way::Upward => "upward",
+    }
+}
+
+#[tactic(auto, unfolding(crate::specs::ShowText::lower_name_lines))]
+fn write_lower_name(
+    text: &mut TextBuffer,
+    table: Table,
+    fields: NameFields,
+) -> Result<(), AllocError>
+    ensures { OnOk result (text.new ≡ text.old ++ lower_name_lines table fields) }
+{
+    write_number(text, table, Key::Identity, fields.identity)?;
+    write_number(text, table, Key::Manufacturer, fields.manufacturer)?;
+    write_number(text, table, Key::Ecu, fields.ecu)?;
+    write_number(text, table, Key::FunctionInstance, fields.function_instance)?;
+    write_number(text, table, Key::Function, fields.function)
+}
+
+#[tactic(auto, unfolding(crate::specs::ShowText::upper_name_lines))]
+fn write_upper_name(
+    text: &mut TextBuffer,
+    table: Table,
+    fields: NameFields,
+) -> Result<(), AllocError>
+    ensures { OnOk result (text.new ≡ text.old ++ upper_name_lines table fields) }
+{
+    write_number(text, table, Key::System, fields.system)?;
+    write_number(text, table, Key::SystemInstance, fields.system_instance)?;
+    write_number(text, table, Key::Industry, fields.industry)?;
+    write_truth(text, table, Key::Arbitrary, fields.arbitrary == 1)
+}
+
+#[tactic(auto, unfolding(crate::specs::ShowText::name_lines))]
+fn write_name(text: &mut TextBuffer, table: Table, fields: NameFields) -> Result<(), AllocError>
+    ensures { OnOk result (text.new ≡ text.old ++ name_lines table fields) }
+{
+    write_lower_name(text, table, fields)?;
+    write_upper_name(text, table, fields)
+}
+
+#[tactic(auto, unfolding(crate::specs::ShowText::unit_lines))]
+fn write_unit(text: &mut TextBuffer, place: usize, unit: &UnitPlan) -> Result<(), AllocError>
+    ensures { OnOk result (text.new ≡ text.old ++ unit_lines place unit.now) }
+{
+    let table = Table::Unit(place);
+    write_word(text, table, Key::Label, unit.label.as_str())?;
+    write_number(text, table, Key::Address, unit.address.number())?;
+    write_word(text, table, Key::Chooser, chooser_word(unit.way))?;
+    write_number(text, table, Key::Window, unit.window)?;
+    write_name(text, Table::UnitName(place), unit.name.fields())?;
+    write_truth(text, table, Key::Claims, unit.claims)
+}
+
+/// Writes each unit.
+#[tactic(auto, unfolding(j39_load::specs::Places::told_from))]
+pub(super) fn write_units(text: &mut TextBuffer, plan: &Plan) -> Result<(), AllocError>
+    ensures { OnOk result (text.new ≡ text.old ++ told_from unit_lines 0 plan.now.units.items) }
+{
+    for (place, unit) in plan.units.iter().enumerate() {
+        write_unit(text, place, unit)?;
+    }
+    Ok(())
+}
