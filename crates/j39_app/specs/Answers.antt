@@ -4,6 +4,7 @@ use Rattle.j39_app.specs.Known.{AreFrontOf, AreOf, Names}
 use Rattle.j39_check.specs.AddressesText.{IsAddressesText}
 use Rattle.j39_check.specs.LoadText.{IsLoadText}
 use Rattle.j39_check.specs.CheckText.{IsCheckText}
+use Rattle.j39_check.specs.ShowText.{IsShowText}
 use Rattle.j39_text.specs.FrameText.{IsFrameText, IsInputText}
 use Rattle.j39_check.specs.PlanText.{Describes, IsRefusedText}
 use Rattle.j39_follow.specs.FollowText.{IsFollowText}
@@ -13,7 +14,7 @@ use Rattle.j39_findings.specs.declared.plan.Plan.{Plan}
 use Rattle.j39_stream.specs.declared.verdict.Verdict.{Verdict}
 use Rattle.j39_stream.specs.declared.verdict.Verdict.TheVariants.{Done, Unreadable}
 use Rattle.j39_words.specs.declared.orders.Order.{Order}
-use Rattle.j39_words.specs.declared.orders.Order.TheVariants.{Input, Frame, Check, Addresses, Load, Run, Read, Follow, Help}
+use Rattle.j39_words.specs.declared.orders.Order.TheVariants.{Input, Frame, Show, Check, Addresses, Load, Run, Read, Follow, Help}
 
 -- for the bytes of a file, or of an input
 abbrev pub IsOfBytes : {V : Type 0} → (List ℕ → List ℕ → V → Type 0) → Option (List ℕ) → List ℕ → V → Type 0
@@ -51,6 +52,7 @@ IsFollowOf plan known text verdict = (log : List ℕ) × (verdict ≡ Done → A
 abbrev pub IsAnswer : Names → Option (List ℕ) → Order → List ℕ → Verdict → Type 0
 IsAnswer files input Input text verdict = IsOfBytes IsInputText input text verdict
 IsAnswer files input (Frame line) text verdict = IsFrameText (string_bytes line) text verdict
+IsAnswer files input (Show plan) text verdict = IsOfBytes IsShowText (files (string_bytes plan)) text verdict
 IsAnswer files input (Check plan) text verdict = IsOfBytes IsCheckText (files (string_bytes plan)) text verdict
 IsAnswer files input (Addresses plan) text verdict = IsOfBytes IsAddressesText (files (string_bytes plan)) text verdict
 IsAnswer files input (Load plan) text verdict = IsOfBytes IsLoadText (files (string_bytes plan)) text verdict

@@ -10,7 +10,7 @@ use Rattle.j39_stream.specs.declared.limits.Limits.{Limits}
 use Rattle.j39_stream.specs.declared.verdict.Verdict.{Verdict}
 use Rattle.j39_findings.specs.declared.plan.Plan.{Plan}
 use Rattle.j39_words.specs.declared.orders.Order.{Order}
-use Rattle.j39_words.specs.declared.orders.Order.TheVariants.{Input, Frame, Check, Addresses, Load, Run, Read, Follow, Help}
+use Rattle.j39_words.specs.declared.orders.Order.TheVariants.{Input, Frame, Show, Check, Addresses, Load, Run, Read, Follow, Help}
 
 -- the file of a name can't be opened, or a call of it failed once it was open
 abbrev pub HasFileFailed : {File : Type 0} → (List ℕ → Type 0) → Names → (File → SourceState) → List ℕ → Type 0
@@ -26,6 +26,7 @@ IsOfTwo IsOf files limits plan other = IsOf plan_limits plan ⊎ (AreOfPlan (fil
 abbrev pub IsOfRead : Type 0 → (Limits → List ℕ → Type 0) → Names → Order → Type 0
 IsOfRead OfInput IsOf files Input = OfInput
 IsOfRead OfInput IsOf files (Frame line) = ⊥
+IsOfRead OfInput IsOf files (Show plan) = IsOf plan_limits (string_bytes plan)
 IsOfRead OfInput IsOf files (Check plan) = IsOf plan_limits (string_bytes plan)
 IsOfRead OfInput IsOf files (Addresses plan) = IsOf plan_limits (string_bytes plan)
 IsOfRead OfInput IsOf files (Load plan) = IsOf plan_limits (string_bytes plan)

@@ -9,11 +9,12 @@ ghost use Rattle.j39_check.specs.AddressesText.{IsAddressesText};
 ghost use Rattle.j39_check.specs.LoadText.{IsLoadText};
 ghost use Rattle.j39_check.specs.CheckText.{IsCheckText};
 ghost use Rattle.j39_check.specs.PlanText.{IsPlanText};
+ghost use Rattle.j39_check.specs.ShowText.{IsShowText};
 ghost use Rattle.j39_stream.specs.Streams.{HasFailed, log_limits, plan_limits};
 
 use crate::{
     Fault, Folder, Order, Sink, Source, Verdict, addresses_text, check_text, follow_text,
-    frame_text, input_text, plan_text, put_all, read_text, run_planned, timing_text,
+    frame_text, input_text, plan_text, put_all, read_text, run_planned, show_text, timing_text,
 };
 use j39_findings::Plan;
 use std::alloc::Global;
@@ -30,6 +31,18 @@ fn plan_of<F: Folder, W: Sink>(
     ensures silent { IfOk result (λ plan. OnSome plan (sink.new ≡ sink.old)) }
 {
     plan_text(alloc, &mut files.open(name)?, sink)
+}
+
+fn show_file<F: Folder, W: Sink>(
+    alloc: Global,
+    files: &F,
+    plan: &str,
+    sink: &mut W,
+) -> Result<Verdict, Fault>
+    ensures { EndsByFile (IsOfBytes IsShowText) (λ known. IsOfSome (IsOfBytes IsShowText known)) (Unit {0}) plan_limits
+        (F.stays_shut files.now) (F.bytes_of files.now) F.File.state plan.now W.state sink.old sink.new result }
+{
+    show_text(alloc, &mut files.open(plan)?, sink)
 }
 
 fn check_file<F: Folder, W: Sink>(
@@ -180,6 +193,7 @@ pub fn answer<F: Folder, S: Source, W: Sink>(
     match order {
         Order::Input => input_text(alloc, input, sink),
         Order::Frame(line) => frame_text(alloc, line.as_bytes(), sink),
+        Order::Show(plan) => show_file(alloc, files, plan, sink),
         Order::Check(plan) => check_file(alloc, files, plan, sink),
         Order::Addresses(plan) => addresses_file(alloc, files, plan, sink),
         Order::Load(plan) => load_file(alloc, files, plan, sink),

@@ -9,7 +9,7 @@ mod program;
 pub use answering::answer;
 pub use exit_status::status;
 pub use folder::{Folder, SystemFiles};
-pub use j39_check::{addresses_text, check_text, plan_text, timing_text};
+pub use j39_check::{addresses_text, check_text, plan_text, show_text, timing_text};
 pub use j39_follow::follow_text;
 pub use j39_log::read_text;
 pub use j39_run::{refused_lines_end_the_text, run_planned, run_text};

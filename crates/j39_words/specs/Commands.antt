@@ -27,7 +27,9 @@ commands =
     (with_subcommand
     (with_subcommand
     (with_subcommand
+    (with_subcommand
     (with_subcommand program (one_value (codes "frame") (codes "LINE")).top)
+    (one_value (codes "show") (codes "PLAN")).top)
     (one_value (codes "check") (codes "PLAN")).top)
     (one_value (codes "addresses") (codes "PLAN")).top)
     (one_value (codes "load") (codes "PLAN")).top)

@@ -5,7 +5,7 @@ use Rattle.j39_words.specs.Commands.{commands}
 use Rattle.clap.specs.declared.error.kind.ErrorKind.{ErrorKind}
 use Rattle.clap.specs.declared.error.kind.ErrorKind.TheVariants as kind
 use Rattle.j39_words.specs.declared.orders.Order.{Order}
-use Rattle.j39_words.specs.declared.orders.Order.TheVariants.{Input, Frame, Check, Addresses, Load, Run, Read, Follow, Help}
+use Rattle.j39_words.specs.declared.orders.Order.TheVariants.{Input, Frame, Show, Check, Addresses, Load, Run, Read, Follow, Help}
 
 -- the subcommand that was met has this name, and the value by this name is the text
 abbrev pub HasValue : Option (Text × List Row) → Text → Text → Text → Type 0
@@ -14,6 +14,7 @@ HasValue met name value text = (rows : List Row) × (met ≡ Some (name, rows)) 
 -- the order is the subcommand that was met, with its values, or the words ask for a text of help
 abbrev pub Orders : Option (Text × List Row) → Order → Type 0
 Orders met (Frame line) = HasValue met (codes "frame") (codes "LINE") (string_bytes line)
+Orders met (Show plan) = HasValue met (codes "show") (codes "PLAN") (string_bytes plan)
 Orders met (Check plan) = HasValue met (codes "check") (codes "PLAN") (string_bytes plan)
 Orders met (Addresses plan) = HasValue met (codes "addresses") (codes "PLAN") (string_bytes plan)
 Orders met (Load plan) = HasValue met (codes "load") (codes "PLAN") (string_bytes plan)
@@ -30,6 +31,7 @@ abbrev pub IsHelp : Order → Type 0
 IsHelp (Help text) = Unit {0}
 IsHelp Input = ⊥
 IsHelp (Frame line) = ⊥
+IsHelp (Show plan) = ⊥
 IsHelp (Check plan) = ⊥
 IsHelp (Addresses plan) = ⊥
 IsHelp (Load plan) = ⊥

@@ -32,6 +32,7 @@ fn of_plan(alloc: Global, name: &str, values: &ArgMatches) -> Result<Order, Word
 {
     let plan = value(alloc, values, "PLAN")?;
     match name {
+        "show" => Ok(Order::Show(plan)),
         "check" => Ok(Order::Check(plan)),
         "addresses" => Ok(Order::Addresses(plan)),
         "load" => Ok(Order::Load(plan)),

@@ -131,8 +131,16 @@ pub(super) fn commands<'a>(alloc: Global) -> Result<Command<'a>, AllocError>
         "LINE",
         "A line of a CAN log; its last word is the frame, as 18EEFF00#0100800C00000010",
     );
-    let checks = with_one(
+    let shows = with_one(
         frames,
+        alloc,
+        "show",
+        "Shows each value of the plan, those too that its file leaves to their defaults",
+        "PLAN",
+        "The name of a plan file",
+    );
+    let checks = with_one(
+        shows,
         alloc,
         "check",
         "Shows what is wrong with the plan of the file PLAN",

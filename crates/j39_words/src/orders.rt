@@ -12,6 +12,8 @@ pub enum Order {
     Input,
     /// `frame LINE`: what the line says.
     Frame(String),
+    /// `show PLAN`: the values of the plan of the file of this name.
+    Show(String),
     /// `check PLAN`: what is wrong with the plan of the file of this name.
     Check(String),
     /// `addresses PLAN`: which units of the plan of the file of this name hold their planned addresses whatever happens.

@@ -11,8 +11,11 @@ pub returns-in-Frame-clause-ends : goal.returns-in-Frame-clause-ends
 returns-in-Frame-clause-ends g c =
     rw c.in-Frame.is (put_ends (λ text verdict is. (verdict, is)) c.frame_text.result (rw c.as_bytes.ensures.value at c.frame_text.ensures.puts))
 
+pub returns-in-Show-clause-ends : goal.returns-in-Show-clause-ends
+returns-in-Show-clause-ends g c = rw c.in-Show.is (rw c.deref.ensures at c.show_file.ensures)
+
 pub returns-in-Check-clause-ends : goal.returns-in-Check-clause-ends
-returns-in-Check-clause-ends g c = rw c.in-Check.is (rw c.deref.ensures at c.check_file.ensures)
+returns-in-Check-clause-ends g c = rw c.in-Check.is (rw c.deref-in-Check.ensures at c.check_file.ensures)
 
 pub returns-in-Addresses-clause-ends : goal.returns-in-Addresses-clause-ends
 returns-in-Addresses-clause-ends g c = rw c.in-Addresses.is (rw c.deref-in-Addresses.ensures at c.addresses_file.ensures)

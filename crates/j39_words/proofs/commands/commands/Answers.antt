@@ -9,8 +9,10 @@ unfolding commands
 returns c =
     let frames_is = known c.program-no_commands.result c.with_one-frames.result program (one_value (codes "frame") (codes "LINE")) c.program-no_commands.ensures c.with_one-frames.ensures in
     let with_frames : App = with_subcommand program (one_value (codes "frame") (codes "LINE")).top in
-    let checks_is = known c.with_one-frames.result c.with_one-checks.result with_frames (one_value (codes "check") (codes "PLAN")) frames_is c.with_one-checks.ensures in
-    let with_checks : App = with_subcommand with_frames (one_value (codes "check") (codes "PLAN")).top in
+    let shows_is = known c.with_one-frames.result c.with_one-shows.result with_frames (one_value (codes "show") (codes "PLAN")) frames_is c.with_one-shows.ensures in
+    let with_shows : App = with_subcommand with_frames (one_value (codes "show") (codes "PLAN")).top in
+    let checks_is = known c.with_one-shows.result c.with_one-checks.result with_shows (one_value (codes "check") (codes "PLAN")) shows_is c.with_one-checks.ensures in
+    let with_checks : App = with_subcommand with_shows (one_value (codes "check") (codes "PLAN")).top in
     let addresses_is = known c.with_one-checks.result c.with_one-addresses.result with_checks (one_value (codes "addresses") (codes "PLAN")) checks_is c.with_one-addresses.ensures in
     let with_addresses : App = with_subcommand with_checks (one_value (codes "addresses") (codes "PLAN")).top in
     let loads_is = known c.with_one-addresses.result c.with_one-loads.result with_addresses (one_value (codes "load") (codes "PLAN")) addresses_is c.with_one-loads.ensures in
