@@ -1,8 +1,9 @@
 //! Rows: a file that a command is run on, and beside it what the command writes.
 //!
-//! `PLAN.toml` is checked, and where `PLAN.addresses` or `PLAN.load` stands beside it also answered as to its addresses
-//! or to its load; `PLAN.NAME.schedule` is run and `PLAN.NAME.log` is read by the plan beside it and, where `PLAN.NAME.follow` stands
-//! there, also followed; `NAME.line` is a frame line. Standard error stays empty, and the status is one of the program's output.
+//! `PLAN.toml` is checked, and where `PLAN.addresses`, `PLAN.load` or `PLAN.show` stands beside it also answered as to its
+//! addresses, its load or its values; `PLAN.NAME.schedule` is run and `PLAN.NAME.log` is read by the plan beside it and,
+//! where `PLAN.NAME.follow` stands there, also followed; `NAME.line` is a frame line. Standard error stays empty, and the
+//! status is one of the program's output.
 
 use crate::outcome::perform;
 use crate::pieces::are_as_shown;
@@ -18,7 +19,7 @@ struct Kind {
     shown: &'static str,
 }
 
-const KINDS: [Kind; 7] = [
+const KINDS: [Kind; 8] = [
     Kind {
         command: "check",
         ending: ".toml",
@@ -33,6 +34,11 @@ const KINDS: [Kind; 7] = [
         command: "load",
         ending: ".load",
         shown: ".load",
+    },
+    Kind {
+        command: "show",
+        ending: ".show",
+        shown: ".show",
     },
     Kind {
         command: "run",
@@ -77,7 +83,7 @@ fn words_of<R: Files + AllocGlobal>(
     words.push(kind.command.as_bytes().to_vec(rt.alloc())?)?;
     match kind.command {
         "check" => words.push(file.into_bytes())?,
-        "addresses" | "load" => words.push(plan_of(rt, name)?.into_bytes())?,
+        "addresses" | "load" | "show" => words.push(plan_of(rt, name)?.into_bytes())?,
         "follow" => {
             words.push(plan_of(rt, name)?.into_bytes())?;
             words.push(format!(in rt.alloc(); "{name}.log")?.into_bytes())?;

@@ -13,15 +13,15 @@ _j39plan() {
   local word=${COMP_WORDS[COMP_CWORD]}
   COMPREPLY=()
   if [ "$COMP_CWORD" -eq 1 ]; then
-    mapfile -t COMPREPLY < <(compgen -W 'check addresses load run read follow frame help --help --version' -- "$word")
-  elif [[ ${COMP_WORDS[1]} =~ ^(check|addresses|load|run|read|follow)$ ]]; then
+    mapfile -t COMPREPLY < <(compgen -W 'show check addresses load run read follow frame help --help --version' -- "$word")
+  elif [[ ${COMP_WORDS[1]} =~ ^(show|check|addresses|load|run|read|follow)$ ]]; then
     case "$COMP_CWORD ${COMP_WORDS[1]}" in
       '3 run') _j39plan_files "$word" schedule ;;
       '3 read' | '3 follow') _j39plan_files "$word" log ;;
       *) _j39plan_files "$word" toml ;;
     esac
   elif [ "${COMP_WORDS[1]}" = help ]; then
-    mapfile -t COMPREPLY < <(compgen -W 'check addresses load run read follow frame' -- "$word")
+    mapfile -t COMPREPLY < <(compgen -W 'show check addresses load run read follow frame' -- "$word")
   fi
 }
 complete -F _j39plan j39plan

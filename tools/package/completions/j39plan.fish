@@ -1,6 +1,7 @@
 # Completions of j39plan and its tools for fish.
 
 complete -c j39plan -f
+complete -c j39plan -n __fish_use_subcommand -a show -d 'show each value of a plan'
 complete -c j39plan -n __fish_use_subcommand -a check -d 'show what is wrong with a plan'
 complete -c j39plan -n __fish_use_subcommand -a addresses -d 'show which units stay at their planned addresses'
 complete -c j39plan -n __fish_use_subcommand -a load -d 'show how long frames wait and how full the bus is'
@@ -11,8 +12,8 @@ complete -c j39plan -n __fish_use_subcommand -a frame -d 'show what a frame line
 complete -c j39plan -n __fish_use_subcommand -a help -d 'print the help of a command'
 complete -c j39plan -n __fish_use_subcommand -l help -s h -d 'print the help'
 complete -c j39plan -n __fish_use_subcommand -l version -s V -d 'print the version'
-complete -c j39plan -n '__fish_seen_subcommand_from check addresses load run read follow' -F
-complete -c j39plan -n '__fish_seen_subcommand_from help' -a 'check addresses load run read follow frame'
+complete -c j39plan -n '__fish_seen_subcommand_from show check addresses load run read follow' -F
+complete -c j39plan -n '__fish_seen_subcommand_from help' -a 'show check addresses load run read follow frame'
 
 # The tools.
 for tool in where startup dbc2plan plan2dbc join compare against fleet report signals plot tolog check-plans
