@@ -20,6 +20,7 @@ COMMANDS = (
     ["check", "findings/several.toml"],
     ["addresses", "three_at_one_address.toml"],
     ["load", "axle.toml"],
+    ["show", "axle.toml"],
     ["run", "transfers.toml", "transfers.directed_lost.schedule"],
     ["read", "tractor_and_implement.toml", "tractor_and_implement.start.log"],
     ["--help"],
