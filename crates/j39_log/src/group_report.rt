@@ -164,7 +164,6 @@ fn write_group_line(
 }
 
 // The same by the states of the signals alone, as most plans have it.
-#[inline(never)]
 #[tactic(auto, unfolding(crate::specs::LogReports::reading_lines))]
 fn write_states(
     text: &mut TextBuffer,
@@ -206,7 +205,6 @@ pub(super) fn write_readings(
 }
 
 /// Writes who sent which bytes of a group to whom, and what each of its signals, records and texts reads.
-#[inline(always)]
 pub(super) fn write_report(
     text: &mut TextBuffer,
     group: &GroupPlan,

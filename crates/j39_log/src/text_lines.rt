@@ -33,7 +33,6 @@ fn write_text(text: &mut TextBuffer, plan: &TextPlan, bytes: &[u8]) -> Result<()
 }
 
 /// Writes the texts of a group that stand in these bytes.
-#[inline(always)]
 pub(crate) fn write_texts(
     text: &mut TextBuffer,
     texts: &[TextPlan],
