@@ -5,5 +5,6 @@ pub mod FollowReports
 pub mod FollowText
 pub mod Holders
 pub mod LogLines
+pub mod Requests
 pub mod Who
 pub mod inside

@@ -7,15 +7,15 @@ ghost use Rattle.j39_tp.specs.Packets.{InRange};
 ghost use Rattle.j39_tp.specs.declared.receiving.progress.Progress.TheVariants.{Complete};
 ghost use Rattle.j39_follow.specs.Contests.{Timed};
 ghost use Rattle.j39_follow.specs.FollowReports.{IsMessageReport};
-ghost use Rattle.j39_follow.specs.FollowText.{IsPacketReport, in_frame as message_in_frame};
+ghost use Rattle.j39_follow.specs.FollowText.{IsPacketReport};
 ghost use Rattle.j39_follow.specs.inside.FrameWriting.{IsCompleted, IsFrameWritten};
 ghost use Rattle.j39_follow.specs.inside.Hearing.{HaveHeardOneMore, HaveHeardSince, listener_between};
-ghost use Rattle.j39_follow.specs.inside.Contesting.{ShowsParties};
+ghost use Rattle.j39_follow.specs.inside.Contesting.{ShowsAsker, ShowsParties};
 ghost use Rattle.j39_follow.specs.inside.Reporting.{front_of, arrived_message};
 
 use crate::group_line::write_message;
 use crate::known_parties::Parties;
-use crate::message::{Arrival, Sort};
+use crate::message::{Arrival, Sort, in_frame};
 use crate::notice::write_notice;
 use crate::stamp::Stamp;
 use j39_id::{Frame, Ident};
@@ -23,18 +23,6 @@ use j39_log::{Groups, Listeners, listen, transport_packet};
 use j39_text::TextBuffer;
 use j39_tp::{Packet, listener_completes_what_is_carried};
 use std::alloc::AllocError;
-
-// The message that came in a frame.
-fn in_frame(frame: &Frame) -> Arrival<'_>
-    ensures { arrived_message result ≡ message_in_frame frame.now }
-{
-    Arrival {
-        pgn: frame.ident.pgn().number(),
-        bytes: frame.payload.as_slice(),
-        ident: frame.ident,
-        framed: Some(frame.ident.priority),
-    }
-}
 
 // The report of the message that a pair just completed, and what it counts as.
 fn write_completed(
@@ -104,7 +92,7 @@ pub(crate) fn write_frame(
     frame: &Frame,
 ) -> Result<(Sort, Option<Sort>), AllocError>
     ensures { IfOk result (λ sorts. (seen : List Seen) (log : List Timed) → ShowsParties groups.now parties.now log frame.now.ident
-        → HaveHeardSince groups.now listeners.old seen → AreAllInRange seen
+        → ShowsAsker groups.now parties.now log frame.now → HaveHeardSince groups.now listeners.old seen → AreAllInRange seen
         → IsFrameWritten groups.now listeners.new seen log (front_of stamp.entry) frame.now sorts.0 sorts.1 text.old text.new) }
 {
     write_notice(text, groups.plan(), parties, stamp, frame)?;

@@ -17,9 +17,11 @@ ghost use Rattle.j39_follow.specs.inside.Recounting.{Knows};
 ghost use Rattle.j39_follow.specs.inside.Reporting.{front_of};
 ghost use Rattle.j39_follow.specs.inside.Tallies.{IsTally};
 
+use crate::acknowledgement::{acknowledges, told_address};
 use crate::contests::{Contests, begun};
 use crate::directory::Directory;
 use crate::endings::write_endings;
+use crate::exchanges::Exchanges;
 use crate::frame_report::write_frame;
 use crate::holders::{cannot_claim, claims_address};
 use crate::log_line::{interface, is_elsewhere, read_part, time_text};
@@ -27,9 +29,11 @@ use crate::message::Sort;
 use crate::moment::moment;
 use crate::needs::write_needs;
 use crate::parting::part;
+use crate::request_ends::write_requests;
 use crate::stamp::Stamp;
 use crate::taking::taken;
 use crate::tally::Tally;
+use crate::telling::{Scene, tell};
 use j39_findings::Plan;
 use j39_id::{Cut, Frame, LineError, read_frame};
 use j39_log::{Groups, Listeners};
@@ -45,6 +49,7 @@ pub(crate) struct Reading {
     contests: Contests,
     listeners: Listeners,
     tally: Tally,
+    exchanges: Exchanges,
     interface: Option<Vec<u8>>,
     number: u64,
     frames: u64,
@@ -102,6 +107,7 @@ impl Reading {
             contests: Contests::new(),
             listeners: Listeners::new(alloc),
             tally: Tally::new(),
+            exchanges: Exchanges::new(),
             interface: None,
             number: 0,
             frames: 0,
@@ -130,6 +136,7 @@ impl Reading {
             self.directory.parties(),
             &self.contests,
             frame.ident,
+            told_address(groups.plan(), frame),
             moment(stamp.time),
         );
         write_frame(
@@ -179,11 +186,32 @@ impl Reading {
             → HaveHeardSince groups.now self.old.listeners seen → AreAllInRange seen
             → IsFrameWritten groups.now self.new.listeners seen log (front_of stamp.entry) frame.now sorts.0 sorts.1 self.old.text self.new.text) }
     {
+        if acknowledges(groups.plan(), frame) {
+            return self.write_taken(groups, stamp, frame);
+        }
         if self.contests.are_calm(frame.ident, stamp.time) {
             self.write_plain(groups, stamp, frame)
         } else {
             self.write_taken(groups, stamp, frame)
         }
+    }
+
+    // Notes what a frame tells of the requests of the plan.
+    fn note_requests(
+        &mut self,
+        groups: &Groups<'_>,
+        time: &[u8],
+        frame: &Frame,
+        sort: Sort,
+        ended: Option<Sort>,
+    ) {
+        let scene = Scene {
+            plan: groups.plan(),
+            parties: self.directory.parties(),
+            contests: &self.contests,
+            time: moment(time),
+        };
+        tell(&mut self.exchanges, scene, frame, sort, ended);
     }
 
     // Writes and counts a frame whose claim was noted.
@@ -202,6 +230,9 @@ impl Reading {
         };
         let (sort, ended) = self.write(groups, stamp, frame)?;
         self.tally.count_frame(groups, sort, ended);
+        if !groups.plan().requests.is_empty() {
+            self.note_requests(groups, time, frame, sort, ended);
+        }
         Ok(())
     }
 
@@ -339,6 +370,7 @@ impl Reading {
             × AreUnitLines (frames_seen past.seen) plan.now.units.items units × (self.new.text ≡ self.old.text ++ behind_reports plan.now past units)) }
     {
         write_endings(&mut self.text, plan, &self.tally, self.directory.holders())?;
+        write_requests(&mut self.text, plan, &self.exchanges)?;
         write_needs(&mut self.text, plan, &self.tally)?;
         self.write_counts()
     }

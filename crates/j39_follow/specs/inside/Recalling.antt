@@ -9,8 +9,8 @@ use Rattle.j39_findings.specs.declared.plan.Plan.{Plan}
 use Rattle.j39_log.specs.inside.Listening.{AreAllInRange, IsInRange}
 use Rattle.j39_tp.specs.declared.packet.Packet.{Packet}
 use Rattle.j39_follow.specs.Contests.{frames_of}
-use Rattle.j39_follow.specs.FollowReports.{IsMessageReport, IsNotice, stamp}
-use Rattle.j39_follow.specs.FollowText.{IsFollowedAs, IsPacketReport, FollowedPast, FollowsLines, follow_counts_line, flow_ends, frames_seen, group_ends, in_frame, lines_with, nothing_followed, need_ends}
+use Rattle.j39_follow.specs.FollowReports.{IsMessageReport, IsNotice, in_frame, stamp}
+use Rattle.j39_follow.specs.FollowText.{IsFollowedAs, IsPacketReport, FollowedPast, FollowsLines, follow_counts_line, flow_ends, frames_seen, group_ends, lines_with, nothing_followed, need_ends}
 use Rattle.j39_follow.specs.declared.message.Sort.{Sort}
 use Rattle.j39_follow.specs.declared.reading.Reading.{Reading}
 use Rattle.j39_follow.specs.inside.Contesting.{AreContests}

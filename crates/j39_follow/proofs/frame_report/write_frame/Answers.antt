@@ -1,7 +1,6 @@
 use Rattle.std.proofs.Common.{[], sym, ap, subst, ◌∙◌, inl, inr, refl, Some, None}
 use Rattle.std.proofs.lemmas.List.{append-nil}
-use Rattle.j39_follow.specs.FollowReports.{IsMessageReport, Message}
-use Rattle.j39_follow.specs.FollowText.{in_frame}
+use Rattle.j39_follow.specs.FollowReports.{IsMessageReport, Message, in_frame}
 use Rattle.j39_follow.specs.inside.Contesting.{ShowsParties}
 use Rattle.j39_follow.specs.inside.Reporting.{front_of}
 use Rattle.j39_follow.proofs.FrameTexts.{is_a_group, is_no_group, three_texts}

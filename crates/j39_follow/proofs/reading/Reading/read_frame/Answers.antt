@@ -5,8 +5,8 @@ use Rattle.std.proofs.lemmas.List.Elements.{All-push}
 use Rattle.j39_id.specs.declared.frame.Frame.{Frame}
 use Rattle.j39_log.specs.LogPairs.{Seen}
 use Rattle.j39_log.specs.inside.Listening.{IsInRange}
-use Rattle.j39_follow.specs.FollowReports.{IsMessageReport, IsNotice, stamp}
-use Rattle.j39_follow.specs.FollowText.{IsPacketReport, FollowedPast, in_frame, lines_with}
+use Rattle.j39_follow.specs.FollowReports.{IsMessageReport, IsNotice, in_frame, stamp}
+use Rattle.j39_follow.specs.FollowText.{IsPacketReport, FollowedPast, lines_with}
 use Rattle.j39_follow.specs.LogLines.{interface_behind}
 use Rattle.j39_follow.specs.declared.message.Sort.{Sort}
 use Rattle.j39_follow.specs.inside.Recalling.{interface_of}
