@@ -6,6 +6,7 @@ use Rattle.j39_claim.specs.declared.item.Item.{Item}
 use Rattle.j39_claim.specs.declared.item.Item.TheVariants.{Told}
 use Rattle.j39_findings.specs.Findings.{Clean}
 use Rattle.j39_findings.specs.Needs.{AreNeedsMet}
+use Rattle.j39_findings.specs.Requests.{AreAnsweredWell, AreRequestsServed}
 use Rattle.j39_findings.specs.SoundSignals.{SoundSignals}
 use Rattle.j39_findings.specs.declared.plan.Plan.{Plan}
 use Rattle.j39_findings.specs.declared.steps.Step.{Step}
@@ -52,13 +53,15 @@ pub sound_by_laws : (plan : Plan) → Clean plan
     → ((p : Plan) (steps : List Step) (w : World) → Run p all_off steps w → TransfersEnd p w)
     → ((p : Plan) (steps : List Step) (w : World) → Run p all_off steps w → ArrivesUnanswered p w)
     → ((p : Plan) (steps : List Step) (w : World) → Run p all_off steps w → ArrivesAnswered p w)
+    → ((p : Plan) → Clean p → AreRequestsServed p)
+    → ((p : Plan) → Clean p → AreAnsweredWell p)
     → ((p : Plan) → Clean p → AreNeedsMet p)
     → ((p : Plan) (steps : List Step) (w : World) → Clean p → Run p all_off steps w → (d : Delivered p w) → ReportsNeeded p w d)
     → ((p : Plan) (steps : List Step) (w : World) → Clean p → Run p all_off steps w
     → (d : Delivered p w) (x : LastWrite d.message) → ReadsAsWritten d.message x x.write.place)
     → IsSound plan
 sound_by_laws plan clean addresses different planned alone silent strangers strangers_quiet notes kept settles signals reports sent_frames acknowledged ends
-    arrives arrives_answered needs needed read = record {
+    arrives arrives_answered served answered needs needed read = record {
       addresses = λ steps w run. addresses plan steps w clean run;
       quiet = λ steps w run. different plan steps w clean run;
       sending = λ steps w run (u, o, is). different plan steps w clean run (quiet_where_empty w.claims ((reports plan steps w run).delivered u o is));
@@ -77,6 +80,8 @@ sound_by_laws plan clean addresses different planned alone silent strangers stra
       ends = λ steps w run. ends plan steps w run;
       arrives = λ steps w run. arrives plan steps w run;
       arrives_answered = λ steps w run. arrives_answered plan steps w run;
+      served = served plan clean;
+      answered = answered plan clean;
       needs = needs plan clean;
       needed = λ steps w run d. (needed plan steps w clean run d, read plan steps w clean run d);
     }

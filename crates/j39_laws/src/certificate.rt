@@ -8,15 +8,14 @@ use crate::laws::{
     sent_frames_are_sound, silent_units_are_undisturbed, strangers_keep_addresses,
     unanswered_messages_arrive,
 };
-use j39_findings::{CheckedPlan, needs_are_met, signals_are_sound};
+use j39_findings::{CheckedPlan, needs_are_met, requests_are_served, signals_are_sound};
 
 /// A checked plan is sound: in every world of every run of it, with all lawful choices and whatever is lost, addresses and reports
 /// are sound, addresses also with strangers, planned addresses stay where they differ, a unit that is alone at its own is undisturbed, and
-/// so is one that never claims, what
-/// units have noted of one another is right where no claim is undelivered, what it keeps free stays free, claims die down, messages come to
-/// their end, those of which nothing is lost arrive, its signals read back what they were last given, and what its units need is sent to
-/// them and reads there as it was written. `docs/PROMISES.md` has it in plain words. It does nothing when it runs; it rests on the laws
-/// that it calls.
+/// so is one that never claims, what units have noted of one another is right where no claim is undelivered, what it keeps free stays free,
+/// claims die down, messages come to their end, those of which nothing is lost arrive, its signals read back what they were last given, its
+/// requests are answered, and what its units need is sent to them and reads there as it was written. `docs/PROMISES.md` has it in plain
+/// words. It does nothing when it runs; it rests on the laws that it calls.
 pub fn certify(checked: &CheckedPlan)
     ensures sound { IsSound checked.now }
 {
@@ -36,6 +35,7 @@ pub fn certify(checked: &CheckedPlan)
     every_transfer_ends();
     unanswered_messages_arrive();
     answered_messages_arrive();
+    requests_are_served();
     needs_are_met();
     a_needed_value_arrives();
 }

@@ -1,9 +1,10 @@
 -- What a plan without findings has: its addresses, its signals and its reports are sound, addresses also with strangers, planned ones that
 -- differ stay, what units have noted of one another is right where no claim is undelivered, what it keeps free stays free, its claims die
--- down, and its messages come to their end; one of which nothing is lost arrives; and what its units need is sent to them, and reads there
--- as it was written.
+-- down, and its messages come to their end; one of which nothing is lost arrives; its requests are answered; and what its units need is
+-- sent to them, and reads there as it was written.
 use Rattle.std.specs.Prelude.{◌≡◌, ℕ, ◌<◌, false, List, length, Some}
 use Rattle.j39_findings.specs.Needs.{AreNeedsMet}
+use Rattle.j39_findings.specs.Requests.{AreAnsweredWell, AreRequestsServed}
 use Rattle.j39_findings.specs.SoundSignals.{SoundSignals}
 use Rattle.j39_findings.specs.declared.plan.Plan.{Plan}
 use Rattle.j39_findings.specs.declared.plan.unit_plan.UnitPlan.{UnitPlan}
@@ -68,6 +69,9 @@ pub record IsSound (plan : Plan) : Type 0 where
   -- one of several frames to one unit of which nothing is lost is reported once and acknowledged, where its receiver has none of its group
   -- for its sender alone between its beginning and its rest
   pub arrives_answered : Always plan (ArrivesAnswered plan)
+  -- some flow answers each request, to one unit or to all as it was asked
+  pub served : AreRequestsServed plan
+  pub answered : AreAnsweredWell plan
   -- some flow brings each unit what it needs
   pub needs : AreNeedsMet plan
   -- and a message of it of which nothing is lost is reported once by this unit, and its signals read there what they were last given
