@@ -143,13 +143,16 @@ pub record IsNotice (plan : Plan) (log : List Timed) (front : List ℕ) (f : Fra
 abbrev pub reply_of : ℕ → Option ℕ → Aim → Reply
 reply_of number sender aim = record { number = number; sender = sender; aim = aim }
 
+-- for whom an acknowledgement is that names this address, behind which this one stands
+abbrev pub answer_aim : ℕ → Who → Aim
+answer_aim address asker = if address == global_address then aims.All else aim_at (unit_of asker)
+
 -- what it asks or refuses
 abbrev pub notice_events : Plan → Frame → Sending → Who → List Event
 notice_events plan f sent asker =
     if requests_group f then option_to_list (option_map Asked (asked_request plan (requested_group f) sent))
     else if acknowledges plan f && is_refusal f
-    then Refused (reply_of (acknowledged_group f) sent.sender
-    (if told_address plan f == global_address then aims.All else aim_at (unit_of asker))) ∷ []
+    then Refused (reply_of (acknowledged_group f) sent.sender (answer_aim (told_address plan f) asker)) ∷ []
     else []
 
 abbrev pub told_events : Plan → Frame → Sending → Who → List Sort → List Event

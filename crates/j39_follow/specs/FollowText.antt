@@ -241,11 +241,16 @@ AreUnitLines frames (unit ∷ units) text =
 unfoldable pub asked_ends_text : Plan → RequestPlan → List ℕ
 asked_ends_text plan r = codes " from " ++ (unit_label plan r.sender ++ (codes " to " ++ to_text plan r.to))
 
--- a request that was asked, answered and refused so often
+-- what was asked, answered and refused so often
+unfoldable pub exchange_text : ℕ → ℕ → ℕ → List ℕ
+exchange_text asked answered refused =
+    field (codes " asked ") asked ++ (field (codes " answered ") answered ++ (field (codes " refused ") refused ++ 10 ∷ []))
+
+-- a request that was
 unfoldable pub request_end_line : Plan → ℕ → RequestPlan → ℕ → ℕ → ℕ → List ℕ
 request_end_line plan n r asked answered refused =
     place_field (codes "request ") n ++ (codes " " ++ (group_label plan r.group ++ (asked_ends_text plan r
-    ++ (field (codes " asked ") asked ++ (field (codes " answered ") answered ++ (field (codes " refused ") refused ++ 10 ∷ []))))))
+    ++ exchange_text asked answered refused)))
 
 -- of each request how often it was asked, answered and refused
 abbrev pub request_end : Plan → List Event → ℕ → RequestPlan → List ℕ

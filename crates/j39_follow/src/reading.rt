@@ -1,6 +1,6 @@
 //! Following a log line after line.
-ghost use Rattle.std.specs.Prelude.{◌≡◌, ◌+◌, ◌-◌, ◌||◌, true, ◌^◌, ◌<◌, ◌≤◌, ◌++◌, [], ℕ, List, None, length, IfOk, OnOk};
-ghost use Rattle.std.specs.Option.{option_copied};
+ghost use Rattle.std.specs.Prelude.{◌≡◌, ◌+◌, ◌-◌, ◌||◌, true, false, ◌^◌, ◌<◌, ◌≤◌, ◌++◌, ◌∷◌, [], ℕ, List, None, length, IfOk, OnOk};
+ghost use Rattle.std.specs.Option.{option_copied, option_to_list};
 ghost use Rattle.j39_id.specs.Lines.{tells};
 ghost use Rattle.j39_findings.specs.declared.plan.Plan.{Plan as APlan};
 ghost use Rattle.j39_log.specs.inside.Listening.{AreAllInRange};
@@ -9,7 +9,10 @@ ghost use Rattle.j39_text.specs.FrameText.{cannot_claim, claims_address};
 ghost use Rattle.j39_follow.specs.Contests.{Timed, frames_of};
 ghost use Rattle.j39_follow.specs.FollowText.{AreUnitLines, FollowedPast, FollowsFrame, FollowsLines, FollowsShort, follow_counts_line, frames_seen, lines_with, nothing_followed, line_passed_over};
 ghost use Rattle.j39_follow.specs.LogLines.{interface_behind, moment_of};
+ghost use Rattle.j39_follow.specs.Requests.{acknowledges};
+ghost use Rattle.j39_follow.specs.declared.event.Event.{Event as AnEvent};
 ghost use Rattle.j39_follow.specs.inside.Contesting.{AreContests, IsDefender, IsTimed};
+ghost use Rattle.j39_follow.specs.inside.Exchanging.{AreExchanges, AreNoted};
 ghost use Rattle.j39_follow.specs.inside.FrameWriting.{IsFrameWritten};
 ghost use Rattle.j39_follow.specs.inside.Hearing.{HaveHeardSince};
 ghost use Rattle.j39_follow.specs.inside.Recalling.{CountsWithin, IsFollowed, IsOneMore, IsReported, IsSameButWritten, IsSameCounts, RecallsPast, Remembers, behind_reports, interface_of};
@@ -22,7 +25,7 @@ use crate::contests::{Contests, begun};
 use crate::directory::Directory;
 use crate::endings::write_endings;
 use crate::exchanges::Exchanges;
-use crate::frame_report::write_frame;
+use crate::frame_report::report_frame;
 use crate::holders::{cannot_claim, claims_address};
 use crate::log_line::{interface, is_elsewhere, read_part, time_text};
 use crate::message::Sort;
@@ -33,7 +36,6 @@ use crate::request_ends::write_requests;
 use crate::stamp::Stamp;
 use crate::taking::taken;
 use crate::tally::Tally;
-use crate::telling::{Scene, tell};
 use j39_findings::Plan;
 use j39_id::{Cut, Frame, LineError, read_frame};
 use j39_log::{Groups, Listeners};
@@ -130,6 +132,10 @@ impl Reading {
             → AreContests groups.now self.old.contests log → IsTimed log (moment_of stamp.entry.time.now)
             → HaveHeardSince groups.now self.old.listeners seen → AreAllInRange seen
             → IsFrameWritten groups.now self.new.listeners seen log (front_of stamp.entry) frame.now sorts.0 sorts.1 self.old.text self.new.text) }
+        ensures noted { IfOk result (λ sorts. (log : List Timed) (events : List AnEvent) → Knows groups.now self.old.directory (frames_of log)
+            → AreContests groups.now self.old.contests log → IsTimed log (moment_of stamp.entry.time.now)
+            → length events + 3 < 2 ^ 64 → AreExchanges groups.now self.old.exchanges events
+            → AreNoted groups.now log frame.now (sorts.0 ∷ option_to_list sorts.1) events self.new.exchanges) }
     {
         let parties = taken(
             groups.plan(),
@@ -139,9 +145,10 @@ impl Reading {
             told_address(groups.plan(), frame),
             moment(stamp.time),
         );
-        write_frame(
+        report_frame(
             &mut self.text,
             &mut self.listeners,
+            &mut self.exchanges,
             groups,
             &parties,
             stamp,
@@ -157,15 +164,21 @@ impl Reading {
         stamp: Stamp<'_>,
         frame: &Frame,
     ) -> Result<(Sort, Option<Sort>), AllocError>
+        requires { acknowledges groups.now frame.now ≡ false }
         ensures stays { IsSameButWritten self.old self.new }
         ensures written { IfOk result (λ sorts. (seen : List Seen) (log : List Timed) → Knows groups.now self.old.directory (frames_of log)
             → IsDefender groups.now log frame.now.ident.sa None → IsDefender groups.now log frame.now.ident.ps None
             → HaveHeardSince groups.now self.old.listeners seen → AreAllInRange seen
             → IsFrameWritten groups.now self.new.listeners seen log (front_of stamp.entry) frame.now sorts.0 sorts.1 self.old.text self.new.text) }
+        ensures noted { IfOk result (λ sorts. (log : List Timed) (events : List AnEvent) → Knows groups.now self.old.directory (frames_of log)
+            → IsDefender groups.now log frame.now.ident.sa None → IsDefender groups.now log frame.now.ident.ps None
+            → length events + 3 < 2 ^ 64 → AreExchanges groups.now self.old.exchanges events
+            → AreNoted groups.now log frame.now (sorts.0 ∷ option_to_list sorts.1) events self.new.exchanges) }
     {
-        write_frame(
+        report_frame(
             &mut self.text,
             &mut self.listeners,
+            &mut self.exchanges,
             groups,
             self.directory.parties(),
             stamp,
@@ -185,6 +198,10 @@ impl Reading {
             → AreContests groups.now self.old.contests log → IsTimed log (moment_of stamp.entry.time.now)
             → HaveHeardSince groups.now self.old.listeners seen → AreAllInRange seen
             → IsFrameWritten groups.now self.new.listeners seen log (front_of stamp.entry) frame.now sorts.0 sorts.1 self.old.text self.new.text) }
+        ensures noted { IfOk result (λ sorts. (log : List Timed) (events : List AnEvent) → Knows groups.now self.old.directory (frames_of log)
+            → AreContests groups.now self.old.contests log → IsTimed log (moment_of stamp.entry.time.now)
+            → length events + 3 < 2 ^ 64 → AreExchanges groups.now self.old.exchanges events
+            → AreNoted groups.now log frame.now (sorts.0 ∷ option_to_list sorts.1) events self.new.exchanges) }
     {
         if acknowledges(groups.plan(), frame) {
             return self.write_taken(groups, stamp, frame);
@@ -196,24 +213,6 @@ impl Reading {
         }
     }
 
-    // Notes what a frame tells of the requests of the plan.
-    fn note_requests(
-        &mut self,
-        groups: &Groups<'_>,
-        time: &[u8],
-        frame: &Frame,
-        sort: Sort,
-        ended: Option<Sort>,
-    ) {
-        let scene = Scene {
-            plan: groups.plan(),
-            parties: self.directory.parties(),
-            contests: &self.contests,
-            time: moment(time),
-        };
-        tell(&mut self.exchanges, scene, frame, sort, ended);
-    }
-
     // Writes and counts a frame whose claim was noted.
     fn report(&mut self, groups: &Groups<'_>, time: &[u8], frame: &Frame) -> Result<(), AllocError>
         ensures directory { self.new.directory ≡ self.old.directory }
@@ -222,7 +221,8 @@ impl Reading {
         ensures reported { OnOk result ((past : FollowedPast) → Knows groups.now self.old.directory (frames_of (lines_with past frame.now time.now))
             → AreContests groups.now self.old.contests (lines_with past frame.now time.now)
             → HaveHeardSince groups.now self.old.listeners past.seen → AreAllInRange past.seen → IsTally groups.now self.old.tally past.sent
-            → length past.sent + 2 < 2 ^ 64 → IsReported groups.now self.old self.new past time.now frame.now) }
+            → AreExchanges groups.now self.old.exchanges past.told → length past.sent + 2 < 2 ^ 64 → length past.told + 3 < 2 ^ 64
+            → IsReported groups.now self.old self.new past time.now frame.now) }
     {
         let stamp = Stamp {
             number: self.number,
@@ -230,9 +230,6 @@ impl Reading {
         };
         let (sort, ended) = self.write(groups, stamp, frame)?;
         self.tally.count_frame(groups, sort, ended);
-        if !groups.plan().requests.is_empty() {
-            self.note_requests(groups, time, frame, sort, ended);
-        }
         Ok(())
     }
 
@@ -364,7 +361,8 @@ impl Reading {
         self.text.end_line()
     }
 
-    /// Writes what was sent, where each unit stands, what met each need, and how many lines there were of each sort.
+    /// Writes what was sent, where each unit stands, how often each request was asked and answered, what met each need, and how many lines
+    /// there were of each sort.
     pub fn finish(&mut self, plan: &Plan) -> Result<(), AllocError>
         ensures { OnOk result ((past : FollowedPast) → RecallsPast plan.now self.old past → (units : List ℕ)
             × AreUnitLines (frames_seen past.seen) plan.now.units.items units × (self.new.text ≡ self.old.text ++ behind_reports plan.now past units)) }
