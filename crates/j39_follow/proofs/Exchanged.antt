@@ -1,18 +1,20 @@
 -- What is asked and answered once one event more came.
-use Rattle.std.proofs.Common.{◌≡◌, ◌≤◌, ◌<◌, ◌+◌, ◌-◌, ◌^◌, ℕ, Bool, true, false, not, ◌&&◌, ◌||◌, if◌then◌else◌, List, [], ◌∷◌, ◌++◌, drop, length, inl, inr, refl, sym, ap, ◌∙◌, arith}
-use Rattle.std.specs.Prelude.{cond, count_by, min}
-use Rattle.std.specs.List.{filter, zip}
-use Rattle.std.proofs.lemmas.Bool.{cases_Bool}
-use Rattle.std.proofs.lemmas.List.{append-nil}
+use Rattle.std.proofs.Common.{◌≡◌, ◌≢◌, ◌==◌, ◌≤◌, ◌<◌, ◌+◌, ◌-◌, ◌^◌, ℕ, Bool, true, false, not, ◌&&◌, ◌||◌, if◌then◌else◌, List, [], ◌∷◌, ◌++◌, drop, length, inl, inr, refl, sym, ap, ◌∙◌, arith, subst, eqb-true, Some}
+use Rattle.std.specs.Prelude.{cond, count_by, min, slice_set}
+use Rattle.std.specs.List.{filter, slice_get, zip}
+use Rattle.std.proofs.lemmas.Bool.{cases_Bool, eqb-false}
+use Rattle.std.proofs.lemmas.List.{append-nil, length-set}
 use Rattle.std.proofs.lemmas.List.Elements.{filter-append}
 use Rattle.std.proofs.lemmas.List.Sums.{count_by-le-length, length-filter, sum_by_push}
 use Rattle.std.proofs.lemmas.Slice.Zip.{length-zip}
+use Rattle.j39_findings.specs.PlanLimits.{request_limit}
 use Rattle.j39_findings.specs.declared.plan.Plan.{Plan}
 use Rattle.j39_findings.specs.declared.plan.request_plan.RequestPlan.{RequestPlan}
 use Rattle.j39_follow.specs.Requests.{answers, asks, concerns, refuses, times_answered, times_asked, times_refused}
 use Rattle.j39_follow.specs.declared.event.Event.{Event}
 use Rattle.j39_follow.specs.declared.exchange.Exchange.{Exchange}
-use Rattle.j39_follow.specs.inside.Exchanging.{IsAfter, ends_asking}
+use Rattle.j39_follow.specs.inside.Exchanging.{IsAfter, IsHeardBelow, ends_asking, exchange_at, nothing_asked}
+use Rattle.j39_follow.proofs.Tables.{set_here, set_there}
 
 false_true : false ≡ true → ⊥
 false_true e = cc
@@ -23,23 +25,29 @@ one_if b = cond b 1 0
 
 -- how often an event of this kind stands right behind a question
 abbrev behind_asking : ℕ → (Event → Bool) → List Event → ℕ
-behind_asking place q own = count_by (λ t. asks place t.0 && q t.1) (zip own (drop 1 own))
+behind_asking place q own = count_by (λ (t : Event × Event). asks place t.0 && q t.1) (zip own (drop 1 own))
 
 -- ---- one event more among those that concern a request
 
-pair_count : (b : Bool) → one_if b + 0 ≡ 0 + one_if b
-pair_count true = refl
-pair_count false = refl
+-- the last of some events, with the one behind it
+last_asks : (place : ℕ) (c : Event) (own : List Event) (e : Event)
+    → (d : Event) × (zip (c ∷ (own ++ e ∷ [])) (own ++ e ∷ []) ≡ zip (c ∷ own) own ++ (d, e) ∷ []) × (asks place d ≡ ends_asking place (c ∷ own))
+unfolding ends_asking
+last_asks place c [] e = (c, refl, refl)
+last_asks place c (d ∷ own) e =
+    let rest = last_asks place d own e in
+    (rest.0, ap (λ (t : List (Event × Event)). (c, d) ∷ t) rest.1, rest.2)
 
 pushed : (place : ℕ) (q : Event → Bool) (own : List Event) (e : Event)
     → behind_asking place q (own ++ e ∷ []) ≡ behind_asking place q own + one_if (ends_asking place own && q e)
 unfolding ends_asking
 pushed place q [] e = refl
-pushed place q (d ∷ []) e = pair_count (asks place d && q e)
-pushed place q (c ∷ (d ∷ own)) e =
-    let rest = pushed place q (d ∷ own) e in
-    let here : ℕ = one_if (asks place c && q d) in
-    ap (λ (n : ℕ). here + n) rest ∙ omega arith
+pushed place q (c ∷ own) e =
+    let last = last_asks place c own e in
+    let more : behind_asking place q ((c ∷ own) ++ e ∷ []) ≡ behind_asking place q (c ∷ own) + one_if (asks place last.0 && q e) =
+    ap (count_by (λ (t : Event × Event). asks place t.0 && q t.1)) last.1
+    ∙ sum_by_push (λ (t : Event × Event). cond (asks place t.0 && q t.1) 1 0) (zip (c ∷ own) own) (last.0, e) in
+    more ∙ ap (λ (b : Bool). behind_asking place q (c ∷ own) + one_if (b && q e)) last.2
 
 ends_pushed : (place : ℕ) (own : List Event) (e : Event) → ends_asking place (own ++ e ∷ []) ≡ asks place e
 unfolding ends_asking
@@ -155,4 +163,44 @@ after_event plan place r e old new asked answered refused opens = λ events few 
       open_is =
           opens ∙ ap (λ (b : Bool). asks place e || (b && not (answers plan r e || refuses plan r e))) open_is
           ∙ sym (ap (ends_asking place) cut ∙ open_more place own e (concerns plan place r e) (answers plan r e || refuses plan r e) refl);
+    }
+
+-- ---- all requests
+
+pub none_heard : (plan : Plan) (e : Event) (old : List Exchange) → length old ≡ request_limit → IsHeardBelow plan e old old 0
+none_heard plan e old size = record {
+  size = size;
+  heard = λ k r less at. absurd (omega (arith, less));
+  rest = λ k more. refl;
+}
+
+some_same : (a b : RequestPlan) → Some a ≡ Some b → a ≡ b
+some_same a b e = cc
+
+-- what is kept of one request more is that behind the event
+pub one_heard : (plan : Plan) (e : Event) (old new : List Exchange) (k : ℕ) (r : RequestPlan) (x : Exchange) → k < request_limit
+    → slice_get plan.requests.items k ≡ Some r → IsAfter plan k r e (exchange_at new k) x → IsHeardBelow plan e old new k
+    → IsHeardBelow plan e old (slice_set new k x) (k + 1)
+one_heard plan e old new k r x room here after before =
+    let size = before.size in
+    let within : k < length new = omega (arith, room, size) in
+    let first : IsAfter plan k r e (exchange_at old k) (exchange_at (slice_set new k x) k) =
+    subst (λ (y : Exchange). IsAfter plan k r e (exchange_at old k) y) (sym (set_here new k x nothing_asked within))
+    (subst (λ (y : Exchange). IsAfter plan k r e y x) (before.rest k (omega arith)) after) in
+    record {
+      size = length-set new k x ∙ size;
+      heard = λ j s less at. elim (cases_Bool (k == j)) [
+        | inl same ↦
+            let is : k ≡ j = eqb-true k j same in
+            let one : r ≡ s = some_same r s (sym here ∙ ap (slice_get plan.requests.items) is ∙ at) in
+            subst (λ (i : ℕ). IsAfter plan i s e (exchange_at old i) (exchange_at (slice_set new k x) i)) is
+            (subst (λ (q : RequestPlan). IsAfter plan k q e (exchange_at old k) (exchange_at (slice_set new k x) k)) one first)
+        | inr other ↦
+            let apart = eqb-false k j other in
+            subst (λ (y : Exchange). IsAfter plan j s e (exchange_at old j) y) (sym (set_there new k j x nothing_asked apart))
+            (before.heard j s (omega (arith, less, apart)) at)
+      ];
+      rest = λ j more.
+          let apart : k ≢ j = λ is. absurd (omega (arith, more, is)) in
+          set_there new k j x nothing_asked apart ∙ before.rest j (omega (arith, more));
     }

@@ -111,7 +111,7 @@ one_notice_event plan f sent asker =
     (Refused (reply_of (acknowledged_group f) sent.sender (answer_aim (told_address plan f) asker))))
 
 two_messages : (plan : Plan) (sent : Sending) (sort : Sort) (ended : Option Sort)
-    → length (map (λ s. Brought (reply_of (number_of plan s) sent.sender sent.aim)) (sort ∷ option_to_list ended)) ≤ 2
+    → length (map (λ (s : Sort). Brought (reply_of (number_of plan s) sent.sender sent.aim)) (sort ∷ option_to_list ended)) ≤ 2
 two_messages plan sent sort None = omega arith
 two_messages plan sent sort (Some s) = omega arith
 
@@ -134,6 +134,6 @@ few_events plan log f sort ended events told =
     let first = one_notice_event plan f told.sent told.asker in
     let rest = two_messages plan told.sent sort ended in
     let all = length-append (notice_events plan f told.sent told.asker)
-    (map (λ s. Brought (reply_of (number_of plan s) told.sent.sender told.sent.aim)) (sort ∷ option_to_list ended)) in
+    (map (λ (s : Sort). Brought (reply_of (number_of plan s) told.sent.sender told.sent.aim)) (sort ∷ option_to_list ended)) in
     let same = ap length told.events_are in
     omega (arith, first, rest, all, same)

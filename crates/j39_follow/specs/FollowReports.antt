@@ -157,7 +157,7 @@ notice_events plan f sent asker =
 
 abbrev pub told_events : Plan → Frame → Sending → Who → List Sort → List Event
 told_events plan f sent asker sorts =
-    notice_events plan f sent asker ++ map (λ sort. Brought (reply_of (number_of plan sort) sent.sender sent.aim)) sorts
+    notice_events plan f sent asker ++ map (λ (sort : Sort). Brought (reply_of (number_of plan sort) sent.sender sent.aim)) sorts
 
 -- what a frame tells of requests: what it asks or refuses, and then the messages that it is and ends
 pub record AreTold (plan : Plan) (log : List Timed) (f : Frame) (sorts : List Sort) (events : List Event) : Type 0 where

@@ -147,7 +147,7 @@ abbrev pub times_asked : ℕ → List Event → ℕ
 times_asked place events = count_by (asks place) events
 
 abbrev pub times_answered : Plan → ℕ → RequestPlan → List Event → ℕ
-times_answered plan place r events = count_by (λ t. asks place t.0 && answers plan r t.1) (turns plan place r events)
+times_answered plan place r events = count_by (λ (t : Event × Event). asks place t.0 && answers plan r t.1) (turns plan place r events)
 
 abbrev pub times_refused : Plan → ℕ → RequestPlan → List Event → ℕ
-times_refused plan place r events = count_by (λ t. asks place t.0 && refuses plan r t.1) (turns plan place r events)
+times_refused plan place r events = count_by (λ (t : Event × Event). asks place t.0 && refuses plan r t.1) (turns plan place r events)

@@ -1,5 +1,5 @@
 //! How often a request was asked, answered and refused.
-ghost use Rattle.std.specs.Prelude.{◌≡◌, ◌^◌, ◌-◌, ◌+◌, if◌then◌else◌, min};
+ghost use Rattle.std.specs.Prelude.{◌≡◌, ◌^◌, ◌-◌, ◌+◌, ◌&&◌, ◌||◌, not, if◌then◌else◌, min};
 ghost use Rattle.j39_follow.specs.inside.Exchanging.{IsAfter, nothing_asked};
 
 use crate::event::Event;
@@ -15,15 +15,22 @@ pub(crate) struct Exchange {
     pub is_open: bool,
 }
 
-// One more, if it counts.
-fn one_more_if(count: u64, counts: bool) -> u64
-    ensures { result ≡ (if counts then min (count + 1) (2 ^ 64 - 1) else count) }
+// One more, if this comes while it is open.
+fn one_more_if(count: u64, is_open: bool, comes: bool) -> u64
+    ensures { result ≡ (if is_open && comes then min (count + 1) (2 ^ 64 - 1) else count) }
 {
-    if counts {
+    if is_open && comes {
         count.saturating_add(1)
     } else {
         count
     }
+}
+
+// Whether it is open behind an event that asks it, answers it or refuses it.
+fn is_open_behind(is_open: bool, asks: bool, answers: bool, refuses: bool) -> bool
+    ensures { result ≡ (asks || (is_open && not (answers || refuses))) }
+{
+    asks || (is_open && !(answers || refuses))
 }
 
 impl Exchange {
@@ -46,10 +53,10 @@ impl Exchange {
         let answers = answers(plan, request, event);
         let refuses = refuses(plan, request, event);
         Exchange {
-            asked: one_more_if(self.asked, asks),
-            answered: one_more_if(self.answered, self.is_open && answers),
-            refused: one_more_if(self.refused, self.is_open && refuses),
-            is_open: asks || (self.is_open && !(answers || refuses)),
+            asked: one_more_if(self.asked, true, asks),
+            answered: one_more_if(self.answered, self.is_open, answers),
+            refused: one_more_if(self.refused, self.is_open, refuses),
+            is_open: is_open_behind(self.is_open, asks, answers, refuses),
         }
     }
 }

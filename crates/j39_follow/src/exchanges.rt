@@ -32,8 +32,9 @@ impl Exchanges {
             → AreExchanges plan.now self.new (events ++ event ∷ []) }
     {
         for place in 0..plan.requests.len() {
-            let exchange = self.table[place];
-            self.table[place] = exchange.after(plan, place, &plan.requests[place], event);
+            let request = &plan.requests[place];
+            let exchange = self.exchange(place).after(plan, place, request, event);
+            self.table[place] = exchange;
         }
     }
 

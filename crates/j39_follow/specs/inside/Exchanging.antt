@@ -1,7 +1,8 @@
 -- What is kept of the requests of a plan.
-use Rattle.std.specs.Prelude.{◌≡◌, ◌^◌, ◌-◌, ◌<◌, ℕ, Bool, false, List, [], ◌∷◌, ◌++◌, length, Some, slice_index_or}
+use Rattle.std.specs.Prelude.{◌≡◌, ◌^◌, ◌-◌, ◌<◌, ◌≤◌, ℕ, Bool, false, List, [], ◌∷◌, ◌++◌, length, Some, slice_index_or}
 use Rattle.std.specs.List.{filter, slice_get}
 use Rattle.j39_id.specs.declared.frame.Frame.{Frame}
+use Rattle.j39_findings.specs.PlanLimits.{request_limit}
 use Rattle.j39_findings.specs.declared.plan.Plan.{Plan}
 use Rattle.j39_findings.specs.declared.plan.request_plan.RequestPlan.{RequestPlan}
 use Rattle.j39_follow.specs.Contests.{Timed}
@@ -43,6 +44,13 @@ exchange_at table place = slice_index_or table place nothing_asked
 abbrev pub AreExchanges : Plan → Exchanges → List Event → Type 0
 AreExchanges plan kept events = (place : ℕ) (r : RequestPlan) → slice_get plan.requests.items place ≡ Some r
     → IsExchange plan place r (exchange_at kept.table place) events
+
+-- what is kept of the requests below a place is that behind an event, and the rest as it was
+pub record IsHeardBelow (plan : Plan) (event : Event) (old new : List Exchange) (many : ℕ) : Type 0 where
+  pub size : length new ≡ request_limit
+  pub heard : (place : ℕ) (r : RequestPlan) → place < many → slice_get plan.requests.items place ≡ Some r
+      → IsAfter plan place r event (exchange_at old place) (exchange_at new place)
+  pub rest : (place : ℕ) → many ≤ place → exchange_at new place ≡ exchange_at old place
 
 -- ---- a frame
 
