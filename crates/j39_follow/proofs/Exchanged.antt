@@ -79,14 +79,14 @@ behind_more place q own e false so = elim (cases_Bool (q e)) [
 ]
 
 -- a question opens, what ends it closes
-opened : (asked open ended : Bool) → (asked || ended) ≡ true → asked ≡ (asked || (open && not ended))
-opened true open ended e = refl
-opened false open true e = sym (and_false open false refl)
-opened false open false e = cc
+opened : (asked was ended : Bool) → (asked || ended) ≡ true → asked ≡ (asked || (was && not ended))
+opened true was ended e = refl
+opened false was true e = sym (and_false was false refl)
+opened false was false e = cc
 
-stays_so : (asked open ended : Bool) → (asked || ended) ≡ false → open ≡ (asked || (open && not ended))
-stays_so true open ended e = cc
-stays_so false open true e = cc
+stays_so : (asked was ended : Bool) → (asked || ended) ≡ false → was ≡ (asked || (was && not ended))
+stays_so true was ended e = cc
+stays_so false was true e = cc
 stays_so false true false e = refl
 stays_so false false false e = refl
 
@@ -137,13 +137,13 @@ after_event plan place r e old new asked answered refused opens = λ events few 
     let own : List Event = filter (concerns plan place r) events in
     let all : List Event = filter (concerns plan place r) (events ++ e ∷ []) in
     let cut : all ≡ own ++ if_it (concerns plan place r e) e = own_with (concerns plan place r) events e in
-    let most = own_most (concerns plan place r) events in
-    let most_asked = count_by-le-length (asks place) events in
-    let most_answered = behind_most place (answers plan r) own in
-    let most_refused = behind_most place (refuses plan r) own in
+    let most : length own ≤ length events = own_most (concerns plan place r) events in
+    let most_asked : times_asked place events ≤ length events = count_by-le-length (asks place) events in
+    let most_answered : times_answered plan place r events ≤ length own = behind_most place (answers plan r) own in
+    let most_refused : times_refused plan place r events ≤ length own = behind_most place (refuses plan r) own in
     let open_is = was.open_is in
     let times_more : times_asked place (events ++ e ∷ []) ≡ times_asked place events + one_if (asks place e) =
-    sum_by_push (λ x. cond (asks place x) 1 0) events e in
+    sum_by_push (λ (x : Event). cond (asks place x) 1 0) events e in
     let answered_more : times_answered plan place r (events ++ e ∷ []) ≡ times_answered plan place r events + one_if (ends_asking place own && answers plan r e) =
     ap (behind_asking place (answers plan r)) cut
     ∙ behind_more place (answers plan r) own e (concerns plan place r e) (second_of (asks place e) (answers plan r e) (refuses plan r e)) in

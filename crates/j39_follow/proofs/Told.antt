@@ -2,13 +2,12 @@
 use Rattle.std.proofs.Common.{◌≡◌, ◌≤◌, ◌+◌, ◌==◌, ◌&&◌, ℕ, Bool, true, false, if◌then◌else◌, List, [], ◌∷◌, ◌++◌, codes, length, map, Option, Some, None, refl, sym, ap, subst, ◌∙◌, arith, append_assoc}
 use Rattle.std.specs.Prelude.{option_map, is_some}
 use Rattle.std.specs.Option.{option_to_list}
-use Rattle.std.specs.List.{slice_get}
 use Rattle.std.proofs.lemmas.List.{length-append}
+use Rattle.std.proofs.lemmas.Option.{slice_get_within}
 use Rattle.j39_id.specs.Addresses.{global_address}
 use Rattle.j39_id.specs.Pgn.{is_pdu2}
 use Rattle.j39_id.specs.declared.frame.Frame.{Frame}
 use Rattle.j39_findings.specs.declared.plan.Plan.{Plan}
-use Rattle.j39_findings.specs.declared.plan.request_plan.RequestPlan.{RequestPlan}
 use Rattle.j39_text.specs.FrameText.{requested_group, requests_group}
 use Rattle.j39_follow.specs.Contests.{IsTaken, Timed}
 use Rattle.j39_follow.specs.FollowReports.{AreTold, IsAnswerWay, IsAsked, IsSendingOf, Message, aim_at, answer_aim, answer_way_text, in_frame, is_to_all, notice_events, reply_of, told_events}
@@ -81,15 +80,15 @@ asks_itself plan parties log f none shows =
 
 -- in a plan without requests there is nothing to note
 pub none_noted : (plan : Plan) (parties : Parties) (log : List Timed) (f : Frame) (sorts : List Sort) (events : List Event) (kept : Exchanges)
-    → plan.requests.items ≡ [] → ShowsParties plan parties log f.ident → ShowsAsker plan parties log f → AreNoted plan log f sorts events kept
+    → length plan.requests.items ≡ 0 → ShowsParties plan parties log f.ident → ShowsAsker plan parties log f → AreNoted plan log f sorts events kept
 none_noted plan parties log f sorts events kept none shows asks =
     let one = a_sending plan parties log f shows in
     let asker = party_at parties.all (told_address plan f) in record {
       more = told_events plan f one.0 asker sorts;
       are_told = record { sent = one.0; asker = asker; sent_is = one.1; asker_is = asks; events_are = refl };
       exchanges = λ place r at.
-          let there : None ≡ Some r = ap (λ (rs : List RequestPlan). slice_get rs place) (sym none) ∙ at in
-          absurd (cc there);
+          let within = slice_get_within plan.requests.items place r at in
+          absurd (omega (arith, within, none));
     }
 
 pub one_at_most : {A : Type 0} (o : Option A) → length (option_to_list o) ≤ 1
@@ -131,9 +130,9 @@ joined_events events first g sort ended =
 pub few_events : (plan : Plan) (log : List Timed) (f : Frame) (sort : Sort) (ended : Option Sort) (events : List Event)
     → AreTold plan log f (sort ∷ option_to_list ended) events → length events ≤ 3
 few_events plan log f sort ended events told =
-    let first = one_notice_event plan f told.sent told.asker in
-    let rest = two_messages plan told.sent sort ended in
-    let all = length-append (notice_events plan f told.sent told.asker)
-    (map (λ (s : Sort). Brought (reply_of (number_of plan s) told.sent.sender told.sent.aim)) (sort ∷ option_to_list ended)) in
-    let same = ap length told.events_are in
-    omega (arith, first, rest, all, same)
+    let first : List Event = notice_events plan f told.sent told.asker in
+    let rest : List Event = map (λ (s : Sort). Brought (reply_of (number_of plan s) told.sent.sender told.sent.aim)) (sort ∷ option_to_list ended) in
+    let one : length first ≤ 1 = one_notice_event plan f told.sent told.asker in
+    let two : length rest ≤ 2 = two_messages plan told.sent sort ended in
+    let all : length events ≡ length first + length rest = ap length told.events_are ∙ length-append first rest in
+    omega (arith, one, two, all)

@@ -131,8 +131,9 @@ pub(crate) fn report_frame(
         → AreNoted groups.now log frame.now (sorts.0 ∷ option_to_list sorts.1) events exchanges.new) }
 {
     let (sort, ended) = write_frame(text, listeners, groups, parties, stamp, frame)?;
-    if !groups.plan().requests.is_empty() {
-        note(exchanges, groups.plan(), parties, frame, sort, ended);
+    if groups.plan().requests.is_empty() {
+        return Ok((sort, ended));
     }
+    note(exchanges, groups.plan(), parties, frame, sort, ended);
     Ok((sort, ended))
 }
