@@ -106,8 +106,8 @@ if_either false x y first second = second
 one_notice_event : (plan : Plan) (f : Frame) (sent : Sending) (asker : Who) → length (notice_events plan f sent asker) ≤ 1
 one_notice_event plan f sent asker =
     if_either (requests_group f) _ _ (one_at_most (option_map Asked (asked_request plan (requested_group f) sent)))
-    (if_one (acknowledges plan f && is_refusal f)
-    (Refused (reply_of (acknowledged_group f) sent.sender (answer_aim (told_address plan f) asker))))
+    (if_either (acknowledges plan f) _ [] (if_one (is_refusal f)
+    (Refused (reply_of (acknowledged_group f) sent.sender (answer_aim (told_address plan f) asker)))) (omega arith))
 
 two_messages : (plan : Plan) (sent : Sending) (sort : Sort) (ended : Option Sort)
     → length (map (λ (s : Sort). Brought (reply_of (number_of plan s) sent.sender sent.aim)) (sort ∷ option_to_list ended)) ≤ 2

@@ -116,10 +116,12 @@ pub record IsAnswerWay (plan : Plan) (log : List Timed) (f : Frame) (text : List
   pub asker_is : IsTaken plan log (told_address plan f) asker
   pub text_is : text ≡ answer_way_text plan sender f.ident.sa asker (told_address plan f)
 
+unfoldable pub answer_text : List ℕ → List ℕ → Frame → List ℕ → List ℕ
+answer_text front word f way = front ++ (field word (acknowledged_group f) ++ (way ++ 10 ∷ []))
+
 -- what is known of a control byte is written
-unfoldable pub answer_line : List ℕ → Frame → List ℕ → List ℕ
-answer_line front f way =
-    option_map_or (λ word. front ++ (field word (acknowledged_group f) ++ (way ++ 10 ∷ []))) (control_word (control_of f)) []
+abbrev pub answer_line : List ℕ → Frame → List ℕ → List ℕ
+answer_line front f way = option_map_or (λ (word : List ℕ). answer_text front word f way) (control_word (control_of f)) []
 
 -- what is written first at a frame: what it tells of addresses, what it asks for, or what it answers beside a group
 abbrev pub notice_text : Plan → List ℕ → Frame → List ℕ → Option ℕ → List ℕ → List ℕ
@@ -147,13 +149,16 @@ reply_of number sender aim = record { number = number; sender = sender; aim = ai
 abbrev pub answer_aim : ℕ → Who → Aim
 answer_aim address asker = if address == global_address then aims.All else aim_at (unit_of asker)
 
--- what it asks or refuses
+-- what an acknowledgement refuses
+abbrev pub refusal_events : Plan → Frame → Sending → Who → List Event
+refusal_events plan f sent asker =
+    if is_refusal f then Refused (reply_of (acknowledged_group f) sent.sender (answer_aim (told_address plan f) asker)) ∷ [] else []
+
+-- what a frame asks or refuses
 abbrev pub notice_events : Plan → Frame → Sending → Who → List Event
 notice_events plan f sent asker =
     if requests_group f then option_to_list (option_map Asked (asked_request plan (requested_group f) sent))
-    else if acknowledges plan f && is_refusal f
-    then Refused (reply_of (acknowledged_group f) sent.sender (answer_aim (told_address plan f) asker)) ∷ []
-    else []
+    else if acknowledges plan f then refusal_events plan f sent asker else []
 
 abbrev pub told_events : Plan → Frame → Sending → Who → List Sort → List Event
 told_events plan f sent asker sorts =

@@ -1,9 +1,11 @@
 //! Acknowledgements: what units answer to requests beside the groups themselves (SAE J1939-21).
-ghost use Rattle.std.specs.Prelude.{◌≡◌, ◌++◌, ◌∷◌, [], ℕ, List, length, true, option_map, OnOk};
+ghost use Rattle.std.specs.Prelude.{◌≡◌, ◌++◌, ℕ, List, length, true, OnOk};
+ghost use Rattle.std.specs.Option.{option_copied};
 ghost use Rattle.j39_follow.specs.Contests.{Timed};
-ghost use Rattle.j39_follow.specs.FollowReports.{IsAnswerWay, answer_line};
-ghost use Rattle.j39_follow.specs.Requests.{acknowledged_group, acknowledges, asker_address, control_word, is_acknowledgement, is_refusal, told_address};
+ghost use Rattle.j39_follow.specs.FollowReports.{IsAnswerWay, answer_line, answer_text, answer_way_text};
+ghost use Rattle.j39_follow.specs.Requests.{acknowledged_group, acknowledges, asker_address, control_of, control_word, is_acknowledgement, is_refusal, told_address};
 ghost use Rattle.j39_follow.specs.inside.Contesting.{ShowsAsker, ShowsParties};
+ghost use Rattle.j39_follow.specs.inside.Recounting.{HasNames, party_at};
 ghost use Rattle.j39_follow.specs.inside.Reporting.{front_of};
 
 use crate::known_parties::Parties;
@@ -16,16 +18,26 @@ use j39_text::TextBuffer;
 use std::alloc::AllocError;
 
 fn is_acknowledgement(frame: &Frame) -> bool
-    ensures { result ≡ is_acknowledgement frame.now }
+    ensures told { result ≡ is_acknowledgement frame.now }
+    ensures eight { result ≡ true → length frame.now.payload.items ≡ 8 }
 {
     frame.ident.edp == 0 && frame.ident.pgn() == ACKNOWLEDGEMENT && frame.payload.len() == 8
 }
 
 /// Whether a frame is an acknowledgement, in the log of a plan that has requests.
 pub(crate) fn acknowledges(plan: &Plan, frame: &Frame) -> bool
-    ensures { result ≡ acknowledges plan.now frame.now }
+    ensures told { result ≡ acknowledges plan.now frame.now }
+    ensures eight { result ≡ true → length frame.now.payload.items ≡ 8 }
 {
     !plan.requests.is_empty() && is_acknowledgement(frame)
+}
+
+// The control byte.
+fn control_of(frame: &Frame) -> u8
+    requires { length frame.now.payload.items ≡ 8 }
+    ensures { result ≡ control_of frame.now }
+{
+    frame.payload.as_slice()[0]
 }
 
 /// Whether an acknowledgement says that the group doesn't come.
@@ -33,7 +45,7 @@ pub(crate) fn is_refusal(frame: &Frame) -> bool
     requires { length frame.now.payload.items ≡ 8 }
     ensures { result ≡ is_refusal frame.now }
 {
-    let control = frame.payload.as_slice()[0];
+    let control = control_of(frame);
     0 < control && control < 4
 }
 
@@ -68,7 +80,7 @@ pub(crate) fn acknowledged_group(frame: &Frame) -> u32
 // What an acknowledgement says, if it is known.
 #[tactic(auto, unfolding(crate::specs::Requests::control_word))]
 fn control_word(control: u8) -> Option<&'static str>
-    ensures { option_map (λ word. word.now) result ≡ control_word control }
+    ensures { option_copied result ≡ control_word control }
 {
     match control {
         0 => Some("acknowledged "),
@@ -79,7 +91,29 @@ fn control_word(control: u8) -> Option<&'static str>
     }
 }
 
-/// Writes an acknowledgement.
+// Writes an acknowledgement that says this.
+#[tactic(auto, unfolding(crate::specs::FollowReports::answer_text))]
+fn write_answer(
+    text: &mut TextBuffer,
+    plan: &Plan,
+    parties: &Parties,
+    stamp: Stamp<'_>,
+    frame: &Frame,
+    word: &str,
+) -> Result<(), AllocError>
+    requires { length frame.now.payload.items ≡ 8 }
+    ensures { OnOk result (HasNames plan.now parties.now.all parties.now.names → text.new ≡ text.old
+        ++ answer_text (front_of stamp.entry) word.now frame.now (answer_way_text plan.now
+        (party_at parties.now.all frame.now.ident.sa) frame.now.ident.sa
+        (party_at parties.now.all (asker_address frame.now)) (asker_address frame.now))) }
+{
+    write_stamp(text, stamp)?;
+    text.field(word, acknowledged_group(frame))?;
+    write_answer_way(text, plan, parties, frame.ident.sa, asker_address(frame))?;
+    text.end_line()
+}
+
+/// Writes an acknowledgement, if anything is known of its control byte.
 pub(crate) fn write_acknowledgement(
     text: &mut TextBuffer,
     plan: &Plan,
@@ -87,16 +121,14 @@ pub(crate) fn write_acknowledgement(
     stamp: Stamp<'_>,
     frame: &Frame,
 ) -> Result<(), AllocError>
-    requires { acknowledges plan.now frame.now ≡ true }
+    requires told { acknowledges plan.now frame.now ≡ true }
+    requires eight { length frame.now.payload.items ≡ 8 }
     ensures { OnOk result ((log : List Timed) → ShowsParties plan.now parties.now log frame.now.ident → ShowsAsker plan.now parties.now log frame.now
         → (way : List ℕ) × IsAnswerWay plan.now log frame.now way
         × (text.new ≡ text.old ++ answer_line (front_of stamp.entry) frame.now way)) }
 {
-    let Some(word) = control_word(frame.payload.as_slice()[0]) else {
-        return Ok(());
-    };
-    write_stamp(text, stamp)?;
-    text.field(word, acknowledged_group(frame))?;
-    write_answer_way(text, plan, parties, frame.ident.sa, asker_address(frame))?;
-    text.end_line()
+    match control_word(control_of(frame)) {
+        Some(word) => write_answer(text, plan, parties, stamp, frame, word),
+        None => Ok(()),
+    }
 }

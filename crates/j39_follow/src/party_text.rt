@@ -135,6 +135,7 @@ pub(crate) fn write_way(
 }
 
 /// Writes from whom an acknowledgement is, and who asked.
+#[tactic(auto, unfolding(crate::specs::FollowReports::answer_way_text))]
 pub(crate) fn write_answer_way(
     text: &mut TextBuffer,
     plan: &Plan,

@@ -2,7 +2,7 @@
 ghost use Rattle.std.specs.Prelude.{◌≡◌, ◌+◌, ◌^◌, ◌<◌, ◌∷◌, List, length, option_map};
 ghost use Rattle.std.specs.Option.{option_to_list};
 ghost use Rattle.j39_follow.specs.Contests.{Timed};
-ghost use Rattle.j39_follow.specs.FollowReports.{answer_aim as aim_of_answer, notice_events, reply_of};
+ghost use Rattle.j39_follow.specs.FollowReports.{answer_aim as aim_of_answer, notice_events, refusal_events, reply_of};
 ghost use Rattle.j39_follow.specs.Requests.{asked_request as asked_request_of, number_of as number_that_counts};
 ghost use Rattle.j39_text.specs.FrameText.{requested_group};
 ghost use Rattle.j39_follow.specs.declared.event.Event.{Event as AnEvent};
@@ -49,6 +49,21 @@ fn asked(plan: &Plan, frame: &Frame, sent: Sending) -> Option<Event>
     }
 }
 
+// What an acknowledgement refuses.
+fn refused(plan: &Plan, frame: &Frame, sent: Sending, asker: Who) -> Option<Event>
+    requires { length frame.now.payload.items ≡ 8 }
+    ensures { option_to_list result ≡ refusal_events plan.now frame.now sent asker }
+{
+    if !is_refusal(frame) {
+        return None;
+    }
+    Some(Event::Refused(Reply {
+        number: acknowledged_group(frame),
+        sender: sent.sender,
+        aim: answer_aim(told_address(plan, frame), asker),
+    }))
+}
+
 // What a frame asks or refuses, beside the messages that it brings.
 fn noticed(plan: &Plan, frame: &Frame, sent: Sending, asker: Who) -> Option<Event>
     ensures { option_to_list result ≡ notice_events plan.now frame.now sent asker }
@@ -56,12 +71,8 @@ fn noticed(plan: &Plan, frame: &Frame, sent: Sending, asker: Who) -> Option<Even
     if requests_group(frame) {
         return asked(plan, frame, sent);
     }
-    if acknowledges(plan, frame) && is_refusal(frame) {
-        return Some(Event::Refused(Reply {
-            number: acknowledged_group(frame),
-            sender: sent.sender,
-            aim: answer_aim(told_address(plan, frame), asker),
-        }));
+    if acknowledges(plan, frame) {
+        return refused(plan, frame, sent, asker);
     }
     None
 }

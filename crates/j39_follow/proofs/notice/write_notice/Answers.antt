@@ -102,7 +102,7 @@ returns-then-acknowledges c =
         text_is = if_not (claims_address f) _ _ _ (sym c.claims_address.ensures ∙ c.if-claims_address.false)
             (if_not (cannot_claim f) _ _ _ (sym c.cannot_claim.ensures ∙ c.if-cannot_claim.false)
             (if_not (requests_group f) _ _ _ (sym c.requests_group.ensures ∙ c.if-requests_group.false)
-            (if_so (acknowledges plan f) _ _ (sym c.acknowledges.ensures ∙ c.if-acknowledges.true))));
+            (if_so (acknowledges plan f) _ _ (sym c.acknowledges.ensures.told ∙ c.if-acknowledges.true))));
       },
       one.2,
     ))
@@ -126,7 +126,7 @@ returns-else-acknowledges c = λ log shows asks.
         text_is = if_not (claims_address f) _ _ _ (sym c.claims_address.ensures ∙ c.if-claims_address.false)
             (if_not (cannot_claim f) _ _ _ (sym c.cannot_claim.ensures ∙ c.if-cannot_claim.false)
             (if_not (requests_group f) _ _ _ (sym c.requests_group.ensures ∙ c.if-requests_group.false)
-            (if_not (acknowledges plan f) _ _ _ (sym c.acknowledges.ensures ∙ c.if-acknowledges.false) refl)));
+            (if_not (acknowledges plan f) _ _ _ (sym c.acknowledges.ensures.told ∙ c.if-acknowledges.false) refl)));
       },
       sym (append-nil c.args.text.now),
     )
