@@ -13,7 +13,7 @@ use Rattle.j39_findings.specs.declared.plan.request_plan.RequestPlan.{RequestPla
 use Rattle.j39_follow.specs.Requests.{answers, asks, concerns, refuses, times_answered, times_asked, times_refused}
 use Rattle.j39_follow.specs.declared.event.Event.{Event}
 use Rattle.j39_follow.specs.declared.exchange.Exchange.{Exchange}
-use Rattle.j39_follow.specs.inside.Exchanging.{IsAfter, IsHeardBelow, ends_asking, exchange_at, nothing_asked}
+use Rattle.j39_follow.specs.inside.Exchanging.{IsAfter, IsExchange, IsHeardBelow, ends_asking, exchange_at, nothing_asked}
 use Rattle.j39_follow.proofs.Tables.{set_here, set_there}
 
 false_true : false ≡ true → ⊥
@@ -166,6 +166,10 @@ after_event plan place r e old new asked answered refused opens = λ events few 
     }
 
 -- ---- all requests
+
+pub nothing_yet : (plan : Plan) (place : ℕ) (r : RequestPlan) → IsExchange plan place r nothing_asked []
+unfolding ends_asking
+nothing_yet plan place r = record { asked = refl; answered = refl; refused = refl; open_is = refl }
 
 pub none_heard : (plan : Plan) (e : Event) (old : List Exchange) → length old ≡ request_limit → IsHeardBelow plan e old old 0
 none_heard plan e old size = record {
