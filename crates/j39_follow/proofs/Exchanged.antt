@@ -71,11 +71,11 @@ behind_more : (place : ℕ) (q : Event → Bool) (own : List Event) (e : Event) 
     → behind_asking place q (own ++ if_it own_too e) ≡ behind_asking place q own + one_if (ends_asking place own && q e)
 behind_more place q own e true so = pushed place q own e
 behind_more place q own e false so = elim (cases_Bool (q e)) [
-  | inl yes ↦ absurd (false_true (so yes))
-  | inr no ↦
+  | inl passes ↦ absurd (false_true (so passes))
+  | inr fails ↦
       let none : behind_asking place q own ≡ behind_asking place q own + 0 = omega arith in
       ap (behind_asking place q) (append-nil own) ∙ none
-      ∙ sym (ap (λ (b : Bool). behind_asking place q own + one_if b) (and_false (ends_asking place own) (q e) no))
+      ∙ sym (ap (λ (b : Bool). behind_asking place q own + one_if b) (and_false (ends_asking place own) (q e) fails))
 ]
 
 -- a question opens, what ends it closes

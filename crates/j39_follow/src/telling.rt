@@ -2,9 +2,10 @@
 ghost use Rattle.std.specs.Prelude.{◌≡◌, ◌+◌, ◌^◌, ◌<◌, ◌∷◌, List, length, option_map};
 ghost use Rattle.std.specs.Option.{option_to_list};
 ghost use Rattle.j39_follow.specs.Contests.{Timed};
-ghost use Rattle.j39_follow.specs.FollowReports.{answer_aim as aim_of_answer, notice_events, refusal_events, reply_of};
+ghost use Rattle.j39_follow.specs.FollowReports.{aim_at as aim_at_unit, answer_aim as aim_of_answer, notice_events, refusal_events, reply_of};
 ghost use Rattle.j39_follow.specs.Requests.{asked_request as asked_request_of, number_of as number_that_counts};
 ghost use Rattle.j39_text.specs.FrameText.{requested_group};
+ghost use Rattle.j39_follow.specs.Who.{unit_of};
 ghost use Rattle.j39_follow.specs.declared.event.Event.{Event as AnEvent};
 ghost use Rattle.j39_follow.specs.declared.event.Event.TheVariants.{Asked, Brought};
 ghost use Rattle.j39_follow.specs.declared.message.Sort.{Sort as ASort};
@@ -25,16 +26,24 @@ use j39_findings::Plan;
 use j39_id::Frame;
 use j39_id::addresses::GLOBAL_ADDRESS;
 
+// Whom a message is for that is for this one.
+fn aim_at(who: Who) -> Aim
+    ensures { result ≡ aim_at_unit (unit_of who) }
+{
+    match who.unit() {
+        Some(unit) => Aim::One(unit),
+        None => Aim::Neither,
+    }
+}
+
 // For whom an acknowledgement is that names this address, behind which this one stands.
 fn answer_aim(address: u8, asker: Who) -> Aim
     ensures { result ≡ aim_of_answer address asker }
 {
     if address == GLOBAL_ADDRESS {
-        return Aim::All;
-    }
-    match asker.unit() {
-        Some(unit) => Aim::One(unit),
-        None => Aim::Neither,
+        Aim::All
+    } else {
+        aim_at(asker)
     }
 }
 

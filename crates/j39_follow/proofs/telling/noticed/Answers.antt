@@ -16,8 +16,8 @@ returns-then-acknowledges c =
     ∙ if_not (requests_group f) _ _ _ (sym c.requests_group.ensures ∙ c.if-requests_group.false)
     (if_so (acknowledges c.args.plan.now f) _ _ (sym c.acknowledges.ensures.told ∙ c.if-acknowledges.true))
 
-pub returns-else-acknowledges : goal.returns-else-acknowledges
-returns-else-acknowledges c =
+pub returns : goal.returns
+returns c =
     let f = c.args.frame.now in
     if_not (requests_group f) _ _ _ (sym c.requests_group.ensures ∙ c.if-requests_group.false)
     (if_not (acknowledges c.args.plan.now f) _ _ _ (sym c.acknowledges.ensures.told ∙ c.if-acknowledges.false) refl)
