@@ -1,16 +1,15 @@
 -- What a frame tells of requests.
-use Rattle.std.proofs.Common.{◌≡◌, ◌≤◌, ◌+◌, ◌==◌, ◌&&◌, ℕ, Bool, true, false, if◌then◌else◌, List, [], ◌∷◌, ◌++◌, codes, length, map, Option, Some, None, refl, sym, ap, subst, ◌∙◌, arith, append_assoc}
+use Rattle.std.proofs.Common.{◌≡◌, ◌≤◌, ◌+◌, ◌&&◌, ℕ, Bool, true, false, if◌then◌else◌, List, [], ◌∷◌, ◌++◌, length, map, Option, Some, None, refl, sym, ap, subst, ◌∙◌, arith, append_assoc}
 use Rattle.std.specs.Prelude.{option_map, is_some}
 use Rattle.std.specs.Option.{option_to_list}
 use Rattle.std.proofs.lemmas.List.{length-append}
 use Rattle.std.proofs.lemmas.Option.{slice_get_within}
-use Rattle.j39_id.specs.Addresses.{global_address}
 use Rattle.j39_id.specs.Pgn.{is_pdu2}
 use Rattle.j39_id.specs.declared.frame.Frame.{Frame}
 use Rattle.j39_findings.specs.declared.plan.Plan.{Plan}
 use Rattle.j39_text.specs.FrameText.{requested_group, requests_group}
 use Rattle.j39_follow.specs.Contests.{IsTaken, Timed}
-use Rattle.j39_follow.specs.FollowReports.{AreTold, IsAnswerWay, IsAsked, IsSendingOf, Message, aim_at, answer_aim, answer_way_text, in_frame, is_to_all, notice_events, reply_of, told_events}
+use Rattle.j39_follow.specs.FollowReports.{AreTold, IsAnswerWay, IsAsked, IsSendingOf, aim_at, answer_aim, answer_way_text, in_frame, is_to_all, notice_events, reply_of, told_events}
 use Rattle.j39_follow.specs.Requests.{acknowledged_group, acknowledges, asked_request, asker_address, is_refusal, number_of, told_address}
 use Rattle.j39_follow.specs.Who.{unit_of}
 use Rattle.j39_follow.specs.declared.event.Event.{Event}
@@ -22,7 +21,7 @@ use Rattle.j39_follow.specs.declared.sending.Aim.TheVariants as aims
 use Rattle.j39_follow.specs.declared.sending.Sending.{Sending}
 use Rattle.j39_follow.specs.declared.who.Who.{Who}
 use Rattle.j39_follow.specs.inside.Contesting.{ShowsAsker, ShowsParties}
-use Rattle.j39_follow.specs.inside.Exchanging.{AreExchanges, AreNoted}
+use Rattle.j39_follow.specs.inside.Exchanging.{AreNoted}
 use Rattle.j39_follow.specs.inside.Recounting.{party_at}
 
 -- ---- what there is of each frame

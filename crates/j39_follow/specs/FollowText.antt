@@ -4,7 +4,6 @@ use Rattle.std.specs.Prelude.{[], ◌∷◌, ◌++◌, length, map, count_by, co
 use Rattle.std.specs.List.{All, position}
 use Rattle.std.specs.Option.{option_eq, option_map_or}
 use Rattle.j39_id.specs.FrameLine.{Spells, HasLineFault}
-use Rattle.j39_id.specs.Ident.{pgn_of}
 use Rattle.j39_id.specs.Lines.{Line, Short, Long, lines}
 use Rattle.j39_id.specs.declared.frame.Frame.{Frame}
 use Rattle.j39_id.specs.declared.line_error.LineError.{LineError}
@@ -29,7 +28,7 @@ use Rattle.j39_text.specs.Texts.{field, place_field}
 use Rattle.j39_stream.specs.declared.verdict.Verdict.{Verdict}
 use Rattle.j39_stream.specs.declared.verdict.Verdict.TheVariants.{Done, Findings, Refused, Unreadable}
 use Rattle.j39_follow.specs.Contests.{Timed}
-use Rattle.j39_follow.specs.FollowReports.{AreTold, IsGroupOfMessage, IsMessageReport, IsNotice, Message, in_frame, stamp}
+use Rattle.j39_follow.specs.FollowReports.{AreTold, IsGroupOfMessage, IsMessageReport, IsNotice, in_frame, stamp}
 use Rattle.j39_follow.specs.Requests.{times_answered, times_asked, times_refused}
 use Rattle.j39_follow.specs.declared.event.Event.{Event}
 use Rattle.j39_follow.specs.declared.message.Sort.{Sort}

@@ -1,6 +1,6 @@
 -- Requests of a plan in a log, and what answers them (SAE J1939-21, request and acknowledgement).
 use Rattle.std.specs.Prelude.{ℕ, ◌+◌, ◌*◌, ◌==◌, ◌&&◌, ◌||◌, nat_lt, not, Bool, true, false, if◌then◌else◌}
-use Rattle.std.specs.Prelude.{List, [], ◌++◌, codes, count_by, drop, length, map, slice_index, slice_index_or, Option, Some, None}
+use Rattle.std.specs.Prelude.{List, [], codes, count_by, drop, length, map, slice_index, slice_index_or, Option, Some, None}
 use Rattle.std.specs.List.{filter, position, zip}
 use Rattle.j39_id.specs.Ident.{pgn_of}
 use Rattle.j39_id.specs.Services.{acknowledgement}

@@ -84,7 +84,10 @@ fn write_request(
     write_stamp(text, stamp)?;
     text.field("request ", number)?;
     write_way(text, plan, parties, frame.ident)?;
-    write_asked(text, asked_request(plan, number, sending_of(parties, in_frame(frame))))?;
+    write_asked(
+        text,
+        asked_request(plan, number, sending_of(parties, in_frame(frame))),
+    )?;
     text.end_line()
 }
 

@@ -12,11 +12,7 @@ use j39_text::{TextBuffer, group_label, unit_label};
 use std::alloc::AllocError;
 
 #[tactic(auto, unfolding(crate::specs::FollowText::asked_ends_text))]
-fn write_ends(
-    text: &mut TextBuffer,
-    plan: &Plan,
-    request: &RequestPlan,
-) -> Result<(), AllocError>
+fn write_ends(text: &mut TextBuffer, plan: &Plan, request: &RequestPlan) -> Result<(), AllocError>
     ensures { OnOk result (text.new ≡ text.old ++ asked_ends_text plan.now request.now) }
 {
     text.word(" from ")?;

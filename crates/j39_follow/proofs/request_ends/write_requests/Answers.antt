@@ -1,4 +1,4 @@
-use Rattle.std.proofs.Common.{◌≡◌, ◌<◌, length, sym, subst, ◌∙◌, arith, ap, refl, ◌++◌, List}
+use Rattle.std.proofs.Common.{◌<◌, length, sym, subst, ◌∙◌, arith, ap, refl, ◌++◌, List}
 use Rattle.std.proofs.lemmas.List.{drop_all}
 use Rattle.std.proofs.lemmas.Option.{slice_get_read}
 use Rattle.j39_findings.specs.declared.plan.request_plan.RequestPlan.{RequestPlan}

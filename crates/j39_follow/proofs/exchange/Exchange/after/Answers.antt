@@ -1,4 +1,4 @@
-use Rattle.std.proofs.Common.{◌≡◌, ◌+◌, ◌-◌, ◌^◌, ◌&&◌, ◌||◌, not, Bool, if◌then◌else◌, ap, ◌∙◌}
+use Rattle.std.proofs.Common.{◌+◌, ◌-◌, ◌^◌, ◌&&◌, ◌||◌, not, Bool, if◌then◌else◌, ap, ◌∙◌}
 use Rattle.std.specs.Prelude.{min}
 use Rattle.j39_follow.specs.Requests.{answers, asks}
 use Rattle.j39_follow.specs.declared.exchange.Exchange.{Exchange}
