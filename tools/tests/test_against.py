@@ -475,6 +475,25 @@ class Against(InFolder):
         self.assertEqual(told(*begin[:2], ("3.0", VALVE_CLAIMS), ("9.0", ET1)), [])  # it may have been switched off
         self.assertEqual(told(("1.0", VALVE_CLAIMS), ("1.5", PUMP_CLAIMS), ("9.0", ET1)), [])  # the smaller NAME needn't wait for the larger
 
+    def test_requests(self):
+        """What the plan asks for and nobody answers in time, or at all, or what is refused; each with its line."""
+        plan, log = example("service_requests.toml"), example("service_requests.start.log")
+        silent, late, refused = (
+            f"{log}:17: request 1, VI from TOOL to ENGINE: no answer within 1250 ms",
+            f"{log}:13: request 2, HOURS from TOOL to ENGINE: answered 350 ms behind it, later than 200 ms",
+            f"{log}:15: request 3, ERC1 from TOOL to RETARDER: is refused")
+        self.assertEqual(run("against.py", plan, log), (1, "".join(f"{line}\n" for line in (late, refused, silent, "deviations 3")), ""))
+        lines = text_of(log).splitlines()
+        soon = self.write("soon.log", "".join(f"{line}\n" for line in lines[:13]).replace("103.350", "103.200"))
+        self.assertNotIn(": request ", run("against.py", plan, soon)[1])
+        waiting = self.write("waiting.log", "".join(f"{line}\n" for line in lines[:12]))
+        self.assertNotIn(": request ", run("against.py", plan, waiting)[1])
+        bare = self.write("bare.log", "".join(f"{line.split()[-1]}\n" for line in lines))
+        self.assertEqual([line for line in run("against.py", plan, bare)[1].splitlines() if ": request " in line], [
+            f"{bare}:15: request 3, ERC1 from TOOL to RETARDER: is refused", f"{bare}:17: request 1, VI from TOOL to ENGINE: no answer within 1250 ms"])
+        busy = self.write("busy.log", text_of(log).replace("18E8F90F#01", "18E8F90F#03"))
+        self.assertIn("request 3, ERC1 from TOOL to RETARDER: is told that it can't be answered now", run("against.py", plan, busy)[1])
+
     def test_who_is_guessed_in_a_contest_is_not_heard(self):
         """What comes behind a claim of an address is told as of the smaller NAME, which need not be on: nothing was heard of it yet."""
         plan = self.write("plan.toml", RIVALS % "PUMP")

@@ -10,8 +10,12 @@ use Rattle.j39_findings.specs.declared.plan.need_plan.NeedPlan.{NeedPlan}
 use Rattle.j39_findings.specs.declared.plan.request_plan.RequestPlan.{RequestPlan}
 use Rattle.j39_findings.specs.declared.plan.unit_plan.UnitPlan.{UnitPlan}
 use Rattle.j39_follow.specs.FollowText.{AreUnitLines, IsUnitLine, flow_end, flow_ends, group_end, group_ends, is_of_flow, is_without_flow, others_of_number, rest_line, flow_sent_line}
-use Rattle.j39_follow.specs.FollowText.{met_by, need_end, need_ends, need_met_line, times_met}
+use Rattle.j39_follow.specs.FollowText.{met_by, need_end, need_ends, need_met_line, request_end, request_end_line, request_ends, times_met}
+use Rattle.j39_follow.specs.Requests.{times_answered, times_asked}
+use Rattle.j39_follow.specs.declared.event.Event.{Event}
+use Rattle.j39_follow.specs.declared.exchange.Exchange.{Exchange}
 use Rattle.j39_follow.specs.declared.message.Sort.{Sort}
+use Rattle.j39_follow.specs.inside.Exchanging.{IsExchange}
 
 flows_from : (plan : Plan) (sent : List Sort) (flows : List FlowPlan) (k : ℕ) (d : FlowPlan) → k < length flows
     → flow_ends plan sent k (drop k flows) ≡ flow_end plan sent k (get_or flows k d) ++ flow_ends plan sent (k + 1) (drop (k + 1) flows)
@@ -45,6 +49,30 @@ one_more_group plan sent groups old new all k unplanned others group more here f
     ap (λ (t : List ℕ). t ++ rest) (written ∙ ap (λ (n : ℕ). old ++ rest_line group n others) first
     ∙ ap (λ (n : ℕ). old ++ rest_line group (count_by (is_without_flow k) sent) n) second)
     ∙ append_assoc old (group_end plan sent k group) rest ∙ sym (ap (λ (t : List ℕ). old ++ t) next) ∙ before
+
+requests_from : (plan : Plan) (told : List Event) (requests : List RequestPlan) (k : ℕ) (d : RequestPlan) → k < length requests
+    → request_ends plan told k (drop k requests)
+    ≡ request_end plan told k (get_or requests k d) ++ request_ends plan told (k + 1) (drop (k + 1) requests)
+unfolding request_ends
+requests_from plan told requests k d more = let next = drop_more requests k d more in rw next refl
+
+-- one request more is written
+pub one_more_request : (plan : Plan) (told : List Event) (requests : List RequestPlan) (old new all : List ℕ) (k : ℕ) (r : RequestPlan) (x : Exchange)
+    → k < length requests → r ≡ get_or requests k r → IsExchange plan k r x told
+    → new ≡ old ++ request_end_line plan k r x.asked x.answered x.refused
+    → old ++ request_ends plan told k (drop k requests) ≡ all → new ++ request_ends plan told (k + 1) (drop (k + 1) requests) ≡ all
+one_more_request plan told requests old new all k r x more here is written before =
+    let rest : List ℕ = request_ends plan told (k + 1) (drop (k + 1) requests) in
+    let next : request_ends plan told k (drop k requests) ≡ request_end plan told k r ++ rest =
+    requests_from plan told requests k r more ∙ ap (λ (q : RequestPlan). request_end plan told k q ++ rest) (sym here) in
+    ap (λ (t : List ℕ). t ++ rest) (written ∙ ap (λ (n : ℕ). old ++ request_end_line plan k r n x.answered x.refused) is.asked
+    ∙ ap (λ (n : ℕ). old ++ request_end_line plan k r (times_asked k told) n x.refused) is.answered
+    ∙ ap (λ (n : ℕ). old ++ request_end_line plan k r (times_asked k told) (times_answered plan k r told) n) is.refused)
+    ∙ append_assoc old (request_end plan told k r) rest ∙ sym (ap (λ (t : List ℕ). old ++ t) next) ∙ before
+
+pub no_requests : (plan : Plan) (told : List Event) (k : ℕ) (text : List ℕ) → text ++ request_ends plan told k [] ≡ text
+unfolding request_ends
+no_requests plan told k text = append-nil text
 
 needs_from : (plan : Plan) (sent : List Sort) (needs : List NeedPlan) (k : ℕ) (d : NeedPlan) → k < length needs
     → need_ends plan sent k (drop k needs) ≡ need_end plan sent k (get_or needs k d) ++ need_ends plan sent (k + 1) (drop (k + 1) needs)

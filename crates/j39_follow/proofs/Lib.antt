@@ -1,6 +1,7 @@
 pub mod Alike
 pub mod Contested
 pub mod EndLines
+pub mod Exchanged
 pub mod FirstWords
 pub mod FrameTexts
 pub mod GroupLines
@@ -24,5 +25,6 @@ pub mod Tallied
 pub mod TimeNumbers
 pub mod Times
 pub mod ToAll
+pub mod Told
 pub mod Ways
 pub mod WordPlaces

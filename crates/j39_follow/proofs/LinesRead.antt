@@ -60,7 +60,17 @@ put plan told_so_far old written text empty before =
       reports = before.reports;
       read = before.read;
       recalls = record {
-        remembers = record { knows = m.knows; contests = m.contests; frames = m.frames; heard = m.heard; ranges = m.ranges; tally = m.tally; few = m.few };
+        remembers = record {
+          knows = m.knows;
+          contests = m.contests;
+          frames = m.frames;
+          heard = m.heard;
+          ranges = m.ranges;
+          tally = m.tally;
+          few = m.few;
+          exchanges = m.exchanges;
+          few_told = m.few_told;
+        };
         interface_is = r.interface_is;
         number_is = r.number_is;
         frames_are = r.frames_are;

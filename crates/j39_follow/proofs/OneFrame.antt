@@ -10,15 +10,16 @@ use Rattle.j39_findings.specs.declared.plan.group_plan.GroupPlan.{GroupPlan}
 use Rattle.j39_log.proofs.OneText.{one_packet}
 use Rattle.j39_log.specs.LogPairs.{Seen, heard}
 use Rattle.j39_log.specs.NamedReports.{named_reading_lines}
-use Rattle.j39_text.specs.FrameText.{cannot_claim, claims_address, requested_group, requests_group}
-use Rattle.j39_text.specs.Texts.{field}
+use Rattle.j39_text.specs.FrameText.{requested_group}
 use Rattle.j39_tp.proofs.Tracking.{one_message, one_pgn}
 use Rattle.j39_tp.specs.declared.packet.Packet.{Packet}
 use Rattle.j39_follow.specs.Contests.{Timed}
 use Rattle.j39_follow.specs.Fits.{IsSentGroup, fitting_flow}
-use Rattle.j39_follow.specs.FollowReports.{IsGroupOfMessage, IsGrouped, IsMessageReport, IsNotice, IsSendingOf, IsWay, Message, aim_at, cannot_line, claim_line, message_line, is_to_all}
-use Rattle.j39_follow.specs.FollowText.{HeardSince, IsCarriedReport, IsFollowedAs, IsPacketReport, Parts, in_frame}
+use Rattle.j39_follow.specs.FollowReports.{AreTold, IsAnswerWay, IsAsked, IsGroupOfMessage, IsGrouped, IsMessageReport, IsNotice, IsSendingOf, IsWay, Message, aim_at, answer_way_text, in_frame, is_to_all, message_line, notice_text, told_events}
+use Rattle.j39_follow.specs.FollowText.{HeardSince, IsCarriedReport, IsFollowedAs, IsPacketReport, Parts}
+use Rattle.j39_follow.specs.Requests.{asked_request, told_address}
 use Rattle.j39_follow.specs.Who.{unit_of, who_text}
+use Rattle.j39_follow.specs.declared.event.Event.{Event}
 use Rattle.j39_follow.specs.declared.message.Sort.{Sort}
 use Rattle.j39_follow.specs.declared.sending.Aim.{Aim}
 use Rattle.j39_follow.specs.declared.sending.Aim.TheVariants as aims
@@ -46,16 +47,6 @@ one_way plan log i t u a b =
     ++ (codes " to " ++ (if is_to_all i then codes "all" else who_text plan w i.ps)))) receiver
     ∙ sym b.text_is
 
-pub one_notice : (plan : Plan) (log : List Timed) (front : List ℕ) (f : Frame) (t u : List ℕ)
-    → IsNotice plan log front f t → IsNotice plan log front f u → t ≡ u
-one_notice plan log front f t u a b =
-    a.2
-    ∙ ap (λ (way : List ℕ). if claims_address f then claim_line plan front f
-    else if cannot_claim f then cannot_line plan front f
-    else if requests_group f then front ++ (field (codes "request ") (requested_group f) ++ (way ++ 10 ∷ []))
-    else []) (one_way plan log f.ident a.0 b.0 a.1 b.1)
-    ∙ sym b.2
-
 -- ---- messages
 
 same_sending : (a b : Sending) → a.sender ≡ b.sender → a.aim ≡ b.aim → a.unaddressed ≡ b.unaddressed → a ≡ b
@@ -72,6 +63,48 @@ one_sending plan log m s t a b =
     same_sending s t (a.sender_unit ∙ ap unit_of sender ∙ sym b.sender_unit)
     (a.aim_is ∙ ap (λ (w : Who). if is_to_all m.ident then aims.All else aim_at (unit_of w)) receiver ∙ sym b.aim_is)
     (a.unaddressed_is ∙ sym b.unaddressed_is)
+
+-- ---- what is told first
+
+one_answer_way : (plan : Plan) (log : List Timed) (f : Frame) (t u : List ℕ) → IsAnswerWay plan log f t → IsAnswerWay plan log f u → t ≡ u
+one_answer_way plan log f t u a b =
+    let there = told_address plan f in
+    let sender = one_taken plan log f.ident.sa a.sender b.sender a.sender_is b.sender_is in
+    let asker = one_taken plan log there a.asker b.asker a.asker_is b.asker_is in
+    a.text_is
+    ∙ ap (λ (w : Who). answer_way_text plan w f.ident.sa a.asker there) sender
+    ∙ ap (λ (w : Who). answer_way_text plan b.sender f.ident.sa w there) asker
+    ∙ sym b.text_is
+
+one_asked : (plan : Plan) (log : List Timed) (f : Frame) (a b : Option ℕ) → IsAsked plan log f a → IsAsked plan log f b → a ≡ b
+one_asked plan log f a b x y =
+    let same = one_sending plan log (in_frame f) x.0 y.0 x.1 y.1 in
+    x.2 ∙ ap (λ (s : Sending). asked_request plan (requested_group f) s) same ∙ sym y.2
+
+pub one_notice : (plan : Plan) (log : List Timed) (front : List ℕ) (f : Frame) (t u : List ℕ)
+    → IsNotice plan log front f t → IsNotice plan log front f u → t ≡ u
+one_notice plan log front f t u a b =
+    let way = one_way plan log f.ident a.way b.way a.way_is b.way_is in
+    let asked = one_asked plan log f a.asked b.asked a.asked_is b.asked_is in
+    let back = one_answer_way plan log f a.back b.back a.back_is b.back_is in
+    a.text_is
+    ∙ ap (λ (w : List ℕ). notice_text plan front f w a.asked a.back) way
+    ∙ ap (λ (o : Option ℕ). notice_text plan front f b.way o a.back) asked
+    ∙ ap (λ (w : List ℕ). notice_text plan front f b.way b.asked w) back
+    ∙ sym b.text_is
+
+-- what a frame tells of requests is one list
+pub one_told : (plan : Plan) (log : List Timed) (f : Frame) (sorts : List Sort) (a b : List Event)
+    → AreTold plan log f sorts a → AreTold plan log f sorts b → a ≡ b
+one_told plan log f sorts a b x y =
+    let sent = one_sending plan log (in_frame f) x.sent y.sent x.sent_is y.sent_is in
+    let asker = one_taken plan log (told_address plan f) x.asker y.asker x.asker_is y.asker_is in
+    x.events_are
+    ∙ ap (λ (s : Sending). told_events plan f s x.asker sorts) sent
+    ∙ ap (λ (w : Who). told_events plan f y.sent w sorts) asker
+    ∙ sym y.events_are
+
+-- ---- groups
 
 one_group : (plan : Plan) (pgn bytes : ℕ) (sent : Sending) (a b : Option ℕ) → IsSentGroup plan pgn bytes sent a → IsSentGroup plan pgn bytes sent b → a ≡ b
 one_group plan pgn bytes sent (Some g) (Some h) x y = elim (cases_order g h) [

@@ -14,15 +14,16 @@ use Rattle.j39_stream.specs.declared.verdict.Verdict.TheVariants.{Done, Findings
 use Rattle.j39_text.specs.Texts.{field}
 use Rattle.j39_tp.specs.declared.packet.Packet.{Packet}
 use Rattle.j39_follow.specs.Contests.{Timed}
-use Rattle.j39_follow.specs.FollowReports.{stamp}
-use Rattle.j39_follow.specs.FollowText.{AreUnitLines, IsFollowText, IsFollowedLog, IsPacketReport, IsUnitLine, FollowedPast, FollowsFrame, FollowsLine, FollowsLines, FollowsPart, FollowsShort, frames_seen, in_frame, lines_with, nothing_followed, one_line_more, line_passed_over, unit_end_line}
+use Rattle.j39_follow.specs.FollowReports.{AreTold, in_frame, stamp}
+use Rattle.j39_follow.specs.FollowText.{AreUnitLines, IsFollowText, IsFollowedLog, IsPacketReport, IsUnitLine, FollowedPast, FollowsFrame, FollowsLine, FollowsLines, FollowsPart, FollowsShort, frames_seen, lines_with, nothing_followed, one_line_more, line_passed_over, unit_end_line}
 use Rattle.j39_follow.specs.Holders.{HoldsByFrames, IsTold}
 use Rattle.j39_follow.specs.LogLines.{IsElsewhere, IsReadPart, IsTimeText, NamesInterface, interface_behind}
+use Rattle.j39_follow.specs.declared.event.Event.{Event}
 use Rattle.j39_follow.specs.declared.message.Sort.{Sort}
 use Rattle.j39_follow.specs.inside.Recalling.{behind_reports}
 use Rattle.j39_follow.proofs.FirstWords.{one_first_word}
 use Rattle.j39_follow.proofs.HolderLaws.{one_address}
-use Rattle.j39_follow.proofs.OneFrame.{one_heard_as, one_message_report, one_notice, one_packet_report}
+use Rattle.j39_follow.proofs.OneFrame.{one_heard_as, one_message_report, one_notice, one_packet_report, one_told}
 use Rattle.j39_follow.proofs.Recounts.{claim_tells}
 use Rattle.j39_follow.proofs.Splitting.{one_split}
 
@@ -52,12 +53,13 @@ one_time line t u (inr a) (inl b) = absurd (a.0 u b)
 one_time line t u (inr a) (inr b) = a.1 ∙ sym b.1
 
 -- what came so far, with a frame
-abbrev with_frame : FollowedPast → List ℕ → Option (List ℕ) → Frame → Option Packet → Sort → List Sort → FollowedPast
-with_frame past time named f packet sort sorts = record past {
+abbrev with_frame : FollowedPast → List ℕ → Option (List ℕ) → Frame → Option Packet → Sort → List Sort → List Event → FollowedPast
+with_frame past time named f packet sort sorts events = record past {
   seen = past.seen ++ record { frame = f; packet = packet } ∷ [];
   timed = lines_with past f time;
   interface = interface_behind past.interface named;
   sent = past.sent ++ sort ∷ sorts;
+  told = past.told ++ events;
 }
 
 one_frame_read : (plan : Plan) (past : FollowedPast) (time : List ℕ) (named : Option (List ℕ)) (f : Frame) (next other : FollowedPast) (t u : List ℕ)
@@ -69,11 +71,15 @@ one_frame_read plan past time named f next other t u a b =
     let notice = one_notice plan log front f a.notice b.notice a.notice_is b.notice_is in
     let report = one_message_report plan log front (in_frame f) a.sort b.sort a.report b.report a.report_is b.report_is in
     let there = subst (λ (p : Option Packet). IsPacketReport plan past.seen log front f p a.sorts a.carried) packet a.carried_is in
-    let carried = one_packet_report plan past.seen log front f b.packet a.sorts b.sorts a.carried b.carried there b.carried_is in (
+    let carried = one_packet_report plan past.seen log front f b.packet a.sorts b.sorts a.carried b.carried there b.carried_is in
+    let told = one_told plan log f (b.sort ∷ b.sorts) a.events b.events
+    (subst (λ (s : List Sort). AreTold plan log f (b.sort ∷ s) a.events) carried.0
+    (subst (λ (s : Sort). AreTold plan log f (s ∷ a.sorts) a.events) report.0 a.events_are)) b.events_are in (
       a.next_is
-          ∙ ap (λ (p : Option Packet). with_frame past time named f p a.sort a.sorts) packet
-          ∙ ap (λ (s : Sort). with_frame past time named f b.packet s a.sorts) report.0
-          ∙ ap (λ (s : List Sort). with_frame past time named f b.packet b.sort s) carried.0
+          ∙ ap (λ (p : Option Packet). with_frame past time named f p a.sort a.sorts a.events) packet
+          ∙ ap (λ (s : Sort). with_frame past time named f b.packet s a.sorts a.events) report.0
+          ∙ ap (λ (s : List Sort). with_frame past time named f b.packet b.sort s a.events) carried.0
+          ∙ ap (λ (e : List Event). with_frame past time named f b.packet b.sort b.sorts e) told
           ∙ sym b.next_is,
       a.text_is
           ∙ ap (λ (x : List ℕ). x ++ (a.report ++ a.carried)) notice

@@ -39,7 +39,17 @@ pub numbered : (plan : Plan) (reading : Reading) (past : FollowedPast) → Recal
 numbered plan reading past r =
     let m = r.remembers in
     record {
-      remembers = record { knows = m.knows; contests = m.contests; frames = m.frames; heard = m.heard; ranges = m.ranges; tally = m.tally; few = m.few };
+      remembers = record {
+        knows = m.knows;
+        contests = m.contests;
+        frames = m.frames;
+        heard = m.heard;
+        ranges = m.ranges;
+        tally = m.tally;
+        few = m.few;
+        exchanges = m.exchanges;
+        few_told = m.few_told;
+      };
       interface_is = r.interface_is;
       number_is = ap (λ (n : ℕ). n + 1) r.number_is;
       frames_are = r.frames_are;
@@ -54,7 +64,17 @@ pub one_more_bad : (plan : Plan) (reading : Reading) (past : FollowedPast) → R
 one_more_bad plan reading past r =
     let m = r.remembers in
     record {
-      remembers = record { knows = m.knows; contests = m.contests; frames = m.frames; heard = m.heard; ranges = m.ranges; tally = m.tally; few = m.few };
+      remembers = record {
+        knows = m.knows;
+        contests = m.contests;
+        frames = m.frames;
+        heard = m.heard;
+        ranges = m.ranges;
+        tally = m.tally;
+        few = m.few;
+        exchanges = m.exchanges;
+        few_told = m.few_told;
+      };
       interface_is = r.interface_is;
       number_is = r.number_is;
       frames_are = r.frames_are;
@@ -69,7 +89,17 @@ pub one_more_skipped : (plan : Plan) (reading : Reading) (past : FollowedPast) �
 one_more_skipped plan reading past r =
     let m = r.remembers in
     record {
-      remembers = record { knows = m.knows; contests = m.contests; frames = m.frames; heard = m.heard; ranges = m.ranges; tally = m.tally; few = m.few };
+      remembers = record {
+        knows = m.knows;
+        contests = m.contests;
+        frames = m.frames;
+        heard = m.heard;
+        ranges = m.ranges;
+        tally = m.tally;
+        few = m.few;
+        exchanges = m.exchanges;
+        few_told = m.few_told;
+      };
       interface_is = r.interface_is;
       number_is = r.number_is;
       frames_are = r.frames_are;
@@ -84,7 +114,17 @@ pub one_more_elsewhere : (plan : Plan) (reading : Reading) (past : FollowedPast)
 one_more_elsewhere plan reading past r =
     let m = r.remembers in
     record {
-      remembers = record { knows = m.knows; contests = m.contests; frames = m.frames; heard = m.heard; ranges = m.ranges; tally = m.tally; few = m.few };
+      remembers = record {
+        knows = m.knows;
+        contests = m.contests;
+        frames = m.frames;
+        heard = m.heard;
+        ranges = m.ranges;
+        tally = m.tally;
+        few = m.few;
+        exchanges = m.exchanges;
+        few_told = m.few_told;
+      };
       interface_is = r.interface_is;
       number_is = r.number_is;
       frames_are = r.frames_are;

@@ -25,11 +25,11 @@ a_way plan parties log i shows =
       },
     )
 
--- a text that is chosen by a test
-pub if_so : (b : Bool) (x y : List ℕ) → b ≡ true → x ≡ (if b then x else y)
+-- what is chosen by a test
+pub if_so : {A : Type 0} (b : Bool) (x y : A) → b ≡ true → x ≡ (if b then x else y)
 if_so true x y e = refl
 if_so false x y e = cc
 
-pub if_not : (b : Bool) (x y z : List ℕ) → b ≡ false → z ≡ y → z ≡ (if b then x else y)
+pub if_not : {A : Type 0} (b : Bool) (x y z : A) → b ≡ false → z ≡ y → z ≡ (if b then x else y)
 if_not true x y z e same = cc
 if_not false x y z e same = same

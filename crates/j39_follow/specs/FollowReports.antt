@@ -1,7 +1,7 @@
 -- The lines that report what a frame tells, and what was sent.
 use Rattle.std.specs.Prelude.{◌≡◌, ℕ, ◌==◌, ◌||◌, ◌&&◌, Bool, if◌then◌else◌, List, []}
-use Rattle.std.specs.Prelude.{◌∷◌, ◌++◌, codes, decimal, length, is_some, Option, Some, None}
-use Rattle.std.specs.Option.{option_map_or}
+use Rattle.std.specs.Prelude.{◌∷◌, ◌++◌, codes, decimal, length, map, is_some, option_map, Option, Some, None}
+use Rattle.std.specs.Option.{option_map_or, option_to_list}
 use Rattle.hex.specs.Hex.{encode_upper}
 use Rattle.j39_id.specs.Addresses.{global_address}
 use Rattle.j39_id.specs.Ident.{pgn_of}
@@ -17,7 +17,11 @@ use Rattle.j39_text.specs.Labels.{unit_label}
 use Rattle.j39_text.specs.Texts.{field, place_field}
 use Rattle.j39_follow.specs.Contests.{IsTaken, Timed}
 use Rattle.j39_follow.specs.Fits.{IsSentGroup, fitting_flow}
+use Rattle.j39_follow.specs.Requests.{acknowledged_group, acknowledges, asked_request, asked_text, control_of, control_word, is_refusal, number_of, told_address}
 use Rattle.j39_follow.specs.Who.{name_text, unit_of_name, unit_of, who_text}
+use Rattle.j39_follow.specs.declared.event.Event.{Event}
+use Rattle.j39_follow.specs.declared.event.Event.TheVariants.{Asked, Brought, Refused}
+use Rattle.j39_follow.specs.declared.event.Reply.{Reply}
 use Rattle.j39_follow.specs.declared.message.Sort.{Sort}
 use Rattle.j39_follow.specs.declared.message.Sort.TheVariants.{Grouped, Other}
 use Rattle.j39_follow.specs.declared.sending.Aim.{Aim}
@@ -29,7 +33,7 @@ use Rattle.j39_follow.specs.declared.who.Who.{Who}
 unfoldable pub stamp : ℕ → List ℕ → List ℕ
 stamp number time = decimal number ++ (codes " " ++ (time ++ codes " "))
 
--- ---- claims and requests
+-- ---- claims
 
 -- a unit by its NAME
 unfoldable pub named_text : Plan → ℕ → List ℕ
@@ -61,16 +65,7 @@ pub record IsWay (plan : Plan) (log : List Timed) (i : Ident) (text : List ℕ) 
   pub text_is : text ≡ codes " from " ++ (who_text plan sender i.sa
       ++ (codes " to " ++ (if is_to_all i then codes "all" else who_text plan receiver i.ps)))
 
--- what is written first at a frame, these being the lines up to it
-abbrev pub IsNotice : Plan → List Timed → List ℕ → Frame → List ℕ → Type 0
-IsNotice plan log front f text =
-    (way : List ℕ) × IsWay plan log f.ident way
-    × (text ≡ (if claims_address f then claim_line plan front f
-    else if cannot_claim f then cannot_line plan front f
-    else if requests_group f then front ++ (field (codes "request ") (requested_group f) ++ (way ++ 10 ∷ []))
-    else []))
-
--- ---- groups
+-- ---- messages
 
 -- a message: its group's number and its bytes, the identifier of its last frame, and the priority of the frame where it came in one
 pub record Message : Type 0 where
@@ -92,6 +87,92 @@ pub record IsSendingOf (plan : Plan) (log : List Timed) (m : Message) (sent : Se
   pub sender_unit : sent.sender ≡ unit_of sender
   pub aim_is : sent.aim ≡ (if is_to_all m.ident then aims.All else aim_at (unit_of receiver))
   pub unaddressed_is : sent.unaddressed ≡ (is_some m.framed && is_pdu2 m.pgn)
+
+-- the message that came in one frame
+abbrev pub in_frame : Frame → Message
+in_frame f = record { pgn = pgn_of f.ident; bytes = f.payload.items; ident = f.ident; framed = Some f.ident.priority }
+
+-- ---- requests, and what units answer beside the groups
+
+-- the request of the plan that a frame asks, if one fits
+abbrev pub IsAsked : Plan → List Timed → Frame → Option ℕ → Type 0
+IsAsked plan log f asked =
+    (sent : Sending) × IsSendingOf plan log (in_frame f) sent × (asked ≡ asked_request plan (requested_group f) sent)
+
+unfoldable pub request_line : List ℕ → Frame → List ℕ → Option ℕ → List ℕ
+request_line front f way asked =
+    front ++ (field (codes "request ") (requested_group f) ++ (way ++ (asked_text asked ++ 10 ∷ [])))
+
+-- from whom an acknowledgement is, and who asked
+unfoldable pub answer_way_text : Plan → Who → ℕ → Who → ℕ → List ℕ
+answer_way_text plan sender source asker address =
+    codes " from " ++ (who_text plan sender source
+    ++ (codes " to " ++ (if address == global_address then codes "all" else who_text plan asker address)))
+
+pub record IsAnswerWay (plan : Plan) (log : List Timed) (f : Frame) (text : List ℕ) : Type 0 where
+  pub sender : Who
+  pub asker : Who
+  pub sender_is : IsTaken plan log f.ident.sa sender
+  pub asker_is : IsTaken plan log (told_address plan f) asker
+  pub text_is : text ≡ answer_way_text plan sender f.ident.sa asker (told_address plan f)
+
+unfoldable pub answer_text : List ℕ → List ℕ → Frame → List ℕ → List ℕ
+answer_text front word f way = front ++ (field word (acknowledged_group f) ++ (way ++ 10 ∷ []))
+
+-- what is known of a control byte is written
+abbrev pub answer_line : List ℕ → Frame → List ℕ → List ℕ
+answer_line front f way = option_map_or (λ (word : List ℕ). answer_text front word f way) (control_word (control_of f)) []
+
+-- what is written first at a frame: what it tells of addresses, what it asks for, or what it answers beside a group
+abbrev pub notice_text : Plan → List ℕ → Frame → List ℕ → Option ℕ → List ℕ → List ℕ
+notice_text plan front f way asked back =
+    if claims_address f then claim_line plan front f
+    else if cannot_claim f then cannot_line plan front f
+    else if requests_group f then request_line front f way asked
+    else if acknowledges plan f then answer_line front f back
+    else []
+
+-- these being the lines up to it
+pub record IsNotice (plan : Plan) (log : List Timed) (front : List ℕ) (f : Frame) (text : List ℕ) : Type 0 where
+  pub way : List ℕ
+  pub back : List ℕ
+  pub asked : Option ℕ
+  pub way_is : IsWay plan log f.ident way
+  pub back_is : IsAnswerWay plan log f back
+  pub asked_is : IsAsked plan log f asked
+  pub text_is : text ≡ notice_text plan front f way asked back
+
+abbrev pub reply_of : ℕ → Option ℕ → Aim → Reply
+reply_of number sender aim = record { number = number; sender = sender; aim = aim }
+
+-- for whom an acknowledgement is that names this address, behind which this one stands
+abbrev pub answer_aim : ℕ → Who → Aim
+answer_aim address asker = if address == global_address then aims.All else aim_at (unit_of asker)
+
+-- what an acknowledgement refuses
+abbrev pub refusal_events : Plan → Frame → Sending → Who → List Event
+refusal_events plan f sent asker =
+    if is_refusal f then Refused (reply_of (acknowledged_group f) sent.sender (answer_aim (told_address plan f) asker)) ∷ [] else []
+
+-- what a frame asks or refuses
+abbrev pub notice_events : Plan → Frame → Sending → Who → List Event
+notice_events plan f sent asker =
+    if requests_group f then option_to_list (option_map Asked (asked_request plan (requested_group f) sent))
+    else if acknowledges plan f then refusal_events plan f sent asker else []
+
+abbrev pub told_events : Plan → Frame → Sending → Who → List Sort → List Event
+told_events plan f sent asker sorts =
+    notice_events plan f sent asker ++ map (λ (sort : Sort). Brought (reply_of (number_of plan sort) sent.sender sent.aim)) sorts
+
+-- what a frame tells of requests: what it asks or refuses, and then the messages that it is and ends
+pub record AreTold (plan : Plan) (log : List Timed) (f : Frame) (sorts : List Sort) (events : List Event) : Type 0 where
+  pub sent : Sending
+  pub asker : Who
+  pub sent_is : IsSendingOf plan log (in_frame f) sent
+  pub asker_is : IsTaken plan log (told_address plan f) asker
+  pub events_are : events ≡ told_events plan f sent asker sorts
+
+-- ---- groups
 
 unfoldable pub flow_word : Option ℕ → List ℕ
 flow_word None = codes " no flow"

@@ -4,7 +4,6 @@ use Rattle.std.specs.Prelude.{[], ◌∷◌, ◌++◌, length, map, count_by, co
 use Rattle.std.specs.List.{All, position}
 use Rattle.std.specs.Option.{option_eq, option_map_or}
 use Rattle.j39_id.specs.FrameLine.{Spells, HasLineFault}
-use Rattle.j39_id.specs.Ident.{pgn_of}
 use Rattle.j39_id.specs.Lines.{Line, Short, Long, lines}
 use Rattle.j39_id.specs.declared.frame.Frame.{Frame}
 use Rattle.j39_id.specs.declared.line_error.LineError.{LineError}
@@ -29,7 +28,9 @@ use Rattle.j39_text.specs.Texts.{field, place_field}
 use Rattle.j39_stream.specs.declared.verdict.Verdict.{Verdict}
 use Rattle.j39_stream.specs.declared.verdict.Verdict.TheVariants.{Done, Findings, Refused, Unreadable}
 use Rattle.j39_follow.specs.Contests.{Timed}
-use Rattle.j39_follow.specs.FollowReports.{IsGroupOfMessage, IsMessageReport, IsNotice, Message, stamp}
+use Rattle.j39_follow.specs.FollowReports.{AreTold, IsGroupOfMessage, IsMessageReport, IsNotice, in_frame, stamp}
+use Rattle.j39_follow.specs.Requests.{times_answered, times_asked, times_refused}
+use Rattle.j39_follow.specs.declared.event.Event.{Event}
 use Rattle.j39_follow.specs.declared.message.Sort.{Sort}
 use Rattle.j39_follow.specs.declared.message.Sort.TheVariants.{Grouped, Other}
 use Rattle.j39_follow.specs.Holders.{HoldsByFrames, IsTold}
@@ -63,10 +64,6 @@ pub record HeardSince (plan : Plan) (seen : List Seen) (source destination : ℕ
 
 -- ---- a frame
 
--- the message that came in one frame
-abbrev pub in_frame : Frame → Message
-in_frame f = record { pgn = pgn_of f.ident; bytes = f.payload.items; ident = f.ident; framed = Some f.ident.priority }
-
 -- the transport packet that is heard of a frame, these being the lines up to it; of a frame that is a group none is
 abbrev pub IsFollowedAs : Plan → List Timed → Frame → Option Packet → Type 0
 IsFollowedAs plan log f (Some p) = IsGroupOfMessage plan log (in_frame f) None × IsPacket f p
@@ -88,20 +85,21 @@ IsPacketReport plan before log front f (Some p) sorts text =
 
 -- ---- a log
 
--- what came so far: how many lines, the frames with what is heard of them and with their times, the interface of the log, what was sent, and
--- how many lines were passed over
+-- what came so far: how many lines, the frames with what is heard of them and with their times, the interface of the log, what was sent, what
+-- was told of requests, and how many lines were passed over
 pub record FollowedPast : Type 0 where
   pub number : ℕ
   pub seen : List Seen
   pub timed : List Timed
   pub interface : Option (List ℕ)
   pub sent : List Sort
+  pub told : List Event
   pub skipped : ℕ
   pub bad : ℕ
   pub elsewhere : ℕ
 
 abbrev pub nothing_followed : FollowedPast
-nothing_followed = record { number = 0; seen = []; timed = []; interface = None; sent = []; skipped = 0; bad = 0; elsewhere = 0 }
+nothing_followed = record { number = 0; seen = []; timed = []; interface = None; sent = []; told = []; skipped = 0; bad = 0; elsewhere = 0 }
 
 abbrev pub with_bad_line : FollowedPast → FollowedPast
 with_bad_line past = record past { bad = past.bad + 1 }
@@ -122,6 +120,7 @@ pub record FollowsFrame (plan : Plan) (past : FollowedPast) (time : List ℕ) (n
   pub packet : Option Packet
   pub sort : Sort
   pub sorts : List Sort
+  pub events : List Event
   pub notice : List ℕ
   pub report : List ℕ
   pub carried : List ℕ
@@ -129,12 +128,14 @@ pub record FollowsFrame (plan : Plan) (past : FollowedPast) (time : List ℕ) (n
   pub notice_is : IsNotice plan (lines_with past f time) (stamp past.number time) f notice
   pub report_is : IsMessageReport plan (lines_with past f time) (stamp past.number time) (in_frame f) sort report
   pub carried_is : IsPacketReport plan past.seen (lines_with past f time) (stamp past.number time) f packet sorts carried
+  pub events_are : AreTold plan (lines_with past f time) f (sort ∷ sorts) events
   pub text_is : text ≡ notice ++ (report ++ carried)
   pub next_is : next ≡ record past {
     seen = past.seen ++ record { frame = f; packet = packet } ∷ [];
     timed = lines_with past f time;
     interface = interface_behind past.interface named;
     sent = past.sent ++ sort ∷ sorts;
+    told = past.told ++ events;
   }
 
 -- a line that isn't elsewhere is read: as the frame that its part spells, or it is passed over
@@ -235,6 +236,30 @@ AreUnitLines frames [] text = text ≡ []
 AreUnitLines frames (unit ∷ units) text =
     (front : List ℕ) × (back : List ℕ) × IsUnitLine frames unit front × AreUnitLines frames units back × (text ≡ front ++ back)
 
+-- from whom to whom a request goes
+unfoldable pub asked_ends_text : Plan → RequestPlan → List ℕ
+asked_ends_text plan r = codes " from " ++ (unit_label plan r.sender ++ (codes " to " ++ to_text plan r.to))
+
+-- what was asked, answered and refused so often
+unfoldable pub exchange_text : ℕ → ℕ → ℕ → List ℕ
+exchange_text asked answered refused =
+    field (codes " asked ") asked ++ (field (codes " answered ") answered ++ (field (codes " refused ") refused ++ 10 ∷ []))
+
+-- a request that was
+unfoldable pub request_end_line : Plan → ℕ → RequestPlan → ℕ → ℕ → ℕ → List ℕ
+request_end_line plan n r asked answered refused =
+    place_field (codes "request ") n ++ (codes " " ++ (group_label plan r.group ++ (asked_ends_text plan r
+    ++ exchange_text asked answered refused)))
+
+-- of each request how often it was asked, answered and refused
+abbrev pub request_end : Plan → List Event → ℕ → RequestPlan → List ℕ
+request_end plan told n r =
+    request_end_line plan n r (times_asked n told) (times_answered plan n r told) (times_refused plan n r told)
+
+unfoldable pub request_ends : Plan → List Event → ℕ → List RequestPlan → List ℕ
+request_ends plan told n [] = []
+request_ends plan told n (r ∷ requests) = request_end plan told n r ++ request_ends plan told (n + 1) requests
+
 -- how often the flow at a place was sent, where it meets the need of a plan with these requests
 abbrev pub met_by : List RequestPlan → List Sort → NeedPlan → ℕ → FlowPlan → ℕ
 met_by requests sent need n flow = if meets requests need flow then count_by (is_of_flow n) sent else 0
@@ -270,8 +295,8 @@ follow_counts_line frames skipped bad elsewhere =
     field (codes "frames ") frames ++ (field (codes " skipped ") skipped ++ (field (codes " bad ") bad
     ++ (field (codes " elsewhere ") elsewhere ++ 10 ∷ [])))
 
--- what is written of a log: what its lines report, then what was sent of each flow and group, where each unit stands, what met each need,
--- and the counts
+-- what is written of a log: what its lines report, then what was sent of each flow and group, where each unit stands, what was asked
+-- and answered of each request, what met each need, and the counts
 pub record IsFollowedLog (plan : Plan) (log text : List ℕ) : Type 0 where
   pub past : FollowedPast
   pub reports : List ℕ
@@ -279,8 +304,8 @@ pub record IsFollowedLog (plan : Plan) (log text : List ℕ) : Type 0 where
   pub read : FollowsLines plan nothing_followed (lines log) past reports
   pub units_are : AreUnitLines (frames_seen past.seen) plan.units.items units
   pub text_is : text ≡ reports ++ (flow_ends plan past.sent 0 plan.flows.items ++ (group_ends plan past.sent 0 plan.groups.items
-      ++ (units ++ (need_ends plan past.sent 0 plan.needs.items
-      ++ follow_counts_line (length past.seen) past.skipped past.bad past.elsewhere))))
+      ++ (units ++ (request_ends plan past.told 0 plan.requests.items ++ (need_ends plan past.sent 0 plan.needs.items
+      ++ follow_counts_line (length past.seen) past.skipped past.bad past.elsewhere)))))
 
 -- what is written for a plan and a log, with the verdict; of the log of a refused plan nothing is read
 abbrev pub IsFollowText : Plan → List ℕ → List ℕ → Verdict → Type 0

@@ -1,5 +1,6 @@
 -- What only private contracts and proofs need.
 pub mod Contesting
+pub mod Exchanging
 pub mod FrameWriting
 pub mod Hearing
 pub mod Likeliest

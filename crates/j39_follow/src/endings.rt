@@ -15,8 +15,9 @@ use j39_findings::{FlowPlan, GroupPlan, Plan, To, UnitPlan};
 use j39_text::{TextBuffer, group_label, unit_label};
 use std::alloc::AllocError;
 
+/// Writes whom a flow or a request goes to.
 #[tactic(auto, unfolding(crate::specs::FollowText::to_text))]
-fn write_to(text: &mut TextBuffer, plan: &Plan, to: To) -> Result<(), AllocError>
+pub(crate) fn write_to(text: &mut TextBuffer, plan: &Plan, to: To) -> Result<(), AllocError>
     ensures { OnOk result (text.new ≡ text.old ++ to_text plan.now to) }
 {
     match to {

@@ -1,5 +1,5 @@
 //! What is written at a frame: what it tells, what it is, and the message that it ends.
-ghost use Rattle.std.specs.Prelude.{◌≡◌, ◌++◌, ◌∷◌, [], ℕ, List, Some, IfOk, OnOk};
+ghost use Rattle.std.specs.Prelude.{◌≡◌, ◌++◌, ◌+◌, ◌^◌, ◌<◌, ◌∷◌, [], ℕ, List, Some, length, IfOk, OnOk};
 ghost use Rattle.std.specs.Option.{option_to_list};
 ghost use Rattle.j39_log.specs.LogPairs.{Seen};
 ghost use Rattle.j39_log.specs.inside.Listening.{AreAllInRange};
@@ -7,34 +7,26 @@ ghost use Rattle.j39_tp.specs.Packets.{InRange};
 ghost use Rattle.j39_tp.specs.declared.receiving.progress.Progress.TheVariants.{Complete};
 ghost use Rattle.j39_follow.specs.Contests.{Timed};
 ghost use Rattle.j39_follow.specs.FollowReports.{IsMessageReport};
-ghost use Rattle.j39_follow.specs.FollowText.{IsPacketReport, in_frame as message_in_frame};
+ghost use Rattle.j39_follow.specs.FollowText.{IsPacketReport};
+ghost use Rattle.j39_follow.specs.declared.event.Event.{Event as AnEvent};
+ghost use Rattle.j39_follow.specs.inside.Exchanging.{AreExchanges, AreNoted};
 ghost use Rattle.j39_follow.specs.inside.FrameWriting.{IsCompleted, IsFrameWritten};
 ghost use Rattle.j39_follow.specs.inside.Hearing.{HaveHeardOneMore, HaveHeardSince, listener_between};
-ghost use Rattle.j39_follow.specs.inside.Contesting.{ShowsParties};
+ghost use Rattle.j39_follow.specs.inside.Contesting.{ShowsAsker, ShowsParties};
 ghost use Rattle.j39_follow.specs.inside.Reporting.{front_of, arrived_message};
 
+use crate::exchanges::Exchanges;
 use crate::group_line::write_message;
 use crate::known_parties::Parties;
-use crate::message::{Arrival, Sort};
+use crate::message::{Arrival, Sort, in_frame};
 use crate::notice::write_notice;
 use crate::stamp::Stamp;
+use crate::telling::note;
 use j39_id::{Frame, Ident};
 use j39_log::{Groups, Listeners, listen, transport_packet};
 use j39_text::TextBuffer;
 use j39_tp::{Packet, listener_completes_what_is_carried};
 use std::alloc::AllocError;
-
-// The message that came in a frame.
-fn in_frame(frame: &Frame) -> Arrival<'_>
-    ensures { arrived_message result ≡ message_in_frame frame.now }
-{
-    Arrival {
-        pgn: frame.ident.pgn().number(),
-        bytes: frame.payload.as_slice(),
-        ident: frame.ident,
-        framed: Some(frame.ident.priority),
-    }
-}
 
 // The report of the message that a pair just completed, and what it counts as.
 fn write_completed(
@@ -93,9 +85,9 @@ fn write_packet(
     }
 }
 
-/// What is written at a frame whose claim was noted, what it counts as, and what the message counts as that it ends.
+// What is written at a frame whose claim was noted, what it counts as, and what the message counts as that it ends.
 #[inline(always)]
-pub(crate) fn write_frame(
+fn write_frame(
     text: &mut TextBuffer,
     listeners: &mut Listeners,
     groups: &Groups<'_>,
@@ -104,7 +96,7 @@ pub(crate) fn write_frame(
     frame: &Frame,
 ) -> Result<(Sort, Option<Sort>), AllocError>
     ensures { IfOk result (λ sorts. (seen : List Seen) (log : List Timed) → ShowsParties groups.now parties.now log frame.now.ident
-        → HaveHeardSince groups.now listeners.old seen → AreAllInRange seen
+        → ShowsAsker groups.now parties.now log frame.now → HaveHeardSince groups.now listeners.old seen → AreAllInRange seen
         → IsFrameWritten groups.now listeners.new seen log (front_of stamp.entry) frame.now sorts.0 sorts.1 text.old text.new) }
 {
     write_notice(text, groups.plan(), parties, stamp, frame)?;
@@ -116,5 +108,32 @@ pub(crate) fn write_frame(
         return Ok((sort, None));
     };
     let ended = write_packet(text, listeners, groups, parties, stamp, frame, &packet)?;
+    Ok((sort, ended))
+}
+
+/// What is written at a frame whose claim was noted, what it counts as, and what the message counts as that it ends; what it tells of
+/// requests is noted, where the plan has any.
+#[inline(always)]
+pub(crate) fn report_frame(
+    text: &mut TextBuffer,
+    listeners: &mut Listeners,
+    exchanges: &mut Exchanges,
+    groups: &Groups<'_>,
+    parties: &Parties,
+    stamp: Stamp<'_>,
+    frame: &Frame,
+) -> Result<(Sort, Option<Sort>), AllocError>
+    ensures written { IfOk result (λ sorts. (seen : List Seen) (log : List Timed) → ShowsParties groups.now parties.now log frame.now.ident
+        → ShowsAsker groups.now parties.now log frame.now → HaveHeardSince groups.now listeners.old seen → AreAllInRange seen
+        → IsFrameWritten groups.now listeners.new seen log (front_of stamp.entry) frame.now sorts.0 sorts.1 text.old text.new) }
+    ensures noted { IfOk result (λ sorts. (log : List Timed) (events : List AnEvent) → ShowsParties groups.now parties.now log frame.now.ident
+        → ShowsAsker groups.now parties.now log frame.now → length events + 3 < 2 ^ 64 → AreExchanges groups.now exchanges.old events
+        → AreNoted groups.now log frame.now (sorts.0 ∷ option_to_list sorts.1) events exchanges.new) }
+{
+    let (sort, ended) = write_frame(text, listeners, groups, parties, stamp, frame)?;
+    if groups.plan().requests.is_empty() {
+        return Ok((sort, ended));
+    }
+    note(exchanges, groups.plan(), parties, frame, sort, ended);
     Ok((sort, ended))
 }

@@ -44,8 +44,8 @@ fn is_unaddressed(message: Arrival<'_>) -> bool
     message.framed.is_some() && pf_of(message.pgn) >= PDU2_FIRST
 }
 
-// Who sent a message, to whom.
-fn sending_of(parties: &Parties, message: Arrival<'_>) -> Sending
+/// Who sent a message, to whom.
+pub(crate) fn sending_of(parties: &Parties, message: Arrival<'_>) -> Sending
     ensures { (plan : APlan) (log : List Timed) → ShowsParties plan parties.now log message.entry.ident → IsSendingOf plan log (arrived_message message.entry) result }
 {
     Sending {

@@ -1,10 +1,15 @@
 //! The follow command: who sent what, by the claims of a log itself.
 #![tactic(auto)]
 
+mod acknowledgement;
+mod asking;
 mod contest;
 mod contests;
 mod directory;
 mod endings;
+mod event;
+mod exchange;
+mod exchanges;
 mod frame_report;
 mod group_line;
 mod holders;
@@ -21,10 +26,13 @@ mod notice;
 mod parting;
 mod party_text;
 mod reading;
+mod replies;
+mod request_ends;
 mod sending;
 mod stamp;
 mod taking;
 mod tally;
+mod telling;
 mod who;
 mod words;
 

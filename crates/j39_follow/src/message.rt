@@ -1,5 +1,9 @@
 //! A message of a log, and what it counts as.
-use j39_id::Ident;
+ghost use Rattle.std.specs.Prelude.{◌≡◌};
+ghost use Rattle.j39_follow.specs.FollowReports.{in_frame as message_in_frame};
+ghost use Rattle.j39_follow.specs.inside.Reporting.{arrived_message};
+
+use j39_id::{Frame, Ident};
 
 /// A message: its group's number and its bytes, the identifier of its last frame, and the priority of the frame where it came in one.
 #[derive(Clone, Copy)]
@@ -8,6 +12,18 @@ pub(crate) struct Arrival<'a> {
     pub bytes: &'a [u8],
     pub ident: Ident,
     pub framed: Option<u8>,
+}
+
+/// The message that came in a frame.
+pub(crate) fn in_frame(frame: &Frame) -> Arrival<'_>
+    ensures { arrived_message result ≡ message_in_frame frame.now }
+{
+    Arrival {
+        pgn: frame.ident.pgn().number(),
+        bytes: frame.payload.as_slice(),
+        ident: frame.ident,
+        framed: Some(frame.ident.priority),
+    }
 }
 
 /// What a message counts as.

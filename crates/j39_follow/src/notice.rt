@@ -1,14 +1,17 @@
 //! What is written first at a frame: what it tells of addresses, or what it asks for.
-ghost use Rattle.std.specs.Prelude.{◌≡◌, ◌++◌, ◌∷◌, [], ℕ, List, codes, length, OnOk};
+ghost use Rattle.std.specs.Prelude.{◌≡◌, ◌++◌, ℕ, List, Option, length, OnOk};
 ghost use Rattle.j39_text.specs.FrameText.{requested_group, requests_group};
-ghost use Rattle.j39_text.specs.Texts.{field};
 ghost use Rattle.j39_follow.specs.Contests.{Timed};
-ghost use Rattle.j39_follow.specs.FollowReports.{IsNotice, IsWay, cannot_text, claim_text};
-ghost use Rattle.j39_follow.specs.inside.Contesting.{ShowsParties};
+ghost use Rattle.j39_follow.specs.FollowReports.{IsAsked, IsNotice, IsWay, cannot_text, claim_text, request_line};
+ghost use Rattle.j39_follow.specs.inside.Contesting.{ShowsAsker, ShowsParties};
 ghost use Rattle.j39_follow.specs.inside.Reporting.{front_of};
 
+use crate::acknowledgement::{acknowledges, write_acknowledgement};
+use crate::asking::{asked_request, write_asked};
+use crate::group_line::sending_of;
 use crate::holders::{cannot_claim, carried_name, claims_address};
 use crate::known_parties::Parties;
+use crate::message::in_frame;
 use crate::party_text::{write_named, write_way};
 use crate::stamp::{Stamp, write_stamp};
 use j39_findings::Plan;
@@ -17,15 +20,15 @@ use j39_id::services::REQUEST;
 use j39_text::TextBuffer;
 use std::alloc::AllocError;
 
-// Whether a unit asks for a group.
-fn requests_group(frame: &Frame) -> bool
+/// Whether a unit asks for a group.
+pub(crate) fn requests_group(frame: &Frame) -> bool
     ensures { result ≡ requests_group frame.now }
 {
     frame.ident.edp == 0 && frame.ident.pgn() == REQUEST && frame.payload.len() == 3
 }
 
-// The group that three bytes request.
-fn requested_group(frame: &Frame) -> u32
+/// The group that three bytes request.
+pub(crate) fn requested_group(frame: &Frame) -> u32
     requires { length frame.now.payload.items ≡ 3 }
     ensures { result ≡ requested_group frame.now }
 {
@@ -74,12 +77,17 @@ fn write_request(
 ) -> Result<(), AllocError>
     requires { length frame.now.payload.items ≡ 3 }
     ensures { OnOk result ((log : List Timed) → ShowsParties plan.now parties.now log frame.now.ident
-        → (way : List ℕ) × IsWay plan.now log frame.now.ident way
-        × (text.new ≡ text.old ++ (front_of stamp.entry ++ (field (codes "request ") (requested_group frame.now) ++ (way ++ 10 ∷ []))))) }
+        → (way : List ℕ) × (asked : Option ℕ) × IsWay plan.now log frame.now.ident way × IsAsked plan.now log frame.now asked
+        × (text.new ≡ text.old ++ request_line (front_of stamp.entry) frame.now way asked)) }
 {
+    let number = requested_group(frame);
     write_stamp(text, stamp)?;
-    text.field("request ", requested_group(frame))?;
+    text.field("request ", number)?;
     write_way(text, plan, parties, frame.ident)?;
+    write_asked(
+        text,
+        asked_request(plan, number, sending_of(parties, in_frame(frame))),
+    )?;
     text.end_line()
 }
 
@@ -91,7 +99,7 @@ pub(crate) fn write_notice(
     stamp: Stamp<'_>,
     frame: &Frame,
 ) -> Result<(), AllocError>
-    ensures { OnOk result ((log : List Timed) → ShowsParties plan.now parties.now log frame.now.ident
+    ensures { OnOk result ((log : List Timed) → ShowsParties plan.now parties.now log frame.now.ident → ShowsAsker plan.now parties.now log frame.now
         → (piece : List ℕ) × IsNotice plan.now log (front_of stamp.entry) frame.now piece × (text.new ≡ text.old ++ piece)) }
 {
     if claims_address(frame) {
@@ -100,6 +108,8 @@ pub(crate) fn write_notice(
         write_cannot(text, plan, stamp, carried_name(frame))
     } else if requests_group(frame) {
         write_request(text, plan, parties, stamp, frame)
+    } else if acknowledges(plan, frame) {
+        write_acknowledgement(text, plan, parties, stamp, frame)
     } else {
         Ok(())
     }

@@ -1,7 +1,7 @@
 //! The texts of who stands behind an address.
 ghost use Rattle.std.specs.Prelude.{◌≡◌, ◌++◌, ℕ, List, OnOk, codes, if◌then◌else◌};
 ghost use Rattle.j39_follow.specs.Contests.{Timed};
-ghost use Rattle.j39_follow.specs.FollowReports.{IsWay, is_to_all as goes_to_all, named_text};
+ghost use Rattle.j39_follow.specs.FollowReports.{IsWay, answer_way_text, is_to_all as goes_to_all, named_text};
 ghost use Rattle.j39_follow.specs.Who.{name_text, party_text, who_text};
 ghost use Rattle.j39_follow.specs.inside.Contesting.{ShowsParties};
 ghost use Rattle.j39_follow.specs.inside.Recounting.{HasNames, party_at};
@@ -132,4 +132,26 @@ pub(crate) fn write_way(
 {
     text.word(" from ")?;
     write_parties(text, plan, parties, ident)
+}
+
+/// Writes from whom an acknowledgement is, and who asked.
+#[tactic(auto, unfolding(crate::specs::FollowReports::answer_way_text))]
+pub(crate) fn write_answer_way(
+    text: &mut TextBuffer,
+    plan: &Plan,
+    parties: &Parties,
+    source: u8,
+    asker: u8,
+) -> Result<(), AllocError>
+    ensures { OnOk result (HasNames plan.now parties.now.all parties.now.names → text.new ≡ text.old
+        ++ answer_way_text plan.now (party_at parties.now.all source) source (party_at parties.now.all asker) asker) }
+{
+    text.word(" from ")?;
+    write_party_at(text, plan, parties, source)?;
+    text.word(" to ")?;
+    if asker == GLOBAL_ADDRESS {
+        text.word("all")
+    } else {
+        write_party_at(text, plan, parties, asker)
+    }
 }

@@ -1,6 +1,6 @@
 //! Following a log line after line.
-ghost use Rattle.std.specs.Prelude.{◌≡◌, ◌+◌, ◌-◌, ◌||◌, true, ◌^◌, ◌<◌, ◌≤◌, ◌++◌, [], ℕ, List, None, length, IfOk, OnOk};
-ghost use Rattle.std.specs.Option.{option_copied};
+ghost use Rattle.std.specs.Prelude.{◌≡◌, ◌+◌, ◌-◌, ◌||◌, true, false, ◌^◌, ◌<◌, ◌≤◌, ◌++◌, ◌∷◌, [], ℕ, List, None, length, IfOk, OnOk};
+ghost use Rattle.std.specs.Option.{option_copied, option_to_list};
 ghost use Rattle.j39_id.specs.Lines.{tells};
 ghost use Rattle.j39_findings.specs.declared.plan.Plan.{Plan as APlan};
 ghost use Rattle.j39_log.specs.inside.Listening.{AreAllInRange};
@@ -9,7 +9,10 @@ ghost use Rattle.j39_text.specs.FrameText.{cannot_claim, claims_address};
 ghost use Rattle.j39_follow.specs.Contests.{Timed, frames_of};
 ghost use Rattle.j39_follow.specs.FollowText.{AreUnitLines, FollowedPast, FollowsFrame, FollowsLines, FollowsShort, follow_counts_line, frames_seen, lines_with, nothing_followed, line_passed_over};
 ghost use Rattle.j39_follow.specs.LogLines.{interface_behind, moment_of};
+ghost use Rattle.j39_follow.specs.Requests.{acknowledges};
+ghost use Rattle.j39_follow.specs.declared.event.Event.{Event as AnEvent};
 ghost use Rattle.j39_follow.specs.inside.Contesting.{AreContests, IsDefender, IsTimed};
+ghost use Rattle.j39_follow.specs.inside.Exchanging.{AreExchanges, AreNoted};
 ghost use Rattle.j39_follow.specs.inside.FrameWriting.{IsFrameWritten};
 ghost use Rattle.j39_follow.specs.inside.Hearing.{HaveHeardSince};
 ghost use Rattle.j39_follow.specs.inside.Recalling.{CountsWithin, IsFollowed, IsOneMore, IsReported, IsSameButWritten, IsSameCounts, RecallsPast, Remembers, behind_reports, interface_of};
@@ -17,16 +20,19 @@ ghost use Rattle.j39_follow.specs.inside.Recounting.{Knows};
 ghost use Rattle.j39_follow.specs.inside.Reporting.{front_of};
 ghost use Rattle.j39_follow.specs.inside.Tallies.{IsTally};
 
+use crate::acknowledgement::{acknowledges, told_address};
 use crate::contests::{Contests, begun};
 use crate::directory::Directory;
 use crate::endings::write_endings;
-use crate::frame_report::write_frame;
+use crate::exchanges::Exchanges;
+use crate::frame_report::report_frame;
 use crate::holders::{cannot_claim, claims_address};
 use crate::log_line::{interface, is_elsewhere, read_part, time_text};
 use crate::message::Sort;
 use crate::moment::moment;
 use crate::needs::write_needs;
 use crate::parting::part;
+use crate::request_ends::write_requests;
 use crate::stamp::Stamp;
 use crate::taking::taken;
 use crate::tally::Tally;
@@ -45,6 +51,7 @@ pub(crate) struct Reading {
     contests: Contests,
     listeners: Listeners,
     tally: Tally,
+    exchanges: Exchanges,
     interface: Option<Vec<u8>>,
     number: u64,
     frames: u64,
@@ -102,6 +109,7 @@ impl Reading {
             contests: Contests::new(),
             listeners: Listeners::new(alloc),
             tally: Tally::new(),
+            exchanges: Exchanges::new(),
             interface: None,
             number: 0,
             frames: 0,
@@ -124,17 +132,23 @@ impl Reading {
             → AreContests groups.now self.old.contests log → IsTimed log (moment_of stamp.entry.time.now)
             → HaveHeardSince groups.now self.old.listeners seen → AreAllInRange seen
             → IsFrameWritten groups.now self.new.listeners seen log (front_of stamp.entry) frame.now sorts.0 sorts.1 self.old.text self.new.text) }
+        ensures noted { IfOk result (λ sorts. (log : List Timed) (events : List AnEvent) → Knows groups.now self.old.directory (frames_of log)
+            → AreContests groups.now self.old.contests log → IsTimed log (moment_of stamp.entry.time.now)
+            → length events + 3 < 2 ^ 64 → AreExchanges groups.now self.old.exchanges events
+            → AreNoted groups.now log frame.now (sorts.0 ∷ option_to_list sorts.1) events self.new.exchanges) }
     {
         let parties = taken(
             groups.plan(),
             self.directory.parties(),
             &self.contests,
             frame.ident,
+            told_address(groups.plan(), frame),
             moment(stamp.time),
         );
-        write_frame(
+        report_frame(
             &mut self.text,
             &mut self.listeners,
+            &mut self.exchanges,
             groups,
             &parties,
             stamp,
@@ -150,15 +164,21 @@ impl Reading {
         stamp: Stamp<'_>,
         frame: &Frame,
     ) -> Result<(Sort, Option<Sort>), AllocError>
+        requires { acknowledges groups.now frame.now ≡ false }
         ensures stays { IsSameButWritten self.old self.new }
         ensures written { IfOk result (λ sorts. (seen : List Seen) (log : List Timed) → Knows groups.now self.old.directory (frames_of log)
             → IsDefender groups.now log frame.now.ident.sa None → IsDefender groups.now log frame.now.ident.ps None
             → HaveHeardSince groups.now self.old.listeners seen → AreAllInRange seen
             → IsFrameWritten groups.now self.new.listeners seen log (front_of stamp.entry) frame.now sorts.0 sorts.1 self.old.text self.new.text) }
+        ensures noted { IfOk result (λ sorts. (log : List Timed) (events : List AnEvent) → Knows groups.now self.old.directory (frames_of log)
+            → IsDefender groups.now log frame.now.ident.sa None → IsDefender groups.now log frame.now.ident.ps None
+            → length events + 3 < 2 ^ 64 → AreExchanges groups.now self.old.exchanges events
+            → AreNoted groups.now log frame.now (sorts.0 ∷ option_to_list sorts.1) events self.new.exchanges) }
     {
-        write_frame(
+        report_frame(
             &mut self.text,
             &mut self.listeners,
+            &mut self.exchanges,
             groups,
             self.directory.parties(),
             stamp,
@@ -178,7 +198,14 @@ impl Reading {
             → AreContests groups.now self.old.contests log → IsTimed log (moment_of stamp.entry.time.now)
             → HaveHeardSince groups.now self.old.listeners seen → AreAllInRange seen
             → IsFrameWritten groups.now self.new.listeners seen log (front_of stamp.entry) frame.now sorts.0 sorts.1 self.old.text self.new.text) }
+        ensures noted { IfOk result (λ sorts. (log : List Timed) (events : List AnEvent) → Knows groups.now self.old.directory (frames_of log)
+            → AreContests groups.now self.old.contests log → IsTimed log (moment_of stamp.entry.time.now)
+            → length events + 3 < 2 ^ 64 → AreExchanges groups.now self.old.exchanges events
+            → AreNoted groups.now log frame.now (sorts.0 ∷ option_to_list sorts.1) events self.new.exchanges) }
     {
+        if acknowledges(groups.plan(), frame) {
+            return self.write_taken(groups, stamp, frame);
+        }
         if self.contests.are_calm(frame.ident, stamp.time) {
             self.write_plain(groups, stamp, frame)
         } else {
@@ -194,7 +221,8 @@ impl Reading {
         ensures reported { OnOk result ((past : FollowedPast) → Knows groups.now self.old.directory (frames_of (lines_with past frame.now time.now))
             → AreContests groups.now self.old.contests (lines_with past frame.now time.now)
             → HaveHeardSince groups.now self.old.listeners past.seen → AreAllInRange past.seen → IsTally groups.now self.old.tally past.sent
-            → length past.sent + 2 < 2 ^ 64 → IsReported groups.now self.old self.new past time.now frame.now) }
+            → AreExchanges groups.now self.old.exchanges past.told → length past.sent + 2 < 2 ^ 64 → length past.told + 3 < 2 ^ 64
+            → IsReported groups.now self.old self.new past time.now frame.now) }
     {
         let stamp = Stamp {
             number: self.number,
@@ -333,12 +361,14 @@ impl Reading {
         self.text.end_line()
     }
 
-    /// Writes what was sent, where each unit stands, what met each need, and how many lines there were of each sort.
+    /// Writes what was sent, where each unit stands, how often each request was asked and answered, what met each need, and how many lines
+    /// there were of each sort.
     pub fn finish(&mut self, plan: &Plan) -> Result<(), AllocError>
         ensures { OnOk result ((past : FollowedPast) → RecallsPast plan.now self.old past → (units : List ℕ)
             × AreUnitLines (frames_seen past.seen) plan.now.units.items units × (self.new.text ≡ self.old.text ++ behind_reports plan.now past units)) }
     {
         write_endings(&mut self.text, plan, &self.tally, self.directory.holders())?;
+        write_requests(&mut self.text, plan, &self.exchanges)?;
         write_needs(&mut self.text, plan, &self.tally)?;
         self.write_counts()
     }

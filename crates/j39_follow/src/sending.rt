@@ -42,8 +42,8 @@ fn reaches(to: To, aim: Aim, unaddressed: bool) -> bool
     }
 }
 
-// Whether this unit is the sender.
-fn is_sender(sender: Option<usize>, unit: usize) -> bool
+/// Whether this unit is the sender.
+pub(crate) fn is_sender(sender: Option<usize>, unit: usize) -> bool
     ensures { result ≡ is_unit sender unit }
 {
     sender == Some(unit)

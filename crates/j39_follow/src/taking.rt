@@ -19,8 +19,8 @@ fn taken_for(plan: &Plan, who: Who, defender: Option<u64>) -> Who
     }
 }
 
-// Who is taken to be behind an address on a line with this time.
-fn taken_at(
+/// Who is taken to be behind an address on a line with this time.
+pub(crate) fn taken_at(
     plan: &Plan,
     parties: &Parties,
     contests: &Contests,
@@ -36,21 +36,25 @@ fn taken_at(
     )
 }
 
-/// The parties, with who is taken to be behind the addresses of a frame on a line with this time.
+/// The parties, with who is taken to be behind the addresses of a frame, and behind one more, on a line with this time.
 pub(crate) fn taken(
     plan: &Plan,
     parties: &Parties,
     contests: &Contests,
     ident: Ident,
+    asker: u8,
     time: Option<u64>,
 ) -> Parties
     ensures source { party_at result.all ident.sa ≡ taken_party plan.now (party_at parties.now.all ident.sa) (defender_at contests.now ident.sa time) }
     ensures receiver { party_at result.all ident.ps ≡ taken_party plan.now (party_at parties.now.all ident.ps) (defender_at contests.now ident.ps time) }
+    ensures asker { party_at result.all asker ≡ taken_party plan.now (party_at parties.now.all asker) (defender_at contests.now asker time) }
     ensures names { result.names ≡ None }
 {
     let mut all = parties.all;
     let source = taken_at(plan, parties, contests, ident.sa, time);
     let receiver = taken_at(plan, parties, contests, ident.ps, time);
+    let third = taken_at(plan, parties, contests, asker, time);
+    all[usize::from(asker)] = third;
     all[usize::from(ident.sa)] = source;
     all[usize::from(ident.ps)] = receiver;
     Parties { all, names: None }

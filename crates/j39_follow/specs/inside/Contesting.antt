@@ -8,6 +8,7 @@ use Rattle.j39_findings.specs.declared.plan.Plan.{Plan}
 use Rattle.j39_findings.specs.declared.plan.unit_plan.UnitPlan.{UnitPlan}
 use Rattle.j39_text.specs.FrameText.{claims_address}
 use Rattle.j39_follow.specs.Contests.{Begins, IsContest, IsContested, IsNameBehind, IsTaken, Timed, claim_wait, likely_named}
+use Rattle.j39_follow.specs.Requests.{told_address}
 use Rattle.j39_follow.specs.declared.contest.Contest.{Contest}
 use Rattle.j39_follow.specs.declared.contests.Contests.{Contests}
 use Rattle.j39_follow.specs.declared.known_parties.Parties.{Parties}
@@ -103,3 +104,7 @@ pub record ShowsParties (plan : Plan) (parties : Parties) (log : List Timed) (i 
   pub source : IsTaken plan log i.sa (party_at parties.all i.sa)
   pub receiver : IsTaken plan log i.ps (party_at parties.all i.ps)
   pub names : HasNames plan parties.all parties.names
+
+-- and who is taken to be behind the address of which an acknowledgement speaks
+abbrev pub ShowsAsker : Plan → Parties → List Timed → Frame → Type 0
+ShowsAsker plan parties log f = IsTaken plan log (told_address plan f) (party_at parties.all (told_address plan f))

@@ -11,8 +11,8 @@ use Rattle.j39_tp.specs.Receiver.{Receiving}
 use Rattle.j39_tp.specs.declared.packet.Packet.{Packet}
 use Rattle.j39_tp.specs.declared.receiving.progress.Progress.TheVariants.{Complete}
 use Rattle.j39_follow.specs.Contests.{Timed}
-use Rattle.j39_follow.specs.FollowReports.{IsMessageReport, IsNotice}
-use Rattle.j39_follow.specs.FollowText.{IsFollowedAs, IsPacketReport, frames_seen, in_frame}
+use Rattle.j39_follow.specs.FollowReports.{IsMessageReport, IsNotice, in_frame}
+use Rattle.j39_follow.specs.FollowText.{IsFollowedAs, IsPacketReport, frames_seen}
 use Rattle.j39_follow.specs.declared.message.Sort.{Sort}
 use Rattle.j39_follow.specs.inside.Hearing.{HaveHeardOneMore}
 

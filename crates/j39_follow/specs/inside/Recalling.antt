@@ -9,11 +9,12 @@ use Rattle.j39_findings.specs.declared.plan.Plan.{Plan}
 use Rattle.j39_log.specs.inside.Listening.{AreAllInRange, IsInRange}
 use Rattle.j39_tp.specs.declared.packet.Packet.{Packet}
 use Rattle.j39_follow.specs.Contests.{frames_of}
-use Rattle.j39_follow.specs.FollowReports.{IsMessageReport, IsNotice, stamp}
-use Rattle.j39_follow.specs.FollowText.{IsFollowedAs, IsPacketReport, FollowedPast, FollowsLines, follow_counts_line, flow_ends, frames_seen, group_ends, in_frame, lines_with, nothing_followed, need_ends}
+use Rattle.j39_follow.specs.FollowReports.{IsMessageReport, IsNotice, in_frame, stamp}
+use Rattle.j39_follow.specs.FollowText.{IsFollowedAs, IsPacketReport, FollowedPast, FollowsLines, follow_counts_line, flow_ends, frames_seen, group_ends, lines_with, nothing_followed, need_ends, request_ends}
 use Rattle.j39_follow.specs.declared.message.Sort.{Sort}
 use Rattle.j39_follow.specs.declared.reading.Reading.{Reading}
 use Rattle.j39_follow.specs.inside.Contesting.{AreContests}
+use Rattle.j39_follow.specs.inside.Exchanging.{AreExchanges, AreNoted}
 use Rattle.j39_follow.specs.inside.FrameWriting.{IsFrameWritten, frames_with}
 use Rattle.j39_follow.specs.inside.Hearing.{HaveHeardSince}
 use Rattle.j39_follow.specs.inside.Recounting.{Knows}
@@ -24,7 +25,7 @@ abbrev pub interface_of : Option (Vec ℕ Global) → Option (List ℕ)
 interface_of None = None
 interface_of (Some name) = Some name.items
 
--- who holds what, what each pair heard and what was sent is as these tell
+-- who holds what, what each pair heard, what was sent and what was asked is as these tell
 pub record Remembers (plan : Plan) (reading : Reading) (past : FollowedPast) : Type 0 where
   pub knows : Knows plan reading.directory (frames_seen past.seen)
   pub contests : AreContests plan reading.contests past.timed
@@ -33,6 +34,8 @@ pub record Remembers (plan : Plan) (reading : Reading) (past : FollowedPast) : T
   pub ranges : AreAllInRange past.seen
   pub tally : IsTally plan reading.tally past.sent
   pub few : length past.sent ≤ 2 * length past.seen
+  pub exchanges : AreExchanges plan reading.exchanges past.told
+  pub few_told : length past.told ≤ 3 * length past.seen
 
 -- what was read so far is this
 pub record RecallsPast (plan : Plan) (reading : Reading) (past : FollowedPast) : Type 0 where
@@ -69,19 +72,20 @@ pub record IsOneMore (old new : Reading) : Type 0 where
   pub bad : new.bad ≤ old.bad + 1
   pub elsewhere : new.elsewhere ≤ old.elsewhere + 1
 
--- nothing but the text and the listeners changed
+-- nothing but the text, the listeners and what is kept of requests changed
 pub record IsSameButWritten (old new : Reading) : Type 0 where
   pub directory : new.directory ≡ old.directory
   pub contests : new.contests ≡ old.contests
   pub tally : new.tally ≡ old.tally
   pub counts : IsSameCounts old new
 
--- the frame was written, and what was sent was counted
+-- the frame was written, what was sent was counted, and what it tells of requests was noted
 pub record IsReported (plan : Plan) (old new : Reading) (past : FollowedPast) (time : List ℕ) (f : Frame) : Type 0 where
   pub sort : Sort
   pub ended : Option Sort
   pub written : IsFrameWritten plan new.listeners past.seen (lines_with past f time) (stamp old.number time) f sort ended old.text new.text
   pub tally : IsTally plan new.tally (past.sent ++ sort ∷ option_to_list ended)
+  pub noted : AreNoted plan (lines_with past f time) f (sort ∷ option_to_list ended) past.told new.exchanges
 
 -- the frame was written and counted, and what it tells was noted
 pub record IsFollowed (plan : Plan) (old new : Reading) (past : FollowedPast) (time : List ℕ) (f : Frame) : Type 0 where
@@ -101,6 +105,7 @@ pub record IsFollowed (plan : Plan) (old new : Reading) (past : FollowedPast) (t
   pub contests : AreContests plan new.contests (lines_with past f time)
   pub heard : HaveHeardSince plan new.listeners (past.seen ++ record { frame = f; packet = packet } ∷ [])
   pub tally : IsTally plan new.tally (past.sent ++ sort ∷ option_to_list ended)
+  pub noted : AreNoted plan (lines_with past f time) f (sort ∷ option_to_list ended) past.told new.exchanges
 
 -- these lines were read, and of what is to be written of them this much was written
 pub record HasFollowedLines (plan : Plan) (told : List Line) (reading : Reading) (written : List ℕ) : Type 0 where
@@ -114,5 +119,5 @@ pub record HasFollowedLines (plan : Plan) (told : List Line) (reading : Reading)
 abbrev pub behind_reports : Plan → FollowedPast → List ℕ → List ℕ
 behind_reports plan past units =
     flow_ends plan past.sent 0 plan.flows.items ++ (group_ends plan past.sent 0 plan.groups.items
-    ++ (units ++ (need_ends plan past.sent 0 plan.needs.items
-    ++ follow_counts_line (length past.seen) past.skipped past.bad past.elsewhere)))
+    ++ (units ++ (request_ends plan past.told 0 plan.requests.items ++ (need_ends plan past.sent 0 plan.needs.items
+    ++ follow_counts_line (length past.seen) past.skipped past.bad past.elsewhere))))

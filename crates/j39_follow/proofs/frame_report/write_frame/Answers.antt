@@ -1,7 +1,6 @@
 use Rattle.std.proofs.Common.{[], sym, ap, subst, ◌∙◌, inl, inr, refl, Some, None}
 use Rattle.std.proofs.lemmas.List.{append-nil}
-use Rattle.j39_follow.specs.FollowReports.{IsMessageReport, Message}
-use Rattle.j39_follow.specs.FollowText.{in_frame}
+use Rattle.j39_follow.specs.FollowReports.{IsMessageReport, Message, in_frame}
 use Rattle.j39_follow.specs.inside.Contesting.{ShowsParties}
 use Rattle.j39_follow.specs.inside.Reporting.{front_of}
 use Rattle.j39_follow.proofs.FrameTexts.{is_a_group, is_no_group, three_texts}
@@ -9,12 +8,12 @@ use Rattle.j39_follow.proofs.Heard.{unheard_more}
 use Rattle.j39_follow.proofs.frame_report.write_frame.Goals as goal
 
 pub returns-then-is_grouped : goal.returns-then-is_grouped
-returns-then-is_grouped c = λ seen log shows have ranges.
+returns-then-is_grouped c = λ seen log shows asker have ranges.
     let plan = c.args.groups.now in
     let f = c.args.frame.now in
     let front = front_of c.args.stamp in
     let sort = c.in_ok-sort.sort in
-    let notice = (rw c.plan.ensures at c.in_ok-write_notice.ensures) log shows in
+    let notice = (rw c.plan.ensures at c.in_ok-write_notice.ensures) log shows asker in
     let there = subst (ShowsParties plan c.args.parties.now log) (sym (ap (λ (m : Message). m.ident) c.in_frame.ensures)) shows in
     let message = c.in_ok-sort.ensures log there in
     let report = subst (λ (m : Message). IsMessageReport plan log front m sort message.0) c.in_frame.ensures message.1 in
@@ -34,12 +33,12 @@ returns-then-is_grouped c = λ seen log shows have ranges.
     }
 
 pub returns-in_default : goal.returns-in_default
-returns-in_default c = λ seen log shows have ranges.
+returns-in_default c = λ seen log shows asker have ranges.
     let plan = c.args.groups.now in
     let f = c.args.frame.now in
     let front = front_of c.args.stamp in
     let sort = c.in_ok-sort.sort in
-    let notice = (rw c.plan.ensures at c.in_ok-write_notice.ensures) log shows in
+    let notice = (rw c.plan.ensures at c.in_ok-write_notice.ensures) log shows asker in
     let there = subst (ShowsParties plan c.args.parties.now log) (sym (ap (λ (m : Message). m.ident) c.in_frame.ensures)) shows in
     let message = c.in_ok-sort.ensures log there in
     let report = subst (λ (m : Message). IsMessageReport plan log front m sort message.0) c.in_frame.ensures message.1 in
@@ -58,12 +57,12 @@ returns-in_default c = λ seen log shows have ranges.
     }
 
 pub returns : goal.returns
-returns c = λ seen log shows have ranges.
+returns c = λ seen log shows asker have ranges.
     let plan = c.args.groups.now in
     let f = c.args.frame.now in
     let front = front_of c.args.stamp in
     let sort = c.in_ok-sort.sort in
-    let notice = (rw c.plan.ensures at c.in_ok-write_notice.ensures) log shows in
+    let notice = (rw c.plan.ensures at c.in_ok-write_notice.ensures) log shows asker in
     let there = subst (ShowsParties plan c.args.parties.now log) (sym (ap (λ (m : Message). m.ident) c.in_frame.ensures)) shows in
     let message = c.in_ok-sort.ensures log there in
     let report = subst (λ (m : Message). IsMessageReport plan log front m sort message.0) c.in_frame.ensures message.1 in

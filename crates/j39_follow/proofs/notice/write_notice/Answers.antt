@@ -2,8 +2,10 @@ use Rattle.std.proofs.Common.{◌++◌, [], ℕ, refl, sym, ap, ◌∙◌}
 use Rattle.std.proofs.lemmas.List.{append-nil}
 use Rattle.std.proofs.lemmas.Result.{IfOk-weaker}
 use Rattle.j39_follow.specs.FollowReports.{cannot_line, cannot_text, claim_line, claim_text}
+use Rattle.j39_follow.specs.Requests.{acknowledges}
 use Rattle.j39_follow.specs.inside.Reporting.{front_of}
 use Rattle.j39_text.specs.FrameText.{cannot_claim, claims_address, requests_group}
+use Rattle.j39_follow.proofs.Told.{an_answer_way, an_asked}
 use Rattle.j39_follow.proofs.Ways.{a_way, if_not, if_so}
 use Rattle.j39_follow.proofs.notice.write_notice.Goals as goal
 
@@ -13,10 +15,20 @@ returns-then-claims_address c =
     let front = front_of c.args.stamp in
     let f = c.args.frame.now in
     IfOk-weaker c.write_claim.result _ _
-    (λ _ written. λ log shows.
-    let way = a_way plan c.args.parties.now log f.ident shows in (
+    (λ _ written. λ log shows asks.
+    let way = a_way plan c.args.parties.now log f.ident shows in
+    let back = an_answer_way plan c.args.parties.now log f shows asks in
+    let asked = an_asked plan c.args.parties.now log f shows in (
       claim_line plan front f,
-      (way.0, way.1, if_so (claims_address f) _ _ (sym c.claims_address.ensures ∙ c.if-claims_address.true)),
+      record {
+        way = way.0;
+        back = back.0;
+        asked = asked.0;
+        way_is = way.1;
+        back_is = back.1;
+        asked_is = asked.1;
+        text_is = if_so (claims_address f) _ _ (sym c.claims_address.ensures ∙ c.if-claims_address.true);
+      },
       written ∙ ap (λ (name : ℕ). c.args.text.now ++ claim_text plan front name f.ident.sa) c.carried_name.ensures,
     ))
     c.write_claim.ensures
@@ -27,48 +39,94 @@ returns-then-cannot_claim c =
     let front = front_of c.args.stamp in
     let f = c.args.frame.now in
     IfOk-weaker c.write_cannot.result _ _
-    (λ _ written. λ log shows.
-    let way = a_way plan c.args.parties.now log f.ident shows in (
+    (λ _ written. λ log shows asks.
+    let way = a_way plan c.args.parties.now log f.ident shows in
+    let back = an_answer_way plan c.args.parties.now log f shows asks in
+    let asked = an_asked plan c.args.parties.now log f shows in (
       cannot_line plan front f,
-      (
-        way.0,
-        way.1,
-        if_not (claims_address f) _ _ _ (sym c.claims_address.ensures ∙ c.if-claims_address.false)
-            (if_so (cannot_claim f) _ _ (sym c.cannot_claim.ensures ∙ c.if-cannot_claim.true)),
-      ),
+      record {
+        way = way.0;
+        back = back.0;
+        asked = asked.0;
+        way_is = way.1;
+        back_is = back.1;
+        asked_is = asked.1;
+        text_is = if_not (claims_address f) _ _ _ (sym c.claims_address.ensures ∙ c.if-claims_address.false)
+            (if_so (cannot_claim f) _ _ (sym c.cannot_claim.ensures ∙ c.if-cannot_claim.true));
+      },
       written ∙ ap (λ (name : ℕ). c.args.text.now ++ cannot_text plan front name) c.carried_name-then-cannot_claim.ensures,
     ))
     c.write_cannot.ensures
 
 pub returns-then-requests_group : goal.returns-then-requests_group
 returns-then-requests_group c =
+    let plan = c.args.plan.now in
     let f = c.args.frame.now in
     IfOk-weaker c.write_request.result _ _
-    (λ _ written. λ log shows.
-    let one = written log shows in (
+    (λ _ written. λ log shows asks.
+    let one = written log shows in
+    let back = an_answer_way plan c.args.parties.now log f shows asks in (
       _,
-      (
-        one.0,
-        one.1,
-        if_not (claims_address f) _ _ _ (sym c.claims_address.ensures ∙ c.if-claims_address.false)
+      record {
+        way = one.0;
+        back = back.0;
+        asked = one.1;
+        way_is = one.2;
+        back_is = back.1;
+        asked_is = one.3;
+        text_is = if_not (claims_address f) _ _ _ (sym c.claims_address.ensures ∙ c.if-claims_address.false)
             (if_not (cannot_claim f) _ _ _ (sym c.cannot_claim.ensures ∙ c.if-cannot_claim.false)
-            (if_so (requests_group f) _ _ (sym c.requests_group.ensures ∙ c.if-requests_group.true))),
-      ),
-      one.2,
+            (if_so (requests_group f) _ _ (sym c.requests_group.ensures ∙ c.if-requests_group.true)));
+      },
+      one.4,
     ))
     c.write_request.ensures
 
-pub returns-else-requests_group : goal.returns-else-requests_group
-returns-else-requests_group c = λ log shows.
+pub returns-then-acknowledges : goal.returns-then-acknowledges
+returns-then-acknowledges c =
+    let plan = c.args.plan.now in
     let f = c.args.frame.now in
-    let way = a_way c.args.plan.now c.args.parties.now log c.args.frame.now.ident shows in (
-      [],
-      (
-        way.0,
-        way.1,
-        if_not (claims_address f) _ _ _ (sym c.claims_address.ensures ∙ c.if-claims_address.false)
+    IfOk-weaker c.write_acknowledgement.result _ _
+    (λ _ written. λ log shows asks.
+    let way = a_way plan c.args.parties.now log f.ident shows in
+    let one = written log shows asks in
+    let asked = an_asked plan c.args.parties.now log f shows in (
+      _,
+      record {
+        way = way.0;
+        back = one.0;
+        asked = asked.0;
+        way_is = way.1;
+        back_is = one.1;
+        asked_is = asked.1;
+        text_is = if_not (claims_address f) _ _ _ (sym c.claims_address.ensures ∙ c.if-claims_address.false)
             (if_not (cannot_claim f) _ _ _ (sym c.cannot_claim.ensures ∙ c.if-cannot_claim.false)
-            (if_not (requests_group f) _ _ _ (sym c.requests_group.ensures ∙ c.if-requests_group.false) refl)),
-      ),
+            (if_not (requests_group f) _ _ _ (sym c.requests_group.ensures ∙ c.if-requests_group.false)
+            (if_so (acknowledges plan f) _ _ (sym c.acknowledges.ensures.told ∙ c.if-acknowledges.true))));
+      },
+      one.2,
+    ))
+    c.write_acknowledgement.ensures
+
+pub returns-else-acknowledges : goal.returns-else-acknowledges
+returns-else-acknowledges c = λ log shows asks.
+    let plan = c.args.plan.now in
+    let f = c.args.frame.now in
+    let way = a_way plan c.args.parties.now log f.ident shows in
+    let back = an_answer_way plan c.args.parties.now log f shows asks in
+    let asked = an_asked plan c.args.parties.now log f shows in (
+      [],
+      record {
+        way = way.0;
+        back = back.0;
+        asked = asked.0;
+        way_is = way.1;
+        back_is = back.1;
+        asked_is = asked.1;
+        text_is = if_not (claims_address f) _ _ _ (sym c.claims_address.ensures ∙ c.if-claims_address.false)
+            (if_not (cannot_claim f) _ _ _ (sym c.cannot_claim.ensures ∙ c.if-cannot_claim.false)
+            (if_not (requests_group f) _ _ _ (sym c.requests_group.ensures ∙ c.if-requests_group.false)
+            (if_not (acknowledges plan f) _ _ _ (sym c.acknowledges.ensures.told ∙ c.if-acknowledges.false) refl)));
+      },
       sym (append-nil c.args.text.now),
     )

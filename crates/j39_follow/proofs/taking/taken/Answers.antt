@@ -1,4 +1,4 @@
-use Rattle.std.proofs.Common.{rules, ◌≡◌, ◌<◌, ◌==◌, ℕ, List, length, sym, ap, subst, ◌∙◌, inl, inr, arith, eqb-true}
+use Rattle.std.proofs.Common.{rules, ◌≡◌, ◌<◌, ◌==◌, ℕ, List, length, sym, subst, ◌∙◌, inl, inr, arith, eqb-true}
 use Rattle.std.specs.Prelude.{slice_set}
 use Rattle.std.proofs.lemmas.Bool.{cases_Bool, eqb-false}
 use Rattle.std.proofs.lemmas.List.{length-set}
@@ -9,46 +9,69 @@ use Rattle.j39_follow.specs.inside.Recounting.{party_at}
 use Rattle.j39_follow.proofs.Tables.{set_here, set_there}
 use Rattle.j39_follow.proofs.taking.taken.Goals as goal
 
--- of two places that were set the second has what was set last, and the first too, where what was set there is the same
-second_set : (all : List Who) (a b d : ℕ) (v w : Who) → b ≡ d → d < length all → party_at (slice_set (slice_set all a v) b w) d ≡ w
-second_set all a b d v w there room =
-    let size = length-set all a v in
-    subst (λ (i : ℕ). party_at (slice_set (slice_set all a v) i w) d ≡ w) (sym there)
-    (set_here (slice_set all a v) d w (Holder 0) (omega (arith, room, size)))
+-- where this is set for a place, the place has it
+put_here : (all : List Who) (k a : ℕ) (w : Who) (t : ℕ → Who) → k ≡ a → a < length all → w ≡ t a → party_at (slice_set all k w) a ≡ t a
+put_here all k a w t there room is =
+    subst (λ (i : ℕ). party_at (slice_set all i w) a ≡ w) (sym there) (set_here all a w (Holder 0) room) ∙ is
 
-first_set : (all : List Who) (a b s d : ℕ) (v w : Who) → a ≡ s → b ≡ d → s < length all → (s ≡ d → v ≡ w)
-    → party_at (slice_set (slice_set all a v) b w) s ≡ v
-first_set all a b s d v w here there room same = elim (cases_Bool (s == d)) [
-  | inl one ↦
-      let is : s ≡ d = eqb-true s d one in
-      second_set all a b s v w (there ∙ sym is) room ∙ sym (same is)
-  | inr two ↦
-      let apart = eqb-false s d two in
-      set_there (slice_set all a v) b s w (Holder 0) (λ e. apart (sym e ∙ there))
-      ∙ subst (λ (i : ℕ). party_at (slice_set all i v) s ≡ v) (sym here) (set_here all s v (Holder 0) room)
+-- and where it is set for another place too
+put_kept : (all : List Who) (k x a : ℕ) (w : Who) (t : ℕ → Who) → k ≡ x → x < length all → w ≡ t x → party_at all a ≡ t a
+    → party_at (slice_set all k w) a ≡ t a
+put_kept all k x a w t there room is before = elim (cases_Bool (x == a)) [
+  | inl same ↦
+      let one : x ≡ a = eqb-true x a same in
+      subst (λ (i : ℕ). party_at (slice_set all k w) i ≡ t i) one (put_here all k x w t there room is)
+  | inr other ↦
+      let apart = eqb-false x a other in
+      set_there all k a w (Holder 0) (λ e. apart (sym there ∙ e)) ∙ before
 ]
 
 pub returns-clause-source : goal.returns-clause-source
 returns-clause-source c =
-    let plan = c.args.plan.now in
-    let all = c.args.parties.now.all in
+    let all : List Who = c.args.parties.now.all in
     let i = c.args.ident in
+    let t : ℕ → Who = λ a. taken_party c.args.plan.now (party_at all a) (defender_at c.args.contests.now a c.args.time) in
+    let first : List Who = slice_set all c.from.result c.taken_at-third.result in
+    let second : List Who = slice_set first c.from-2.result c.taken_at-source.result in
     let size : length all ≡ 256 = search rules in
-    let range = i.sa_range in
-    let v = c.taken_at-source.result in
-    let w = c.taken_at-receiver.result in
-    first_set all c.from.result c.from-2.result i.sa i.ps v w c.from.ensures c.from-2.ensures (omega (arith, size, range))
-    (λ same.
-    c.taken_at-source.ensures
-    ∙ ap (λ (a : ℕ). taken_party plan (party_at all a) (defender_at c.args.contests.now a c.args.time)) same
-    ∙ sym c.taken_at-receiver.ensures)
-    ∙ c.taken_at-source.ensures
+    let size_first = length-set all c.from.result c.taken_at-third.result in
+    let size_second = length-set first c.from-2.result c.taken_at-source.result in
+    let sa = i.sa_range in
+    let ps = i.ps_range in
+    put_kept second c.from-3.result i.ps i.sa c.taken_at-receiver.result t c.from-3.ensures (omega (arith, size, size_first, size_second, ps))
+    c.taken_at-receiver.ensures
+    (put_here first c.from-2.result i.sa c.taken_at-source.result t c.from-2.ensures (omega (arith, size, size_first, sa)) c.taken_at-source.ensures)
 
 pub returns-clause-receiver : goal.returns-clause-receiver
 returns-clause-receiver c =
-    let all = c.args.parties.now.all in
+    let all : List Who = c.args.parties.now.all in
     let i = c.args.ident in
+    let t : ℕ → Who = λ a. taken_party c.args.plan.now (party_at all a) (defender_at c.args.contests.now a c.args.time) in
+    let first : List Who = slice_set all c.from.result c.taken_at-third.result in
+    let second : List Who = slice_set first c.from-2.result c.taken_at-source.result in
     let size : length all ≡ 256 = search rules in
-    let range = i.ps_range in
-    second_set all c.from.result c.from-2.result i.ps c.taken_at-source.result c.taken_at-receiver.result c.from-2.ensures (omega (arith, size, range))
-    ∙ c.taken_at-receiver.ensures
+    let size_first = length-set all c.from.result c.taken_at-third.result in
+    let size_second = length-set first c.from-2.result c.taken_at-source.result in
+    let ps = i.ps_range in
+    put_here second c.from-3.result i.ps c.taken_at-receiver.result t c.from-3.ensures (omega (arith, size, size_first, size_second, ps))
+    c.taken_at-receiver.ensures
+
+pub returns-clause-asker : goal.returns-clause-asker
+returns-clause-asker c =
+    let all : List Who = c.args.parties.now.all in
+    let i = c.args.ident in
+    let asker = c.args.asker in
+    let t : ℕ → Who = λ a. taken_party c.args.plan.now (party_at all a) (defender_at c.args.contests.now a c.args.time) in
+    let first : List Who = slice_set all c.from.result c.taken_at-third.result in
+    let second : List Who = slice_set first c.from-2.result c.taken_at-source.result in
+    let size : length all ≡ 256 = search rules in
+    let range : asker < 256 = search rules in
+    let size_first = length-set all c.from.result c.taken_at-third.result in
+    let size_second = length-set first c.from-2.result c.taken_at-source.result in
+    let sa = i.sa_range in
+    let ps = i.ps_range in
+    put_kept second c.from-3.result i.ps asker c.taken_at-receiver.result t c.from-3.ensures (omega (arith, size, size_first, size_second, ps))
+    c.taken_at-receiver.ensures
+    (put_kept first c.from-2.result i.sa asker c.taken_at-source.result t c.from-2.ensures (omega (arith, size, size_first, sa))
+    c.taken_at-source.ensures
+    (put_here all c.from.result asker c.taken_at-third.result t c.from.ensures (omega (arith, size, range)) c.taken_at-third.ensures))

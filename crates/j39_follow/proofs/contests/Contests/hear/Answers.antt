@@ -1,4 +1,4 @@
-use Rattle.std.proofs.Common.{◌≡◌, ℕ, Option, ap, ◌∙◌}
+use Rattle.std.proofs.Common.{ℕ, Option, ap, ◌∙◌}
 use Rattle.j39_text.specs.FrameText.{name_in}
 use Rattle.j39_follow.specs.inside.Contesting.{contest_at, is_place, contest_left}
 use Rattle.j39_follow.proofs.Contested.{eight, stepped}

@@ -1,13 +1,13 @@
 use Rattle.std.proofs.Common.{◌≡◌, ◌++◌, List, ℕ, length, refl, sym, ap, subst, ◌∙◌, append_assoc}
 use Rattle.std.proofs.lemmas.Result.{IfOk-weaker}
-use Rattle.j39_follow.specs.FollowText.{follow_counts_line, flow_ends, frames_seen, group_ends, need_ends}
+use Rattle.j39_follow.specs.FollowText.{follow_counts_line, flow_ends, frames_seen, group_ends, need_ends, request_ends}
 use Rattle.j39_follow.specs.declared.holders.Holders.{Holders}
 use Rattle.j39_follow.specs.inside.Recounting.{Recounts}
 use Rattle.j39_follow.proofs.reading.Reading.finish.Goals as goal
 
-grouped : (old a b units needs counts : List ℕ)
-    → ((old ++ (a ++ (b ++ units))) ++ needs) ++ counts ≡ old ++ (a ++ (b ++ (units ++ (needs ++ counts))))
-grouped old a b units needs counts = simp append_assoc refl
+grouped : (old a b units requests needs counts : List ℕ)
+    → (((old ++ (a ++ (b ++ units))) ++ requests) ++ needs) ++ counts ≡ old ++ (a ++ (b ++ (units ++ (requests ++ (needs ++ counts)))))
+grouped old a b units requests needs counts = simp append_assoc refl
 
 pub returns : goal.returns
 returns c =
@@ -21,6 +21,8 @@ returns c =
     let a : List ℕ = flow_ends plan past.sent 0 plan.flows.items in
     let b : List ℕ = group_ends plan past.sent 0 plan.groups.items in
     let needs : List ℕ = need_ends plan past.sent 0 plan.needs.items in
+    let requests : List ℕ = request_ends plan past.told 0 plan.requests.items in
+    let asked = c.in_ok-write_requests.ensures past.told m.exchanges in
     let met = c.in_ok-write_needs.ensures past.sent m.tally in
     let counts : follow_counts_line self.frames self.skipped self.bad self.elsewhere
     ≡ follow_counts_line (length past.seen) past.skipped past.bad past.elsewhere =
@@ -32,8 +34,8 @@ returns c =
       ends.1,
       written
           ∙ ap (λ (t : List ℕ). t ++ follow_counts_line self.frames self.skipped self.bad self.elsewhere)
-          (met ∙ ap (λ (t : List ℕ). t ++ needs) ends.2)
-          ∙ ap (λ (t : List ℕ). ((self.text ++ (a ++ (b ++ ends.0))) ++ needs) ++ t) counts
-          ∙ grouped self.text a b ends.0 needs (follow_counts_line (length past.seen) past.skipped past.bad past.elsewhere),
+          (met ∙ ap (λ (t : List ℕ). t ++ needs) (asked ∙ ap (λ (t : List ℕ). t ++ requests) ends.2))
+          ∙ ap (λ (t : List ℕ). (((self.text ++ (a ++ (b ++ ends.0))) ++ requests) ++ needs) ++ t) counts
+          ∙ grouped self.text a b ends.0 requests needs (follow_counts_line (length past.seen) past.skipped past.bad past.elsewhere),
     ))
     c.write_counts.ensures

@@ -23,10 +23,12 @@ returns-clause-followed c =
     (λ _ reported. λ past of few.
     let sent = of.few in
     let room : length past.sent + 2 < 2 ^ 64 = omega (arith, few, sent) in
+    let told_so_far = of.few_told in
+    let room_told : length past.told + 3 < 2 ^ 64 = omega (arith, few, told_so_far) in
     let knows = knows_on plan directory (frames_seen past.seen) f nothing of.knows in
     let same = frames_as_well past f c.args.time.now of.frames in
     let contests = contests_on plan c.args.self.now.contests past.timed (record { frame = f; time = moment_of c.args.time.now }) nothing of.contests in
-    let told = reported past (subst (Knows plan directory) (sym same) knows) contests of.heard of.ranges of.tally room in
+    let told = reported past (subst (Knows plan directory) (sym same) knows) contests of.heard of.ranges of.tally of.exchanges room room_told in
     let w = told.written in
     record {
       sort = told.sort;
@@ -46,6 +48,7 @@ returns-clause-followed c =
       heard = heard_on plan past.seen (record { frame = f; packet = w.packet }) directory.parties.all c.report.new.self.listeners
           of.knows.parties knows.parties w.heard;
       tally = told.tally;
+      noted = told.noted;
     })
     c.report.ensures.reported
 

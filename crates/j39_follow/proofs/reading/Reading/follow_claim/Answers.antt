@@ -21,6 +21,8 @@ returns-clause-followed c = λ past of few.
     let log : List Timed = lines_with past f c.args.time.now in
     let sent = of.few in
     let room : length past.sent + 2 < 2 ^ 64 = omega (arith, few, sent) in
+    let told_so_far = of.few_told in
+    let room_told : length past.told + 3 < 2 ^ 64 = omega (arith, few, told_so_far) in
     let heard : Knows plan c.hear-2.new.self (frames_with past.seen f) =
     subst (λ (p : Plan). Knows p c.hear-2.new.self (frames_with past.seen f)) c.plan-2.ensures
     (c.hear-2.ensures (frames_seen past.seen) (subst (λ (p : Plan). Knows p c.args.self.now.directory (frames_seen past.seen)) (sym c.plan-2.ensures) of.knows)) in
@@ -31,7 +33,7 @@ returns-clause-followed c = λ past of few.
     (c.begun-contest.ensures past.timed (subst (λ (p : Plan). Knows p c.args.self.now.directory (frames_of past.timed)) (sym c.plan.ensures) first))) in
     let contests = c.hear.ensures plan past.timed time of.contests begun in
     let same = frames_as_well past f c.args.time.now of.frames in
-    let told = c.in_ok-report.ensures.reported past (subst (Knows plan c.hear-2.new.self) (sym same) heard) contests of.heard of.ranges of.tally room in
+    let told = c.in_ok-report.ensures.reported past (subst (Knows plan c.hear-2.new.self) (sym same) heard) contests of.heard of.ranges of.tally of.exchanges room room_told in
     let w = told.written in
     let knows = subst (λ (d : Directory). Knows plan d (frames_with past.seen f)) (sym c.in_ok-report.ensures.directory) heard in
     let before = subst (λ (ps : List Who). ArePartiesOf plan (frames_seen past.seen) ps) (sym c.all_parties-before.ensures) of.knows.parties in
@@ -54,4 +56,5 @@ returns-clause-followed c = λ past of few.
       heard = heard_anew plan past.seen (record { frame = f; packet = w.packet }) c.all_parties-before.result c.all_parties-after.result
           c.report.new.self.listeners c.part.new.listeners before after c.part.ensures w.heard;
       tally = told.tally;
+      noted = told.noted;
     }

@@ -12,6 +12,8 @@ returns-clause-past c = record {
     ranges = λ k d less. absurd (omega arith);
     tally = c.new-5.ensures c.args.plan.now;
     few = omega arith;
+    exchanges = c.new-6.ensures c.args.plan.now;
+    few_told = omega arith;
   };
   interface_is = refl;
   number_is = refl;

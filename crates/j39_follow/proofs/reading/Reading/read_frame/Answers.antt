@@ -5,13 +5,14 @@ use Rattle.std.proofs.lemmas.List.Elements.{All-push}
 use Rattle.j39_id.specs.declared.frame.Frame.{Frame}
 use Rattle.j39_log.specs.LogPairs.{Seen}
 use Rattle.j39_log.specs.inside.Listening.{IsInRange}
-use Rattle.j39_follow.specs.FollowReports.{IsMessageReport, IsNotice, stamp}
-use Rattle.j39_follow.specs.FollowText.{IsPacketReport, FollowedPast, in_frame, lines_with}
+use Rattle.j39_follow.specs.FollowReports.{IsMessageReport, IsNotice, in_frame, stamp}
+use Rattle.j39_follow.specs.FollowText.{IsPacketReport, FollowedPast, lines_with}
 use Rattle.j39_follow.specs.LogLines.{interface_behind}
 use Rattle.j39_follow.specs.declared.message.Sort.{Sort}
 use Rattle.j39_follow.specs.inside.Recalling.{interface_of}
 use Rattle.j39_follow.specs.inside.Recounting.{Knows}
 use Rattle.j39_follow.proofs.Heard.{frames_more}
+use Rattle.j39_follow.proofs.Told.{few_events}
 use Rattle.j39_follow.proofs.Knowing.{frames_as_well}
 use Rattle.j39_follow.proofs.reading.Reading.read_frame.Goals as goal
 
@@ -32,24 +33,30 @@ returns-clause-frame c = λ past recalls.
     let same = c.in_ok-follow.ensures.counts in
     let x : Seen = record { frame = f; packet = done.packet } in
     let sorts : List Sort = option_to_list done.ended in
+    let noted = done.noted in
     let next : FollowedPast = record past {
       seen = past.seen ++ x ∷ [];
       timed = lines_with past f time;
       interface = interface_behind past.interface named;
       sent = past.sent ++ done.sort ∷ sorts;
+      told = past.told ++ noted.more;
     } in
     let number = recalls.number_is in
     let counted = same.frames in
     let more = length_push past.seen x in
     let sent = length-append past.sent (done.sort ∷ sorts) in
     let ended = one_at_most done.ended in
-    let few = m.few in (
+    let few = m.few in
+    let told = length-append past.told noted.more in
+    let three = few_events plan (lines_with past f time) f done.sort done.ended noted.more noted.are_told in
+    let few_told = m.few_told in (
       next,
       done.notice ++ (done.report ++ done.carried),
       record {
         packet = done.packet;
         sort = done.sort;
         sorts = sorts;
+        events = noted.more;
         notice = done.notice;
         report = done.report;
         carried = done.carried;
@@ -58,6 +65,7 @@ returns-clause-frame c = λ past recalls.
         report_is = subst (λ (n : ℕ). IsMessageReport plan (lines_with past f time) (stamp n time) (in_frame f) done.sort done.report) number
             done.report_is;
         carried_is = subst (λ (n : ℕ). IsPacketReport plan past.seen (lines_with past f time) (stamp n time) f done.packet sorts done.carried) number done.carried_is;
+        events_are = noted.are_told;
         text_is = refl;
         next_is = refl;
       },
@@ -70,6 +78,8 @@ returns-clause-frame c = λ past recalls.
           ranges = All-push (λ (y : Seen). IsInRange y.packet) past.seen x m.ranges done.range;
           tally = done.tally;
           few = omega (arith, sent, ended, more, few);
+          exchanges = noted.exchanges;
+          few_told = omega (arith, told, three, more, few_told);
         };
         interface_is =
             c.in_ok-keep_interface.ensures

@@ -19,3 +19,18 @@ returns-then-are_calm-clause-written c =
     (subst (IsDefender plan log i.ps) (c.are_calm.ensures.receiver c.if-are_calm.true)
     (defends plan log i.ps (contest_at table i.ps) time (contests i.ps i.ps_range) timed)) have ranges)
     c.write_plain.ensures.written
+
+pub returns-then-are_calm-clause-noted : goal.returns-then-are_calm-clause-noted
+returns-then-are_calm-clause-noted c =
+    let plan = c.args.groups.now in
+    let i = c.args.frame.now.ident in
+    let table = c.args.self.now.contests.table in
+    let time : Option ℕ = moment_of c.args.stamp.time.now in
+    IfOk-weaker c.write_plain.result _ _
+    (λ _ noted. λ log events knows contests timed few are.
+    noted log events knows
+    (subst (IsDefender plan log i.sa) (c.are_calm.ensures.source c.if-are_calm.true)
+    (defends plan log i.sa (contest_at table i.sa) time (contests i.sa i.sa_range) timed))
+    (subst (IsDefender plan log i.ps) (c.are_calm.ensures.receiver c.if-are_calm.true)
+    (defends plan log i.ps (contest_at table i.ps) time (contests i.ps i.ps_range) timed)) few are)
+    c.write_plain.ensures.noted

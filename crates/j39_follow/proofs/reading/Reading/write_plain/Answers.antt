@@ -1,20 +1,43 @@
-use Rattle.std.proofs.Common.{None, sym, subst}
+use Rattle.std.proofs.Common.{List, None, sym, subst}
 use Rattle.std.proofs.lemmas.Result.{IfOk-weaker}
+use Rattle.j39_id.specs.declared.ident.Ident.{Ident}
+use Rattle.j39_findings.specs.declared.plan.Plan.{Plan}
+use Rattle.j39_follow.specs.Contests.{Timed, frames_of}
+use Rattle.j39_follow.specs.declared.directory.Directory.{Directory}
 use Rattle.j39_follow.specs.declared.known_parties.Parties.{Parties}
-use Rattle.j39_follow.specs.inside.Contesting.{ShowsParties}
+use Rattle.j39_follow.specs.inside.Contesting.{IsDefender, ShowsParties}
+use Rattle.j39_follow.specs.inside.Recounting.{Knows}
 use Rattle.j39_follow.proofs.Contested.{taken_so}
+use Rattle.j39_follow.proofs.Told.{asks_itself}
 use Rattle.j39_follow.proofs.reading.Reading.write_plain.Goals as goal
+
+-- where no address is contested all stand where they are known to
+shown : (plan : Plan) (directory : Directory) (log : List Timed) (i : Ident) → Knows plan directory (frames_of log)
+    → IsDefender plan log i.sa None → IsDefender plan log i.ps None → ShowsParties plan directory.parties log i
+shown plan directory log i knows source receiver = record {
+  source = taken_so plan log i.sa _ None (knows.parties i.sa i.sa_range) source;
+  receiver = taken_so plan log i.ps _ None (knows.parties i.ps i.ps_range) receiver;
+  names = knows.names;
+}
 
 pub returns-clause-written : goal.returns-clause-written
 returns-clause-written c =
     let plan = c.args.groups.now in
-    let i = c.args.frame.now.ident in
-    let parties : Parties = c.args.self.now.directory.parties in
-    IfOk-weaker c.write_frame.result _ _
+    let f = c.args.frame.now in
+    IfOk-weaker c.report_frame.result _ _
     (λ _ written. λ seen log knows source receiver have ranges.
-    written seen log (subst (λ (ps : Parties). ShowsParties plan ps log i) (sym c.parties.ensures) (record {
-      source = taken_so plan log i.sa _ None (knows.parties i.sa i.sa_range) source;
-      receiver = taken_so plan log i.ps _ None (knows.parties i.ps i.ps_range) receiver;
-      names = knows.names;
-    })) have ranges)
-    c.write_frame.ensures
+    let there = subst (λ (ps : Parties). ShowsParties plan ps log f.ident) (sym c.parties.ensures)
+    (shown plan c.args.self.now.directory log f.ident knows source receiver) in
+    written seen log there (asks_itself plan c.parties.result.now log f c.requires there) have ranges)
+    c.report_frame.ensures.written
+
+pub returns-clause-noted : goal.returns-clause-noted
+returns-clause-noted c =
+    let plan = c.args.groups.now in
+    let f = c.args.frame.now in
+    IfOk-weaker c.report_frame.result _ _
+    (λ _ noted. λ log events knows source receiver few are.
+    let there = subst (λ (ps : Parties). ShowsParties plan ps log f.ident) (sym c.parties.ensures)
+    (shown plan c.args.self.now.directory log f.ident knows source receiver) in
+    noted log events there (asks_itself plan c.parties.result.now log f c.requires there) few are)
+    c.report_frame.ensures.noted

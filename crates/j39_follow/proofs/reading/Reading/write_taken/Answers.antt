@@ -1,35 +1,81 @@
-use Rattle.std.proofs.Common.{ℕ, List, Option, sym, subst, ◌≡◌}
+use Rattle.std.proofs.Common.{◌≡◌, ◌<◌, ◌∙◌, ℕ, List, None, Option, sym, ap, subst}
 use Rattle.std.proofs.lemmas.Result.{IfOk-weaker}
-use Rattle.j39_follow.specs.Contests.{IsTaken}
+use Rattle.j39_id.specs.declared.frame.Frame.{Frame}
+use Rattle.j39_findings.specs.declared.plan.Plan.{Plan}
+use Rattle.j39_follow.specs.Contests.{IsTaken, Timed, frames_of}
+use Rattle.j39_follow.specs.Requests.{told_address}
+use Rattle.j39_follow.specs.declared.contests.Contests.{Contests}
+use Rattle.j39_follow.specs.declared.directory.Directory.{Directory}
 use Rattle.j39_follow.specs.declared.known_parties.Parties.{Parties}
 use Rattle.j39_follow.specs.declared.who.Who.{Who}
-use Rattle.j39_follow.specs.inside.Contesting.{IsTimed, contest_at, defender_at, taken_party}
-use Rattle.j39_follow.specs.inside.Recounting.{HasNames, party_at}
+use Rattle.j39_follow.specs.inside.Contesting.{AreContests, IsTimed, ShowsAsker, ShowsParties, contest_at, defender_at, taken_party}
+use Rattle.j39_follow.specs.inside.Recounting.{HasNames, Knows, party_at}
 use Rattle.j39_follow.proofs.Contested.{defends, taken_so}
 use Rattle.j39_follow.proofs.reading.Reading.write_taken.Goals as goal
+
+-- who is taken to be behind an address, as its contest tells
+taken_there : (plan : Plan) (directory : Directory) (contests : Contests) (log : List Timed) (time : Option ℕ) (a : ℕ) (who : Who) → a < 256
+    → Knows plan directory (frames_of log) → AreContests plan contests log → IsTimed log time
+    → who ≡ taken_party plan (party_at directory.parties.all a) (defender_at contests a time) → IsTaken plan log a who
+taken_there plan directory contests log time a who range knows are timed is =
+    subst (IsTaken plan log a) (sym is) (taken_so plan log a (party_at directory.parties.all a) _ (knows.parties a range)
+    (defends plan log a (contest_at contests.table a) time (are a range) timed))
+
+abbrev IsTakenFrom : Plan → Directory → Contests → Option ℕ → Parties → ℕ → Type 0
+IsTakenFrom plan directory contests time taken a =
+    party_at taken.all a ≡ taken_party plan (party_at directory.parties.all a) (defender_at contests a time)
+
+shown : (plan : Plan) (directory : Directory) (contests : Contests) (log : List Timed) (time : Option ℕ) (f : Frame) (taken : Parties)
+    → IsTakenFrom plan directory contests time taken f.ident.sa → IsTakenFrom plan directory contests time taken f.ident.ps → taken.names ≡ None
+    → Knows plan directory (frames_of log) → AreContests plan contests log → IsTimed log time → ShowsParties plan taken log f.ident
+shown plan directory contests log time f taken source receiver names knows are timed = record {
+  source = taken_there plan directory contests log time f.ident.sa _ f.ident.sa_range knows are timed source;
+  receiver = taken_there plan directory contests log time f.ident.ps _ f.ident.ps_range knows are timed receiver;
+  names = subst (HasNames plan taken.all) (sym names) tt;
+}
+
+asks : (plan : Plan) (directory : Directory) (contests : Contests) (log : List Timed) (time : Option ℕ) (f : Frame) (taken : Parties) (a : ℕ) → a < 256
+    → a ≡ told_address plan f → IsTakenFrom plan directory contests time taken a
+    → Knows plan directory (frames_of log) → AreContests plan contests log → IsTimed log time → ShowsAsker plan taken log f
+asks plan directory contests log time f taken a range is asker knows are timed =
+    subst (λ (x : ℕ). IsTaken plan log x (party_at taken.all x)) is (taken_there plan directory contests log time a _ range knows are timed asker)
 
 pub returns-clause-written : goal.returns-clause-written
 returns-clause-written c =
     let plan = c.args.groups.now in
     let self = c.args.self.now in
-    let i = c.args.frame.now.ident in
+    let f = c.args.frame.now in
     let time : Option ℕ = c.moment.result in
-    let all : List Who = self.directory.parties.all in
     let taken : Parties = c.taken-parties.result in
-    let source : party_at taken.all i.sa ≡ taken_party plan (party_at all i.sa) (defender_at self.contests i.sa time) =
-    rw (c.plan.ensures, c.parties.ensures) at c.taken-parties.ensures.source in
-    let receiver : party_at taken.all i.ps ≡ taken_party plan (party_at all i.ps) (defender_at self.contests i.ps time) =
+    let a = c.told_address.result in
+    let source : IsTakenFrom plan self.directory self.contests time taken f.ident.sa = rw (c.plan.ensures, c.parties.ensures) at c.taken-parties.ensures.source in
+    let receiver : IsTakenFrom plan self.directory self.contests time taken f.ident.ps =
     rw (c.plan.ensures, c.parties.ensures) at c.taken-parties.ensures.receiver in
-    IfOk-weaker c.write_frame.result _ _
+    let asker : IsTakenFrom plan self.directory self.contests time taken a = rw (c.plan.ensures, c.parties.ensures) at c.taken-parties.ensures.asker in
+    let there : a ≡ told_address plan f = c.told_address.ensures ∙ ap (λ (p : Plan). told_address p f) c.plan-2.ensures in
+    IfOk-weaker c.report_frame.result _ _
     (λ _ written. λ seen log knows contests timed have ranges.
     let now : IsTimed log time = subst (IsTimed log) (sym c.moment.ensures) timed in
-    written seen log (record {
-      source = subst (IsTaken plan log i.sa) (sym source)
-          (taken_so plan log i.sa (party_at all i.sa) _ (knows.parties i.sa i.sa_range)
-          (defends plan log i.sa (contest_at self.contests.table i.sa) time (contests i.sa i.sa_range) now));
-      receiver = subst (IsTaken plan log i.ps) (sym receiver)
-          (taken_so plan log i.ps (party_at all i.ps) _ (knows.parties i.ps i.ps_range)
-          (defends plan log i.ps (contest_at self.contests.table i.ps) time (contests i.ps i.ps_range) now));
-      names = subst (HasNames plan taken.all) (sym c.taken-parties.ensures.names) tt;
-    }) have ranges)
-    c.write_frame.ensures
+    written seen log (shown plan self.directory self.contests log time f taken source receiver c.taken-parties.ensures.names knows contests now)
+    (asks plan self.directory self.contests log time f taken a c.told_address.type_inv there asker knows contests now) have ranges)
+    c.report_frame.ensures.written
+
+pub returns-clause-noted : goal.returns-clause-noted
+returns-clause-noted c =
+    let plan = c.args.groups.now in
+    let self = c.args.self.now in
+    let f = c.args.frame.now in
+    let time : Option ℕ = c.moment.result in
+    let taken : Parties = c.taken-parties.result in
+    let a = c.told_address.result in
+    let source : IsTakenFrom plan self.directory self.contests time taken f.ident.sa = rw (c.plan.ensures, c.parties.ensures) at c.taken-parties.ensures.source in
+    let receiver : IsTakenFrom plan self.directory self.contests time taken f.ident.ps =
+    rw (c.plan.ensures, c.parties.ensures) at c.taken-parties.ensures.receiver in
+    let asker : IsTakenFrom plan self.directory self.contests time taken a = rw (c.plan.ensures, c.parties.ensures) at c.taken-parties.ensures.asker in
+    let there : a ≡ told_address plan f = c.told_address.ensures ∙ ap (λ (p : Plan). told_address p f) c.plan-2.ensures in
+    IfOk-weaker c.report_frame.result _ _
+    (λ _ noted. λ log events knows contests timed few are.
+    let now : IsTimed log time = subst (IsTimed log) (sym c.moment.ensures) timed in
+    noted log events (shown plan self.directory self.contests log time f taken source receiver c.taken-parties.ensures.names knows contests now)
+    (asks plan self.directory self.contests log time f taken a c.told_address.type_inv there asker knows contests now) few are)
+    c.report_frame.ensures.noted
