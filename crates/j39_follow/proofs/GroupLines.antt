@@ -28,8 +28,8 @@ use Rattle.j39_tp.specs.declared.packet.Packet.{Packet}
 use Rattle.j39_follow.specs.Alike.{IsUndirected}
 use Rattle.j39_follow.specs.Contests.{Timed}
 use Rattle.j39_follow.specs.Fits.{IsPlannedAs, IsSentGroup, MayBeGroup, fitting_flow, may_have_bytes}
-use Rattle.j39_follow.specs.FollowReports.{IsGroupOfMessage, IsGrouped, IsMessageReport, Message, stamp}
-use Rattle.j39_follow.specs.FollowText.{FollowedPast, FollowsFrame, FollowsLine, FollowsLines, FollowsPart, HeardSince, IsFollowedAs, IsPacketReport, in_frame}
+use Rattle.j39_follow.specs.FollowReports.{IsGroupOfMessage, IsGrouped, IsMessageReport, Message, in_frame, stamp}
+use Rattle.j39_follow.specs.FollowText.{FollowedPast, FollowsFrame, FollowsLine, FollowsLines, FollowsPart, HeardSince, IsFollowedAs, IsPacketReport}
 use Rattle.j39_follow.specs.FollowText.{frames_seen, line_passed_over, lines_with, nothing_followed, one_line_more}
 use Rattle.j39_follow.specs.GroupLines.{AreToldAlike, GroupsAreToldAlike, IsNoticed, IsThinned, IsWhole, LineTexts, StayInHands, TellOneMessage, all_followed, all_read}
 use Rattle.j39_follow.specs.declared.message.Sort.{Sort}

@@ -47,8 +47,7 @@ use Rattle.j39_world.specs.declared.step_error.StepError.{StepError}
 use Rattle.j39_laws.proofs.Addresses.CleanUnits.{clean_units}
 use Rattle.j39_follow.specs.Contests.{IsTaken, Timed, frames_of}
 use Rattle.j39_follow.specs.Fits.{IsSentGroup, MayBeGroup, fits, fits_all, fitting_flow, is_for_all, is_unit, may_have_bytes, reaches}
-use Rattle.j39_follow.specs.FollowReports.{IsMessageReport, IsSendingOf, aim_at, is_to_all}
-use Rattle.j39_follow.specs.FollowText.{in_frame}
+use Rattle.j39_follow.specs.FollowReports.{IsMessageReport, IsSendingOf, aim_at, in_frame, is_to_all}
 use Rattle.j39_follow.specs.Who.{IsWho, unit_of}
 use Rattle.j39_follow.specs.declared.message.Sort.TheVariants.{Grouped, Other}
 use Rattle.j39_follow.specs.declared.sending.Aim.{Aim}

@@ -13,8 +13,7 @@ use Rattle.j39_findings.specs.declared.steps.Step.TheVariants.{Begin, Send}
 use Rattle.j39_world.specs.Run.{Follows}
 use Rattle.j39_world.specs.World.{World}
 use Rattle.j39_follow.specs.Contests.{Timed}
-use Rattle.j39_follow.specs.FollowReports.{IsMessageReport}
-use Rattle.j39_follow.specs.FollowText.{in_frame}
+use Rattle.j39_follow.specs.FollowReports.{IsMessageReport, in_frame}
 use Rattle.j39_follow.specs.declared.message.Sort.TheVariants.{Grouped}
 use Rattle.j39_traces.specs.Between.{IsSentBehind}
 
