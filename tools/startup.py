@@ -1,6 +1,7 @@
 #!/usr/bin/python3
-"""Writes a start-up schedule of a plan: all units are switched on in an order, and every claim is delivered; on demand each flow
-then sends one message.
+"""Writes a start-up schedule of a plan: all units are switched on in an order, and every claim is delivered.
+
+With --traffic each flow then sends one message.
 
 What the units answer is played here by the standard's rule of address claims. The program then runs the schedule: it is written
 only where nothing in it is refused and it ends settled, and that run shows which addresses the units hold then.

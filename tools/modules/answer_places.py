@@ -244,8 +244,10 @@ def value_hint(plan: Plan, place: Place, key: str, cause: str) -> str:
 def value_fault(plan: Plan, place: Place, key: str, cause: str) -> Told:
     """Line and hint of a key whose value is refused."""
     if cause == "TooMany":
-        most = plan.listed(place)[key]["maxItems"]
-        return plan.line(place + (key, most + 1)), f"key {key}: at most {most}"
+        rule = plan.listed(place)[key]
+        if "maxProperties" in rule:
+            return plan.line(place + (key,)), f"key {key}: at most {rule['maxProperties']}"
+        return plan.line(place + (key, rule["maxItems"] + 1)), f"key {key}: at most {rule['maxItems']}"
     if key == "keep_free":
         return plan.line(place + (key,) + kept_fault(plan, key)), f"key {key}: {plan.wanted(place, key)}"
     spelled = plan.places.spelled.get(place + (key,), "")
