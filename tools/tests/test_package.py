@@ -17,7 +17,7 @@ from modules import program
 from tests.support import TOOLS, TOP, InFolder, text_of
 
 PACKAGE = os.path.join(TOOLS, "package")
-COMMANDS = ["check", "addresses", "load", "run", "read", "follow", "frame", "help"]
+COMMANDS = ["show", "check", "addresses", "load", "run", "read", "follow", "frame", "help"]
 INSTALLED = ["where", "startup", "dbc2plan", "plan2dbc", "join", "compare", "against", "fleet", "report", "signals", "plot", "tolog",
              "check-plans"]
 PAGE = text_of(os.path.join(TOP, "docs", "TOOLS.md"))

@@ -60,9 +60,9 @@ truth_line table key true = value_line table key (codes "true")
 truth_line table key false = value_line table key (codes "false")
 
 -- nor an empty text
-unfoldable pub text_line : Table → Key → List ℕ → List ℕ
-text_line table key [] = []
-text_line table key (b ∷ bytes) = value_line table key (b ∷ bytes)
+unfoldable pub text_value_line : Table → Key → List ℕ → List ℕ
+text_value_line table key [] = []
+text_value_line table key (b ∷ bytes) = value_line table key (b ∷ bytes)
 
 -- ---- the top
 
@@ -115,14 +115,14 @@ upper_name_lines table f =
     value_line table key.System (decimal f.system) ++ (value_line table key.SystemInstance (decimal f.system_instance)
     ++ (value_line table key.Industry (decimal f.industry) ++ truth_line table key.Arbitrary (f.arbitrary == 1)))
 
-unfoldable pub name_lines : Table → NameFields → List ℕ
-name_lines table f = lower_name_lines table f ++ upper_name_lines table f
+unfoldable pub name_field_lines : Table → NameFields → List ℕ
+name_field_lines table f = lower_name_lines table f ++ upper_name_lines table f
 
-unfoldable pub unit_lines : ℕ → UnitPlan → List ℕ
-unit_lines u unit =
+unfoldable pub unit_value_lines : ℕ → UnitPlan → List ℕ
+unit_value_lines u unit =
     value_line (at.Unit u) key.Label unit.label.bytes ++ (value_line (at.Unit u) key.Address (decimal unit.address)
     ++ (value_line (at.Unit u) key.Chooser (chooser_text unit.way) ++ (value_line (at.Unit u) key.Window (decimal unit.window)
-    ++ (name_lines (at.UnitName u) (fields_of unit.name) ++ truth_line (at.Unit u) key.Claims unit.claims))))
+    ++ (name_field_lines (at.UnitName u) (fields_of unit.name) ++ truth_line (at.Unit u) key.Claims unit.claims))))
 
 -- ---- groups
 
@@ -138,9 +138,9 @@ kind_text kinds.Dtc = codes "dtc"
 unfoldable pub name_of_value_line : Table → ValueName → List ℕ
 name_of_value_line table value = value_line table key.Values (decimal value.raw ++ (codes " " ++ value.name.bytes))
 
-unfoldable pub meaning_lines : Table → Option Meaning → List ℕ
-meaning_lines table None = []
-meaning_lines table (Some meaning) =
+unfoldable pub signal_meaning_lines : Table → Option Meaning → List ℕ
+signal_meaning_lines table None = []
+signal_meaning_lines table (Some meaning) =
     optional_line decimal table key.Spn meaning.spn ++ told_from (λ _ value. name_of_value_line table value) 0 meaning.values.items
 
 -- where its bits are; bytes and bits are counted from 1
@@ -155,17 +155,17 @@ unfoldable pub signal_scale_lines : Table → SignalParts → List ℕ
 signal_scale_lines table s =
     value_line table key.Step (decimal s.step) ++ (value_line table key.Per (decimal s.per)
     ++ (value_line table key.Offset (signed_decimal s.offset)
-    ++ (text_line table key.Unit s.unit.bytes ++ truth_line table key.Repeated s.repeated)))
+    ++ (text_value_line table key.Unit s.unit.bytes ++ truth_line table key.Repeated s.repeated)))
 
-unfoldable pub signal_lines : Table → SignalParts → List ℕ
-signal_lines table s = signal_place_lines table s ++ signal_scale_lines table s
+unfoldable pub signal_value_lines : Table → SignalParts → List ℕ
+signal_value_lines table s = signal_place_lines table s ++ signal_scale_lines table s
 
 unfoldable pub signal_at_lines : ℕ → GroupPlan → ℕ → SignalParts → List ℕ
 signal_at_lines g group s signal =
-    signal_lines (at.Signal g s) signal ++ meaning_lines (at.Signal g s) (slice_get group.meanings.items s)
+    signal_value_lines (at.Signal g s) signal ++ signal_meaning_lines (at.Signal g s) (slice_get group.meanings.items s)
 
-unfoldable pub text_lines : ℕ → ℕ → TextPlan → List ℕ
-text_lines g t text =
+unfoldable pub planned_text_lines : ℕ → ℕ → TextPlan → List ℕ
+planned_text_lines g t text =
     value_line (at.Text g t) key.Label text.label.bytes
     ++ (value_line (at.Text g t) key.Byte (decimal text.byte) ++ optional_line decimal (at.Text g t) key.Bytes text.bytes)
 
@@ -183,14 +183,14 @@ group_form_lines table group =
 unfoldable pub group_lines : ℕ → GroupPlan → List ℕ
 group_lines g group =
     group_head_lines (at.Group g) group ++ (group_form_lines (at.Group g) group
-    ++ (told_from (signal_at_lines g group) 0 group.signals.items ++ told_from (text_lines g) 0 group.texts.items))
+    ++ (told_from (signal_at_lines g group) 0 group.signals.items ++ told_from (planned_text_lines g) 0 group.texts.items))
 
 -- ---- flows, needs and requests
 
 -- to all, or to a unit
-unfoldable pub to_text : Plan → To → List ℕ
-to_text plan All = codes "all"
-to_text plan (One u) = unit_label plan u
+unfoldable pub receivers_text : Plan → To → List ℕ
+receivers_text plan All = codes "all"
+receivers_text plan (One u) = unit_label plan u
 
 -- a deadline that isn't written in the file isn't written here
 unfoldable pub pace_lines : Table → Option Pace → List ℕ
@@ -202,7 +202,7 @@ pace_lines table (Some pace) =
 unfoldable pub flow_lines : Plan → ℕ → FlowPlan → List ℕ
 flow_lines plan f flow =
     value_line (at.Flow f) key.Group (group_label plan flow.group) ++ (value_line (at.Flow f) key.From (unit_label plan flow.sender)
-    ++ (value_line (at.Flow f) key.To (to_text plan flow.to) ++ (pace_lines (at.Flow f) flow.pace
+    ++ (value_line (at.Flow f) key.To (receivers_text plan flow.to) ++ (pace_lines (at.Flow f) flow.pace
     ++ (optional_line decimal (at.Flow f) key.Pause flow.pause ++ truth_line (at.Flow f) key.OnRequest flow.on_request))))
 
 unfoldable pub need_signal_line : Plan → Table → NeedPlan → List ℕ
@@ -219,7 +219,7 @@ need_lines plan n need =
 unfoldable pub request_lines : Plan → ℕ → RequestPlan → List ℕ
 request_lines plan r request =
     value_line (at.Request r) key.Group (group_label plan request.group) ++ (value_line (at.Request r) key.From (unit_label plan request.sender)
-    ++ (value_line (at.Request r) key.To (to_text plan request.to) ++ optional_line decimal (at.Request r) key.Period request.period))
+    ++ (value_line (at.Request r) key.To (receivers_text plan request.to) ++ optional_line decimal (at.Request r) key.Period request.period))
 
 -- ---- all of it
 
@@ -229,7 +229,7 @@ top_lines plan =
 
 unfoldable pub show_text : Plan → List ℕ
 show_text plan =
-    top_lines plan ++ (told_from unit_lines 0 plan.units.items ++ (told_from group_lines 0 plan.groups.items
+    top_lines plan ++ (told_from unit_value_lines 0 plan.units.items ++ (told_from group_lines 0 plan.groups.items
     ++ (told_from (flow_lines plan) 0 plan.flows.items ++ (told_from (need_lines plan) 0 plan.needs.items
     ++ told_from (request_lines plan) 0 plan.requests.items))))
 

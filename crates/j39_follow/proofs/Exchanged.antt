@@ -10,7 +10,7 @@ use Rattle.std.proofs.lemmas.Slice.Zip.{length-zip}
 use Rattle.j39_findings.specs.PlanLimits.{request_limit}
 use Rattle.j39_findings.specs.declared.plan.Plan.{Plan}
 use Rattle.j39_findings.specs.declared.plan.request_plan.RequestPlan.{RequestPlan}
-use Rattle.j39_follow.specs.Requests.{answers, asks, concerns, refuses, times_answered, times_asked, times_refused}
+use Rattle.j39_follow.specs.Requests.{answers, asks_request as asks, concerns, refuses, times_answered, times_asked, times_refused}
 use Rattle.j39_follow.specs.declared.event.Event.{Event}
 use Rattle.j39_follow.specs.declared.exchange.Exchange.{Exchange}
 use Rattle.j39_follow.specs.inside.Exchanging.{IsAfter, IsExchange, IsHeardBelow, ends_asking, exchange_at, nothing_asked}

@@ -17,7 +17,7 @@ use Rattle.j39_text.specs.Labels.{unit_label}
 use Rattle.j39_text.specs.Texts.{field, place_field}
 use Rattle.j39_follow.specs.Contests.{IsTaken, Timed}
 use Rattle.j39_follow.specs.Fits.{IsSentGroup, fitting_flow}
-use Rattle.j39_follow.specs.Requests.{acknowledged_group, acknowledges, asked_request, asked_text, control_of, control_word, is_refusal, number_of, told_address}
+use Rattle.j39_follow.specs.Requests.{acknowledged_group, acknowledges, asked_request, asked_text, control_of, control_word, is_refusal, counted_number as number_of, told_address}
 use Rattle.j39_follow.specs.Who.{name_text, unit_of_name, unit_of, who_text}
 use Rattle.j39_follow.specs.declared.event.Event.{Event}
 use Rattle.j39_follow.specs.declared.event.Event.TheVariants.{Asked, Brought, Refused}
@@ -99,8 +99,8 @@ abbrev pub IsAsked : Plan → List Timed → Frame → Option ℕ → Type 0
 IsAsked plan log f asked =
     (sent : Sending) × IsSendingOf plan log (in_frame f) sent × (asked ≡ asked_request plan (requested_group f) sent)
 
-unfoldable pub request_line : List ℕ → Frame → List ℕ → Option ℕ → List ℕ
-request_line front f way asked =
+unfoldable pub asked_line : List ℕ → Frame → List ℕ → Option ℕ → List ℕ
+asked_line front f way asked =
     front ++ (field (codes "request ") (requested_group f) ++ (way ++ (asked_text asked ++ 10 ∷ [])))
 
 -- from whom an acknowledgement is, and who asked
@@ -128,7 +128,7 @@ abbrev pub notice_text : Plan → List ℕ → Frame → List ℕ → Option ℕ
 notice_text plan front f way asked back =
     if claims_address f then claim_line plan front f
     else if cannot_claim f then cannot_line plan front f
-    else if requests_group f then request_line front f way asked
+    else if requests_group f then asked_line front f way asked
     else if acknowledges plan f then answer_line front f back
     else []
 

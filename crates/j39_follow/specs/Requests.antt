@@ -90,9 +90,9 @@ acknowledged_group f =
 -- ---- what concerns requests
 
 -- the number of what a message counts as
-abbrev pub number_of : Plan → Sort → ℕ
-number_of plan (Grouped group flow) = number_of_group plan group
-number_of plan (Other pgn) = pgn
+abbrev pub counted_number : Plan → Sort → ℕ
+counted_number plan (Grouped group flow) = number_of_group plan group
+counted_number plan (Other pgn) = pgn
 
 -- this unit was asked: of a request to all each other one
 abbrev pub was_asked : To → ℕ → ℕ → Bool
@@ -114,14 +114,14 @@ abbrev pub replies_to : Plan → RequestPlan → Reply → Bool
 replies_to plan r reply =
     reply.number == asked_number plan r && (is_of_asked r reply.sender && reaches_asker r reply.aim)
 
-abbrev pub is_to_one : To → Bool
-is_to_one ToAll = false
-is_to_one (ToOne unit) = true
+abbrev pub is_for_one_unit : To → Bool
+is_for_one_unit ToAll = false
+is_for_one_unit (ToOne unit) = true
 
 -- the event asks the request at this place
-abbrev pub asks : ℕ → Event → Bool
-asks place (Asked asked) = asked == place
-asks place _ = false
+abbrev pub asks_request : ℕ → Event → Bool
+asks_request place (Asked asked) = asked == place
+asks_request place _ = false
 
 -- it brings what is asked for
 abbrev pub answers : Plan → RequestPlan → Event → Bool
@@ -130,11 +130,11 @@ answers plan r _ = false
 
 -- it refuses it; a request to all can't be refused
 abbrev pub refuses : Plan → RequestPlan → Event → Bool
-refuses plan r (Refused reply) = is_to_one r.to && replies_to plan r reply
+refuses plan r (Refused reply) = is_for_one_unit r.to && replies_to plan r reply
 refuses plan r _ = false
 
 abbrev pub concerns : Plan → ℕ → RequestPlan → Event → Bool
-concerns plan place r e = asks place e || (answers plan r e || refuses plan r e)
+concerns plan place r e = asks_request place e || (answers plan r e || refuses plan r e)
 
 -- each two events that follow one another among those that concern a request
 abbrev pub turns : Plan → ℕ → RequestPlan → List Event → List (Event × Event)
@@ -144,10 +144,10 @@ turns plan place r events =
 
 -- how often it was asked; and how often what came next was an answer, or a refusal
 abbrev pub times_asked : ℕ → List Event → ℕ
-times_asked place events = count_by (asks place) events
+times_asked place events = count_by (asks_request place) events
 
 abbrev pub times_answered : Plan → ℕ → RequestPlan → List Event → ℕ
-times_answered plan place r events = count_by (λ (t : Event × Event). asks place t.0 && answers plan r t.1) (turns plan place r events)
+times_answered plan place r events = count_by (λ (t : Event × Event). asks_request place t.0 && answers plan r t.1) (turns plan place r events)
 
 abbrev pub times_refused : Plan → ℕ → RequestPlan → List Event → ℕ
-times_refused plan place r events = count_by (λ (t : Event × Event). asks place t.0 && refuses plan r t.1) (turns plan place r events)
+times_refused plan place r events = count_by (λ (t : Event × Event). asks_request place t.0 && refuses plan r t.1) (turns plan place r events)

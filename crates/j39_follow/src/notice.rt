@@ -2,7 +2,7 @@
 ghost use Rattle.std.specs.Prelude.{◌≡◌, ◌++◌, ℕ, List, Option, length, OnOk};
 ghost use Rattle.j39_text.specs.FrameText.{requested_group, requests_group};
 ghost use Rattle.j39_follow.specs.Contests.{Timed};
-ghost use Rattle.j39_follow.specs.FollowReports.{IsAsked, IsNotice, IsWay, cannot_text, claim_text, request_line};
+ghost use Rattle.j39_follow.specs.FollowReports.{IsAsked, IsNotice, IsWay, cannot_text, claim_text, asked_line as request_line};
 ghost use Rattle.j39_follow.specs.inside.Contesting.{ShowsAsker, ShowsParties};
 ghost use Rattle.j39_follow.specs.inside.Reporting.{front_of};
 

@@ -1,6 +1,6 @@
 //! The lines of flows, needs and requests.
 ghost use Rattle.std.specs.Prelude.{◌≡◌, ◌++◌, OnOk};
-ghost use Rattle.j39_check.specs.ShowText.{flow_lines, need_from_line, need_lines, need_signal_line, pace_lines, request_lines, to_text};
+ghost use Rattle.j39_check.specs.ShowText.{flow_lines, need_from_line, need_lines, need_signal_line, pace_lines, request_lines, receivers_text as to_text};
 ghost use Rattle.j39_load.specs.Places.{told_from};
 
 use super::values::{write_number, write_optional, write_truth, write_word};
@@ -9,7 +9,7 @@ use j39_plan::{Key, Table};
 use j39_text::{TextBuffer, group_label, signal_label, unit_label};
 use std::alloc::AllocError;
 
-#[tactic(auto, unfolding(crate::specs::ShowText::to_text))]
+#[tactic(auto, unfolding(crate::specs::ShowText::receivers_text))]
 fn to_word(plan: &Plan, to: To) -> &str
     ensures { result.now ≡ to_text plan.now to }
 {

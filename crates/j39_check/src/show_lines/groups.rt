@@ -2,8 +2,8 @@
 ghost use Rattle.std.specs.Prelude.{◌≡◌, ◌++◌, OnOk};
 ghost use Rattle.std.specs.List.{slice_get};
 ghost use Rattle.std.specs.Option.{option_copied};
-ghost use Rattle.j39_check.specs.ShowText.{group_form_lines, group_head_lines, group_lines, kind_text, meaning_lines, name_of_value_line, signal_at_lines, signal_lines};
-ghost use Rattle.j39_check.specs.ShowText.{signal_place_lines, signal_scale_lines, text_lines};
+ghost use Rattle.j39_check.specs.ShowText.{group_form_lines, group_head_lines, group_lines, kind_text, signal_meaning_lines as meaning_lines, name_of_value_line, signal_at_lines, signal_value_lines as signal_lines};
+ghost use Rattle.j39_check.specs.ShowText.{signal_place_lines, signal_scale_lines, planned_text_lines as text_lines};
 ghost use Rattle.j39_load.specs.Places.{told_from};
 
 use super::values::{
@@ -59,7 +59,7 @@ fn write_value_names(
 }
 
 // What is said of a signal's meaning, if anything is.
-#[tactic(auto, unfolding(crate::specs::ShowText::meaning_lines))]
+#[tactic(auto, unfolding(crate::specs::ShowText::signal_meaning_lines))]
 fn write_meaning(
     text: &mut TextBuffer,
     table: Table,
@@ -106,7 +106,7 @@ fn write_signal_scale(
     write_truth(text, table, Key::Repeated, signal.is_repeated())
 }
 
-#[tactic(auto, unfolding(crate::specs::ShowText::signal_lines))]
+#[tactic(auto, unfolding(crate::specs::ShowText::signal_value_lines))]
 fn write_signal(text: &mut TextBuffer, table: Table, signal: &Signal) -> Result<(), AllocError>
     ensures { OnOk result (text.new ≡ text.old ++ signal_lines table signal.now) }
 {
@@ -140,7 +140,7 @@ fn write_signals(text: &mut TextBuffer, place: usize, group: &GroupPlan) -> Resu
     Ok(())
 }
 
-#[tactic(auto, unfolding(crate::specs::ShowText::text_lines))]
+#[tactic(auto, unfolding(crate::specs::ShowText::planned_text_lines))]
 fn write_planned_text(
     text: &mut TextBuffer,
     place: usize,

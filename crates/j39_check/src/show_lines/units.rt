@@ -1,6 +1,6 @@
 //! The lines of units.
 ghost use Rattle.std.specs.Prelude.{◌≡◌, ◌++◌, OnOk};
-ghost use Rattle.j39_check.specs.ShowText.{chooser_text, lower_name_lines, name_lines, unit_lines, upper_name_lines};
+ghost use Rattle.j39_check.specs.ShowText.{chooser_text, lower_name_lines, name_field_lines as name_lines, unit_value_lines as unit_lines, upper_name_lines};
 ghost use Rattle.j39_load.specs.Places.{told_from};
 
 use super::values::{write_number, write_truth, write_word};
@@ -48,7 +48,7 @@ fn write_upper_name(
     write_truth(text, table, Key::Arbitrary, fields.arbitrary == 1)
 }
 
-#[tactic(auto, unfolding(crate::specs::ShowText::name_lines))]
+#[tactic(auto, unfolding(crate::specs::ShowText::name_field_lines))]
 fn write_name(text: &mut TextBuffer, table: Table, fields: NameFields) -> Result<(), AllocError>
     ensures { OnOk result (text.new ≡ text.old ++ name_lines table fields) }
 {
@@ -56,7 +56,7 @@ fn write_name(text: &mut TextBuffer, table: Table, fields: NameFields) -> Result
     write_upper_name(text, table, fields)
 }
 
-#[tactic(auto, unfolding(crate::specs::ShowText::unit_lines))]
+#[tactic(auto, unfolding(crate::specs::ShowText::unit_value_lines))]
 fn write_unit(text: &mut TextBuffer, place: usize, unit: &UnitPlan) -> Result<(), AllocError>
     ensures { OnOk result (text.new ≡ text.old ++ unit_lines place unit.now) }
 {

@@ -1,6 +1,6 @@
 //! The line of a value.
 ghost use Rattle.std.specs.Prelude.{◌≡◌, ◌++◌, OnOk};
-ghost use Rattle.j39_check.specs.ShowText.{optional_line, text_line, truth_line, value_front, value_line};
+ghost use Rattle.j39_check.specs.ShowText.{optional_line, text_value_line as text_line, truth_line, value_front, value_line};
 
 use crate::plan_file::write_table;
 use itoa::Integer;
@@ -83,7 +83,7 @@ pub(super) fn write_truth(
 }
 
 /// Writes a text that may be empty.
-#[tactic(auto, unfolding(crate::specs::ShowText::text_line))]
+#[tactic(auto, unfolding(crate::specs::ShowText::text_value_line))]
 pub(super) fn write_text(
     text: &mut TextBuffer,
     table: Table,

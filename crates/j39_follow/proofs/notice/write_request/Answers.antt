@@ -2,7 +2,7 @@ use Rattle.std.proofs.Common.{◌≡◌, ◌++◌, ◌∷◌, [], ℕ, List, cod
 use Rattle.std.proofs.lemmas.Result.{IfOk-weaker}
 use Rattle.j39_text.specs.FrameText.{requested_group}
 use Rattle.j39_text.specs.Texts.{field}
-use Rattle.j39_follow.specs.FollowReports.{IsSendingOf, Message, request_line}
+use Rattle.j39_follow.specs.FollowReports.{IsSendingOf, Message, asked_line as request_line}
 use Rattle.j39_follow.specs.Requests.{asked_request, asked_text}
 use Rattle.j39_follow.specs.inside.Contesting.{ShowsParties}
 use Rattle.j39_follow.specs.inside.Reporting.{front_of}

@@ -1,5 +1,5 @@
 use Rattle.std.proofs.Common.{◌≡◌, ◌++◌, take}
-use Rattle.j39_check.specs.ShowText.{text_lines}
+use Rattle.j39_check.specs.ShowText.{planned_text_lines as text_lines}
 use Rattle.j39_load.specs.Places.{told_from}
 use Rattle.j39_check.proofs.show_lines.groups.write_texts.Given as goal
 

@@ -1,5 +1,5 @@
 use Rattle.std.proofs.Common.{◌≡◌, ◌++◌, take}
-use Rattle.j39_check.specs.ShowText.{unit_lines}
+use Rattle.j39_check.specs.ShowText.{unit_value_lines as unit_lines}
 use Rattle.j39_load.specs.Places.{told_from}
 use Rattle.j39_check.proofs.show_lines.units.write_units.Given as goal
 
