@@ -39,6 +39,7 @@ pub record AreOneSignal (s t : SignalParts) : Type 0 where
   pub pers : s.per ≡ t.per
   pub units : s.unit.bytes ≡ t.unit.bytes
   pub repetitions : s.repeated ≡ t.repeated
+  pub options : s.optional ≡ t.optional
 
 pub record AreOneValueName (n m : ValueName) : Type 0 where
   pub raws : n.raw ≡ m.raw

@@ -51,7 +51,7 @@ IsThirdUnit = Lacks (key.Claims ∷ [])
 
 -- nor in that of a signal
 abbrev pub IsThirdSignal : Members → Type 0
-IsThirdSignal = Lacks (key.Spn ∷ key.Values ∷ [])
+IsThirdSignal = Lacks (key.Optional ∷ key.Spn ∷ key.Values ∷ [])
 
 -- nor among the signals of a group
 abbrev pub IsThirdGroup : Members → Type 0
