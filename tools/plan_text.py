@@ -12,7 +12,7 @@ from left_out import plain
 VERSIONS = (2, 3, 4)
 
 # What a key is where it isn't there (docs/PLAN.md), so that it needn't be written.
-DEFAULTS: dict[str, Any] = {"bit": 1, "step": 1, "per": 1, "offset": 0, "unit": "", "private": False, "repeated": False, "values": {}}
+DEFAULTS: dict[str, Any] = {"bit": 1, "step": 1, "per": 1, "offset": 0, "unit": "", "private": False, "repeated": False, "optional": False, "values": {}}
 
 
 @dataclass

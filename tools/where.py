@@ -36,7 +36,7 @@ SINCE: dict[object, int] = {
     ("signal", "per"): 3, ("signal", "repeated"): 3, ("flow", "period"): 3, ("flow", "deadline"): 3, "states": 3, "signed": 3, "dtc": 3,
     (None, "strangers"): 4, (None, "need"): 4, ("timing", "unplanned_priority"): 4, ("timing", "transport_priority"): 4,
     ("timing", "broadcast_gap"): 4, ("timing", "broadcast_gap_most"): 4, ("timing", "errors"): 4, ("flow", "jitter"): 4, ("flow", "pause"): 4,
-    (None, "request"): 4, ("flow", "on_request"): 4, ("unit", "claims"): 4, ("signal", "spn"): 4, ("signal", "values"): 4,
+    (None, "request"): 4, ("flow", "on_request"): 4, ("unit", "claims"): 4, ("signal", "optional"): 4, ("signal", "spn"): 4, ("signal", "values"): 4,
     125000: 4, 1000000: 4,
 }
 
@@ -60,7 +60,7 @@ KEYS = {
     "F4": ("group", "pgn", "none that can be planned, or a maker's own and not private, or the other way round"),
     "F6": ("signal", "bits", "8, 16 or 32 of a measured signal, 2 of a discrete one, 1 to 32 of a raw one, "
            "2 to 8 of states, 2 to 32 of a signed one, and of a dtc 32 from bit = 1 on"),
-    "F7": ("signal", "byte", "the signal ends behind the group's length"),
+    "F7": ("signal", "byte", "the signal ends behind the group's length, or, where it is optional, behind its longest messages"),
     "F9": ("flow", "to", "a frame of this group goes to all"),
     "F10": ("flow", "to", "the sender itself"),
     "F12": ("unit", "address", "kept free: a unit with arbitrary = true may not hold it"),
@@ -280,6 +280,8 @@ def value_fault(plan: Plan, place: Place, key: str, cause: str) -> Told:
     shown = f"{key} = {spelled}" if 0 < len(spelled) < 50 and "\n" not in spelled else f"key {key}"
     if key == "repeated" and cause == "Range":
         return plan.line(place + (key,)), f"{shown}: the group has no key every"
+    if key == "optional" and cause == "Range":
+        return plan.line(place + (key,)), f"{shown}: the signal is repeated"
     word = plan.places.texts.get(place + (key,), "")
     if key == "kind" and not plan.knows(word):
         return plan.line(place + (key,)), f"{shown}: {since_when(plan, SINCE[word])}"

@@ -418,6 +418,21 @@ class Where(InFolder):
         early = "12: refused UnknownKey group 1 signal 1  (key repeated: only from version = 3 on)"
         self.assertEqual(self.answer(plan.replace("version = 3", "version = 2").replace("every = 3\n", "")), (2, [early]))
 
+    def test_optional_signals(self):
+        """Where one ends, that one which is repeated is none, and from which version on they are known."""
+        plan = (
+            'version = 4\n[[group]]\nlabel = "G"\npgn = 65226\npriority = 6\nlength = 8\nmost = 12\nevery = 4\n'
+            '[[group.signal]]\nlabel = "S"\nbyte = 13\nbits = 8\nkind = "raw"\noptional = true\n'
+        )
+        behind = ("11: F7 SignalOutside G S 104  (key byte: the signal ends behind the group's length, or, where it is optional, "
+                  "behind its longest messages)")
+        self.assertEqual(self.answer(plan), (1, [behind, "findings 1"]))
+        self.assertEqual(self.answer(plan.replace("byte = 13", "byte = 12")), (0, ["ok 0 units 1 groups 0 flows"]))
+        both = "14: refused Range group 1 signal 1 key optional  (optional = true: the signal is repeated)"
+        self.assertEqual(self.answer(plan + "repeated = true\n"), (2, [both]))
+        early = "14: refused UnknownKey group 1 signal 1  (key optional: only from version = 4 on)"
+        self.assertEqual(self.answer(plan.replace("version = 4", "version = 3")), (2, [early]))
+
     def test_each_shown_refusal_has_its_line(self):
         lines = [4, 2, 3, 9, 2, 8, 3, 3, 2, 11, 3, 2, 5, 4, 15, 14, 7, 9, 2, 16]
         shown = shown_refusals()

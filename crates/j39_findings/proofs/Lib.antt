@@ -8,8 +8,10 @@ pub mod LastWrites
 pub mod Lengths
 pub mod Meeting
 pub mod Members
+pub mod Optional
 pub mod PlaceLemmas
 pub mod PrivateGroups
 pub mod RecordBits
 pub mod RecordCounts
 pub mod Rising
+pub mod Selectors

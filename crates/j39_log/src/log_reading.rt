@@ -38,7 +38,7 @@ fn write_group(
     ident: Ident,
     bytes: &[u8],
 ) -> Result<(), AllocError>
-    requires { (pgn : ℕ) × (planned groups.now pgn (length bytes.now) ≡ Some place) }
+    requires { (pgn : ℕ) × (planned groups.now pgn bytes.now ≡ Some place) }
     ensures { OnOk result ((piece : List ℕ) × IsGroupReport groups.now (Some place) ident bytes.now piece × (text.new ≡ text.old ++ piece)) }
 {
     write_report(
@@ -61,10 +61,10 @@ fn write_planned(
     pgn: u32,
     bytes: &[u8],
 ) -> Result<(), AllocError>
-    ensures { OnOk result ((piece : List ℕ) × IsGroupReport groups.now (planned groups.now pgn (length bytes.now)) ident bytes.now piece
+    ensures { OnOk result ((piece : List ℕ) × IsGroupReport groups.now (planned groups.now pgn bytes.now) ident bytes.now piece
         × (text.new ≡ text.old ++ piece)) }
 {
-    match groups.place(pgn, bytes.len()) {
+    match groups.place(pgn, bytes) {
         Some(place) => write_group(text, groups, place, ident, bytes),
         None => Ok(()),
     }
@@ -81,7 +81,7 @@ fn write_message(
     ensures { OnOk result ((pgn : ℕ) × (message : List ℕ) × (piece : List ℕ)
         × ((listener_of_pair listeners.now.rows.items ident.sa ident.ps).progress ≡ Complete pgn)
         × ((listener_of_pair listeners.now.rows.items ident.sa ident.ps).bytes ≡ message)
-        × IsGroupReport groups.now (planned groups.now pgn (length message)) ident message piece
+        × IsGroupReport groups.now (planned groups.now pgn message) ident message piece
         × (text.new ≡ text.old ++ piece)) }
 {
     let Some(listener) = listeners.listener(ident.sa, ident.ps) else {
@@ -128,7 +128,7 @@ fn write_frame(
         × (text.new ≡ text.old ++ piece)) }
 {
     let bytes = frame.payload.as_slice();
-    if let Some(place) = groups.place(frame.ident.pgn().number(), bytes.len()) {
+    if let Some(place) = groups.place(frame.ident.pgn().number(), bytes) {
         return write_group(text, groups, place, frame.ident, bytes);
     }
     match transport_packet(frame) {

@@ -51,11 +51,12 @@ IsThirdUnit = Lacks (key.Claims ∷ [])
 
 -- nor in that of a signal
 abbrev pub IsThirdSignal : Members → Type 0
-IsThirdSignal = Lacks (key.Spn ∷ key.Values ∷ [])
+IsThirdSignal = Lacks (key.Optional ∷ key.Spn ∷ key.Values ∷ [])
 
--- nor among the signals of a group
-abbrev pub IsThirdGroup : Members → Type 0
-IsThirdGroup ms = EachTable IsThirdSignal (tables_of signal_rule ms)
+-- nor in that of a group
+pub record IsThirdGroup (ms : Members) : Type 0 where
+  pub keys : Lacks (key.When ∷ []) ms
+  pub signals : EachTable IsThirdSignal (tables_of signal_rule ms)
 
 -- nor in the table of a flow
 abbrev pub fourth_flow_keys : List Key

@@ -20,6 +20,10 @@ fn write_table(text: &mut TextBuffer, table: Table) -> Result<(), AllocError>
             text.word(" name")
         }
         Table::Group(group) => text.place("group ", group),
+        Table::GroupWhen(group) => {
+            text.place("group ", group)?;
+            text.word(" when")
+        }
         Table::Signal(group, signal) => {
             text.place("group ", group)?;
             text.place(" signal ", signal)
