@@ -326,6 +326,8 @@ class Dbc:
                 self.notes.say(f"unit {label}", "a DBC has no chooser")
             if self.number(unit, "window", 255) != 255:
                 self.notes.say(f"unit {label}", "a DBC has no window")
+            if self.places.texts.get(unit + ("queue",)) == "any":
+                self.notes.say(f"unit {label}", "a DBC doesn't say that its controller keeps no order")
             if self.places.spelled.get(unit + ("claims",)) == "false":
                 self.notes.say(f"unit {label}", "a DBC doesn't say that it never claims its address")
 

@@ -36,7 +36,7 @@ SINCE: dict[object, int] = {
     ("signal", "per"): 3, ("signal", "repeated"): 3, ("flow", "period"): 3, ("flow", "deadline"): 3, "states": 3, "signed": 3, "dtc": 3,
     (None, "strangers"): 4, (None, "need"): 4, ("timing", "unplanned_priority"): 4, ("timing", "transport_priority"): 4,
     ("timing", "broadcast_gap"): 4, ("timing", "broadcast_gap_most"): 4, ("timing", "errors"): 4, ("flow", "jitter"): 4, ("flow", "pause"): 4,
-    (None, "request"): 4, ("flow", "on_request"): 4, ("unit", "claims"): 4, ("signal", "spn"): 4, ("signal", "values"): 4,
+    (None, "request"): 4, ("flow", "on_request"): 4, ("unit", "queue"): 4, ("unit", "claims"): 4, ("signal", "spn"): 4, ("signal", "values"): 4,
     125000: 4, 1000000: 4,
 }
 

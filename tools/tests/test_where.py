@@ -103,6 +103,15 @@ class Lint(InFolder):
         self.assertEqual(self.lines(plan)[1], [*HINTS[:5], hint, "ok 4 units 4 groups 4 flows"])
         self.assertEqual(self.lines(plan + request)[1], [HINTS[0], *HINTS[2:5], "ok 4 units 4 groups 4 flows"])
 
+    def test_hints_at_queues(self):
+        """A unit whose controller keeps no order, and that sends groups of two priorities; of one priority there is no hint."""
+        flow = '[[flow]]\ngroup = "SHORT"\nfrom = "A"\nto = "all"\n'
+        plan = LINTED.replace("version = 2", "version = 4").replace("address = 0\n", 'address = 0\nqueue = "any"\n', 1) + flow
+        hint = "hint unit A: its controller keeps no order, so ET1 of priority 2 may wait behind SHORT of priority 6"
+        self.assertIn(hint, "".join(self.lines(plan)[1]))
+        for other in (plan.replace('"any"', '"priority"'), plan.replace(flow, "")):
+            self.assertNotIn("keeps no order", "".join(self.lines(other)[1]))
+
     def test_short_messages_of_a_group_of_several_lengths(self):
         """Those of fewer than 8 bytes go in one frame; where each has 8 or more there is no hint."""
         hint = "32: hint group SHORT: messages of 7 bytes and more; one of one frame has 8, unused ones filled with ones"

@@ -22,8 +22,8 @@ pub use laws::{
     requests_are_served, signals_are_sound,
 };
 pub use plan::{
-    Bitrate, ErrorRate, FlowPlan, GroupPlan, Meaning, NeedPlan, Pace, Plan, RequestPlan, TextPlan,
-    Timing, To, UnitPlan, ValueName, Way,
+    Bitrate, ErrorRate, FlowPlan, GroupPlan, Meaning, NeedPlan, Pace, Plan, Queue, RequestPlan,
+    TextPlan, Timing, To, UnitPlan, ValueName, Way,
 };
 pub use planned_groups::{GroupFault, layout_of};
 pub use steps::Step;

@@ -53,6 +53,7 @@ one_unit fourth d u v a b = record {
   names = a.has_name ∙ sym b.has_name;
   ways = a.has_way ∙ sym b.has_way;
   windows = a.has_window ∙ sym b.has_window;
+  queues = a.has_queue ∙ sym b.has_queue;
   claims = a.has_claims ∙ sym b.has_claims;
 }
 

@@ -27,6 +27,7 @@ pub record AreOneUnit (u v : UnitPlan) : Type 0 where
   pub names : u.name ≡ v.name
   pub ways : u.way ≡ v.way
   pub windows : u.window ≡ v.window
+  pub queues : u.queue ≡ v.queue
   pub claims : u.claims ≡ v.claims
 
 pub record AreOneSignal (s t : SignalParts) : Type 0 where

@@ -47,7 +47,7 @@ pub record IsThirdBus (ms : Members) : Type 0 where
 
 -- nor in the table of a unit
 abbrev pub IsThirdUnit : Members → Type 0
-IsThirdUnit = Lacks (key.Claims ∷ [])
+IsThirdUnit = Lacks (key.Queue ∷ key.Claims ∷ [])
 
 -- nor in that of a signal
 abbrev pub IsThirdSignal : Members → Type 0
