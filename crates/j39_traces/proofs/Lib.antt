@@ -1,9 +1,11 @@
 pub mod Between
 pub mod Ends
+pub mod FittingFlows
 pub mod Identifiers
 pub mod Logged
 pub mod Logs
 pub mod Replies
+pub mod SentFrames
 pub mod Standing
 pub mod Telling
 pub mod ToldFlows

@@ -1,27 +1,23 @@
 -- A message of a run that came in one frame is told with the flow that it was begun by, or with one that looks like it.
-use Rattle.std.proofs.Common.{◌≡◌, ◌≢◌, ◌⊎◌, ℕ, zero, suc, ◌<◌, ◌==◌, ◌&&◌, ◌||◌, nat_le, true, false, Bool, List, [], ◌∷◌, ◌++◌, length, map}
-use Rattle.std.proofs.Common.{Option, Some, None, inl, inr, refl, sym, ap, subst, ◌∙◌, arith, get_or, eq-eqb, eqb-true, if◌then◌else◌}
+use Rattle.std.proofs.Common.{◌≡◌, ◌≢◌, ℕ, zero, suc, ◌<◌, ◌==◌, ◌||◌, nat_le, true, false, Bool, List, [], ◌∷◌, ◌++◌, length, map}
+use Rattle.std.proofs.Common.{Option, Some, None, inl, inr, refl, sym, ap, subst, ◌∙◌, arith, eq-eqb, if◌then◌else◌}
 use Rattle.std.specs.Bool.{MatchBool}
 use Rattle.std.specs.FinSet.{FinSet}
-use Rattle.std.specs.List.{All, Contains, list_any, position, slice_get}
-use Rattle.std.specs.Option.{is_some, option_map_or, option_or}
+use Rattle.std.specs.List.{All, slice_get}
+use Rattle.std.specs.Option.{is_some, option_map_or}
 use Rattle.std.specs.Ordering.{nat_cmp}
-use Rattle.std.proofs.lemmas.Bool.{and_parts, cases_Bool, cases_order, false_from_ne_true, leb-true, ne_eqb, not-false, or_cases, or_left, true≢false}
-use Rattle.std.proofs.lemmas.Bool.Decides.{not_from_Decides}
-use Rattle.std.proofs.lemmas.List.{append-nil, append_cancel_left}
+use Rattle.std.proofs.lemmas.Bool.{and_parts, cases_Bool, cases_order, leb-true, ne_eqb, or_left, true≢false}
 use Rattle.std.proofs.lemmas.List.Elements.{All-head, All-tail}
-use Rattle.std.proofs.lemmas.List.Quantifiers.{position-Some}
-use Rattle.std.proofs.lemmas.Option.{get_or_from_slice_get, slice_get-get_or, slice_get_within}
+use Rattle.std.proofs.lemmas.Option.{get_or_from_slice_get, slice_get_within}
 use Rattle.j39_id.specs.Addresses.{global_address}
 use Rattle.j39_id.specs.Ident.{pgn_of}
 use Rattle.j39_id.specs.Limits.{frame_bytes}
-use Rattle.j39_id.specs.Pgn.{is_pdu2, is_pgn, pdu2_first, pf_of}
-use Rattle.j39_id.specs.Services.{address_claimed, is_service, request, service_groups}
+use Rattle.j39_id.specs.Pgn.{is_pdu2, pdu2_first, pf_of}
+use Rattle.j39_id.specs.Services.{is_service}
 use Rattle.j39_id.specs.declared.frame.Frame.{Frame}
 use Rattle.j39_id.specs.declared.ident.Ident.{Ident}
-use Rattle.j39_findings.proofs.Deciding.{Decides-is_pgn}
-use Rattle.j39_findings.specs.Findings.{AreSentTogether, Clean, DoReceiversMeet, IsForNoPlan, MayBeOneFrameToAll}
-use Rattle.j39_findings.specs.declared.checking.finding.Finding.TheVariants.{BadPgn, SamePgn}
+use Rattle.j39_findings.specs.Findings.{AreSentTogether, Clean, DoReceiversMeet, MayBeOneFrameToAll}
+use Rattle.j39_findings.specs.declared.checking.finding.Finding.TheVariants.{SamePgn}
 use Rattle.j39_findings.specs.declared.plan.Plan.{Plan}
 use Rattle.j39_findings.specs.declared.plan.flow_plan.FlowPlan.{FlowPlan}
 use Rattle.j39_findings.specs.declared.plan.group_plan.GroupPlan.{GroupPlan}
@@ -30,23 +26,17 @@ use Rattle.j39_findings.specs.declared.plan.to.To.{To}
 use Rattle.j39_findings.specs.declared.plan.to.To.TheVariants.{All as ToAll, One as ToOne}
 use Rattle.j39_findings.specs.declared.steps.Step.{Step}
 use Rattle.j39_findings.specs.declared.steps.Step.TheVariants.{Up, Down, Give, Ask, Begin, Send, Emit, Take, Lose, LateSender, LateReceiver, Rest}
-use Rattle.j39_text.specs.FrameText.{carries_name, requests_group}
-use Rattle.j39_tp.specs.Sender as sender
-use Rattle.j39_world.proofs.Refusals.{none_hold}
-use Rattle.j39_world.specs.Flows.{dest_of, flow_of, flows_of, has_length, is_short}
+use Rattle.j39_world.specs.Flows.{flows_of, has_length, is_short}
 use Rattle.j39_world.specs.Opening.{AreNamesDistinct}
 use Rattle.j39_world.specs.PlannedUnits.{planned_unit, unit_at, units_of}
-use Rattle.j39_world.specs.Run.{StepsTo, begin_refusal, begin_refusals, send_refusal, send_refusals, count_of, refusal}
-use Rattle.j39_world.specs.Sent.{Sent, sent_of}
-use Rattle.j39_world.specs.SentTransfers.{address_of, destination_of, group_of, packet_frame, short_frame}
+use Rattle.j39_world.specs.Run.{StepsTo, refusal}
 use Rattle.j39_world.specs.SoundPlan.{Always}
-use Rattle.j39_world.specs.TransferSteps.{BeginsAt, SendsAt, first_frame}
 use Rattle.j39_world.specs.World.{World}
 use Rattle.j39_world.specs.declared.flow.Flow.{Flow}
 use Rattle.j39_world.specs.declared.step_error.StepError.{StepError}
 use Rattle.j39_laws.proofs.Addresses.CleanUnits.{clean_units}
 use Rattle.j39_follow.specs.Contests.{IsTaken, Timed, frames_of}
-use Rattle.j39_follow.specs.Fits.{IsSentGroup, MayBeGroup, fits, fits_all, fitting_flow, is_for_all, is_unit, may_have_bytes, reaches}
+use Rattle.j39_follow.specs.Fits.{IsSentGroup, MayBeGroup, fits, fitting_flow, may_have_bytes, reaches}
 use Rattle.j39_follow.specs.FollowReports.{IsMessageReport, IsSendingOf, aim_at, in_frame, is_to_all}
 use Rattle.j39_follow.specs.Who.{IsWho, unit_of}
 use Rattle.j39_follow.specs.declared.message.Sort.TheVariants.{Grouped, Other}
@@ -56,21 +46,14 @@ use Rattle.j39_follow.specs.declared.sending.Sending.{Sending}
 use Rattle.j39_follow.specs.declared.who.Who.{Who}
 use Rattle.j39_follow.specs.declared.who.Who.TheVariants.{Holder}
 use Rattle.j39_follow.proofs.Parties.{one_who}
-use Rattle.j39_follow.proofs.ToAll.{none_fits}
-use Rattle.j39_traces.specs.Between.{GoesToHolder, IsKnownAt, IsOfStep, IsSentBehind, IsTransport, tells_of_addresses}
+use Rattle.j39_traces.specs.Between.{GoesToHolder, IsKnownAt, IsOfStep, IsSentBehind, IsTransport}
 use Rattle.j39_traces.specs.Telling.{HaveOwnNumbers}
 use Rattle.j39_traces.specs.ToldFlows.{AreToldAsBegun, EachClaims, IsBegunBy, LooksLike, untimed}
-use Rattle.j39_traces.proofs.Between.{step_goes, transports}
+use Rattle.j39_traces.proofs.Between.{step_goes}
 use Rattle.j39_traces.proofs.Ends.{HasEnds, all_ends}
-use Rattle.j39_traces.proofs.Identifiers.{sent_as}
-use Rattle.j39_traces.proofs.Standing.{source_below}
-use Rattle.j39_traces.proofs.Telling.{AreTold, all_told, packet_group}
-
-some_same : {A : Type 0} (x y : A) → Some x ≡ Some y → x ≡ y
-some_same x y e = cc
-
-none_some : {A : Type 0} (x : A) → None ≡ Some x → ⊥
-none_some x e = cc
+use Rattle.j39_traces.proofs.Telling.{AreTold, all_told}
+use Rattle.j39_traces.proofs.FittingFlows.{some_same, none_some, planned_flow, of_group, some_there, fitting_there, fitting_some, fit_parts, fit_whole, same_receivers}
+use Rattle.j39_traces.proofs.SentFrames.{not_sent, IsInFrame, begun, sent_alone, planned_number, own_numbers, no_transport, tells_nothing}
 
 -- ---- units that claim
 
@@ -106,232 +89,6 @@ stands plan frames a who (inr (calm, is)) = subst (λ (fs : List Frame). IsWho p
 unit_there : (plan : Plan) (frames : List Frame) (a u : ℕ) (who : Who) → IsWho plan frames a (Holder u) → IsTaken plan (untimed frames) a who
     → unit_of who ≡ Some u
 unit_there plan frames a u who holder taken = ap unit_of (one_who plan frames a who (Holder u) (stands plan frames a who taken) holder)
-
--- ---- flows
-
-planned_flow : (groups : List GroupPlan) (flows : List FlowPlan) (k : ℕ) (flow : Flow) → slice_get (map (flow_of groups) flows) k ≡ Some flow
-    → (planned : FlowPlan) × (slice_get flows k ≡ Some planned) × (flow ≡ flow_of groups planned)
-planned_flow groups [] k flow e = absurd (none_some flow e)
-planned_flow groups (x ∷ flows) zero flow e = (x, refl, some_same flow (flow_of groups x) (sym e))
-planned_flow groups (x ∷ flows) (suc k) flow e = planned_flow groups flows k flow e
-
--- a flow of a group, with what the group has
-abbrev of_group : GroupPlan → FlowPlan → Flow
-of_group group planned = record {
-  pgn = group.pgn;
-  priority = group.priority;
-  length = group.length;
-  most = group.most;
-  sender = planned.sender;
-  to = planned.to;
-}
-
-some_there : (groups : List GroupPlan) (g : ℕ) → g < length groups → (group : GroupPlan) × (slice_get groups g ≡ Some group)
-some_there [] g less = absurd (omega (arith, less))
-some_there (x ∷ groups) zero less = (x, refl)
-some_there (x ∷ groups) (suc g) less = some_there groups g (omega (arith, less))
-
--- the first that passes is found where some does
-found_where : (p : FlowPlan → Bool) (flows : List FlowPlan) (k : ℕ) (flow : FlowPlan) → slice_get flows k ≡ Some flow → p flow ≡ true
-    → position p flows ≡ None → ⊥
-found_where p flows k flow is passes none =
-    let fails = none_fits p flows k flow none (slice_get_within flows k flow is) in
-    let here = get_or_from_slice_get flows k flow flow is in
-    true≢false (sym passes ∙ sym (ap p here) ∙ fails)
-
-passing : (p : FlowPlan → Bool) (flows : List FlowPlan) (n : ℕ) (d : FlowPlan) → position p flows ≡ Some n
-    → (flow : FlowPlan) × (slice_get flows n ≡ Some flow) × (p flow ≡ true)
-passing p flows n d is =
-    let at = position-Some p flows n d is in
-    (get_or flows n d, slice_get-get_or flows n d at.0, at.1)
-
--- the flow that a message fits is there, and fits
-fitting_there : (plan : Plan) (g : ℕ) (sent : Sending) (n : ℕ) (d : FlowPlan) → fitting_flow plan g sent ≡ Some n
-    → (flow : FlowPlan) × (slice_get plan.flows.items n ≡ Some flow) × (fits g sent flow ≡ true)
-fitting_there plan g sent n d is = go (position (fits_all g sent) plan.flows.items) refl is
-  where
-    go : (o : Option ℕ) → position (fits_all g sent) plan.flows.items ≡ o → option_or o (position (fits g sent) plan.flows.items) ≡ Some n
-        → (flow : FlowPlan) × (slice_get plan.flows.items n ≡ Some flow) × (fits g sent flow ≡ true)
-    go (Some m) at e =
-        let same : m ≡ n = some_same m n e in
-        let (flow, there, passes) = passing (fits_all g sent) plan.flows.items n d (at ∙ ap Some same) in
-        (flow, there, (and_parts (is_for_all flow.to) (fits g sent flow) passes).1)
-    go None at e = passing (fits g sent) plan.flows.items n d e
-
-fitting_some : (plan : Plan) (g : ℕ) (sent : Sending) (k : ℕ) (flow : FlowPlan) → slice_get plan.flows.items k ≡ Some flow
-    → fits g sent flow ≡ true → (n : ℕ) × (fitting_flow plan g sent ≡ Some n)
-fitting_some plan g sent k flow is passes = go (position (fits_all g sent) plan.flows.items) (position (fits g sent) plan.flows.items) refl
-  where
-    go : (a b : Option ℕ) → position (fits g sent) plan.flows.items ≡ b → (n : ℕ) × (option_or a b ≡ Some n)
-    go (Some n) b at = (n, refl)
-    go None (Some n) at = (n, refl)
-    go None None at = absurd (found_where (fits g sent) plan.flows.items k flow is passes at)
-
--- what fits came from the flow's sender, and went to its receivers
-pub record FitParts (g : ℕ) (sent : Sending) (flow : FlowPlan) : Type 0 where
-  pub group : flow.group ≡ g
-  pub sender : sent.sender ≡ Some flow.sender
-  pub reached : reaches flow.to sent.aim sent.unaddressed ≡ true
-
-same_unit : (o : Option ℕ) (u : ℕ) → is_unit o u ≡ true → o ≡ Some u
-same_unit None u e = absurd (true≢false (sym e))
-same_unit (Some v) u e = ap Some (eqb-true v u e)
-
-unit_itself : (o : Option ℕ) (u : ℕ) → o ≡ Some u → is_unit o u ≡ true
-unit_itself o u e = subst (λ (x : Option ℕ). is_unit x u ≡ true) (sym e) (eq-eqb u u refl)
-
-fit_parts : (g : ℕ) (sent : Sending) (flow : FlowPlan) → fits g sent flow ≡ true → FitParts g sent flow
-fit_parts g sent flow e =
-    let first = and_parts (flow.group == g) (is_unit sent.sender flow.sender && reaches flow.to sent.aim sent.unaddressed) e in
-    let second = and_parts (is_unit sent.sender flow.sender) (reaches flow.to sent.aim sent.unaddressed) first.1 in
-    record { group = eqb-true flow.group g first.0; sender = same_unit sent.sender flow.sender second.0; reached = second.1 }
-
-both : (a b : Bool) → a ≡ true → b ≡ true → (a && b) ≡ true
-both true b e d = d
-both false b e d = absurd (true≢false (sym e))
-
-fit_whole : (g : ℕ) (sent : Sending) (flow : FlowPlan) → flow.group ≡ g → sent.sender ≡ Some flow.sender
-    → reaches flow.to sent.aim sent.unaddressed ≡ true → fits g sent flow ≡ true
-fit_whole g sent flow group from reached =
-    both (flow.group == g) (is_unit sent.sender flow.sender && reaches flow.to sent.aim sent.unaddressed) (eq-eqb flow.group g group)
-    (both (is_unit sent.sender flow.sender) (reaches flow.to sent.aim sent.unaddressed) (unit_itself sent.sender flow.sender from) reached)
-
--- two that one message reaches go to the same, or it names no receiver
-same_receivers : (a b : To) (aim : Aim) (unaddressed : Bool) → reaches a aim unaddressed ≡ true → reaches b aim unaddressed ≡ true
-    → (a ≡ b) ⊎ (unaddressed ≡ true)
-same_receivers ToAll ToAll aims.All u x y = inl refl
-same_receivers (ToOne v) b aims.All u x y = inr x
-same_receivers ToAll (ToOne v) aims.All u x y = inr y
-same_receivers (ToOne v) (ToOne t) (aims.One r) u x y = inl (ap ToOne (eqb-true v r x ∙ sym (eqb-true t r y)))
-same_receivers ToAll b (aims.One r) u x y = absurd (true≢false (sym x))
-same_receivers (ToOne v) ToAll (aims.One r) u x y = absurd (true≢false (sym y))
-same_receivers ToAll b aims.Neither u x y = absurd (true≢false (sym x))
-same_receivers (ToOne v) b aims.Neither u x y = absurd (true≢false (sym x))
-
--- ---- the frame that a step sends
-
-no_row : {A : Type 0} (front : List A) (x : A) (back : List A) → front ++ x ∷ back ≡ [] → ⊥
-no_row [] x back e = cc
-no_row (y ∷ front) x back e = cc
-
-single : (earlier later : List Sent) (y x : Sent) → earlier ++ y ∷ later ≡ x ∷ [] → y ≡ x
-single [] later y x e = cc
-single (z ∷ earlier) later y x e =
-    let tail : earlier ++ y ∷ later ≡ [] = cc in
-    absurd (no_row earlier y later tail)
-
-the_frame : (w after : World) (log : List Frame) (f : Frame) → IsSentBehind w after log f → (x : Sent) → after.frames ≡ w.frames ++ x ∷ []
-    → sent_of f ≡ x
-the_frame w after log f sent x is =
-    single sent.earlier sent.later (sent_of f) x
-    (append_cancel_left w.frames (sent.earlier ++ sent_of f ∷ sent.later) (x ∷ []) (sym sent.sent ∙ is))
-
-not_sent : (w after : World) (log : List Frame) (f : Frame) → IsSentBehind w after log f → after ≡ w → ⊥
-not_sent w after log f sent same =
-    no_row sent.earlier (sent_of f) sent.later
-    (append_cancel_left w.frames (sent.earlier ++ sent_of f ∷ sent.later) []
-    (sym sent.sent ∙ ap (λ (x : World). x.frames) same ∙ sym (append-nil w.frames)))
-
--- the bytes of a message that a flow may have, in one frame
-pub record IsInFrame (flow : Flow) (bytes : List ℕ) (f : Frame) : Type 0 where
-  pub payload : f.payload.items ≡ bytes
-  pub allowed : has_length flow (length bytes) ≡ true
-  pub short : is_short (length bytes) ≡ true
-
-module _ (plan : Plan) (w : World) (told : AreTold plan w) where
-  below : (u : ℕ) → address_of w.stations u < 256
-  below u = source_below (w.stations u) (told.standing.1 u)
-
-  destination_below : (to : To) → destination_of w.stations to < 256
-  destination_below ToAll = omega arith
-  destination_below (ToOne v) = below v
-
-  -- one that is no transport frame is the whole message
-  whole_message : (flow : Flow) (bytes : List ℕ) (f : Frame) → sent_of f ≡ first_frame w.stations flow bytes → ¬ IsTransport (pgn_of f.ident)
-      → (f.payload.items ≡ bytes) × (is_short (length bytes) ≡ true)
-  whole_message flow bytes f is other =
-      let d : ℕ = destination_of w.stations flow.to in
-      let s : ℕ = address_of w.stations flow.sender in
-      let p = sender.announcement (dest_of flow.to) flow.pgn (length bytes) in
-      let either : Bool → Sent = λ b. if b then short_frame d s flow bytes else packet_frame d s p in
-      elim (cases_Bool (is_short (length bytes))) [
-        | inl short ↦
-            let e : sent_of f ≡ short_frame d s flow bytes = is ∙ ap either short in
-            (ap (λ (x : Sent). x.payload) e, short)
-        | inr long ↦
-            let e : sent_of f ≡ packet_frame d s p = is ∙ ap either long in
-            let i = sent_as f.ident 7 (group_of p) d s (packet_group p) (destination_below flow.to) (below flow.sender) (ap (λ (x : Sent). x.identifier) e) in
-            absurd (other (subst IsTransport (sym i.group_is) (transports p)))
-      ]
-
-  begun : (k : ℕ) (bytes : List ℕ) (o : Option Flow) → begin_refusal (count_of plan) w o bytes ≡ None → (after : World)
-      → BeginsAt (count_of plan) w k o bytes after → (log : List Frame) (f : Frame) → IsSentBehind w after log f → ¬ IsTransport (pgn_of f.ident)
-      → (flow : Flow) × (o ≡ Some flow) × IsInFrame flow bytes f
-  begun k bytes None allowed after never log f sent other = absurd never
-  begun k bytes (Some flow) allowed after e log f sent other =
-      let (sendable, (on, (heard, (address, (free, (long, rest)))))) = none_hold (begin_refusals (count_of plan) w (Some flow) bytes) allowed in
-      let frame = the_frame w after log f sent (first_frame w.stations flow bytes) (ap (λ (x : World). x.frames) e) in
-      let whole = whole_message flow bytes f frame other in
-      (flow, refl, record { payload = whole.0; allowed = not-false _ long; short = whole.1 })
-
-  sent_alone : (k : ℕ) (bytes : List ℕ) (o : Option Flow) → send_refusal (count_of plan) w o bytes ≡ None → (after : World)
-      → SendsAt (count_of plan) w k o bytes after → (log : List Frame) (f : Frame) → IsSentBehind w after log f
-      → (flow : Flow) × (o ≡ Some flow) × IsInFrame flow bytes f
-  sent_alone k bytes None allowed after never log f sent = absurd never
-  sent_alone k bytes (Some flow) allowed after e log f sent =
-      let (sendable, (on, (heard, (address, (free, (long, rest)))))) = none_hold (send_refusals (count_of plan) w (Some flow) bytes) allowed in
-      let d : ℕ = destination_of w.stations flow.to in
-      let s : ℕ = address_of w.stations flow.sender in
-      let frame = the_frame w after log f sent (short_frame d s flow bytes) (ap (λ (x : World). x.frames) e) in
-      let parts = and_parts (has_length flow (length bytes)) (is_short (length bytes)) (not-false _ long) in
-      (flow, refl, record { payload = ap (λ (x : Sent). x.payload) frame; allowed = parts.0; short = parts.1 })
-
--- ---- numbers that are planned
-
-planned_number : (plan : Plan) → HaveOwnNumbers plan → (g : ℕ) (group : GroupPlan) → slice_get plan.groups.items g ≡ Some group
-    → is_service group.pgn ≡ false
-planned_number plan own g group at =
-    let valid = own g group (slice_get_within plan.groups.items g group at) in
-    let is : get_or plan.groups.items g group ≡ group = get_or_from_slice_get plan.groups.items g group group at in
-    (subst (λ (x : GroupPlan). (is_pgn x.pgn ≡ true) × (is_service x.pgn ≡ false)) is valid).1
-
-contained : (n : ℕ) (xs : List ℕ) → list_any (λ (x : ℕ). x == n) xs ≡ true → Contains xs n
-contained n [] e = absurd (true≢false (sym e))
-contained n (x ∷ xs) e = elim (or_cases (x == n) (list_any (λ (y : ℕ). y == n) xs) e) [
-  | inl same ↦ (0, omega arith, eqb-true x n same)
-  | inr more ↦ (let (k, less, is) = contained n xs more in (suc k, omega (arith, less), is))
-]
-
--- a plan without findings plans none of the network's own numbers
-own_numbers : (plan : Plan) → Clean plan → HaveOwnNumbers plan
-own_numbers plan clean k d less =
-    let number : ℕ = (get_or plan.groups.items k d).pgn in
-    let fine : ¬ IsForNoPlan number =
-    λ bad. clean (BadPgn k) (record { value = get_or plan.groups.items k d; value_is = slice_get-get_or plan.groups.items k d less; meets = inl bad }) in (
-      elim (cases_Bool (is_pgn number)) [
-        | inl is ↦ is
-        | inr e ↦ absurd (fine (inl (not_from_Decides (is_pgn number) (Decides-is_pgn number) e)))
-      ],
-      false_from_ne_true (is_service number) (λ e. fine (inr (inr (contained number service_groups e)))),
-    )
-
-no_transport : (n : ℕ) → is_service n ≡ false → ¬ IsTransport n
-no_transport n own (inl e) = true≢false (sym (ap is_service e) ∙ own)
-no_transport n own (inr e) = true≢false (sym (ap is_service e) ∙ own)
-
-tells_nothing : (f : Frame) → is_service (pgn_of f.ident) ≡ false → tells_of_addresses f ≡ false
-tells_nothing f own =
-    false_from_ne_true (tells_of_addresses f) (λ tells.
-    elim (or_cases (carries_name f) (requests_group f) tells) [
-      | inl name ↦
-          let number = (and_parts (pgn_of f.ident == address_claimed) (length f.payload.items == 8)
-          (and_parts (f.ident.edp == 0) (pgn_of f.ident == address_claimed && length f.payload.items == 8) name).1).0 in
-          true≢false (sym (ap is_service (eqb-true (pgn_of f.ident) address_claimed number)) ∙ own)
-      | inr asks ↦
-          let number = (and_parts (pgn_of f.ident == request) (length f.payload.items == 3)
-          (and_parts (f.ident.edp == 0) (pgn_of f.ident == request && length f.payload.items == 3) asks).1).0 in
-          true≢false (sym (ap is_service (eqb-true (pgn_of f.ident) request number)) ∙ own)
-    ])
 
 -- ---- what is told
 
