@@ -203,7 +203,7 @@ class Dbc:
     def parts_of(self, group: Place) -> list[Part]:
         """The signals and texts of a group that its shortest messages have, with their names."""
         if group not in self.parts:
-            found = [(place, False) for place in self.places.elements(group + ("signal",))]
+            found = [(place, False) for place in self.places.elements(group + ("signal",)) if self.is_in_each(group, place)]
             found += [(place, True) for place in self.places.elements(group + ("text",)) if self.is_in_shortest(group, place)]
             parts = [self.part(place, is_text) for place, is_text in found]
             names = Names()
@@ -212,6 +212,14 @@ class Dbc:
                 part.name = names.label(part.name)
             self.parts[group] = parts
         return self.parts[group]
+
+    def is_in_each(self, group: Place, signal: Place) -> bool:
+        """Whether the shortest messages of a group have a signal, which only an optional one can lack; else that is said."""
+        end = 8 * (self.places.integer(signal + ("byte",)) - 1) + self.number(signal, "bit", 1) - 1 + self.places.integer(signal + ("bits",))
+        if self.places.spelled.get(signal + ("optional",)) != "true" or end <= 8 * self.places.integer(group + ("length",)):
+            return True
+        self.notes.say(f"signal {self.label(signal)} of {self.label(group)}", "the group's shortest messages don't have it")
+        return False
 
     def is_in_shortest(self, group: Place, text: Place) -> bool:
         """Whether the shortest messages of a group have something of a text; else that is said."""
@@ -316,6 +324,8 @@ class Dbc:
                 self.notes.say(f"unit {label}", "a DBC has no chooser")
             if self.number(unit, "window", 255) != 255:
                 self.notes.say(f"unit {label}", "a DBC has no window")
+            if self.places.texts.get(unit + ("queue",)) == "any":
+                self.notes.say(f"unit {label}", "a DBC doesn't say that its controller keeps no order")
             if self.places.spelled.get(unit + ("claims",)) == "false":
                 self.notes.say(f"unit {label}", "a DBC doesn't say that it never claims its address")
 

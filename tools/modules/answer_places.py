@@ -254,6 +254,8 @@ def value_fault(plan: Plan, place: Place, key: str, cause: str) -> Told:
     shown = f"{key} = {spelled}" if 0 < len(spelled) < 50 and "\n" not in spelled else f"key {key}"
     if key == "repeated" and cause == "Range":
         return plan.line(place + (key,)), f"{shown}: the group has no key every"
+    if key == "optional" and cause == "Range":
+        return plan.line(place + (key,)), f"{shown}: the signal is repeated"
     word = plan.places.texts.get(place + (key,), "")
     if key == "kind" and not plan.knows(word):
         return plan.line(place + (key,)), f"{shown}: {since_when(plan, since()[word])}"

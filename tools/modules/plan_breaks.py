@@ -83,6 +83,8 @@ def of_signal(old: Part, new: Part | None, group: Part) -> tuple[str, str] | Non
         reasons.append(f"its value is {plan_scales.scale(new).shown}, and not {plan_scales.scale(old).shown}")
     if old["repeated"] != new["repeated"]:
         reasons.append("it is repeated" if new["repeated"] else "it isn't repeated")
+    if new["optional"] and not old["optional"]:
+        reasons.append("only longer messages have it")
     return ("wrong", "; ".join(reasons)) if reasons else None
 
 

@@ -31,7 +31,7 @@ class Lint:
     def hints(self) -> list[Hint]:
         """All hints, in the order of the file."""
         found = (self.unsent, self.idle, self.fixed_in_pool, self.short, self.urgent, self.equal_identities,
-                 self.unsendable, self.untaken, self.met_twice, self.unasked)
+                 self.unsendable, self.unordered, self.untaken, self.met_twice, self.unasked)
         return sorted({hint for part in found for hint in part()})
 
     def label(self, place: Place) -> str:
@@ -122,6 +122,17 @@ class Lint:
             if self.places.texts[flow + ("to",)] == "all" and most > FRAME_BYTES and period and packets * gap > period:
                 text = f"{packets} packets {gap} ms apart take {packets * gap} ms, more than its period of {period} ms"
                 yield self.at(flow + ("period",), f"{self.named(flow)}: {text}")
+
+    def unordered(self) -> Iterator[Hint]:
+        """Units whose controllers keep no order, and that send groups of two priorities: the urgent ones wait behind the others."""
+        priorities = {self.label(group): self.places.integer(group + ("priority",)) for group in self.groups}
+        for unit in self.units:
+            if self.places.texts.get(unit + ("queue",)) == "any":
+                groups = [self.places.texts[flow + ("group",)] for flow in self.flows if self.places.texts[flow + ("from",)] == self.label(unit)]
+                first, last = (find(groups, key=priorities.__getitem__, default="") for find in (min, max))
+                if first and priorities[first] < priorities[last]:
+                    text = f"{first} of priority {priorities[first]} may wait behind {last} of priority {priorities[last]}"
+                    yield self.at(unit + ("queue",), f"unit {self.label(unit)}: its controller keeps no order, so {text}")
 
     def untaken(self) -> Iterator[Hint]:
         """Flows to one unit that it doesn't need, in a plan with needs."""

@@ -66,4 +66,4 @@ def shown_place(signal: Part) -> str:
 def meaning(signal: Part) -> Hashable:
     """Where a signal lies and what it means: of two with the same one each reads what is written by the other."""
     step, offset, unit = scale(signal)
-    return place(signal), signal["kind"], step, offset, normal(unit), signal["repeated"]
+    return place(signal), signal["kind"], step, offset, normal(unit), signal["repeated"], signal["optional"]

@@ -39,7 +39,7 @@ class Unit:
 @dataclass(frozen=True)
 class Signal:
     """A signal of a group: where it begins, bytes and bits counted from 1, its width, what its raw numbers mean, its number of SAE J1939,
-    None where that isn't said, and names of raw numbers."""
+    None where that isn't said, names of raw numbers, and whether only messages have it that are long enough."""
 
     label: str
     byte: int
@@ -53,6 +53,7 @@ class Signal:
     repeated: bool
     spn: int | None = None
     values: dict[int, str] = field(default_factory=dict)
+    optional: bool = False
 
     @property
     def shown(self) -> str:
@@ -64,6 +65,10 @@ class Signal:
         """Its bits, counted from 0 in the group's data."""
         start = 8 * (self.byte - 1) + self.bit - 1
         return range(start, start + self.bits)
+
+    def is_there(self, length: int) -> bool:
+        """Whether data of this length has it."""
+        return not self.optional or self.span.stop <= 8 * length
 
     def value(self, raw: int) -> Fraction:
         """The value of a raw number."""
@@ -111,7 +116,8 @@ class Group:
     def lines(self, length: int) -> int:
         """How many lines `read` writes below that of a message of this length."""
         repeated = sum(signal.repeated for signal in self.signals)
-        return len(self.signals) - repeated + self.records(length) * repeated + len(self.texts)
+        single = sum(not signal.repeated and signal.is_there(length) for signal in self.signals)
+        return single + self.records(length) * repeated + len(self.texts)
 
 
 @dataclass(frozen=True)
@@ -283,4 +289,5 @@ class Tables:
             self._text(place, "kind"), self._number(place, "step", STEP), self._number(place, "per", PER), self._number(place, "offset"),
             self._text(place, "unit"), self._places.spelled.get(place + ("repeated",)) == "true",
             self._places.number(place + ("spn",)), self._values.get(place, {}),
+            self._places.spelled.get(place + ("optional",)) == "true",
         )

@@ -375,6 +375,16 @@ to = "DISPLAY"
         self.assertIn("text SPN234 of SOFT: the group's shortest messages have nothing of it\n", told)
         self.assertNotIn("SPN234", text_of(dbc))
 
+    def test_optional_signals(self):
+        """One that the shortest messages have is an ordinary signal; of another they have nothing."""
+        text = text_of(example("trouble_codes.toml")).replace("version = 3", "version = 4")
+        added = "".join(f'[[group.signal]]\nlabel = "{label}"\nbyte = {byte}\nbits = 8\nkind = "raw"\noptional = true\n'
+                        for label, byte in (("INSIDE", 7), ("OUTSIDE", 1700)))
+        dbc, told = self.made(self.write("plan.toml", text.replace("[[group.signal]]", added + "[[group.signal]]", 1)))
+        self.assertIn("signal OUTSIDE of DM1: the group's shortest messages don't have it\n", told)
+        self.assertIn(" SG_ INSIDE : 48|8@1+ ", text_of(dbc))
+        self.assertNotIn("OUTSIDE", text_of(dbc))
+
     def test_a_group_of_several_lengths(self):
         """Its message has the least one, so that others decode what goes in one frame; its first record is an ordinary signal."""
         dbc, told = self.made(example("trouble_codes.toml"))

@@ -103,6 +103,15 @@ class Lint(InFolder):
         self.assertEqual(self.lines(plan)[1], [*HINTS[:5], hint, "ok 4 units 4 groups 4 flows"])
         self.assertEqual(self.lines(plan + request)[1], [HINTS[0], *HINTS[2:5], "ok 4 units 4 groups 4 flows"])
 
+    def test_hints_at_queues(self):
+        """A unit whose controller keeps no order, and that sends groups of two priorities; of one priority there is no hint."""
+        flow = '[[flow]]\ngroup = "SHORT"\nfrom = "A"\nto = "all"\n'
+        plan = LINTED.replace("version = 2", "version = 4").replace("address = 0\n", 'address = 0\nqueue = "any"\n', 1) + flow
+        hint = "hint unit A: its controller keeps no order, so ET1 of priority 2 may wait behind SHORT of priority 6"
+        self.assertIn(hint, "".join(self.lines(plan)[1]))
+        for other in (plan.replace('"any"', '"priority"'), plan.replace(flow, "")):
+            self.assertNotIn("keeps no order", "".join(self.lines(other)[1]))
+
     def test_short_messages_of_a_group_of_several_lengths(self):
         """Those of fewer than 8 bytes go in one frame; where each has 8 or more there is no hint."""
         hint = "32: hint group SHORT: messages of 7 bytes and more; one of one frame has 8, unused ones filled with ones"
@@ -415,6 +424,21 @@ class Where(InFolder):
         self.assertEqual(self.answer(plan.replace("version = 3", "version = 2")), (2, [early]))
         early = "12: refused UnknownKey group 1 signal 1  (key repeated: only from version = 3 on)"
         self.assertEqual(self.answer(plan.replace("version = 3", "version = 2").replace("every = 3\n", "")), (2, [early]))
+
+    def test_optional_signals(self):
+        """Where one ends, that one which is repeated is none, and from which version on they are known."""
+        plan = (
+            'version = 4\n[[group]]\nlabel = "G"\npgn = 65226\npriority = 6\nlength = 8\nmost = 12\nevery = 4\n'
+            '[[group.signal]]\nlabel = "S"\nbyte = 13\nbits = 8\nkind = "raw"\noptional = true\n'
+        )
+        behind = ("11: F7 SignalOutside G S 104  (key byte: the signal ends behind the group's length, or, where it is optional, "
+                  "behind its longest messages)")
+        self.assertEqual(self.answer(plan), (1, [behind, "findings 1"]))
+        self.assertEqual(self.answer(plan.replace("byte = 13", "byte = 12")), (0, ["ok 0 units 1 groups 0 flows"]))
+        both = "14: refused Range group 1 signal 1 key optional  (optional = true: the signal is repeated)"
+        self.assertEqual(self.answer(plan + "repeated = true\n"), (2, [both]))
+        early = "14: refused UnknownKey group 1 signal 1  (key optional: only from version = 4 on)"
+        self.assertEqual(self.answer(plan.replace("version = 4", "version = 3")), (2, [early]))
 
     def test_each_shown_refusal_has_its_line(self):
         lines = [4, 2, 3, 9, 2, 8, 3, 3, 2, 11, 3, 2, 5, 4, 15, 14, 7, 9, 2, 16]

@@ -10,8 +10,8 @@ use Rattle.j39_world.specs.SoundPlan.{IsSound}
 pub record IsCertified (plan : Plan) : Type 0 where
   -- what holds in every run of the plan, and of its signals
   pub sound : IsSound plan
-  -- each flow whose messages go in one frame has a delay within its limit, which bounds its frames' time in every legal schedule of such
-  -- flows; and each with long messages to all and a written deadline has a time within it, which bounds theirs
+  -- each flow whose messages go in one frame has a delay within its limit, which bounds its frames' time in every schedule of such flows,
+  -- whether units keep order or don't; and each with long messages to all and a written deadline has a time within it, which bounds theirs
   pub in_time : (timing : Timing) → plan.timing ≡ Some timing → ArePlannedFramesInTime plan timing
-  -- of each need that asks for an age some flow that meets it brings nothing older, in every legal schedule of such flows
+  -- of each need that asks for an age some flow that meets it brings nothing older, in every schedule of such flows
   pub fresh : (timing : Timing) → plan.timing ≡ Some timing → AreNeedsFresh plan timing

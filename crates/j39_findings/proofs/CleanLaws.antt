@@ -1,6 +1,6 @@
 -- What 'no finding' says.
-use Rattle.std.proofs.Common.{◌≡◌, ℕ, ◌+◌, ◌*◌, ◌<◌, List, All, AllPairs, get_or, length, Bool, true, false, Decides, inl, inr, arith}
-use Rattle.std.proofs.lemmas.Bool.{cases_Bool, cases_lt}
+use Rattle.std.proofs.Common.{◌≡◌, ℕ, ◌+◌, ◌*◌, ◌<◌, List, All, AllPairs, get_or, length, Bool, true, false, Decides, refl, sym, ◌∙◌, ◌≤◌, if◌then◌else◌, inl, inr, arith}
+use Rattle.std.proofs.lemmas.Bool.{cases_Bool, cases_lt, false≢true}
 use Rattle.std.proofs.lemmas.Bool.Decides.{not_from_Decides}
 use Rattle.std.proofs.lemmas.Option.{slice_get-get_or}
 use Rattle.std.specs.FinSet.{contains}
@@ -9,7 +9,7 @@ use Rattle.j39_id.specs.Addresses.{in_pool}
 use Rattle.j39_id.specs.Pgn.{IsPgn, is_pgn}
 use Rattle.j39_id.specs.Proprietary.{is_proprietary}
 use Rattle.j39_signal.specs.Parts.{SignalParts}
-use Rattle.j39_signal.specs.Places.{WidthFits, IsInside, SharesBit, LaysOut, width_fits}
+use Rattle.j39_signal.specs.Places.{WidthFits, IsInside, SharesBit, LaysOut, LaysOutFrom, width_fits}
 use Rattle.j39_findings.specs.declared.plan.Plan.{Plan}
 use Rattle.j39_findings.specs.declared.plan.group_plan.GroupPlan.{GroupPlan}
 use Rattle.j39_findings.specs.declared.plan.unit_plan.UnitPlan.{UnitPlan}
@@ -18,7 +18,8 @@ use Rattle.j39_findings.specs.declared.checking.finding.Finding.TheVariants.{Sam
 use Rattle.j39_findings.specs.declared.checking.finding.Finding.TheVariants.{SignalOutside, SignalOverlap, FlowToOne, FlowToSelf, FlowRepeated, KeptAddress, PrivateUnsent, RecordOverlap, TextOutside, NeedUnmet}
 use Rattle.j39_findings.specs.declared.checking.finding.Finding.TheVariants.{RequestUnanswered, RequestUnheard, AnswerAstray, RequestRepeated}
 use Rattle.j39_findings.specs.ListPlaces.{ValueAt, PairAt}
-use Rattle.j39_findings.specs.Findings.{IsProprietary, HasBadPgn, IsOutside, Clean}
+use Rattle.j39_findings.specs.Findings.{EndsOutside, IsProprietary, HasBadPgn, IsOutside, Clean}
+use Rattle.j39_findings.specs.SignalPlaces.{room_of}
 use Rattle.j39_findings.specs.Findings.{IsServed, GoesUnanswered, GoesUnheard, IsAnsweredAstray, AskTheSame}
 use Rattle.j39_findings.specs.CleanParts.{CanBePlanned, IsAnsweredWell, LiesInside, CleanParts}
 use Rattle.j39_findings.specs.declared.checking.finding.Finding.TheVariants.{SilentAddress, SilentInPool}
@@ -81,20 +82,42 @@ at_group : (plan : Plan) (P : GroupPlan → Type 0) (g : ℕ) (d : GroupPlan) �
     → ValueAt P plan.groups.items g
 at_group plan P g d less meets = record { value = get_or plan.groups.items g d; value_is = slice_get-get_or plan.groups.items g d less; meets = meets }
 
+inside_longest : (o : Bool) (s : SignalParts) (length most : ℕ) → s.optional ≡ o → length ≤ most
+    → IsInside (if o then most else length) s → IsInside most s
+inside_longest true s length most is longer ends = ends
+inside_longest false s length most is longer ends = omega (arith, ends, longer)
+
+inside_shortest : (o : Bool) (s : SignalParts) (length most : ℕ) → s.optional ≡ o → s.optional ≡ false
+    → IsInside (if o then most else length) s → IsInside length s
+inside_shortest true s length most is always ends = absurd (false≢true (sym always ∙ is))
+inside_shortest false s length most is always ends = ends
+
 layout : (plan : Plan) → Clean plan → (g : ℕ) (d : GroupPlan) → g < length plan.groups.items
-    → LaysOut (get_or plan.groups.items g d).length (get_or plan.groups.items g d).signals.items
+    → LaysOutFrom (get_or plan.groups.items g d).length (get_or plan.groups.items g d).most (get_or plan.groups.items g d).signals.items
 layout plan clean g d less =
     let group = get_or plan.groups.items g d in
+    let ends : All (λ s. IsInside (room_of group.length group.most s) s) group.signals.items = λ s e in_group.
+    let signal = get_or group.signals.items s e in
+    inside (room_of group.length group.most signal) signal
+    (none_at (EndsOutside group) group.signals.items
+    (λ k at. clean (SignalOutside g k) (at_group plan _ g d less at)) s e in_group) in
     record {
+      longest = record {
+        some_bytes = omega (arith, group.length_positive, group.most_least);
+        most_bytes = group.most_range;
+        widths = λ s e in_group. fits (get_or group.signals.items s e)
+            (none_at (λ signal. ¬ WidthFits signal) group.signals.items
+            (λ k at. clean (SignalWidth g k) (at_group plan _ g d less at)) s e in_group);
+        inside = λ s e in_group.
+            let signal = get_or group.signals.items s e in
+            inside_longest signal.optional signal group.length group.most refl group.most_least (ends s e in_group);
+        apart = no_pair_at SharesBit group.signals.items (λ s t at. clean (SignalOverlap g s t) (at_group plan _ g d less at));
+      };
       some_bytes = group.length_positive;
-      most_bytes = group.length_range;
-      widths = λ s e in_group. fits (get_or group.signals.items s e)
-          (none_at (λ signal. ¬ WidthFits signal) group.signals.items
-          (λ k at. clean (SignalWidth g k) (at_group plan _ g d less at)) s e in_group);
-      inside = λ s e in_group. inside group.length (get_or group.signals.items s e)
-          (none_at (λ signal. ¬ IsInside group.length signal) group.signals.items
-          (λ k at. clean (SignalOutside g k) (at_group plan _ g d less at)) s e in_group);
-      apart = no_pair_at SharesBit group.signals.items (λ s t at. clean (SignalOverlap g s t) (at_group plan _ g d less at));
+      longer = group.most_least;
+      always = λ s e in_group always.
+          let signal = get_or group.signals.items s e in
+          inside_shortest signal.optional signal group.length group.most refl always (ends s e in_group);
     }
 
 lies_inside : (g : GroupPlan) (t : TextPlan) → ¬ IsOutside g t → LiesInside g t
@@ -103,30 +126,16 @@ lies_inside g t h = record {
   ends = elim (cases_lt g.most (last_byte t)) [ inl over ↦ absurd (h (inr over)) | inr is ↦ is ];
 }
 
--- signals that lay out the shortest messages of a group lay out its longer ones
-lays_out_longer : (plan : Plan) → Clean plan → All (λ g. (bytes : ℕ) → IsLengthOf g bytes → LaysOut bytes g.signals.items) plan.groups.items
-lays_out_longer plan clean g d less bytes of =
-    let group = get_or plan.groups.items g d in
-    let short = layout plan clean g d less in
-    let most = group.most_range in
-    record {
-      some_bytes = omega (arith, of.0, group.length_positive);
-      most_bytes = omega (arith, of.1, most);
-      widths = short.widths;
-      inside = λ s e in_group. omega (arith, short.inside s e in_group, of.0);
-      apart = short.apart;
-    }
-
 apart : (plan : Plan) → Clean plan → All IsApart plan.groups.items
 apart plan clean g d less = record {
   singles = λ i j at. clean (SignalOverlap g i j) (at_group plan _ g d less at);
   records = λ i j at. clean (RecordOverlap g i j) (at_group plan _ g d less at);
 }
 
--- with the signals of their records
+-- the signals of each message lay it out, those of its records too
 pub lays_out_each : (plan : Plan) → Clean plan → All (λ g. (bytes : ℕ) → IsLengthOf g bytes → LaysOut bytes (signals_in g bytes)) plan.groups.items
 lays_out_each plan clean g d less bytes of =
-    laid_with_records (get_or plan.groups.items g d) bytes (bits_once _ (apart plan clean g d less)) (lays_out_longer plan clean g d less bytes of) of.1
+    laid_with_records (get_or plan.groups.items g d) bytes (bits_once _ (apart plan clean g d less)) (layout plan clean g d less) of
 
 -- each request is answered
 served : (plan : Plan) → Clean plan → All (IsServed plan.flows.items) plan.requests.items

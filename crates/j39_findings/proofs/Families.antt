@@ -17,7 +17,7 @@ use Rattle.j39_findings.specs.declared.checking.finding.Finding.TheVariants.{Sil
 use Rattle.j39_findings.specs.ListPlaces.{found_if, in_each, each, pairs, ValueAt, PairAt}
 use Rattle.j39_claim.specs.AddressSets.{free_count}
 use Rattle.j39_findings.specs.Findings.{HaveSameName, HaveSameFixedAddress, HasBadPgn, HaveSamePgn, CannotGoToOne}
-use Rattle.j39_findings.specs.Findings.{GoesToItsSender, AreOneFlow, Holds, PrefersKept, IsPrivateUnsent, IsOutside, IsUnmet, IsBefore, IsBelow, finding_number, places_of}
+use Rattle.j39_findings.specs.Findings.{EndsOutside, GoesToItsSender, AreOneFlow, Holds, PrefersKept, IsPrivateUnsent, IsOutside, IsUnmet, IsBefore, IsBelow, finding_number, places_of}
 use Rattle.j39_findings.specs.Findings.{GoesUnanswered, GoesUnheard, IsAnsweredAstray, AskTheSame}
 use Rattle.j39_findings.specs.Findings.{HaveSilentAddress, IsSilentInPool}
 use Rattle.j39_findings.specs.Records.{record_count}
@@ -203,8 +203,8 @@ signals_covered plan =
     (each_inside plan 6 (λ group. group.signals.items) (λ group. has_other_width) (λ group s. ¬ WidthFits s) (λ group. Decides-has_other_width) SignalWidth
     (λ g s h. h) (λ g s. record { number = refl; places = refl }))
     (Covers-append plan 7 7 8 8 _ _ (omega arith) (omega arith) (omega arith)
-    (each_inside plan 7 (λ group. group.signals.items) (λ group. ends_outside group.length) (λ group s. ¬ IsInside group.length s)
-    (λ group. Decides-ends_outside group.length) SignalOutside (λ g s h. h) (λ g s. record { number = refl; places = refl }))
+    (each_inside plan 7 (λ group. group.signals.items) (λ group. ends_outside group.length group.most) EndsOutside
+    (λ group. Decides-ends_outside group.length group.most) SignalOutside (λ g s h. h) (λ g s. record { number = refl; places = refl }))
     (overlaps_covered plan))
 
 -- ---- flows

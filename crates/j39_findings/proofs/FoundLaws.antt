@@ -14,7 +14,7 @@ use Rattle.j39_findings.specs.declared.checking.finding.Finding.TheVariants.{Sil
 use Rattle.j39_findings.specs.ListPlaces.{in_each, each, pairs}
 use Rattle.j39_claim.specs.AddressSets.{free_count}
 use Rattle.j39_findings.specs.Findings.{HaveSameName, HaveSameFixedAddress, HasBadPgn, HaveSamePgn, CannotGoToOne}
-use Rattle.j39_findings.specs.Findings.{GoesToItsSender, AreOneFlow, PrefersKept, IsPrivateUnsent, IsOutside, IsUnmet, Holds, IsBefore, AreFindings, Clean}
+use Rattle.j39_findings.specs.Findings.{EndsOutside, GoesToItsSender, AreOneFlow, PrefersKept, IsPrivateUnsent, IsOutside, IsUnmet, Holds, IsBefore, AreFindings, Clean}
 use Rattle.j39_findings.specs.Findings.{GoesUnanswered, GoesUnheard, IsAnsweredAstray, AskTheSame}
 use Rattle.j39_findings.specs.Found.{goes_unanswered, goes_unheard, is_answered_astray, ask_the_same, request_findings}
 use Rattle.j39_findings.specs.Found.{have_same_name, have_same_fixed_address, needed_addresses, too_few_addresses, unit_findings, has_bad_pgn, have_same_pgn}
@@ -240,7 +240,7 @@ found_of plan (SignalWidth g s) h =
     (each_of (λ signal. ¬ WidthFits signal) Decides-has_other_width (SignalWidth g) h.value.signals.items s h.meets)))
 found_of plan (SignalOutside g s) h =
     signal_found plan _ (inr (inl (of_group plan outside_findings g h.value (SignalOutside g s) h.value_is
-    (each_of (λ signal. ¬ IsInside h.value.length signal) (Decides-ends_outside h.value.length) (SignalOutside g) h.value.signals.items s h.meets))))
+    (each_of (EndsOutside h.value) (Decides-ends_outside h.value.length h.value.most) (SignalOutside g) h.value.signals.items s h.meets))))
 found_of plan (SignalOverlap g s t) h =
     signal_found plan _ (inr (inr (of_group plan overlap_findings g h.value (SignalOverlap g s t) h.value_is
     (pairs_of SharesBit Decides-shares_bit (SignalOverlap g) h.value.signals.items s t h.meets))))

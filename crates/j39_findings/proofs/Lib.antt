@@ -8,6 +8,7 @@ pub mod LastWrites
 pub mod Lengths
 pub mod Meeting
 pub mod Members
+pub mod Optional
 pub mod PlaceLemmas
 pub mod PrivateGroups
 pub mod RecordBits

@@ -1,23 +1,25 @@
 -- Of a group in which no record comes onto another signal each bit is one signal's, and the signals of each message lay it out.
-use Rattle.std.proofs.Common.{◌≡◌, ◌≢◌, ◌⊎◌, ℕ, zero, suc, ◌+◌, ◌-◌, ◌*◌, ◌%◌, ◌<◌, ◌≤◌, Bool, true, false, not, List, [], ◌∷◌, ◌++◌, map, All, AllPairs, Contains, Some, None, Option, unwrap_or, refl, sym, ap, subst, ◌∙◌, inl, inr, arith}
+use Rattle.std.proofs.Common.{◌≡◌, ◌≢◌, ◌⊎◌, ℕ, zero, suc, ◌+◌, ◌-◌, ◌*◌, ◌%◌, ◌<◌, ◌≤◌, Bool, true, false, not, List, [], ◌∷◌, ◌++◌, map, get_or, All, AllPairs, Contains, Some, None, Option, unwrap_or, refl, sym, ap, subst, ◌∙◌, inl, inr, arith}
 use Rattle.std.specs.List.{filter, slice_get}
 use Rattle.std.specs.Option.{option_map_or}
 use Rattle.std.proofs.Math.Nat.{mul-add}
-use Rattle.std.proofs.lemmas.Bool.{cases_Bool, cases_lt, false≢true, not-true}
+use Rattle.std.proofs.lemmas.Bool.{and_parts, cases_Bool, cases_lt, false≢true, not-true}
 use Rattle.std.proofs.lemmas.List.Elements.{All-append, All-contains, All-contains_itself, All-filter, Contains-append_cases, filter_passes}
 use Rattle.std.proofs.lemmas.List.Kept.{AllPairs-filter}
 use Rattle.std.proofs.lemmas.Option.{same_Some, slice_get-get_or}
 use Rattle.j39_signal.specs.Parts.{SignalParts}
-use Rattle.j39_signal.specs.Places.{Covers, IsInside, LaysOut, SharesBit, WidthFits, further, width_fits}
+use Rattle.j39_signal.specs.Places.{Covers, IsAlwaysInside, IsInside, LaysOut, LaysOutFrom, is_there, SharesBit, WidthFits, further, width_fits}
+use Rattle.j39_signal.proofs.There.{inside_there}
 use Rattle.j39_signal.specs.declared.kind.Kind.{Kind}
 use Rattle.j39_signal.specs.declared.kind.Kind.TheVariants.{Measured, Discrete, Raw, States, Signed, Dtc}
 use Rattle.j39_findings.specs.declared.plan.group_plan.GroupPlan.{GroupPlan}
 use Rattle.j39_findings.specs.CleanParts.{HasBit, HasBitsOnce}
 use Rattle.j39_findings.specs.Findings.{ComesOnto, HasRecordsOver}
+use Rattle.j39_findings.specs.Lengths.{IsLengthOf}
 use Rattle.j39_findings.specs.ListPlaces.{PairAt}
-use Rattle.j39_findings.specs.Records.{single_signals, repeated_signals, record_signals, records_signals, record_count, signals_in}
+use Rattle.j39_findings.specs.Records.{single_signals, stands_once, repeated_signals, record_signals, records_signals, record_count, signals_in}
 use Rattle.j39_findings.proofs.Members.{all_at}
-use Rattle.j39_findings.proofs.RecordCounts.{longer_has, records_counted, signals_alone}
+use Rattle.j39_findings.proofs.RecordCounts.{longer_has, records_counted, singles_alone}
 use Rattle.j39_findings.proofs.Rising.{Rises, Rises-append, AllPairs-from_Rises, all_by_contains}
 
 -- ---- each bit is one signal's
@@ -163,9 +165,9 @@ first_place x d =
     let same : x.start ≡ x.start + 8 * (d * 0) = omega arith in
     ap (λ (n : ℕ). record x { start = n }) same
 
-single_placed : (g : GroupPlan) (x : SignalParts) → Contains (single_signals g.signals.items) x → IsPlaced g 0 x
-single_placed g x h =
-    let there = filtered (λ s. not s.repeated) g.signals.items x h in
+single_placed : (g : GroupPlan) (bytes : ℕ) (x : SignalParts) → Contains (single_signals bytes g.signals.items) x → IsPlaced g 0 x
+single_placed g bytes x h =
+    let there = filtered (stands_once bytes) g.signals.items x h in
     record { place = there.0; signal = x; signal_is = there.1.0; x_is = first_place x (distance g); stands = inr refl }
 
 record_placed : (g : GroupPlan) (every behind : ℕ) (x : SignalParts) → g.every ≡ Some every → behind < record_count g g.most
@@ -244,15 +246,15 @@ single_apart g k l x y once single repeated p q (bit, of_x, of_y) =
     let second : y.repeated ≡ q.signal.repeated = ap (λ (s : SignalParts). s.repeated) q.x_is in
     false≢true (sym single ∙ first ∙ ap (λ (s : SignalParts). s.repeated) one ∙ sym second ∙ repeated)
 
-is_single : (g : GroupPlan) (x : SignalParts) → Contains (single_signals g.signals.items) x → x.repeated ≡ false
-is_single g x h = not-true x.repeated (filtered (λ s. not s.repeated) g.signals.items x h).1.1
+is_single : (g : GroupPlan) (bytes : ℕ) (x : SignalParts) → Contains (single_signals bytes g.signals.items) x → x.repeated ≡ false
+is_single g bytes x h = not-true x.repeated (and_parts (not x.repeated) (is_there bytes x) (filtered (stands_once bytes) g.signals.items x h).1.1).0
 
 is_in_record : (g : GroupPlan) (n : ℕ) (x : SignalParts) → Contains (record_signals n g.signals.items) x → x.repeated ≡ true
 is_in_record g n x h =
     let moved = mapped (further n) (repeated_signals g.signals.items) x h in
     ap (λ (s : SignalParts). s.repeated) moved.1.1 ∙ (filtered (λ s. s.repeated) g.signals.items moved.0 moved.1.0).1.1
 
--- ---- what lays out a group's shortest messages lays out each message with its records
+-- ---- what lays out a group's messages lays out each message with the signals that are there, and with its records
 
 fits_further : (kind : Kind) (start bits n : ℕ) → width_fits kind start bits ≡ true → width_fits kind (start + 8 * n) bits ≡ true
 fits_further Measured start bits n fits = fits
@@ -269,44 +271,77 @@ record_inside : (g : GroupPlan) (every bytes behind : ℕ) → g.every ≡ Some 
     → All (IsInside bytes) (record_signals (every * behind) g.signals.items)
 record_inside g every bytes behind is less = ((records_counted g every bytes behind is).0 less).1
 
-records_laid : (g : GroupPlan) (bytes every : ℕ) → g.every ≡ Some every → HasBitsOnce g → LaysOut bytes g.signals.items → bytes ≤ g.most
-    → LaysOut bytes (single_signals g.signals.items ++ records_signals every (record_count g bytes) g.signals.items)
-records_laid g bytes every is once laid most =
+-- the signals of a group end inside messages of so many bytes, but for those that aren't there
+record LaysOutAt (g : GroupPlan) (bytes : ℕ) : Type 0 where
+  pub longest : LaysOut g.most g.signals.items
+  pub some_bytes : 1 ≤ bytes
+  pub shorter : bytes ≤ g.most
+  pub always : All (IsAlwaysInside bytes) g.signals.items
+
+singles_inside : (g : GroupPlan) (bytes : ℕ) → LaysOutAt g bytes → All (IsInside bytes) (single_signals bytes g.signals.items)
+singles_inside g bytes at = λ i d less.
+    let x = get_or (single_signals bytes g.signals.items) i d in
+    inside_there x bytes bytes (omega arith)
+    (All-filter (stands_once bytes) (IsAlwaysInside bytes) g.signals.items at.always i d less)
+    (and_parts (not x.repeated) (is_there bytes x) (filter_passes (stands_once bytes) g.signals.items i d less)).1
+
+singles_laid : (g : GroupPlan) (bytes : ℕ) → LaysOutAt g bytes → LaysOut bytes (single_signals bytes g.signals.items)
+singles_laid g bytes at =
+    let signals = g.signals.items in
+    record {
+      some_bytes = at.some_bytes;
+      most_bytes = omega (arith, at.shorter, at.longest.most_bytes);
+      widths = All-filter (stands_once bytes) WidthFits signals at.longest.widths;
+      inside = singles_inside g bytes at;
+      apart = AllPairs-filter AreApart (stands_once bytes) signals at.longest.apart;
+    }
+
+records_laid : (g : GroupPlan) (bytes every : ℕ) → g.every ≡ Some every → HasBitsOnce g → LaysOutAt g bytes
+    → LaysOut bytes (single_signals bytes g.signals.items ++ records_signals every (record_count g bytes) g.signals.items)
+records_laid g bytes every is once at =
+    let most = at.shorter in
+    let laid = at.longest in
+    let alone = singles_laid g bytes at in
     let signals = g.signals.items in
     let count = record_count g bytes in
-    let singles = single_signals signals in
+    let singles = single_signals bytes signals in
     let records = records_signals every count signals in
     let stands : (k : ℕ) → k < count → k < record_count g g.most = λ k less. longer_has g every bytes g.most k is most less in
     let ends : (x : SignalParts) → Contains records x → IsInside bytes x = λ x h.
     let there = records_placed g every count x h in
     All-contains (IsInside bytes) (record_signals (every * there.0) signals) x (record_inside g every bytes there.0 is there.1.0) there.1.1 in
     record {
-      some_bytes = laid.some_bytes;
-      most_bytes = laid.most_bytes;
-      widths = All-append WidthFits singles records (All-filter (λ s. not s.repeated) WidthFits signals laid.widths)
+      some_bytes = alone.some_bytes;
+      most_bytes = alone.most_bytes;
+      widths = All-append WidthFits singles records alone.widths
           (all_by_contains WidthFits records (λ x h.
           let there = records_placed g every count x h in
           let placed = record_placed g every there.0 x is (stands there.0 there.1.0) there.1.1 in
           subst WidthFits (sym placed.x_is) (fits_further placed.signal.kind placed.signal.start placed.signal.bits (distance g * there.0)
           (all_at WidthFits signals laid.widths placed.place placed.signal placed.signal_is))));
-      inside = All-append (IsInside bytes) singles records (All-filter (λ s. not s.repeated) (IsInside bytes) signals laid.inside)
+      inside = All-append (IsInside bytes) singles records alone.inside
           (all_by_contains (IsInside bytes) records ends);
       apart = AllPairs-from_Rises AreApart (singles ++ records) (Rises-append AreApart singles records
-          (rises_from singles (AllPairs-filter AreApart (λ s. not s.repeated) signals laid.apart))
+          (rises_from singles alone.apart)
           (records_rise g every count is laid.apart once stands)
           (λ x y in_singles in_records.
           let there = records_placed g every count y in_records in
-          single_apart g 0 there.0 x y once (is_single g x in_singles) (is_in_record g (every * there.0) y there.1.1)
-          (single_placed g x in_singles) (record_placed g every there.0 y is (stands there.0 there.1.0) there.1.1)));
+          single_apart g 0 there.0 x y once (is_single g bytes x in_singles) (is_in_record g (every * there.0) y there.1.1)
+          (single_placed g bytes x in_singles) (record_placed g every there.0 y is (stands there.0 there.1.0) there.1.1)));
     }
 
-laid_by : (g : GroupPlan) (bytes : ℕ) (o : Option ℕ) → g.every ≡ o → HasBitsOnce g → LaysOut bytes g.signals.items → bytes ≤ g.most
-    → LaysOut bytes (signals_in g bytes)
-laid_by g bytes None is once laid most = subst (LaysOut bytes) (sym (signals_alone g is bytes)) laid
-laid_by g bytes (Some every) is once laid most =
+laid_by : (g : GroupPlan) (bytes : ℕ) (o : Option ℕ) → g.every ≡ o → HasBitsOnce g → LaysOutAt g bytes → LaysOut bytes (signals_in g bytes)
+laid_by g bytes None is once at = subst (LaysOut bytes) (sym (singles_alone g is bytes)) (singles_laid g bytes at)
+laid_by g bytes (Some every) is once at =
     let signals = g.signals.items in
-    let here = ap (λ (o : Option ℕ). single_signals signals ++ option_map_or (λ n. records_signals n (record_count g bytes) signals) o []) is in
-    subst (LaysOut bytes) (sym here) (records_laid g bytes every is once laid most)
+    let here = ap (λ (o : Option ℕ). single_signals bytes signals ++ option_map_or (λ n. records_signals n (record_count g bytes) signals) o []) is in
+    subst (LaysOut bytes) (sym here) (records_laid g bytes every is once at)
 
-pub laid_with_records : (g : GroupPlan) (bytes : ℕ) → HasBitsOnce g → LaysOut bytes g.signals.items → bytes ≤ g.most → LaysOut bytes (signals_in g bytes)
-laid_with_records g bytes = laid_by g bytes g.every refl
+pub laid_with_records : (g : GroupPlan) (bytes : ℕ) → HasBitsOnce g → LaysOutFrom g.length g.most g.signals.items → IsLengthOf g bytes
+    → LaysOut bytes (signals_in g bytes)
+laid_with_records g bytes once laid of = laid_by g bytes g.every refl once (record {
+  longest = laid.longest;
+  some_bytes = omega (arith, laid.some_bytes, of.0);
+  shorter = of.1;
+  always = λ i d less always. omega (arith, laid.always i d less always, of.0);
+})

@@ -1,5 +1,6 @@
 -- How many records a message has, and plans without any.
-use Rattle.std.proofs.Common.{Some, ◌≡◌, ◌≢◌, ℕ, ◌+◌, ◌-◌, ◌*◌, ◌/◌, ◌<◌, ◌≤◌, max, Bool, true, false, not, ◌==◌, nat_lt, if◌then◌else◌, List, [], ◌∷◌, ◌++◌, map, get_or, All, None, Option, refl, sym, ap, subst, ◌∙◌, inl, inr, arith}
+use Rattle.std.proofs.Common.{Some, ◌≡◌, ◌≢◌, ℕ, ◌+◌, ◌-◌, ◌*◌, ◌/◌, ◌<◌, ◌≤◌, max, Bool, true, false, not, ◌&&◌, ◌==◌, nat_lt, if◌then◌else◌, List, [], ◌∷◌, ◌++◌, map, get_or, All, None, Option, refl, sym, ap, subst, ◌∙◌, inl, inr, arith}
+use Rattle.std.specs.List.{filter}
 use Rattle.std.specs.Option.{option_map_or}
 use Rattle.std.proofs.Math.Nat.{le-div_iff_mul-le, mul_comm}
 use Rattle.std.proofs.lemmas.Bool.{cases_Bool, eqb-false, false≢true, le-ltb, ltb-false, ne_eqb}
@@ -7,7 +8,7 @@ use Rattle.std.proofs.lemmas.List.{append-nil}
 use Rattle.std.proofs.lemmas.List.Elements.{All-cons, All-head, All-nil, All-tail, All-weaker}
 use Rattle.std.proofs.lemmas.Option.{none-some}
 use Rattle.j39_signal.specs.Parts.{SignalParts, HasRanges}
-use Rattle.j39_signal.specs.Places.{IsInside, end_of, further}
+use Rattle.j39_signal.specs.Places.{IsInside, end_of, further, is_there}
 use Rattle.j39_findings.specs.declared.plan.Plan.{Plan}
 use Rattle.j39_findings.specs.declared.plan.group_plan.GroupPlan.{GroupPlan}
 use Rattle.j39_findings.specs.Records.{single_signals, repeated_signals, record_signals, records_signals, last_end, first_bytes, count_inside}
@@ -135,21 +136,28 @@ longer_has group every bytes most behind is longer less =
 
 -- ---- plans without records
 
-single_with : (b : Bool) (s : SignalParts) (xs ys : List SignalParts) → b ≡ false → xs ≡ ys → (if not b then s ∷ xs else xs) ≡ s ∷ ys
-single_with true s xs ys once same = absurd (false≢true (sym once))
-single_with false s xs ys once same = ap (λ (others : List SignalParts). s ∷ others) same
+single_with : (b c : Bool) (s : SignalParts) (xs ys : List SignalParts) → b ≡ false → xs ≡ ys
+    → (if not b && c then s ∷ xs else xs) ≡ (if c then s ∷ ys else ys)
+single_with true c s xs ys once same = absurd (false≢true (sym once))
+single_with false c s xs ys once same = ap (λ (others : List SignalParts). if c then s ∷ others else others) same
 
-pub all_single : (signals : List SignalParts) → All (λ s. s.repeated ≡ false) signals → single_signals signals ≡ signals
-all_single [] none = refl
-all_single (s ∷ rest) none =
+all_single : (bytes : ℕ) (signals : List SignalParts) → All (λ s. s.repeated ≡ false) signals
+    → single_signals bytes signals ≡ filter (is_there bytes) signals
+all_single bytes [] none = refl
+all_single bytes (s ∷ rest) none =
     let once = All-head (λ t. t.repeated ≡ false) s rest none in
-    single_with s.repeated s (single_signals rest) rest once (all_single rest (All-tail (λ t. t.repeated ≡ false) s rest none))
+    single_with s.repeated (is_there bytes s) s (single_signals bytes rest) (filter (is_there bytes) rest) once
+    (all_single bytes rest (All-tail (λ t. t.repeated ≡ false) s rest none))
 
-pub signals_alone : (group : GroupPlan) → group.every ≡ None → (bytes : ℕ) → signals_in group bytes ≡ group.signals.items
-signals_alone group is bytes =
+-- a message of a group without records has those of its signals that aren't repeated
+pub singles_alone : (group : GroupPlan) → group.every ≡ None → (bytes : ℕ) → signals_in group bytes ≡ single_signals bytes group.signals.items
+singles_alone group is bytes =
     let signals = group.signals.items in
-    ap (λ (o : Option ℕ). single_signals signals ++ option_map_or (λ every. records_signals every (record_count group bytes) signals) o []) is
-    ∙ append-nil (single_signals signals) ∙ all_single signals (group.every_needed is)
+    ap (λ (o : Option ℕ). single_signals bytes signals ++ option_map_or (λ every. records_signals every (record_count group bytes) signals) o []) is
+    ∙ append-nil (single_signals bytes signals)
+
+signals_alone : (group : GroupPlan) → group.every ≡ None → (bytes : ℕ) → signals_in group bytes ≡ filter (is_there bytes) group.signals.items
+signals_alone group is bytes = singles_alone group is bytes ∙ all_single bytes group.signals.items (group.every_needed is)
 
 pub without_records : (plan : Plan) → HasNoRecords plan → IsWithoutRecords plan
 without_records plan none = record {

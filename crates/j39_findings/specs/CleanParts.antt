@@ -6,7 +6,7 @@ use Rattle.j39_id.specs.Addresses.{in_pool}
 use Rattle.j39_id.specs.Name.{is_arbitrary}
 use Rattle.j39_id.specs.Pgn.{IsPgn, extended_page}
 use Rattle.j39_id.specs.Services.{service_groups}
-use Rattle.j39_signal.specs.Places.{Covers, LaysOut, further}
+use Rattle.j39_signal.specs.Places.{Covers, LaysOutFrom, further}
 use Rattle.j39_findings.specs.ListPlaces.{ValueAt, SomeMeets}
 use Rattle.j39_findings.specs.Records.{record_count}
 use Rattle.j39_findings.specs.TextPlaces.{last_byte}
@@ -73,7 +73,7 @@ pub record CleanParts (plan : Plan) : Type 0 where
   pub not_kept : All (λ u. is_arbitrary u.name ≡ true → contains plan.keep_free u.address ≡ false) plan.units.items
   pub groups : All CanBePlanned plan.groups.items
   pub pgns : AllPairs (HaveOwnPgn plan) plan.groups.items
-  pub layouts : All (λ g. LaysOut g.length g.signals.items) plan.groups.items
+  pub layouts : All (λ g. LaysOutFrom g.length g.most g.signals.items) plan.groups.items
   pub to_one : All (λ f. IsToOne f → ¬ ValueAt IsOneFrameToAll plan.groups.items f.group) plan.flows.items
   pub to_self : All (λ f. f.to ≢ One f.sender) plan.flows.items
   pub flows : AllPairs (λ f h. ¬ AreOneFlow f h) plan.flows.items

@@ -16,6 +16,7 @@ use Rattle.j39_signal.specs.Parts.{SignalParts}
 use Rattle.j39_signal.specs.Places.{Covers, WidthFits, IsInside, SharesBit, further}
 use Rattle.j39_findings.specs.ListPlaces.{ValueAt, PairAt, SomeMeets, SoManyMeet}
 use Rattle.j39_findings.specs.Records.{record_count}
+use Rattle.j39_findings.specs.SignalPlaces.{room_of}
 use Rattle.j39_findings.specs.TextPlaces.{last_byte}
 use Rattle.j39_findings.specs.declared.plan.Plan.{Plan}
 use Rattle.j39_findings.specs.declared.plan.unit_plan.UnitPlan.{UnitPlan}
@@ -129,6 +130,12 @@ GoesToItsSender flow = flow.to ≡ One flow.sender
 
 abbrev pub AreOneFlow : FlowPlan → FlowPlan → Type 0
 AreOneFlow f h = (f.group ≡ h.group) × (f.sender ≡ h.sender) × (f.to ≡ h.to)
+
+-- ---- signals
+
+-- a signal that ends behind the shortest message, or, where it is optional, behind the longest
+abbrev pub EndsOutside : GroupPlan → SignalParts → Type 0
+EndsOutside group signal = ¬ IsInside (room_of group.length group.most signal) signal
 
 -- ---- texts
 
@@ -245,7 +252,7 @@ Holds plan (TooFewAddresses n) = AreNeeded plan n × (free_count plan.keep_free 
 Holds plan (BadPgn g) = ValueAt HasBadPgn plan.groups.items g
 Holds plan (SamePgn g h) = PairAt (HaveSamePgn plan.groups.items plan.flows.items) plan.groups.items g h
 Holds plan (SignalWidth g s) = ValueAt (λ group. ValueAt (λ signal. ¬ WidthFits signal) group.signals.items s) plan.groups.items g
-Holds plan (SignalOutside g s) = ValueAt (λ group. ValueAt (λ signal. ¬ IsInside group.length signal) group.signals.items s) plan.groups.items g
+Holds plan (SignalOutside g s) = ValueAt (λ group. ValueAt (EndsOutside group) group.signals.items s) plan.groups.items g
 Holds plan (SignalOverlap g s t) = ValueAt (λ group. PairAt SharesBit group.signals.items s t) plan.groups.items g
 Holds plan (FlowToOne f) = ValueAt (CannotGoToOne plan.groups.items) plan.flows.items f
 Holds plan (FlowToSelf f) = ValueAt GoesToItsSender plan.flows.items f

@@ -16,6 +16,7 @@ use Rattle.j39_signal.specs.Parts.{SignalParts}
 use Rattle.j39_signal.specs.Places.{width_fits, is_inside, shares_bit, end_of, further}
 use Rattle.j39_findings.specs.ListPlaces.{found_if, each, pairs, in_each}
 use Rattle.j39_findings.specs.Records.{record_count}
+use Rattle.j39_findings.specs.SignalPlaces.{room_of}
 use Rattle.j39_findings.specs.TextPlaces.{last_byte}
 use Rattle.j39_findings.specs.declared.plan.Plan.{Plan}
 use Rattle.j39_findings.specs.declared.plan.unit_plan.UnitPlan.{UnitPlan}
@@ -143,14 +144,14 @@ unsent_findings groups flows = each (is_private_unsent groups flows) PrivateUnse
 abbrev pub has_other_width : SignalParts → Bool
 has_other_width signal = not (width_fits signal.kind signal.start signal.bits)
 
-abbrev pub ends_outside : ℕ → SignalParts → Bool
-ends_outside length signal = not (is_inside length signal)
+abbrev pub ends_outside : ℕ → ℕ → SignalParts → Bool
+ends_outside length most signal = not (is_inside (room_of length most signal) signal)
 
 abbrev pub width_findings : ℕ → GroupPlan → List Finding
 width_findings g group = each has_other_width (SignalWidth g) 0 group.signals.items
 
 abbrev pub outside_findings : ℕ → GroupPlan → List Finding
-outside_findings g group = each (ends_outside group.length) (SignalOutside g) 0 group.signals.items
+outside_findings g group = each (ends_outside group.length group.most) (SignalOutside g) 0 group.signals.items
 
 abbrev pub overlap_findings : ℕ → GroupPlan → List Finding
 overlap_findings g group = pairs shares_bit (SignalOverlap g) group.signals.items

@@ -14,6 +14,8 @@ pub mod PrivateGroups
 pub mod Records
 pub mod Refused
 pub mod Requests
+pub mod SignalPlaces
 pub mod SoundSignals
 pub mod TextPlaces
+pub mod WithoutOptional
 pub mod WithoutRecords

@@ -2,7 +2,7 @@
 use Rattle.std.specs.Prelude.{◌≢◌, ℕ, ◌⊎◌, List, take, All}
 use Rattle.j39_id.specs.Pgn.{IsPgn}
 use Rattle.j39_signal.specs.LayoutParts.{LayoutParts}
-use Rattle.j39_signal.specs.Places.{LaysOut}
+use Rattle.j39_signal.specs.Places.{IsAlwaysInside, LaysOutFrom}
 use Rattle.j39_signal.specs.Refusals.{HasLayoutFault}
 use Rattle.j39_signal.specs.declared.layout_error.LayoutError.{LayoutError}
 use Rattle.j39_signal.specs.declared.layout_error.LayoutError.TheVariants.{Memory as NoMemory}
@@ -13,17 +13,20 @@ use Rattle.j39_findings.specs.declared.planned_groups.GroupFault.TheVariants.{Re
 
 -- the layout of a group
 abbrev pub layout_of : GroupPlan → LayoutParts
-layout_of group = record { length = group.length; signals = group.signals.items }
+layout_of group = record { length = group.length; most = group.most; signals = group.signals.items }
 
--- the group's number is one of a group, and its signals lay out its payload
+-- the group's number is one of a group, and its signals lay out its payloads
 pub record IsSendable (group : GroupPlan) : Type 0 where
   pub number : IsPgn group.pgn
-  pub layout : LaysOut group.length group.signals.items
+  pub layout : LaysOutFrom group.length group.most group.signals.items
 
--- its number is no group's, or there is a fault that keeps its signals from being a layout
+-- its number is no group's, there is a fault that keeps its signals from laying out its longest payloads, or one of them that isn't optional
+-- ends behind the shortest
 abbrev pub IsRefusedGroup : GroupPlan → Type 0
 IsRefusedGroup group =
-    (¬ IsPgn group.pgn) ⊎ ((e : LayoutError) × (e ≢ NoMemory) × HasLayoutFault group.length group.signals.items e)
+    (¬ IsPgn group.pgn)
+    ⊎ (((e : LayoutError) × (e ≢ NoMemory) × HasLayoutFault group.most group.signals.items e)
+    ⊎ (¬ All (IsAlwaysInside group.length) group.signals.items))
 
 -- what keeps a group from having a layout; where it is memory alone, it could have one
 abbrev pub HasGroupFault : GroupPlan → GroupFault → Type 0

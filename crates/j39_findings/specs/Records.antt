@@ -1,15 +1,19 @@
 -- The records of a group (of diagnostic trouble codes: SAE J1939-73): its signals that are repeated make the first record, and each later
 -- record has them once more, some bytes behind the record before it.
-use Rattle.std.specs.Prelude.{◌≡◌, ◌≢◌, ◌↔◌, ℕ, zero, suc, ◌+◌, ◌-◌, ◌*◌, ◌/◌, ◌<◌, max, not, ◌==◌, ◌||◌, nat_lt, if◌then◌else◌, List, [], ◌∷◌, ◌++◌, map, All, Some}
+use Rattle.std.specs.Prelude.{◌≡◌, ◌≢◌, ◌↔◌, ℕ, zero, suc, ◌+◌, ◌-◌, ◌*◌, ◌/◌, ◌<◌, max, Bool, not, ◌==◌, ◌||◌, ◌&&◌, nat_lt, if◌then◌else◌, List, [], ◌∷◌, ◌++◌, map, All, Some}
 use Rattle.std.specs.List.{filter}
 use Rattle.std.specs.Option.{option_map_or}
 use Rattle.j39_signal.specs.Parts.{SignalParts}
-use Rattle.j39_signal.specs.Places.{end_of, further, IsInside}
+use Rattle.j39_signal.specs.Places.{end_of, further, IsInside, is_there}
 use Rattle.j39_findings.specs.declared.plan.group_plan.GroupPlan.{GroupPlan}
 
--- the signals that aren't repeated, and those that are, as the first record has them
-abbrev pub single_signals : List SignalParts → List SignalParts
-single_signals = filter (λ s. not s.repeated)
+-- the signals that aren't repeated, of which a message of so many bytes has those that are there, and those that are repeated, as the
+-- first record has them
+abbrev pub stands_once : ℕ → SignalParts → Bool
+stands_once bytes s = not s.repeated && is_there bytes s
+
+abbrev pub single_signals : ℕ → List SignalParts → List SignalParts
+single_signals bytes = filter (stands_once bytes)
 
 abbrev pub repeated_signals : List SignalParts → List SignalParts
 repeated_signals = filter (λ s. s.repeated)
@@ -45,10 +49,10 @@ count_inside every first bytes = if first == 0 || nat_lt bytes first then 0 else
 abbrev pub record_count : GroupPlan → ℕ → ℕ
 record_count group bytes = option_map_or (λ every. count_inside every (first_bytes group.signals.items) bytes) group.every 0
 
--- the signals that a message of so many bytes has: those that aren't repeated, and those of each record
+-- the signals that a message of so many bytes has: those that aren't repeated and are there, and those of each record
 abbrev pub signals_in : GroupPlan → ℕ → List SignalParts
 signals_in group bytes =
-    single_signals group.signals.items
+    single_signals bytes group.signals.items
     ++ option_map_or (λ every. records_signals every (record_count group bytes) group.signals.items) group.every []
 
 -- ---- a law

@@ -38,7 +38,7 @@ pub record ReadsLastGiven (bytes : ℕ) (signals : List SignalParts) : Type 0 wh
   pub never_given : (writes : List Write) (place : ℕ) → Chain signals (blank bytes) writes → LeaveAlone writes place
       → place < length signals → HoldsAt (λ s. state_after_writes bytes writes s ≡ unset_state s) signals place
 
--- so it is in messages of each length that a group has, of the signals that aren't repeated and of those of each record
+-- so it is in messages of each length that a group has, of the signals that aren't repeated and are there, and of those of each record
 pub record SoundSignals (plan : Plan) : Type 0 where
   pub writes : All (λ g. (bytes : ℕ) → IsLengthOf g bytes → KeepsWrites bytes (signals_in g bytes)) plan.groups.items
   pub read : All (λ g. All ReadsBack g.signals.items) plan.groups.items

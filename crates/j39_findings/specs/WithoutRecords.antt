@@ -1,5 +1,7 @@
 -- Plans without repeated parts.
 use Rattle.std.specs.Prelude.{◌≡◌, ℕ, All, None}
+use Rattle.std.specs.List.{filter}
+use Rattle.j39_signal.specs.Places.{is_there}
 use Rattle.j39_findings.specs.declared.plan.Plan.{Plan}
 use Rattle.j39_findings.specs.declared.checking.finding.Finding.TheVariants.{RecordOverlap}
 use Rattle.j39_findings.specs.Findings.{Holds}
@@ -8,7 +10,7 @@ use Rattle.j39_findings.specs.Records.{signals_in}
 abbrev pub HasNoRecords : Plan → Type 0
 HasNoRecords plan = All (λ group. group.every ≡ None) plan.groups.items
 
--- of a plan without records F14 says nothing, and each message has the signals of its group
+-- of a plan without records F14 says nothing, and each message has those signals of its group that are there
 pub record IsWithoutRecords (plan : Plan) : Type 0 where
   pub overlaps : (g s t : ℕ) → ¬ Holds plan (RecordOverlap g s t)
-  pub signals : All (λ group. (bytes : ℕ) → signals_in group bytes ≡ group.signals.items) plan.groups.items
+  pub signals : All (λ group. (bytes : ℕ) → signals_in group bytes ≡ filter (is_there bytes) group.signals.items) plan.groups.items

@@ -1,5 +1,6 @@
 //! The layouts of planned groups.
-ghost use Rattle.std.specs.Prelude.{◌≡◌, IfOk, IfErr, OnOk};
+ghost use Rattle.std.specs.Prelude.{◌≡◌, ◌↔◌, All, IsTrue, IfOk, IfErr, OnOk};
+ghost use Rattle.j39_signal.specs.Places.{IsAlwaysInside};
 ghost use Rattle.j39_findings.specs.PlannedGroups.{HasGroupFault, IsSendable, layout_of as parts_of};
 
 use crate::GroupPlan;
@@ -10,13 +11,20 @@ use std::alloc::Global;
 /// Why a planned group has no layout.
 #[derive(Clone, Copy, Debug, PartialEq, Eq)]
 pub enum GroupFault {
-    /// Its number is no group's, or its signals don't lay out its payload.
+    /// Its number is no group's, or its signals don't lay out its payloads.
     Refused,
     /// Memory was refused, and nothing but that stands against the group.
     Memory,
 }
 
-/// The layout of a planned group whose number is one of a group.
+// Whether each signal that isn't optional ends inside the shortest messages.
+fn are_always_inside(group: &GroupPlan) -> bool
+    ensures { IsTrue result ↔ All (IsAlwaysInside group.now.length) group.now.signals.items }
+{
+    group.signals.iter().all(|signal| signal.is_optional() || signal.is_inside(group.length))
+}
+
+/// The layout of a planned group whose number is one of a group: of all its messages, from the shortest to the longest.
 pub fn layout_of(alloc: Global, group: &GroupPlan) -> Result<Layout, GroupFault>
     ensures layout { IfOk result (λ layout. layout ≡ parts_of group.now) }
     ensures sendable { OnOk result (IsSendable group.now) }
@@ -25,9 +33,16 @@ pub fn layout_of(alloc: Global, group: &GroupPlan) -> Result<Layout, GroupFault>
     if Pgn::new(group.pgn).is_none() {
         return Err(GroupFault::Refused);
     }
-    match Layout::new(alloc, group.length, group.signals.as_slice()) {
-        Ok(layout) => Ok(layout),
-        Err(LayoutError::Memory) => Err(GroupFault::Memory),
-        Err(_other) => Err(GroupFault::Refused),
+    if !are_always_inside(group) {
+        return Err(GroupFault::Refused);
+    }
+    let layout = match Layout::new(alloc, group.most, group.signals.as_slice()) {
+        Ok(layout) => layout,
+        Err(LayoutError::Memory) => return Err(GroupFault::Memory),
+        Err(_other) => return Err(GroupFault::Refused),
+    };
+    match layout.from_length(group.length) {
+        Some(layout) => Ok(layout),
+        None => unreachable!(),
     }
 }

@@ -1,6 +1,6 @@
 //! The records of a group.
 ghost use Rattle.std.specs.Prelude.{◌≡◌, ◌≤◌};
-ghost use Rattle.j39_findings.specs.Records.{first_bytes, last_end, record_count, repeated_end};
+ghost use Rattle.j39_findings.specs.Records.{first_bytes, last_end, record_count, repeated_end, stands_once};
 
 use crate::plan::GroupPlan;
 use j39_signal::Signal;
@@ -34,6 +34,14 @@ fn first_bytes(signals: &[Signal]) -> usize
 {
     let bytes = (last_end(signals) + 7) / 8;
     bytes as usize
+}
+
+/// Whether a signal of a group isn't repeated, and a message of so many bytes has it. It is asked at each signal of a frame.
+#[inline(always)]
+pub fn stands_once(signal: &Signal, bytes: usize) -> bool
+    ensures { result ≡ stands_once bytes signal.now }
+{
+    !signal.is_repeated() && signal.is_there(bytes)
 }
 
 impl GroupPlan {

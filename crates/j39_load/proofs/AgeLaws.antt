@@ -25,22 +25,14 @@ use Rattle.j39_load.specs.LoadFindings.{AreLoadFindings, AsksOfBus, load_finding
 use Rattle.j39_load.specs.Asked.{asked_of, total_load}
 use Rattle.j39_load.specs.Loads.{bits_of_ms, load_of_flow, loads_of}
 use Rattle.j39_load.specs.Places.{told_from}
-use Rattle.j39_load.proofs.BoundedFlows.{bounded, none_of_two, told_nothing}
+use Rattle.j39_load.proofs.BoundedFlows.{bounded}
+use Rattle.j39_load.proofs.LeastKnown.{least_of_both}
+use Rattle.j39_load.proofs.StreamsBefore.{none_of_two, told_nothing}
 use Rattle.j39_timing.proofs.Ages.{fresh}
 use Rattle.j39_timing.specs.Ages.{IsFresh}
 use Rattle.j39_findings.specs.ListPlaces.{SomeMeets}
 
 -- ---- the least of some numbers
-
-smaller_together : (a b c : Option ℕ) → smaller_known (smaller_known a b) c ≡ smaller_known a (smaller_known b c)
-smaller_together None b c = refl
-smaller_together (Some x) None c = refl
-smaller_together (Some x) (Some y) None = refl
-smaller_together (Some x) (Some y) (Some z) = ap Some (omega arith)
-
-pub least_of_both : (xs ys : List ℕ) → least (xs ++ ys) ≡ smaller_known (least xs) (least ys)
-least_of_both [] ys = refl
-least_of_both (x ∷ xs) ys = ap (smaller_known (Some x)) (least_of_both xs ys) ∙ sym (smaller_together (Some x) (least xs) (least ys))
 
 -- the smaller of two numbers is one of them
 one_of_smaller : (a b : Option ℕ) (n : ℕ) → smaller_known a b ≡ Some n → (a ≡ Some n) ⊎ (b ≡ Some n)
@@ -176,10 +168,14 @@ module _ (plan : Plan) (timing : Timing) (clean : Clean plan) (stays : UnitPlan 
           delayed = delayed;
           young = omega (arith, young, sum.sum);
           bounded = bound;
-          fresh = λ s planned of legal known from to coming seen.
+          in_any_order = λ s controllers planned of legal known from to coming seen.
               subst (λ (b : ℕ). IsFresh s planned of place (bits_of_ms timing sum.pause + b) (from + b) (to + b)) (sym bound.sum)
               (fresh s planned of place bound.frames.stream bound.wait (bits_of_ms timing sum.pause) from to
-              (bound.bounds s planned of legal known) coming seen);
+              (bound.in_any_order s controllers planned of legal known) coming seen);
+          fresh = λ ordered s planned of legal known from to coming seen.
+              subst (λ (b : ℕ). IsFresh s planned of place (bits_of_ms timing sum.pause + b) (from + b) (to + b)) (sym bound.sum)
+              (fresh s planned of place bound.frames.stream bound.wait (bits_of_ms timing sum.pause) from to
+              (bound.bounds ordered s planned of legal known) coming seen);
         }
 
 pub fresh_where_checked : (plan : Plan) (timing : Timing) → Clean plan → AreLoadFindings plan (Some timing) [] → AreNeedsFresh plan timing

@@ -1,5 +1,5 @@
 -- What a plan asks of a bus is one: whoever tells who stays tells the same loads and the same delays.
-use Rattle.std.proofs.Common.{◌≡◌, ℕ, ◌≤◌, Bool, true, false, not, ◌&&◌, if◌then◌else◌, List, [], ◌∷◌, length, map, min, max, inl, inr, Option, Some, None}
+use Rattle.std.proofs.Common.{◌≡◌, ℕ, ◌<◌, ◌≤◌, Bool, true, false, not, ◌&&◌, if◌then◌else◌, List, [], ◌∷◌, length, map, min, max, inl, inr, Option, Some, None}
 use Rattle.std.proofs.Common.{refl, sym, ap, ◌∙◌, subst, arith, option_map}
 use Rattle.std.proofs.lemmas.Bool.{cases_lt}
 use Rattle.std.proofs.lemmas.List.{ext_get_or}
@@ -28,14 +28,17 @@ use Rattle.j39_load.specs.declared.messages.Messages.TheVariants.{Short, ToAll, 
 use Rattle.j39_load.specs.declared.request_load.RequestLoad.{RequestLoad}
 use Rattle.j39_load.specs.declared.unit_load.UnitLoad.{UnitLoad}
 use Rattle.j39_load.specs.declared.whole_time.WholeTime.{WholeTime}
+use Rattle.j39_load.specs.AnyQueues.{IsCompanyLevel, IsCompanyWait, IsHeldFor, IsOffer, IsWaitWith, Offer, TellWaits, blocking_with, keep_order, leasts_of, may_be_passed, offered, streams_with, unheld, with_unplanned}
 use Rattle.j39_load.specs.Asked.{Asked, asked_by, asked_of, frames_asked}
 use Rattle.j39_load.specs.Broadcasts.{broadcast_frames, broadcasts_by, known_unit_load, least_packets, unit_loads_of}
-use Rattle.j39_load.specs.Delays.{HasDelay, IsDelay, IsDelayOf, IsLeastWait, IsShortDelay, IsTurnTimeBy, IsWaitOf, IsWholeTime, TellDelays, announcements_place, known_turn_time, need_of, packets_place, whole_time}
+use Rattle.j39_load.specs.Delays.{HasDelayBy, IsDelay, IsDelayOf, IsFrameDelay, IsLeastWait, IsShortDelay, IsTurnTimeBy, IsWaitIn, IsWaitOf, IsWholeTime, TellDelays, announcements_place, any_delay, known_turn_time, need_of, packets_place, whole_time}
 use Rattle.j39_load.specs.LoadFindings.{AsksOfBus}
-use Rattle.j39_load.specs.Loads.{destination_at, flow_load, group_ident, load_of_flow, loads_of, long_messages, of_unit, packet_frames, packet_ident, single_frames}
+use Rattle.j39_load.specs.Loads.{destination_at, flow_load, group_ident, load_of_flow, loads_of, long_messages, of_unit, packet_frames, packet_ident, session_ident, single_frames}
 use Rattle.j39_load.specs.Requests.{load_of_request, request_ident, request_load, request_loads_of}
 use Rattle.j39_load.specs.Standing.{TellsWhoStays}
 use Rattle.j39_timing.specs.Traffic.{delay_of}
+use Rattle.j39_timing.specs.Waits.{HaveNoRoom, need}
+use Rattle.j39_timing.specs.declared.stream.Stream.{Stream}
 use Rattle.j39_tp.specs.Chunks.{packets_of}
 
 -- a statement is told in one way
@@ -87,9 +90,13 @@ module _ (plan : Plan) (timing : Timing) (stays other : UnitPlan → Bool) (tell
       → single_frames timing plan.units.items stays flow pace group ≡ single_frames timing plan.units.items other flow pace group
   singles_same flow pace group = rw (group_same least_by group flow, group_same greatest_by group flow) refl
 
+  session_same : (flow : FlowPlan) (v : ℕ) → session_ident timing (of_unit plan.units.items (λ x. greatest_by (stays x) x)) flow v
+      ≡ session_ident timing (of_unit plan.units.items (λ x. greatest_by (other x) x)) flow v
+  session_same flow v = rw (unit_same greatest_by v, unit_same greatest_by flow.sender) refl
+
   packets_same : (flow : FlowPlan) (v : ℕ) (pace : Pace) (packets : ℕ)
       → packet_frames timing plan.units.items stays flow v pace packets ≡ packet_frames timing plan.units.items other flow v pace packets
-  packets_same flow v pace packets = rw (packet_same least_by flow, packet_same greatest_by flow) refl
+  packets_same flow v pace packets = rw (packet_same least_by flow, packet_same greatest_by flow, session_same flow v) refl
 
   long_same : (flow : FlowPlan) (pace : Pace) (group : GroupPlan) (to : To)
       → long_messages timing plan.units.items stays flow pace group to ≡ long_messages timing plan.units.items other flow pace group to
@@ -204,26 +211,112 @@ module _ (timing : Timing) (all : List (Option FlowFrames)) (flow : ℕ) where
       let below = not_less frames other wait another.1 is.2 in
       ap Some (omega (arith, above, below))
 
-module _ (timing : Timing) (asked : Asked) where
-  one_turn_time : (u : ℕ) (load : Option UnitLoad) (time other : Option ℕ) → IsTurnTimeBy timing asked u load time
-      → IsTurnTimeBy timing asked u load other → time ≡ other
+-- ---- frames of units that keep no order
+
+module _ (timing : Timing) (all : List (Option FlowFrames)) where
+  one_level : (own : FlowFrames) (level other : ℕ) → IsCompanyLevel (leasts_of all) all own level → IsCompanyLevel (leasts_of all) all own other → level ≡ other
+  one_level own level other is another =
+      let below = is.least other another.is in
+      let above = another.least level is.is in
+      omega (arith, below, above)
+
+  one_least : (streams : List Stream) (blocking : ℕ) (wait other : Option ℕ) → IsWaitWith timing streams blocking wait
+      → IsWaitWith timing streams blocking other → wait ≡ other
+  one_least streams blocking None None is another = refl
+  one_least streams blocking None (Some other) is another = absurd (let below = another.0 in let room = another.1 in omega (arith, is other (omega arith)))
+  one_least streams blocking (Some wait) None is another = absurd (let below = is.0 in let room = is.1 in omega (arith, another wait (omega arith)))
+  one_least streams blocking (Some wait) (Some other) is another =
+      let above : other ≤ wait = not_before wait other is.1 another.2 in
+      let below : wait ≤ other = not_before other wait another.1 is.2 in
+      ap Some (omega (arith, above, below))
+    where
+      not_before : (a b : ℕ) → need blocking streams a ≤ a → HaveNoRoom blocking streams b → b ≤ a
+      not_before a b room least = elim (cases_lt a b) [
+        | inl less ↦ absurd (omega (arith, least a less, room))
+        | inr above ↦ above
+      ]
+
+  one_company_wait : (own : FlowFrames) (wait other : Option ℕ) → IsCompanyWait timing (leasts_of all) all own wait
+      → IsCompanyWait timing (leasts_of all) all own other → wait ≡ other
+  one_company_wait own wait other is another =
+      let same = one_level (with_unplanned timing own) is.level another.level is.of_company another.of_company in
+      one_least (streams_with timing (leasts_of all) all (with_unplanned timing own) another.level) (blocking_with timing own) wait other
+      (subst (λ (n : ℕ). IsWaitWith timing (streams_with timing (leasts_of all) all (with_unplanned timing own) n) (blocking_with timing own) wait) same
+      is.least_wait) another.least_wait
+
+  one_held : (frames : Option FlowFrames) (wait other : Option ℕ) → IsHeldFor timing all frames wait → IsHeldFor timing all frames other → wait ≡ other
+  one_held None wait other is another = is ∙ sym another
+  one_held (Some f) wait other is another = go (keep_order f) is another
+    where
+      go : (keeps : Bool) → MatchBool keeps (wait ≡ Some 0) (IsCompanyWait timing (leasts_of all) all f wait)
+          → MatchBool keeps (other ≡ Some 0) (IsCompanyWait timing (leasts_of all) all f other) → wait ≡ other
+      go true is another = is ∙ sym another
+      go false is another = one_company_wait f wait other is another
+
+  one_waits : (waits others : List (Option ℕ)) → TellWaits timing all waits → TellWaits timing all others → waits ≡ others
+  one_waits waits others tell another =
+      ext_get_or None waits others (tell.count ∙ sym another.count)
+      (λ j below. let inside : j < length all = omega (arith, below, tell.count) in
+      one_held (slice_index_or all j None) _ _ (tell.each j inside) (another.each j inside))
+
+  one_offer : (offer other : Offer) → IsOffer timing all offer → IsOffer timing all other → offer ≡ other
+  one_offer offer other is another =
+      let waits = one_waits offer.waits other.waits is.held another.held in
+      let frames : offer.frames ≡ other.frames = is.frames ∙ ap (λ (ws : List (Option ℕ)). offered ws all) waits ∙ sym another.frames in
+      let low : offer.unheld ≡ other.unheld = is.unheld ∙ ap (λ (ws : List (Option ℕ)). unheld ws all) waits ∙ sym another.unheld in
+      ap (λ (fs : List (Option FlowFrames)). made fs offer.waits offer.unheld) frames
+      ∙ ap (λ (ws : List (Option ℕ)). made other.frames ws offer.unheld) waits
+      ∙ ap (λ (o : Option ℕ). made other.frames other.waits o) low
+    where
+      made : List (Option FlowFrames) → List (Option ℕ) → Option ℕ → Offer
+      made frames waits low = record { frames = frames; waits = waits; unheld = low }
+
+module _ (timing : Timing) (asked : Asked) (offer : Offer) where
+  one_wait_in : (place : ℕ) (frames : FlowFrames) (wait other : Option ℕ) → IsWaitIn timing offer place frames wait
+      → IsWaitIn timing offer place frames other → wait ≡ other
+  one_wait_in place frames wait other is another = go (keep_order frames) (may_be_passed offer frames.greatest_ident) is another
+    where
+      go : (keeps passed : Bool)
+          → MatchBool keeps (MatchBool passed (wait ≡ None) (IsWaitOf timing offer.frames place frames wait)) (wait ≡ slice_index_or offer.waits place None)
+          → MatchBool keeps (MatchBool passed (other ≡ None) (IsWaitOf timing offer.frames place frames other)) (other ≡ slice_index_or offer.waits place None)
+          → wait ≡ other
+      go true true is another = is ∙ sym another
+      go true false is another = one_wait timing offer.frames place frames wait other is another
+      go false passed is another = is ∙ sym another
+
+  one_frame_delay : (flow : ℕ) (frames : FlowFrames) (limit : ℕ) (delay other : Delay) → IsFrameDelay timing offer flow frames limit delay
+      → IsFrameDelay timing offer flow frames limit other → delay ≡ other
+  one_frame_delay flow frames limit delay other is another = go (keep_order frames) (may_be_passed offer frames.greatest_ident) is another
+    where
+      go : (keeps passed : Bool)
+          → MatchBool keeps (MatchBool passed (delay ≡ Late) (IsShortDelay timing offer.frames flow frames limit delay))
+          (delay ≡ any_delay frames limit (slice_index_or offer.waits flow None))
+          → MatchBool keeps (MatchBool passed (other ≡ Late) (IsShortDelay timing offer.frames flow frames limit other))
+          (other ≡ any_delay frames limit (slice_index_or offer.waits flow None))
+          → delay ≡ other
+      go true true is another = is ∙ sym another
+      go true false is another = one_short_delay timing offer.frames flow frames limit delay other is another
+      go false passed is another = is ∙ sym another
+
+  one_turn_time : (u : ℕ) (load : Option UnitLoad) (time other : Option ℕ) → IsTurnTimeBy timing asked offer u load time
+      → IsTurnTimeBy timing asked offer u load other → time ≡ other
   one_turn_time u None time other is another = is ∙ sym another
   one_turn_time u (Some load) time other is another =
-      let announced = one_wait timing (frames_asked asked) (announcements_place asked u) load.announcements is.0 another.0 is.2 another.2 in
-      let sent = one_wait timing (frames_asked asked) (packets_place asked u) load.packets is.1 another.1 is.3 another.3 in
+      let announced = one_wait_in (announcements_place asked u) load.announcements is.0 another.0 is.2 another.2 in
+      let sent = one_wait_in (packets_place asked u) load.packets is.1 another.1 is.3 another.3 in
       is.4 ∙ ap (λ (a : Option ℕ). known_turn_time timing load a is.1) announced
       ∙ ap (λ (p : Option ℕ). known_turn_time timing load another.0 p) sent ∙ sym another.4
 
-  one_whole_time : (broadcast : Broadcast) (whole other : WholeTime) → IsWholeTime timing asked broadcast whole
-      → IsWholeTime timing asked broadcast other → whole ≡ other
+  one_whole_time : (broadcast : Broadcast) (whole other : WholeTime) → IsWholeTime timing asked offer broadcast whole
+      → IsWholeTime timing asked offer broadcast other → whole ≡ other
   one_whole_time broadcast whole other is another =
       is.2 ∙ ap (whole_time broadcast) (one_turn_time broadcast.sender (slice_index_or asked.units broadcast.sender None) is.0 another.0 is.1 another.1)
       ∙ sym another.2
 
-  one_delay : (flow : ℕ) (messages : Messages) (limit : ℕ) (delay other : Delay) → IsDelayOf timing asked flow messages limit delay
-      → IsDelayOf timing asked flow messages limit other → delay ≡ other
+  one_delay : (flow : ℕ) (messages : Messages) (limit : ℕ) (delay other : Delay) → IsDelayOf timing asked offer flow messages limit delay
+      → IsDelayOf timing asked offer flow messages limit other → delay ≡ other
   one_delay flow (Short frames) limit delay other is another =
-      one_short_delay timing (frames_asked asked) flow frames limit delay other is another
+      one_frame_delay flow frames limit delay other is another
   one_delay flow (ToOne frames) limit (Long count) (Long more) is another = ap Long (is ∙ sym another)
   one_delay flow (ToOne frames) limit (Long count) (Within bits) is another = absurd another
   one_delay flow (ToOne frames) limit (Long count) Late is another = absurd another
@@ -239,20 +332,25 @@ module _ (timing : Timing) (asked : Asked) where
   one_delay flow (ToAll broadcast) limit Late other is another = absurd is
   one_delay flow (ToAll broadcast) limit (Long count) other is another = absurd is
 
-  one_known_delay : (flow : ℕ) (delay other : Option Delay) → HasDelay timing asked flow delay → HasDelay timing asked flow other → delay ≡ other
+  one_known_delay : (flow : ℕ) (delay other : Option Delay) → HasDelayBy timing asked offer flow delay → HasDelayBy timing asked offer flow other → delay ≡ other
   one_known_delay flow None None is another = refl
   one_known_delay flow None (Some other) is another = absurd (none-some _ (same_Some _ _ (sym is ∙ another.1)))
   one_known_delay flow (Some delay) None is another = absurd (none-some _ (same_Some _ _ (sym another ∙ is.1)))
   one_known_delay flow (Some delay) (Some other) is another =
       let loads_are : is.0 ≡ another.0 = same_Some _ _ (same_Some _ _ (sym is.1 ∙ another.1)) in
       ap Some (one_delay flow another.0.messages another.0.limit delay other
-      (subst (λ (l : FlowLoad). IsDelay timing asked flow l delay) loads_are is.2) another.2)
+      (subst (λ (l : FlowLoad). IsDelay timing asked offer flow l delay) loads_are is.2) another.2)
 
 pub delays_same : (timing : Timing) (asked : Asked) (delays others : List (Option Delay)) → TellDelays timing asked delays
     → TellDelays timing asked others → delays ≡ others
 delays_same timing asked delays others tell another =
     ext_get_or None delays others (tell.count ∙ sym another.count)
-    (λ flow below. one_known_delay timing asked flow _ _ (tell.each flow below) (another.each flow (omega (arith, below, tell.count, another.count))))
+    (λ flow below.
+    let (offer, is, its) = tell.each flow below in
+    let (other, are, theirs) = another.each flow (omega (arith, below, tell.count, another.count)) in
+    let same = one_offer timing (frames_asked asked) offer other is are in
+    one_known_delay timing asked other flow _ _
+    (subst (λ (o : Offer). HasDelayBy timing asked o flow (slice_index_or delays flow None)) same its) theirs)
 
 -- both at once
 pub one_asked : (plan : Plan) (timing : Timing) (stays other : UnitPlan → Bool) (delays others : List (Option Delay))

@@ -13,7 +13,7 @@ use Rattle.j39_load.specs.declared.flow_load.FlowLoad.{FlowLoad}
 use Rattle.j39_load.specs.declared.messages.Messages.{Messages}
 use Rattle.j39_load.specs.declared.messages.Messages.TheVariants.{Short, ToAll, ToOne}
 use Rattle.j39_load.specs.declared.unit_load.UnitLoad.{UnitLoad}
-use Rattle.j39_load.specs.Loads.{bits_of_ms, broadcast_ident, greatest_address, least_address, of_unit}
+use Rattle.j39_load.specs.Loads.{any_unit, bits_of_ms, broadcast_ident, greatest_address, least_address, of_unit}
 use Rattle.j39_timing.specs.FrameBits.{longest_frame}
 use Rattle.j39_timing.specs.declared.stream.Stream.{Stream}
 
@@ -51,6 +51,9 @@ broadcast_frames timing units stays pgn u gaps = record {
   stream = spaced_stream timing gaps;
   least_ident = broadcast_ident timing pgn (of_unit units (least_address stays)) u;
   greatest_ident = broadcast_ident timing pgn (of_unit units (greatest_address stays)) u;
+  any_sender = any_unit units u;
+  any_receiver = None;
+  last_ident = broadcast_ident timing pgn (of_unit units (greatest_address stays)) u;
 }
 
 -- the bits that so many frames take in a second at most, which are sent again after so many milliseconds

@@ -1,5 +1,5 @@
 -- The frames of a bus that come of damage: an attempt that is damaged, and the error frame behind it. Both go before all others.
-use Rattle.std.specs.Prelude.{ℕ, ◌+◌, ◌*◌, List, [], ◌∷◌, map, Option, Some}
+use Rattle.std.specs.Prelude.{ℕ, ◌+◌, ◌*◌, List, [], ◌∷◌, map, Option, Some, None}
 use Rattle.std.specs.Int.{div_ceil}
 use Rattle.std.specs.Option.{option_map_or}
 use Rattle.j39_id.specs.Limits.{frame_bytes}
@@ -21,7 +21,8 @@ damage_streams timing =
 
 -- as frames of the least identifier
 abbrev pub first_of_all : Stream → Option FlowFrames
-first_of_all stream = Some (record { stream = stream; least_ident = 0; greatest_ident = 0 })
+first_of_all stream =
+    Some (record { stream = stream; least_ident = 0; greatest_ident = 0; any_sender = None; any_receiver = None; last_ident = 0 })
 
 abbrev pub damage_frames : Timing → List (Option FlowFrames)
 damage_frames timing = map first_of_all (damage_streams timing)

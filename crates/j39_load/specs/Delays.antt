@@ -1,6 +1,7 @@
 -- How long the messages of each flow take, from their moments: the waits of frames (Davis, Burns, Bril, Lukkien,
 -- Real-Time Systems 35, 2007), and when a long message to all is whole.
 use Rattle.std.specs.Prelude.{◌≡◌, ℕ, ◌+◌, ◌*◌, ◌^◌, ◌<◌, ◌≤◌, ◌==◌, nat_le, nat_lt, if◌then◌else◌, List, [], ◌∷◌, ◌++◌, length, slice_index_or, Option, Some, None}
+use Rattle.std.specs.Bool.{MatchBool}
 use Rattle.std.specs.List.{slice_get}
 use Rattle.std.specs.Option.{option_map}
 use Rattle.j39_findings.specs.declared.plan.timing.Timing.{Timing}
@@ -13,9 +14,10 @@ use Rattle.j39_load.specs.declared.messages.Messages.{Messages}
 use Rattle.j39_load.specs.declared.messages.Messages.TheVariants.{Short, ToAll, ToOne}
 use Rattle.j39_load.specs.declared.unit_load.UnitLoad.{UnitLoad}
 use Rattle.j39_load.specs.declared.whole_time.WholeTime.{WholeTime}
+use Rattle.j39_load.specs.AnyQueues.{IsOffer, Offer, keep_order, may_be_passed}
 use Rattle.j39_load.specs.Asked.{Asked, frames_asked}
 use Rattle.j39_load.specs.Damage.{damage_streams}
-use Rattle.j39_load.specs.Loads.{bits_of_ms, frames_to_all}
+use Rattle.j39_load.specs.Loads.{bits_of_ms, frames_to_all, longest_wait}
 use Rattle.j39_load.specs.Places.{told_from}
 use Rattle.j39_timing.specs.FrameBits.{longest_frame}
 use Rattle.j39_timing.specs.Traffic.{delay_of}
@@ -64,17 +66,32 @@ IsShortDelay timing all flow frames limit (Within bits) = (wait : ℕ) × IsInTi
 IsShortDelay timing all flow frames limit Late = (wait : ℕ) → ¬ IsInTime timing all flow frames limit wait
 IsShortDelay timing all flow frames limit _ = ⊥
 
--- ---- long messages to all, by the unit that sends them one at a time
+-- that of frames that wait for so long in a unit that keeps no order
+abbrev pub any_delay : FlowFrames → ℕ → Option ℕ → Delay
+any_delay frames limit None = Late
+any_delay frames limit (Some wait) =
+    if nat_le (delay_of frames.stream wait) limit then Within (delay_of frames.stream wait) else Late
 
--- no longer wait is looked for
-abbrev pub longest_wait : Timing → ℕ
-longest_wait timing = bits_of_ms timing 65535
+-- that of a flow whose messages go in one frame each: where its sender keeps order, among the frames that are offered for good, unless one of
+-- which it isn't known from when on may go before it
+abbrev pub IsFrameDelay : Timing → Offer → ℕ → FlowFrames → ℕ → Delay → Type 0
+IsFrameDelay timing offer flow frames limit delay = MatchBool (keep_order frames)
+    (MatchBool (may_be_passed offer frames.greatest_ident) (delay ≡ Late) (IsShortDelay timing offer.frames flow frames limit delay))
+    (delay ≡ any_delay frames limit (slice_index_or offer.waits flow None))
+
+-- ---- long messages to all, by the unit that sends them one at a time
 
 -- the least wait that has room for a frame of these, at their place among all; or none of at most that many bits has
 abbrev pub IsWaitOf : Timing → List (Option FlowFrames) → ℕ → FlowFrames → Option ℕ → Type 0
 IsWaitOf timing all i frames (Some wait) =
     (wait ≤ longest_wait timing) × (need_of timing all i frames wait ≤ wait) × IsLeastWait timing all i frames wait
 IsWaitOf timing all i frames None = IsLeastWait timing all i frames (longest_wait timing + 1)
+
+-- that of frames of a unit that keeps order, among the frames that are offered for good; of one that keeps none it is its company's
+abbrev pub IsWaitIn : Timing → Offer → ℕ → FlowFrames → Option ℕ → Type 0
+IsWaitIn timing offer i frames wait = MatchBool (keep_order frames)
+    (MatchBool (may_be_passed offer frames.greatest_ident) (wait ≡ None) (IsWaitOf timing offer.frames i frames wait))
+    (wait ≡ slice_index_or offer.waits i None)
 
 -- where the packets of a unit's broadcasts stand among all frames, and their announcements
 abbrev pub packets_place : Asked → ℕ → ℕ
@@ -105,15 +122,15 @@ known_turn_time timing load (Some announced) (Some sent) =
 known_turn_time timing load _ _ = None
 
 -- the time of the unit at a place, which asks this
-abbrev pub IsTurnTimeBy : Timing → Asked → ℕ → Option UnitLoad → Option ℕ → Type 0
-IsTurnTimeBy timing asked u None time = time ≡ None
-IsTurnTimeBy timing asked u (Some load) time = (announced sent : Option ℕ)
-    × IsWaitOf timing (frames_asked asked) (announcements_place asked u) load.announcements announced
-    × IsWaitOf timing (frames_asked asked) (packets_place asked u) load.packets sent
+abbrev pub IsTurnTimeBy : Timing → Asked → Offer → ℕ → Option UnitLoad → Option ℕ → Type 0
+IsTurnTimeBy timing asked offer u None time = time ≡ None
+IsTurnTimeBy timing asked offer u (Some load) time = (announced sent : Option ℕ)
+    × IsWaitIn timing offer (announcements_place asked u) load.announcements announced
+    × IsWaitIn timing offer (packets_place asked u) load.packets sent
     × (time ≡ known_turn_time timing load announced sent)
 
-abbrev pub IsTurnTime : Timing → Asked → ℕ → Option ℕ → Type 0
-IsTurnTime timing asked u time = IsTurnTimeBy timing asked u (slice_index_or asked.units u None) time
+abbrev pub IsTurnTime : Timing → Asked → Offer → ℕ → Option ℕ → Type 0
+IsTurnTime timing asked offer u time = IsTurnTimeBy timing asked offer u (slice_index_or asked.units u None) time
 
 -- where the unit's time is this, that of a flow's broadcasts, from the moment at which one is wanted: each other flow
 -- of the unit goes before it once at most
@@ -124,28 +141,32 @@ whole_time broadcast time = record {
   limit = broadcast.deadline;
 }
 
-abbrev pub IsWholeTime : Timing → Asked → Broadcast → WholeTime → Type 0
-IsWholeTime timing asked broadcast whole = (time : Option ℕ) × IsTurnTime timing asked broadcast.sender time
+abbrev pub IsWholeTime : Timing → Asked → Offer → Broadcast → WholeTime → Type 0
+IsWholeTime timing asked offer broadcast whole = (time : Option ℕ) × IsTurnTime timing asked offer broadcast.sender time
     × (whole ≡ whole_time broadcast time)
 
 -- ---- flows
 
 -- the delay of a flow with these messages and this limit, at its place
-abbrev pub IsDelayOf : Timing → Asked → ℕ → Messages → ℕ → Delay → Type 0
-IsDelayOf timing asked flow (Short frames) limit delay =
-    IsShortDelay timing (frames_asked asked) flow frames limit delay
-IsDelayOf timing asked flow (ToOne frames) limit (Long count) = count ≡ frames.stream.frames
-IsDelayOf timing asked flow (ToOne frames) limit _ = ⊥
-IsDelayOf timing asked flow (ToAll broadcast) limit (Whole whole) = IsWholeTime timing asked broadcast whole
-IsDelayOf timing asked flow (ToAll broadcast) limit _ = ⊥
+abbrev pub IsDelayOf : Timing → Asked → Offer → ℕ → Messages → ℕ → Delay → Type 0
+IsDelayOf timing asked offer flow (Short frames) limit delay = IsFrameDelay timing offer flow frames limit delay
+IsDelayOf timing asked offer flow (ToOne frames) limit (Long count) = count ≡ frames.stream.frames
+IsDelayOf timing asked offer flow (ToOne frames) limit _ = ⊥
+IsDelayOf timing asked offer flow (ToAll broadcast) limit (Whole whole) = IsWholeTime timing asked offer broadcast whole
+IsDelayOf timing asked offer flow (ToAll broadcast) limit _ = ⊥
 
-abbrev pub IsDelay : Timing → Asked → ℕ → FlowLoad → Delay → Type 0
-IsDelay timing asked flow load delay = IsDelayOf timing asked flow load.messages load.limit delay
+abbrev pub IsDelay : Timing → Asked → Offer → ℕ → FlowLoad → Delay → Type 0
+IsDelay timing asked offer flow load delay = IsDelayOf timing asked offer flow load.messages load.limit delay
 
 -- the flow at a place has this delay, or none where it isn't known how often it is sent
+abbrev pub HasDelayBy : Timing → Asked → Offer → ℕ → Option Delay → Type 0
+HasDelayBy timing asked offer flow None = slice_get asked.flows flow ≡ Some None
+HasDelayBy timing asked offer flow (Some delay) =
+    (load : FlowLoad) × (slice_get asked.flows flow ≡ Some (Some load)) × IsDelay timing asked offer flow load delay
+
+-- by all frames where they are offered for good
 abbrev pub HasDelay : Timing → Asked → ℕ → Option Delay → Type 0
-HasDelay timing asked flow None = slice_get asked.flows flow ≡ Some None
-HasDelay timing asked flow (Some delay) = (load : FlowLoad) × (slice_get asked.flows flow ≡ Some (Some load)) × IsDelay timing asked flow load delay
+HasDelay timing asked flow delay = (offer : Offer) × IsOffer timing (frames_asked asked) offer × HasDelayBy timing asked offer flow delay
 
 -- each flow has the delay that stands at its place
 pub record TellDelays (timing : Timing) (asked : Asked) (delays : List (Option Delay)) : Type 0 where

@@ -12,8 +12,9 @@ use Rattle.j39_load.specs.declared.delay.Delay.TheVariants.{Within}
 use Rattle.j39_load.specs.Asked.{Asked, asked_of, frames_asked}
 use Rattle.j39_load.specs.LoadFindings.{AsksOfBus}
 use Rattle.j39_load.specs.Loads.{bits_of_ms}
-use Rattle.j39_load.specs.PlannedFrames.{AreFramesOfPlan, IsBounded}
+use Rattle.j39_load.specs.PlannedFrames.{AreAllOrdered, AreFramesInAnyOrder, AreFramesOfPlan, IsBounded}
 use Rattle.j39_timing.specs.Ages.{IsFresh, KeepsComing}
+use Rattle.j39_timing.specs.AnyOrder.{Controllers, IsLegalInAnyOrder}
 use Rattle.j39_timing.specs.Schedule.{Schedule, IsLegal}
 use Rattle.j39_timing.specs.Streams.{Origins}
 use Rattle.j39_timing.specs.declared.stream.Stream.{Stream}
@@ -24,6 +25,13 @@ abbrev pub IsFreshOnEveryBus : Timing → Asked → ℕ → ℕ → Stream → �
 IsFreshOnEveryBus timing asked flow pause stream wait delay = (s : Schedule) (planned : ℕ → Bool) (of : Origins) → IsLegal s
     → AreFramesOfPlan timing (frames_asked asked) s planned of flow → (from to : ℕ) → KeepsComing s planned of flow pause from to
     → to + (stream.late + wait) < s.now → IsFresh s planned of flow (pause + delay) (from + delay) (to + delay)
+
+-- the same where units keep order or don't
+abbrev pub IsFreshInAnyOrder : Timing → Asked → ℕ → ℕ → Stream → ℕ → ℕ → Type 0
+IsFreshInAnyOrder timing asked flow pause stream wait delay = (s : Schedule) (controllers : Controllers) (planned : ℕ → Bool) (of : Origins)
+    → IsLegalInAnyOrder s controllers → AreFramesInAnyOrder timing (frames_asked asked) s controllers planned of flow → (from to : ℕ)
+    → KeepsComing s planned of flow pause from to → to + (stream.late + wait) < s.now
+    → IsFresh s planned of flow (pause + delay) (from + delay) (to + delay)
 
 -- some flow that isn't sent as an answer meets the need; for the longest time that it may be silent and its delay, which bounds its frames' time on every bus, together
 -- no more is asked than the need allows; and what comes by it is never older
@@ -39,7 +47,8 @@ pub record IsNeedFresh (plan : Plan) (timing : Timing) (asked : Asked) (delays :
   pub delayed : slice_get delays place ≡ Some (Some (Within bits))
   pub young : bits_of_ms timing pause + bits ≤ bits_of_ms timing within
   pub bounded : IsBounded timing asked place bits
-  pub fresh : IsFreshOnEveryBus timing asked place (bits_of_ms timing pause) bounded.frames.stream bounded.wait bits
+  pub in_any_order : IsFreshInAnyOrder timing asked place (bits_of_ms timing pause) bounded.frames.stream bounded.wait bits
+  pub fresh : AreAllOrdered (frames_asked asked) → IsFreshOnEveryBus timing asked place (bits_of_ms timing pause) bounded.frames.stream bounded.wait bits
 
 -- so it is of each need of a plan that asks for an age: whoever tells who stays tells the same
 abbrev pub AreNeedsFresh : Plan → Timing → Type 0

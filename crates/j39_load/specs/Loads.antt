@@ -1,5 +1,5 @@
 -- What each flow of a plan asks of the bus: how many frames, how long, how often, and how urgent.
-use Rattle.std.specs.Prelude.{ℕ, ◌+◌, ◌*◌, min, max, nat_le, Bool, not, ◌&&◌, if◌then◌else◌, List, map, Option, Some, None, unwrap_or}
+use Rattle.std.specs.Prelude.{ℕ, ◌+◌, ◌*◌, min, max, nat_le, Bool, true, false, not, ◌&&◌, if◌then◌else◌, List, map, Option, Some, None, unwrap_or}
 use Rattle.std.specs.Int.{div_ceil}
 use Rattle.std.specs.List.{slice_get}
 use Rattle.std.specs.Option.{option_and_then, option_map, option_map_or}
@@ -7,11 +7,13 @@ use Rattle.j39_id.specs.Addresses.{global_address, pool_first, pool_last}
 use Rattle.j39_id.specs.Ident.{identifier_of}
 use Rattle.j39_id.specs.Limits.{frame_bytes}
 use Rattle.j39_id.specs.Name.{is_arbitrary}
-use Rattle.j39_id.specs.Services.{data_transfer}
+use Rattle.j39_id.specs.Services.{connection_management, data_transfer}
 use Rattle.j39_findings.specs.declared.plan.Plan.{Plan}
 use Rattle.j39_findings.specs.declared.plan.flow_plan.FlowPlan.{FlowPlan}
 use Rattle.j39_findings.specs.declared.plan.group_plan.GroupPlan.{GroupPlan}
 use Rattle.j39_findings.specs.declared.plan.pace.Pace.{Pace}
+use Rattle.j39_findings.specs.declared.plan.queue.Queue.{Queue}
+use Rattle.j39_findings.specs.declared.plan.queue.Queue.TheVariants.{Any, Priority}
 use Rattle.j39_findings.specs.declared.plan.timing.Bitrate.{Bitrate}
 use Rattle.j39_findings.specs.declared.plan.timing.Bitrate.TheVariants.{Kbit125, Kbit250, Kbit500, Mbit1}
 use Rattle.j39_findings.specs.declared.plan.timing.Timing.{Timing}
@@ -42,6 +44,10 @@ bits_of_second bitrate = 1000 * bits_per_ms bitrate
 abbrev pub bits_of_ms : Timing → ℕ → ℕ
 bits_of_ms timing ms = ms * bits_per_ms timing.bitrate
 
+-- no longer wait is looked for where the limit isn't a flow's
+abbrev pub longest_wait : Timing → ℕ
+longest_wait timing = bits_of_ms timing 65535
+
 -- ---- frames
 
 -- each message of the group goes in one frame
@@ -59,6 +65,15 @@ most_bytes group = if is_always_short group then group.most else frame_bytes
 -- what is read of the unit at a place
 abbrev pub of_unit : List UnitPlan → (UnitPlan → ℕ) → ℕ → ℕ
 of_unit units read u = option_map_or read (slice_get units u) 0
+
+-- a controller that keeps no order
+abbrev pub is_any : Queue → Bool
+is_any Priority = false
+is_any Any = true
+
+-- the unit at a place, where its controller keeps no order
+abbrev pub any_unit : List UnitPlan → ℕ → Option ℕ
+any_unit units u = if option_map_or (λ unit. is_any unit.queue) (slice_get units u) false then Some u else None
 
 -- the frames of a long message to one unit: its RTS, its packets, one CTS for as many packets as the receiver takes at once, and the
 -- acknowledgement of its end
@@ -120,6 +135,11 @@ packet_ident timing held flow = transport_ident timing data_transfer (destinatio
 abbrev pub broadcast_ident : Timing → ℕ → (ℕ → ℕ) → ℕ → ℕ
 broadcast_ident timing pgn held u = transport_ident timing pgn global_address (held u)
 
+-- the greatest one of a long message to the unit at a place: that of what its sender asks, or of what is answered. Its packets have smaller ones
+abbrev pub session_ident : Timing → (ℕ → ℕ) → FlowPlan → ℕ → ℕ
+session_ident timing held flow v = max (transport_ident timing connection_management (held v) (held flow.sender))
+    (transport_ident timing connection_management (held flow.sender) (held v))
+
 -- ---- flows
 
 -- within so many milliseconds each frame of the flow has to be on the bus: those that are written, or its period
@@ -140,6 +160,9 @@ single_frames timing units stays flow pace group = record {
   stream = single_stream timing group pace;
   least_ident = group_ident (of_unit units (least_address stays)) group flow;
   greatest_ident = group_ident (of_unit units (greatest_address stays)) group flow;
+  any_sender = any_unit units flow.sender;
+  any_receiver = None;
+  last_ident = group_ident (of_unit units (greatest_address stays)) group flow;
 }
 
 -- those of its long messages to the unit at a place, each of so many packets
@@ -148,6 +171,9 @@ packet_frames timing units stays flow v pace packets = record {
   stream = packet_stream timing units packets v pace;
   least_ident = packet_ident timing (of_unit units (least_address stays)) flow;
   greatest_ident = packet_ident timing (of_unit units (greatest_address stays)) flow;
+  any_sender = any_unit units flow.sender;
+  any_receiver = any_unit units v;
+  last_ident = session_ident timing (of_unit units (greatest_address stays)) flow v;
 }
 
 -- its long messages to all, by its sender. Those of the transport protocol have two packets at least

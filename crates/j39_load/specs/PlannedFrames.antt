@@ -1,5 +1,5 @@
 -- The frames of a bus that are those of a plan's flows, among what else is on it; and what a delay says of them.
-use Rattle.std.specs.Prelude.{◌≡◌, ℕ, ◌+◌, ◌<◌, ◌≤◌, Bool, List, [], ◌∷◌, ◌++◌, length, slice_index_or, unwrap_or, All, IfSome, IsPermutation, Option, Some, None}
+use Rattle.std.specs.Prelude.{◌≡◌, ℕ, ◌+◌, ◌^◌, ◌<◌, ◌≤◌, ◌⊎◌, Bool, true, false, List, [], ◌∷◌, ◌++◌, length, slice_index_or, unwrap_or, All, IfSome, IsPermutation, Option, Some, None}
 use Rattle.std.specs.List.{filter_map, slice_get}
 use Rattle.j39_findings.specs.declared.plan.Plan.{Plan}
 use Rattle.j39_findings.specs.declared.plan.timing.Timing.{Timing}
@@ -11,21 +11,31 @@ use Rattle.j39_load.specs.declared.flow_frames.FlowFrames.{FlowFrames}
 use Rattle.j39_load.specs.declared.flow_load.FlowLoad.{FlowLoad}
 use Rattle.j39_load.specs.declared.messages.Messages.TheVariants.{Short, ToAll}
 use Rattle.j39_load.specs.declared.whole_time.WholeTime.{WholeTime}
+use Rattle.j39_load.specs.AnyQueues.{IsCompanyLevel, IsOffer, Offer, are_of_unit, is_of_company, keep_order, leasts_of, with_unplanned}
 use Rattle.j39_load.specs.Asked.{Asked, asked_of, frames_asked}
 use Rattle.j39_load.specs.Broadcasts.{broadcasts_by}
 use Rattle.j39_load.specs.Damage.{damage_frames}
-use Rattle.j39_load.specs.Delays.{IsInTime, IsLeastWait, IsWholeTime, announcements_place, packets_place, unplanned_idents}
+use Rattle.j39_load.specs.Delays.{IsFrameDelay, IsWholeTime, announcements_place, packets_place, unplanned_idents}
 use Rattle.j39_load.specs.LoadFindings.{AsksOfBus}
 use Rattle.j39_load.specs.Loads.{bits_of_ms}
+use Rattle.j39_timing.specs.AnyOrder.{Controllers, IsLegalInAnyOrder, IsUnordered}
+use Rattle.j39_timing.specs.Companies.{Company, CompanyWaits, unplanned_queued}
 use Rattle.j39_timing.specs.FrameBits.{longest_frame}
 use Rattle.j39_timing.specs.Messages.{AreSentInTurn, IsBroadcast, LongMessage, all_whole_at}
-use Rattle.j39_timing.specs.Schedule.{Schedule, IsLegal}
+use Rattle.j39_timing.specs.Schedule.{Schedule, IsLegal, Waits}
 use Rattle.j39_timing.specs.Streams.{Origins}
-use Rattle.j39_timing.specs.Traffic.{Traffic, Others, AreQueuedBehind, AreSteady, IsPlannedTraffic, IsStreamInTime, delay_of}
+use Rattle.j39_timing.specs.Traffic.{Traffic, Others, AreQueuedBehind, AreSteady, IsPlannedTraffic, IsQueuedAt, IsStreamInTime, delay_of}
 
 -- frames of which none is ever queued
 abbrev pub no_frames : FlowFrames
-no_frames = record { stream = record { frames = 0; period = 1; bits = 0; late = 0 }; least_ident = 0; greatest_ident = 0 }
+no_frames = record {
+  stream = record { frames = 0; period = 1; bits = 0; late = 0 };
+  least_ident = 0;
+  greatest_ident = 0;
+  any_sender = None;
+  any_receiver = None;
+  last_ident = 0;
+}
 
 -- the frames at a place
 abbrev pub planned_at : List (Option FlowFrames) → ℕ → FlowFrames
@@ -49,13 +59,61 @@ others_of timing = record { least = unplanned_idents timing; count = timing.unpl
 abbrev pub AreFramesOfPlan : Timing → List (Option FlowFrames) → Schedule → (ℕ → Bool) → Origins → ℕ → Type 0
 AreFramesOfPlan timing all s planned of i = IsPlannedTraffic s (traffic_of (all ++ damage_frames timing)) (others_of timing) (longest_frame 8) planned of i
 
+-- ---- units that keep no order
+
+-- all streams of the company of some frames among all, with identifiers up to a level
+abbrev pub company_of : Timing → List (Option FlowFrames) → FlowFrames → ℕ → Company
+company_of timing all own level = record {
+  has = λ j. is_of_company (leasts_of all) (with_unplanned timing own) level (planned_at all j);
+  level = level;
+}
+
+-- what is asked of a bus while frames of a company wait
+pub record KeepToCompany (timing : Timing) (s : Schedule) (planned : ℕ → Bool) (of : Origins) (company : Company) : Type 0 where
+  -- an identifier has 29 bits
+  pub identifiers : (p : ℕ) → p < s.count → s.ident p < 2 ^ 29
+  -- while a frame of the company is queued, nothing that is queued too has its identifier but frames of the company
+  pub own_identifiers : (p q t : ℕ) → p < s.count → q < s.count → t < s.now → planned p ≡ true → company.has (of.source p) ≡ true
+      → IsQueuedAt s p t → IsQueuedAt s q t → s.ident p ≡ s.ident q → (planned q ≡ true) × (company.has (of.source q) ≡ true)
+  -- while a frame of the company waits, together with the time before in which it and what goes with it wait without a break, no more frames
+  -- that aren't planned are queued than are told, whatever their identifiers are
+  pub few_unplanned : (p from to : ℕ) → p < s.count → planned p ≡ true → company.has (of.source p) ≡ true → to < s.now → Waits s p to
+      → CompanyWaits s planned of company from to → unplanned_queued s planned from to ≤ timing.unplanned
+
+-- the planned frames are those of the plan's streams, and of its units
+pub record AreFramesInAnyOrder (timing : Timing) (all : List (Option FlowFrames)) (s : Schedule) (controllers : Controllers) (planned : ℕ → Bool) (of : Origins)
+    (i : ℕ) : Type 0 where
+  -- as where all units keep order
+  pub known : AreFramesOfPlan timing all s planned of i
+  -- what a unit sends that keeps no order is of a stream of which it is told
+  pub of_unit : (p : ℕ) → p < s.count → planned p ≡ true → IsUnordered controllers p
+      → are_of_unit (planned_at all (of.source p)) (controllers.unit p) ≡ true
+  -- no frame of such a stream has an identifier above its last one: announcements, answers and packets have the priority that is told
+  pub to_last : (p : ℕ) → p < s.count → planned p ≡ true → keep_order (planned_at all (of.source p)) ≡ false
+      → s.ident p ≤ (planned_at all (of.source p)).last_ident
+  -- where a stream of such a unit is the one that is judged, or may go before it, the bus keeps to its company
+  pub companies : (j level : ℕ) → (j ≡ i) ⊎ ((planned_at all j).least_ident < (planned_at all i).greatest_ident)
+      → keep_order (planned_at all j) ≡ false → IsCompanyLevel (leasts_of all) all (with_unplanned timing (planned_at all j)) level
+      → KeepToCompany timing s planned of (company_of timing all (planned_at all j) level)
+
+-- every unit keeps order
+abbrev pub AreAllOrdered : List (Option FlowFrames) → Type 0
+AreAllOrdered all = (j : ℕ) → keep_order (planned_at all j) ≡ true
+
+-- ---- bounds
+
 -- in every legal schedule of such frames each one of these that should have been sent by now has begun within `wait` bits of being queued,
 -- and has been sent within its delay from its moment
 abbrev pub IsInTimeOnEveryBus : Timing → List (Option FlowFrames) → ℕ → FlowFrames → ℕ → Type 0
 IsInTimeOnEveryBus timing all i frames wait = (s : Schedule) (planned : ℕ → Bool) (of : Origins) → IsLegal s
     → AreFramesOfPlan timing all s planned of i → IsStreamInTime s planned of i frames.stream wait
 
--- the flow's messages go in one frame, and its delay is that of the least wait that has room; this is within its limit, and bounds its
+-- the same where units keep order or don't
+abbrev pub IsInTimeInAnyOrder : Timing → List (Option FlowFrames) → ℕ → FlowFrames → ℕ → Type 0
+IsInTimeInAnyOrder timing all i frames wait = (s : Schedule) (controllers : Controllers) (planned : ℕ → Bool) (of : Origins)
+    → IsLegalInAnyOrder s controllers → AreFramesInAnyOrder timing all s controllers planned of i → IsStreamInTime s planned of i frames.stream wait
+
+-- the flow's messages go in one frame, and its delay is told by the least wait that has room; this is within its limit, and bounds its
 -- frames' time on every bus
 pub record IsBounded (timing : Timing) (asked : Asked) (flow bits : ℕ) : Type 0 where
   pub load : FlowLoad
@@ -64,9 +122,12 @@ pub record IsBounded (timing : Timing) (asked : Asked) (flow bits : ℕ) : Type 
   pub short : load.messages ≡ Short frames
   pub wait : ℕ
   pub sum : bits ≡ delay_of frames.stream wait
-  pub inside : IsInTime timing (frames_asked asked) flow frames load.limit wait
-  pub least : IsLeastWait timing (frames_asked asked) flow frames wait
-  pub bounds : IsInTimeOnEveryBus timing (frames_asked asked) flow frames wait
+  pub inside : bits ≤ load.limit
+  pub offer : Offer
+  pub is : IsOffer timing (frames_asked asked) offer
+  pub delayed : IsFrameDelay timing offer flow frames load.limit (Within bits)
+  pub in_any_order : IsInTimeInAnyOrder timing (frames_asked asked) flow frames wait
+  pub bounds : AreAllOrdered (frames_asked asked) → IsInTimeOnEveryBus timing (frames_asked asked) flow frames wait
 
 -- each delay that is told is a bound
 abbrev pub AreDelaysBounds : Timing → Asked → List (Option Delay) → Type 0
@@ -88,6 +149,13 @@ pub record ComeInTurn (timing : Timing) (all : List (Option FlowFrames)) (s : Sc
   pub known : AreFramesOfPlan timing all s planned of i
   pub behind : AreQueuedBehind s planned of i
   pub steady : AreSteady s planned of i
+
+-- the same where units keep order or don't: of a unit that keeps none it isn't asked how its frames come
+pub record ComeInAnyOrder (timing : Timing) (all : List (Option FlowFrames)) (s : Schedule) (controllers : Controllers) (planned : ℕ → Bool) (of : Origins)
+    (i : ℕ) : Type 0 where
+  pub known : AreFramesInAnyOrder timing all s controllers planned of i
+  pub behind : keep_order (planned_at all i) ≡ true → AreQueuedBehind s planned of i
+  pub steady : keep_order (planned_at all i) ≡ true → AreSteady s planned of i
 
 -- of each of these broadcasts there is one message at most, of no more packets than the longest
 abbrev pub AreMessagesOf : List Broadcast → List (Option LongMessage) → Type 0
@@ -115,15 +183,28 @@ AreWholeOnEveryBus timing asked u late bits = (s : Schedule) (planned : ℕ → 
     → AreSentInTurn s (bits_of_ms timing timing.broadcast_gap_most) (moment + late) messages → moment + bits < s.now
     → all_whole_at s (moment + late) messages ≤ moment + bits
 
+-- the same where units keep order or don't
+abbrev pub AreWholeInAnyOrder : Timing → Asked → ℕ → ℕ → ℕ → Type 0
+AreWholeInAnyOrder timing asked u late bits = (s : Schedule) (controllers : Controllers) (planned : ℕ → Bool) (of : Origins) → IsLegalInAnyOrder s controllers
+    → ComeInAnyOrder timing (frames_asked asked) s controllers planned of (announcements_place asked u)
+    → ComeInAnyOrder timing (frames_asked asked) s controllers planned of (packets_place asked u)
+    → (messages : List LongMessage) (moment : ℕ) → IsOneTurn (broadcasts_by u asked.flows) messages
+    → All (IsBroadcast s planned of (announcements_place asked u) (packets_place asked u)) messages
+    → AreSentInTurn s (bits_of_ms timing timing.broadcast_gap_most) (moment + late) messages → moment + bits < s.now
+    → all_whole_at s (moment + late) messages ≤ moment + bits
+
 -- the flow's long messages go to all, this is their time, and it bounds them on every bus
 pub record AreWholeWithin (timing : Timing) (asked : Asked) (flow : ℕ) (whole : WholeTime) (bits : ℕ) : Type 0 where
   pub load : FlowLoad
   pub its : slice_get asked.flows flow ≡ Some (Some load)
   pub broadcast : Broadcast
   pub long : load.messages ≡ ToAll broadcast
-  pub time : IsWholeTime timing asked broadcast whole
+  pub offer : Offer
+  pub is : IsOffer timing (frames_asked asked) offer
+  pub time : IsWholeTime timing asked offer broadcast whole
   pub told : whole.bits ≡ Some bits
-  pub bounds : AreWholeOnEveryBus timing asked broadcast.sender broadcast.late bits
+  pub in_any_order : AreWholeInAnyOrder timing asked broadcast.sender broadcast.late bits
+  pub bounds : AreAllOrdered (frames_asked asked) → AreWholeOnEveryBus timing asked broadcast.sender broadcast.late bits
 
 -- each time that is told is a bound
 abbrev pub AreTimesBounds : Timing → Asked → List (Option Delay) → Type 0

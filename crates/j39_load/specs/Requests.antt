@@ -1,6 +1,6 @@
 -- What the requests of a plan ask of its bus: each one for which it is known how often it is sent is a stream of single frames, which carry
 -- the number of the group that is asked for (SAE J1939-21, requests).
-use Rattle.std.specs.Prelude.{ℕ, Bool, List, map, Option}
+use Rattle.std.specs.Prelude.{ℕ, Bool, List, map, Option, None}
 use Rattle.std.specs.Option.{option_map}
 use Rattle.j39_id.specs.Ident.{identifier_of}
 use Rattle.j39_id.specs.Services.{claim_priority, request as request_group}
@@ -9,7 +9,7 @@ use Rattle.j39_findings.specs.declared.plan.request_plan.RequestPlan.{RequestPla
 use Rattle.j39_findings.specs.declared.plan.timing.Timing.{Timing}
 use Rattle.j39_findings.specs.declared.plan.unit_plan.UnitPlan.{UnitPlan}
 use Rattle.j39_load.specs.declared.request_load.RequestLoad.{RequestLoad}
-use Rattle.j39_load.specs.Loads.{bits_of_ms, destination_at, greatest_address, least_address, load_of, of_unit}
+use Rattle.j39_load.specs.Loads.{any_unit, bits_of_ms, destination_at, greatest_address, least_address, load_of, of_unit}
 use Rattle.j39_timing.specs.FrameBits.{longest_frame}
 use Rattle.j39_timing.specs.declared.stream.Stream.{Stream}
 
@@ -30,6 +30,9 @@ request_load timing units stays request period = record {
     stream = request_stream timing period;
     least_ident = request_ident (of_unit units (least_address stays)) request;
     greatest_ident = request_ident (of_unit units (greatest_address stays)) request;
+    any_sender = any_unit units request.sender;
+    any_receiver = None;
+    last_ident = request_ident (of_unit units (greatest_address stays)) request;
   };
   bits_per_second = load_of (request_stream timing period) period;
 }

@@ -11,7 +11,11 @@ use Rattle.j39_load.specs.Asked.{own_frames}
 use Rattle.j39_timing.specs.Waits.{IsStream}
 
 abbrev pub AreSound : FlowFrames → Type 0
-AreSound frames = IsStream frames.stream
+AreSound frames = IsStream frames.stream × (frames.stream.late < 2 ^ 30) × (frames.stream.bits ≤ 160)
+
+-- where they are queued later
+abbrev pub FitIfAny : Option FlowFrames → Type 0
+FitIfAny frames = IfSome frames (λ (f : FlowFrames). IsStream f.stream)
 
 abbrev pub AreSoundIfAny : Option FlowFrames → Type 0
 AreSoundIfAny frames = IfSome frames AreSound

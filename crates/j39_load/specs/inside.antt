@@ -4,4 +4,5 @@ pub mod Extremes
 pub mod Faults
 pub mod FewFrames
 pub mod FramesBy
+pub mod Offers
 pub mod TurnTimes

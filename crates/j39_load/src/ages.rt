@@ -24,8 +24,8 @@ fn age_of(timing: Timing, flow: &FlowPlan, delay: Option<Delay>) -> Option<u64>
     }
 }
 
-// The smaller one of two numbers that may be known.
-fn smaller(one: Option<u64>, other: Option<u64>) -> Option<u64>
+/// The smaller one of two numbers that may be known.
+pub(crate) fn smaller(one: Option<u64>, other: Option<u64>) -> Option<u64>
     ensures { result ≡ smaller_known one other }
 {
     match (one, other) {

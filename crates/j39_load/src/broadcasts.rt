@@ -9,7 +9,7 @@ use crate::broadcast::Broadcast;
 use crate::extreme::Extreme;
 use crate::flow_frames::FlowFrames;
 use crate::flow_load::FlowLoad;
-use crate::identifiers::broadcast_ident;
+use crate::identifiers::{any_unit, broadcast_ident};
 use crate::messages::Messages;
 use crate::standing::Standing;
 use crate::streams::{bits_each, spaced_stream};
@@ -141,10 +141,14 @@ fn broadcast_frames(
     ensures frames { result ≡ broadcast_frames timing units.now (stays_of standing.now) pgn unit gaps }
     ensures fits { AreSound result }
 {
+    let greatest_ident = broadcast_ident(timing, pgn, units, standing, Extreme::Greatest, unit);
     FlowFrames {
         stream: spaced_stream(timing, gaps),
         least_ident: broadcast_ident(timing, pgn, units, standing, Extreme::Least, unit),
-        greatest_ident: broadcast_ident(timing, pgn, units, standing, Extreme::Greatest, unit),
+        greatest_ident,
+        any_sender: any_unit(units, unit),
+        any_receiver: None,
+        last_ident: greatest_ident,
     }
 }
 

@@ -1,17 +1,20 @@
 //! How long the frames of the flows of a plan wait.
 ghost use Rattle.std.specs.Prelude.{◌≡◌, ◌≤◌, ◌<◌, ◌^◌, ◌+◌, ◌++◌, All, length, IfOk, OnOk};
 ghost use Rattle.std.specs.Option.{ForSome};
-ghost use Rattle.j39_load.specs.Delays.{IsShortDelay, IsWaitOf, blocking, frames_before, going_before, longest_wait, streams_before, whole_time};
-ghost use Rattle.j39_load.specs.SoundLoads.{AreSound, AreSoundIfAny, IsSoundBroadcast, IsSoundLoad};
+ghost use Rattle.j39_load.specs.Delays.{IsFrameDelay, IsShortDelay, IsWaitIn, IsWaitOf, any_delay, blocking, frames_before, going_before, streams_before, whole_time};
+ghost use Rattle.j39_load.specs.SoundLoads.{AreSound, FitIfAny, IsSoundBroadcast, IsSoundLoad};
+ghost use Rattle.j39_load.specs.inside.Offers.{AreFitOffers, IsShortWait, told};
 ghost use Rattle.j39_load.specs.inside.TurnTimes.{AreShortTimes, IsDelayBy, IsShortTime, time_at};
 ghost use Rattle.j39_timing.specs.Waits.{IsStream};
 
 use crate::broadcast::Broadcast;
+use crate::companies::keep_order;
 use crate::damage::add_damage;
 use crate::delay::Delay;
 use crate::flow_frames::FlowFrames;
 use crate::flow_load::FlowLoad;
 use crate::messages::Messages;
+use crate::offers::Offers;
 use crate::streams::{bits_of_ms, frames_to_all};
 use crate::whole_time::WholeTime;
 use j39_findings::Timing;
@@ -32,7 +35,7 @@ fn blocking(timing: Timing, ident: u64) -> u32
 
 // Adds the stream of these frames, where one of them may go before one of this identifier.
 fn add_frames(streams: &mut Vec<Stream>, ident: u64, frames: &FlowFrames) -> Result<(), AllocError>
-    requires frames { AreSound frames.now }
+    requires frames { IsStream frames.now.stream }
     requires streams { All IsStream streams.old.items }
     ensures streams { OnOk result (streams.new.items ≡ streams.old.items ++ frames_before ident frames.now) }
     ensures fit { OnOk result (All IsStream streams.new.items) }
@@ -52,7 +55,7 @@ fn add_other(
     place: usize,
     frames: &Option<FlowFrames>,
 ) -> Result<(), AllocError>
-    requires frames { AreSoundIfAny frames.now }
+    requires frames { FitIfAny frames.now }
     requires streams { All IsStream streams.old.items }
     ensures streams { OnOk result (streams.new.items ≡ streams.old.items ++ going_before i ident place frames.now) }
     ensures fit { OnOk result (All IsStream streams.new.items) }
@@ -76,7 +79,7 @@ fn streams_before(
     i: usize,
     ident: u64,
 ) -> Result<Vec<Stream>, AllocError>
-    requires { All AreSoundIfAny all.now }
+    requires { All FitIfAny all.now }
     ensures streams { IfOk result (λ streams. streams.items ≡ streams_before timing i ident all.now) }
     ensures fit { IfOk result (λ streams. All IsStream streams.items) }
     ensures few { IfOk result (λ streams. length streams.items ≤ length all.now + 2) }
@@ -89,17 +92,16 @@ fn streams_before(
     Ok(streams)
 }
 
-/// The least wait that has room for a frame of these, at their place among all, where one of at most 65,535 ms has.
-pub(crate) fn wait_of(
+// The least wait that has room for a frame of these, at their place among all, where one of at most 65,535 ms has.
+fn wait_of(
     alloc: Global,
     timing: Timing,
     all: &[Option<FlowFrames>],
     place: usize,
     frames: &FlowFrames,
 ) -> Result<Option<u32>, AllocError>
-    requires fit { All AreSoundIfAny all.now }
+    requires fit { All FitIfAny all.now }
     requires few { length all.now ≤ 2000 }
-    requires frames { AreSound frames.now }
     ensures wait { IfOk result (IsWaitOf timing all.now place frames.now) }
     ensures short { IfOk result (λ wait. ForSome wait (λ bits. bits < 2 ^ 27)) }
 {
@@ -112,7 +114,29 @@ pub(crate) fn wait_of(
     }
 }
 
-// The delay of a flow whose messages go in one frame each, of these, with this limit.
+/// The wait of frames at their place. Those of a unit that keeps order wait among all where they are offered for good, and no wait is known
+/// where frames of which it isn't known from when on they are may go before them; those of another wait for their company.
+pub(crate) fn wait_in(
+    alloc: Global,
+    timing: Timing,
+    offers: &Offers,
+    place: usize,
+    frames: &FlowFrames,
+) -> Result<Option<u32>, AllocError>
+    requires offers { AreFitOffers offers.now }
+    ensures wait { IfOk result (IsWaitIn timing (told offers.now) place frames.now) }
+    ensures short { IfOk result (λ wait. ForSome wait (λ bits. bits < 2 ^ 27)) }
+{
+    if !keep_order(frames) {
+        return Ok(offers.wait_at(place));
+    }
+    if offers.may_be_passed(frames.greatest_ident) {
+        return Ok(None);
+    }
+    wait_of(alloc, timing, offers.frames.as_slice(), place, frames)
+}
+
+// The delay of a flow whose messages go in one frame each, of these, with this limit, where its sender keeps order.
 fn short_delay(
     alloc: Global,
     timing: Timing,
@@ -121,7 +145,7 @@ fn short_delay(
     frames: &FlowFrames,
     limit: u32,
 ) -> Result<Delay, AllocError>
-    requires fit { All AreSoundIfAny all.now }
+    requires fit { All FitIfAny all.now }
     requires few { length all.now ≤ 2000 }
     requires frames { AreSound frames.now }
     requires limit { limit < 2 ^ 31 }
@@ -137,6 +161,46 @@ fn short_delay(
         Some(wait) => Ok(Delay::Within(wait + own)),
         None => Ok(Delay::Late),
     }
+}
+
+// That of frames that wait for so long in a unit that keeps no order.
+fn any_delay(frames: &FlowFrames, limit: u32, wait: Option<u32>) -> Delay
+    requires frames { AreSound frames.now }
+    requires wait { IsShortWait wait }
+    ensures { result ≡ any_delay frames.now limit wait }
+{
+    let Some(wait) = wait else {
+        return Delay::Late;
+    };
+    let delay = frames.stream.late + (wait + u32::from(frames.stream.bits));
+    if delay <= limit {
+        Delay::Within(delay)
+    } else {
+        Delay::Late
+    }
+}
+
+// That of a flow whose messages go in one frame each.
+fn frame_delay(
+    alloc: Global,
+    timing: Timing,
+    offers: &Offers,
+    flow: usize,
+    frames: &FlowFrames,
+    limit: u32,
+) -> Result<Delay, AllocError>
+    requires offers { AreFitOffers offers.now }
+    requires frames { AreSound frames.now }
+    requires limit { limit < 2 ^ 31 }
+    ensures { IfOk result (IsFrameDelay timing (told offers.now) flow frames.now limit) }
+{
+    if !keep_order(frames) {
+        return Ok(any_delay(frames, limit, offers.wait_at(flow)));
+    }
+    if offers.may_be_passed(frames.greatest_ident) {
+        return Ok(Delay::Late);
+    }
+    short_delay(alloc, timing, offers.frames.as_slice(), flow, frames, limit)
 }
 
 // How long the broadcasts of a unit take, one of each flow.
@@ -169,24 +233,23 @@ fn whole_time(broadcast: &Broadcast, time: Option<u64>) -> WholeTime
     }
 }
 
-/// The delay of the flow at this place, which asks this of the bus, among all frames of the plan, where the broadcasts
-/// of the units take these times.
+/// The delay of the flow at this place, which asks this of the bus, among all frames of the plan where they are offered for good, where the
+/// broadcasts of the units take these times.
 pub(crate) fn delay_of(
     alloc: Global,
     timing: Timing,
-    all: &[Option<FlowFrames>],
+    offers: &Offers,
     times: &[Option<u64>],
     flow: usize,
     load: &FlowLoad,
 ) -> Result<Delay, AllocError>
-    requires fit { All AreSoundIfAny all.now }
-    requires few { length all.now ≤ 2000 }
+    requires offers { AreFitOffers offers.now }
     requires times { AreShortTimes times.now }
     requires load { IsSoundLoad load.now }
-    ensures { IfOk result (IsDelayBy timing all.now times.now flow load.now.messages load.now.limit) }
+    ensures { IfOk result (IsDelayBy timing (told offers.now) times.now flow load.now.messages load.now.limit) }
 {
     match &load.messages {
-        Messages::Short(frames) => short_delay(alloc, timing, all, flow, frames, load.limit),
+        Messages::Short(frames) => frame_delay(alloc, timing, offers, flow, frames, load.limit),
         Messages::ToOne(frames) => Ok(Delay::Long(frames.stream.frames)),
         Messages::ToAll(broadcast) => Ok(Delay::Whole(whole_time(
             broadcast,

@@ -10,4 +10,10 @@ pub struct FlowFrames {
     /// Their identifiers lie between these, whatever addresses the units come to hold.
     pub least_ident: u64,
     pub greatest_ident: u64,
+    /// The unit that sends them, by its place, where its controller keeps no order.
+    pub any_sender: Option<usize>,
+    /// The unit that answers them, where they are of long messages to one unit, and its controller keeps no order.
+    pub any_receiver: Option<usize>,
+    /// No frame has a larger identifier, answers included.
+    pub last_ident: u64,
 }

@@ -13,7 +13,7 @@ use crate::broadcast::Broadcast;
 use crate::extreme::Extreme;
 use crate::flow_frames::FlowFrames;
 use crate::flow_load::FlowLoad;
-use crate::identifiers::{group_ident, packet_ident};
+use crate::identifiers::{any_unit, group_ident, packet_ident, session_ident};
 use crate::messages::Messages;
 use crate::standing::Standing;
 use crate::streams::{bits_of_ms, load, packet_stream, single_stream};
@@ -46,10 +46,14 @@ fn single_frames(
     ensures fits { AreSound result }
     ensures few { result.stream.frames ≤ 512 }
 {
+    let greatest_ident = group_ident(units, standing, Extreme::Greatest, group, flow);
     FlowFrames {
         stream: single_stream(timing, group, pace),
         least_ident: group_ident(units, standing, Extreme::Least, group, flow),
-        greatest_ident: group_ident(units, standing, Extreme::Greatest, group, flow),
+        greatest_ident,
+        any_sender: any_unit(units, flow.sender),
+        any_receiver: None,
+        last_ident: greatest_ident,
     }
 }
 
@@ -74,6 +78,9 @@ fn packet_frames(
         stream: packet_stream(timing, units, packets, unit, pace),
         least_ident: packet_ident(timing, units, standing, Extreme::Least, flow),
         greatest_ident: packet_ident(timing, units, standing, Extreme::Greatest, flow),
+        any_sender: any_unit(units, flow.sender),
+        any_receiver: any_unit(units, unit),
+        last_ident: session_ident(timing, units, standing, Extreme::Greatest, flow, unit),
     }
 }
 

@@ -1,17 +1,17 @@
 //! Identifiers of the frames of a flow, and of requests.
-ghost use Rattle.std.specs.Prelude.{◌≡◌, ◌<◌, ℕ, length};
+ghost use Rattle.std.specs.Prelude.{◌≡◌, ◌<◌, ℕ, length, max};
 ghost use Rattle.j39_id.specs.Ident.{identifier_of};
 ghost use Rattle.j39_findings.specs.declared.plan.to.To.TheVariants.{One};
-ghost use Rattle.j39_load.specs.Loads.{broadcast_ident, destination_at, group_ident, of_unit, packet_ident};
+ghost use Rattle.j39_load.specs.Loads.{any_unit, broadcast_ident, destination_at, group_ident, of_unit, packet_ident, session_ident};
 ghost use Rattle.j39_load.specs.Requests.{request_ident};
 ghost use Rattle.j39_load.specs.Standing.{stays_of};
 ghost use Rattle.j39_load.specs.inside.Extremes.{extreme_address};
 
 use crate::extreme::Extreme;
 use crate::standing::Standing;
-use j39_findings::{FlowPlan, GroupPlan, RequestPlan, Timing, To, UnitPlan};
+use j39_findings::{FlowPlan, GroupPlan, Queue, RequestPlan, Timing, To, UnitPlan};
 use j39_id::addresses::GLOBAL_ADDRESS;
-use j39_id::services::{CLAIM_PRIORITY, DATA_TRANSFER, REQUEST};
+use j39_id::services::{CLAIM_PRIORITY, CONNECTION_MANAGEMENT, DATA_TRANSFER, REQUEST};
 use j39_id::{PDU2_FIRST, Pgn, pf_of};
 
 // The number of the identifier by which a group is sent, whose number need be no group's.
@@ -74,6 +74,38 @@ pub(crate) fn packet_ident(
         destination(units, standing, extreme, flow.to),
         extreme.address(standing, &units[flow.sender]),
     )
+}
+
+/// The greatest one of its long messages to the unit at a place, with what is answered.
+pub(crate) fn session_ident(
+    timing: Timing,
+    units: &[UnitPlan],
+    standing: &Standing,
+    extreme: Extreme,
+    flow: &FlowPlan,
+    unit: usize,
+) -> u64
+    requires sender { flow.now.sender < length units.now }
+    requires to { unit < length units.now }
+    ensures { result ≡ session_ident timing (of_unit units.now (extreme_address extreme (stays_of standing.now))) flow.now unit }
+{
+    let from = extreme.address(standing, &units[flow.sender]);
+    let to = extreme.address(standing, &units[unit]);
+    let pgn = CONNECTION_MANAGEMENT.number();
+    let asked = identifier(timing.transport_priority, pgn, to, from);
+    let answered = identifier(timing.transport_priority, pgn, from, to);
+    asked.max(answered)
+}
+
+/// The unit at a place, where its controller keeps no order.
+pub(crate) fn any_unit(units: &[UnitPlan], unit: usize) -> Option<usize>
+    requires { unit < length units.now }
+    ensures { result ≡ any_unit units.now unit }
+{
+    match units[unit].queue {
+        Queue::Any => Some(unit),
+        Queue::Priority => None,
+    }
 }
 
 /// That of frames of a group of the transport protocol, from a unit to all.

@@ -5,6 +5,7 @@ ghost use Rattle.j39_findings.specs.Findings.{Clean};
 ghost use Rattle.j39_findings.specs.declared.plan.Plan.{Plan as Plans};
 ghost use Rattle.j39_findings.specs.declared.plan.flow_plan.FlowPlan.{FlowPlan as PlannedFlows};
 ghost use Rattle.j39_findings.specs.declared.plan.group_plan.GroupPlan.{GroupPlan as PlannedGroups};
+ghost use Rattle.j39_findings.specs.declared.plan.queue.Queue.TheVariants.{Priority};
 ghost use Rattle.j39_findings.specs.declared.plan.request_plan.RequestPlan.{RequestPlan as PlannedRequests};
 ghost use Rattle.j39_findings.specs.declared.plan.timing.Timing.{Timing as Timings};
 ghost use Rattle.j39_findings.specs.declared.plan.unit_plan.UnitPlan.{UnitPlan as PlannedUnits};
@@ -12,14 +13,15 @@ ghost use Rattle.j39_load.specs.declared.delay.Delay.{Delay as Delays};
 ghost use Rattle.j39_load.specs.FreshNeeds.{AreNeedsFresh};
 ghost use Rattle.j39_load.specs.LoadFindings.{AreLoadFindings, AsksOfBus, load_findings};
 ghost use Rattle.j39_load.specs.Loads.{group_ident};
-ghost use Rattle.j39_load.specs.Asked.{asked_of, total_load};
-ghost use Rattle.j39_load.specs.PlannedFrames.{AreDeadlinesKept, AreDelaysBounds, AreShortFlowsBounded, AreTimesBounds, ArePlannedFramesInTime};
+ghost use Rattle.j39_load.specs.Asked.{asked_of, frames_asked, total_load};
+ghost use Rattle.j39_load.specs.PlannedFrames.{AreAllOrdered, AreDeadlinesKept, AreDelaysBounds, AreShortFlowsBounded, AreTimesBounds, ArePlannedFramesInTime};
 ghost use Rattle.j39_load.specs.Ranks.{AreHeldApart, AreHeldByPlan, AreUnitsPlanned, IsAskedBetween, IsShortFlow, LieBetween, RequestLiesBetween};
 ghost use Rattle.j39_load.specs.Requests.{request_ident};
 ghost use Rattle.j39_load.specs.Standing.{TellsWhoStays};
 
-/// The delays of a plan bound the time of its frames. A delay that `Loads::delays` tells holds in every legal schedule
-/// whose planned frames are those of the plan's flows, of which a flow without a period has none (`bounds`), and so
+/// The delays of a plan bound the time of its frames. A delay that `Loads::delays` tells holds in every schedule, in which units keep order or
+/// don't, whose planned frames are those of the plan's flows, of which a flow without a period has none, and where no unit of the plan keeps
+/// none in every legal one (`bounds`), and so
 /// does a time in which long messages to all are whole (`whole`); and where `load_findings` finds nothing, it tells a
 /// delay of each flow whose messages go in one frame, within the flow's limit (`short`), and a time of each flow with
 /// long messages to all of which a deadline is written, within this (`deadlines`). So it is of a plan in which
@@ -39,9 +41,16 @@ pub fn delays_are_bounds()
 {}
 
 /// Of a clean plan with whose load nothing is wrong either, each need that asks for an age has a flow that meets it and brings it no older
-/// than that, in every legal schedule whose planned frames are those of the plan's flows.
+/// than that, in every schedule whose planned frames are those of the plan's flows.
 pub fn needs_stay_fresh()
     ensures { (plan : Plans) (timing : Timings) → Clean plan → AreLoadFindings plan (Some timing) [] → AreNeedsFresh plan timing }
+{}
+
+/// Of a plan whose units all keep order no frames are of a unit that keeps none: what is promised of every legal schedule holds of it.
+pub fn plans_in_order()
+    ensures { (plan : Plans) (timing : Timings) (stays : PlannedUnits → Bool)
+        → ((u : ℕ) (unit : PlannedUnits) → slice_get plan.units.items u ≡ Some unit → unit.queue ≡ Priority)
+        → AreAllOrdered (frames_asked (asked_of timing plan stays)) }
 {}
 
 /// Where each unit holds its planned address, or one of 128 to 247 if it may choose and isn't one that stays, the identifiers of a flow's

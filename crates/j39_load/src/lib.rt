@@ -5,6 +5,7 @@
 mod ages;
 mod broadcast;
 mod broadcasts;
+mod companies;
 mod damage;
 mod delay;
 mod delays;
@@ -18,6 +19,7 @@ mod laws;
 mod load_finding;
 mod loads;
 mod messages;
+mod offers;
 mod request_load;
 mod requests;
 mod standing;
@@ -33,7 +35,7 @@ pub use faults::{all_findings, bits_of_second, check_load};
 pub use flow_frames::FlowFrames;
 pub use flow_load::FlowLoad;
 pub use laws::{
-    delays_are_bounds, identifiers_lie_between, needs_stay_fresh,
+    delays_are_bounds, identifiers_lie_between, needs_stay_fresh, plans_in_order,
     short_flows_have_different_identifiers,
 };
 pub use load_finding::LoadFinding;

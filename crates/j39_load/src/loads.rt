@@ -2,11 +2,13 @@
 ghost use Rattle.std.specs.Prelude.{◌≡◌, ◌≢◌, [], ◌≤◌, ◌<◌, ◌⊎◌, ◌^◌, ◌*◌, ◌+◌, ◌++◌, Bool, All, length, map, sum_by, IfOk, OnOk, OnErr};
 ghost use Rattle.j39_findings.specs.PlanLimits.{flow_limit, request_limit};
 ghost use Rattle.j39_findings.specs.declared.plan.unit_plan.UnitPlan.{UnitPlan as APlannedUnit};
+ghost use Rattle.j39_load.specs.AnyQueues.{IsOffer};
 ghost use Rattle.j39_load.specs.Asked.{all_frames, announcements_of_unit, asked_by, asked_of, frames_of_flow, frames_of_request, packets_of_unit, singles_of_flow, total_load};
 ghost use Rattle.j39_load.specs.Delays.{HasDelay, TellDelays};
 ghost use Rattle.j39_load.specs.SoundLoads.{AreSoundIfAny, IsSoundIfAsked, IsSoundIfKnown, IsSoundIfSent};
 ghost use Rattle.j39_load.specs.Standing.{TellsWhoStays, stays_of};
 ghost use Rattle.j39_load.specs.inside.FramesBy.{frames_by, broadcasts_by_unit};
+ghost use Rattle.j39_load.specs.inside.Offers.{AreFitOffers, told};
 ghost use Rattle.j39_load.specs.inside.TurnTimes.{AreShortTimes, TellTurnTimes};
 ghost use Rattle.j39_id.specs.Limits.{unit_limit};
 ghost use Rattle.std.proofs.Props.{props};
@@ -20,6 +22,7 @@ use crate::flow_frames::FlowFrames;
 use crate::flow_load::FlowLoad;
 use crate::flow_loads::loads_of;
 use crate::messages::Messages;
+use crate::offers::{Offers, offers_of};
 use crate::request_load::RequestLoad;
 use crate::requests::request_loads_of;
 use crate::standing::Standing;
@@ -297,25 +300,24 @@ impl Loads {
         damage + (self.total_of_flows() + (self.total_of_units() + self.total_of_requests()))
     }
 
-    // The delay of the flow at this place among all these frames, where the broadcasts of the units take these times,
-    // and none where it isn't known how often it is sent.
+    // The delay of the flow at this place among all frames where they are offered for good, where the broadcasts of the
+    // units take these times, and none where it isn't known how often it is sent.
     fn delay(
         &self,
         alloc: Global,
-        all: &[Option<FlowFrames>],
+        offers: &Offers,
         times: &[Option<u64>],
         flow: usize,
     ) -> Result<Option<Delay>, AllocError>
         requires place { flow < length self.now.flows.items }
-        requires all { all.now ≡ all_frames self.now.flows.items self.now.units.items self.now.requests.items }
-        requires fit { All AreSoundIfAny all.now }
-        requires few { length all.now ≤ 2000 }
-        requires times { TellTurnTimes self.now.timing (asked_by self.now.flows.items self.now.units.items self.now.requests.items) times.now }
+        requires offers { AreFitOffers offers.now }
+        requires is { IsOffer self.now.timing (all_frames self.now.flows.items self.now.units.items self.now.requests.items) (told offers.now) }
+        requires times { TellTurnTimes self.now.timing (asked_by self.now.flows.items self.now.units.items self.now.requests.items) (told offers.now) times.now }
         requires short { AreShortTimes times.now }
         ensures { IfOk result (HasDelay self.now.timing (asked_by self.now.flows.items self.now.units.items self.now.requests.items) flow) }
     {
         match &self.flows[flow] {
-            Some(load) => Ok(Some(delay_of(alloc, self.timing, all, times, flow, load)?)),
+            Some(load) => Ok(Some(delay_of(alloc, self.timing, offers, times, flow, load)?)),
             None => Ok(None),
         }
     }
@@ -335,10 +337,11 @@ impl Loads {
             self.units.as_slice(),
             self.requests.as_slice(),
         )?;
-        let times = self.turn_times(alloc, all.as_slice())?;
+        let offers = offers_of(alloc, self.timing, all.as_slice())?;
+        let times = self.turn_times(alloc, &offers)?;
         let mut delays = Vec::with_capacity(alloc, self.flows.len())?;
         for flow in 0..self.flows.len() {
-            delays.push_reserved(self.delay(alloc, all.as_slice(), times.as_slice(), flow)?);
+            delays.push_reserved(self.delay(alloc, &offers, times.as_slice(), flow)?);
         }
         Ok(delays)
     }

@@ -7,7 +7,7 @@ ghost use Rattle.j39_load.specs.Standing.{stays_of};
 
 use crate::extreme::Extreme;
 use crate::flow_frames::FlowFrames;
-use crate::identifiers::request_ident;
+use crate::identifiers::{any_unit, request_ident};
 use crate::request_load::RequestLoad;
 use crate::standing::Standing;
 use crate::streams::{load, request_stream};
@@ -30,11 +30,15 @@ fn load_of_request(
         return None;
     };
     let stream = request_stream(timing, period);
+    let greatest_ident = request_ident(units, standing, Extreme::Greatest, request);
     Some(RequestLoad {
         frames: FlowFrames {
             stream,
             least_ident: request_ident(units, standing, Extreme::Least, request),
-            greatest_ident: request_ident(units, standing, Extreme::Greatest, request),
+            greatest_ident,
+            any_sender: any_unit(units, request.sender),
+            any_receiver: None,
+            last_ident: greatest_ident,
         },
         bits_per_second: load(stream, period),
     })

@@ -60,6 +60,8 @@ fn most_bytes(group: &GroupPlan) -> u8
 pub(crate) fn single_stream(timing: Timing, group: &GroupPlan, pace: Pace) -> Stream
     ensures stream { result ≡ single_stream timing group.now pace }
     ensures fits { IsStream result }
+    ensures late { result.late < 2 ^ 30 }
+    ensures short { result.bits ≤ 160 }
     ensures few { result.frames ≤ 512 }
 {
     Stream {
@@ -81,6 +83,8 @@ pub(crate) fn packet_stream(
     requires receiver { unit < length units.now }
     ensures stream { result ≡ packet_stream timing units.now packets unit pace }
     ensures fits { IsStream result }
+    ensures late { result.late < 2 ^ 30 }
+    ensures short { result.bits ≤ 160 }
     ensures few { result.frames ≤ 512 }
 {
     Stream {
@@ -96,6 +100,8 @@ pub(crate) fn spaced_stream(timing: Timing, gaps: u8) -> Stream
     requires { 1 ≤ gaps }
     ensures stream { result ≡ spaced_stream timing gaps }
     ensures fits { IsStream result }
+    ensures late { result.late < 2 ^ 30 }
+    ensures short { result.bits ≤ 160 }
 {
     Stream {
         frames: 1,
@@ -110,6 +116,8 @@ pub(crate) fn request_stream(timing: Timing, period: u16) -> Stream
     requires { 1 ≤ period }
     ensures stream { result ≡ request_stream timing period }
     ensures fits { IsStream result }
+    ensures late { result.late < 2 ^ 30 }
+    ensures short { result.bits ≤ 160 }
     ensures few { result.frames ≤ 512 }
 {
     Stream {

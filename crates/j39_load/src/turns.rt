@@ -1,14 +1,15 @@
 //! How long the broadcasts of units take, one of each flow.
-ghost use Rattle.std.specs.Prelude.{◌≡◌, ◌≤◌, ◌<◌, ◌^◌, All, length, IfOk};
+ghost use Rattle.std.specs.Prelude.{◌≡◌, ◌<◌, ◌^◌, length, IfOk};
 ghost use Rattle.std.specs.Option.{ForSome};
-ghost use Rattle.j39_load.specs.Asked.{all_frames, asked_by};
+ghost use Rattle.j39_load.specs.Asked.{asked_by};
 ghost use Rattle.j39_load.specs.Delays.{IsTurnTime, known_turn_time, packet_time, turn_time};
-ghost use Rattle.j39_load.specs.SoundLoads.{AreSoundIfAny, IsSoundUnit};
+ghost use Rattle.j39_load.specs.SoundLoads.{IsSoundUnit};
+ghost use Rattle.j39_load.specs.inside.Offers.{AreFitOffers, told};
 ghost use Rattle.j39_load.specs.inside.TurnTimes.{AreShortTimes, IsShortTime, TellTurnTimes};
 
-use crate::delays::wait_of;
-use crate::flow_frames::FlowFrames;
+use crate::delays::wait_in;
 use crate::loads::Loads;
+use crate::offers::Offers;
 use crate::streams::bits_of_ms;
 use crate::unit_load::UnitLoad;
 use j39_findings::Timing;
@@ -66,18 +67,16 @@ fn known_turn_time(
 }
 
 impl Loads {
-    // The time of the unit at a place, among all these frames.
+    // The time of the unit at a place, among all frames where they are offered for good.
     fn time_of_unit(
         &self,
         alloc: Global,
-        all: &[Option<FlowFrames>],
+        offers: &Offers,
         unit: usize,
     ) -> Result<Option<u64>, AllocError>
-        requires all { all.now ≡ all_frames self.now.flows.items self.now.units.items self.now.requests.items }
-        requires fit { All AreSoundIfAny all.now }
-        requires few { length all.now ≤ 2000 }
+        requires offers { AreFitOffers offers.now }
         requires unit { unit < length self.now.units.items }
-        ensures time { IfOk result (IsTurnTime self.now.timing (asked_by self.now.flows.items self.now.units.items self.now.requests.items) unit) }
+        ensures time { IfOk result (IsTurnTime self.now.timing (asked_by self.now.flows.items self.now.units.items self.now.requests.items) (told offers.now) unit) }
         ensures short { IfOk result IsShortTime }
     {
         let Some(load) = &self.units[unit] else {
@@ -85,27 +84,31 @@ impl Loads {
         };
         let packets = 2 * self.flows.len() + unit;
         let announcements = 2 * self.flows.len() + (self.units.len() + unit);
-        let announced = wait_of(alloc, self.timing, all, announcements, &load.announcements)?;
-        let sent = wait_of(alloc, self.timing, all, packets, &load.packets)?;
+        let announced = wait_in(
+            alloc,
+            self.timing,
+            offers,
+            announcements,
+            &load.announcements,
+        )?;
+        let sent = wait_in(alloc, self.timing, offers, packets, &load.packets)?;
         Ok(known_turn_time(self.timing, load, announced, sent))
     }
 
-    /// The times of the units, in order, among all these frames.
+    /// The times of the units, in order, among all frames where they are offered for good.
     pub(crate) fn turn_times(
         &self,
         alloc: Global,
-        all: &[Option<FlowFrames>],
+        offers: &Offers,
     ) -> Result<Vec<Option<u64>>, AllocError>
-        requires all { all.now ≡ all_frames self.now.flows.items self.now.units.items self.now.requests.items }
-        requires fit { All AreSoundIfAny all.now }
-        requires few { length all.now ≤ 2000 }
+        requires { AreFitOffers offers.now }
         ensures times { IfOk result (λ times.
-            TellTurnTimes self.now.timing (asked_by self.now.flows.items self.now.units.items self.now.requests.items) times.items) }
+            TellTurnTimes self.now.timing (asked_by self.now.flows.items self.now.units.items self.now.requests.items) (told offers.now) times.items) }
         ensures short { IfOk result (λ times. AreShortTimes times.items) }
     {
         let mut times = Vec::new(alloc);
         for unit in 0..self.units.len() {
-            let time = self.time_of_unit(alloc, all, unit)?;
+            let time = self.time_of_unit(alloc, offers, unit)?;
             times.push(time)?;
         }
         Ok(times)

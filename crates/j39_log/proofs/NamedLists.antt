@@ -1,11 +1,12 @@
 -- The lines of signals and records with names, one after another.
-use Rattle.std.proofs.Common.{◌≡◌, ℕ, suc, ◌+◌, ◌*◌, ◌<◌, Bool, true, false, not, if◌then◌else◌, List, [], ◌∷◌, ◌++◌, map, length, drop, get_or, Option, Some, None, refl, sym, ap, ◌∙◌, append_assoc, arith}
+use Rattle.std.proofs.Common.{◌≡◌, ℕ, suc, ◌+◌, ◌*◌, ◌<◌, Bool, true, false, if◌then◌else◌, List, [], ◌∷◌, ◌++◌, map, length, drop, get_or, Option, Some, None, refl, sym, ap, ◌∙◌, append_assoc, arith}
 use Rattle.std.specs.List.{filter, zip}
 use Rattle.std.proofs.lemmas.List.{drop_more, get_or-map, length-map}
 use Rattle.std.proofs.lemmas.Slice.Zip.{get_or-zip, length-zip}
 use Rattle.j39_signal.specs.Bits.{raw_of}
 use Rattle.j39_signal.specs.Parts.{SignalParts}
 use Rattle.j39_signal.specs.Places.{further}
+use Rattle.j39_findings.specs.Records.{stands_once}
 use Rattle.j39_findings.specs.declared.plan.Plan.{Plan}
 use Rattle.j39_findings.specs.declared.plan.group_plan.GroupPlan.{GroupPlan}
 use Rattle.j39_log.specs.LogReports.{signal_state_text}
@@ -34,28 +35,30 @@ named_count tables signals count = omega (arith, count, length-zip signals (map 
 abbrev read_line : NumberNames → List ℕ → NamedSignal → List ℕ
 read_line parameters bytes s = named_signal_line s.0 (raw_text parameters s (raw_of bytes s.0))
 
--- what is written for a signal, which is repeated or not
+-- what is written for a signal, which stands once in the message or doesn't
 abbrev pub lines_of : Bool → List ℕ → List ℕ
-lines_of repeated line = if repeated then [] else line
+lines_of stands line = if stands then line else []
 
 with_first : (b : Bool) (parameters : NumberNames) (s : NamedSignal) (rest : List NamedSignal) (bytes : List ℕ)
-    → named_signal_lines parameters (if not b then s ∷ rest else rest) bytes ≡ lines_of b (read_line parameters bytes s) ++ named_signal_lines parameters rest bytes
+    → named_signal_lines parameters (if b then s ∷ rest else rest) bytes ≡ lines_of b (read_line parameters bytes s) ++ named_signal_lines parameters rest bytes
 unfolding named_signal_lines
 with_first true parameters s rest bytes = refl
 with_first false parameters s rest bytes = refl
 
 -- one more signal is written
-pub one_more_line : (parameters : NumberNames) (signals : List NamedSignal) (bytes old new all : List ℕ) (i raw : ℕ) (s : NamedSignal) → i < length signals
-    → s ≡ get_or signals i s → raw ≡ raw_of bytes s.0 → new ≡ old ++ lines_of s.0.repeated (named_signal_line s.0 (raw_text parameters s raw))
-    → old ++ named_signal_lines parameters (named_single_signals (drop i signals)) bytes ≡ all
-    → new ++ named_signal_lines parameters (named_single_signals (drop (i + 1) signals)) bytes ≡ all
-one_more_line parameters signals bytes old new all i raw s less here reads written before =
+pub one_more_line : (parameters : NumberNames) (signals : List NamedSignal) (bytes old new all : List ℕ) (i : ℕ) (s : NamedSignal) → i < length signals
+    → s ≡ get_or signals i s
+    → new ≡ old ++ lines_of (stands_once (length bytes) s.0) (named_signal_line s.0 (raw_text parameters s (raw_of bytes s.0)))
+    → old ++ named_signal_lines parameters (named_single_signals (length bytes) (drop i signals)) bytes ≡ all
+    → new ++ named_signal_lines parameters (named_single_signals (length bytes) (drop (i + 1) signals)) bytes ≡ all
+one_more_line parameters signals bytes old new all i s less here written before =
+    let n : ℕ = length bytes in
     let rest : List NamedSignal = drop (i + 1) signals in
-    let next : named_signal_lines parameters (named_single_signals (drop i signals)) bytes
-    ≡ lines_of s.0.repeated (read_line parameters bytes s) ++ named_signal_lines parameters (named_single_signals rest) bytes =
-    ap (λ (xs : List NamedSignal). named_signal_lines parameters (named_single_signals xs) bytes) (drop_more signals i s less ∙ ap (λ (t : NamedSignal). t ∷ rest) (sym here))
-    ∙ with_first s.0.repeated parameters s (named_single_signals rest) bytes in
-    rw (written, append_assoc, reads) (rw next at before)
+    let next : named_signal_lines parameters (named_single_signals n (drop i signals)) bytes
+    ≡ lines_of (stands_once n s.0) (read_line parameters bytes s) ++ named_signal_lines parameters (named_single_signals n rest) bytes =
+    ap (λ (xs : List NamedSignal). named_signal_lines parameters (named_single_signals n xs) bytes) (drop_more signals i s less ∙ ap (λ (t : NamedSignal). t ∷ rest) (sym here))
+    ∙ with_first (stands_once n s.0) parameters s (named_single_signals n rest) bytes in
+    rw (written, append_assoc) (rw next at before)
 
 -- ---- records
 

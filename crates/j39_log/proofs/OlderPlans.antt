@@ -1,13 +1,14 @@
 -- Plans without the keys of version 3.
-use Rattle.std.proofs.Common.{◌≡◌, ℕ, suc, ◌+◌, ℤ, ◌==◌, Bool, false, not, ◌&&◌, cond, nat_le, List, [], ◌∷◌, ◌++◌, codes, Option, Some, None, All as AllOf, refl, sym, ap, ◌∙◌, inl, inr, arith}
+use Rattle.std.proofs.Common.{◌≡◌, ℕ, suc, ◌+◌, ℤ, ◌==◌, Bool, true, false, not, ◌&&◌, ◌||◌, cond, if◌then◌else◌, nat_le, List, [], ◌∷◌, ◌++◌, length, codes, Option, Some, None, All as AllOf, refl, sym, ap, ◌∙◌, inl, inr, arith}
 use Rattle.std.specs.Fmt.{signed_decimal}
 use Rattle.std.specs.List.{position_from}
 use Rattle.std.proofs.lemmas.Iterator.Adapters.{position_from-zero}
+use Rattle.std.proofs.lemmas.Bool.{false≢true}
 use Rattle.std.proofs.lemmas.List.{append-nil}
+use Rattle.std.proofs.lemmas.List.Elements.{All-head, All-tail}
 use Rattle.j39_signal.specs.declared.kind.Kind.{Kind}
 use Rattle.j39_signal.specs.Parts.{SignalParts}
 use Rattle.j39_findings.proofs.Lengths.{same_length}
-use Rattle.j39_findings.proofs.RecordCounts.{all_single}
 use Rattle.j39_findings.specs.Records.{single_signals}
 use Rattle.j39_findings.specs.declared.plan.group_plan.GroupPlan.{GroupPlan}
 use Rattle.j39_findings.specs.declared.plan.text_plan.TextPlan.{TextPlan}
@@ -63,11 +64,25 @@ no_records : (group : GroupPlan) (bytes : List ℕ) → group.every ≡ None →
 unfolding all_records_lines
 no_records group bytes none = rw none refl
 
+stands : (r o t : Bool) (s : SignalParts) (xs ys : List SignalParts) → r ≡ false → o ≡ false → xs ≡ ys
+    → (if not r && (not o || t) then s ∷ xs else xs) ≡ s ∷ ys
+stands true o t s xs ys once always same = absurd (false≢true (sym once))
+stands false true t s xs ys once always same = absurd (false≢true (sym always))
+stands false false t s xs ys once always same = ap (λ (others : List SignalParts). s ∷ others) same
+
+-- each signal is there, and none is repeated
+all_stand : (bytes : ℕ) (signals : List SignalParts) → AllOf (λ s. s.repeated ≡ false) signals → AllOf (λ s. s.optional ≡ false) signals
+    → single_signals bytes signals ≡ signals
+all_stand bytes [] once always = refl
+all_stand bytes (s ∷ rest) once always =
+    stands s.repeated s.optional _ s _ _ (All-head (λ t. t.repeated ≡ false) s rest once) (All-head (λ t. t.optional ≡ false) s rest always)
+    (all_stand bytes rest (All-tail (λ t. t.repeated ≡ false) s rest once) (All-tail (λ t. t.optional ≡ false) s rest always))
+
 pub signals_alone : SignalsAlone
 unfolding group_report reading_lines
-signals_alone group i bytes single none =
-    let signals = signal_lines (single_signals group.signals.items) bytes in
+signals_alone group i bytes single none always =
+    let signals = signal_lines (single_signals (length bytes) group.signals.items) bytes in
     ap (λ (lines : List ℕ). group_line group i bytes ++ (signals ++ (lines ++ text_lines group.texts.items bytes))) (no_records group bytes single)
     ∙ ap (λ (lines : List ℕ). group_line group i bytes ++ (signals ++ lines)) (no_lines group.texts.items bytes none)
     ∙ ap (λ (lines : List ℕ). group_line group i bytes ++ lines) (append-nil signals)
-    ∙ ap (λ (all : List SignalParts). group_line group i bytes ++ signal_lines all bytes) (all_single group.signals.items (group.every_needed single))
+    ∙ ap (λ (all : List SignalParts). group_line group i bytes ++ signal_lines all bytes) (all_stand (length bytes) group.signals.items (group.every_needed single) always)

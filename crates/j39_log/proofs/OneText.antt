@@ -10,10 +10,10 @@ use Rattle.j39_id.specs.declared.frame.Frame.{Frame}
 use Rattle.j39_id.specs.declared.ident.Ident.{Ident}
 use Rattle.j39_id.specs.declared.line_error.LineError.{LineError}
 use Rattle.j39_findings.specs.ListPlaces.{ValueAt}
+use Rattle.j39_signal.proofs.LaidOut.{no_fault}
 use Rattle.j39_findings.specs.PlannedGroups.{IsSendable, IsRefusedGroup, IsFirstRefused}
 use Rattle.j39_findings.specs.declared.plan.Plan.{Plan}
 use Rattle.j39_findings.specs.declared.plan.group_plan.GroupPlan.{GroupPlan}
-use Rattle.j39_signal.proofs.LaidOut.{no_fault}
 use Rattle.j39_tp.proofs.PacketLaws.{one_management, one_data}
 use Rattle.j39_tp.proofs.Tracking.{one_pgn, one_message}
 use Rattle.j39_tp.specs.declared.packet.Packet.{Packet}
@@ -114,7 +114,9 @@ one_log_text plan log t u a b =
 
 not_both_ways : (group : GroupPlan) → IsSendable group → IsRefusedGroup group → ⊥
 not_both_ways group sendable (inl number) = number sendable.number
-not_both_ways group sendable (inr layout) = no_fault group.length group.signals.items layout.0 layout.1 sendable.layout layout.2
+not_both_ways group sendable (inr (inl layout)) =
+    no_fault group.most group.signals.items layout.0 layout.1 sendable.layout.longest layout.2
+not_both_ways group sendable (inr (inr behind)) = behind sendable.layout.always
 
 -- where the first groups are sendable, none of them is refused
 unrefused : (groups : List GroupPlan) (n g : ℕ) → All IsSendable (take n groups) → g < n → ValueAt IsRefusedGroup groups g → ⊥

@@ -15,7 +15,7 @@ use Rattle.j39_signal.specs.declared.kind.Kind.{Kind}
 use Rattle.j39_signal.specs.declared.kind.Kind.TheVariants.{Measured, Discrete, Raw, States, Signed, Dtc}
 use Rattle.j39_signal.specs.declared.state.State.{State}
 use Rattle.j39_signal.specs.declared.state.State.TheVariants.{Value, Specific, Reserved, Fault, Absent}
-use Rattle.j39_findings.specs.Records.{record_count, record_signals, repeated_signals, single_signals}
+use Rattle.j39_findings.specs.Records.{record_count, record_signals, repeated_signals, single_signals, stands_once}
 use Rattle.j39_findings.specs.declared.plan.Plan.{Plan}
 use Rattle.j39_findings.specs.declared.plan.group_plan.GroupPlan.{GroupPlan}
 use Rattle.j39_findings.specs.declared.plan.meaning.Meaning.{Meaning}
@@ -100,9 +100,10 @@ chosen : (b : Bool) (s : SignalParts) (xs ys : List NamedSignal) (zs : List Sign
 chosen true s xs ys zs is = ap (λ (l : List NamedSignal). (s, nothing) ∷ l) is
 chosen false s xs ys zs is = is
 
-singles : (signals : List SignalParts) → named.named_single_signals (unnamed signals) ≡ unnamed (single_signals signals)
-singles [] = refl
-singles (s ∷ rest) = chosen (not s.repeated) s (named.named_single_signals (unnamed rest)) [] (single_signals rest) (singles rest)
+singles : (bytes : ℕ) (signals : List SignalParts) → named.named_single_signals bytes (unnamed signals) ≡ unnamed (single_signals bytes signals)
+singles bytes [] = refl
+singles bytes (s ∷ rest) =
+    chosen (stands_once bytes s) s (named.named_single_signals bytes (unnamed rest)) [] (single_signals bytes rest) (singles bytes rest)
 
 repeats : (signals : List SignalParts) → filter (λ (s : NamedSignal). s.0.repeated) (unnamed signals) ≡ unnamed (repeated_signals signals)
 repeats [] = refl
@@ -140,11 +141,12 @@ unfolding named.named_lines named.all_named_records_lines plain.reading_lines pl
 reads_alone group bytes =
     let signals = group.signals.items in
     let texts = text_lines group.texts.items bytes in
-    let first : named.named_signal_lines nothing (named.named_single_signals (unnamed signals)) bytes ≡ plain.signal_lines (single_signals signals) bytes =
-    ap (λ (l : List NamedSignal). named.named_signal_lines nothing l bytes) (singles signals) ∙ lines_alone (single_signals signals) bytes in
+    let n : ℕ = length bytes in
+    let first : named.named_signal_lines nothing (named.named_single_signals n (unnamed signals)) bytes ≡ plain.signal_lines (single_signals n signals) bytes =
+    ap (λ (l : List NamedSignal). named.named_signal_lines nothing l bytes) (singles n signals) ∙ lines_alone (single_signals n signals) bytes in
     ap (λ (t : List ℕ). t ++ (option_map_or (λ every. named.named_records_lines nothing every (record_count group (length bytes)) (unnamed signals) bytes) group.every []
     ++ texts)) first
-    ∙ ap (λ (t : List ℕ). plain.signal_lines (single_signals signals) bytes ++ (t ++ texts)) (all_alone group group.every signals bytes)
+    ∙ ap (λ (t : List ℕ). plain.signal_lines (single_signals n signals) bytes ++ (t ++ texts)) (all_alone group group.every signals bytes)
 
 -- ---- names
 

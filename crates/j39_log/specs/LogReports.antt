@@ -105,10 +105,10 @@ unfoldable pub group_line : GroupPlan → Ident → List ℕ → List ℕ
 group_line group i bytes =
     codes "group " ++ (group.label.bytes ++ (way_text i ++ (codes " bytes " ++ (encode_upper bytes ++ 10 ∷ []))))
 
--- what the signals of a group that aren't repeated, its records and its texts read in these bytes
+-- what the signals of a group that aren't repeated and are there, its records and its texts read in these bytes
 unfoldable pub reading_lines : GroupPlan → List ℕ → List ℕ
 reading_lines group bytes =
-    signal_lines (single_signals group.signals.items) bytes ++ (all_records_lines group bytes ++ text_lines group.texts.items bytes)
+    signal_lines (single_signals (length bytes) group.signals.items) bytes ++ (all_records_lines group bytes ++ text_lines group.texts.items bytes)
 
 unfoldable pub group_report : GroupPlan → Ident → List ℕ → List ℕ
 group_report group i bytes = group_line group i bytes ++ reading_lines group bytes

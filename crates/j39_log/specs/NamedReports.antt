@@ -11,7 +11,7 @@ use Rattle.j39_signal.specs.declared.kind.Kind.TheVariants.{Dtc}
 use Rattle.j39_signal.specs.State.{state_of, value_of}
 use Rattle.j39_signal.specs.declared.state.State.{State}
 use Rattle.j39_signal.specs.declared.state.State.TheVariants.{Value}
-use Rattle.j39_findings.specs.Records.{record_count}
+use Rattle.j39_findings.specs.Records.{record_count, stands_once}
 use Rattle.j39_findings.specs.declared.plan.Plan.{Plan}
 use Rattle.j39_findings.specs.declared.plan.group_plan.GroupPlan.{GroupPlan}
 use Rattle.j39_findings.specs.declared.plan.meaning.Meaning.{Meaning}
@@ -116,9 +116,10 @@ named_record_lines parameters place [] bytes = []
 named_record_lines parameters place (s ∷ rest) bytes =
     named_record_line place s.0 (raw_text parameters s (raw_of bytes s.0)) ++ named_record_lines parameters place rest bytes
 
--- the signals that aren't repeated, and those of a record that stands so many bytes behind the first
-abbrev pub named_single_signals : List NamedSignal → List NamedSignal
-named_single_signals = filter (λ s. not s.0.repeated)
+-- the signals that aren't repeated and that a message of so many bytes has, and those of a record that stands so many bytes behind the
+-- first
+abbrev pub named_single_signals : ℕ → List NamedSignal → List NamedSignal
+named_single_signals bytes = filter (λ s. stands_once bytes s.0)
 
 abbrev pub named_record_signals : ℕ → List NamedSignal → List NamedSignal
 named_record_signals bytes signals = map (λ s. (further bytes s.0, s.1)) (filter (λ s. s.0.repeated) signals)
@@ -135,10 +136,10 @@ unfoldable pub all_named_records_lines : NumberNames → GroupPlan → List Name
 all_named_records_lines parameters group signals bytes =
     option_map_or (λ every. named_records_lines parameters every (record_count group (length bytes)) signals bytes) group.every []
 
--- what the signals of a group that aren't repeated, its records and its texts read in these bytes, by these names
+-- what the signals of a group that aren't repeated and are there, its records and its texts read in these bytes, by these names
 unfoldable pub named_lines : NumberNames → List NamedSignal → GroupPlan → List ℕ → List ℕ
 named_lines parameters signals group bytes =
-    named_signal_lines parameters (named_single_signals signals) bytes
+    named_signal_lines parameters (named_single_signals (length bytes) signals) bytes
     ++ (all_named_records_lines parameters group signals bytes ++ text_lines group.texts.items bytes)
 
 -- ---- a report

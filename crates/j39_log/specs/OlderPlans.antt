@@ -1,5 +1,5 @@
 -- What a plan without the keys of version 3 makes of a log: the groups and the texts of values that versions 1 and 2 have.
-use Rattle.std.specs.Prelude.{◌≡◌, ℕ, ◌⊎◌, ◌==◌, ◌&&◌, ℤ, Bool, List, [], ◌++◌, None, codes}
+use Rattle.std.specs.Prelude.{◌≡◌, ℕ, ◌⊎◌, ◌==◌, ◌&&◌, ℤ, Bool, false, List, [], ◌++◌, All, None, codes}
 use Rattle.std.specs.Fmt.{signed_decimal}
 use Rattle.std.specs.List.{position}
 use Rattle.j39_id.specs.declared.ident.Ident.{Ident}
@@ -32,7 +32,7 @@ abbrev pub ValuesAreShownWhole : Type 0
 ValuesAreShownWhole = (s : SignalParts) (v : ℤ) → IsOlderKind s.kind → s.per ≡ 1
     → signal_state_text s (Value v) ≡ field_text (codes " value ") (signed_decimal v) ++ signal_unit_text s.unit.bytes
 
--- a group without records and texts is reported by its signals alone
+-- a group without records, texts and optional signals is reported by its signals alone
 abbrev pub SignalsAlone : Type 0
-SignalsAlone = (group : GroupPlan) (i : Ident) (bytes : List ℕ) → group.every ≡ None → group.texts.items ≡ []
+SignalsAlone = (group : GroupPlan) (i : Ident) (bytes : List ℕ) → group.every ≡ None → group.texts.items ≡ [] → All (λ s. s.optional ≡ false) group.signals.items
     → group_report group i bytes ≡ group_line group i bytes ++ signal_lines group.signals.items bytes

@@ -2,7 +2,7 @@
 ghost use Rattle.std.specs.Prelude.{◌≡◌, ◌≤◌, if◌then◌else◌, [], ◌∷◌, ◌++◌, codes, length, map, OnOk};
 ghost use Rattle.hex.specs.Hex.{encode_upper};
 ghost use Rattle.j39_signal.specs.Parts.{IsDivisor};
-ghost use Rattle.j39_findings.specs.Records.{single_signals};
+ghost use Rattle.j39_findings.specs.Records.{single_signals, stands_once};
 ghost use Rattle.j39_text.specs.Decimals.{quotient_text};
 ghost use Rattle.j39_text.specs.Texts.{field};
 ghost use Rattle.j39_log.specs.LogReports.{all_records_lines, group_line, reading_lines, signal_line, signal_lines};
@@ -16,7 +16,7 @@ use crate::record_lines::write_records;
 use crate::text_lines::write_texts;
 use crate::trouble_code::write_code_line;
 use crate::value_line::ValueLine;
-use j39_findings::GroupPlan;
+use j39_findings::{GroupPlan, stands_once};
 use j39_id::Ident;
 use j39_id::limits::FRAME_BYTES;
 use j39_signal::{Kind, Layout, Signal, State};
@@ -96,24 +96,25 @@ fn write_signal(
     }
 }
 
-// A signal of a group, unless it is repeated.
+// A signal of a group, unless it is repeated or so many bytes don't have it.
 fn write_single(
     text: &mut TextBuffer,
     signal: &Signal,
     line: &ValueLine,
+    bytes: usize,
     state: State,
 ) -> Result<(), AllocError>
     requires { line.now ≡ value_line_of signal.now }
-    ensures { OnOk result (text.new ≡ text.old ++ (if signal.now.repeated then [] else signal_line signal.now state)) }
+    ensures { OnOk result (text.new ≡ text.old ++ (if stands_once bytes signal.now then signal_line signal.now state else [])) }
 {
-    if signal.is_repeated() {
-        Ok(())
-    } else {
+    if stands_once(signal, bytes) {
         write_signal(text, signal, line, state)
+    } else {
+        Ok(())
     }
 }
 
-// The signals of a group that aren't repeated. All of them lay out the first bytes.
+// The signals of a group that aren't repeated, of those that aren't optional all, and of the others those that are there.
 fn write_signals(
     text: &mut TextBuffer,
     signals: &[Signal],
@@ -124,10 +125,11 @@ fn write_signals(
     requires signals { layout.now.signals ≡ signals.now }
     requires lines { lines.now ≡ map value_line_of signals.now }
     requires bytes { layout.now.length ≤ length bytes.now }
-    ensures { OnOk result (text.new ≡ text.old ++ signal_lines (single_signals signals.now) bytes.now) }
+    ensures { OnOk result (text.new ≡ text.old ++ signal_lines (single_signals (length bytes.now) signals.now) bytes.now) }
 {
     for (place, signal) in signals.iter().enumerate() {
-        write_single(text, signal, &lines[place], layout.read(bytes, place))?;
+        let state = layout.read(bytes, place);
+        write_single(text, signal, &lines[place], bytes.len(), state)?;
     }
     Ok(())
 }

@@ -4,7 +4,7 @@ ghost use Rattle.std.specs.List.{HoldsAt, zip};
 ghost use Rattle.j39_signal.specs.Places.{IsInside, further};
 ghost use Rattle.j39_signal.specs.Bits.{raw_of};
 ghost use Rattle.j39_signal.specs.State.{shown_of};
-ghost use Rattle.j39_findings.specs.Records.{record_count, record_signals as plain_records};
+ghost use Rattle.j39_findings.specs.Records.{record_count, record_signals as plain_records, stands_once};
 ghost use Rattle.j39_log.specs.LogReports.{suspect_parameter as parameter_of};
 ghost use Rattle.j39_log.specs.NamedReports.{all_named_records_lines, named_code_text, named_lines, parameter_name_text, raw_text, named_record_line, named_record_lines, named_record_signals, named_records_lines, named_signal_line, named_signal_lines, named_single_signals, named_state_text, named_value_text};
 ghost use Rattle.j39_log.specs.inside.NameTables.{named_by, names_in};
@@ -14,7 +14,7 @@ use crate::names::GroupNames;
 use crate::record_lines::{write_scaled, write_state};
 use crate::text_lines::write_texts;
 use crate::trouble_code::{suspect_parameter, write_code};
-use j39_findings::GroupPlan;
+use j39_findings::{GroupPlan, stands_once};
 use j39_signal::{Kind, Layout, Shown, Signal, State};
 use j39_text::TextBuffer;
 use std::alloc::AllocError;
@@ -105,9 +105,9 @@ fn write_shown(
     }
 }
 
-// The line of a signal of a group, unless it is repeated.
+// The line of a signal of a group.
 #[tactic(auto, unfolding(crate::specs::NamedReports::named_signal_line))]
-fn write_single(
+fn write_signal(
     text: &mut TextBuffer,
     values: &NameTable,
     parameters: &NameTable,
@@ -115,19 +115,41 @@ fn write_single(
     shown: Shown,
 ) -> Result<(), AllocError>
     requires { shown ≡ shown_of signal.now shown.raw }
-    ensures { OnOk result (text.new ≡ text.old ++ (if signal.now.repeated then []
-        else named_signal_line signal.now (raw_text (names_in parameters.now) (signal.now, names_in values.now) shown.raw))) }
+    ensures { OnOk result (text.new ≡ text.old
+        ++ named_signal_line signal.now (raw_text (names_in parameters.now) (signal.now, names_in values.now) shown.raw)) }
 {
-    if signal.is_repeated() {
-        return Ok(());
-    }
     text.word("  ")?;
     text.word(signal.label().as_str())?;
     write_shown(text, values, parameters, signal, shown)?;
     text.end_line()
 }
 
-// The signals of a group that aren't repeated. All of them lay out the first bytes.
+// That of the signal at place `i` of a layout, unless it is repeated or isn't there.
+fn write_single(
+    text: &mut TextBuffer,
+    values: &NameTable,
+    parameters: &NameTable,
+    layout: &Layout,
+    signal: &Signal,
+    i: usize,
+    bytes: &[u8],
+) -> Result<(), AllocError>
+    requires place { i < length layout.now.signals }
+    requires at { HoldsAt (λ s. s ≡ signal.now) layout.now.signals i }
+    requires bytes { layout.now.length ≤ length bytes.now }
+    ensures { OnOk result (text.new ≡ text.old ++ (if stands_once (length bytes.now) signal.now
+        then named_signal_line signal.now (raw_text (names_in parameters.now) (signal.now, names_in values.now) (raw_of bytes.now signal.now))
+        else [])) }
+{
+    if stands_once(signal, bytes.len()) {
+        let shown = layout.show(bytes, i);
+        write_signal(text, values, parameters, signal, shown)
+    } else {
+        Ok(())
+    }
+}
+
+// The signals of a group that aren't repeated, of those that aren't optional all, and of the others those that are there.
 fn write_signals(
     text: &mut TextBuffer,
     values: &[NameTable],
@@ -140,11 +162,18 @@ fn write_signals(
     requires names { length values.now ≡ length signals.now }
     requires bytes { layout.now.length ≤ length bytes.now }
     ensures { OnOk result (text.new ≡ text.old
-        ++ named_signal_lines (names_in parameters.now) (named_single_signals (named_by values.now signals.now)) bytes.now) }
+        ++ named_signal_lines (names_in parameters.now) (named_single_signals (length bytes.now) (named_by values.now signals.now)) bytes.now) }
 {
     for (place, signal) in signals.iter().enumerate() {
-        let shown = layout.show(bytes, place);
-        write_single(text, &values[place], parameters, signal, shown)?;
+        write_single(
+            text,
+            &values[place],
+            parameters,
+            layout,
+            signal,
+            place,
+            bytes,
+        )?;
     }
     Ok(())
 }

@@ -1,9 +1,9 @@
 -- The first fault of faults that follow one another.
-use Rattle.std.proofs.Common.{◌≡◌, List, [], ◌∷◌, ◌++◌, Some}
+use Rattle.std.proofs.Common.{◌≡◌, List, [], ◌∷◌, ◌++◌, Result, Some, Err}
 use Rattle.j39_plan.specs.declared.reading.fault.Fault.{Fault}
 use Rattle.j39_plan.specs.declared.reading.plan_error.PlanError.{PlanError}
 use Rattle.j39_plan.specs.declared.reading.plan_error.PlanError.TheVariants as errors
-use Rattle.j39_plan.specs.Outcome.{first, FailsGrowing}
+use Rattle.j39_plan.specs.Outcome.{first, FailsGrowing, Gives}
 
 pub first-append : (xs ys : List Fault) (f : Fault) → first xs ≡ Some f → first (xs ++ ys) ≡ Some f
 first-append [] ys f e = cc
@@ -18,3 +18,8 @@ pub fails_on : (Inner Outer : Type 0) (e : PlanError) (part whole : List Fault) 
 fails_on Inner Outer errors.Text part whole grows leads fails = fails
 fails_on Inner Outer (errors.Fault f) part whole grows leads fails = leads f fails
 fails_on Inner Outer errors.Memory part whole grows leads fails = grows fails
+
+-- What a part refuses the whole refuses, where their faults are the same.
+pub refused_alike : (X : Type 0) (given : Result X PlanError) (e : PlanError) (faults : List Fault) (Is : X → Type 0)
+    → given ≡ Err e → FailsGrowing ⊥ e faults → Gives given faults Is
+refused_alike X given e faults Is same fails = rw (same) fails

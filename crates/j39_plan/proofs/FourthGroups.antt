@@ -2,6 +2,7 @@
 use Rattle.std.proofs.Common.{◌≡◌, ℕ, Bool, true, false, arith, List, [], ◌∷◌, ◌++◌, None, refl, sym, subst, ◌∙◌}
 use Rattle.std.specs.Option.{option_map_or}
 use Rattle.toml.specs.Data.{Data, Members, no_members, get_member, as_table}
+use Rattle.j39_signal.specs.Parts.{SignalParts}
 use Rattle.j39_findings.specs.declared.plan.group_plan.GroupPlan.{GroupPlan}
 use Rattle.j39_findings.specs.declared.plan.meaning.Meaning.{Meaning}
 use Rattle.j39_plan.specs.declared.reading.key.Key.{Key}
@@ -10,22 +11,29 @@ use Rattle.j39_plan.specs.declared.reading.place.Table.{Table}
 use Rattle.j39_plan.specs.declared.reading.place.Table.TheVariants as at
 use Rattle.j39_plan.specs.declared.reading.text_kind.TextKind.TheVariants as texts
 use Rattle.j39_plan.specs.Words.{word_of}
-use Rattle.j39_plan.specs.Schema.{Rule, number_of, given_number, table_of, tables_of}
+use Rattle.j39_plan.specs.Schema.{Rule, number_of, flag_of, given_number, table_of, tables_of}
 use Rattle.j39_plan.specs.TableFaults.{key_faults, table_faults, table_only_faults, is_key_word}
 use Rattle.j39_plan.specs.Elements.{inside, label_in, repeated_faults}
-use Rattle.j39_plan.specs.MeaningTables.{spn_rule, values_rule, meaning_rules, spn_of, name_table, AreValueNames}
-use Rattle.j39_plan.specs.SignalTables.{bits_rule, is_code, place_rules, scale_rules, signal_table_faults, signal_faults, IsMeaningOf}
+use Rattle.j39_plan.specs.MeaningTables.{optional_rule, spn_rule, values_rule, meaning_rules, optional_of, spn_of, name_table, AreValueNames}
+use Rattle.j39_plan.specs.SignalTables.{bits_rule, is_code, place_rules, scale_rules, repeated_of, signal_table_faults, signal_faults, IsMeaningOf, IsSignalOf}
 use Rattle.j39_plan.specs.GroupTables.{signal_rule, has_records, signals_faults, group_table_faults, group_faults, IsGroupOf}
 use Rattle.j39_plan.specs.Versions.{IsThirdSignal, IsThirdGroup}
 use Rattle.j39_plan.proofs.Absent.{lacked, IsNone, only_same, Alike, alike_both, alike_between, alike_unknown, alike_inside, alike_each, told_alike}
 
 -- ---- signals
 
+no_optional : (ms : Members) → IsThirdSignal ms → get_member (word_of key.Optional) ms ≡ None
+no_optional ms lacks = lacked key.Optional ms (lacks 0 key.Optional (omega arith))
+
 no_spn : (ms : Members) → IsThirdSignal ms → get_member (word_of key.Spn) ms ≡ None
-no_spn ms lacks = lacked key.Spn ms (lacks 0 key.Spn (omega arith))
+no_spn ms lacks = lacked key.Spn ms (lacks 1 key.Spn (omega arith))
 
 no_values : (ms : Members) → IsThirdSignal ms → get_member (word_of key.Values) ms ≡ None
-no_values ms lacks = lacked key.Values ms (lacks 1 key.Values (omega arith))
+no_values ms lacks = lacked key.Values ms (lacks 2 key.Values (omega arith))
+
+optional_unfaulted : (repeated : Bool) (at : Table) (ms : Members) → IsThirdSignal ms → key_faults at ms (optional_rule repeated) ≡ []
+unfolding key_faults
+optional_unfaulted repeated at ms lacks = rw (no_optional ms lacks)
 
 spn_unfaulted : (at : Table) (ms : Members) → IsThirdSignal ms → key_faults at ms spn_rule ≡ []
 unfolding key_faults
@@ -40,23 +48,24 @@ abbrev older_keys : List Key
 older_keys = key.Label ∷ key.Byte ∷ key.Bit ∷ key.Bits ∷ key.Kind ∷ key.Step ∷ key.Per ∷ key.Offset ∷ key.Unit ∷ key.Repeated ∷ []
 
 abbrev later_keys : List Key
-later_keys = key.Label ∷ key.Byte ∷ key.Bit ∷ key.Bits ∷ key.Kind ∷ key.Step ∷ key.Per ∷ key.Offset ∷ key.Unit ∷ key.Repeated ∷ key.Spn ∷ key.Values ∷ []
+later_keys = key.Label ∷ key.Byte ∷ key.Bit ∷ key.Bits ∷ key.Kind ∷ key.Step ∷ key.Per ∷ key.Offset ∷ key.Unit ∷ key.Repeated
+    ∷ key.Optional ∷ key.Spn ∷ key.Values ∷ []
 
-signal_words : (l : List ℕ) → IsNone (key.Spn ∷ key.Values ∷ []) l → is_key_word later_keys l ≡ is_key_word older_keys l
-signal_words l none = rw (none 0 key.Spn (omega arith), none 1 key.Values (omega arith))
+signal_words : (l : List ℕ) → IsNone (key.Optional ∷ key.Spn ∷ key.Values ∷ []) l → is_key_word later_keys l ≡ is_key_word older_keys l
+signal_words l none = rw (none 0 key.Optional (omega arith), none 1 key.Spn (omega arith), none 2 key.Values (omega arith))
 
--- the rules of a signal in the fourth version and in the third, by whether it is a trouble code
-abbrev rules_of : Bool → Bool → Bool → ℕ → List Rule
-rules_of fourth records code bits = place_rules true ++ (scale_rules true records code ++ meaning_rules fourth code bits)
+-- the rules of a signal in the fourth version and in the third, by whether it is repeated and whether it is a trouble code
+abbrev rules_of : Bool → Bool → Bool → Bool → ℕ → List Rule
+rules_of fourth records repeated code bits = place_rules true ++ (scale_rules true records code ++ meaning_rules fourth repeated code bits)
 
-keys_alike : (records code : Bool) (bits : ℕ) (at : Table) (ms : Members) → IsThirdSignal ms
-    → Alike (table_faults at (rules_of true records code bits) ms) (table_faults at (rules_of false records code bits) ms)
-keys_alike records true bits at ms lacks =
-    alike_both _ _ _ _ (alike_unknown at _ _ ms ms (only_same later_keys older_keys (key.Spn ∷ key.Values ∷ []) signal_words ms lacks))
-    (rw (spn_unfaulted at ms lacks, values_unfaulted true bits at ms lacks) refl)
-keys_alike records false bits at ms lacks =
-    alike_both _ _ _ _ (alike_unknown at _ _ ms ms (only_same later_keys older_keys (key.Spn ∷ key.Values ∷ []) signal_words ms lacks))
-    (rw (spn_unfaulted at ms lacks, values_unfaulted false bits at ms lacks) refl)
+keys_alike : (records repeated code : Bool) (bits : ℕ) (at : Table) (ms : Members) → IsThirdSignal ms
+    → Alike (table_faults at (rules_of true records repeated code bits) ms) (table_faults at (rules_of false records repeated code bits) ms)
+keys_alike records repeated true bits at ms lacks =
+    alike_both _ _ _ _ (alike_unknown at _ _ ms ms (only_same later_keys older_keys (key.Optional ∷ key.Spn ∷ key.Values ∷ []) signal_words ms lacks))
+    (rw (optional_unfaulted repeated at ms lacks, spn_unfaulted at ms lacks, values_unfaulted true bits at ms lacks) refl)
+keys_alike records repeated false bits at ms lacks =
+    alike_both _ _ _ _ (alike_unknown at _ _ ms ms (only_same later_keys older_keys (key.Optional ∷ key.Spn ∷ key.Values ∷ []) signal_words ms lacks))
+    (rw (optional_unfaulted repeated at ms lacks, spn_unfaulted at ms lacks, values_unfaulted false bits at ms lacks) refl)
 
 signal_alike : (records : Bool) (g i : ℕ) (seen : List (List ℕ)) (d : Data) → IsThirdSignal (inside d)
     → Alike (signal_faults true true records g i seen d) (signal_faults true false records g i seen d)
@@ -66,7 +75,11 @@ signal_alike records g i seen d lacks =
     let third = signal_table_faults true false records (at.Signal g i) in
     alike_between (table_only_faults (at.Signal g i) d) (option_map_or fourth (as_table d) []) (option_map_or third (as_table d) [])
     (repeated_faults (at.Signal g i) texts.Label seen (label_in d))
-    (alike_inside fourth third d (keys_alike records (is_code true (inside d)) (number_of bits_rule (inside d)) (at.Signal g i) (inside d) lacks))
+    (alike_inside fourth third d (keys_alike records (repeated_of true (inside d)) (is_code true (inside d)) (number_of bits_rule (inside d)) (at.Signal g i) (inside d) lacks))
+
+optional_is : (ms : Members) → IsThirdSignal ms → optional_of true ms ≡ false
+unfolding flag_of
+optional_is ms lacks = rw (no_optional ms lacks)
 
 spn_is : (ms : Members) → IsThirdSignal ms → spn_of true ms ≡ None
 unfolding given_number
@@ -75,6 +88,34 @@ spn_is ms lacks = rw (no_spn ms lacks)
 names_are : (ms : Members) → IsThirdSignal ms → name_table true ms ≡ no_members
 unfolding table_of
 names_are ms lacks = rw (no_values ms lacks)
+
+third_signal : (d : Data) (s : SignalParts) → IsThirdSignal (inside d) → IsSignalOf true true d s → IsSignalOf true false d s
+third_signal d s lacks told = record {
+  has_label = told.has_label;
+  has_start = told.has_start;
+  has_bits = told.has_bits;
+  has_kind = told.has_kind;
+  has_step = told.has_step;
+  has_offset = told.has_offset;
+  has_per = told.has_per;
+  has_unit = told.has_unit;
+  has_repeated = told.has_repeated;
+  has_optional = told.has_optional ∙ optional_is (inside d) lacks;
+}
+
+fourth_signal : (d : Data) (s : SignalParts) → IsThirdSignal (inside d) → IsSignalOf true false d s → IsSignalOf true true d s
+fourth_signal d s lacks told = record {
+  has_label = told.has_label;
+  has_start = told.has_start;
+  has_bits = told.has_bits;
+  has_kind = told.has_kind;
+  has_step = told.has_step;
+  has_offset = told.has_offset;
+  has_per = told.has_per;
+  has_unit = told.has_unit;
+  has_repeated = told.has_repeated;
+  has_optional = told.has_optional ∙ sym (optional_is (inside d) lacks);
+}
 
 third_meaning : (d : Data) (m : Meaning) → IsThirdSignal (inside d) → IsMeaningOf true true d m → IsMeaningOf true false d m
 third_meaning d m lacks told = record {
@@ -116,7 +157,8 @@ third_group d g older told = record {
   has_private = told.has_private;
   has_most = told.has_most;
   has_every = told.has_every;
-  has_signals = told.has_signals;
+  has_signals = told_alike IsThirdSignal (IsSignalOf true true) (IsSignalOf true false) third_signal
+      (tables_of signal_rule (inside d)) g.signals.items older told.has_signals;
   has_meanings = told_alike IsThirdSignal (IsMeaningOf true true) (IsMeaningOf true false) third_meaning
       (tables_of signal_rule (inside d)) g.meanings.items older told.has_meanings;
   has_texts = told.has_texts;
@@ -131,7 +173,8 @@ fourth_group d g older told = record {
   has_private = told.has_private;
   has_most = told.has_most;
   has_every = told.has_every;
-  has_signals = told.has_signals;
+  has_signals = told_alike IsThirdSignal (IsSignalOf true false) (IsSignalOf true true) fourth_signal
+      (tables_of signal_rule (inside d)) g.signals.items older told.has_signals;
   has_meanings = told_alike IsThirdSignal (IsMeaningOf true false) (IsMeaningOf true true) fourth_meaning
       (tables_of signal_rule (inside d)) g.meanings.items older told.has_meanings;
   has_texts = told.has_texts;

@@ -2,6 +2,7 @@
 use Rattle.std.proofs.Common.{◌≡◌, ℕ, true, false, arith, List, [], ◌∷◌, None, refl, sym, ◌∙◌}
 use Rattle.std.specs.Option.{option_map_or}
 use Rattle.toml.specs.Data.{Data, Members, get_member, as_table}
+use Rattle.j39_findings.specs.declared.plan.queue.Queue.TheVariants.{Priority}
 use Rattle.j39_findings.specs.declared.plan.unit_plan.UnitPlan.{UnitPlan}
 use Rattle.j39_plan.specs.declared.reading.key.Key.{Key}
 use Rattle.j39_plan.specs.declared.reading.key.Key.TheVariants as key
@@ -9,38 +10,49 @@ use Rattle.j39_plan.specs.declared.reading.place.Table.{Table}
 use Rattle.j39_plan.specs.declared.reading.place.Table.TheVariants as at
 use Rattle.j39_plan.specs.declared.reading.text_kind.TextKind.TheVariants as texts
 use Rattle.j39_plan.specs.Words.{word_of}
-use Rattle.j39_plan.specs.Schema.{flag_of}
+use Rattle.j39_plan.specs.Schema.{flag_of, text_of}
 use Rattle.j39_plan.specs.TableFaults.{key_faults, table_faults, table_only_faults, is_key_word}
 use Rattle.j39_plan.specs.Elements.{inside, repeated_faults}
-use Rattle.j39_plan.specs.UnitTables.{claims_rule, claims_of, unit_rules, unit_label_in, unit_table_faults, unit_faults, IsUnitOf}
+use Rattle.j39_plan.specs.UnitTables.{claims_rule, claims_of, queue_rule, queue_of, unit_rules, unit_label_in, unit_table_faults, unit_faults, IsUnitOf}
 use Rattle.j39_plan.specs.Versions.{IsThirdUnit}
 use Rattle.j39_plan.proofs.Absent.{lacked, IsNone, only_same, Alike, alike_both, alike_between, alike_unknown, alike_inside}
 
 no_claims : (ms : Members) → IsThirdUnit ms → get_member (word_of key.Claims) ms ≡ None
-no_claims ms lacks = lacked key.Claims ms (lacks 0 key.Claims (omega arith))
+no_claims ms lacks = lacked key.Claims ms (lacks 1 key.Claims (omega arith))
+
+no_queue : (ms : Members) → IsThirdUnit ms → get_member (word_of key.Queue) ms ≡ None
+no_queue ms lacks = lacked key.Queue ms (lacks 0 key.Queue (omega arith))
 
 -- the keys of a unit in the third version, and in the fourth
 abbrev older_keys : List Key
 older_keys = key.Label ∷ key.Address ∷ key.Chooser ∷ key.Window ∷ key.Name ∷ []
 
 abbrev later_keys : List Key
-later_keys = key.Label ∷ key.Address ∷ key.Chooser ∷ key.Window ∷ key.Name ∷ key.Claims ∷ []
+later_keys = key.Label ∷ key.Address ∷ key.Chooser ∷ key.Window ∷ key.Queue ∷ key.Name ∷ key.Claims ∷ []
 
-unit_words : (l : List ℕ) → IsNone (key.Claims ∷ []) l → is_key_word later_keys l ≡ is_key_word older_keys l
-unit_words l none = rw (none 0 key.Claims (omega arith))
+unit_words : (l : List ℕ) → IsNone (key.Queue ∷ key.Claims ∷ []) l → is_key_word later_keys l ≡ is_key_word older_keys l
+unit_words l none = rw (none 0 key.Queue (omega arith), none 1 key.Claims (omega arith))
 
 claims_unfaulted : (at : Table) (ms : Members) → IsThirdUnit ms → key_faults at ms claims_rule ≡ []
 unfolding key_faults
 claims_unfaulted at ms lacks = rw (no_claims ms lacks)
 
+queue_unfaulted : (at : Table) (ms : Members) → IsThirdUnit ms → key_faults at ms queue_rule ≡ []
+unfolding key_faults
+queue_unfaulted at ms lacks = rw (no_queue ms lacks)
+
 unit_keys_alike : (at : Table) (ms : Members) → IsThirdUnit ms → Alike (table_faults at (unit_rules true) ms) (table_faults at (unit_rules false) ms)
 unit_keys_alike at ms lacks =
-    alike_both _ _ _ _ (alike_unknown at _ _ ms ms (only_same later_keys older_keys (key.Claims ∷ []) unit_words ms lacks))
-    (rw (claims_unfaulted at ms lacks) refl)
+    alike_both _ _ _ _ (alike_unknown at _ _ ms ms (only_same later_keys older_keys (key.Queue ∷ key.Claims ∷ []) unit_words ms lacks))
+    (rw (queue_unfaulted at ms lacks, claims_unfaulted at ms lacks) refl)
 
 claims_is : (ms : Members) → IsThirdUnit ms → claims_of true ms ≡ true
 unfolding flag_of
 claims_is ms lacks = rw (no_claims ms lacks)
+
+queue_is : (ms : Members) → IsThirdUnit ms → queue_of true ms ≡ Priority
+unfolding text_of
+queue_is ms lacks = rw (no_queue ms lacks)
 
 pub unit_alike : (i : ℕ) (seen : List (List ℕ)) (d : Data) → IsThirdUnit (inside d) → Alike (unit_faults true i seen d) (unit_faults false i seen d)
 unfolding unit_faults unit_table_faults
@@ -59,6 +71,7 @@ third_unit d u lacks told = record {
   has_way = told.has_way;
   has_window = told.has_window;
   has_name = told.has_name;
+  has_queue = told.has_queue ∙ queue_is (inside d) lacks;
   has_claims = told.has_claims ∙ claims_is (inside d) lacks;
 }
 
@@ -69,5 +82,6 @@ fourth_unit d u lacks told = record {
   has_way = told.has_way;
   has_window = told.has_window;
   has_name = told.has_name;
+  has_queue = told.has_queue ∙ sym (queue_is (inside d) lacks);
   has_claims = told.has_claims ∙ sym (claims_is (inside d) lacks);
 }

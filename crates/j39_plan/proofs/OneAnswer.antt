@@ -53,11 +53,12 @@ one_unit fourth d u v a b = record {
   names = a.has_name ∙ sym b.has_name;
   ways = a.has_way ∙ sym b.has_way;
   windows = a.has_window ∙ sym b.has_window;
+  queues = a.has_queue ∙ sym b.has_queue;
   claims = a.has_claims ∙ sym b.has_claims;
 }
 
-one_signal : (third : Bool) (d : Data) (s t : SignalParts) → IsSignalOf third d s → IsSignalOf third d t → AreOneSignal s t
-one_signal third d s t a b = record {
+one_signal : (third fourth : Bool) (d : Data) (s t : SignalParts) → IsSignalOf third fourth d s → IsSignalOf third fourth d t → AreOneSignal s t
+one_signal third fourth d s t a b = record {
   labels = a.has_label ∙ sym b.has_label;
   starts = a.has_start ∙ sym b.has_start;
   widths = a.has_bits ∙ sym b.has_bits;
@@ -67,6 +68,7 @@ one_signal third d s t a b = record {
   pers = a.has_per ∙ sym b.has_per;
   units = a.has_unit ∙ sym b.has_unit;
   repetitions = a.has_repeated ∙ sym b.has_repeated;
+  options = a.has_optional ∙ sym b.has_optional;
 }
 
 one_text : (d : Data) (t u : TextPlan) → IsTextOf d t → IsTextOf d u → AreOneText t u
@@ -101,7 +103,7 @@ one_group third fourth d g h a b = record {
   privates = a.has_private ∙ sym b.has_private;
   mosts = a.has_most ∙ sym b.has_most;
   everys = a.has_every ∙ sym b.has_every;
-  signals = one_each (IsSignalOf third) AreOneSignal (one_signal third) (tables_of signal_rule (inside d)) _ _ a.has_signals b.has_signals;
+  signals = one_each (IsSignalOf third fourth) AreOneSignal (one_signal third fourth) (tables_of signal_rule (inside d)) _ _ a.has_signals b.has_signals;
   meanings = one_each (IsMeaningOf third fourth) AreOneMeaning (one_meaning third fourth) (tables_of signal_rule (inside d)) _ _ a.has_meanings b.has_meanings;
   texts = one_each IsTextOf AreOneText one_text (text_tables_of third (inside d)) _ _ a.has_texts b.has_texts;
 }

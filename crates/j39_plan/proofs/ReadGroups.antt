@@ -21,30 +21,30 @@ use Rattle.j39_plan.specs.GroupTables.{text_tables_of}
 use Rattle.j39_plan.proofs.Labelled.{is_among_both}
 use Rattle.j39_plan.proofs.NoFaults.{Each-map, none_left, none_right, fresh_label, labels_apart, labels_told, apart_from, tables_count}
 
-abbrev pub IsRead : Bool → Bool → Data → SignalParts → Type 0
-IsRead third records d s = IsSignalOf third d s × IsFit records s
+abbrev pub IsRead : Bool → Bool → Bool → Data → SignalParts → Type 0
+IsRead third fourth records d s = IsSignalOf third fourth d s × IsFit records s
 
-fresh_signal : (third fourth records : Bool) (g i : ℕ) (seen : List (List ℕ)) (d : Data) (s : SignalParts) → IsRead third records d s
+fresh_signal : (third fourth records : Bool) (g i : ℕ) (seen : List (List ℕ)) (d : Data) (s : SignalParts) → IsRead third fourth records d s
     → signal_faults third fourth records g i seen d ≡ []
     → is_label_among seen (label_in d) ≡ false
 unfolding signal_faults
 fresh_signal third fourth records g i seen d s read none =
     fresh_label (at.Signal g i) texts.Label seen (label_in d) (rw (← read.0.has_label) read.1.label_form) (none_right _ _ none)
 
-pub signals_apart : (third fourth records : Bool) (g : ℕ) (ds : Items) (xs : List SignalParts) → Each (IsRead third records) ds xs
+pub signals_apart : (third fourth records : Bool) (g : ℕ) (ds : Items) (xs : List SignalParts) → Each (IsRead third fourth records) ds xs
     → each_faults (signal_faults third fourth records g) label_in 0 [] ds ≡ [] → AllPairs (λ s t. s.label.bytes ≢ t.label.bytes) xs
 signals_apart third fourth records g ds xs each none =
-    labels_apart (IsRead third records) (signal_faults third fourth records g) label_in (λ s. s.label.bytes) (λ d s read. read.0.has_label)
+    labels_apart (IsRead third fourth records) (signal_faults third fourth records g) label_in (λ s. s.label.bytes) (λ d s read. read.0.has_label)
     (fresh_signal third fourth records g) ds xs each none
 
 -- a signal with what is said of it besides
 abbrev pub IsPlanned : Bool → Bool → Bool → Data → PlannedSignal → Type 0
-IsPlanned third fourth records d x = IsRead third records d x.signal × IsMeaningOf third fourth d x.meaning
+IsPlanned third fourth records d x = IsRead third fourth records d x.signal × IsMeaningOf third fourth d x.meaning
 
 pub signals_read : (third fourth records : Bool) (ds : Items) (xs : List PlannedSignal) (signals : List SignalParts)
-    → signals ≡ map (λ x. x.signal) xs → Each (IsPlanned third fourth records) ds xs → Each (IsRead third records) ds signals
+    → signals ≡ map (λ x. x.signal) xs → Each (IsPlanned third fourth records) ds xs → Each (IsRead third fourth records) ds signals
 signals_read third fourth records ds xs signals are each =
-    rw are (Each-map (λ x. x.signal) (IsPlanned third fourth records) (IsRead third records) (λ d x is. is.0) ds xs each)
+    rw are (Each-map (λ x. x.signal) (IsPlanned third fourth records) (IsRead third fourth records) (λ d x is. is.0) ds xs each)
 
 pub meanings_read : (third fourth records : Bool) (ds : Items) (xs : List PlannedSignal) (meanings : List Meaning)
     → meanings ≡ map (λ x. x.meaning) xs → Each (IsPlanned third fourth records) ds xs → Each (IsMeaningOf third fourth) ds meanings
@@ -73,9 +73,9 @@ abbrev pub signal_texts : List SignalParts → List (List ℕ)
 signal_texts = map (λ s. s.label.bytes)
 
 -- those of signals that were read are those of the file
-pub signal_texts_told : (third records : Bool) (ds : Items) (xs : List SignalParts) → Each (IsRead third records) ds xs
+pub signal_texts_told : (third fourth records : Bool) (ds : Items) (xs : List SignalParts) → Each (IsRead third fourth records) ds xs
     → signal_texts xs ≡ labels_of label_in ds
-signal_texts_told third records = labels_told (IsRead third records) label_in (λ s. s.label.bytes) (λ d s read. read.0.has_label)
+signal_texts_told third fourth records = labels_told (IsRead third fourth records) label_in (λ s. s.label.bytes) (λ d s read. read.0.has_label)
 
 -- ---- texts
 

@@ -32,7 +32,7 @@ signals_texts_told third fourth no_items (g ∷ gs) each = absurd each
 signals_texts_told third fourth (item d ds) [] each = absurd each
 signals_texts_told third fourth (item d ds) (g ∷ gs) each =
     rw (
-      labels_told (IsSignalOf third) label_in (λ s. s.label.bytes) (λ e s is. is.has_label) (tables_of signal_rule (inside d)) g.signals.items each.0.has_signals,
+      labels_told (IsSignalOf third fourth) label_in (λ s. s.label.bytes) (λ e s is. is.has_label) (tables_of signal_rule (inside d)) g.signals.items each.0.has_signals,
       signals_texts_told third fourth ds gs each.1,
     )
 

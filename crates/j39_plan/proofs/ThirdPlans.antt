@@ -149,7 +149,7 @@ second_group d g second told = record {
   has_private = told.has_private ∙ private_is (inside d) second;
   has_most = told.has_most ∙ most_is (number_of length_rule (inside d)) (inside d) second;
   has_every = told.has_every ∙ no_every (inside d) second;
-  has_signals = told_alike IsSecondSignal (IsSignalOf true) (IsSignalOf false) second_signal (tables_of signal_rule (inside d)) g.signals.items second.signals told.has_signals;
+  has_signals = told_alike IsSecondSignal (IsSignalOf true false) (IsSignalOf false false) second_signal (tables_of signal_rule (inside d)) g.signals.items second.signals told.has_signals;
   has_meanings = Each-weaken (IsMeaningOf true false) (IsMeaningOf false false) (λ d m is. is) _ _ told.has_meanings;
   has_texts = subst (λ ds. Each IsTextOf ds g.texts.items) (no_texts (inside d) second) told.has_texts;
 }
@@ -163,7 +163,7 @@ third_group d g second told = record {
   has_private = told.has_private ∙ sym (private_is (inside d) second);
   has_most = told.has_most ∙ sym (most_is (number_of length_rule (inside d)) (inside d) second);
   has_every = told.has_every ∙ sym (no_every (inside d) second);
-  has_signals = told_alike IsSecondSignal (IsSignalOf false) (IsSignalOf true) third_signal (tables_of signal_rule (inside d)) g.signals.items second.signals told.has_signals;
+  has_signals = told_alike IsSecondSignal (IsSignalOf false false) (IsSignalOf true false) third_signal (tables_of signal_rule (inside d)) g.signals.items second.signals told.has_signals;
   has_meanings = Each-weaken (IsMeaningOf false false) (IsMeaningOf true false) (λ d m is. is) _ _ told.has_meanings;
   has_texts = subst (λ ds. Each IsTextOf ds g.texts.items) (sym (no_texts (inside d) second)) told.has_texts;
 }

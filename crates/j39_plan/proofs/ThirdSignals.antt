@@ -113,7 +113,7 @@ repeated_is : (ms : Members) → IsSecondSignal ms → repeated_of true ms ≡ f
 unfolding flag_of
 repeated_is ms second = rw (no_repeated ms second)
 
-pub second_signal : (d : Data) (s : SignalParts) → IsSecondSignal (inside d) → IsSignalOf true d s → IsSignalOf false d s
+pub second_signal : (d : Data) (s : SignalParts) → IsSecondSignal (inside d) → IsSignalOf true false d s → IsSignalOf false false d s
 second_signal d s second told = record {
   has_label = told.has_label;
   has_start = told.has_start;
@@ -124,9 +124,10 @@ second_signal d s second told = record {
   has_per = told.has_per ∙ per_is (inside d) second;
   has_unit = told.has_unit;
   has_repeated = told.has_repeated ∙ repeated_is (inside d) second;
+  has_optional = told.has_optional;
 }
 
-pub third_signal : (d : Data) (s : SignalParts) → IsSecondSignal (inside d) → IsSignalOf false d s → IsSignalOf true d s
+pub third_signal : (d : Data) (s : SignalParts) → IsSecondSignal (inside d) → IsSignalOf false false d s → IsSignalOf true false d s
 third_signal d s second told = record {
   has_label = told.has_label;
   has_start = told.has_start;
@@ -137,4 +138,5 @@ third_signal d s second told = record {
   has_per = told.has_per ∙ sym (per_is (inside d) second);
   has_unit = told.has_unit;
   has_repeated = told.has_repeated ∙ sym (repeated_is (inside d) second);
+  has_optional = told.has_optional;
 }

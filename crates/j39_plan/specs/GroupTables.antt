@@ -82,7 +82,7 @@ pub record TellsGroup (third fourth : Bool) (ms : Members) (g : GroupPlan) : Typ
   pub has_private : g.private ≡ private_of third ms
   pub has_most : g.most ≡ most_of third (number_of length_rule ms) ms
   pub has_every : g.every ≡ every_of third ms
-  pub has_signals : Each (IsSignalOf third) (tables_of signal_rule ms) g.signals.items
+  pub has_signals : Each (IsSignalOf third fourth) (tables_of signal_rule ms) g.signals.items
   pub has_meanings : Each (IsMeaningOf third fourth) (tables_of signal_rule ms) g.meanings.items
   pub has_texts : Each IsTextOf (text_tables_of third ms) g.texts.items
 

@@ -1,4 +1,5 @@
--- What the fourth version knows of a signal beside its place and its scale: its number, and the names of its raw numbers.
+-- What the fourth version knows of a signal beside its place and its scale: whether it is optional, its number, and the names of its raw
+-- numbers.
 use Rattle.std.specs.Prelude.{◌≡◌, ℕ, ◌^◌, min, not, List, [], ◌∷◌, Bool, true, false, Option, Some, None, option_map, unwrap_or}
 use Rattle.std.specs.Str.Parse.{digits_value}
 use Rattle.j39_plan.specs.declared.reading.meanings.MeaningKeys.{MeaningKeys}
@@ -8,7 +9,11 @@ use Rattle.j39_findings.specs.PlanLimits.{spn_most}
 use Rattle.j39_findings.specs.declared.plan.meaning.Meaning.{Meaning}
 use Rattle.j39_findings.specs.declared.plan.meaning.ValueName.{ValueName}
 use Rattle.j39_plan.specs.declared.reading.key.Key.TheVariants as key
-use Rattle.j39_plan.specs.Schema.{Rule, names, optional, given_number, table_of}
+use Rattle.j39_plan.specs.Schema.{Rule, names, flag_if, optional, flag_of, given_number, table_of}
+
+-- one that is repeated can't be optional
+abbrev pub optional_rule : Bool → Rule
+optional_rule repeated = flag_if key.Optional (not repeated)
 
 abbrev pub spn_rule : Rule
 spn_rule = optional key.Spn 0 spn_most
@@ -20,10 +25,15 @@ raw_limit bits = 2 ^ min bits 32
 abbrev pub values_rule : Bool → ℕ → Rule
 values_rule code bits = names key.Values (not code) (raw_limit bits)
 
--- by whether the table is that of a trouble code, and by the width of the signal
-abbrev pub meaning_rules : Bool → Bool → ℕ → List Rule
-meaning_rules true code bits = spn_rule ∷ values_rule code bits ∷ []
-meaning_rules false code bits = []
+-- by whether the signal is repeated, whether the table is that of a trouble code, and by the width of the signal
+abbrev pub meaning_rules : Bool → Bool → Bool → ℕ → List Rule
+meaning_rules true repeated code bits = optional_rule repeated ∷ spn_rule ∷ values_rule code bits ∷ []
+meaning_rules false repeated code bits = []
+
+-- whether it is optional: it isn't in a version that doesn't know it
+abbrev pub optional_of : Bool → Members → Bool
+optional_of true ms = flag_of (optional_rule false) ms
+optional_of false ms = false
 
 -- the number, and the table of names: none in a version that doesn't know them
 abbrev pub spn_of : Bool → Members → Option ℕ
@@ -42,6 +52,7 @@ AreValueNames _ _ = ⊥
 
 -- what the keys of a table tell of a signal, its names as the file has them
 pub record TellsKeys (fourth : Bool) (ms : Members) (m : MeaningKeys) : Type 0 where
+  pub has_optional : m.optional ≡ optional_of fourth ms
   pub has_spn : m.spn ≡ spn_of fourth ms
   pub has_names : unwrap_or (option_map (λ t. table_view t.now) m.names) no_members ≡ name_table fourth ms
 

@@ -27,6 +27,7 @@ pub record AreOneUnit (u v : UnitPlan) : Type 0 where
   pub names : u.name ≡ v.name
   pub ways : u.way ≡ v.way
   pub windows : u.window ≡ v.window
+  pub queues : u.queue ≡ v.queue
   pub claims : u.claims ≡ v.claims
 
 pub record AreOneSignal (s t : SignalParts) : Type 0 where
@@ -39,6 +40,7 @@ pub record AreOneSignal (s t : SignalParts) : Type 0 where
   pub pers : s.per ≡ t.per
   pub units : s.unit.bytes ≡ t.unit.bytes
   pub repetitions : s.repeated ≡ t.repeated
+  pub options : s.optional ≡ t.optional
 
 pub record AreOneValueName (n m : ValueName) : Type 0 where
   pub raws : n.raw ≡ m.raw

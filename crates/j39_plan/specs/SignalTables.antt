@@ -17,7 +17,7 @@ use Rattle.j39_plan.specs.declared.reading.fault.Fault.{Fault}
 use Rattle.j39_plan.specs.declared.reading.text_kind.TextKind.TheVariants as texts
 use Rattle.j39_plan.specs.Schema.{Rule, number, signed, divisor, flag_if, text, number_of, integer_of, flag_of, text_of}
 use Rattle.j39_plan.specs.TableFaults.{table_faults, table_only_faults}
-use Rattle.j39_plan.specs.MeaningTables.{TellsMeaning, meaning_rules}
+use Rattle.j39_plan.specs.MeaningTables.{TellsMeaning, meaning_rules, optional_of}
 use Rattle.j39_plan.specs.Elements.{inside, label_in, label_rule, repeated_faults}
 
 abbrev pub byte_rule : Rule
@@ -55,6 +55,11 @@ unit_rule false = text key.Unit texts.SignalUnit (Some [])
 abbrev pub repeated_rule : Bool → Rule
 repeated_rule records = flag_if key.Repeated records
 
+-- whether it is repeated: it isn't in a version that doesn't know it
+abbrev pub repeated_of : Bool → Members → Bool
+repeated_of true ms = flag_of (repeated_rule true) ms
+repeated_of false ms = false
+
 abbrev pub kind_of : List ℕ → Kind
 kind_of t =
     if bytes_eq t (codes "measured") then Measured
@@ -84,7 +89,7 @@ scale_rules false records code = step_rule code ∷ offset_rule code ∷ unit_ru
 abbrev pub signal_rules : Bool → Bool → Bool → Members → List Rule
 signal_rules third fourth records ms =
     place_rules third ++ (scale_rules third records (is_code third ms)
-    ++ meaning_rules (third && fourth) (is_code third ms) (number_of bits_rule ms))
+    ++ meaning_rules (third && fourth) (repeated_of third ms) (is_code third ms) (number_of bits_rule ms))
 
 -- ---- a law
 
@@ -105,17 +110,12 @@ abbrev pub per_of : Bool → Members → ℕ
 per_of true ms = number_of (per_rule false) ms
 per_of false ms = 1
 
--- whether it is repeated: it isn't in a version that doesn't know it
-abbrev pub repeated_of : Bool → Members → Bool
-repeated_of true ms = flag_of (repeated_rule true) ms
-repeated_of false ms = false
-
 -- the bit, counted from 0, of a byte and a bit in it, which are counted from 1
 abbrev pub start_of : ℕ → ℕ → ℕ
 start_of byte bit = 8 * (byte - 1) + (bit - 1)
 
 -- the signal that a table tells
-pub record TellsSignal (third : Bool) (ms : Members) (s : SignalParts) : Type 0 where
+pub record TellsSignal (third fourth : Bool) (ms : Members) (s : SignalParts) : Type 0 where
   pub has_label : s.label.bytes ≡ text_of label_rule ms
   pub has_start : s.start ≡ start_of (number_of byte_rule ms) (number_of bit_rule ms)
   pub has_bits : s.bits ≡ number_of bits_rule ms
@@ -125,9 +125,10 @@ pub record TellsSignal (third : Bool) (ms : Members) (s : SignalParts) : Type 0 
   pub has_per : s.per ≡ per_of third ms
   pub has_unit : s.unit.bytes ≡ text_of (unit_rule false) ms
   pub has_repeated : s.repeated ≡ repeated_of third ms
+  pub has_optional : s.optional ≡ optional_of (third && fourth) ms
 
-abbrev pub IsSignalOf : Bool → Data → SignalParts → Type 0
-IsSignalOf third d s = TellsSignal third (inside d) s
+abbrev pub IsSignalOf : Bool → Bool → Data → SignalParts → Type 0
+IsSignalOf third fourth d s = TellsSignal third fourth (inside d) s
 
 -- what is said of it besides
 abbrev pub IsMeaningOf : Bool → Bool → Data → Meaning → Type 0

@@ -4,7 +4,7 @@ use Rattle.std.specs.List.{list_all}
 use Rattle.std.specs.Str.{bytes_eq}
 use Rattle.j39_findings.specs.LabelForm.{is_label, is_unit_label}
 use Rattle.j39_plan.specs.declared.reading.text_kind.TextKind.{TextKind}
-use Rattle.j39_plan.specs.declared.reading.text_kind.TextKind.TheVariants.{Label, UnitLabel, Chooser, SignalKind, AnySignalKind, SignalUnit, Empty, Any}
+use Rattle.j39_plan.specs.declared.reading.text_kind.TextKind.TheVariants.{Label, UnitLabel, Chooser, Queue, SignalKind, AnySignalKind, SignalUnit, Empty, Any}
 
 -- a visible ASCII character or a space
 abbrev pub is_printable : ℕ → Bool
@@ -18,6 +18,7 @@ abbrev pub takes : TextKind → List ℕ → Bool
 takes Label t = is_label t
 takes UnitLabel t = is_unit_label t
 takes Chooser t = bytes_eq t (codes "lowest") || bytes_eq t (codes "upward")
+takes Queue t = bytes_eq t (codes "priority") || bytes_eq t (codes "any")
 takes SignalKind t = is_first_kind t
 takes AnySignalKind t =
     is_first_kind t || (bytes_eq t (codes "states") || (bytes_eq t (codes "signed") || bytes_eq t (codes "dtc")))

@@ -1,10 +1,13 @@
--- The tables of units, and of their NAMEs (SAE J1939-81, NAME fields). The fourth version knows units that never claim.
+-- The tables of units, and of their NAMEs (SAE J1939-81, NAME fields). The fourth version knows units whose controllers keep no order,
+-- and units that never claim.
 use Rattle.std.specs.Prelude.{◌≡◌, ℕ, List, [], ◌∷◌, ◌++◌, Bool, true, false, not, ◌&&◌, if◌then◌else◌, Some, None, unwrap_or, codes}
 use Rattle.std.specs.Str.{bytes_eq}
 use Rattle.std.specs.Option.{option_map_or}
 use Rattle.toml.specs.Data.{Data, Members, no_members, as_table}
 use Rattle.j39_id.specs.declared.name_fields.NameFields.{NameFields}
 use Rattle.j39_id.specs.Name.{name_number, is_arbitrary}
+use Rattle.j39_findings.specs.declared.plan.queue.Queue.{Queue}
+use Rattle.j39_findings.specs.declared.plan.queue.Queue.TheVariants.{Any, Priority}
 use Rattle.j39_findings.specs.declared.plan.way.Way.{Way}
 use Rattle.j39_findings.specs.declared.plan.way.Way.TheVariants.{Lowest, Upward}
 use Rattle.j39_findings.specs.declared.plan.unit_plan.UnitPlan.{UnitPlan}
@@ -82,6 +85,10 @@ chooser_rule = text key.Chooser texts.Chooser (Some (codes "lowest"))
 abbrev pub window_rule : Rule
 window_rule = number key.Window 1 255 (Some 255)
 
+-- whether its controller keeps order among frames that wait
+abbrev pub queue_rule : Rule
+queue_rule = text key.Queue texts.Queue (Some (codes "priority"))
+
 abbrev pub name_rule : Rule
 name_rule = inner_table key.Name
 
@@ -89,13 +96,13 @@ name_rule = inner_table key.Name
 abbrev pub claims_rule : Rule
 claims_rule = flag key.Claims true
 
--- behind the NAME, in the fourth version and in another
-abbrev pub claims_rules : Bool → List Rule
-claims_rules true = claims_rule ∷ []
-claims_rules false = []
+-- behind the window, in the fourth version and in another
+abbrev pub last_rules : Bool → List Rule
+last_rules true = queue_rule ∷ name_rule ∷ claims_rule ∷ []
+last_rules false = name_rule ∷ []
 
 abbrev pub unit_rules : Bool → List Rule
-unit_rules fourth = unit_label_rule ∷ address_rule ∷ chooser_rule ∷ window_rule ∷ name_rule ∷ claims_rules fourth
+unit_rules fourth = unit_label_rule ∷ address_rule ∷ chooser_rule ∷ window_rule ∷ last_rules fourth
 
 -- but in the fourth version a unit has these keys
 abbrev pub OlderUnitRules : Type 0
@@ -103,6 +110,14 @@ OlderUnitRules = unit_rules false ≡ unit_label_rule ∷ address_rule ∷ choos
 
 abbrev pub way_of : List ℕ → Way
 way_of t = if bytes_eq t (codes "upward") then Upward else Lowest
+
+abbrev pub queue_in : List ℕ → Queue
+queue_in t = if bytes_eq t (codes "any") then Any else Priority
+
+-- a controller keeps order in a version that knows no other
+abbrev pub queue_of : Bool → Members → Queue
+queue_of true ms = queue_in (text_of queue_rule ms)
+queue_of false ms = Priority
 
 -- a unit claims in a version that knows no other
 abbrev pub claims_of : Bool → Members → Bool
@@ -120,6 +135,7 @@ pub record TellsUnit (fourth : Bool) (ms : Members) (u : UnitPlan) : Type 0 wher
   pub has_way : u.way ≡ way_of (text_of chooser_rule ms)
   pub has_window : u.window ≡ number_of window_rule ms
   pub has_name : u.name ≡ name_of ms
+  pub has_queue : u.queue ≡ queue_of fourth ms
   pub has_claims : u.claims ≡ claims_of fourth ms
 
 abbrev pub IsUnitOf : Bool → Data → UnitPlan → Type 0

@@ -47,11 +47,11 @@ pub record IsThirdBus (ms : Members) : Type 0 where
 
 -- nor in the table of a unit
 abbrev pub IsThirdUnit : Members → Type 0
-IsThirdUnit = Lacks (key.Claims ∷ [])
+IsThirdUnit = Lacks (key.Queue ∷ key.Claims ∷ [])
 
 -- nor in that of a signal
 abbrev pub IsThirdSignal : Members → Type 0
-IsThirdSignal = Lacks (key.Spn ∷ key.Values ∷ [])
+IsThirdSignal = Lacks (key.Optional ∷ key.Spn ∷ key.Values ∷ [])
 
 -- nor among the signals of a group
 abbrev pub IsThirdGroup : Members → Type 0

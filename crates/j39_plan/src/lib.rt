@@ -6,9 +6,9 @@ mod reading;
 
 pub use j39_findings::{
     Bitrate, CheckedPlan, ErrorRate, Finding, Findings, FlowPlan, GroupFault, GroupPlan, NeedPlan,
-    Pace, Plan, Refused, RefusedCause, RequestPlan, Step, TextPlan, Timing, To, UnitPlan, Way,
-    bad_run, check, checked, clean_parts, clean_where_none, conflict_runs_are_exact, found_exactly,
-    layout_of, signals_are_sound,
+    Pace, Plan, Queue, Refused, RefusedCause, RequestPlan, Step, TextPlan, Timing, To, UnitPlan,
+    Way, bad_run, check, checked, clean_parts, clean_where_none, conflict_runs_are_exact,
+    found_exactly, layout_of, signals_are_sound,
 };
 pub use laws::{
     a_file_describes_one_plan, older_versions_know_what_they_knew, plans_without_later_keys,

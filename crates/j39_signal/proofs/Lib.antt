@@ -6,5 +6,6 @@ pub mod Numbers
 pub mod Outside
 pub mod Sharing
 pub mod Steps
+pub mod There
 pub mod Windows
 pub mod Writes

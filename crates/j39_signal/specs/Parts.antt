@@ -8,7 +8,8 @@ use Rattle.j39_signal.specs.declared.kind.Kind.{Kind}
 abbrev pub divides_decimally : ℕ → Bool
 divides_decimally per = nat_le 1 per && (nat_le per 10000000 && 2 ^ 23 * 5 ^ 10 % per == 0)
 
--- the parts of a signal; of its label and its unit the bytes count; one that is repeated comes again in further records
+-- the parts of a signal; of its label and its unit the bytes count; one that is repeated comes again in further records,
+-- and one that is optional stands only in messages that are long enough
 pub record SignalParts : Type 0 where
   pub label : ArrayString
   pub start : ℕ
@@ -19,6 +20,7 @@ pub record SignalParts : Type 0 where
   pub per : ℕ
   pub unit : ArrayString
   pub repeated : Bool
+  pub optional : Bool
 
 -- the ranges that every signal keeps
 pub record IsSignal (start bits step : ℕ) (offset : ℤ) : Type 0 where

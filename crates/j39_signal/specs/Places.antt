@@ -1,5 +1,5 @@
 -- The widths and the places of signals (SAE J1939-71, bit and byte order of parameters).
-use Rattle.std.specs.Prelude.{ℕ, ◌+◌, ◌*◌, ◌%◌, ◌<◌, ◌≤◌, max, min, Bool, ◌==◌, ◌||◌, ◌&&◌, nat_le, nat_lt, List, All, AllPairs, IsTrue}
+use Rattle.std.specs.Prelude.{ℕ, ◌+◌, ◌*◌, ◌%◌, ◌<◌, ◌≤◌, ◌≡◌, max, min, Bool, false, not, ◌==◌, ◌||◌, ◌&&◌, nat_le, nat_lt, List, All, AllPairs, IsTrue}
 use Rattle.j39_id.specs.Limits.{message_bytes}
 use Rattle.j39_signal.specs.Parts.{SignalParts}
 use Rattle.j39_signal.specs.declared.kind.Kind.{Kind}
@@ -38,6 +38,17 @@ IsInside length s = end_of s ≤ 8 * length
 abbrev pub SharesBit : SignalParts → SignalParts → Type 0
 SharesBit s t = (j : ℕ) × Covers s j × Covers t j
 
+-- a payload of so many bytes has the signal: one that is optional where it ends within these, any other always
+abbrev pub is_there : ℕ → SignalParts → Bool
+is_there bytes s = not s.optional || nat_le (end_of s) (8 * bytes)
+
+abbrev pub IsThere : ℕ → SignalParts → Type 0
+IsThere bytes s = IsTrue (is_there bytes s)
+
+-- a signal that isn't optional ends within so many bytes
+abbrev pub IsAlwaysInside : ℕ → SignalParts → Type 0
+IsAlwaysInside bytes s = s.optional ≡ false → IsInside bytes s
+
 -- the same as tests on the places
 abbrev pub is_inside : ℕ → SignalParts → Bool
 is_inside length s = nat_le (end_of s) (8 * length)
@@ -52,3 +63,10 @@ pub record LaysOut (length : ℕ) (signals : List SignalParts) : Type 0 where
   pub widths : All WidthFits signals
   pub inside : All (IsInside length) signals
   pub apart : AllPairs (λ s t. ¬ SharesBit s t) signals
+
+-- so they do payloads of all these lengths: they lay out the longest, and what isn't optional ends within the shortest
+pub record LaysOutFrom (length most : ℕ) (signals : List SignalParts) : Type 0 where
+  pub longest : LaysOut most signals
+  pub some_bytes : 1 ≤ length
+  pub longer : length ≤ most
+  pub always : All (IsAlwaysInside length) signals

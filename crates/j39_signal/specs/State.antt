@@ -1,14 +1,15 @@
 -- What a raw number means (SAE J1939-71, transmitted signal ranges).
-use Rattle.std.specs.Prelude.{◌≡◌, ◌≢◌, ℕ, ◌-◌, ◌*◌, ◌^◌, ◌<◌, ℤ, pos, ◌+ℤ◌, ◌-ℤ◌, ◌*ℤ◌, Bool, false, nat_le, nat_lt, if◌then◌else◌, List}
-use Rattle.j39_signal.specs.Bits.{Put}
+use Rattle.std.specs.Prelude.{◌≡◌, ◌≢◌, ℕ, ◌-◌, ◌*◌, ◌^◌, ◌<◌, ℤ, pos, ◌+ℤ◌, ◌-ℤ◌, ◌*ℤ◌, Bool, false, nat_le, nat_lt, if◌then◌else◌, List, length}
+use Rattle.j39_signal.specs.Bits.{Put, raw_of}
 use Rattle.j39_signal.specs.Parts.{SignalParts}
+use Rattle.j39_signal.specs.Places.{is_there, IsThere}
 use Rattle.j39_signal.specs.declared.kind.Kind.{Kind}
 use Rattle.j39_signal.specs.declared.kind.Kind.TheVariants.{Measured, Discrete, Raw, States, Signed, Dtc}
 use Rattle.j39_signal.specs.declared.state.Shown.{Shown}
 use Rattle.j39_signal.specs.declared.state.State.{State}
 use Rattle.j39_signal.specs.declared.state.State.TheVariants.{Value, Specific, Reserved, Fault, Absent}
 use Rattle.j39_signal.specs.declared.write_error.WriteError.{WriteError}
-use Rattle.j39_signal.specs.declared.write_error.WriteError.TheVariants.{NotOnStep, OutOfRange}
+use Rattle.j39_signal.specs.declared.write_error.WriteError.TheVariants.{NotOnStep, OutOfRange, NotThere}
 
 -- where the ranges of a kind and a width end: the first raw number after the values, after the specific ones,
 -- after the reserved ones and after those of a fault
@@ -55,6 +56,10 @@ state_in ranges value raw =
 abbrev pub state_of : SignalParts → ℕ → State
 state_of s raw = state_in (ranges_of s.kind s.bits) (value_of s raw) raw
 
+-- what a signal reads in a payload: one that isn't there is absent
+abbrev pub state_in_payload : List ℕ → SignalParts → State
+state_in_payload payload s = if is_there (length payload) s then state_of s (raw_of payload s) else Absent
+
 -- a raw number with what it means, and the value that it has whatever its state
 abbrev pub shown_of : SignalParts → ℕ → Shown
 shown_of s raw = record { raw = raw; value = value_of s raw; state = state_of s raw }
@@ -79,6 +84,12 @@ IsOnStep s value = (k : ℤ) × (value ≡ s.offset +ℤ pos s.step *ℤ k)
 abbrev pub RefusesValue : SignalParts → ℤ → WriteError → Type 0
 RefusesValue s value NotOnStep = ¬ IsOnStep s value
 RefusesValue s value OutOfRange = IsOnStep s value × ((raw : ℕ) → ¬ IsRawOf s value raw)
+RefusesValue s value NotThere = ⊥
+
+-- so it is in a payload of so many bytes, where the signal has to be there at all
+abbrev pub RefusesWrite : ℕ → SignalParts → ℤ → WriteError → Type 0
+RefusesWrite bytes s value NotThere = ¬ IsThere bytes s
+RefusesWrite bytes s value e = IsThere bytes s × RefusesValue s value e
 
 -- ---- laws
 

@@ -1,34 +1,36 @@
 //! Layouts.
-ghost use Rattle.std.specs.Prelude.{◌≡◌, ◌≢◌, ◌<◌, ◌≤◌, length, All, IfOk, IfErr, IfSome, IfNone, OnOk, OnErr};
+ghost use Rattle.std.specs.Prelude.{◌≡◌, ◌≢◌, ◌↔◌, ◌<◌, ◌≤◌, length, All, IsSome, IsTrue, IfOk, IfErr, IfSome, IfNone, OnOk, OnErr};
 ghost use Rattle.std.specs.List.{HoldsAt};
 ghost use Rattle.j39_id.specs.FirstFault.{first_fault};
 ghost use Rattle.j39_signal.specs.Bits.{Put, raw_of, all_ones};
 ghost use Rattle.j39_signal.specs.Laid.{blank};
-ghost use Rattle.j39_signal.specs.Places.{WidthFits, IsInside, SharesBit, LaysOut, further};
+ghost use Rattle.j39_signal.specs.Places.{WidthFits, IsInside, IsAlwaysInside, IsThere, SharesBit, LaysOut, LaysOutFrom, further};
 ghost use Rattle.j39_signal.specs.Refusals.{HasLayoutFault, first_sharer as sharer_of, placement_faults};
-ghost use Rattle.j39_signal.specs.State.{shown_of, state_of, RefusesValue, WritesValue};
+ghost use Rattle.j39_signal.specs.State.{shown_of, state_of, state_in_payload, RefusesWrite, WritesValue};
 
 use crate::{LayoutError, Shown, Signal, State, WriteError};
 use j39_id::limits::MESSAGE_BYTES;
 use std::alloc::{AllocError, Global};
 use std::marker::Model;
 
-/// Signals that lay out a payload of some length: each fits its kind and ends within it, and no two share a bit.
+/// Signals that lay out payloads, from the shortest to the longest: each fits its kind and ends within the shortest, one that is
+/// optional within the longest, and no two share a bit.
 #[derive(Drop)]
 pub struct Layout {
     bytes: u16,
+    most: u16,
     signals: Vec<Signal>,
 }
 
 impl Model for Layout {
     ghost use Rattle.j39_signal.specs.LayoutParts.{LayoutParts};
-    ghost use Rattle.j39_signal.specs.Places.{LaysOut};
+    ghost use Rattle.j39_signal.specs.Places.{LaysOutFrom};
 
     ghost Value = { LayoutParts };
 
-    ghost view = { λ l. record { length = l.bytes; signals = l.signals.items } };
+    ghost view = { λ l. record { length = l.bytes; most = l.most; signals = l.signals.items } };
 
-    ghost invariant = { λ l. LaysOut l.bytes l.signals.items };
+    ghost invariant = { λ l. LaysOutFrom l.bytes l.most l.signals.items };
 }
 
 // The place of the first of these signals that shares a bit with another.
@@ -55,10 +57,20 @@ fn fault_after(before: &[Signal], signal: &Signal, length: u16) -> Option<Layout
     Some(LayoutError::Overlap(first, before.len()))
 }
 
+// Whether each of these that isn't optional ends within so many bytes.
+fn are_always_inside(signals: &[Signal], length: u16) -> bool
+    ensures { IsTrue result ↔ All (IsAlwaysInside length) signals.now }
+{
+    signals
+        .iter()
+        .all(|signal| signal.is_optional() || signal.is_inside(length))
+}
+
 impl Layout {
-    /// A layout of a payload of `length` bytes.
+    /// A layout of payloads of `length` bytes, which have each of the signals.
     pub fn new(alloc: Global, length: u16, signals: &[Signal]) -> Result<Self, LayoutError>
         ensures length { IfOk result (λ l. l.length ≡ length) }
+        ensures most { IfOk result (λ l. l.most ≡ length) }
         ensures signals { IfOk result (λ l. l.signals ≡ signals.now) }
         ensures lays_out { OnOk result (LaysOut length signals.now) }
         ensures refused { IfErr result (HasLayoutFault length signals.now) }
@@ -76,16 +88,42 @@ impl Layout {
         };
         Ok(Layout {
             bytes: length,
+            most: length,
             signals,
         })
     }
 
-    /// The length of the payload in bytes.
+    /// The layout of payloads of `length` bytes and more, up to the longest that it lays out.
+    ///
+    /// None where the length is 0 or above that of the longest, or where a signal ends behind it that isn't optional.
+    pub fn from_length(self, length: u16) -> Option<Self>
+        ensures valid { IsSome result ↔ ((1 ≤ length) × (length ≤ self.most) × All (IsAlwaysInside length) self.signals) }
+        ensures shorter { IfSome result (λ l. l ≡ record self { length = length }) }
+    {
+        let fits = 1 <= length && length <= self.most && are_always_inside(&self.signals, length);
+        if fits {
+            Some(Layout {
+                bytes: length,
+                ..self
+            })
+        } else {
+            None
+        }
+    }
+
+    /// The length of the shortest payload in bytes.
     pub fn length(&self) -> u16
         ensures value { result ≡ self.now.length }
-        ensures lays_out { LaysOut self.now.length self.now.signals }
+        ensures lays_out { LaysOutFrom self.now.length self.now.most self.now.signals }
     {
         self.bytes
+    }
+
+    /// The length of the longest payload in bytes.
+    pub fn most(&self) -> u16
+        ensures { result ≡ self.now.most }
+    {
+        self.most
     }
 
     /// How many signals there are.
@@ -95,11 +133,19 @@ impl Layout {
         self.signals.len()
     }
 
-    /// A payload in which every bit is 1, so that no signal is available.
+    /// The shortest payload, in which every bit is 1, so that no signal is available.
     pub fn blank(&self, alloc: Global) -> Result<Vec<u8>, AllocError>
         ensures { IfOk result (λ payload. payload.items ≡ blank self.now.length) }
     {
         vec![in alloc; 255; usize::from(self.bytes)]
+    }
+
+    /// The same of so many bytes.
+    pub fn blank_of(&self, alloc: Global, bytes: u16) -> Result<Vec<u8>, AllocError>
+        requires { (self.now.length ≤ bytes) × (bytes ≤ self.now.most) }
+        ensures { IfOk result (λ payload. payload.items ≡ blank bytes) }
+    {
+        vec![in alloc; 255; usize::from(bytes)]
     }
 
     // The signal at place `i`.
@@ -107,41 +153,54 @@ impl Layout {
         requires { i < length self.now.signals }
         ensures at { HoldsAt (λ s. s ≡ result.now) self.now.signals i }
         ensures width { WidthFits result.now }
-        ensures inside { IsInside self.now.length result.now }
+        ensures inside { IsAlwaysInside self.now.length result.now }
     {
         &self.signals[i]
     }
 
-    /// Writes a value of the signal at place `i`.
-    #[tactic(auto, using(crate::proofs::AtPlace::at_place))]
+    /// Writes a value of the signal at place `i`, if the payload has it.
+    #[tactic(auto, using(crate::proofs::AtPlace::at_place, crate::proofs::There::inside_there, crate::proofs::There::refused_there))]
     pub fn write(&self, payload: &mut [u8], i: usize, value: i64) -> Result<(), WriteError>
         requires place { i < length self.now.signals }
-        requires bytes { length payload.old ≡ self.now.length }
+        requires bytes { self.now.length ≤ length payload.old }
         ensures ok { HoldsAt (λ s. OnOk result (WritesValue s value payload.old payload.new)) self.now.signals i }
-        ensures refused { HoldsAt (λ s. IfErr result (RefusesValue s value)) self.now.signals i }
+        ensures refused { HoldsAt (λ s. IfErr result (RefusesWrite (length payload.old) s value)) self.now.signals i }
         ensures unchanged { OnErr result (payload.new ≡ payload.old) }
     {
-        self.signal(i).write(payload, value)
+        let signal = self.signal(i);
+        if !signal.is_there(payload.len()) {
+            return Err(WriteError::NotThere);
+        }
+        signal.write(payload, value)
     }
 
-    /// Makes the signal at place `i` not available: sets all its bits to 1.
-    #[tactic(auto, using(crate::proofs::AtPlace::at_place))]
+    /// Makes the signal at place `i` not available: sets all its bits to 1, if the payload has it.
+    #[tactic(auto, using(crate::proofs::AtPlace::at_place, crate::proofs::There::inside_there))]
     pub fn write_absent(&self, payload: &mut [u8], i: usize)
         requires place { i < length self.now.signals }
-        requires bytes { length payload.old ≡ self.now.length }
-        ensures { HoldsAt (λ s. Put s (all_ones s) payload.old payload.new) self.now.signals i }
+        requires bytes { self.now.length ≤ length payload.old }
+        ensures there { HoldsAt (λ s. IsThere (length payload.old) s → Put s (all_ones s) payload.old payload.new) self.now.signals i }
+        ensures not_there { HoldsAt (λ s. (¬ IsThere (length payload.old) s) → payload.new ≡ payload.old) self.now.signals i }
     {
-        self.signal(i).write_absent(payload);
+        let signal = self.signal(i);
+        if signal.is_there(payload.len()) {
+            signal.write_absent(payload);
+        }
     }
 
-    /// The state of the signal at place `i`, in a payload that may be longer than what is laid out.
-    #[tactic(auto, using(crate::proofs::AtPlace::at_place))]
+    /// The state of the signal at place `i`, in a payload that may be longer than what is laid out: absent where the payload
+    /// doesn't have the signal.
+    #[tactic(auto, using(crate::proofs::AtPlace::at_place, crate::proofs::There::inside_there))]
     pub fn read(&self, payload: &[u8], i: usize) -> State
         requires place { i < length self.now.signals }
         requires bytes { self.now.length ≤ length payload.now }
-        ensures { HoldsAt (λ s. result ≡ state_of s (raw_of payload.now s)) self.now.signals i }
+        ensures { HoldsAt (λ s. result ≡ state_in_payload payload.now s) self.now.signals i }
     {
-        self.signal(i).read(payload)
+        let signal = self.signal(i);
+        if !signal.is_there(payload.len()) {
+            return State::Absent;
+        }
+        signal.read(payload)
     }
 
     /// The state of the signal at place `i` as it stands so many bytes further on, in a payload of any length that has it.
@@ -154,11 +213,13 @@ impl Layout {
         self.signal(i).read_further(payload, bytes)
     }
 
-    /// The raw number of the signal at place `i` with what it means, in a payload that may be longer than what is laid out.
+    /// The raw number of the signal at place `i` with what it means, in a payload that has the signal and may be longer than what is
+    /// laid out.
     #[tactic(auto, using(crate::proofs::AtPlace::at_place))]
     pub fn show(&self, payload: &[u8], i: usize) -> Shown
         requires place { i < length self.now.signals }
         requires bytes { self.now.length ≤ length payload.now }
+        requires there { HoldsAt (λ s. IsThere (length payload.now) s) self.now.signals i }
         ensures { HoldsAt (λ s. result ≡ shown_of s (raw_of payload.now s)) self.now.signals i }
     {
         self.signal(i).show(payload)

@@ -21,6 +21,7 @@ pub struct Signal {
     per: u32,
     unit: Label,
     repeated: bool,
+    optional: bool,
 }
 
 impl Model for Signal {
@@ -38,6 +39,7 @@ impl Model for Signal {
       per = s.per;
       unit = s.unit;
       repeated = s.repeated;
+      optional = s.optional;
     } };
 
     ghost invariant = { λ s. IsSignal s.start s.bits s.step s.offset × IsDivisor s.per };
@@ -52,6 +54,7 @@ impl Model for Signal {
       per = s.per;
       unit = s.unit;
       repeated = s.repeated;
+      optional = s.optional;
     } };
 }
 
@@ -65,10 +68,10 @@ pub fn divides_decimally(per: u32) -> bool
 
 impl Signal {
     ghost use Rattle.j39_signal.specs.Parts.{HasRanges, CanBeSignal, IsDivisor};
-    ghost use Rattle.j39_signal.specs.Places.{width_fits, end_of, IsInside, is_inside, SharesBit, shares_bit};
+    ghost use Rattle.j39_signal.specs.Places.{width_fits, end_of, IsInside, is_inside, is_there, SharesBit, shares_bit};
 
     /// A signal of `bits` bits from bit `start` of the payload on, both counted from 0. Its values are whole numbers, and it
-    /// isn't repeated.
+    /// is neither repeated nor optional.
     ///
     /// None unless `bits` is 1..=64, `step` is 1..=1,000,000 and `offset` is within plus or minus 10^12.
     pub fn new(
@@ -90,6 +93,7 @@ impl Signal {
         ensures per { IfSome result (λ s. s.per ≡ 1) }
         ensures unit { IfSome result (λ s. s.unit ≡ unit) }
         ensures once { IfSome result (λ s. s.repeated ≡ false) }
+        ensures always { IfSome result (λ s. s.optional ≡ false) }
     {
         let in_range = 1 <= bits
             && bits <= 64
@@ -108,6 +112,7 @@ impl Signal {
                 per: 1,
                 unit,
                 repeated: false,
+                optional: false,
             })
         } else {
             None
@@ -133,6 +138,13 @@ impl Signal {
         ensures { result ≡ record self { repeated = repeated } }
     {
         Signal { repeated, ..self }
+    }
+
+    /// The signal as one that only messages have which are long enough, or as one that each message has.
+    pub fn with_optional(self, optional: bool) -> Self
+        ensures { result ≡ record self { optional = optional } }
+    {
+        Signal { optional, ..self }
     }
 
     /// The name of the signal.
@@ -202,6 +214,14 @@ impl Signal {
         self.repeated
     }
 
+    /// Whether only messages have the signal which are long enough. It is asked at each signal of a frame.
+    #[inline(always)]
+    pub fn is_optional(&self) -> bool
+        ensures { result ≡ self.now.optional }
+    {
+        self.optional
+    }
+
     /// Whether the width fits the kind: 8, 16 or 32 bits for a measured signal, 2 for a discrete one, 1..=32 for a raw one,
     /// 2..=8 for states, 2..=32 for a signed one, and for a trouble code 32 from the first bit of a byte on.
     pub fn width_fits(&self) -> bool
@@ -231,6 +251,15 @@ impl Signal {
         ensures inside { IsTrue result ↔ IsInside length self.now }
     {
         self.end() <= 8 * u32::from(length)
+    }
+
+    /// Whether a payload of so many bytes has the signal: an optional one where it ends within them, any other always.
+    #[inline(always)]
+    #[tactic(auto, using(crate::proofs::There::within_bytes))]
+    pub fn is_there(&self, bytes: usize) -> bool
+        ensures { result ≡ is_there bytes self.now }
+    {
+        !self.optional || (self.end() as usize + 7) / 8 <= bytes
     }
 
     /// Whether some bit belongs to both signals.

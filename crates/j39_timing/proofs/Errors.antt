@@ -1,8 +1,9 @@
 -- A bus with damaged frames is one of a legal schedule, in which damaged attempts and error frames go before all others.
-use Rattle.std.proofs.Common.{◌≡◌, ℕ, ◌+◌, ◌-◌, ◌<◌, ◌≤◌, ◌⊎◌, refl, sym, ap, subst, arith, inl, inr}
-use Rattle.std.proofs.lemmas.Bool.{cases_lt, le-ltb, lt-ltb}
+use Rattle.std.proofs.Common.{◌≡◌, ℕ, suc, ◌+◌, ◌-◌, ◌<◌, ◌≤◌, ◌⊎◌, ◌||◌, ◌∙◌, true, eqb, refl, sym, ap, subst, arith, inl, inr}
+use Rattle.std.proofs.lemmas.Bool.{cases_lt, le-ltb, lt-ltb, ne_eqb}
 use Rattle.j39_timing.specs.Schedule.{Schedule, IsLegal, IsOnBusAt, Waits}
-use Rattle.j39_timing.specs.Errors.{Damaged, IsDamagedAt, IsLegalWithErrors, with_errors}
+use Rattle.j39_timing.specs.AnyOrder.{Controllers, IsLegalInAnyOrder, IsOrdered, MayBeOffered}
+use Rattle.j39_timing.specs.Errors.{Damaged, IsBusWithErrors, IsDamagedAt, IsLegalInAnyOrderWithErrors, IsLegalWithErrors, damage_ordered, with_errors}
 
 module _ (s : Schedule) (d : Damaged) where
   abbrev all : Schedule
@@ -85,7 +86,7 @@ module _ (s : Schedule) (d : Damaged) where
     ]
   ]
 
-  module _ (legal : IsLegalWithErrors s d) where
+  module _ (legal : IsBusWithErrors s d) where
     abbrev OnBus : ℕ → Type 0
     OnBus t = (q : ℕ) × (q < all.count) × IsOnBusAt all q t
 
@@ -226,6 +227,23 @@ module _ (s : Schedule) (d : Damaged) where
       ]
     ]
 
+    -- what comes of damage doesn't begin while it waits, and nothing else begins where an error frame waits
+    frame_beside : (p q : ℕ) → p < all.count → IsFrame q → all.start q < all.now → Waits all p (all.start q) → IsFrame p
+    frame_beside p q in_p is_q seen waits =
+        let start = is_q.start in
+        let bits = is_q.bits in
+        let some = legal.positive q is_q.below in
+        let on : IsOnBusAt all q (all.start q) = (omega arith, omega (arith, bits, some)) in
+        elim (kinds p in_p) [
+          | inl is_p ↦ is_p
+          | inr this ↦ elim this [
+            | inl it ↦ absurd (attempt_waits p it.0 (all.start q) it.1 waits)
+            | inr it ↦ absurd (legal.none_of_both q it.0 (all.start q) is_q.below it.1.below seen (as_frame q (all.start q) is_q on)
+                (error_waits p it.0 (all.start q) it.1 waits))
+          ]
+        ]
+
+  module _ (legal : IsLegalWithErrors s d) where
     in_order : (p q : ℕ) → p < all.count → q < all.count → all.start q < all.now → Waits all p (all.start q) → all.ident q ≤ all.ident p
     in_order p q in_p in_q seen waits = elim (kinds q in_q) [
       | inr this ↦ elim this [
@@ -234,29 +252,77 @@ module _ (s : Schedule) (d : Damaged) where
       ]
       | inl is_q ↦
           let start = is_q.start in
-          let bits = is_q.bits in
-          let some = legal.positive q is_q.below in
-          let on : IsOnBusAt all q (all.start q) = (omega arith, omega (arith, bits, some)) in
-          elim (kinds p in_p) [
-            | inl is_p ↦
-                let order : s.ident q ≤ s.ident p = legal.in_order p q is_p.below is_q.below (omega (arith, seen, start))
-                (subst (λ t. Waits s p t) start (as_waiting p (all.start q) is_p waits)) in
-                let ident_p = is_p.ident in
-                let ident_q = is_q.ident in
-                omega (arith, order, ident_p, ident_q)
-            | inr this ↦ elim this [
-              | inl it ↦ absurd (attempt_waits p it.0 (all.start q) it.1 waits)
-              | inr it ↦ absurd (legal.none_of_both q it.0 (all.start q) is_q.below it.1.below seen (as_frame q (all.start q) is_q on)
-                  (error_waits p it.0 (all.start q) it.1 waits))
-            ]
-          ]
+          let is_p = frame_beside legal.bus p q in_p is_q seen waits in
+          let order : s.ident q ≤ s.ident p = legal.in_order p q is_p.below is_q.below (omega (arith, seen, start))
+          (subst (λ t. Waits s p t) start (as_waiting legal.bus p (all.start q) is_p waits)) in
+          let ident_p = is_p.ident in
+          let ident_q = is_q.ident in
+          omega (arith, order, ident_p, ident_q)
     ]
 
     pub legal_with_errors : IsLegal (with_errors s d)
     legal_with_errors = record {
-      positive = positive;
-      queued_first = queued_first;
-      alone = alone;
-      never_idle = never_idle;
+      positive = positive legal.bus;
+      queued_first = queued_first legal.bus;
+      alone = alone legal.bus;
+      never_idle = never_idle legal.bus;
       in_order = in_order;
+    }
+
+  module _ (controllers : Controllers) (legal : IsLegalInAnyOrderWithErrors s controllers d) where
+    abbrev units : Controllers
+    units = damage_ordered s controllers
+
+    unit_of_frame : (p : ℕ) → p < s.count → units.unit p ≡ suc (controllers.unit p)
+    unit_of_frame p below = let front = lt-ltb p s.count below in rw (front) refl
+
+    -- a frame's unit keeps order where it did
+    ordered_of_frame : (p : ℕ) → p < s.count → IsOrdered units p → IsOrdered controllers p
+    ordered_of_frame p below ordered =
+        let at = unit_of_frame p below in
+        let there : (eqb (suc (controllers.unit p)) 0 || controllers.keeps_order (suc (controllers.unit p) - 1)) ≡ true =
+        subst (λ u. (eqb u 0 || controllers.keeps_order (u - 1)) ≡ true) at ordered in
+        let differs = ne_eqb (suc (controllers.unit p)) 0 (λ same. omega arith) in
+        let back : suc (controllers.unit p) - 1 ≡ controllers.unit p = omega arith in
+        subst (λ u. controllers.keeps_order u ≡ true) back
+        (subst (λ e. (e || controllers.keeps_order (suc (controllers.unit p) - 1)) ≡ true) differs there)
+
+    offered : (p q : ℕ) → p < all.count → q < all.count → all.start q < all.now → Waits all p (all.start q)
+        → (h : ℕ) × MayBeOffered all units p h (all.start q) × (all.ident q ≤ all.ident h)
+    offered p q in_p in_q seen waits =
+        let itself : MayBeOffered all units p p (all.start q) = (in_p, refl, (let before = waits.0 in omega (arith, before), waits.1), λ _. refl) in
+        elim (kinds q in_q) [
+          | inr this ↦ elim this [
+            | inl it ↦ let least = it.1.ident in (p, itself, omega (arith, least))
+            | inr it ↦ let least = it.1.ident in (p, itself, omega (arith, least))
+          ]
+          | inl is_q ↦
+              let start = is_q.start in
+              let is_p = frame_beside legal.bus p q in_p is_q seen waits in
+              let (h, may, order) = legal.in_order p q is_p.below is_q.below (omega (arith, seen, start))
+              (subst (λ t. Waits s p t) start (as_waiting legal.bus p (all.start q) is_p waits)) in
+              let (in_h, unit, ready, ordered) = may in
+              let is_h = frame_at h in_h in
+              let queued_h = is_h.queued in
+              let start_h = is_h.start in
+              let ident_h = is_h.ident in
+              let ident_q = is_q.ident in (
+                h,
+                (
+                  omega arith,
+                  unit_of_frame h in_h ∙ (ap suc unit ∙ sym (unit_of_frame p is_p.below)),
+                  (omega (arith, ready.0, queued_h, start), omega (arith, ready.1, start_h, start)),
+                  λ keeps. ordered (ordered_of_frame p is_p.below keeps),
+                ),
+                omega (arith, order, ident_h, ident_q),
+              )
+        ]
+
+    pub legal_in_any_order_with_errors : IsLegalInAnyOrder (with_errors s d) (damage_ordered s controllers)
+    legal_in_any_order_with_errors = record {
+      positive = positive legal.bus;
+      queued_first = queued_first legal.bus;
+      alone = alone legal.bus;
+      never_idle = never_idle legal.bus;
+      in_order = offered;
     }

@@ -44,7 +44,7 @@ demand-split s c t a b =
     ])
 
 -- k windows have k times as much at most
-demand-windows : (s : Schedule) (c span most : ℕ) → ((t : ℕ) → demand s c t span ≤ most) → (k t : ℕ) → demand s c t (k * span) ≤ k * most
+pub demand-windows : (s : Schedule) (c span most : ℕ) → ((t : ℕ) → demand s c t span ≤ most) → (k t : ℕ) → demand s c t (k * span) ≤ k * most
 demand-windows s c span most each zero t =
     let none : demand s c t (0 * span) ≡ 0 =
     total-none s.count (λ p. cond (ltb (s.ident p) c && (leb t (s.queued p) && ltb (s.queued p) (t + 0 * span))) (s.bits p) 0) (λ p in_p.

@@ -1,6 +1,7 @@
 -- A bus on which frames are damaged: an error frame follows at once, and the frame takes part again (ISO 11898-1).
-use Rattle.std.specs.Prelude.{◌≡◌, ℕ, ◌+◌, ◌-◌, ◌<◌, ◌≤◌, ◌⊎◌, cond, nat_lt}
+use Rattle.std.specs.Prelude.{◌≡◌, ℕ, suc, ◌+◌, ◌-◌, ◌<◌, ◌≤◌, ◌⊎◌, ◌||◌, cond, nat_eq, nat_lt}
 use Rattle.j39_timing.specs.FrameBits.{error_frame}
+use Rattle.j39_timing.specs.AnyOrder.{Controllers, MayBeOffered}
 use Rattle.j39_timing.specs.Schedule.{Schedule, IsOnBusAt, Waits}
 
 -- attempts to send frames of a schedule that were damaged
@@ -20,8 +21,9 @@ pub record Damaged : Type 0 where
 abbrev pub IsDamagedAt : Damaged → ℕ → ℕ → Type 0
 IsDamagedAt d e t = (d.begin e ≤ t) × (t < d.begin e + (d.sent e + d.error e))
 
--- as `IsLegal`, but that a frame may have been tried in vain before: its start in the schedule is that of the attempt that wasn't damaged
-pub record IsLegalWithErrors (s : Schedule) (d : Damaged) : Type 0 where
+-- a bus on which a frame may have been tried in vain before, whichever goes first: its start in the schedule is that of the attempt that
+-- wasn't damaged
+pub record IsBusWithErrors (s : Schedule) (d : Damaged) : Type 0 where
   pub positive : (p : ℕ) → p < s.count → 1 ≤ s.bits p
   pub queued_first : (p : ℕ) → p < s.count → s.queued p ≤ s.start p
   -- a damaged attempt is one of a frame that is ready, and sends no more than this
@@ -41,9 +43,20 @@ pub record IsLegalWithErrors (s : Schedule) (d : Damaged) : Type 0 where
   -- while a frame waits the bus isn't idle
   pub never_idle : (p t : ℕ) → p < s.count → t < s.now → Waits s p t
       → ((q : ℕ) × (q < s.count) × IsOnBusAt s q t) ⊎ ((e : ℕ) × (e < d.count) × IsDamagedAt d e t)
-  -- a frame that begins, or is tried, has no larger identifier than one that waits
+
+-- as `IsLegal`: a frame that begins, or is tried, has no larger identifier than one that waits
+pub record IsLegalWithErrors (s : Schedule) (d : Damaged) : Type 0 where
+  pub bus : IsBusWithErrors s d
   pub in_order : (p q : ℕ) → p < s.count → q < s.count → s.start q < s.now → Waits s p (s.start q) → s.ident q ≤ s.ident p
   pub in_order_damaged : (p e : ℕ) → p < s.count → e < d.count → d.begin e < s.now → Waits s p (d.begin e) → s.ident (d.frame e) ≤ s.ident p
+
+-- as `IsLegalInAnyOrder`: it has no larger identifier than one that each unit with a waiting frame offers
+pub record IsLegalInAnyOrderWithErrors (s : Schedule) (controllers : Controllers) (d : Damaged) : Type 0 where
+  pub bus : IsBusWithErrors s d
+  pub in_order : (p q : ℕ) → p < s.count → q < s.count → s.start q < s.now → Waits s p (s.start q)
+      → (h : ℕ) × MayBeOffered s controllers p h (s.start q) × (s.ident q ≤ s.ident h)
+  pub in_order_damaged : (p e : ℕ) → p < s.count → e < d.count → d.begin e < s.now → Waits s p (d.begin e)
+      → (h : ℕ) × MayBeOffered s controllers p h (d.begin e) × (s.ident (d.frame e) ≤ s.ident h)
 
 -- at the places of the frames what is told of them; behind these of the damaged attempts; and then of the error frames
 abbrev pub at_place : Schedule → Damaged → (ℕ → ℕ) → (ℕ → ℕ) → (ℕ → ℕ) → ℕ → ℕ
@@ -59,4 +72,11 @@ with_errors s d = record {
   bits = at_place s d s.bits d.sent d.error;
   ident = at_place s d s.ident (λ e. 0) (λ e. 0);
   now = s.now;
+}
+
+-- what comes of damage is of no unit of the bus: of one more, which keeps order
+abbrev pub damage_ordered : Schedule → Controllers → Controllers
+damage_ordered s controllers = record {
+  unit = λ p. cond (nat_lt p s.count) (suc (controllers.unit p)) 0;
+  keeps_order = λ u. nat_eq u 0 || controllers.keeps_order (u - 1);
 }

@@ -2,9 +2,11 @@
 ghost use Rattle.std.specs.Prelude.{◌≡◌, ℕ, Bool, true, ◌+◌, ◌<◌, ◌≤◌, List, All};
 ghost use Rattle.j39_timing.specs.Schedule.{Schedule, IsLegal};
 ghost use Rattle.j39_timing.specs.Streams.{Origins};
-ghost use Rattle.j39_timing.specs.Errors.{Damaged, IsLegalWithErrors, with_errors};
+ghost use Rattle.j39_timing.specs.Errors.{Damaged, IsLegalInAnyOrderWithErrors, IsLegalWithErrors, damage_ordered, with_errors};
 ghost use Rattle.j39_timing.specs.Messages.{LongMessage, AreSentInTurn, AreSentWithin, IsBroadcast, all_whole_at, time_of_messages};
 ghost use Rattle.j39_timing.specs.Ages.{KeepsComing, IsFresh};
+ghost use Rattle.j39_timing.specs.AnyOrder.{AreBegunWithin, Controllers, HaveWaits, IsLegalInAnyOrder, IsOrdered, IsOrderedStream, as_offered, offered_traffic};
+ghost use Rattle.j39_timing.specs.Companies.{Company, HasRoomInCompany, IsTrafficOfCompany};
 ghost use Rattle.j39_timing.specs.declared.stream.Stream.{Stream as TheStream};
 ghost use Rattle.j39_timing.specs.Rounds.{AreSenders, Senders, all_planned, in_rounds, nothing_else, of_rounds, traffic_of_rounds};
 ghost use Rattle.j39_timing.specs.Traffic.{Traffic, Others, IsPlannedTraffic, IsSingle, HasRoom, IsStreamInTime, AreQueuedBehind, AreSteady, delay_of};
@@ -30,9 +32,11 @@ pub fn ages_are_bounded()
 {}
 
 /// A bus on which frames are damaged has a legal schedule, in which damaged attempts and the error frames behind them are frames of the least
-/// identifier: so each law of legal schedules holds of it.
+/// identifier: so each law of legal schedules holds of it (`legal`). So it is where units keep no order (`any_order`).
 pub fn a_bus_with_errors_is_legal()
     ensures legal { (s : Schedule) (damaged : Damaged) → IsLegalWithErrors s damaged → IsLegal (with_errors s damaged) }
+    ensures any_order { (s : Schedule) (controllers : Controllers) (damaged : Damaged) → IsLegalInAnyOrderWithErrors s controllers damaged
+        → IsLegalInAnyOrder (with_errors s damaged) (damage_ordered s controllers) }
 {}
 
 /// Where each frame of a stream is queued behind the end of the one before, however late this is, each begins within a wait that has room
@@ -74,4 +78,44 @@ pub fn broadcasts_can_be_sent()
         → AreQueuedBehind (in_rounds senders count) all_planned (of_rounds senders) i }
     ensures steady { (senders : Senders) → AreSenders senders → (count i : ℕ)
         → AreSteady (in_rounds senders count) all_planned (of_rounds senders) i }
+{}
+
+/// Where units keep no order a frame waits for its whole company: in every schedule in which each unit offers one of its frames wherever a
+/// frame begins, a frame of the company begins within a wait that has room for the frame that has begun, for what isn't planned, and for all
+/// streams of the company and those of which a frame may have a smaller identifier than its level, but for the frame itself (`begun`). So
+/// it has been sent within its delay from its moment (`in_time`), and within this wait and its own length (`sent`), however often it comes.
+pub fn frames_of_a_company_are_in_time()
+    ensures begun { (s : Schedule) (controllers : Controllers) (traffic : Traffic) (unplanned longest : ℕ) (planned : ℕ → Bool) (of : Origins) (company : Company)
+        → IsLegalInAnyOrder s controllers → IsTrafficOfCompany s controllers traffic unplanned longest planned of company
+        → ((j : ℕ) → j < traffic.count → 0 < (traffic.stream j).period) → (i wait : ℕ) → company.has i ≡ true → (traffic.stream i).bits ≤ longest
+        → HasRoomInCompany traffic company unplanned longest i wait → AreBegunWithin s planned of i wait }
+    ensures in_time { (s : Schedule) (controllers : Controllers) (traffic : Traffic) (unplanned longest : ℕ) (planned : ℕ → Bool) (of : Origins) (company : Company)
+        → IsLegalInAnyOrder s controllers → IsTrafficOfCompany s controllers traffic unplanned longest planned of company
+        → ((j : ℕ) → j < traffic.count → 0 < (traffic.stream j).period) → (i wait : ℕ) → company.has i ≡ true → (traffic.stream i).bits ≤ longest
+        → HasRoomInCompany traffic company unplanned longest i wait → IsStreamInTime s planned of i (traffic.stream i) wait }
+    ensures sent { (s : Schedule) (controllers : Controllers) (traffic : Traffic) (unplanned longest : ℕ) (planned : ℕ → Bool) (of : Origins) (company : Company)
+        → IsLegalInAnyOrder s controllers → IsTrafficOfCompany s controllers traffic unplanned longest planned of company
+        → ((j : ℕ) → j < traffic.count → 0 < (traffic.stream j).period) → (i wait : ℕ) → company.has i ≡ true → (traffic.stream i).bits ≤ longest
+        → HasRoomInCompany traffic company unplanned longest i wait → AreSentWithin s planned of i (traffic.stream i) wait }
+{}
+
+/// Beside units that keep no order each frame is one of a legal schedule from the bit on from which it is offered for good (`legal`), which is
+/// where it is ready if its unit keeps order (`ready`). So what is known of frames of such units holds, where a frame of another unit counts
+/// as queued so many bits later as it may wait: frames of a stream of single frames are in time (`in_time`), and so are
+/// those of which each is queued behind the end of the one before (`sent`). Of each stream that may go before there has to be such a wait.
+pub fn frames_beside_any_order_are_in_time()
+    ensures legal { (s : Schedule) (controllers : Controllers) → IsLegalInAnyOrder s controllers → IsLegal (as_offered s) }
+    ensures ready { (s : Schedule) (controllers : Controllers) → IsLegalInAnyOrder s controllers
+        → (p : ℕ) → p < s.count → IsOrdered controllers p → (as_offered s).queued p ≡ s.queued p }
+    ensures in_time { (s : Schedule) (controllers : Controllers) (traffic : Traffic) (others : Others) (longest : ℕ) (planned : ℕ → Bool) (of : Origins)
+        → IsLegalInAnyOrder s controllers → (i wait : ℕ) → IsPlannedTraffic s traffic others longest planned of i
+        → ((j : ℕ) → j < traffic.count → 0 < (traffic.stream j).period) → IsOrderedStream s controllers planned of i
+        → (waits : ℕ → ℕ) → HaveWaits s controllers traffic planned of i waits → HasRoom (offered_traffic traffic waits) others longest i wait
+        → IsSingle (traffic.stream i) → delay_of (traffic.stream i) wait ≤ (traffic.stream i).period
+        → IsStreamInTime s planned of i (traffic.stream i) wait }
+    ensures sent { (s : Schedule) (controllers : Controllers) (traffic : Traffic) (others : Others) (longest : ℕ) (planned : ℕ → Bool) (of : Origins)
+        → IsLegalInAnyOrder s controllers → (i wait : ℕ) → IsPlannedTraffic s traffic others longest planned of i
+        → ((j : ℕ) → j < traffic.count → 0 < (traffic.stream j).period) → IsOrderedStream s controllers planned of i
+        → (waits : ℕ → ℕ) → HaveWaits s controllers traffic planned of i waits → HasRoom (offered_traffic traffic waits) others longest i wait
+        → AreQueuedBehind s planned of i → AreSteady s planned of i → AreSentWithin s planned of i (traffic.stream i) wait }
 {}

@@ -168,9 +168,9 @@ pub(super) fn commands<'a>(alloc: Global) -> Result<Command<'a>, AllocError>
         one to one unit ends before the next and takes no more frames than load counts; a unit sends one long message to all \
         at a time, its frames at least broadcast_gap (50 ms) and at most broadcast_gap_most (200 ms) apart; announcements, \
         answers and packets have priority transport_priority (7) or a larger number; each controller offers its queued frame \
-        of the smallest identifier first; no claim and no request for claims is under way, and no unit changes its address \
-        while a frame of it waits; and other frames have priority unplanned_priority (6) or a larger number and 8 bytes at \
-        most, and at most as many as unplanned says go before one that waits",
+        of the smallest identifier first, or any where its unit's queue says so; no claim and no request for claims is under \
+        way, and no unit changes its address while a frame of it waits; and other frames have priority unplanned_priority (6) \
+        or a larger number and 8 bytes at most, and at most as many as unplanned says go before one that waits",
     );
     let runs = with_two(
         loads,

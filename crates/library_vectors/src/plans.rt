@@ -1,6 +1,6 @@
 //! Plans as they are read and checked.
 use j39_plan::{
-    Bitrate, Cause, ErrorRate, Finding, FlowPlan, GroupPlan, Key, NeedPlan, Pace, Refused,
+    Bitrate, Cause, ErrorRate, Finding, FlowPlan, GroupPlan, Key, NeedPlan, Pace, Queue, Refused,
     RefusedCause, RequestPlan, Step, Timing, To, UnitPlan, Way, bad_run, checked, read_plan,
 };
 use j39_signal::{Kind, Signal};
@@ -208,6 +208,7 @@ errors = { count = 2, every = 500 }
 [[unit]]
 label = \"A\"
 address = 0
+queue = \"any\"
 name = { identity = 1 }
 
 [[unit]]
@@ -341,6 +342,12 @@ fn what_version_4_knows_is_read_whole(rt: HostRuntime) -> Result<(), Fail> {
     assert!(rt; plan.flows.as_slice() == [flow, answer].as_slice());
     assert!(rt; plan.needs.as_slice() == [of_a_signal, of_a_group].as_slice());
     assert!(rt; plan.units.iter().map(|unit| unit.claims).eq([true, false]));
+    assert!(rt;
+        plan.units
+            .iter()
+            .map(|unit| unit.queue)
+            .eq([Queue::Any, Queue::Priority])
+    );
     assert_eq!(rt; plan.strangers, 3);
     are_requests(&rt, &plan.requests);
     Ok(())

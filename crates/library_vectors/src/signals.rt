@@ -257,6 +257,57 @@ fn a_record_is_read_further_on(rt: HostRuntime) -> Result<(), Fail> {
 }
 
 #[test]
+fn an_optional_signal_is_read_where_it_is_there(rt: HostRuntime) -> Result<(), Fail> {
+    let always = wide(0, 8, Kind::Raw)?;
+    let optional = wide(8, 12, Kind::Raw)?.with_optional(true);
+    assert_eq!(rt;
+        (always.is_optional(), optional.is_optional()),
+        (false, true)
+    );
+    assert_eq!(rt; (optional.is_there(2), optional.is_there(3)), (false, true));
+    assert!(rt; always.is_there(0));
+    let layout = Layout::new(rt.alloc(), 3, &[always, optional])?;
+    assert_eq!(rt; (layout.length(), layout.most()), (3, 3));
+    let Some(layout) = layout.from_length(1) else {
+        return Err("no shorter layout").map_err(Fail::from);
+    };
+    assert_eq!(rt; (layout.length(), layout.most()), (1, 3));
+    let short = [10, 5];
+    assert_eq!(rt; layout.read(&short, 0), State::Value(2 * 10 - 40));
+    assert_eq!(rt; layout.read(&short, 1), State::Absent);
+    let long = [10, 5, 0xF1];
+    assert_eq!(rt; layout.read(&long, 1), State::Value(2 * 0x105 - 40));
+    Ok(())
+}
+
+#[test]
+fn an_optional_signal_is_written_where_it_is_there(rt: HostRuntime) -> Result<(), Fail> {
+    let optional = wide(8, 12, Kind::Raw)?.with_optional(true);
+    let Some(layout) = Layout::new(rt.alloc(), 3, &[optional])?.from_length(1) else {
+        return Err("no shorter layout").map_err(Fail::from);
+    };
+    let mut short = [0, 0];
+    assert_eq!(rt; layout.write(&mut short, 0, 0), Err(WriteError::NotThere));
+    layout.write_absent(&mut short, 0);
+    assert_eq!(rt; short, [0, 0]);
+    let mut long = layout.blank_of(rt.alloc(), 3)?;
+    assert_eq!(rt; layout.write(&mut long, 0, 0), Ok(()));
+    assert!(rt; long.as_slice() == [0xFF, 20, 0xF0].as_slice());
+    layout.write_absent(&mut long, 0);
+    assert!(rt; long.as_slice() == [0xFF, 0xFF, 0xFF].as_slice());
+    Ok(())
+}
+
+#[test]
+fn a_layout_begins_where_its_signals_end(rt: HostRuntime) -> Result<(), Fail> {
+    for (length, begins) in [(0, false), (1, false), (2, true), (3, true), (4, false)] {
+        let layout = Layout::new(rt.alloc(), 3, &[wide(8, 8, Kind::Raw)?])?;
+        assert_eq!(rt; layout.from_length(length).is_some(), begins);
+    }
+    Ok(())
+}
+
+#[test]
 fn a_signal_is_shown_with_its_raw_number(rt: HostRuntime) -> Result<(), Fail> {
     let layout = Layout::new(rt.alloc(), 2, &[wide(8, 8, Kind::Measured)?])?;
     let shown = layout.show(&[0, 0xFB], 0);
@@ -274,5 +325,7 @@ fn faults_have_texts(rt: HostRuntime) -> Result<(), Fail> {
     assert_eq!(rt; overlap.as_str(), "signals 1 and 2 share a bit");
     let step = format!(in rt.alloc(); "{}", WriteError::NotOnStep)?;
     assert_eq!(rt; step.as_str(), "the value is not on a step");
+    let there = format!(in rt.alloc(); "{}", WriteError::NotThere)?;
+    assert_eq!(rt; there.as_str(), "the signal is not there");
     Ok(())
 }

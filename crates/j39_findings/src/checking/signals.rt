@@ -2,6 +2,7 @@
 ghost use Rattle.j39_findings.specs.Adding.{Adds};
 ghost use Rattle.j39_signal.specs.Places.{shares_bit};
 ghost use Rattle.j39_findings.specs.ListPlaces.{found_if, each};
+ghost use Rattle.j39_findings.specs.SignalPlaces.{room_of};
 ghost use Rattle.j39_findings.specs.Found.{has_other_width, ends_outside, width_findings, outside_findings, overlap_findings, signal_findings};
 
 use crate::checking::finding::Finding;
@@ -38,12 +39,28 @@ impl Rule<Signal> for SignalWidth {
 struct SignalOutside {
     group: usize,
     length: u16,
+    most: u16,
+}
+
+impl SignalOutside {
+    ghost use Rattle.std.specs.Prelude.{◌≡◌};
+
+    // The bytes inside which the signal has to end.
+    fn room(&self, signal: &Signal) -> u16
+        ensures { result ≡ room_of self.now.length self.now.most signal.now }
+    {
+        if signal.is_optional() {
+            self.most
+        } else {
+            self.length
+        }
+    }
 }
 
 impl Rule<Signal> for SignalOutside {
     ghost use Rattle.j39_findings.specs.declared.checking.finding.Finding.TheVariants.{SignalOutside as Outsides};
 
-    ghost gives = { λ rule s signal. found_if (ends_outside rule.length signal) (Outsides rule.group s) };
+    ghost gives = { λ rule s signal. found_if (ends_outside rule.length rule.most signal) (Outsides rule.group s) };
 
     fn find(
         &self,
@@ -53,7 +70,7 @@ impl Rule<Signal> for SignalOutside {
     ) -> Result<(), AllocError> {
         push_if(
             findings,
-            !signal.is_inside(self.length),
+            !signal.is_inside(self.room(signal)),
             Finding::SignalOutside(self.group, place),
         )
     }
@@ -113,6 +130,7 @@ impl Rule<GroupPlan> for Outsides {
         let rule = SignalOutside {
             group: place,
             length: group.length,
+            most: group.most,
         };
         find_each(findings, &rule, &group.signals)
     }

@@ -8,7 +8,7 @@ pub fn records_are_counted()
     ensures { RecordsAreCounted }
 {}
 
-/// Of a plan without records F14 says nothing, and each message has the signals of its group.
+/// Of a plan without records F14 says nothing, and each message has those signals of its group that are there.
 pub fn plans_without_records()
     ensures { (plan : Plan) → HasNoRecords plan → IsWithoutRecords plan }
 {}

@@ -4,7 +4,7 @@ ghost use Rattle.j39_id.specs.Addresses.{null_address};
 ghost use Rattle.j39_id.specs.Name.{is_arbitrary};
 ghost use Rattle.j39_findings.specs.LabelForm.{is_unit_label};
 
-use super::Way;
+use super::{Queue, Way};
 use j39_id::{Address, Label, Name};
 
 /// An electronic unit.
@@ -18,6 +18,8 @@ pub struct UnitPlan {
     pub way: Way,
     /// How many packets the unit takes in a row, 1 to 255.
     pub window: u8,
+    /// How its controller chooses among frames that wait.
+    pub queue: Queue,
     /// Whether the unit claims its address. One that doesn't hears claims and does nothing, and it may not choose.
     pub claims: bool,
     pub ghost label_form: { IsTrue (is_unit_label label.bytes) },

@@ -1,4 +1,4 @@
-//! What is said of a signal beside its place and its scale: its number, and the names of its raw numbers.
+//! What is said of a signal beside its place and its scale: whether it is optional, its number, and the names of its raw numbers.
 ghost use Rattle.std.specs.Prelude.{◌≡◌, ◌≤◌, ◌^◌, ◌&&◌, if◌then◌else◌, true, false, Some, None, is_some, string_bytes, unwrap_or, option_map, length, IfOk, IfSome, MatchOption};
 ghost use Rattle.std.specs.List.{list_all};
 ghost use Rattle.std.specs.Map.{keys_of, values_of};
@@ -10,12 +10,13 @@ ghost use Rattle.toml.specs.View.{view, table_view};
 ghost use Rattle.j39_findings.specs.LabelForm.{is_label};
 ghost use Rattle.j39_findings.specs.PlanLimits.{spn_most, value_limit};
 ghost use Rattle.j39_plan.specs.Schema as schema;
+ghost use Rattle.j39_plan.specs.Schema.{flag_of};
 ghost use Rattle.j39_plan.specs.TableFaults.{has_labels, has_numbers, has_texts, is_decimal, is_number_below, key_faults, keys_faults, names_cause};
-ghost use Rattle.j39_plan.specs.MeaningTables.{AreValueNames, TellsKeys, meaning_rules, raw_limit};
+ghost use Rattle.j39_plan.specs.MeaningTables.{AreValueNames, TellsKeys, meaning_rules, optional_rule, raw_limit};
 ghost use Rattle.j39_plan.specs.Outcome.{Gives};
 
 use super::text_kind::TextKind;
-use super::values::{optional_number, refused, value_at};
+use super::values::{flag_if, optional_number, refused, value_at};
 use super::{Cause, Key, PlanError, Table};
 use arrayvec::ArrayString;
 use j39_findings::limits::{SPN_MOST, VALUE_LIMIT};
@@ -195,8 +196,18 @@ fn names<'a>(
 /// What is said of a signal, its names as the file has them.
 #[derive(Clone, Copy)]
 pub struct MeaningKeys<'a> {
+    pub optional: bool,
     pub spn: Option<u32>,
     pub names: Option<&'a toml::Table>,
+}
+
+// Whether the signal is optional, which it can't be where it is repeated.
+#[tactic(auto, unfolding(crate::specs::Schema::flag_of))]
+fn optional(members: &toml::Table, table: Table, repeated: bool) -> Result<bool, PlanError>
+    ensures { Gives result (key_faults table (table_view members.now) (optional_rule repeated))
+        (λ b. b ≡ flag_of (optional_rule false) (table_view members.now)) }
+{
+    flag_if(members, table, Key::Optional, !repeated)
 }
 
 fn raw_limit(bits: u32) -> u64
@@ -206,29 +217,36 @@ fn raw_limit(bits: u32) -> u64
     1 << bits.min(32)
 }
 
-/// The same of a signal of so many bits, which is a trouble code or isn't, where the version knows it.
+/// The same of a signal of so many bits, which is repeated or isn't, and a trouble code or none, where the version knows it.
 #[tactic(auto, using(crate::proofs::FirstFaults::faults_after))]
 pub fn meaning_keys<'a>(
     members: &'a toml::Table,
     table: Table,
     fourth: bool,
+    repeated: bool,
     code: bool,
     bits: u32,
 ) -> Result<MeaningKeys<'a>, PlanError>
-    ensures gives { Gives result (keys_faults table (table_view members.now) (meaning_rules fourth code bits))
+    ensures gives { Gives result (keys_faults table (table_view members.now) (meaning_rules fourth repeated code bits))
         (TellsKeys fourth (table_view members.now)) }
     ensures spn { IfOk result (λ m. IfSome m.spn (λ n. n ≤ spn_most)) }
     ensures named { IfOk result (λ m. IfSome m.names (λ t. names_cause (raw_limit bits) (table_view t.now) ≡ None)) }
 {
     if !fourth {
         return Ok(MeaningKeys {
+            optional: false,
             spn: None,
             names: None,
         });
     }
+    let optional = optional(members, table, repeated)?;
     let spn = optional_number(members, table, Key::Spn, 0, SPN_MOST, false)?;
     let names = names(members, table, !code, raw_limit(bits))?;
-    Ok(MeaningKeys { spn, names })
+    Ok(MeaningKeys {
+        optional,
+        spn,
+        names,
+    })
 }
 
 // The names that a table tells.

@@ -49,7 +49,7 @@ const THIRD_KEYS: [Key; 10] = [
     Key::Repeated,
 ];
 
-const FOURTH_KEYS: [Key; 12] = [
+const FOURTH_KEYS: [Key; 13] = [
     Key::Label,
     Key::Byte,
     Key::Bit,
@@ -60,6 +60,7 @@ const FOURTH_KEYS: [Key; 12] = [
     Key::Offset,
     Key::Unit,
     Key::Repeated,
+    Key::Optional,
     Key::Spn,
     Key::Values,
 ];
@@ -188,7 +189,7 @@ fn repeated(members: &toml::Table, table: Table, records: bool) -> Result<bool, 
     flag_if(members, table, Key::Repeated, records)
 }
 
-// A signal whose values are whole numbers, and which isn't repeated.
+// A signal whose values are whole numbers, and which is neither repeated nor optional.
 fn whole_signal(
     label: Label,
     start: u16,
@@ -211,6 +212,7 @@ fn whole_signal(
     ensures per { result.per ≡ 1 }
     ensures unit { result.unit ≡ unit }
     ensures once { result.repeated ≡ false }
+    ensures always { result.optional ≡ false }
     ensures ranges { IsSignal result.start result.bits result.step result.offset }
 {
     match Signal::new(
@@ -236,7 +238,7 @@ struct SignalKeys<'a> {
 
 #[tactic(auto, using(crate::proofs::FirstFaults::faults_after), unfolding(crate::specs::SignalTables::signal_table_faults, crate::specs::SignalTables::is_code))]
 fn first_signal(fourth: bool, table: Table, members: &toml::Table) -> Result<Signal, PlanError>
-    ensures gives { Gives result (signal_table_faults false fourth false table (table_view members.now)) (TellsSignal false (table_view members.now)) }
+    ensures gives { Gives result (signal_table_faults false fourth false table (table_view members.now)) (TellsSignal false fourth (table_view members.now)) }
     ensures label_form { IfOk result (λ s. IsTrue (is_label s.label.bytes)) }
     ensures ranges { IfOk result (λ s. IsSignal s.start s.bits s.step s.offset) }
     ensures single { IfOk result (λ s. s.repeated ≡ false) }
@@ -262,7 +264,7 @@ fn third_signal<'a>(
     members: &'a toml::Table,
 ) -> Result<SignalKeys<'a>, PlanError>
     ensures gives { Gives result (signal_table_faults true fourth records table (table_view members.now))
-        (λ k. TellsSignal true (table_view members.now) k.signal × TellsKeys fourth (table_view members.now) k.meant) }
+        (λ k. TellsSignal true fourth (table_view members.now) k.signal × TellsKeys fourth (table_view members.now) k.meant) }
     ensures label_form { IfOk result (λ k. IsTrue (is_label k.signal.label.bytes)) }
     ensures ranges { IfOk result (λ k. IsSignal k.signal.start k.signal.bits k.signal.step k.signal.offset) }
     ensures single { IfOk result (λ k. records ≡ false → k.signal.repeated ≡ false) }
@@ -280,11 +282,11 @@ fn third_signal<'a>(
     let offset = offset(members, table, kind.1)?;
     let unit = unit(members, table, kind.1)?;
     let repeated = repeated(members, table, records)?;
-    let meant = meaning_keys(members, table, fourth, kind.1, bits)?;
+    let meant = meaning_keys(members, table, fourth, repeated, kind.1, bits)?;
     let start = start_of(byte, bit);
     match whole_signal(label, start, bits, kind.0, step, offset, unit).divided_by(per) {
         Some(signal) => Ok(SignalKeys {
-            signal: signal.with_repeated(repeated),
+            signal: signal.with_repeated(repeated).with_optional(meant.optional),
             meant,
         }),
         None => unreachable!(),
@@ -298,7 +300,7 @@ fn signal<'a>(
     members: &'a toml::Table,
 ) -> Result<SignalKeys<'a>, PlanError>
     ensures gives { Gives result (signal_table_faults version.now.third version.now.fourth version.now.records table (table_view members.now))
-        (λ k. TellsSignal version.now.third (table_view members.now) k.signal
+        (λ k. TellsSignal version.now.third version.now.fourth (table_view members.now) k.signal
         × TellsKeys (version.now.third && version.now.fourth) (table_view members.now) k.meant) }
     ensures label_form { IfOk result (λ k. IsTrue (is_label k.signal.label.bytes)) }
     ensures ranges { IfOk result (λ k. IsSignal k.signal.start k.signal.bits k.signal.step k.signal.offset) }
@@ -311,6 +313,7 @@ fn signal<'a>(
     }
     let signal = first_signal(version.fourth, table, members)?;
     let meant = MeaningKeys {
+        optional: false,
         spn: None,
         names: None,
     };
@@ -346,7 +349,7 @@ impl ReadElement<PlannedSignal> for Signals {
 
     ghost Grows = { λ r. SignalGrows r.third r.fourth r.records r.group };
 
-    ghost Tells = { λ r d x. (IsSignalOf r.third d x.signal × IsFit r.records x.signal) × IsMeaningOf r.third r.fourth d x.meaning };
+    ghost Tells = { λ r d x. (IsSignalOf r.third r.fourth d x.signal × IsFit r.records x.signal) × IsMeaningOf r.third r.fourth d x.meaning };
 
     #[tactic(auto, using(crate::proofs::FirstFaults::faults_after), unfolding(crate::specs::SignalTables::signal_faults))]
     fn read(

@@ -10,6 +10,7 @@ pub enum TextKind {
     Label,
     UnitLabel,
     Chooser,
+    Queue,
     /// What the first two versions know.
     SignalKind,
     AnySignalKind,
@@ -60,6 +61,7 @@ impl TextKind {
             TextKind::Label => is_label(text),
             TextKind::UnitLabel => is_label(text) && text != "all",
             TextKind::Chooser => text == "lowest" || text == "upward",
+            TextKind::Queue => text == "priority" || text == "any",
             TextKind::SignalKind => is_first_kind(text),
             TextKind::AnySignalKind => {
                 is_first_kind(text) || text == "states" || text == "signed" || text == "dtc"

@@ -1,12 +1,12 @@
 //! The units of a plan.
-ghost use Rattle.std.specs.Prelude.{◌≡◌, ◌<◌, false, map, IfOk};
+ghost use Rattle.std.specs.Prelude.{◌≡◌, ◌<◌, false, map, IfOk, Some};
 ghost use Rattle.j39_id.specs.Addresses.{null_address};
 ghost use Rattle.j39_id.specs.Name.{is_arbitrary};
 ghost use Rattle.toml.specs.View.{table_view};
-ghost use Rattle.j39_plan.specs.Schema.{text_of, number_of};
+ghost use Rattle.j39_plan.specs.Schema.{text_of, number_of, table_of as inner_of};
 ghost use Rattle.j39_plan.specs.TableFaults.{key_faults, keys_faults, unknown_faults};
 ghost use Rattle.j39_plan.specs.Outcome.{Gives};
-ghost use Rattle.j39_plan.specs.UnitTables.{way_of, address_rule, chooser_rule, claims_rules, claims_of, unit_rules, silent_faults, unit_table_faults, TellsUnit};
+ghost use Rattle.j39_plan.specs.UnitTables.{way_of, address_rule, chooser_rule, claims_of, last_rules, name_rule, queue_in, queue_of, queue_rule, unit_rules, silent_faults, unit_table_faults, TellsUnit};
 
 use super::elements::ReadElement;
 use super::labels::untaken;
@@ -15,7 +15,7 @@ use super::tables::{inner, only, table_of};
 use super::text_kind::TextKind;
 use super::values::{flag, number, refused, short_text, text};
 use super::{Cause, Key, PlanError, Table};
-use j39_findings::{UnitPlan, Way};
+use j39_findings::{Queue, UnitPlan, Way};
 use j39_id::{Address, Name};
 use std::alloc::Global;
 use toml::Value;
@@ -28,11 +28,12 @@ const UNIT_KEYS: [Key; 5] = [
     Key::Name,
 ];
 
-const FOURTH_KEYS: [Key; 6] = [
+const FOURTH_KEYS: [Key; 7] = [
     Key::Label,
     Key::Address,
     Key::Chooser,
     Key::Window,
+    Key::Queue,
     Key::Name,
     Key::Claims,
 ];
@@ -84,15 +85,62 @@ fn way(members: &toml::Table, table: Table) -> Result<Way, PlanError>
     Ok(way_of(word))
 }
 
-// Whether the unit claims its address, where the version knows that it may not.
-fn claims(members: &toml::Table, table: Table, fourth: bool) -> Result<bool, PlanError>
-    ensures { Gives result (keys_faults table (table_view members.now) (claims_rules fourth))
-        (λ b. b ≡ claims_of fourth (table_view members.now)) }
+fn queue_in(word: &str) -> Queue
+    ensures { result ≡ queue_in word.now }
+{
+    if word == "any" {
+        Queue::Any
+    } else {
+        Queue::Priority
+    }
+}
+
+fn queue(members: &toml::Table, table: Table) -> Result<Queue, PlanError>
+    ensures { Gives result (key_faults table (table_view members.now) queue_rule)
+        (λ q. q ≡ queue_in (text_of queue_rule (table_view members.now))) }
+{
+    let word = text(
+        members,
+        table,
+        Key::Queue,
+        TextKind::Queue,
+        Some("priority"),
+    )?;
+    Ok(queue_in(word))
+}
+
+// What the table of a unit has behind the window: how its controller chooses, the table of its NAME, and whether it claims.
+#[derive(Drop)]
+struct LastKeys<'a> {
+    queue: Queue,
+    inside: &'a toml::Table,
+    claims: bool,
+}
+
+// The same, as far as the version knows it.
+#[tactic(auto, using(crate::proofs::FirstFaults::faults_after))]
+fn last_keys(fourth: bool, members: &toml::Table, table: Table) -> Result<LastKeys, PlanError>
+    ensures { Gives result (keys_faults table (table_view members.now) (last_rules fourth))
+        (λ last. (last.queue ≡ queue_of fourth (table_view members.now))
+        × (Some (table_view last.inside.now) ≡ inner_of name_rule (table_view members.now))
+        × (last.claims ≡ claims_of fourth (table_view members.now))) }
 {
     if fourth {
-        flag(members, table, Key::Claims, true)
+        let queue = queue(members, table)?;
+        let inside = inner(members, table, Key::Name)?;
+        let claims = flag(members, table, Key::Claims, true)?;
+        Ok(LastKeys {
+            queue,
+            inside,
+            claims,
+        })
     } else {
-        Ok(true)
+        let inside = inner(members, table, Key::Name)?;
+        Ok(LastKeys {
+            queue: Queue::Priority,
+            inside,
+            claims: true,
+        })
     }
 }
 
@@ -119,17 +167,17 @@ fn unit(fourth: bool, index: usize, members: &toml::Table) -> Result<UnitPlan, P
     let address = address(members, table)?;
     let way = way(members, table)?;
     let window = number(members, table, Key::Window, 1, 255, Some(255))?;
-    let inside = inner(members, table, Key::Name)?;
-    let claims = claims(members, table, fourth)?;
-    let name = name(index, inside)?;
-    silent_stays(index, claims, name)?;
+    let last = last_keys(fourth, members, table)?;
+    let name = name(index, last.inside)?;
+    silent_stays(index, last.claims, name)?;
     Ok(UnitPlan {
         label,
         address,
         name,
         way,
         window: window as u8,
-        claims,
+        queue: last.queue,
+        claims: last.claims,
     })
 }
 

@@ -3,7 +3,7 @@ use Rattle.j39_findings.specs.declared.plan.flow_plan.FlowPlan.{FlowPlan}
 use Rattle.j39_load.specs.Ages.{ages_for, least, smaller_known}
 use Rattle.j39_load.specs.Places.{told_from}
 use Rattle.j39_load.proofs.Before.{more}
-use Rattle.j39_load.proofs.AgeLaws.{least_of_both}
+use Rattle.j39_load.proofs.LeastKnown.{least_of_both}
 use Rattle.j39_load.proofs.ages.least_age.Goals as goal
 
 pub loop-place-preserved : goal.loop-place-preserved

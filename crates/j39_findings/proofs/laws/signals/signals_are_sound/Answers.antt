@@ -21,7 +21,7 @@ reads s fits = record { values = value_read s; given_up = ones_read s fits }
 pub returns : goal.returns
 returns c = λ plan clean. record {
   writes = writes plan clean;
-  read = λ g d less s e in_group. reads _ (((parts_of plan clean).layouts g d less).widths s e in_group);
+  read = λ g d less s e in_group. reads _ (((parts_of plan clean).layouts g d less).longest.widths s e in_group);
   last_given = λ g d less bytes of.
       reads_last _ _ (writes plan clean g d less bytes of) (λ s e in_message. reads _ ((lays_out_each plan clean g d less bytes of).widths s e in_message));
 }

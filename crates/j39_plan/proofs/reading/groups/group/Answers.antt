@@ -28,11 +28,11 @@ invariant_of-result-clause-meaning_count c =
 
 pub invariant_of-result-clause-signal_forms : goal.invariant_of-result-clause-signal_forms
 invariant_of-result-clause-signal_forms c =
-    All-from_Each (IsRead c.args.third c.is_some-records.result) (λ s. IsTrue (is_label s.label.bytes)) (λ d s read. read.1.label_form) _ _ (signals_read c.args.third c.args.fourth c.is_some-records.result _ _ _ c.in_ok-parts.ensures.signals c.in_ok-planned.ensures.1)
+    All-from_Each (IsRead c.args.third c.args.fourth c.is_some-records.result) (λ s. IsTrue (is_label s.label.bytes)) (λ d s read. read.1.label_form) _ _ (signals_read c.args.third c.args.fourth c.is_some-records.result _ _ _ c.in_ok-parts.ensures.signals c.in_ok-planned.ensures.1)
 
 pub invariant_of-result-clause-signal_ranges : goal.invariant_of-result-clause-signal_ranges
 invariant_of-result-clause-signal_ranges c =
-    All-from_Each (IsRead c.args.third c.is_some-records.result) (λ s. IsSignal s.start s.bits s.step s.offset) (λ d s read. read.1.ranges) _ _ (signals_read c.args.third c.args.fourth c.is_some-records.result _ _ _ c.in_ok-parts.ensures.signals c.in_ok-planned.ensures.1)
+    All-from_Each (IsRead c.args.third c.args.fourth c.is_some-records.result) (λ s. IsSignal s.start s.bits s.step s.offset) (λ d s read. read.1.ranges) _ _ (signals_read c.args.third c.args.fourth c.is_some-records.result _ _ _ c.in_ok-parts.ensures.signals c.in_ok-planned.ensures.1)
 
 pub invariant_of-result-clause-signal_labels : goal.invariant_of-result-clause-signal_labels
 invariant_of-result-clause-signal_labels c = signals_apart c.args.third c.args.fourth c.is_some-records.result c.args.index _ _ (signals_read c.args.third c.args.fourth c.is_some-records.result _ _ _ c.in_ok-parts.ensures.signals c.in_ok-planned.ensures.1) c.in_ok-planned.ensures.0
@@ -51,7 +51,7 @@ invariant_of-result-clause-other_labels c =
 pub invariant_of-result-clause-every_needed : goal.invariant_of-result-clause-every_needed
 invariant_of-result-clause-every_needed c none =
     let single : c.is_some-records.result ≡ false = c.is_some-records.ensures ∙ ap is_some (sym c.distance-every.ensures ∙ none) in
-    All-from_Each (IsRead c.args.third c.is_some-records.result) (λ s. s.repeated ≡ false) (λ d s read. read.1.single single) _ _ (signals_read c.args.third c.args.fourth c.is_some-records.result _ _ _ c.in_ok-parts.ensures.signals c.in_ok-planned.ensures.1)
+    All-from_Each (IsRead c.args.third c.args.fourth c.is_some-records.result) (λ s. s.repeated ≡ false) (λ d s read. read.1.single single) _ _ (signals_read c.args.third c.args.fourth c.is_some-records.result _ _ _ c.in_ok-parts.ensures.signals c.in_ok-planned.ensures.1)
 
 pub returns-in_err-planned : goal.returns-in_err-planned
 unfolding group_table_faults
@@ -82,7 +82,7 @@ returns-in_err-texts c =
     let later = rw (c.in_ok-length.ensures.gives.1) at c.in_ok-later.ensures.gives in
     let records = c.is_some-records.ensures ∙ ap is_some later.1.2 in
     let ss = c.in_ok-parts.parts.0.items in
-    let labels = signal_texts_told c.args.third c.is_some-records.result _ ss (signals_read c.args.third c.args.fourth c.is_some-records.result _ _ _ c.in_ok-parts.ensures.signals c.in_ok-planned.ensures.1) in
+    let labels = signal_texts_told c.args.third c.args.fourth c.is_some-records.result _ ss (signals_read c.args.third c.args.fourth c.is_some-records.result _ _ _ c.in_ok-parts.ensures.signals c.in_ok-planned.ensures.1) in
     let none = rw (records, later.1.3) at c.in_ok-planned.ensures.0 in
     let ds = items_view c.in_ok-later.later.texts.now in
     let told :
@@ -100,8 +100,8 @@ returns c =
     let later = rw (c.in_ok-length.ensures.gives.1) at c.in_ok-later.ensures.gives in
     let records = c.is_some-records.ensures ∙ ap is_some later.1.2 in
     let ss = c.in_ok-parts.parts.0.items in
-    let labels = signal_texts_told c.args.third c.is_some-records.result _ ss (signals_read c.args.third c.args.fourth c.is_some-records.result _ _ _ c.in_ok-parts.ensures.signals c.in_ok-planned.ensures.1) in
-    let told = rw later.1.3 at (Each-weaken (IsRead c.args.third c.is_some-records.result) (IsSignalOf c.args.third) (λ d s read. read.0) _ _ (signals_read c.args.third c.args.fourth c.is_some-records.result _ _ _ c.in_ok-parts.ensures.signals c.in_ok-planned.ensures.1)) in
+    let labels = signal_texts_told c.args.third c.args.fourth c.is_some-records.result _ ss (signals_read c.args.third c.args.fourth c.is_some-records.result _ _ _ c.in_ok-parts.ensures.signals c.in_ok-planned.ensures.1) in
+    let told = rw later.1.3 at (Each-weaken (IsRead c.args.third c.args.fourth c.is_some-records.result) (IsSignalOf c.args.third c.args.fourth) (λ d s read. read.0) _ _ (signals_read c.args.third c.args.fourth c.is_some-records.result _ _ _ c.in_ok-parts.ensures.signals c.in_ok-planned.ensures.1)) in
     let none = rw (records, later.1.3) at c.in_ok-planned.ensures.0 in
     let ds = items_view c.in_ok-later.later.texts.now in
     let read : (each_faults (text_faults (signal_texts ss) c.args.index) label_in 0 [] ds ≡ []) × Each IsTextOf ds c.in_ok-texts.texts.items =

@@ -10,6 +10,10 @@ returns-clause-gives c =
     let is : c.args.fourth ≡ true = c.if-not-fourth.false in
     let names = rw c.raw_limit.ensures.value at c.in_ok-names.ensures.gives in
     rw is (
-      rw (c.in_ok-spn.ensures.gives.0, names.0) refl,
-      record { has_spn = c.in_ok-spn.ensures.gives.1; has_names = ap (λ (o : Option Members). unwrap_or o no_members) names.1 },
+      rw (c.in_ok-optional.ensures.0, c.in_ok-spn.ensures.gives.0, names.0) refl,
+      record {
+        has_optional = c.in_ok-optional.ensures.1;
+        has_spn = c.in_ok-spn.ensures.gives.1;
+        has_names = ap (λ (o : Option Members). unwrap_or o no_members) names.1;
+      },
     )

@@ -1,0 +1,183 @@
+#!/usr/bin/env python3
+"""Looks for a frame that is later than `load` says, where units keep no order: any_order.py [PLANS [SEED [ANSWERS]]]
+
+Each of so many plans (300) has some units whose controllers keep no order. It is played on a bus of its own, by none of the program's
+definitions: arbitration bit for bit comes down to the smallest identifier, and such a unit offers what came first, what came last, what is
+least urgent, or any frame. What is queued keeps the premises of the times (docs/GUIDE.md), mostly all at once. ANSWERS is a file with what
+`load` writes of each plan behind a line `== NAME`; else ./j39plan is asked. The status is 1 where a frame is later than told.
+"""
+from __future__ import annotations
+
+import random
+import re
+import subprocess
+import sys
+from pathlib import Path
+from typing import Iterator, NamedTuple
+
+BITS_PER_MS, LONGEST, RUNS, SPAN = 250, 160, 60, 60 * 250
+
+
+class Flow(NamedTuple):
+    """A planned flow: its units by their places, and its frames."""
+    number: int
+    sender: int
+    receiver: int | None
+    priority: int
+    pgn: int
+    length: int
+    period: int
+    jitter: int
+
+
+class Network(NamedTuple):
+    """A plan, as the bus needs it."""
+    addresses: list[int]
+    keeps_order: list[bool]
+    flows: list[Flow]
+    unplanned: int
+
+
+class Frame(NamedTuple):
+    """A frame: when it is ready, the moment of its message, its length, and whose it is."""
+    queued: int
+    moment: int
+    bits: int
+    identifier: int
+    unit: int
+    flow: Flow | None
+
+
+def network(chance: random.Random) -> Network:
+    """Two to five units, of which one at least keeps no order, and what they send."""
+    units = range(chance.randint(2, 5))
+    keeps_order = [chance.random() < 0.5 for _ in units]
+    keeps_order[chance.choice(units)] = False
+    flows = []
+    for number in range(1, chance.randint(4, 12)):
+        sender, to_one = chance.choice(units), chance.random() < 0.15
+        receiver = chance.choice([unit for unit in units if unit != sender]) if to_one else None
+        long = to_one and chance.random() < 0.6
+        length = chance.randint(9, 40) if long else chance.choice([8, 8, 8, 8, 5, 3])
+        period = chance.choice([100, 200, 500] if long else [5, 8, 10, 10, 20, 20, 50, 100])
+        jitter = min(chance.choice([0, 0, 0, chance.randint(1, 4)]), period - 1)
+        pgn = (0x1000 + number * 256) if to_one else 0xFE00 + number
+        flows.append(Flow(number, sender, receiver, chance.choice([0, 2, 3, 3, 3, 6, 6, 6, 7]), pgn, length, period, jitter))
+    return Network(chance.sample(range(120), len(units)), keeps_order, flows, chance.choice([0, 0, 0, 1, 2]))
+
+
+def plan_text(net: Network) -> Iterator[str]:
+    """The plan of a network."""
+    yield f"version = 4\ntiming = {{ bitrate = 250000, unplanned = {net.unplanned} }}\n"
+    for unit, (address, keeps_order) in enumerate(zip(net.addresses, net.keeps_order)):
+        queue = "priority" if keeps_order else "any"
+        yield f'[[unit]]\nlabel = "U{unit}"\naddress = {address}\nqueue = "{queue}"\nname = {{ identity = {unit + 1} }}\n'
+    for flow in net.flows:
+        yield f'[[group]]\nlabel = "G{flow.number}"\npgn = {flow.pgn}\npriority = {flow.priority}\nlength = {flow.length}\n'
+    for flow in net.flows:
+        to = "all" if flow.receiver is None else f"U{flow.receiver}"
+        yield f'[[flow]]\ngroup = "G{flow.number}"\nfrom = "U{flow.sender}"\nto = "{to}"\nperiod = {flow.period}\njitter = {flow.jitter}\n'
+
+
+def identifier(priority: int, pgn: int, destination: int, source: int) -> int:
+    """A frame's identifier: a group of PDU1 has its destination in it."""
+    return priority << 26 | pgn << 8 | (0 if pgn >> 8 & 255 >= 240 else destination << 8) | source
+
+
+def message(net: Network, flow: Flow, moment: int, queued: int, chance: random.Random) -> Iterator[Frame]:
+    """The frames of a message of a flow; those of a long one, answers too, are queued at once."""
+    source = net.addresses[flow.sender]
+    there = 255 if flow.receiver is None else net.addresses[flow.receiver]
+    if flow.length <= 8:
+        yield Frame(queued, moment, 80 + 10 * flow.length, identifier(flow.priority, flow.pgn, there, source), flow.sender, flow)
+        return
+    own = [60416] + [60160] * -(-flow.length // 7)
+    for pgn, unit in [(pgn, flow.sender) for pgn in own] + [(60416, flow.receiver or 0)] * 2:
+        ends = (there, source) if unit == flow.sender else (source, there)
+        yield Frame(queued + chance.randrange(2), moment, LONGEST, identifier(7, pgn, *ends), unit, flow)
+
+
+def queued_frames(net: Network, chance: random.Random) -> list[Frame]:
+    """What the units queue in a run: mostly all at once, and some of them a little before."""
+    at_once, start, spread = chance.random() < 0.6, chance.randrange(400) + 3000, chance.choice([2, 2, 3, 200, 500, 1500, 2500])
+    first = chance.choice(net.flows) if chance.random() < 0.7 else None
+    frames: list[Frame] = []
+    for flow in net.flows:
+        period, jitter = flow.period * BITS_PER_MS, flow.jitter * BITS_PER_MS
+        ready = start - (spread + 1 if flow is first else chance.randrange(spread)) if at_once else chance.randrange(period)
+        late = jitter if chance.random() < 0.5 else 0
+        moment = ready - late
+        while moment < SPAN:
+            held = period if flow.length > 8 and chance.random() < 0.5 else 0
+            frames += message(net, flow, moment - held, moment + late, chance)
+            moment += period + (chance.randrange(period // 4 + 1) if chance.random() < 0.2 else 0)
+            late = chance.randrange(jitter + 1) if chance.random() < 0.3 else 0
+    for _ in range(net.unplanned):
+        unit, number = chance.randrange(len(net.addresses) + 1), chance.choice([6 << 26, 7 << 26, (7 << 26) + (1 << 25)]) + chance.randrange(1 << 24)
+        frames.append(Frame(start + chance.randrange(5) if at_once else chance.randrange(SPAN), 0, LONGEST, number, unit, None))
+    return sorted(frames, key=lambda frame: frame.queued)
+
+
+def ends(frames: list[Frame], net: Network, chance: random.Random) -> Iterator[tuple[Frame, int]]:
+    """Each frame with the bit at which it has been sent. A unit behind the planned ones keeps order."""
+    offers = [chance.choice(["first", "last", "least urgent", "least urgent", "any"]) for _ in net.addresses]
+    by_order = {"first": lambda some: min(some, key=lambda frame: frame.queued), "last": lambda some: max(some, key=lambda frame: frame.queued),
+                "least urgent": lambda some: max(some, key=lambda frame: frame.identifier), "any": chance.choice}
+    waiting: dict[int, list[Frame]] = {}
+    time = place = 0
+    while waiting or place < len(frames):
+        time = time if waiting else max(time, frames[place].queued)
+        while place < len(frames) and frames[place].queued <= time:
+            waiting.setdefault(frames[place].unit, []).append(frames[place])
+            place += 1
+        offered = []
+        for unit, some in waiting.items():
+            in_order = unit >= len(net.addresses) or net.keeps_order[unit]
+            offered.append(min(some, key=lambda frame: frame.identifier) if in_order else by_order[offers[unit]](some))
+        frame = min(offered, key=lambda frame: frame.identifier)
+        waiting[frame.unit].remove(frame)
+        if not waiting[frame.unit]:
+            del waiting[frame.unit]
+        time += frame.bits
+        yield frame, time
+
+
+def told_by(answer: str) -> dict[int, int]:
+    """The delays that `load` tells, in bits, by the numbers of the flows."""
+    return {int(number): int(us) // 4 for number, us in re.findall(r"^flow (\d+) \S+ \S+ \S+ within (\d+) of", answer, re.M)}
+
+
+def answers(name: str) -> dict[str, str]:
+    """What stands in a file of answers, by the names of the plans."""
+    parts = re.split(r"^== (\S+)\n", Path(name).read_text(), flags=re.M)
+    return dict(zip(parts[1::2], parts[2::2]))
+
+
+def main(words: list[str]) -> int:
+    """Plays the plans, and says what is later than told."""
+    count, seed = int(words[0]) if words else 300, int(words[1]) if words[1:] else 1
+    known = answers(words[2]) if words[2:] else {}
+    bounds = frames = later = 0
+    for number in range(count):
+        chance = random.Random(f"{seed} {number}")
+        net, name = network(chance), f"p{number:03}.toml"
+        text = "".join(plan_text(net))
+        program = [str(Path(__file__).parent.parent / "j39plan"), "load", "/dev/stdin"]
+        answer = known[name] if known else subprocess.run(program, input=text, capture_output=True, text=True, check=False).stdout
+        told, worst = told_by(answer), dict.fromkeys(range(len(net.flows) + 1), 0)
+        for _ in range(RUNS):
+            for frame, end in ends(queued_frames(net, chance), net, chance):
+                frames += 1
+                if frame.flow:
+                    worst[frame.flow.number] = max(worst[frame.flow.number], end - frame.moment)
+        bounds += len(told)
+        for flow, bits in told.items():
+            if worst[flow] > bits:
+                later += 1
+                print(f"{name}: flow {flow} took {worst[flow]} bits, and {bits} are told")
+    print(f"plans {count}, delays {bounds}, frames {frames}, later than told {later}")
+    return 1 if later else 0
+
+
+if __name__ == "__main__":
+    sys.exit(main(sys.argv[1:]))

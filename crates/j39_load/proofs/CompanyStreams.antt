@@ -1,0 +1,128 @@
+-- A wait that has room for the streams of a company has room for the traffic of it.
+use Rattle.std.proofs.Common.{◌≡◌, ℕ, zero, suc, ◌+◌, ◌*◌, ◌-◌, ◌<◌, ◌≤◌, Bool, true, false, not, cond, ◌&&◌, ◌||◌, eqb, ltb, if◌then◌else◌, List, [], ◌∷◌, ◌++◌, length, take, get_or, map, sum_by, unwrap_or, Option, Some, None, refl, sym, ap, ◌∙◌, subst, arith}
+use Rattle.std.proofs.lemmas.List.{get_or_append_left, get_or_past, take_all}
+use Rattle.std.proofs.lemmas.List.Sums.{sum_by-append, sum_by-cons}
+use Rattle.std.proofs.lemmas.Option.{none-some}
+use Rattle.std.specs.List.{cons_option, filter_map}
+use Rattle.j39_findings.specs.declared.plan.timing.Timing.{Timing}
+use Rattle.j39_load.specs.declared.flow_frames.FlowFrames.{FlowFrames}
+use Rattle.j39_load.specs.AnyQueues.{blocking_with, is_of_company, leasts_of, stream_with, streams_with, with_unplanned}
+use Rattle.j39_load.specs.Damage.{damage_frames, damage_streams, first_of_all}
+use Rattle.j39_load.specs.Places.{told_from}
+use Rattle.j39_load.specs.PlannedFrames.{company_of, no_frames, planned_at, traffic_of}
+use Rattle.j39_load.proofs.Before.{more}
+use Rattle.j39_load.proofs.StreamsBefore.{told_of_two}
+use Rattle.j39_timing.specs.Companies.{HasRoomInCompany, may_go_with}
+use Rattle.j39_timing.specs.FrameBits.{longest_frame}
+use Rattle.j39_timing.specs.Sums.{total}
+use Rattle.j39_timing.specs.Waits.{need, share}
+use Rattle.j39_timing.specs.declared.stream.Stream.{Stream}
+
+-- what each place takes is within what is told of it, and so is all of it
+module _ (tell : ℕ → Option FlowFrames → List Stream) (span : ℕ) (taken : ℕ → ℕ) (all : List (Option FlowFrames))
+    (each : (k : ℕ) → k < length all → taken k ≤ sum_by (share span) (tell k (get_or all k None))) where
+  up_to : (k : ℕ) → k ≤ length all → total k taken ≤ sum_by (share span) (told_from tell 0 (take k all))
+  unfolding total
+  up_to zero le = omega arith
+  up_to (suc k) le =
+      let before : total k taken ≤ sum_by (share span) (told_from tell 0 (take k all)) = up_to k (omega arith) in
+      let this : taken k ≤ sum_by (share span) (tell k (get_or all k None)) = each k (omega arith) in
+      let both : sum_by (share span) (told_from tell 0 (take (k + 1) all))
+      ≡ sum_by (share span) (told_from tell 0 (take k all)) + sum_by (share span) (tell k (get_or all k None)) =
+      ap (sum_by (share span)) (more tell k all None (omega arith))
+      ∙ sum_by-append (share span) (told_from tell 0 (take k all)) (tell k (get_or all k None)) in
+      let next : k + 1 ≡ suc k = omega arith in
+      subst (λ (n : ℕ). total k taken + taken k ≤ sum_by (share span) (told_from tell 0 (take n all))) next (omega (arith, before, this, both))
+
+  pub taken_within : total (length all) taken ≤ sum_by (share span) (told_from tell 0 all)
+  taken_within = subst (λ (xs : List (Option FlowFrames)). total (length all) taken ≤ sum_by (share span) (told_from tell 0 xs))
+      (take_all (length all) all (omega arith)) (up_to (length all) (omega arith))
+
+module _ (timing : Timing) (asked : List (Option FlowFrames)) (own : FlowFrames) (level span : ℕ) where
+  abbrev leasts : List (Option ℕ)
+  leasts = leasts_of asked
+
+  abbrev own_too : FlowFrames
+  own_too = with_unplanned timing own
+
+  abbrev all : List (Option FlowFrames)
+  all = asked ++ damage_frames timing
+
+  -- the frames at a place are of the company
+  abbrev has : ℕ → Bool
+  has j = is_of_company leasts own_too level (planned_at asked j)
+
+  abbrev tell : ℕ → Option FlowFrames → List Stream
+  tell j None = []
+  tell j (Some x) = if has j || ltb x.least_ident level then x.stream ∷ [] else []
+
+  abbrev taken : ℕ → ℕ
+  taken j = cond (has j || ltb ((traffic_of all).least j) level) (share span ((traffic_of all).stream j)) 0
+
+  taken_most : (j : ℕ) (frames : Option FlowFrames) → get_or all j None ≡ frames → taken j ≤ sum_by (share span) (tell j frames)
+  taken_most j None is = rw (is) (elim (has j || ltb 0 level) as (λ e. cond e (share span no_frames.stream) 0 ≤ sum_by (share span) []) [
+    | true ↦ omega arith
+    | false ↦ omega arith
+  ])
+  taken_most j (Some x) is = rw (is) (elim (has j || ltb x.least_ident level)
+      as (λ e. cond e (share span x.stream) 0 ≤ sum_by (share span) (if e then x.stream ∷ [] else [])) [
+        | true ↦ rw (sum_by-cons (share span) x.stream []) (omega arith)
+        | false ↦ omega arith
+      ])
+
+  -- of the frames that are asked for the same is told
+  same_told : (place : ℕ) (xs : List (Option FlowFrames)) → ((k : ℕ) → k < length xs → get_or xs k None ≡ get_or asked (place + k) None)
+      → told_from tell place xs ≡ filter_map (stream_with leasts own_too level) xs
+  unfolding told_from
+  same_told place [] same = refl
+  same_told place (x ∷ xs) same =
+      let rest = same_told (place + 1) xs (λ k below. same (suc k) (omega (arith, below)) ∙ ap (λ (n : ℕ). get_or asked n None) (omega arith)) in
+      go x (same 0 (omega arith) ∙ ap (λ (n : ℕ). get_or asked n None) (omega arith)) rest
+    where
+      go : (frames : Option FlowFrames) → frames ≡ get_or asked place None
+          → told_from tell (place + 1) xs ≡ filter_map (stream_with leasts own_too level) xs
+          → tell place frames ++ told_from tell (place + 1) xs ≡ cons_option (stream_with leasts own_too level frames) (filter_map (stream_with leasts own_too level) xs)
+      go None is rest = rest
+      go (Some f) is rest =
+          rw (sym is, rest) (elim (is_of_company leasts own_too level f || ltb f.least_ident level)
+          as (λ e. (if e then f.stream ∷ [] else []) ++ filter_map (stream_with leasts own_too level) xs
+          ≡ cons_option (if e then Some f.stream else None) (filter_map (stream_with leasts own_too level) xs)) [
+            | true ↦ refl
+            | false ↦ refl
+          ])
+
+  damage_most : (place : ℕ) (streams : List Stream) → sum_by (share span) (told_from tell place (map first_of_all streams)) ≤ sum_by (share span) streams
+  unfolding told_from
+  damage_most place [] = omega arith
+  damage_most place (stream ∷ streams) =
+      let first : sum_by (share span) (tell place (first_of_all stream)) ≤ share span stream = go (has place || ltb 0 level) in
+      let rest = damage_most (place + 1) streams in
+      let parts = sum_by-append (share span) (tell place (first_of_all stream)) (told_from tell (place + 1) (map first_of_all streams)) in
+      let one = sum_by-cons (share span) stream streams in
+      omega (arith, first, rest, parts, one)
+    where
+      go : (e : Bool) → sum_by (share span) (if e then stream ∷ [] else []) ≤ share span stream
+      go true = rw (sum_by-cons (share span) stream []) (omega arith)
+      go false = omega arith
+
+  pub company_taken : total (length all) taken ≤ sum_by (share span) (streams_with timing leasts asked own_too level)
+  company_taken =
+      let whole = taken_within tell span taken all (λ k below. taken_most k (get_or all k None) refl) in
+      let two = ap (sum_by (share span)) (told_of_two tell 0 asked (damage_frames timing)) in
+      let parts = sum_by-append (share span) (told_from tell 0 asked) (told_from tell (0 + length asked) (damage_frames timing)) in
+      let same = ap (sum_by (share span)) (same_told 0 asked (λ k below. ap (λ (n : ℕ). get_or asked n None) (omega arith))) in
+      let damage = damage_most (0 + length asked) (damage_streams timing) in
+      let needed = sum_by-append (share span) (damage_streams timing) (filter_map (stream_with leasts own_too level) asked) in
+      omega (arith, whole, two, parts, same, damage, needed)
+
+-- the wait that is told has room
+pub company_room : (timing : Timing) (asked : List (Option FlowFrames)) (own : FlowFrames) (level wait i : ℕ)
+    → planned_at (asked ++ damage_frames timing) i ≡ own
+    → need (blocking_with timing own) (streams_with timing (leasts_of asked) asked (with_unplanned timing own) level) wait ≤ wait
+    → HasRoomInCompany (traffic_of (asked ++ damage_frames timing)) (company_of timing asked own level) timing.unplanned (longest_frame 8) i wait
+company_room timing asked own level wait i read enough =
+    let most = company_taken timing asked own level (wait + 1) in
+    let needed = enough in
+    subst (λ (x : FlowFrames). longest_frame 8 * (1 + timing.unplanned)
+    + total (length (asked ++ damage_frames timing)) (taken timing asked own level (wait + 1)) ≤ wait + x.stream.bits) (sym read)
+    (omega (arith, most, needed))

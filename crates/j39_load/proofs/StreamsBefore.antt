@@ -1,0 +1,150 @@
+-- The streams that may go before frames take no more than what is told of their places.
+use Rattle.std.proofs.Common.{◌≡◌, ℕ, zero, suc, ◌+◌, ◌<◌, ◌≤◌, Bool, true, false, not, cond, ◌&&◌, eqb, ltb, if◌then◌else◌, List, [], ◌∷◌, ◌++◌, length, take, get_or, map, sum_by, unwrap_or, Option, Some, None}
+use Rattle.std.proofs.Common.{refl, sym, ap, ◌∙◌, subst, arith, option_map, append_assoc}
+use Rattle.std.proofs.lemmas.List.{get_or_append_left, length-map, take_all}
+use Rattle.std.proofs.lemmas.List.Sums.{sum_by-append, sum_by-cons}
+use Rattle.std.proofs.lemmas.Option.{same_Some, none-some, slice_get-map, slice_get_within, get_or_from_slice_get}
+use Rattle.std.specs.List.{slice_get}
+use Rattle.j39_findings.specs.declared.plan.timing.Timing.{Timing}
+use Rattle.j39_load.specs.declared.flow_frames.FlowFrames.{FlowFrames}
+use Rattle.j39_load.specs.declared.flow_load.FlowLoad.{FlowLoad}
+use Rattle.j39_load.specs.declared.messages.Messages.TheVariants.{Short}
+use Rattle.j39_load.specs.declared.request_load.RequestLoad.{RequestLoad}
+use Rattle.j39_load.specs.declared.unit_load.UnitLoad.{UnitLoad}
+use Rattle.j39_load.specs.Asked.{all_frames, announcements_of_unit, frames_of_flow, frames_of_request, packets_of_unit, singles_of_flow}
+use Rattle.j39_load.specs.Damage.{damage_frames, damage_streams, first_of_all}
+use Rattle.j39_load.specs.Delays.{frames_before, going_before, streams_before}
+use Rattle.j39_load.specs.Places.{told_from}
+use Rattle.j39_load.specs.PlannedFrames.{no_frames, planned_at, traffic_of}
+use Rattle.j39_load.proofs.Before.{more}
+use Rattle.j39_timing.specs.Sums.{total}
+use Rattle.j39_timing.specs.Waits.{share}
+use Rattle.j39_timing.specs.declared.stream.Stream.{Stream}
+
+-- ---- where nothing is told
+
+pub none_of_two : {X : Type 0} (xs ys : List X) → xs ++ ys ≡ [] → (xs ≡ []) × (ys ≡ [])
+none_of_two [] ys none = (refl, none)
+none_of_two (x ∷ xs) ys none = absurd (let some : suc (length (xs ++ ys)) ≡ 0 = ap length none in omega arith)
+
+pub told_nothing : {X Y : Type 0} (tell : ℕ → X → List Y) (place : ℕ) (xs : List X) → told_from tell place xs ≡ [] → (k : ℕ) (x : X)
+    → slice_get xs k ≡ Some x → tell (place + k) x ≡ []
+unfolding told_from
+told_nothing tell place [] none k x at = absurd (none-some x at)
+told_nothing tell place (first ∷ xs) none zero x at =
+    let head = (none_of_two (tell place first) (told_from tell (place + 1) xs) none).0 in
+    ap (λ (n : ℕ). tell n x) (omega arith) ∙ ap (tell place) (sym (same_Some first x at)) ∙ head
+told_nothing tell place (first ∷ xs) none (suc k) x at =
+    let tail = (none_of_two (tell place first) (told_from tell (place + 1) xs) none).1 in
+    ap (λ (n : ℕ). tell n x) (omega arith) ∙ told_nothing tell (place + 1) xs tail k x at
+
+-- ---- the streams before
+
+module _ (all : List (Option FlowFrames)) (i ident span : ℕ) where
+  -- what the stream at a place takes
+  abbrev pub taken : ℕ → ℕ
+  taken j = cond (not (eqb j i) && ltb ((traffic_of all).least j) ident) (share span ((traffic_of all).stream j)) 0
+
+  taken_most : (j : ℕ) (frames : Option FlowFrames) → get_or all j None ≡ frames → taken j ≤ sum_by (share span) (going_before i ident j frames)
+  taken_most j None is = rw (is) (elim (not (eqb j i) && ltb 0 ident) as (λ e. cond e (share span no_frames.stream) 0 ≤ sum_by (share span) []) [
+    | true ↦ omega arith
+    | false ↦ omega arith
+  ])
+  taken_most j (Some frames) is = rw (is) (elim (eqb j i)
+      as (λ e. cond (not e && ltb frames.least_ident ident) (share span frames.stream) 0
+      ≤ sum_by (share span) (if e then [] else frames_before ident frames)) [
+        | true ↦ omega arith
+        | false ↦ elim (ltb frames.least_ident ident)
+            as (λ e. cond e (share span frames.stream) 0 ≤ sum_by (share span) (cond e (frames.stream ∷ []) [])) [
+              | true ↦ rw (sum_by-cons (share span) frames.stream []) (omega arith)
+              | false ↦ omega arith
+            ]
+      ])
+
+  all_taken : (k : ℕ) → k ≤ length all → total k taken ≤ sum_by (share span) (told_from (going_before i ident) 0 (take k all))
+  unfolding total
+  all_taken zero le = omega arith
+  all_taken (suc k) le =
+      let before : total k taken ≤ sum_by (share span) (told_from (going_before i ident) 0 (take k all)) = all_taken k (omega arith) in
+      let this : taken k ≤ sum_by (share span) (going_before i ident k (get_or all k None)) = taken_most k (get_or all k None) refl in
+      let both : sum_by (share span) (told_from (going_before i ident) 0 (take (k + 1) all))
+      ≡ sum_by (share span) (told_from (going_before i ident) 0 (take k all)) + sum_by (share span) (going_before i ident k (get_or all k None)) =
+      ap (sum_by (share span)) (more (going_before i ident) k all None (omega arith))
+      ∙ sum_by-append (share span) (told_from (going_before i ident) 0 (take k all)) (going_before i ident k (get_or all k None)) in
+      let next : k + 1 ≡ suc k = omega arith in
+      subst (λ (n : ℕ). total k taken + taken k ≤ sum_by (share span) (told_from (going_before i ident) 0 (take n all))) next
+      (omega (arith, before, this, both))
+
+  whole_taken : total (length all) taken ≤ sum_by (share span) (told_from (going_before i ident) 0 all)
+  whole_taken = subst (λ (xs : List (Option FlowFrames)). total (length all) taken ≤ sum_by (share span) (told_from (going_before i ident) 0 xs))
+      (take_all (length all) all (omega arith)) (all_taken (length all) (omega arith))
+
+-- what is told of two lists, one behind the other
+pub told_of_two : {X Y : Type 0} (tell : ℕ → X → List Y) (place : ℕ) (xs ys : List X)
+    → told_from tell place (xs ++ ys) ≡ told_from tell place xs ++ told_from tell (place + length xs) ys
+unfolding told_from
+told_of_two tell place [] ys = ap (λ (n : ℕ). told_from tell n ys) (omega arith)
+told_of_two tell place (x ∷ xs) ys =
+    ap (λ zs. tell place x ++ zs) (told_of_two tell (place + 1) xs ys)
+    ∙ ap (λ (n : ℕ). tell place x ++ (told_from tell (place + 1) xs ++ told_from tell n ys)) (omega arith)
+    ∙ sym (append_assoc (tell place x) (told_from tell (place + 1) xs) (told_from tell (place + length (x ∷ xs)) ys))
+
+module _ (i ident span : ℕ) where
+  damage_most : (place : ℕ) (streams : List Stream)
+      → sum_by (share span) (told_from (going_before i ident) place (map first_of_all streams)) ≤ sum_by (share span) streams
+  unfolding told_from
+  damage_most place [] = omega arith
+  damage_most place (stream ∷ streams) =
+      let first : sum_by (share span) (going_before i ident place (first_of_all stream)) ≤ share span stream = go (eqb place i) (ltb 0 ident) in
+      let rest = damage_most (place + 1) streams in
+      let parts = sum_by-append (share span) (going_before i ident place (first_of_all stream))
+      (told_from (going_before i ident) (place + 1) (map first_of_all streams)) in
+      let one = sum_by-cons (share span) stream streams in
+      omega (arith, first, rest, parts, one)
+    where
+      go : (same less : Bool) → sum_by (share span) (if same then [] else (if less then stream ∷ [] else [])) ≤ share span stream
+      go true less = omega arith
+      go false true = rw (sum_by-cons (share span) stream []) (omega arith)
+      go false false = omega arith
+
+  -- with what comes of damage
+  pub all_before : (timing : Timing) (all : List (Option FlowFrames))
+      → total (length (all ++ damage_frames timing)) (taken (all ++ damage_frames timing) i ident span)
+      ≤ sum_by (share span) (streams_before timing i ident all)
+  all_before timing all =
+      let whole = whole_taken (all ++ damage_frames timing) i ident span in
+      let two = ap (sum_by (share span)) (told_of_two (going_before i ident) 0 all (damage_frames timing)) in
+      let parts = sum_by-append (share span) (told_from (going_before i ident) 0 all) (told_from (going_before i ident) (0 + length all) (damage_frames timing)) in
+      let damage = damage_most (0 + length all) (damage_streams timing) in
+      let needed = sum_by-append (share span) (damage_streams timing) (told_from (going_before i ident) 0 all) in
+      omega (arith, whole, two, parts, damage, needed)
+
+-- where something is read there is a place
+pub get_or_inside : {X : Type 0} (all : List (Option X)) (i : ℕ) (x : X) → get_or all i None ≡ Some x → i < length all
+get_or_inside [] i x is = absurd (none-some x is)
+get_or_inside (y ∷ ys) zero x is = omega arith
+get_or_inside (y ∷ ys) (suc i) x is = let inside = get_or_inside ys i x is in omega (arith, inside)
+
+-- at a flow's place stand its own frames
+pub own_read : (flows : List (Option FlowLoad)) (units : List (Option UnitLoad)) (requests : List (Option RequestLoad)) (flow : ℕ) (load : FlowLoad)
+    (frames : FlowFrames) → slice_get flows flow ≡ Some (Some load) → load.messages ≡ Short frames
+    → get_or (all_frames flows units requests) flow None ≡ Some frames
+own_read flows units requests flow load frames its short =
+    let below = slice_get_within flows flow (Some load) its in
+    let front : get_or (all_frames flows units requests) flow None ≡ get_or (map frames_of_flow flows) flow None =
+    get_or_append_left (map frames_of_flow flows)
+    (map singles_of_flow flows ++ (map packets_of_unit units ++ (map announcements_of_unit units ++ map frames_of_request requests))) None flow
+    (omega (arith, below, length-map flows frames_of_flow)) in
+    let own : get_or (map frames_of_flow flows) flow None ≡ frames_of_flow (Some load) =
+    get_or_from_slice_get (map frames_of_flow flows) flow (frames_of_flow (Some load)) None
+    (slice_get-map frames_of_flow flows flow ∙ ap (option_map frames_of_flow) its) in
+    let its_frames : frames_of_flow (Some load) ≡ Some frames = rw (short) refl in
+    front ∙ own ∙ its_frames
+
+-- and so they do where what comes of damage stands behind all
+pub with_damage : (timing : Timing) (asked : List (Option FlowFrames)) (flow : ℕ) (frames : FlowFrames) → get_or asked flow None ≡ Some frames
+    → planned_at (asked ++ damage_frames timing) flow ≡ frames
+with_damage timing asked flow frames is =
+    let front : get_or (asked ++ damage_frames timing) flow None ≡ Some frames =
+    get_or_append_left asked (damage_frames timing) None flow (get_or_inside asked flow frames is) ∙ is in
+    ap (λ (found : Option FlowFrames). unwrap_or found no_frames) front

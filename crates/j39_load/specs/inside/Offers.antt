@@ -1,0 +1,18 @@
+-- What is known of frames that are offered for good, so that waits can be computed from them.
+use Rattle.std.specs.Prelude.{ℕ, ◌^◌, ◌<◌, ◌≤◌, List, length, All, Option}
+use Rattle.std.specs.Option.{ForSome}
+use Rattle.j39_load.specs.declared.offers.Offers.{Offers}
+use Rattle.j39_load.specs.AnyQueues.{Offer}
+use Rattle.j39_load.specs.SoundLoads.{FitIfAny}
+
+abbrev pub IsShortWait : Option ℕ → Type 0
+IsShortWait wait = ForSome wait (λ bits. bits < 2 ^ 27)
+
+-- as a definition has them
+abbrev pub told : Offers → Offer
+told offers = record { frames = offers.frames.items; waits = offers.waits.items; unheld = offers.unheld }
+
+pub record AreFitOffers (offers : Offers) : Type 0 where
+  pub fit : All FitIfAny offers.frames.items
+  pub few : length offers.frames.items ≤ 2000
+  pub short : All IsShortWait offers.waits.items

@@ -1,0 +1,279 @@
+-- The schedule in which each frame is queued at the bit from which it is offered for good is legal; so frames of units that keep order are in
+-- time where those of other units count from there.
+use Rattle.std.proofs.Common.{◌≡◌, ℕ, zero, suc, ◌+◌, ◌<◌, ◌≤◌, ◌⊎◌, Bool, true, false, not, cond, ◌&&◌, eqb, ltb, leb, refl, subst, ap, arith, inl, inr}
+use Rattle.std.proofs.lemmas.Bool.{and_parts, and_from, cases_lt, cases_eq, cases_Bool, le-leb, lt-ltb, leb-true, ltb-true, eqb-true, eq-eqb, both_ways}
+use Rattle.j39_timing.specs.Sums.{total}
+use Rattle.j39_timing.specs.Schedule.{Schedule, IsLegal, Waits}
+use Rattle.j39_timing.specs.Streams.{Origins}
+use Rattle.j39_timing.specs.Traffic.{Traffic, Others, IsPlannedTraffic, AreQueuedBehind, AreSteady, IsSingle, HasRoom, IsStreamInTime, delay_of}
+use Rattle.j39_timing.specs.Traffic.{may_go_before, others_queued, is_other_queued}
+use Rattle.j39_timing.specs.Messages.{AreSentWithin}
+use Rattle.j39_timing.specs.Waits.{share}
+use Rattle.j39_timing.specs.AnyOrder.{Controllers, IsLegalInAnyOrder, IsOrdered, IsOrderedStream, HaveWaits, as_offered, is_passed_by, later_by, offered_from, offered_traffic}
+use Rattle.j39_timing.proofs.PlannedTraffic.{behind_in_time, stream_in_time}
+use Rattle.j39_timing.proofs.Sums.{total-le}
+
+-- ---- one frame
+
+module _ (s : Schedule) (p : ℕ) where
+  passed_parts : (q : ℕ) → is_passed_by s p q ≡ true
+      → (s.ident p < s.ident q) × (s.queued p < s.start q) × (s.start q ≤ s.start p) × (s.start q < s.now)
+  passed_parts q is =
+      let one = and_parts (ltb (s.ident p) (s.ident q)) (ltb (s.queued p) (s.start q) && (leb (s.start q) (s.start p) && ltb (s.start q) s.now)) is in
+      let two = and_parts (ltb (s.queued p) (s.start q)) (leb (s.start q) (s.start p) && ltb (s.start q) s.now) one.1 in
+      let three = and_parts (leb (s.start q) (s.start p)) (ltb (s.start q) s.now) two.1 in (
+        ltb-true (s.ident p) (s.ident q) one.0,
+        ltb-true (s.queued p) (s.start q) two.0,
+        leb-true (s.start q) (s.start p) three.0,
+        ltb-true (s.start q) s.now three.1,
+      )
+
+  passed_from : (q : ℕ) → s.ident p < s.ident q → s.queued p < s.start q → s.start q ≤ s.start p → s.start q < s.now → is_passed_by s p q ≡ true
+  passed_from q less ready ahead seen =
+      and_from (ltb (s.ident p) (s.ident q)) (ltb (s.queued p) (s.start q) && (leb (s.start q) (s.start p) && ltb (s.start q) s.now))
+      (lt-ltb (s.ident p) (s.ident q) less)
+      (and_from (ltb (s.queued p) (s.start q)) (leb (s.start q) (s.start p) && ltb (s.start q) s.now) (lt-ltb (s.queued p) (s.start q) ready)
+      (and_from (leb (s.start q) (s.start p)) (ltb (s.start q) s.now) (le-leb (s.start q) (s.start p) ahead) (lt-ltb (s.start q) s.now seen)))
+
+  -- it is offered for good from when it is ready, or from where another frame passes it
+  offered_is : (n : ℕ) → (offered_from s p n ≡ s.queued p) ⊎ ((q : ℕ) × (q < n) × (is_passed_by s p q ≡ true) × (offered_from s p n ≡ s.start q))
+  unfolding offered_from
+  offered_is zero = inl refl
+  offered_is (suc n) = elim (cases_Bool (is_passed_by s p n && ltb (offered_from s p n) (s.start n))) [
+    | inl is ↦
+        let passed = (and_parts (is_passed_by s p n) (ltb (offered_from s p n) (s.start n)) is).0 in
+        inr (n, omega arith, passed, rw (is) refl)
+    | inr isnt ↦ elim (offered_is n) [
+      | inl same ↦ inl (rw (isnt) same)
+      | inr it ↦
+          let (q, below, passed, at) = it in
+          inr (q, omega arith, passed, rw (isnt) at)
+    ]
+  ]
+
+  -- behind each frame that passes it
+  behind_passed : (n q : ℕ) → q < n → is_passed_by s p q ≡ true → s.start q ≤ offered_from s p n
+  unfolding offered_from
+  behind_passed zero q below passed = absurd (omega arith)
+  behind_passed (suc n) q below passed = elim (cases_Bool (is_passed_by s p n && ltb (offered_from s p n) (s.start n))) [
+    | inl is ↦
+        let more : offered_from s p n < s.start n = ltb-true (offered_from s p n) (s.start n)
+        (and_parts (is_passed_by s p n) (ltb (offered_from s p n) (s.start n)) is).1 in
+        elim (cases_eq q n) [
+          | inl same ↦ let at : s.start q ≡ s.start n = ap s.start same in rw (is) (omega arith)
+          | inr other ↦ let before : s.start q ≤ offered_from s p n = behind_passed n q (omega arith) passed in rw (is) (omega arith)
+        ]
+    | inr isnt ↦ elim (cases_eq q n) [
+      | inl same ↦
+          let at : s.start q ≡ s.start n = ap s.start same in
+          elim (cases_lt (offered_from s p n) (s.start n)) [
+            | inl more ↦ absurd (both_ways (is_passed_by s p n && ltb (offered_from s p n) (s.start n)) isnt
+                (and_from (is_passed_by s p n) (ltb (offered_from s p n) (s.start n)) (subst (λ k. is_passed_by s p k ≡ true) same passed)
+                (lt-ltb (offered_from s p n) (s.start n) more)))
+            | inr enough ↦ rw (isnt) (omega arith)
+          ]
+      | inr other ↦ rw (isnt) (behind_passed n q (omega arith) passed)
+    ]
+  ]
+
+  offered_late : (n : ℕ) → s.queued p ≤ offered_from s p n
+  offered_late n = elim (offered_is n) [
+    | inl same ↦ omega arith
+    | inr it ↦
+        let (q, below, passed, at) = it in
+        let ready : s.queued p < s.start q = (passed_parts q passed).1 in
+        omega arith
+  ]
+
+  offered_first : (n : ℕ) → s.queued p ≤ s.start p → offered_from s p n ≤ s.start p
+  offered_first n first = elim (offered_is n) [
+    | inl same ↦ omega arith
+    | inr it ↦
+        let (q, below, passed, at) = it in
+        let ahead : s.start q ≤ s.start p = (passed_parts q passed).2 in
+        omega arith
+  ]
+
+  -- no later than it is sent at the latest
+  offered_within : (n wait : ℕ) → (s.queued p + wait < s.now → s.start p ≤ s.queued p + wait) → offered_from s p n ≤ s.queued p + wait
+  offered_within n wait begins = elim (offered_is n) [
+    | inl same ↦ omega arith
+    | inr it ↦
+        let (q, below, passed, at) = it in
+        let (_, _, ahead, early) = passed_parts q passed in
+        elim (cases_lt (s.queued p + wait) s.now) [
+          | inl seen ↦ let begun : s.start p ≤ s.queued p + wait = begins seen in omega (arith, ahead, at, begun)
+          | inr unseen ↦ omega (arith, early, at, unseen)
+        ]
+  ]
+
+  -- and no later than what is seen
+  offered_seen : (n : ℕ) → offered_from s p n ≤ s.queued p + s.now
+  offered_seen n = elim (offered_is n) [
+    | inl same ↦ omega arith
+    | inr it ↦
+        let (q, below, passed, at) = it in
+        let early : s.start q < s.now = (passed_parts q passed).3 in
+        omega arith
+  ]
+
+-- ---- all frames
+
+module _ (s : Schedule) (controllers : Controllers) (legal : IsLegalInAnyOrder s controllers) where
+  as_waiting : (p t : ℕ) → Waits (as_offered s) p t → Waits s p t
+  as_waiting p t waits = let late : s.queued p ≤ offered_from s p s.count = offered_late s p s.count in (omega (arith, late, waits.0), waits.1)
+
+  pub legal_as_offered : IsLegal (as_offered s)
+  legal_as_offered = record {
+    positive = legal.positive;
+    queued_first = λ p in_p. offered_first s p s.count (legal.queued_first p in_p);
+    alone = legal.alone;
+    never_idle = λ p t in_p seen waits. legal.never_idle p t in_p seen (as_waiting p t waits);
+    in_order = λ p q in_p in_q seen waits.
+        elim (cases_lt (s.ident p) (s.ident q)) [
+          | inr order ↦ order
+          | inl passes ↦
+              let ready = as_waiting p (s.start q) waits in
+              let behind : s.start q ≤ offered_from s p s.count = behind_passed s p s.count q in_q (passed_from s p q passes ready.0 ready.1 seen) in
+              absurd (omega (arith, behind, waits.0))
+        ];
+  }
+
+  -- a frame of a unit that keeps order is offered whenever it is ready
+  pub ordered_as_ready : (p : ℕ) → p < s.count → IsOrdered controllers p → offered_from s p s.count ≡ s.queued p
+  ordered_as_ready p in_p ordered = elim (offered_is s p s.count) [
+    | inl same ↦ same
+    | inr it ↦
+        let (q, in_q, passed, at) = it in
+        let (less, ready, ahead, seen) = passed_parts s p q passed in
+        let (h, may, order) = legal.in_order p q in_p in_q seen (ready, ahead) in
+        let itself : h ≡ p = may.3 ordered in
+        let ident : s.ident h ≡ s.ident p = ap s.ident itself in
+        absurd (omega (arith, less, order, ident))
+  ]
+
+  -- ---- a stream of a unit that keeps order, beside others
+
+  module _ (traffic : Traffic) (others : Others) (longest : ℕ) (planned : ℕ → Bool) (of : Origins) (i wait : ℕ)
+      (known : IsPlannedTraffic s traffic others longest planned of i) (positive : (j : ℕ) → j < traffic.count → 0 < (traffic.stream j).period)
+      (ordered : IsOrderedStream s controllers planned of i) (waits : ℕ → ℕ) (have : HaveWaits s controllers traffic planned of i waits)
+      (room : HasRoom (offered_traffic traffic waits) others longest i wait) where
+    -- how much later frames of a stream may be offered: nothing is known where they don't go before
+    abbrev more : ℕ → ℕ
+    more j = cond (may_go_before traffic i j) (waits j) (cond (eqb j i) 0 s.now)
+
+    own_more : more i ≡ 0
+    own_more =
+        let same = eq-eqb i i refl in
+        let isnt : may_go_before traffic i i ≡ false = rw (same) refl in
+        rw (isnt, same) refl
+
+    abbrev later : Traffic
+    later = offered_traffic traffic more
+
+    offered_at_most : (p : ℕ) → p < s.count → planned p ≡ true → offered_from s p s.count ≤ of.since p + ((traffic.stream (of.source p)).late + more (of.source p))
+    offered_at_most p in_p is =
+        let late : s.queued p ≤ of.since p + (traffic.stream (of.source p)).late = known.late_at_most p in_p is in
+        elim (cases_Bool (controllers.keeps_order (controllers.unit p))) [
+          | inl keeps ↦ let same : offered_from s p s.count ≡ s.queued p = ordered_as_ready p in_p keeps in omega (arith, late, same)
+          | inr loses ↦ elim (cases_Bool (may_go_before traffic i (of.source p))) [
+            | inl goes ↦
+                let within : offered_from s p s.count ≤ s.queued p + waits (of.source p) =
+                offered_within s p s.count (waits (of.source p)) (have p in_p is goes loses) in
+                rw (goes) (omega (arith, late, within))
+            | inr stays ↦ elim (cases_Bool (eqb (of.source p) i)) [
+              | inl own ↦ absurd (both_ways (controllers.keeps_order (controllers.unit p)) loses
+                  (ordered p in_p is (eqb-true (of.source p) i own)))
+              | inr foreign ↦
+                  let seen : offered_from s p s.count ≤ s.queued p + s.now = offered_seen s p s.count in
+                  rw (stays, foreign) (omega (arith, late, seen))
+            ]
+          ]
+        ]
+
+    later_known : IsPlannedTraffic (as_offered s) later others longest planned of i
+    later_known = record {
+      longest_at_most = known.longest_at_most;
+      known = known.known;
+      bits_at_most = known.bits_at_most;
+      turns = known.turns;
+      moment_first = λ p in_p is.
+          let first : of.since p ≤ s.queued p = known.moment_first p in_p is in
+          let late : s.queued p ≤ offered_from s p s.count = offered_late s p s.count in
+          omega (arith, first, late);
+      late_at_most = offered_at_most;
+      spaced = known.spaced;
+      from_least = known.from_least;
+      to_greatest = known.to_greatest;
+      own_identifier = λ p q t in_p in_q seen is source at_p at_q same.
+          let late_p : s.queued p ≤ offered_from s p s.count = offered_late s p s.count in
+          let late_q : s.queued q ≤ offered_from s q s.count = offered_late s q s.count in
+          known.own_identifier p q t in_p in_q seen is source (omega (arith, late_p, at_p.0), at_p.1) (omega (arith, late_q, at_q.0), at_q.1) same;
+      urgency_of_others = known.urgency_of_others;
+      few_others = λ p from to in_p is source seen waiting stretch.
+          let most : others_queued s planned (s.ident p) from to ≤ others.count =
+          known.few_others p from to in_p is source seen (as_waiting p to waiting)
+          (λ t after within. let (h, in_h, of_plan, at_most, ready) = stretch t after within in (h, in_h, of_plan, at_most, as_waiting h t ready)) in
+          let fewer : others_queued (as_offered s) planned (s.ident p) from to ≤ others_queued s planned (s.ident p) from to =
+          total-le s.count (λ q. cond (is_other_queued (as_offered s) planned (s.ident p) from to q) 1 0)
+          (λ q. cond (is_other_queued s planned (s.ident p) from to q) 1 0) (λ q in_q.
+          elim (cases_Bool (is_other_queued (as_offered s) planned (s.ident p) from to q)) [
+            | inr fails ↦ rw (fails) (omega arith)
+            | inl it ↦
+                let one = and_parts (not (planned q)) (ltb (s.ident q) (s.ident p) && (leb (offered_from s q s.count) to && ltb from (s.start q))) it in
+                let two = and_parts (ltb (s.ident q) (s.ident p)) (leb (offered_from s q s.count) to && ltb from (s.start q)) one.1 in
+                let three = and_parts (leb (offered_from s q s.count) to) (ltb from (s.start q)) two.1 in
+                let until : offered_from s q s.count ≤ to = leb-true (offered_from s q s.count) to three.0 in
+                let late : s.queued q ≤ offered_from s q s.count = offered_late s q s.count in
+                let there : is_other_queued s planned (s.ident p) from to q ≡ true =
+                and_from (not (planned q)) (ltb (s.ident q) (s.ident p) && (leb (s.queued q) to && ltb from (s.start q))) one.0
+                (and_from (ltb (s.ident q) (s.ident p)) (leb (s.queued q) to && ltb from (s.start q)) two.0
+                (and_from (leb (s.queued q) to) (ltb from (s.start q)) (le-leb (s.queued q) to (omega (arith, until, late))) three.1)) in
+                rw (it, there) (omega arith)
+          ]) in
+          omega (arith, most, fewer);
+    }
+
+    later_room : HasRoom later others longest i wait
+    later_room =
+        let same : total traffic.count (λ j. cond (may_go_before traffic i j) (share (wait + 1) (later_by (more j) (traffic.stream j))) 0)
+        ≤ total traffic.count (λ j. cond (may_go_before traffic i j) (share (wait + 1) (later_by (waits j) (traffic.stream j))) 0) =
+        total-le traffic.count (λ j. cond (may_go_before traffic i j) (share (wait + 1) (later_by (more j) (traffic.stream j))) 0)
+        (λ j. cond (may_go_before traffic i j) (share (wait + 1) (later_by (waits j) (traffic.stream j))) 0) (λ j below.
+        elim (cases_Bool (may_go_before traffic i j)) [
+          | inl goes ↦ rw (goes) (omega arith)
+          | inr stays ↦ rw (stays) (omega arith)
+        ]) in
+        omega (arith, room, same)
+
+    pub ordered_in_time : IsSingle (traffic.stream i) → delay_of (traffic.stream i) wait ≤ (traffic.stream i).period
+        → IsStreamInTime s planned of i (traffic.stream i) wait
+    ordered_in_time single fits p in_p is same seen =
+        let own = own_more in
+        let ready : offered_from s p s.count ≡ s.queued p = ordered_as_ready p in_p (ordered p in_p is same) in
+        let (begins, sent) = stream_in_time (as_offered s) later others longest planned of legal_as_offered i wait later_known positive later_room single
+        (omega (arith, own, fits)) p in_p is same (omega (arith, own, seen)) in
+        (omega (arith, begins, ready), omega (arith, sent, own))
+
+    pub ordered_behind : AreQueuedBehind s planned of i → AreSteady s planned of i → AreSentWithin s planned of i (traffic.stream i) wait
+    ordered_behind behind steady p in_p is source seen =
+        let ready : (q : ℕ) → q < s.count → planned q ≡ true → of.source q ≡ i → offered_from s q s.count ≡ s.queued q =
+        λ q in_q of_plan same. ordered_as_ready q in_q (ordered q in_q of_plan same) in
+        let apart : AreQueuedBehind (as_offered s) planned of i = λ q r in_q in_r differ is_q is_r of_q of_r.
+        let at_q = ready q in_q is_q of_q in
+        let at_r = ready r in_r is_r of_r in
+        elim (behind q r in_q in_r differ is_q is_r of_q of_r) [
+          | inl one ↦ inl (omega (arith, one, at_r))
+          | inr two ↦ inr (omega (arith, two, at_q))
+        ] in
+        let still : AreSteady (as_offered s) planned of i = λ q r in_q in_r is_q is_r of_q of_r order stretch.
+        let at_q = ready q in_q is_q of_q in
+        let at_r = ready r in_r is_r of_r in
+        steady q r in_q in_r is_q is_r of_q of_r (omega (arith, order, at_q, at_r)) (λ t after within.
+        let (h, in_h, of_plan, at_most, waits) = stretch t (omega (arith, after, at_q)) (omega (arith, within, at_r)) in
+        (h, in_h, of_plan, at_most, as_waiting h t waits)) in
+        let own = ready p in_p is source in
+        let sent : s.start p + s.bits p ≤ offered_from s p s.count + (wait + (traffic.stream i).bits) =
+        behind_in_time (as_offered s) later others longest planned of legal_as_offered i wait later_known positive later_room apart still
+        p in_p is source (omega (arith, seen, own)) in
+        omega (arith, sent, own)

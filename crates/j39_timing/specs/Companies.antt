@@ -1,0 +1,77 @@
+-- The frames that may go before one that waits in a unit without order: those of its company, and those that may go before these.
+use Rattle.std.specs.Prelude.{◌≡◌, ◌≢◌, ℕ, ◌+◌, ◌*◌, ◌<◌, ◌≤◌, ◌⊎◌, Bool, true, not, ◌&&◌, ◌||◌, cond, nat_lt, nat_le}
+use Rattle.j39_timing.specs.Sums.{total}
+use Rattle.j39_timing.specs.Schedule.{Schedule, Waits}
+use Rattle.j39_timing.specs.Streams.{Origins}
+use Rattle.j39_timing.specs.Traffic.{Traffic, IsQueuedAt}
+use Rattle.j39_timing.specs.Waits.{share}
+use Rattle.j39_timing.specs.AnyOrder.{Controllers, IsUnordered}
+
+-- all streams of some units that keep no order
+pub record Company : Type 0 where
+  -- a stream, by its place, is one of them
+  pub has : ℕ → Bool
+  -- none of their frames has a larger identifier
+  pub level : ℕ
+
+-- a planned frame is one of the company, or has a smaller identifier than its level
+abbrev pub is_with_company : Schedule → Origins → Company → ℕ → Bool
+is_with_company s of company p = company.has (of.source p) || nat_lt (s.ident p) company.level
+
+-- at each bit behind `from`, up to `to`, such a frame waits
+abbrev pub CompanyWaits : Schedule → (ℕ → Bool) → Origins → Company → ℕ → ℕ → Type 0
+CompanyWaits s planned of company from to =
+    (t : ℕ) → from < t → t ≤ to → (p : ℕ) × (p < s.count) × (planned p ≡ true) × (is_with_company s of company p ≡ true) × Waits s p t
+
+-- the frame isn't planned, and is queued at some bit behind `from`, up to `to`
+abbrev pub is_unplanned_queued : Schedule → (ℕ → Bool) → ℕ → ℕ → ℕ → Bool
+is_unplanned_queued s planned from to p = not (planned p) && (nat_le (s.queued p) to && nat_lt from (s.start p))
+
+-- how many such frames there are
+abbrev pub unplanned_queued : Schedule → (ℕ → Bool) → ℕ → ℕ → ℕ
+unplanned_queued s planned from to = total s.count (λ p. cond (is_unplanned_queued s planned from to p) 1 0)
+
+-- the planned frames of a schedule are those of the streams, as `IsPlannedTraffic` has it; they keep to a company, and what else is in the
+-- schedule keeps within what is foreseen while frames of the company wait
+pub record IsTrafficOfCompany (s : Schedule) (controllers : Controllers) (traffic : Traffic) (unplanned longest : ℕ) (planned : ℕ → Bool) (of : Origins)
+    (company : Company) : Type 0 where
+  -- no frame is longer
+  pub longest_at_most : (p : ℕ) → p < s.count → s.bits p ≤ longest
+  -- a planned frame is one of a stream, as long as its frames at most, and has its turn in a message
+  pub known : (p : ℕ) → p < s.count → planned p ≡ true → of.source p < traffic.count
+  pub bits_at_most : (p : ℕ) → p < s.count → planned p ≡ true → s.bits p ≤ (traffic.stream (of.source p)).bits
+  pub turns : (p : ℕ) → p < s.count → planned p ≡ true → of.turn p < (traffic.stream (of.source p)).frames
+  -- it is queued at the moment of its message, or so many bits behind it at most
+  pub moment_first : (p : ℕ) → p < s.count → planned p ≡ true → of.since p ≤ s.queued p
+  pub late_at_most : (p : ℕ) → p < s.count → planned p ≡ true → s.queued p ≤ of.since p + (traffic.stream (of.source p)).late
+  -- the moments of two messages of a stream are a period apart: so are those of two frames that have one turn in them
+  pub spaced : (p q : ℕ) → p < s.count → q < s.count → p ≢ q → planned p ≡ true → planned q ≡ true → of.source p ≡ of.source q
+      → of.turn p ≡ of.turn q
+      → (of.since p + (traffic.stream (of.source p)).period ≤ of.since q) ⊎ (of.since q + (traffic.stream (of.source p)).period ≤ of.since p)
+  -- no frame of a stream has an identifier below its least one, and none of the company one above the level
+  pub from_least : (p : ℕ) → p < s.count → planned p ≡ true → traffic.least (of.source p) ≤ s.ident p
+  pub to_level : (p : ℕ) → p < s.count → planned p ≡ true → company.has (of.source p) ≡ true → s.ident p ≤ company.level
+  -- where a frame is of the company, or has a smaller identifier than its level, and its unit keeps no order, all planned frames of this
+  -- unit are of the company
+  pub closed : (p q : ℕ) → p < s.count → q < s.count → planned p ≡ true → planned q ≡ true → controllers.unit q ≡ controllers.unit p
+      → IsUnordered controllers p → is_with_company s of company p ≡ true → company.has (of.source q) ≡ true
+  -- while a frame of the company is queued, nothing that is queued too has its identifier but frames of the company
+  pub own_identifiers : (p q t : ℕ) → p < s.count → q < s.count → t < s.now → planned p ≡ true → company.has (of.source p) ≡ true
+      → IsQueuedAt s p t → IsQueuedAt s q t → s.ident p ≡ s.ident q → (planned q ≡ true) × (company.has (of.source q) ≡ true)
+  -- while a frame of the company waits, together with the time before in which it and what goes with it wait without a break, no more frames
+  -- that aren't planned are queued than so many, whatever their identifiers are
+  pub few_unplanned : (p from to : ℕ) → p < s.count → planned p ≡ true → company.has (of.source p) ≡ true → to < s.now → Waits s p to
+      → CompanyWaits s planned of company from to → unplanned_queued s planned from to ≤ unplanned
+  -- where there may be some, each identifier is below the level: one of them may wait in a unit of the company
+  pub above_all : (p : ℕ) → p < s.count → 0 < unplanned → s.ident p < company.level
+
+-- frames of stream j may go before those of the company, whatever identifiers they have, or are of it
+abbrev pub may_go_with : Traffic → Company → ℕ → Bool
+may_go_with traffic company j = company.has j || nat_lt (traffic.least j) company.level
+
+-- the wait of a frame of stream i has room for the frame that has begun before, for what isn't planned, and for what these streams
+-- can queue in it and in the bit behind, but for the frame itself
+abbrev pub HasRoomInCompany : Traffic → Company → ℕ → ℕ → ℕ → ℕ → Type 0
+HasRoomInCompany traffic company unplanned longest i wait =
+    longest * (1 + unplanned) + total traffic.count (λ j. cond (may_go_with traffic company j) (share (wait + 1) (traffic.stream j)) 0)
+    ≤ wait + (traffic.stream i).bits
