@@ -18,6 +18,8 @@ use Rattle.j39_findings.specs.declared.plan.meaning.Meaning.{Meaning}
 use Rattle.j39_findings.specs.declared.plan.meaning.ValueName.{ValueName}
 use Rattle.j39_findings.specs.declared.plan.need_plan.NeedPlan.{NeedPlan}
 use Rattle.j39_findings.specs.declared.plan.pace.Pace.{Pace}
+use Rattle.j39_findings.specs.declared.plan.queue.Queue.{Queue}
+use Rattle.j39_findings.specs.declared.plan.queue.Queue.TheVariants as queues
 use Rattle.j39_findings.specs.declared.plan.request_plan.RequestPlan.{RequestPlan}
 use Rattle.j39_findings.specs.declared.plan.text_plan.TextPlan.{TextPlan}
 use Rattle.j39_findings.specs.declared.plan.timing.Bitrate.{Bitrate}
@@ -103,6 +105,10 @@ abbrev pub chooser_text : Way → List ℕ
 chooser_text Lowest = codes "lowest"
 chooser_text Upward = codes "upward"
 
+abbrev pub queue_text : Queue → List ℕ
+queue_text queues.Priority = codes "priority"
+queue_text queues.Any = codes "any"
+
 -- the fields of a NAME, from the lowest up, in two parts
 unfoldable pub lower_name_lines : Table → NameFields → List ℕ
 lower_name_lines table f =
@@ -122,7 +128,8 @@ unfoldable pub unit_value_lines : ℕ → UnitPlan → List ℕ
 unit_value_lines u unit =
     value_line (at.Unit u) key.Label unit.label.bytes ++ (value_line (at.Unit u) key.Address (decimal unit.address)
     ++ (value_line (at.Unit u) key.Chooser (chooser_text unit.way) ++ (value_line (at.Unit u) key.Window (decimal unit.window)
-    ++ (name_field_lines (at.UnitName u) (fields_of unit.name) ++ truth_line (at.Unit u) key.Claims unit.claims))))
+    ++ (value_line (at.Unit u) key.Queue (queue_text unit.queue) ++ (name_field_lines (at.UnitName u) (fields_of unit.name)
+    ++ truth_line (at.Unit u) key.Claims unit.claims)))))
 
 -- ---- groups
 
@@ -155,7 +162,7 @@ unfoldable pub signal_scale_lines : Table → SignalParts → List ℕ
 signal_scale_lines table s =
     value_line table key.Step (decimal s.step) ++ (value_line table key.Per (decimal s.per)
     ++ (value_line table key.Offset (signed_decimal s.offset)
-    ++ (text_value_line table key.Unit s.unit.bytes ++ truth_line table key.Repeated s.repeated)))
+    ++ (text_value_line table key.Unit s.unit.bytes ++ (truth_line table key.Repeated s.repeated ++ truth_line table key.Optional s.optional))))
 
 unfoldable pub signal_value_lines : Table → SignalParts → List ℕ
 signal_value_lines table s = signal_place_lines table s ++ signal_scale_lines table s

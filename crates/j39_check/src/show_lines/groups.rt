@@ -103,7 +103,8 @@ fn write_signal_scale(
     write_number(text, table, Key::Per, signal.per())?;
     write_number(text, table, Key::Offset, signal.offset())?;
     write_text(text, table, Key::Unit, signal.unit().as_str())?;
-    write_truth(text, table, Key::Repeated, signal.is_repeated())
+    write_truth(text, table, Key::Repeated, signal.is_repeated())?;
+    write_truth(text, table, Key::Optional, signal.is_optional())
 }
 
 #[tactic(auto, unfolding(crate::specs::ShowText::signal_value_lines))]

@@ -1,10 +1,10 @@
 //! The lines of units.
 ghost use Rattle.std.specs.Prelude.{◌≡◌, ◌++◌, OnOk};
-ghost use Rattle.j39_check.specs.ShowText.{chooser_text, lower_name_lines, name_field_lines as name_lines, unit_value_lines as unit_lines, upper_name_lines};
+ghost use Rattle.j39_check.specs.ShowText.{chooser_text, lower_name_lines, name_field_lines as name_lines, queue_text, unit_value_lines as unit_lines, upper_name_lines};
 ghost use Rattle.j39_load.specs.Places.{told_from};
 
 use super::values::{write_number, write_truth, write_word};
-use j39_findings::{Plan, UnitPlan, Way};
+use j39_findings::{Plan, Queue, UnitPlan, Way};
 use j39_id::NameFields;
 use j39_plan::{Key, Table};
 use j39_text::TextBuffer;
@@ -16,6 +16,15 @@ fn chooser_word(way: Way) -> &'static str
     match way {
         Way::Lowest => "lowest",
         Way::Upward => "upward",
+    }
+}
+
+fn queue_word(queue: Queue) -> &'static str
+    ensures { result.now ≡ queue_text queue }
+{
+    match queue {
+        Queue::Priority => "priority",
+        Queue::Any => "any",
     }
 }
 
@@ -65,6 +74,7 @@ fn write_unit(text: &mut TextBuffer, place: usize, unit: &UnitPlan) -> Result<()
     write_number(text, table, Key::Address, unit.address.number())?;
     write_word(text, table, Key::Chooser, chooser_word(unit.way))?;
     write_number(text, table, Key::Window, unit.window)?;
+    write_word(text, table, Key::Queue, queue_word(unit.queue))?;
     write_name(text, Table::UnitName(place), unit.name.fields())?;
     write_truth(text, table, Key::Claims, unit.claims)
 }
