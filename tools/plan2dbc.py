@@ -41,12 +41,13 @@ EXTENDED = 1 << 31
 
 @dataclass
 class Message:
-    """A message of the DBC: its identifier, its group's place and label, its name and the one that is too long for a name, who sends it,
-    whom it goes to, and who else receives it, how far apart its flows are sent, in ms, and what is said beside them."""
+    """A message of the DBC: its identifier, its group's place and label, how many bytes it has, its name and the one that is too long for a
+    name, who sends it, whom it goes to, and who else receives it, how far apart its flows are sent, in ms, and what is said beside them."""
 
     identifier: int
     group: Place
     label: str
+    length: int
     name: str
     long: str = ""
     senders: list[str] = field(default_factory=list)
@@ -113,6 +114,7 @@ class Dbc:
                 self.add_flow(group, first[label], flow)
             alone = self.add(group, first[label], NULL_ADDRESS, GLOBAL_ADDRESS) if label not in flows else None
             if alone:
+                alone.length = self.length_of(group, self.told(group))
                 self.carried.append((None, alone))
 
     def wanted(self, group: Place, flows: list[Place]) -> str:
@@ -157,11 +159,18 @@ class Dbc:
             other = self.taken.label(wanted or name) if group in self.used else name
             self.used.add(group)
             long = wanted if wanted and not Names.fits(wanted) else ""
-            self.messages[identifier] = Message(identifier, group, self.label(group), other, long)
+            self.messages[identifier] = Message(identifier, group, self.label(group), 0, other, long)
         message = self.messages[identifier]
         if message.group == group:
             message.told.append(told)
+            message.length = max(message.length, self.length_of(group, told))
         return message if message.group == group else None
+
+    def length_of(self, group: Place, told: dbc_remarks.Remark) -> int:
+        """How long a message of a group is: as is said beside its flow, else as the shortest ones, which go in one frame if any does."""
+        length = self.places.integer(group + ("length",))
+        lengths = range(length, self.number(group, "most", length) + 1)
+        return told.bytes if told.bytes in lengths else length
 
     def add_needs(self) -> None:
         """Those who need a group receive the messages of it that are for them, or the one that stands for it alone. Who is named beside the group's
@@ -182,7 +191,7 @@ class Dbc:
     def told_receivers(self, group: str) -> set[str]:
         """Who is named as a receiver beside the flows or signals of a group."""
         messages = [message for _, message in self.carried if message.label == group]
-        told = [one for message in messages for one in (*message.told, *(part.told for part in self.parts_of(message.group)))]
+        told = [one for message in messages for one in (*message.told, *(part.told for part in self.parts_in(message)))]
         return {label for one in told for label in one.receivers or ()}
 
     def long_name(self, group: Place) -> str:
@@ -200,11 +209,21 @@ class Dbc:
         attributes = [*self.bus_attributes(), *self.unit_attributes(), *self.message_attributes()]
         return "\n".join([*lines, *self.comments(), *definitions(list(self.ways)), *attributes, *self.values()]) + "\n"
 
+    def parts_in(self, message: Message) -> list[Part]:
+        """The signals and texts that a message has."""
+        return [part for part in self.parts_of(message.group) if self.first_length(message.group, part.place, part.is_text) <= message.length]
+
     def parts_of(self, group: Place) -> list[Part]:
-        """The signals and texts of a group that its shortest messages have, with their names."""
+        """The signals and texts of a group that some message of it has, with their names; of others that is said."""
         if group not in self.parts:
-            found = [(place, False) for place in self.places.elements(group + ("signal",)) if self.is_in_each(group, place)]
-            found += [(place, True) for place in self.places.elements(group + ("text",)) if self.is_in_shortest(group, place)]
+            most = max(message.length for message in self.messages.values() if message.group == group)
+            found = []
+            for key in ("signal", "text"):
+                for place in self.places.elements(group + (key,)):
+                    if self.first_length(group, place, key == "text") <= most:
+                        found.append((place, key == "text"))
+                    else:
+                        self.notes.say(f"{key} {self.label(place)} of {self.label(group)}", f"the group's messages end with byte {most}")
             parts = [self.part(place, is_text) for place, is_text in found]
             names = Names()
             for part in sorted(parts, key=lambda part: not Names.fits(part.name)):  # those first that can be names as they are
@@ -213,20 +232,13 @@ class Dbc:
             self.parts[group] = parts
         return self.parts[group]
 
-    def is_in_each(self, group: Place, signal: Place) -> bool:
-        """Whether the shortest messages of a group have a signal, which only an optional one can lack; else that is said."""
-        end = 8 * (self.places.integer(signal + ("byte",)) - 1) + self.number(signal, "bit", 1) - 1 + self.places.integer(signal + ("bits",))
-        if self.places.spelled.get(signal + ("optional",)) != "true" or end <= 8 * self.places.integer(group + ("length",)):
-            return True
-        self.notes.say(f"signal {self.label(signal)} of {self.label(group)}", "the group's shortest messages don't have it")
-        return False
-
-    def is_in_shortest(self, group: Place, text: Place) -> bool:
-        """Whether the shortest messages of a group have something of a text; else that is said."""
-        if self.places.integer(text + ("byte",)) <= self.places.integer(group + ("length",)):
-            return True
-        self.notes.say(f"text {self.label(text)} of {self.label(group)}", "the group's shortest messages have nothing of it")
-        return False
+    def first_length(self, group: Place, part: Place, is_text: bool) -> int:
+        """From which length on messages of a group have something of a text, or a signal, which only an optional one can lack."""
+        byte = self.places.integer(part + ("byte",))
+        if is_text or self.places.spelled.get(part + ("optional",)) != "true":
+            return byte if is_text else self.places.integer(group + ("length",))
+        bits = 8 * (byte - 1) + self.number(part, "bit", 1) - 1 + self.places.integer(part + ("bits",))
+        return (bits + 7) // 8
 
     def part(self, place: Place, is_text: bool) -> Part:
         """A signal or text with the name that it is to have: that beside its label, if there is one."""
@@ -234,11 +246,11 @@ class Dbc:
         return Part(place, label, next(iter(told.names), label), "", told, is_text)
 
     def message_lines(self, message: Message) -> Iterator[str]:
-        """A message and its signals. Its length is that of the shortest messages, which go in one frame if any does."""
+        """A message and its signals."""
         sender = message.senders[0] if message.senders else NOBODY
-        yield f"BO_ {message.identifier | EXTENDED} {message.name}: {self.places.integer(message.group + ('length',))} {sender}"
-        for part in self.parts_of(message.group):
-            spelled = self.spelled_text(message.group, part) if part.is_text else self.spelled_signal(part)
+        yield f"BO_ {message.identifier | EXTENDED} {message.name}: {message.length} {sender}"
+        for part in self.parts_in(message):
+            spelled = self.spelled_text(message, part) if part.is_text else self.spelled_signal(part)
             yield f" SG_ {part.name} : {spelled} {','.join(self.receivers(message, part)) or NOBODY}"
 
     def receivers(self, message: Message, part: Part) -> list[str]:
@@ -262,16 +274,15 @@ class Dbc:
         start, sign = 8 * (byte - 1) + self.number(place, "bit", 1) - 1, "-" if kind == "signed" else "+"
         return f"{start}|{bits}@1{sign} ({decimal(step, per)},{decimal(offset, per)}) [{least}|{greatest}] {in_quotes(scale.unit)}"
 
-    def bytes_in_shortest(self, group: Place, part: Part) -> int:
-        """How many bytes of a text the shortest messages of its group have."""
-        byte = self.places.integer(part.place + ("byte",))
-        there = self.places.integer(group + ("length",)) - byte + 1
+    def bytes_in(self, message: Message, part: Part) -> int:
+        """How many bytes of a text a message has."""
+        there = message.length - self.places.integer(part.place + ("byte",)) + 1
         return min(there, self.number(part.place, "bytes", there))
 
-    def spelled_text(self, group: Place, part: Part) -> str:
-        """Where a text lies in the shortest messages of its group."""
+    def spelled_text(self, message: Message, part: Part) -> str:
+        """Where a text lies in a message."""
         start = 8 * (self.places.integer(part.place + ("byte",)) - 1)
-        return f'{start}|{8 * self.bytes_in_shortest(group, part)}@1+ (1,0) [0|0] ""'
+        return f'{start}|{8 * self.bytes_in(message, part)}@1+ (1,0) [0|0] ""'
 
     def kind(self, part: Part) -> str:
         """The kind of a signal; none of a text."""
@@ -285,7 +296,7 @@ class Dbc:
             identifier = message.identifier | EXTENDED
             told = [one for one in message.told if one.comments] or [self.told(message.group)]
             yield from self.comment(f"BO_ {identifier}", told[0])
-            for part in self.parts_of(message.group):
+            for part in self.parts_in(message):
                 yield from self.comment(f"SG_ {identifier} {part.name}", part.told)
 
     def comment(self, what: str, told: dbc_remarks.Remark) -> Iterator[str]:
@@ -341,7 +352,7 @@ class Dbc:
                 if number := self.places.number(message.group + (key,)):
                     yield f'BA_ "{attribute}" {what} {number};'
             yield from (f'BA_ "{attribute}" {what} {number};' for attribute, number in self.times(message))
-            for part in self.parts_of(message.group):
+            for part in self.parts_in(message):
                 yield from self.part_attributes(message, part)
 
     def times(self, message: Message) -> Iterator[tuple[str, int]]:
@@ -372,7 +383,7 @@ class Dbc:
         if part.is_text:
             yield f'BA_ "{CONTENT_ATTRIBUTE}" {what} {CONTENTS.index(TEXT_CONTENT)};'
             count = self.number(part.place, "bytes", 0)
-            if count != self.bytes_in_shortest(message.group, part):
+            if count != self.bytes_in(message, part):
                 yield f'BA_ "{BYTES_ATTRIBUTE}" {what} {count};'
             return
         yield f'BA_ "{KIND_ATTRIBUTE}" {what} "{self.kind(part)}";'
@@ -399,7 +410,7 @@ class Dbc:
     def values(self) -> Iterator[str]:
         """The tables of values."""
         for message in self.messages.values():
-            for part in self.parts_of(message.group):
+            for part in self.parts_in(message):
                 if named_values := self.named_values(part):
                     named = " ".join(f"{raw} {in_quotes(name)}" for raw, name in sorted(named_values.items()))
                     yield f"VAL_ {message.identifier | EXTENDED} {part.name} {named} ;"

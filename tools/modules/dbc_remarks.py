@@ -14,7 +14,7 @@ from .plan_text import Labels
 # A text between quotation marks, in which these and backslashes stand behind a backslash.
 QUOTED = r'"((?:[^"\\]|\\.)*)"'
 ITEM = re.compile(
-    r"SPN (?P<spn>\d+)|(?P<ms>\d+) ms|sent (?P<sent>[^,;\"\s]+)|range (?P<least>[^\s,;]+?)\.\.(?P<greatest>[^\s,;]+)"
+    r"SPN (?P<spn>\d+)|(?P<ms>\d+) ms|(?P<bytes>\d+) bytes|sent (?P<sent>[^,;\"\s]+)|range (?P<least>[^\s,;]+?)\.\.(?P<greatest>[^\s,;]+)"
     r"|for (?P<receivers>\w+(?: \w+)*)|message (?P<message>[^,;\"\s]+)|to address (?P<address>\d+)"
     rf"|named {QUOTED.replace('(', '(?P<named>', 1)}|(?P<raw>-?\d+) = {QUOTED.replace('(', '(?P<value>', 1)}|{QUOTED.replace('(', '(?P<comment>', 1)}|(?P<name>[^,;\"]+)")
 SEPARATOR = re.compile(r"\s*[,;]\s*")
@@ -25,13 +25,14 @@ NONE = "nobody"
 
 @dataclass
 class Remark:
-    """What a comment says: names, the number of the parameter, by what and how often it is sent, in ms, its range, the labels of those that
-    receive it, names of messages, the destination that no unit has, names of raw numbers, and comments."""
+    """What a comment says: names, the number of the parameter, by what and how often it is sent, in ms, how many bytes its messages have,
+    its range, the labels of those that receive it, names of messages, the destination that no unit has, names of raw numbers, and comments."""
 
     names: list[str] = field(default_factory=list)
     spn: str = ""
     sent: str = ""
     cycle: str = ""
+    bytes: int | None = None
     range: tuple[str, str] | None = None
     receivers: list[str] | None = None
     messages: list[str] = field(default_factory=list)
@@ -72,6 +73,11 @@ def named_values(values: Iterable[tuple[int, str]]) -> list[str]:
     return [f"{raw} = {in_quotes(name)}" for raw, name in sorted(values)]
 
 
+def long(size: int) -> str:
+    """How many bytes a message has, as a remark."""
+    return f"{size} bytes"
+
+
 def received_by(labels: Iterable[str]) -> str:
     """Who receives something, as a remark."""
     return f"for {' '.join(labels) or NONE}"
@@ -87,6 +93,8 @@ def _take(found: re.Match[str], told: Remark) -> None:
     told.spn = part["spn"] or told.spn
     told.sent = part["sent"] or told.sent
     told.cycle = part["ms"] or told.cycle
+    if part["bytes"]:
+        told.bytes = max(int(part["bytes"]), told.bytes or 0)
     if part["least"]:
         told.range = part["least"], part["greatest"]
     if part["receivers"]:

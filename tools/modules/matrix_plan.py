@@ -13,7 +13,7 @@ from .dbc_names import (
     ADDRESS_ATTRIBUTE, ARBITRARY_ATTRIBUTE, EVERY_ATTRIBUTE, GROUP_ATTRIBUTE, IDENTITY_ATTRIBUTE, MOST_ATTRIBUTE, NAME_ATTRIBUTES, NOBODY,
     UNIT_ATTRIBUTE,
 )
-from .dbc_remarks import milliseconds, quoted, received_by, remark
+from .dbc_remarks import long, milliseconds, quoted, received_by, remark
 from .j1939 import GLOBAL_ADDRESS, NULL_ADDRESS, PROPRIETARY, SERVICES
 from .left_out import LeftOut, Notes, plain
 from .matrix_merge import Network, Node, Sent
@@ -124,6 +124,15 @@ def names_of_groups(frames: Iterable[canmatrix.Frame]) -> dict[int, str]:
     return {pgn: common_name(several) for pgn, several in names.items()}
 
 
+def lengths_of_groups(frames: Iterable[canmatrix.Frame]) -> dict[int, range]:
+    """The lengths of the frames of each number that is no maker's own one, from the least to the greatest."""
+    lengths: dict[int, set[int]] = defaultdict(set)
+    for frame in frames:
+        if frame.arbitration_id.extended and frame.arbitration_id.pgn not in PROPRIETARY and not frame.is_fd and 1 <= frame.size <= BYTES:
+            lengths[frame.arbitration_id.pgn].add(frame.size)
+    return {pgn: range(min(several), max(several) + 1) for pgn, several in lengths.items()}
+
+
 def attribute_in(frame: canmatrix.Frame, attribute: str, numbers: range) -> int | None:
     """The number of an attribute of a frame, if it is one of these."""
     number = number_of(frame.attributes.get(attribute))
@@ -180,6 +189,7 @@ class Plan:
         self.periods = PERIODS if knows(version, ("flow", "period")) else range(0)
         self.unit_labels, self.group_labels = Labels({"all"}), Labels()
         self.names: dict[int, str] = {}
+        self.lengths: dict[int, range] = {}
 
     def tables(self) -> Iterator[Table]:
         """The tables of the plan, in the order of its file."""
@@ -239,16 +249,23 @@ class Plan:
         pgn = frame.arbitration_id.pgn
         name, is_private = self.names.get(pgn) or called(frame), pgn in PROPRIETARY
         label = self.group_labels.label(name)
-        lengths = {"most": attribute_in(frame, MOST_ATTRIBUTE, range(frame.size, BYTES + 1)), "every": attribute_in(frame, EVERY_ATTRIBUTE, DISTANCES)}
-        told = {key: number for key, number in lengths.items() if number and knows(self.version, ("group", key))}
+        lengths = self.lengths_of(frame)
+        most = max(attribute_in(frame, MOST_ATTRIBUTE, range(frame.size, BYTES + 1)) or 0, lengths[-1])
+        keys = {"most": most if most > lengths[0] else None, "every": attribute_in(frame, EVERY_ATTRIBUTE, DISTANCES)}
+        told = {key: number for key, number in keys.items() if number and knows(self.version, ("group", key))}
         comment = quoted(frame.comment)
         table = Table("group", {
-            "label": label, "pgn": pgn, "priority": frame.arbitration_id.j1939_priority, "length": frame.size, "private": is_private, **told,
+            "label": label, "pgn": pgn, "priority": frame.arbitration_id.j1939_priority, "length": lengths[0], "private": is_private, **told,
         }, remark(name, label, comment))
-        signals = Signals(frame.size, self.notes, self.strict, self.version, is_private, "every" in told)
+        signals = Signals(lengths, self.notes, self.strict, self.version, is_private, "every" in told)
         group = Group(called(frame), table, signals, sent, comment)
         self.groups.append(group)
         return group
+
+    def lengths_of(self, frame: canmatrix.Frame) -> range:
+        """The lengths of the messages that a frame's group has: its own alone, unless the plan can say which signals only longer ones have."""
+        own_length = range(frame.size, frame.size + 1)
+        return self.lengths.get(frame.arbitration_id.pgn, own_length) if knows(self.version, ("signal", "optional")) else own_length
 
     def private_ones(self, frame: canmatrix.Frame, others: list[Group]) -> list[Group]:
         """Of the makers' own groups of a frame's number the one that the frame is of, if there is one already. It is told from
@@ -283,8 +300,8 @@ class Plan:
         priority, planned = frame.arbitration_id.j1939_priority, group.table.keys["priority"]
         if priority != planned:
             self.notes.say(what, f"its priority is {priority}, that of {made} is {planned}")
-        if frame.size != group.signals.length:
-            self.notes.say(what, f"its length is {frame.size}, that of {made} is {group.signals.length}")
+        if frame.size not in group.signals.lengths:
+            self.notes.say(what, f"its length is {frame.size}, that of {made} is {group.signals.lengths[0]}")
 
     def receivers_of(self, frame: canmatrix.Frame) -> list[str]:
         """Whom a frame is for: `all`, or labels of units."""
@@ -329,7 +346,7 @@ class Plan:
             elif sender != NOBODY:
                 self.notes.say(f"flow of {group.label} from {sender}", "the unit isn't in the plan")
         if not self.flows_of(frame):
-            group.table.remarks += remark("", "", *self.times_told(times, kept))
+            group.table.remarks += remark("", "", *self.times_told(times, kept), self.length_told(frame, group))
 
     def say_ends(self, frame: canmatrix.Frame, receivers: list[str]) -> None:
         """Says where a frame has another source or another destination in the plan than in its identifier."""
@@ -346,6 +363,11 @@ class Plan:
         cycle = times.cycle or times.period or 0
         return [f"sent {times.sent}" if times.sent else "", milliseconds(cycle) if cycle != period or times.sent else ""]
 
+    def length_told(self, frame: canmatrix.Frame, group: Group) -> str:
+        """How long a frame of a group of several lengths is, as a remark."""
+        lengths = group.signals.lengths
+        return long(frame.size) if len(lengths) > 1 and frame.size in lengths else ""
+
     def add_facts(self, flow: Flow, sent: Sent, group: Group, times: Times, period: int | None, contradicted: list[str]) -> None:
         """What is kept of a frame at a flow of it: its name, who receives it, where its destination is no unit's that, its times, its
         comment where it isn't the group's, and what of it is laid out otherwise."""
@@ -354,10 +376,10 @@ class Plan:
         if frame.name:
             flow.messages[plain(frame.name).replace(" ", "_")] = None
         flow.receivers |= dict.fromkeys(self.labels_of(name for signal in frame.signals for name in signal.receivers))
-        otherwise = [*(["its length"] if frame.size != group.signals.length else []), *contradicted]
+        otherwise = [*(["its length"] if frame.size not in group.signals.lengths else []), *contradicted]
         where = f" in {os.path.basename(sent.file)}" if sent.file else ""
         facts = [
-            "" if lost is None else f"to address {lost}", *self.times_told(times, period),
+            "" if lost is None else f"to address {lost}", *self.times_told(times, period), self.length_told(frame, group),
             comment if comment != group.comment else "",
             quoted(f"laid out otherwise{where}: {', '.join(otherwise)}") if otherwise else "",
         ]
@@ -408,7 +430,7 @@ class Plan:
 
     def add_frames(self, sent: list[Sent]) -> None:
         """The groups of the frames, their flows, and who needs them."""
-        self.names = names_of_groups(one.frame for one in sent)
+        self.names, self.lengths = names_of_groups(one.frame for one in sent), lengths_of_groups(one.frame for one in sent)
         for one in sent:
             self.notes.file = one.file
             try:

@@ -61,14 +61,13 @@ class Scale(NamedTuple):
 class Layout:
     """Where the signals of a group lie."""
 
-    def __init__(self, length: int) -> None:
-        self.length = length
+    def __init__(self) -> None:
         self.taken: list[tuple[int, int, str]] = []
 
-    def fault(self, start: int, size: int) -> str:
-        """What is wrong with a place, if anything is."""
-        if start + size > 8 * self.length:
-            return f"it lies outside of the {self.length} bytes"
+    def fault(self, start: int, size: int, length: int) -> str:
+        """What is wrong with a place in a message of so many bytes, if anything is."""
+        if start + size > 8 * length:
+            return f"it lies outside of the {length} bytes"
         other = next((label for first, end, label in self.taken if start < end and first < start + size), "")
         return f"it overlaps {other}" if other else ""
 
@@ -304,10 +303,10 @@ class Kept(NamedTuple):
 class Signals:
     """The signals and texts of a group in the making, of one message of it or of several."""
 
-    def __init__(self, length: int, notes: Notes, strict: bool, version: int, is_private: bool = False, has_records: bool = False) -> None:
-        self.length, self.notes, self.strict, self.version = length, notes, strict, version
+    def __init__(self, lengths: range, notes: Notes, strict: bool, version: int, is_private: bool = False, has_records: bool = False) -> None:
+        self.lengths, self.notes, self.strict, self.version = lengths, notes, strict, version
         self.is_private, self.has_records = is_private, has_records
-        self.labels, self.layout = Labels(), Layout(length)
+        self.labels, self.layout = Labels(), Layout()
         self.known: list[Known] = []
         self.signals: list[Kept] = []
         self.texts: list[Kept] = []
@@ -332,7 +331,7 @@ class Signals:
 
     def are_those_of(self, frame: canmatrix.Frame) -> bool:
         """Whether a message has the same length, and signals at the same places that mean the same."""
-        return self.length == frame.size and {known.said for known in self.known} == set(map(self.said_of, frame.signals))
+        return frame.size in self.lengths and {known.said for known in self.known} == set(map(self.said_of, frame.signals))
 
     def take(self, frame: canmatrix.Frame, message: str) -> list[str]:
         """Takes the signals of a message, which is called so: those that are there already, and new ones where no other one lies. Answers
@@ -377,9 +376,13 @@ class Signals:
         """Notes what isn't in the plan of a signal."""
         self.notes.say(f"signal {signal.name} of {frame.name}", why)
 
+    def length_of(self, frame: canmatrix.Frame) -> int:
+        """How many bytes of a message can have signals: its own, unless its length is none of the group's."""
+        return int(frame.size) if frame.size in self.lengths else self.lengths[-1]
+
     def check_place(self, signal: canmatrix.Signal, frame: canmatrix.Frame, start: int) -> None:
         """Leaves out a signal that lies outside or over an earlier one, unless it is to be kept."""
-        fault = self.layout.fault(start, signal.size)
+        fault = self.layout.fault(start, signal.size, self.length_of(frame))
         if fault and not self.strict:
             raise LeftOut(fault)
         if fault:
@@ -402,8 +405,10 @@ class Signals:
         if len(self.texts) == TEXTS:
             raise LeftOut(f"a group has at most {TEXTS} texts")
         byte, count = bytes_of(signal)
-        if byte + count - 1 > self.length:
+        if byte + count - 1 > self.length_of(frame):
             self.check_place(signal, frame, 8 * byte - 8)
+        if byte > self.lengths[0] + 1 and len(self.lengths) > 1:
+            raise LeftOut(f"it is text that begins behind the {self.lengths[0]} bytes of the shortest message")
         told = signal.attributes.get(BYTES_ATTRIBUTE)
         count = int(told) if told is not None and str(told).isdecimal() and int(told) <= BYTES else count
         return Table("group.text", {"label": self.label(signal), "byte": byte, **({"bytes": count} if count else {})})
@@ -425,6 +430,7 @@ class Signals:
             "label": label, "byte": start // 8 + 1, "bit": start % 8 + 1, "bits": signal.size, "kind": kind,
             "step": scale.step, "per": per, "offset": scale.offset, "unit": in_ascii(unit),
             "repeated": self.has_records and str(signal.attributes.get(REPEATED_ATTRIBUTE)) == "1",
+            "optional": len(self.lengths) > 1 and start + signal.size > 8 * self.lengths[0],
             **(self.names(signal, frame, kind) if knows(self.version, ("signal", "values")) else {}),
         })
 

@@ -132,7 +132,7 @@ class Groups(WithDbc):
     def test_groups(self):
         plan, _ = self.plan()
         shown = [(group["label"], group["pgn"], group["priority"], group["length"]) for group in plan["group"]]
-        self.assertEqual(shown, [("EEC1", 61444, 3, 8), ("ET1", 65262, 6, 8), ("TSC1", 0, 3, 8), ("ODD", 65220, 6, 8),
+        self.assertEqual(shown, [("EEC1", 61444, 3, 8), ("ET1", 65262, 6, 7), ("TSC1", 0, 3, 8), ("ODD", 65220, 6, 8),
                                  ("MAKER", 65296, 6, 8)])
         self.assertEqual([group["label"] for group in self.plan()[0]["group"] if group.get("private")], ["MAKER"])
         self.assertNotIn("MAKER", [group["label"] for group in self.plan("--version", "2")[0]["group"]])
@@ -152,10 +152,39 @@ class Groups(WithDbc):
             "signal WIDE of ODD: it has 40 bits, more than 32",
             "signal FALLING of ODD: factor -1 is no step of 1 to 1000000",
             "group CLAIM: PGN 60928 can't be planned",
-            "group ET1_OTHER: its length is 7, that of ET1 is 8",
             "group SHORT: its identifier has 11 bits",
         ]:
             self.assertIn(line, said)
+        self.assertIn("group ET1_OTHER: its length is 7, that of ET1 is 8", self.plan("--version", "3")[1])
+
+    def test_messages_of_several_lengths(self):
+        """They are of one group, of whose signals only the longer ones have the later ones; earlier versions can't say that."""
+        first, second, third = 'A : 0|16@1+ (1,0) [0|0] "" X', 'B : 16|8@1+ (1,0) [0|0] "" X', 'C : 24|16@1+ (1,0) [0|0] "" X'
+        outside = 'D : 40|8@1+ (1,0) [0|0] "" X'
+        data = NODES + (message(FROM_0, "EEC1", "ENGINE", first, second, outside, length=5)
+                        + message(FROM_15, "EEC1_B", "RETARDER", first, length=2)
+                        + message(0x0CF00417, "EEC1_C", "Vector__XXX", first, second, third, length=12))
+        plan, said = self.plan(data=data)
+        (group,) = plan["group"]
+        self.assertEqual((group["length"], group["most"]), (2, 12))
+        self.assertEqual([(signal["label"], signal.get("optional", False)) for signal in group["signal"]], [("A", False), ("B", True), ("C", True)])
+        self.assertEqual([line for line in said if "length" in line or " D " in line], ["signal D of EEC1: it lies outside of the 5 bytes"])
+        self.assertEqual(program.call(["check", self.path("plan.toml")]), (0, "ok 2 units 1 groups 2 flows\n"))
+        with open(self.path("plan.toml"), encoding="utf-8") as file:
+            self.assertIn("# message EEC1_B, 2 bytes", file.read())
+        (older,), said = self.plan("--version", "3", data=data)[0]["group"], self.plan("--version", "3", data=data)[1]
+        self.assertEqual((older["length"], older.get("most"), len(older["signal"])), (5, None, 3))
+        self.assertIn("group EEC1_B: its length is 2, that of EEC1 is 5", said)
+
+    def test_a_text_behind_the_shortest_message(self):
+        """A plan's text begins where the shortest messages end at the latest."""
+        told = 'BA_DEF_ SG_ "SigType" ENUM "Default","ASCII";\nBA_ "SigType" SG_ {} {} 1;\n'
+        for byte, is_kept in ((3, True), (4, False)):
+            text = f'T : {8 * byte - 8}|8@1+ (1,0) [0|0] "" X'
+            data = NODES + message(FROM_0, "EEC1", "ENGINE", text) + message(FROM_15, "EEC1_B", "RETARDER", length=2)
+            plan, said = self.plan(data=data + told.format(FROM_0 | 1 << 31, "T"))
+            self.assertEqual(len(plan["group"][0].get("text", [])), is_kept)
+            self.assertEqual("signal T of EEC1: it is text that begins behind the 2 bytes of the shortest message" in said, not is_kept)
 
     def test_no_destination_from_the_null_address(self):
         """Identifiers that stand for a group alone have the source 254, and at the destination's place what means nothing."""
@@ -257,13 +286,16 @@ class Signals(WithDbc):
         self.assertEqual((signals["SPN4154"]["kind"], signals["SPN4154"]["bit"]), ("raw", 5))
 
     def test_the_earlier_version(self):
-        """It has fractions in the units of measurement, and neither signed signals nor states; version 3 has no names of values."""
+        """It has fractions in the units of measurement, and neither signed signals nor states; version 3 has no names of values, and of
+        messages of several lengths the first one's."""
         plan, said = self.plan("--version", "2")
         signals = {signal["label"]: signal for group in plan["group"] for signal in group.get("signal", [])}
         newer, older = (self.plan("--version", version)[0] for version in ("4", "3"))
         self.assertEqual((plan["version"], older["version"], newer), (2, 3, self.plan()[0]))
         named = [signal for group in newer["group"] for signal in group.get("signal", []) if signal.pop("values", None)]
         self.assertEqual([signal["label"] for signal in named], ["SPN695", "SPN897"])
+        self.assertEqual([(group["label"], group["length"]) for group in older["group"] if group["label"] == "ET1"], [("ET1", 8)])
+        older["group"][1] |= {"length": 7, "most": 8}
         self.assertEqual([older[key] for key in ("unit", "group", "flow")], [newer[key] for key in ("unit", "group", "flow")])
         self.assertEqual(signals["SPN190"], {"label": "SPN190", "byte": 4, "bits": 16, "kind": "measured", "unit": "1/8 rpm"})
         self.assertEqual((signals["SPN175"]["offset"], signals["SPN175"]["unit"]), (-8736, "1/32 degC"))
@@ -276,7 +308,7 @@ class Signals(WithDbc):
         plan, said = self.plan()
         needs = [("RETARDER", "EEC1"), ("RETARDER", "ET1"), ("ENGINE", "TSC1"), ("RETARDER", "ODD"), ("RETARDER", "MAKER"), ("ENGINE", "EEC1")]
         self.assertEqual([(need.pop("unit"), need.pop("group"), need) for need in plan["need"]], [(*need, {}) for need in needs])
-        self.assertEqual(said[-1], "2 units 5 groups 7 flows 6 needs, notes 8")
+        self.assertEqual(said[-1], "2 units 5 groups 7 flows 6 needs, notes 7")
         for words in (("--no-needs",), ("--version", "3"), ("--version", "2")):
             less, said = self.plan(*words)
             self.assertEqual(("need" in less, "needs" in said[-1]), (False, False), words)
@@ -437,7 +469,7 @@ def field(name, start, size, is_text=True):
 class Texts(InFolder):
     def tables(self, frame, version):
         """The tables of a frame's signals."""
-        signals = PlannedSignals(frame.size, Notes(), False, version)
+        signals = PlannedSignals(range(frame.size, frame.size + 1), Notes(), False, version)
         signals.take(frame, frame.name)
         return signals.tables(lambda _: [])
 

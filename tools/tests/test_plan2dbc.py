@@ -372,7 +372,7 @@ to = "DISPLAY"
     def test_a_text_that_the_shortest_messages_have_nothing_of(self):
         text = text_of(example("identification.toml")).replace("length = 8\nmost = 201", "length = 1\nmost = 201")
         dbc, told = self.made(self.write("plan.toml", text))
-        self.assertIn("text SPN234 of SOFT: the group's shortest messages have nothing of it\n", told)
+        self.assertIn("text SPN234 of SOFT: the group's messages end with byte 1\n", told)
         self.assertNotIn("SPN234", text_of(dbc))
 
     def test_optional_signals(self):
@@ -381,9 +381,26 @@ to = "DISPLAY"
         added = "".join(f'[[group.signal]]\nlabel = "{label}"\nbyte = {byte}\nbits = 8\nkind = "raw"\noptional = true\n'
                         for label, byte in (("INSIDE", 7), ("OUTSIDE", 1700)))
         dbc, told = self.made(self.write("plan.toml", text.replace("[[group.signal]]", added + "[[group.signal]]", 1)))
-        self.assertIn("signal OUTSIDE of DM1: the group's shortest messages don't have it\n", told)
+        self.assertIn("signal OUTSIDE of DM1: the group's messages end with byte 8\n", told)
         self.assertIn(" SG_ INSIDE : 48|8@1+ ", text_of(dbc))
         self.assertNotIn("OUTSIDE", text_of(dbc))
+
+    @needs("canmatrix", "python3-canmatrix")
+    def test_messages_of_several_lengths(self):
+        """Each is as long as is said beside its flow, has the signals inside, and comes back so; one of no such length is the shortest."""
+        import_canmatrix()
+        import canmatrix.formats
+        for told_length, length in ((34, 34), (30, 30), (29, 29), (28, 28), (27, 28), (40, 40), (41, 28)):
+            plan = self.write("plan.toml", text_of(example("engine_configuration.toml")).replace("# 34 bytes", f"# {told_length} bytes"))
+            dbc, said = self.made(plan)
+            frames = {frame.arbitration_id.j1939_source: frame for frame in canmatrix.formats.loadp_flat(dbc).frames}
+            signals = 3 + (length >= 30) + (length >= 32)
+            self.assertEqual({source: (frame.size, len(frame.signals)) for source, frame in frames.items()}, {0: (length, signals), 1: (28, 3)})
+            self.assertEqual(said.splitlines()[-1], f"2 nodes 2 messages, notes {5 - signals}")
+            if length == 34:
+                _, back, _ = run("dbc2plan.py", dbc)
+                made, wanted = tomllib.loads(back), tomllib.loads(text_of(plan))
+                self.assertEqual((made["group"][0].pop("most"), wanted["group"][0].pop("most"), made), (40, 40, wanted))
 
     def test_a_group_of_several_lengths(self):
         """Its message has the least one, so that others decode what goes in one frame; its first record is an ordinary signal."""
