@@ -54,6 +54,11 @@ const CHECK: [&str; 30] = [
     "F27", "", "refused",
 ];
 
+// Those of show.
+const SHOW: [&str; 8] = [
+    "top", "timing", "unit", "group", "flow", "need", "request", "refused",
+];
+
 // Those of addresses, where it doesn't answer as check does.
 const ADDRESSES: [&str; 2] = ["unit", "stay"];
 
@@ -114,6 +119,7 @@ fn is_line_of(command: Command, line: &str) -> bool {
     match command {
         Command::Frame => FRAME.contains(&first),
         Command::Check => CHECK.contains(&first),
+        Command::Show => SHOW.contains(&first),
         Command::Addresses => ADDRESSES.contains(&first) || CHECK.contains(&first),
         Command::Load => LOAD.contains(&first) || CHECK.contains(&first),
         Command::Run => RUN.contains(&first) || first.contains('#'),

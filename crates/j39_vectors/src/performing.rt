@@ -2,7 +2,7 @@
 use crate::Command;
 use j39_app::{
     Fault, Sink, Source, Verdict, addresses_text, check_text, input_text, plan_text, read_text,
-    run_planned, timing_text,
+    run_planned, show_text, timing_text,
 };
 use std::alloc::Global;
 
@@ -17,6 +17,7 @@ pub fn perform<P: Source, S: Source, W: Sink>(
     match command {
         Command::Frame => return input_text(alloc, input, sink),
         Command::Check => return check_text(alloc, plan, sink),
+        Command::Show => return show_text(alloc, plan, sink),
         Command::Addresses => return addresses_text(alloc, plan, sink),
         Command::Load => return timing_text(alloc, plan, sink),
         Command::Run | Command::Read => {}

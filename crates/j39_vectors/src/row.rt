@@ -8,6 +8,8 @@ pub enum Command {
     Frame,
     /// The plan's check.
     Check,
+    /// The plan's values.
+    Show,
     /// Which units of the plan stay.
     Addresses,
     /// The plan's load and delays.

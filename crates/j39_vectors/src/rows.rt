@@ -180,6 +180,33 @@ findings 1
     verdict: Verdict::Findings,
 };
 
+const VALUES_OF_A_PLAN: Row = Row {
+    name: "the values of a plan",
+    command: Command::Show,
+    plan: TEMPERATURE,
+    input: "",
+    text: "top strangers 0
+group 1 label ET1
+group 1 pgn 65262
+group 1 priority 6
+group 1 length 8
+group 1 private false
+group 1 most 8
+group 1 signal 1 label SPN110
+group 1 signal 1 byte 1
+group 1 signal 1 bit 1
+group 1 signal 1 bits 8
+group 1 signal 1 kind measured
+group 1 signal 1 step 1
+group 1 signal 1 per 1
+group 1 signal 1 offset -40
+group 1 signal 1 unit degC
+group 1 signal 1 repeated false
+group 1 signal 1 optional false
+",
+    verdict: Verdict::Done,
+};
+
 const ADDRESSES_OF_A_CONTEST: Row = Row {
     name: "two units that may choose, at one address",
     command: Command::Addresses,
@@ -357,11 +384,12 @@ frames 4 skipped 0 bad 0
 };
 
 /// Each row.
-pub const ROWS: [Row; 14] = [
+pub const ROWS: [Row; 15] = [
     FRAME,
     CHECK_OF_NOTHING,
     CHECK_OF_A_PLAN,
     CHECK_OF_A_FINDING,
+    VALUES_OF_A_PLAN,
     ADDRESSES_OF_A_CONTEST,
     LOAD_OF_A_LATE_FLOW,
     LOAD_OF_AN_OLD_NEED,
