@@ -1,5 +1,5 @@
 -- A bus whose units keep no order keeps to the premises of its companies; so frames are in time there for which the wait that is told has room.
-use Rattle.std.proofs.Common.{◌≡◌, ℕ, zero, suc, ◌+◌, ◌*◌, ◌-◌, ◌^◌, ◌<◌, ◌≤◌, ◌⊎◌, Bool, true, false, not, cond, ◌&&◌, ◌||◌, eqb, ltb, if◌then◌else◌, List, [], ◌∷◌, ◌++◌, length, get_or, map, min, All, IfSome, unwrap_or, is_some, Option, Some, None, refl, sym, ap, ◌∙◌, subst, inl, inr, option_map, arith}
+use Rattle.std.proofs.Common.{◌≡◌, ℕ, zero, suc, ◌+◌, ◌*◌, ◌-◌, ◌^◌, ◌<◌, ◌≤◌, ◌⊎◌, Bool, true, false, not, cond, ◌&&◌, ◌||◌, eqb, ltb, if◌then◌else◌, List, [], ◌∷◌, ◌++◌, length, get_or, min, All, IfSome, unwrap_or, is_some, Option, Some, None, refl, sym, ap, ◌∙◌, subst, inl, inr, option_map, arith}
 use Rattle.std.proofs.lemmas.Bool.{and_parts, cases_Bool, cases_lt, eq-eqb, eqb-true, false≢true, lt-ltb, ltb-true, or_cases, or_left, or_right, true≢false}
 use Rattle.std.proofs.lemmas.Bool.Decides.{eqb_tells}
 use Rattle.std.proofs.lemmas.List.{get_or-append-add, get_or_append_left, get_or_past}
@@ -12,7 +12,7 @@ use Rattle.j39_id.specs.Limits.{unit_limit}
 use Rattle.j39_findings.specs.declared.plan.timing.Timing.{Timing}
 use Rattle.j39_load.specs.declared.flow_frames.FlowFrames.{FlowFrames}
 use Rattle.j39_load.specs.Ages.{least, smaller_known}
-use Rattle.j39_load.specs.AnyQueues.{AreAtMost, IsCompanyLevel, IsCompanyWait, IsHeldFor, IsOffer, Offer, TellWaits, are_of_unit, held_at, is_member, is_of_company, keep_order, later_frames, least_of, leasts_of, may_be_passed, offered, own_least, unheld, unheld_at, with_unplanned}
+use Rattle.j39_load.specs.AnyQueues.{AreAtMost, IsCompanyLevel, IsCompanyWait, IsHeldFor, IsOffer, Offer, TellWaits, are_of_unit, held_at, is_member, is_of_company, keep_order, later_frames, least_of, leasts_of, may_be_passed, offered, own_least, unheld_at, with_unplanned}
 use Rattle.j39_load.specs.Damage.{damage_frames}
 use Rattle.j39_load.specs.Delays.{need_of}
 use Rattle.j39_load.specs.Places.{told_from}
@@ -23,14 +23,14 @@ use Rattle.j39_load.proofs.Offering.{offered_read, one_each}
 use Rattle.j39_load.proofs.PositivePeriods.{HasPeriod}
 use Rattle.j39_load.proofs.Sending.{IsSent}
 use Rattle.j39_load.proofs.StreamsBefore.{all_before, get_or_inside, taken, with_damage}
-use Rattle.j39_timing.specs.AnyOrder.{AreBegunWithin, Controllers, HaveWaits, IsLegalInAnyOrder, IsOrdered, IsOrderedStream, IsUnordered, later_by, offered_traffic}
+use Rattle.j39_timing.specs.AnyOrder.{AreBegunWithin, Controllers, HaveWaits, IsLegalInAnyOrder, IsOrderedStream, IsUnordered, later_by, offered_traffic}
 use Rattle.j39_timing.specs.Companies.{Company, IsTrafficOfCompany, is_with_company}
 use Rattle.j39_timing.specs.FrameBits.{longest_frame}
 use Rattle.j39_timing.specs.Messages.{AreSentWithin}
 use Rattle.j39_timing.specs.Schedule.{Schedule}
 use Rattle.j39_timing.specs.Streams.{Origins}
 use Rattle.j39_timing.specs.Sums.{total}
-use Rattle.j39_timing.specs.Traffic.{AreQueuedBehind, AreSteady, HasRoom, IsSingle, IsStreamInTime, delay_of, may_go_before, others_before}
+use Rattle.j39_timing.specs.Traffic.{AreQueuedBehind, AreSteady, HasRoom, IsSingle, IsStreamInTime, delay_of, others_before}
 use Rattle.j39_timing.specs.Waits.{share}
 use Rattle.j39_timing.proofs.CompanyTraffic.{begun_within, company_in_time, company_sent}
 use Rattle.j39_timing.proofs.Offered.{ordered_behind, ordered_in_time}

@@ -1,8 +1,7 @@
 -- A wait that has room for the streams of a company has room for the traffic of it.
-use Rattle.std.proofs.Common.{◌≡◌, ℕ, zero, suc, ◌+◌, ◌*◌, ◌-◌, ◌<◌, ◌≤◌, Bool, true, false, not, cond, ◌&&◌, ◌||◌, eqb, ltb, if◌then◌else◌, List, [], ◌∷◌, ◌++◌, length, take, get_or, map, sum_by, unwrap_or, Option, Some, None, refl, sym, ap, ◌∙◌, subst, arith}
-use Rattle.std.proofs.lemmas.List.{get_or_append_left, get_or_past, take_all}
+use Rattle.std.proofs.Common.{◌≡◌, ℕ, zero, suc, ◌+◌, ◌*◌, ◌<◌, ◌≤◌, Bool, true, false, cond, ◌||◌, ltb, if◌then◌else◌, List, [], ◌∷◌, ◌++◌, length, take, get_or, map, sum_by, Option, Some, None, refl, sym, ap, ◌∙◌, subst, arith}
+use Rattle.std.proofs.lemmas.List.{take_all}
 use Rattle.std.proofs.lemmas.List.Sums.{sum_by-append, sum_by-cons}
-use Rattle.std.proofs.lemmas.Option.{none-some}
 use Rattle.std.specs.List.{cons_option, filter_map}
 use Rattle.j39_findings.specs.declared.plan.timing.Timing.{Timing}
 use Rattle.j39_load.specs.declared.flow_frames.FlowFrames.{FlowFrames}
@@ -12,7 +11,7 @@ use Rattle.j39_load.specs.Places.{told_from}
 use Rattle.j39_load.specs.PlannedFrames.{company_of, no_frames, planned_at, traffic_of}
 use Rattle.j39_load.proofs.Before.{more}
 use Rattle.j39_load.proofs.StreamsBefore.{told_of_two}
-use Rattle.j39_timing.specs.Companies.{HasRoomInCompany, may_go_with}
+use Rattle.j39_timing.specs.Companies.{HasRoomInCompany}
 use Rattle.j39_timing.specs.FrameBits.{longest_frame}
 use Rattle.j39_timing.specs.Sums.{total}
 use Rattle.j39_timing.specs.Waits.{need, share}

@@ -1,5 +1,5 @@
 -- What holds of all frames that a plan asks for, where it holds of those of each kind.
-use Rattle.std.proofs.Common.{◌≡◌, ℕ, Bool, true, false, not, ◌&&◌, eqb, if◌then◌else◌, List, [], ◌∷◌, ◌++◌, length, get_or, map, All, Option, Some, None, IfSome, option_map, refl, arith}
+use Rattle.std.proofs.Common.{◌≡◌, ℕ, Bool, true, false, not, ◌&&◌, if◌then◌else◌, List, [], ◌∷◌, ◌++◌, length, get_or, map, All, Option, Some, None, IfSome, option_map, refl, arith}
 use Rattle.std.proofs.lemmas.List.Elements.{All-append, All-map}
 use Rattle.std.specs.List.{range_with_len, slice_get}
 use Rattle.j39_id.specs.Services.{connection_management, data_transfer}

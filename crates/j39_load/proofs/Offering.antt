@@ -7,7 +7,7 @@ use Rattle.std.proofs.lemmas.List.{get_or_append_left}
 use Rattle.std.specs.Prelude.{IfOk}
 use Rattle.j39_findings.specs.declared.plan.timing.Timing.{Timing}
 use Rattle.j39_load.specs.declared.flow_frames.FlowFrames.{FlowFrames}
-use Rattle.j39_load.specs.AnyQueues.{IsCompanyWait, IsHeldFor, held_at, keep_order, later_frames, leasts_of, offered, offered_at}
+use Rattle.j39_load.specs.AnyQueues.{IsCompanyWait, IsHeldFor, held_at, keep_order, later_frames, leasts_of, offered}
 use Rattle.j39_load.specs.Places.{told_from}
 
 -- what holds of the first so many, and of one more

@@ -1,5 +1,5 @@
 -- What is known of frames that are offered for good, so that waits can be computed from them.
-use Rattle.std.specs.Prelude.{ℕ, ◌^◌, ◌<◌, ◌≤◌, List, length, All, Option}
+use Rattle.std.specs.Prelude.{ℕ, ◌^◌, ◌<◌, ◌≤◌, length, All, Option}
 use Rattle.std.specs.Option.{ForSome}
 use Rattle.j39_load.specs.declared.offers.Offers.{Offers}
 use Rattle.j39_load.specs.AnyQueues.{Offer}

@@ -1,4 +1,4 @@
-use Rattle.std.proofs.Common.{◌≤◌, List, Option, All, get_or, take, None, subst, arith}
+use Rattle.std.proofs.Common.{List, Option, All, take, None, subst, arith}
 use Rattle.std.proofs.lemmas.List.{take_all}
 use Rattle.std.proofs.lemmas.List.Elements.{All-get_or, All-more}
 use Rattle.j39_load.specs.AnyQueues.{AreAtMost}

@@ -1,4 +1,4 @@
-use Rattle.std.proofs.Common.{◌++◌, ℕ, List, take, get_or, Option, None, sym, ap, ◌∙◌}
+use Rattle.std.proofs.Common.{ℕ, List, take, get_or, Option, None, sym, ap, ◌∙◌}
 use Rattle.j39_load.specs.Ages.{least, smaller_known}
 use Rattle.j39_load.specs.AnyQueues.{unheld_at}
 use Rattle.j39_load.specs.Places.{told_from}
