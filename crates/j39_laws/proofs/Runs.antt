@@ -3,4 +3,5 @@ pub mod Conditions
 pub mod Changed
 pub mod Units
 pub mod Elements
+pub mod ReceiverRows
 pub mod ClaimInvariants

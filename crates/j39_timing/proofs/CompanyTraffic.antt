@@ -6,7 +6,8 @@ use Rattle.std.proofs.lemmas.Bool.{and_parts, and_from, cases_lt, cases_eq, case
 use Rattle.std.proofs.lemmas.Grind.{div_ceil_times}
 use Rattle.j39_timing.specs.Sums.{total}
 use Rattle.j39_timing.specs.Schedule.{Schedule, Waits, demand}
-use Rattle.j39_timing.specs.Streams.{Streams, Origins, AreOfStreams}
+use Rattle.j39_timing.specs.declared.stream.Stream.{Stream}
+use Rattle.j39_timing.specs.Streams.{Origins, AreOfStreams}
 use Rattle.j39_timing.specs.Traffic.{Traffic, IsQueuedAt, IsStreamInTime}
 use Rattle.j39_timing.specs.Waits.{share}
 use Rattle.j39_timing.specs.AnyOrder.{AreBegunWithin, Controllers, IsLegalInAnyOrder}
@@ -67,29 +68,31 @@ module _ (s : Schedule) (controllers : Controllers) (traffic : Traffic) (unplann
     | inr isnt ↦ absurd (let none : 1 < 1 = subst (λ (b : Bool). cond b 0 1 < 1) isnt less in omega arith)
   ]
 
-  abbrev before : Streams
-  before = record {
-    count = traffic.count;
-    frames = λ j. cond (may_go_with traffic company j) (traffic.stream j).frames 0;
-    period = λ j. (traffic.stream j).period;
-    bits = λ j. (traffic.stream j).bits;
-    late = λ j. (traffic.stream j).late;
+  abbrev before : ℕ → Stream
+  before j = record {
+    frames = cond (may_go_with traffic company j) (traffic.stream j).frames 0;
+    period = (traffic.stream j).period;
+    bits = (traffic.stream j).bits;
+    late = (traffic.stream j).late;
   }
 
   abbrev slots : ℕ → ℕ
   slots j = div_ceil (wait + 1 + (traffic.stream j).late) (traffic.stream j).period
 
-  of_streams : AreOfStreams company_only 1 before of
+  of_streams : AreOfStreams company_only (λ p. company_only.ident p < 1) traffic.count before of
   of_streams = record {
-    known = λ p in_p less. known.known p in_p (its_parts p less).0;
-    bits_at_most = λ p in_p less. omega arith;
-    turns = λ p in_p less.
+    keeps = λ p in_p less.
         let (is, with_company) = its_parts p less in
-        subst (λ (b : Bool). of.turn p < cond b (traffic.stream (of.source p)).frames 0) (sym (goes p in_p is with_company)) (known.turns p in_p is);
-    moment_first = λ p in_p less. known.moment_first p in_p (its_parts p less).0;
-    late_at_most = λ p in_p less. known.late_at_most p in_p (its_parts p less).0;
+        let keeps = known.of_streams.keeps p in_p is in
+        record {
+          known = keeps.known;
+          bits_at_most = omega arith;
+          turns = subst (λ (b : Bool). of.turn p < cond b (traffic.stream (of.source p)).frames 0) (sym (goes p in_p is with_company)) keeps.turns;
+          moment_first = keeps.moment_first;
+          late_at_most = keeps.late_at_most;
+        };
     spaced = λ p q in_p in_q differ less_p less_q same turn.
-        known.spaced p q in_p in_q differ (its_parts p less_p).0 (its_parts q less_q).0 same turn;
+        known.of_streams.spaced p q in_p in_q differ (its_parts p less_p).0 (its_parts q less_q).0 same turn;
   }
 
   abbrev shares : ℕ
@@ -99,10 +102,10 @@ module _ (s : Schedule) (controllers : Controllers) (traffic : Traffic) (unplann
   window t =
       let cover : (j : ℕ) → j < traffic.count → wait + 1 + (traffic.stream j).late ≤ slots j * (traffic.stream j).period = λ j below.
       (div_ceil_times (wait + 1 + (traffic.stream j).late) (traffic.stream j).period (positive j below)).0 in
-      let most : demand company_only 1 t (wait + 1) ≤ total traffic.count (λ j. before.frames j * (slots j * before.bits j)) =
-      all_streams company_only 1 before of of_streams t (wait + 1) slots cover in
-      let same : total traffic.count (λ j. before.frames j * (slots j * before.bits j)) ≤ shares =
-      total-le traffic.count (λ j. before.frames j * (slots j * before.bits j))
+      let most : demand company_only 1 t (wait + 1) ≤ total traffic.count (λ j. (before j).frames * (slots j * (before j).bits)) =
+      all_streams company_only 1 traffic.count before of of_streams t (wait + 1) slots cover in
+      let same : total traffic.count (λ j. (before j).frames * (slots j * (before j).bits)) ≤ shares =
+      total-le traffic.count (λ j. (before j).frames * (slots j * (before j).bits))
       (λ j. cond (may_go_with traffic company j) (share (wait + 1) (traffic.stream j)) 0) (λ j below.
       elim (may_go_with traffic company j)
       as (λ e. cond e (traffic.stream j).frames 0 * (slots j * (traffic.stream j).bits) ≤ cond e (share (wait + 1) (traffic.stream j)) 0) [
@@ -278,7 +281,7 @@ module _ (s : Schedule) (controllers : Controllers) (traffic : Traffic) (unplann
                   let one = and_parts (planned p) (first p && is_within s begin (suc k * (wait + 1)) p) is in
                   let two = and_parts (first p) (is_within s begin (suc k * (wait + 1)) p) one.1 in
                   let there = counts_in begin (suc k * (wait + 1)) p one.0 (first_with p one.0 (inl two.0)) two.1 in
-                  let bits : s.bits p ≤ (traffic.stream (of.source p)).bits = known.bits_at_most p in_p one.0 in
+                  let bits : s.bits p ≤ (traffic.stream (of.source p)).bits = (known.of_streams.keeps p in_p one.0).bits_at_most in
                   rw (is, there) bits
             ]) in
             omega (arith, theirs, less)
@@ -321,13 +324,13 @@ module _ (s : Schedule) (controllers : Controllers) (traffic : Traffic) (unplann
   pub company_in_time : IsStreamInTime s planned of i (traffic.stream i) wait
   company_in_time p in_p is source seen =
       let late : s.queued p ≤ of.since p + (traffic.stream i).late =
-      subst (λ j. s.queued p ≤ of.since p + (traffic.stream j).late) source (known.late_at_most p in_p is) in
+      subst (λ j. s.queued p ≤ of.since p + (traffic.stream j).late) source (known.of_streams.keeps p in_p is).late_at_most in
       let begins : s.start p ≤ s.queued p + wait = begun_within p in_p is source (omega arith) in
-      let most : s.bits p ≤ (traffic.stream i).bits = subst (λ j. s.bits p ≤ (traffic.stream j).bits) source (known.bits_at_most p in_p is) in
+      let most : s.bits p ≤ (traffic.stream i).bits = subst (λ j. s.bits p ≤ (traffic.stream j).bits) source (known.of_streams.keeps p in_p is).bits_at_most in
       (begins, omega arith)
 
   pub company_sent : AreSentWithin s planned of i (traffic.stream i) wait
   company_sent p in_p is source seen =
       let begins : s.start p ≤ s.queued p + wait = begun_within p in_p is source seen in
-      let most : s.bits p ≤ (traffic.stream i).bits = subst (λ j. s.bits p ≤ (traffic.stream j).bits) source (known.bits_at_most p in_p is) in
+      let most : s.bits p ≤ (traffic.stream i).bits = subst (λ j. s.bits p ≤ (traffic.stream j).bits) source (known.of_streams.keeps p in_p is).bits_at_most in
       omega arith

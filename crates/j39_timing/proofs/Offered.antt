@@ -173,7 +173,7 @@ module _ (s : Schedule) (controllers : Controllers) (legal : IsLegalInAnyOrder s
 
     offered_at_most : (p : ℕ) → p < s.count → planned p ≡ true → offered_from s p s.count ≤ of.since p + ((traffic.stream (of.source p)).late + more (of.source p))
     offered_at_most p in_p is =
-        let late : s.queued p ≤ of.since p + (traffic.stream (of.source p)).late = known.late_at_most p in_p is in
+        let late : s.queued p ≤ of.since p + (traffic.stream (of.source p)).late = (known.of_streams.keeps p in_p is).late_at_most in
         elim (cases_Bool (controllers.keeps_order (controllers.unit p))) [
           | inl keeps ↦ let same : offered_from s p s.count ≡ s.queued p = ordered_as_ready p in_p keeps in omega (arith, late, same)
           | inr loses ↦ elim (cases_Bool (may_go_before traffic i (of.source p))) [
@@ -194,15 +194,19 @@ module _ (s : Schedule) (controllers : Controllers) (legal : IsLegalInAnyOrder s
     later_known : IsPlannedTraffic (as_offered s) later others longest planned of i
     later_known = record {
       longest_at_most = known.longest_at_most;
-      known = known.known;
-      bits_at_most = known.bits_at_most;
-      turns = known.turns;
-      moment_first = λ p in_p is.
-          let first : of.since p ≤ s.queued p = known.moment_first p in_p is in
-          let late : s.queued p ≤ offered_from s p s.count = offered_late s p s.count in
-          omega (arith, first, late);
-      late_at_most = offered_at_most;
-      spaced = known.spaced;
+      of_streams = record {
+        keeps = λ p in_p is.
+            let keeps = known.of_streams.keeps p in_p is in
+            let late : s.queued p ≤ offered_from s p s.count = offered_late s p s.count in
+            record {
+              known = keeps.known;
+              bits_at_most = keeps.bits_at_most;
+              turns = keeps.turns;
+              moment_first = let first : of.since p ≤ s.queued p = keeps.moment_first in omega (arith, first, late);
+              late_at_most = offered_at_most p in_p is;
+            };
+        spaced = known.of_streams.spaced;
+      };
       from_least = known.from_least;
       to_greatest = known.to_greatest;
       own_identifier = λ p q t in_p in_q seen is source at_p at_q same.

@@ -6,7 +6,8 @@ use Rattle.std.proofs.lemmas.Bool.{and_parts, and_from, cases_lt, cases_Bool, le
 use Rattle.std.proofs.lemmas.Grind.{div_ceil_times}
 use Rattle.j39_timing.specs.Sums.{total}
 use Rattle.j39_timing.specs.Schedule.{Schedule, IsLegal, demand}
-use Rattle.j39_timing.specs.Streams.{Streams, Origins, AreOfStreams}
+use Rattle.j39_timing.specs.declared.stream.Stream.{Stream}
+use Rattle.j39_timing.specs.Streams.{Origins, AreOfStreams}
 use Rattle.j39_timing.specs.Traffic.{Traffic, Others, IsPlannedTraffic, IsSingle, HasRoom, IsStreamInTime, PlannedFramesWait, AreQueuedBehind, AreSteady, delay_of}
 use Rattle.j39_timing.specs.Traffic.{may_go_before, others_before, others_queued, is_other_queued}
 use Rattle.j39_timing.specs.Messages.{AreSentWithin}
@@ -129,29 +130,31 @@ module _ (s : Schedule) (traffic : Traffic) (others : Others) (longest : ℕ) (p
         ])
         (lt-ltb (traffic.least (of.source p)) (traffic.greatest i) (omega arith))
 
-    abbrev before : Streams
-    before = record {
-      count = traffic.count;
-      frames = λ j. cond (may_go_before traffic i j) (traffic.stream j).frames 0;
-      period = λ j. (traffic.stream j).period;
-      bits = λ j. (traffic.stream j).bits;
-      late = λ j. (traffic.stream j).late;
+    abbrev before : ℕ → Stream
+    before j = record {
+      frames = cond (may_go_before traffic i j) (traffic.stream j).frames 0;
+      period = (traffic.stream j).period;
+      bits = (traffic.stream j).bits;
+      late = (traffic.stream j).late;
     }
 
     abbrev slots : ℕ → ℕ
     slots j = div_ceil (wait + 1 + (traffic.stream j).late) (traffic.stream j).period
 
-    of_streams : AreOfStreams others_only c before of
+    of_streams : AreOfStreams others_only (λ p. others_only.ident p < c) traffic.count before of
     of_streams = record {
-      known = λ p in_p less. known.known p in_p (foreign_parts p less).0;
-      bits_at_most = λ p in_p less. known.bits_at_most p in_p (foreign_parts p less).0;
-      turns = λ p in_p less.
+      keeps = λ p in_p less.
           let (is, differ, below) = foreign_parts p less in
-          subst (λ (b : Bool). of.turn p < cond b (traffic.stream (of.source p)).frames 0) (sym (goes p in_p is differ below)) (known.turns p in_p is);
-      moment_first = λ p in_p less. known.moment_first p in_p (foreign_parts p less).0;
-      late_at_most = λ p in_p less. known.late_at_most p in_p (foreign_parts p less).0;
+          let keeps = known.of_streams.keeps p in_p is in
+          record {
+            known = keeps.known;
+            bits_at_most = keeps.bits_at_most;
+            turns = subst (λ (b : Bool). of.turn p < cond b (traffic.stream (of.source p)).frames 0) (sym (goes p in_p is differ below)) keeps.turns;
+            moment_first = keeps.moment_first;
+            late_at_most = keeps.late_at_most;
+          };
       spaced = λ p q in_p in_q differ less_p less_q same turn.
-          known.spaced p q in_p in_q differ (foreign_parts p less_p).0 (foreign_parts q less_q).0 same turn;
+          known.of_streams.spaced p q in_p in_q differ (foreign_parts p less_p).0 (foreign_parts q less_q).0 same turn;
     }
 
     abbrev shares : ℕ
@@ -161,10 +164,10 @@ module _ (s : Schedule) (traffic : Traffic) (others : Others) (longest : ℕ) (p
     window t =
         let cover : (j : ℕ) → j < traffic.count → wait + 1 + (traffic.stream j).late ≤ slots j * (traffic.stream j).period = λ j below.
         (div_ceil_times (wait + 1 + (traffic.stream j).late) (traffic.stream j).period (positive j below)).0 in
-        let most : demand others_only c t (wait + 1) ≤ total traffic.count (λ j. before.frames j * (slots j * before.bits j)) =
-        all_streams others_only c before of of_streams t (wait + 1) slots cover in
-        let same : total traffic.count (λ j. before.frames j * (slots j * before.bits j)) ≤ shares =
-        total-le traffic.count (λ j. before.frames j * (slots j * before.bits j))
+        let most : demand others_only c t (wait + 1) ≤ total traffic.count (λ j. (before j).frames * (slots j * (before j).bits)) =
+        all_streams others_only c traffic.count before of of_streams t (wait + 1) slots cover in
+        let same : total traffic.count (λ j. (before j).frames * (slots j * (before j).bits)) ≤ shares =
+        total-le traffic.count (λ j. (before j).frames * (slots j * (before j).bits))
         (λ j. cond (may_go_before traffic i j) (share (wait + 1) (traffic.stream j)) 0) (λ j below.
         elim (may_go_before traffic i j)
         as (λ e. cond e (traffic.stream j).frames 0 * (slots j * (traffic.stream j).bits) ≤ cond e (share (wait + 1) (traffic.stream j)) 0) [
@@ -218,16 +221,16 @@ module _ (s : Schedule) (traffic : Traffic) (others : Others) (longest : ℕ) (p
     apart p q in_p in_q differ is_p is_q =
         let (planned_p, of_p) = own_parts p is_p in
         let (planned_q, of_q) = own_parts q is_q in
-        let first_p : of.turn p < 1 = subst (λ n. of.turn p < n) (ap (λ j. (traffic.stream j).frames) of_p ∙ single) (known.turns p in_p planned_p) in
-        let first_q : of.turn q < 1 = subst (λ n. of.turn q < n) (ap (λ j. (traffic.stream j).frames) of_q ∙ single) (known.turns q in_q planned_q) in
-        let since_p : of.since p ≤ s.queued p = known.moment_first p in_p planned_p in
-        let since_q : of.since q ≤ s.queued q = known.moment_first q in_q planned_q in
+        let first_p : of.turn p < 1 = subst (λ n. of.turn p < n) (ap (λ j. (traffic.stream j).frames) of_p ∙ single) (known.of_streams.keeps p in_p planned_p).turns in
+        let first_q : of.turn q < 1 = subst (λ n. of.turn q < n) (ap (λ j. (traffic.stream j).frames) of_q ∙ single) (known.of_streams.keeps q in_q planned_q).turns in
+        let since_p : of.since p ≤ s.queued p = (known.of_streams.keeps p in_p planned_p).moment_first in
+        let since_q : of.since q ≤ s.queued q = (known.of_streams.keeps q in_q planned_q).moment_first in
         let at_p : s.queued p ≤ of.since p + (traffic.stream i).late =
-        subst (λ j. s.queued p ≤ of.since p + (traffic.stream j).late) of_p (known.late_at_most p in_p planned_p) in
+        subst (λ j. s.queued p ≤ of.since p + (traffic.stream j).late) of_p (known.of_streams.keeps p in_p planned_p).late_at_most in
         let at_q : s.queued q ≤ of.since q + (traffic.stream i).late =
-        subst (λ j. s.queued q ≤ of.since q + (traffic.stream j).late) of_q (known.late_at_most q in_q planned_q) in
+        subst (λ j. s.queued q ≤ of.since q + (traffic.stream j).late) of_q (known.of_streams.keeps q in_q planned_q).late_at_most in
         let period : (traffic.stream (of.source p)).period ≡ (traffic.stream i).period = ap (λ j. (traffic.stream j).period) of_p in
-        elim (known.spaced p q in_p in_q differ planned_p planned_q (of_p ∙ sym of_q) (omega arith)) [
+        elim (known.of_streams.spaced p q in_p in_q differ planned_p planned_q (of_p ∙ sym of_q) (omega arith)) [
           | inl before ↦ inl (omega arith)
           | inr after ↦ inr (omega arith)
         ]
@@ -248,7 +251,7 @@ module _ (s : Schedule) (traffic : Traffic) (others : Others) (longest : ℕ) (p
       long : 1 ≤ (traffic.stream i).bits
       long =
           let (is, same) = own_parts x is_x in
-          let most : s.bits x ≤ (traffic.stream (of.source x)).bits = known.bits_at_most x in_x is in
+          let most : s.bits x ≤ (traffic.stream (of.source x)).bits = (known.of_streams.keeps x in_x is).bits_at_most in
           let bits : (traffic.stream (of.source x)).bits ≡ (traffic.stream i).bits = ap (λ j. (traffic.stream j).bits) same in
           let some : 1 ≤ s.bits x = legal.positive x in_x in
           omega arith
@@ -359,9 +362,9 @@ module _ (s : Schedule) (traffic : Traffic) (others : Others) (longest : ℕ) (p
     pub stream_in_time : IsStreamInTime s planned of i (traffic.stream i) wait
     stream_in_time p in_p is same seen =
         let late : s.queued p ≤ of.since p + (traffic.stream i).late =
-        subst (λ j. s.queued p ≤ of.since p + (traffic.stream j).late) same (known.late_at_most p in_p is) in
+        subst (λ j. s.queued p ≤ of.since p + (traffic.stream j).late) same (known.of_streams.keeps p in_p is).late_at_most in
         let begins : s.start p ≤ s.queued p + wait = in_time_below (s.queued p + 1) p (omega arith) in_p (own_from p is same) (omega arith) in
-        let most : s.bits p ≤ (traffic.stream i).bits = subst (λ j. s.bits p ≤ (traffic.stream j).bits) same (known.bits_at_most p in_p is) in
+        let most : s.bits p ≤ (traffic.stream i).bits = subst (λ j. s.bits p ≤ (traffic.stream j).bits) same (known.of_streams.keeps p in_p is).bits_at_most in
         (begins, omega arith)
 
   -- ---- frames of which each is queued behind the end of the one before
@@ -446,5 +449,5 @@ module _ (s : Schedule) (traffic : Traffic) (others : Others) (longest : ℕ) (p
     pub behind_in_time : AreSentWithin s planned of i (traffic.stream i) wait
     behind_in_time p in_p is same seen =
         let begins : s.start p ≤ s.queued p + wait = begins_in_time p in_p (own_from p is same) seen in
-        let most : s.bits p ≤ (traffic.stream i).bits = subst (λ j. s.bits p ≤ (traffic.stream j).bits) same (known.bits_at_most p in_p is) in
+        let most : s.bits p ≤ (traffic.stream i).bits = subst (λ j. s.bits p ≤ (traffic.stream j).bits) same (known.of_streams.keeps p in_p is).bits_at_most in
         omega arith

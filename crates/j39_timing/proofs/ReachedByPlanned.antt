@@ -39,15 +39,19 @@ none_before p from to is = total-none 2 (λ q. cond (is_other_queued two second 
 two_planned : IsPlannedTraffic two one_stream no_others 160 second at_once 0
 two_planned = record {
   longest_at_most = λ p _. omega arith;
-  known = λ p _ _. omega arith;
-  bits_at_most = λ p _ _. omega arith;
-  turns = λ p _ _. omega arith;
-  moment_first = λ p _ _. omega arith;
-  late_at_most = λ p _ _. omega arith;
-  spaced = λ p q _ _ differ is_p is_q _ _.
-      let p_is : p ≡ 1 = eqb-true p 1 is_p in
-      let q_is : q ≡ 1 = eqb-true q 1 is_q in
-      absurd (differ (omega (arith, p_is, q_is)));
+  of_streams = record {
+    keeps = λ p _ _. record {
+      known = omega arith;
+      bits_at_most = omega arith;
+      turns = omega arith;
+      moment_first = omega arith;
+      late_at_most = omega arith;
+    };
+    spaced = λ p q _ _ differ is_p is_q _ _.
+        let p_is : p ≡ 1 = eqb-true p 1 is_p in
+        let q_is : q ≡ 1 = eqb-true q 1 is_q in
+        absurd (differ (omega (arith, p_is, q_is)));
+  };
   from_least = λ p _ _. omega arith;
   to_greatest = λ p _ is _. let same : p ≡ 1 = eqb-true p 1 is in omega (arith, same);
   own_identifier = λ p q t _ in_q _ is _ _ _ alike.

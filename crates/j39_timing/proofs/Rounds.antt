@@ -128,15 +128,19 @@ module _ (x : Senders) (is : AreSenders x) (count : ℕ) where
   pub rounds_planned : (i : ℕ) → IsPlannedTraffic (in_rounds x count) (traffic_of_rounds x) nothing_else x.bits all_planned (of_rounds x) i
   rounds_planned i = record {
     longest_at_most = λ p _. omega arith;
-    known = λ p _ _. stream_below p;
-    bits_at_most = λ p _ _. omega arith;
-    turns = λ p _ _. omega arith;
-    moment_first = λ p _ _. omega arith;
-    late_at_most = λ p _ _. omega arith;
-    spaced = λ p q _ _ differ _ _ same _. elim (cases_lt p q) [
-      | inl less ↦ inl (spaced p q less same)
-      | inr more ↦ inr (subst (λ j. q * x.step + gaps j * x.gap ≤ p * x.step) (sym same) (spaced q p (omega (arith, more, differ)) (sym same)))
-    ];
+    of_streams = record {
+      keeps = λ p _ _. record {
+        known = stream_below p;
+        bits_at_most = omega arith;
+        turns = omega arith;
+        moment_first = omega arith;
+        late_at_most = omega arith;
+      };
+      spaced = λ p q _ _ differ _ _ same _. elim (cases_lt p q) [
+        | inl less ↦ inl (spaced p q less same)
+        | inr more ↦ inr (subst (λ j. q * x.step + gaps j * x.gap ≤ p * x.step) (sym same) (spaced q p (omega (arith, more, differ)) (sym same)))
+      ];
+    };
     from_least = λ p _ _. omega arith;
     to_greatest = λ p _ _ same. subst (λ j. x.ident (stream_of x p) ≤ x.ident j) same (omega arith);
     own_identifier = λ p q t _ _ _ _ _ at_p at_q _.

@@ -3,7 +3,8 @@ use Rattle.std.proofs.Common.{◌≡◌, ◌≢◌, ℕ, zero, suc, ◌+◌, ◌
 use Rattle.std.proofs.lemmas.Bool.{and_parts, and_from, cases_lt, cases_eq, cases_Bool, le-leb, lt-ltb, leb-true, ltb-true, eqb-true, eq-eqb}
 use Rattle.j39_timing.specs.Sums.{total}
 use Rattle.j39_timing.specs.Schedule.{Schedule, demand}
-use Rattle.j39_timing.specs.Streams.{Streams, Origins, AreOfStreams}
+use Rattle.j39_timing.specs.declared.stream.Stream.{Stream}
+use Rattle.j39_timing.specs.Streams.{Origins, AreOfStreams}
 use Rattle.j39_timing.proofs.Sums.{total-le, total-none, total-two}
 
 -- the sum over the places that pass, of which there is one at most
@@ -106,7 +107,7 @@ module _ (n : ℕ) (passes : ℕ → Bool) (at bits : ℕ → ℕ) (period most 
   unfolding within
   windows_sum k t span le = windows k t span le
 
-module _ (s : Schedule) (c : ℕ) (streams : Streams) (of : Origins) (known : AreOfStreams s c streams of) where
+module _ (s : Schedule) (c count : ℕ) (stream : ℕ → Stream) (of : Origins) (known : AreOfStreams s (λ p. s.ident p < c) count stream of) where
   -- a frame that goes before, and of which stream
   abbrev is_of : ℕ → ℕ → Bool
   is_of j p = ltb (s.ident p) c && eqb (of.source p) j
@@ -117,15 +118,15 @@ module _ (s : Schedule) (c : ℕ) (streams : Streams) (of : Origins) (known : Ar
 
   -- how long after its message a frame of the stream is queued
   abbrev late : ℕ → ℕ
-  late j = streams.late j
+  late j = (stream j).late
 
   -- one turn of one stream, by the messages
-  of_messages : (j i k t span : ℕ) → span ≤ k * streams.period j
-      → total s.count (λ p. cond (is_turn j i p && inside t span (of.since p + late j)) (s.bits p) 0) ≤ k * streams.bits j
-  of_messages j i k t span le = windows_sum s.count (is_turn j i) (λ p. of.since p + late j) s.bits (streams.period j) (streams.bits j)
+  of_messages : (j i k t span : ℕ) → span ≤ k * (stream j).period
+      → total s.count (λ p. cond (is_turn j i p && inside t span (of.since p + late j)) (s.bits p) 0) ≤ k * (stream j).bits
+  of_messages j i k t span le = windows_sum s.count (is_turn j i) (λ p. of.since p + late j) s.bits (stream j).period (stream j).bits
       (λ p in_p is.
       let two = and_parts (ltb (s.ident p) c) (eqb (of.source p) j) (and_parts (is_of j p) (eqb (of.turn p) i) is).0 in
-      subst (λ i. s.bits p ≤ streams.bits i) (eqb-true (of.source p) j two.1) (known.bits_at_most p in_p (ltb-true (s.ident p) c two.0)))
+      subst (λ i. s.bits p ≤ (stream i).bits) (eqb-true (of.source p) j two.1) (known.keeps p in_p (ltb-true (s.ident p) c two.0)).bits_at_most)
       (λ p q in_p in_q apart is_p is_q.
       let one_p = and_parts (is_of j p) (eqb (of.turn p) i) is_p in
       let one_q = and_parts (is_of j q) (eqb (of.turn q) i) is_q in
@@ -137,15 +138,15 @@ module _ (s : Schedule) (c : ℕ) (streams : Streams) (of : Origins) (known : Ar
       let turn_q : of.turn q ≡ i = eqb-true (of.turn q) i one_q.1 in
       let same : of.source p ≡ of.source q = omega arith in
       let same_turn : of.turn p ≡ of.turn q = omega arith in
-      let far : (of.since p + streams.period j ≤ of.since q) ⊎ (of.since q + streams.period j ≤ of.since p) =
-      subst (λ i. (of.since p + streams.period i ≤ of.since q) ⊎ (of.since q + streams.period i ≤ of.since p)) at_p
+      let far : (of.since p + (stream j).period ≤ of.since q) ⊎ (of.since q + (stream j).period ≤ of.since p) =
+      subst (λ i. (of.since p + (stream i).period ≤ of.since q) ⊎ (of.since q + (stream i).period ≤ of.since p)) at_p
       (known.spaced p q in_p in_q apart (ltb-true (s.ident p) c two_p.0) (ltb-true (s.ident q) c two_q.0) same same_turn) in
       elim far [ inl before ↦ inl (omega arith) | inr after ↦ inr (omega arith) ])
       k t span le
 
   -- by the frames
-  of_turn : (j i k t span : ℕ) → span + late j ≤ k * streams.period j
-      → total s.count (λ p. cond (is_turn j i p && inside t span (s.queued p)) (s.bits p) 0) ≤ k * streams.bits j
+  of_turn : (j i k t span : ℕ) → span + late j ≤ k * (stream j).period
+      → total s.count (λ p. cond (is_turn j i p && inside t span (s.queued p)) (s.bits p) 0) ≤ k * (stream j).bits
   of_turn j i k t span le =
       let messages = of_messages j i k t (span + late j) le in
       let wider : total s.count (λ p. cond (is_turn j i p && inside t span (s.queued p)) (s.bits p) 0)
@@ -158,9 +159,9 @@ module _ (s : Schedule) (c : ℕ) (streams : Streams) (of : Origins) (known : Ar
             let parts = and_parts (is_turn j i p) (inside t span (s.queued p)) is in
             let (low, high) = inside_parts t span (s.queued p) parts.1 in
             let two = and_parts (ltb (s.ident p) c) (eqb (of.source p) j) (and_parts (is_of j p) (eqb (of.turn p) i) parts.0).0 in
-            let first : of.since p ≤ s.queued p = known.moment_first p in_p (ltb-true (s.ident p) c two.0) in
+            let first : of.since p ≤ s.queued p = (known.keeps p in_p (ltb-true (s.ident p) c two.0)).moment_first in
             let last : s.queued p ≤ of.since p + late j = subst (λ i. s.queued p ≤ of.since p + late i) (eqb-true (of.source p) j two.1)
-            (known.late_at_most p in_p (ltb-true (s.ident p) c two.0)) in
+            (known.keeps p in_p (ltb-true (s.ident p) c two.0)).late_at_most in
             let there : (is_turn j i p && inside t (span + late j) (of.since p + late j)) ≡ true =
             and_from (is_turn j i p) (inside t (span + late j) (of.since p + late j)) parts.0
             (inside_from t (span + late j) (of.since p + late j) (omega arith) (omega arith)) in
@@ -172,8 +173,8 @@ module _ (s : Schedule) (c : ℕ) (streams : Streams) (of : Origins) (known : Ar
   abbrev of_turns : ℕ → ℕ → ℕ → ℕ → ℕ → Bool
   of_turns j m t span p = is_of j p && (ltb (of.turn p) m && inside t span (s.queued p))
 
-  first_turns : (j k t span m : ℕ) → span + late j ≤ k * streams.period j
-      → total s.count (λ p. cond (of_turns j m t span p) (s.bits p) 0) ≤ m * (k * streams.bits j)
+  first_turns : (j k t span m : ℕ) → span + late j ≤ k * (stream j).period
+      → total s.count (λ p. cond (of_turns j m t span p) (s.bits p) 0) ≤ m * (k * (stream j).bits)
   first_turns j k t span zero le =
       let none : total s.count (λ p. cond (of_turns j 0 t span p) (s.bits p) 0) ≡ 0 = total-none s.count (λ p. cond (of_turns j 0 t span p) (s.bits p) 0) (λ p in_p.
       elim (cases_Bool (of_turns j 0 t span p)) [
@@ -185,8 +186,8 @@ module _ (s : Schedule) (c : ℕ) (streams : Streams) (of : Origins) (known : Ar
       ]) in
       omega arith
   first_turns j k t span (suc m) le =
-      let earlier : total s.count (λ p. cond (of_turns j m t span p) (s.bits p) 0) ≤ m * (k * streams.bits j) = first_turns j k t span m le in
-      let this : total s.count (λ p. cond (is_turn j m p && inside t span (s.queued p)) (s.bits p) 0) ≤ k * streams.bits j = of_turn j m k t span le in
+      let earlier : total s.count (λ p. cond (of_turns j m t span p) (s.bits p) 0) ≤ m * (k * (stream j).bits) = first_turns j k t span m le in
+      let this : total s.count (λ p. cond (is_turn j m p && inside t span (s.queued p)) (s.bits p) 0) ≤ k * (stream j).bits = of_turn j m k t span le in
       let parts : total s.count (λ p. cond (of_turns j (suc m) t span p) (s.bits p) 0)
       ≤ total s.count (λ p. cond (of_turns j m t span p) (s.bits p) 0) + total s.count (λ p. cond (is_turn j m p && inside t span (s.queued p)) (s.bits p) 0) =
       total-two s.count (λ p. cond (of_turns j (suc m) t span p) (s.bits p) 0) (λ p. cond (of_turns j m t span p) (s.bits p) 0)
@@ -212,24 +213,24 @@ module _ (s : Schedule) (c : ℕ) (streams : Streams) (of : Origins) (known : Ar
       omega arith
 
   -- one stream
-  of_stream : (j k t span : ℕ) → span + late j ≤ k * streams.period j
-      → total s.count (λ p. cond (is_of j p && inside t span (s.queued p)) (s.bits p) 0) ≤ streams.frames j * (k * streams.bits j)
+  of_stream : (j k t span : ℕ) → span + late j ≤ k * (stream j).period
+      → total s.count (λ p. cond (is_of j p && inside t span (s.queued p)) (s.bits p) 0) ≤ (stream j).frames * (k * (stream j).bits)
   of_stream j k t span le =
-      let turns = first_turns j k t span (streams.frames j) le in
+      let turns = first_turns j k t span (stream j).frames le in
       let all : total s.count (λ p. cond (is_of j p && inside t span (s.queued p)) (s.bits p) 0)
-      ≤ total s.count (λ p. cond (of_turns j (streams.frames j) t span p) (s.bits p) 0) =
+      ≤ total s.count (λ p. cond (of_turns j (stream j).frames t span p) (s.bits p) 0) =
       total-le s.count (λ p. cond (is_of j p && inside t span (s.queued p)) (s.bits p) 0)
-      (λ p. cond (of_turns j (streams.frames j) t span p) (s.bits p) 0) (λ p in_p.
+      (λ p. cond (of_turns j (stream j).frames t span p) (s.bits p) 0) (λ p in_p.
       elim (cases_Bool (is_of j p && inside t span (s.queued p))) [
         | inr fails ↦ rw (fails) (omega arith)
         | inl is ↦
             let one = and_parts (is_of j p) (inside t span (s.queued p)) is in
             let two = and_parts (ltb (s.ident p) c) (eqb (of.source p) j) one.0 in
-            let turn : of.turn p < streams.frames j = subst (λ i. of.turn p < streams.frames i) (eqb-true (of.source p) j two.1)
-            (known.turns p in_p (ltb-true (s.ident p) c two.0)) in
-            let here : of_turns j (streams.frames j) t span p ≡ true =
-            and_from (is_of j p) (ltb (of.turn p) (streams.frames j) && inside t span (s.queued p)) one.0
-            (and_from (ltb (of.turn p) (streams.frames j)) (inside t span (s.queued p)) (lt-ltb (of.turn p) (streams.frames j) turn) one.1) in
+            let turn : of.turn p < (stream j).frames = subst (λ i. of.turn p < (stream i).frames) (eqb-true (of.source p) j two.1)
+            (known.keeps p in_p (ltb-true (s.ident p) c two.0)).turns in
+            let here : of_turns j (stream j).frames t span p ≡ true =
+            and_from (is_of j p) (ltb (of.turn p) (stream j).frames && inside t span (s.queued p)) one.0
+            (and_from (ltb (of.turn p) (stream j).frames) (inside t span (s.queued p)) (lt-ltb (of.turn p) (stream j).frames turn) one.1) in
             rw (is, here) (omega arith)
       ]) in
       omega arith
@@ -239,8 +240,8 @@ module _ (s : Schedule) (c : ℕ) (streams : Streams) (of : Origins) (known : Ar
   of_first k t span p = ltb (s.ident p) c && (ltb (of.source p) k && inside t span (s.queued p))
 
   module _ (t span : ℕ) (slots : ℕ → ℕ) where
-    first_streams : (k : ℕ) → ((j : ℕ) → j < k → span + late j ≤ slots j * streams.period j)
-        → total s.count (λ p. cond (of_first k t span p) (s.bits p) 0) ≤ total k (λ j. streams.frames j * (slots j * streams.bits j))
+    first_streams : (k : ℕ) → ((j : ℕ) → j < k → span + late j ≤ slots j * (stream j).period)
+        → total s.count (λ p. cond (of_first k t span p) (s.bits p) 0) ≤ total k (λ j. (stream j).frames * (slots j * (stream j).bits))
     unfolding total
     first_streams zero cover =
         let none : total s.count (λ p. cond (of_first 0 t span p) (s.bits p) 0) ≡ 0 = total-none s.count (λ p. cond (of_first 0 t span p) (s.bits p) 0) (λ p in_p.
@@ -253,9 +254,9 @@ module _ (s : Schedule) (c : ℕ) (streams : Streams) (of : Origins) (known : Ar
         ]) in
         omega arith
     first_streams (suc k) cover =
-        let earlier : total s.count (λ p. cond (of_first k t span p) (s.bits p) 0) ≤ total k (λ j. streams.frames j * (slots j * streams.bits j)) =
+        let earlier : total s.count (λ p. cond (of_first k t span p) (s.bits p) 0) ≤ total k (λ j. (stream j).frames * (slots j * (stream j).bits)) =
         first_streams k (λ j below. cover j (omega arith)) in
-        let this : total s.count (λ p. cond (is_of k p && inside t span (s.queued p)) (s.bits p) 0) ≤ streams.frames k * (slots k * streams.bits k) =
+        let this : total s.count (λ p. cond (is_of k p && inside t span (s.queued p)) (s.bits p) 0) ≤ (stream k).frames * (slots k * (stream k).bits) =
         of_stream k (slots k) t span (cover k (omega arith)) in
         let parts : total s.count (λ p. cond (of_first (suc k) t span p) (s.bits p) 0)
         ≤ total s.count (λ p. cond (of_first k t span p) (s.bits p) 0) + total s.count (λ p. cond (is_of k p && inside t span (s.queued p)) (s.bits p) 0) =
@@ -282,19 +283,19 @@ module _ (s : Schedule) (c : ℕ) (streams : Streams) (of : Origins) (known : Ar
         omega arith
 
     -- all that goes before
-    pub all_streams : ((j : ℕ) → j < streams.count → span + late j ≤ slots j * streams.period j) → demand s c t span ≤ total streams.count (λ j. streams.frames j * (slots j * streams.bits j))
+    pub all_streams : ((j : ℕ) → j < count → span + late j ≤ slots j * (stream j).period) → demand s c t span ≤ total count (λ j. (stream j).frames * (slots j * (stream j).bits))
     all_streams cover =
-        let most = first_streams streams.count cover in
-        let less : demand s c t span ≤ total s.count (λ p. cond (of_first streams.count t span p) (s.bits p) 0) =
-        total-le s.count (λ p. cond (ltb (s.ident p) c && inside t span (s.queued p)) (s.bits p) 0) (λ p. cond (of_first streams.count t span p) (s.bits p) 0) (λ p in_p.
+        let most = first_streams count cover in
+        let less : demand s c t span ≤ total s.count (λ p. cond (of_first count t span p) (s.bits p) 0) =
+        total-le s.count (λ p. cond (ltb (s.ident p) c && inside t span (s.queued p)) (s.bits p) 0) (λ p. cond (of_first count t span p) (s.bits p) 0) (λ p in_p.
         elim (cases_Bool (ltb (s.ident p) c && inside t span (s.queued p))) [
           | inr fails ↦ rw (fails) (omega arith)
           | inl is ↦
               let two = and_parts (ltb (s.ident p) c) (inside t span (s.queued p)) is in
-              let one_of : of.source p < streams.count = known.known p in_p (ltb-true (s.ident p) c two.0) in
-              let here : of_first streams.count t span p ≡ true =
-              and_from (ltb (s.ident p) c) (ltb (of.source p) streams.count && inside t span (s.queued p)) two.0
-              (and_from (ltb (of.source p) streams.count) (inside t span (s.queued p)) (lt-ltb (of.source p) streams.count one_of) two.1) in
+              let one_of : of.source p < count = (known.keeps p in_p (ltb-true (s.ident p) c two.0)).known in
+              let here : of_first count t span p ≡ true =
+              and_from (ltb (s.ident p) c) (ltb (of.source p) count && inside t span (s.queued p)) two.0
+              (and_from (ltb (of.source p) count) (inside t span (s.queued p)) (lt-ltb (of.source p) count one_of) two.1) in
               rw (is, here) (omega arith)
         ]) in
         omega arith

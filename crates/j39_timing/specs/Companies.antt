@@ -2,7 +2,7 @@
 use Rattle.std.specs.Prelude.{◌≡◌, ◌≢◌, ℕ, ◌+◌, ◌*◌, ◌<◌, ◌≤◌, ◌⊎◌, Bool, true, not, ◌&&◌, ◌||◌, cond, nat_lt, nat_le}
 use Rattle.j39_timing.specs.Sums.{total}
 use Rattle.j39_timing.specs.Schedule.{Schedule, Waits}
-use Rattle.j39_timing.specs.Streams.{Origins}
+use Rattle.j39_timing.specs.Streams.{Origins, AreOfStreams}
 use Rattle.j39_timing.specs.Traffic.{Traffic, IsQueuedAt}
 use Rattle.j39_timing.specs.Waits.{share}
 use Rattle.j39_timing.specs.AnyOrder.{Controllers, IsUnordered}
@@ -31,23 +31,14 @@ is_unplanned_queued s planned from to p = not (planned p) && (nat_le (s.queued p
 abbrev pub unplanned_queued : Schedule → (ℕ → Bool) → ℕ → ℕ → ℕ
 unplanned_queued s planned from to = total s.count (λ p. cond (is_unplanned_queued s planned from to p) 1 0)
 
--- the planned frames of a schedule are those of the streams, as `IsPlannedTraffic` has it; they keep to a company, and what else is in the
+-- the planned frames of a schedule are those of the streams; they keep to a company, and what else is in the
 -- schedule keeps within what is foreseen while frames of the company wait
 pub record IsTrafficOfCompany (s : Schedule) (controllers : Controllers) (traffic : Traffic) (unplanned longest : ℕ) (planned : ℕ → Bool) (of : Origins)
     (company : Company) : Type 0 where
   -- no frame is longer
   pub longest_at_most : (p : ℕ) → p < s.count → s.bits p ≤ longest
-  -- a planned frame is one of a stream, as long as its frames at most, and has its turn in a message
-  pub known : (p : ℕ) → p < s.count → planned p ≡ true → of.source p < traffic.count
-  pub bits_at_most : (p : ℕ) → p < s.count → planned p ≡ true → s.bits p ≤ (traffic.stream (of.source p)).bits
-  pub turns : (p : ℕ) → p < s.count → planned p ≡ true → of.turn p < (traffic.stream (of.source p)).frames
-  -- it is queued at the moment of its message, or so many bits behind it at most
-  pub moment_first : (p : ℕ) → p < s.count → planned p ≡ true → of.since p ≤ s.queued p
-  pub late_at_most : (p : ℕ) → p < s.count → planned p ≡ true → s.queued p ≤ of.since p + (traffic.stream (of.source p)).late
-  -- the moments of two messages of a stream are a period apart: so are those of two frames that have one turn in them
-  pub spaced : (p q : ℕ) → p < s.count → q < s.count → p ≢ q → planned p ≡ true → planned q ≡ true → of.source p ≡ of.source q
-      → of.turn p ≡ of.turn q
-      → (of.since p + (traffic.stream (of.source p)).period ≤ of.since q) ⊎ (of.since q + (traffic.stream (of.source p)).period ≤ of.since p)
+  -- a planned frame is one of a stream
+  pub of_streams : AreOfStreams s (λ p. planned p ≡ true) traffic.count traffic.stream of
   -- no frame of a stream has an identifier below its least one, and none of the company one above the level
   pub from_least : (p : ℕ) → p < s.count → planned p ≡ true → traffic.least (of.source p) ≤ s.ident p
   pub to_level : (p : ℕ) → p < s.count → planned p ≡ true → company.has (of.source p) ≡ true → s.ident p ≤ company.level

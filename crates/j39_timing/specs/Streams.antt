@@ -1,18 +1,8 @@
 -- Frames by the stream that they belong to: a message of one or more frames that a unit sends again and again, never twice within a
 -- period.
 use Rattle.std.specs.Prelude.{◌≡◌, ◌≢◌, ℕ, ◌+◌, ◌<◌, ◌≤◌, ◌⊎◌}
+use Rattle.j39_timing.specs.declared.stream.Stream.{Stream}
 use Rattle.j39_timing.specs.Schedule.{Schedule}
-
-pub record Streams : Type 0 where
-  pub count : ℕ
-  -- how many frames a message of it has at most
-  pub frames : ℕ → ℕ
-  -- the least distance, in bits, of the moments of two messages of the stream
-  pub period : ℕ → ℕ
-  -- the longest frame
-  pub bits : ℕ → ℕ
-  -- how many bits behind the moment of its message each frame is queued at most
-  pub late : ℕ → ℕ
 
 -- what a frame is of its stream
 pub record Origins : Type 0 where
@@ -23,13 +13,19 @@ pub record Origins : Type 0 where
   -- the moment of its message
   pub since : ℕ → ℕ
 
--- each frame with a smaller identifier than c is one of a stream and keeps to it
-pub record AreOfStreams (s : Schedule) (c : ℕ) (streams : Streams) (of : Origins) : Type 0 where
-  pub known : (p : ℕ) → p < s.count → s.ident p < c → of.source p < streams.count
-  pub bits_at_most : (p : ℕ) → p < s.count → s.ident p < c → s.bits p ≤ streams.bits (of.source p)
-  pub turns : (p : ℕ) → p < s.count → s.ident p < c → of.turn p < streams.frames (of.source p)
-  pub moment_first : (p : ℕ) → p < s.count → s.ident p < c → of.since p ≤ s.queued p
-  pub late_at_most : (p : ℕ) → p < s.count → s.ident p < c → s.queued p ≤ of.since p + streams.late (of.source p)
-  pub spaced : (p q : ℕ) → p < s.count → q < s.count → p ≢ q → s.ident p < c → s.ident q < c → of.source p ≡ of.source q
-      → of.turn p ≡ of.turn q
-      → (of.since p + streams.period (of.source p) ≤ of.since q) ⊎ (of.since q + streams.period (of.source p) ≤ of.since p)
+-- the frame keeps to its stream, which is one of so many
+pub record KeepsStream (s : Schedule) (count : ℕ) (stream : ℕ → Stream) (of : Origins) (p : ℕ) : Type 0 where
+  pub known : of.source p < count
+  -- it is as long as the stream's frames at most, and has its turn in a message: no message has more frames than the stream says
+  pub bits_at_most : s.bits p ≤ (stream (of.source p)).bits
+  pub turns : of.turn p < (stream (of.source p)).frames
+  -- it is queued at the moment of its message, or so many bits behind it at most
+  pub moment_first : of.since p ≤ s.queued p
+  pub late_at_most : s.queued p ≤ of.since p + (stream (of.source p)).late
+
+-- such frames keep to their streams
+pub record AreOfStreams (s : Schedule) (Is : ℕ → Type 0) (count : ℕ) (stream : ℕ → Stream) (of : Origins) : Type 0 where
+  pub keeps : (p : ℕ) → p < s.count → Is p → KeepsStream s count stream of p
+  -- the moments of two messages of a stream are a period apart: so are those of two frames that have one turn in them
+  pub spaced : (p q : ℕ) → p < s.count → q < s.count → p ≢ q → Is p → Is q → of.source p ≡ of.source q → of.turn p ≡ of.turn q
+      → (of.since p + (stream (of.source p)).period ≤ of.since q) ⊎ (of.since q + (stream (of.source p)).period ≤ of.since p)

@@ -3,7 +3,7 @@ use Rattle.j39_timing.specs.declared.stream.Stream.{Stream}
 use Rattle.std.specs.Prelude.{◌≡◌, ◌≢◌, ℕ, ◌+◌, ◌*◌, ◌<◌, ◌≤◌, ◌⊎◌, Bool, true, false, not, ◌&&◌, cond, nat_eq, nat_lt, nat_le}
 use Rattle.j39_timing.specs.Sums.{total}
 use Rattle.j39_timing.specs.Schedule.{Schedule, Waits}
-use Rattle.j39_timing.specs.Streams.{Origins}
+use Rattle.j39_timing.specs.Streams.{Origins, AreOfStreams}
 use Rattle.j39_timing.specs.Waits.{share}
 
 -- streams of planned frames, by their places, with their identifiers, which may change
@@ -49,18 +49,8 @@ others_queued s planned c from to = total s.count (λ p. cond (is_other_queued s
 pub record IsPlannedTraffic (s : Schedule) (traffic : Traffic) (others : Others) (longest : ℕ) (planned : ℕ → Bool) (of : Origins) (i : ℕ) : Type 0 where
   -- no frame is longer
   pub longest_at_most : (p : ℕ) → p < s.count → s.bits p ≤ longest
-  -- a planned frame is one of a stream, as long as its frames at most, and has its turn in a message: no message has more frames than the
-  -- stream says
-  pub known : (p : ℕ) → p < s.count → planned p ≡ true → of.source p < traffic.count
-  pub bits_at_most : (p : ℕ) → p < s.count → planned p ≡ true → s.bits p ≤ (traffic.stream (of.source p)).bits
-  pub turns : (p : ℕ) → p < s.count → planned p ≡ true → of.turn p < (traffic.stream (of.source p)).frames
-  -- it is queued at the moment of its message, or so many bits behind it at most
-  pub moment_first : (p : ℕ) → p < s.count → planned p ≡ true → of.since p ≤ s.queued p
-  pub late_at_most : (p : ℕ) → p < s.count → planned p ≡ true → s.queued p ≤ of.since p + (traffic.stream (of.source p)).late
-  -- the moments of two messages of a stream are a period apart: so are those of two frames that have one turn in them
-  pub spaced : (p q : ℕ) → p < s.count → q < s.count → p ≢ q → planned p ≡ true → planned q ≡ true → of.source p ≡ of.source q
-      → of.turn p ≡ of.turn q
-      → (of.since p + (traffic.stream (of.source p)).period ≤ of.since q) ⊎ (of.since q + (traffic.stream (of.source p)).period ≤ of.since p)
+  -- a planned frame is one of a stream
+  pub of_streams : AreOfStreams s (λ p. planned p ≡ true) traffic.count traffic.stream of
   -- its identifier is one of the stream's: none is below the least, and of stream i none above the greatest
   pub from_least : (p : ℕ) → p < s.count → planned p ≡ true → traffic.least (of.source p) ≤ s.ident p
   pub to_greatest : (p : ℕ) → p < s.count → planned p ≡ true → of.source p ≡ i → s.ident p ≤ traffic.greatest i

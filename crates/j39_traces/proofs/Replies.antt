@@ -1,5 +1,5 @@
 -- Who answers a packet sends or hears a message of the two alone.
-use Rattle.std.proofs.Common.{◌≡◌, ◌⊎◌, ℕ, ◌+◌, ◌==◌, ◌&&◌, inl, inr, refl, subst, List, [], ◌∷◌, ◌++◌, Option, Some, None}
+use Rattle.std.proofs.Common.{◌≡◌, ◌⊎◌, ℕ, ◌+◌, ◌==◌, ◌&&◌, inl, inr, refl, sym, subst, List, [], ◌∷◌, ◌++◌, Option, Some, None}
 use Rattle.std.specs.Prelude.{map, nat_le}
 use Rattle.std.specs.List.{AllByRecursion}
 use Rattle.std.proofs.lemmas.Bool.{cond_both}
@@ -25,6 +25,7 @@ use Rattle.j39_world.specs.Transfers.{Outgoing}
 use Rattle.j39_world.specs.TransferSteps.{hearing, packets_in, reaction_of, receiver_replies, sender_replies}
 use Rattle.j39_world.specs.World.{World}
 use Rattle.j39_laws.proofs.Reports.Hearings.{reaction_aside}
+use Rattle.j39_laws.proofs.Runs.ReceiverRows.{hears_by}
 use Rattle.j39_laws.proofs.Transfers.Named.{IsKeptNamed, IsNamed}
 use Rattle.j39_laws.proofs.Transfers.Naming.{IsOpenFor, IsRtsOf, IsTo, SaysTo, says_replies}
 
@@ -37,46 +38,27 @@ IsAnswering pr p = (pgn : ℕ) × (IsOpenFor pr pgn ⊎ IsRtsOf p pgn)
 abbrev RepliesNone : Progress × Heard → Type 0
 RepliesNone x = receiver_replies x.1 ≡ []
 
-next_none : (window : ℕ) (r : Reception) → r.kind ≡ Broadcast → RepliesNone (receiver.takes_next (Answering window) r)
-next_none window r is =
-    cond_both (r.held + 1 == packets_of r.size) _ _ RepliesNone (λ _. completes r.kind is)
-    (λ _. cond_both (r.held + 1 == r.granted) _ _ RepliesNone (λ _. goes_on r.kind is) (λ _. refl))
-  where
-    completes : (kind : Kind) → kind ≡ Broadcast → receiver_replies (receiver.completed (Answering window) kind r) ≡ []
-    completes Broadcast e = refl
-    completes Directed e = absurd (cc e)
-
-    goes_on : (kind : Kind) → kind ≡ Broadcast → RepliesNone (receiver.going_on (Answering window) kind (receiver.one_more_held r))
-    goes_on Broadcast e = refl
-    goes_on Directed e = absurd (cc e)
-
-takes_none : (window : ℕ) (r : Reception) (number : ℕ) → r.kind ≡ Broadcast → RepliesNone (receiver.takes_data (Answering window) r number)
-takes_none window r number is =
-    cond_both (number == r.held + 1) _ _ RepliesNone (λ _. next_none window r is)
-    (λ _. cond_both (nat_le number r.held) _ _ RepliesNone (λ _. refl) (λ _. later r.kind is))
-  where
-    later : (kind : Kind) → kind ≡ Broadcast → RepliesNone (receiver.takes_later (Answering window) kind r number)
-    later Broadcast e = refl
-    later Directed e = absurd (cc e)
-
 -- an answer to a packet, or where nothing comes in time
 answering : (window : ℕ) (pr : Progress) (p : Packet) → RepliesNone (receiver.hears (Answering window) pr p) ⊎ IsAnswering pr p
-answering window pr (Rts size limit pgn) = inr (pgn, inr refl)
-answering window pr (Bam size pgn) = inl refl
-answering window pr (Cts count first pgn) = inl refl
-answering window pr (EndAck size pgn) = inl refl
-answering window (Open r) (Dt number seven) = open_one r.kind refl
+answering window pr p = hears_by window pr p (λ x. RepliesNone x ⊎ IsAnswering pr p) (record {
+  passed = inl refl;
+  announced_to_all = λ size pgn is. inl refl;
+  announced_to_one = λ size limit pgn is. inr (pgn, inr (subst (λ (q : Packet). IsRtsOf q pgn) (sym is) refl));
+  taken = λ r at more. inl refl;
+  granted = λ r at kind more. answers r at kind;
+  completed = λ r at. completes r at r.kind refl;
+  asked = λ r at kind. answers r at kind;
+  gave_up = λ r at kind. answers r at kind;
+  closed = λ r at. inl refl;
+})
   where
-    open_one : (kind : Kind) → r.kind ≡ kind
-        → RepliesNone (receiver.takes_data (Answering window) r number) ⊎ IsAnswering (Open r) (Dt number seven)
-    open_one Broadcast e = inl (takes_none window r number e)
-    open_one Directed e = inr (r.pgn, inl (e, refl))
-answering window Closed (Dt number seven) = inl refl
-answering window (Complete done) (Dt number seven) = inl refl
-answering window (Open r) (Abort reason pgn) =
-    inl (cond_both (receiver.is_directed r.kind && pgn == r.pgn) _ _ RepliesNone (λ _. refl) (λ _. refl))
-answering window Closed (Abort reason pgn) = inl refl
-answering window (Complete done) (Abort reason pgn) = inl refl
+    answers : {X : Type 0} (r : Reception) → pr ≡ Open r → r.kind ≡ Directed → X ⊎ IsAnswering pr p
+    answers r at kind = inr (r.pgn, inl (subst (λ (x : Progress). IsOpenFor x r.pgn) (sym at) (kind, refl)))
+
+    completes : (r : Reception) → pr ≡ Open r → (kind : Kind) → r.kind ≡ kind
+        → (receiver_replies (receiver.completed (Answering window) kind r) ≡ []) ⊎ IsAnswering pr p
+    completes r at Broadcast is = inl refl
+    completes r at Directed is = answers r at is
 
 late_answering : (window : ℕ) (pr : Progress)
     → (packets_in (receiver.timed_out (Answering window) pr).1 ≡ []) ⊎ ((pgn : ℕ) × IsOpenFor pr pgn)

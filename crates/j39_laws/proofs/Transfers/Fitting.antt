@@ -2,7 +2,7 @@
 -- seven bytes; an open session lacks a packet, and has gathered what all packets carry.
 use Rattle.std.proofs.Common.{◌≡◌, ℕ, zero, suc, ◌+◌, ◌-◌, ◌*◌, ◌==◌, ◌<◌, ◌≤◌, ◌&&◌, ◌⊎◌, inl, inr, false, List, [], ◌∷◌, ◌++◌, length, drop, refl, sym}
 use Rattle.std.proofs.Common.{subst, arith, length-append, replicate, Some}
-use Rattle.std.specs.Prelude.{nat_lt, nat_le, slice_get}
+use Rattle.std.specs.Prelude.{nat_lt, slice_get}
 use Rattle.std.proofs.Math.Seq.{take-nil}
 use Rattle.std.proofs.lemmas.Bool.{cond_both, eqb-false}
 use Rattle.std.proofs.lemmas.List.{length-take, length-replicate}
@@ -30,6 +30,7 @@ use Rattle.j39_tp.specs.declared.sending.stage.Stage.TheVariants.{Sending, Waiti
 use Rattle.j39_tp.proofs.Answering.{IsAnswer}
 use Rattle.j39_tp.proofs.Gathering.{stands_on, last_stands, hears_gathers, times_out_gathers}
 use Rattle.j39_world.specs.Transfers.{closed_if_complete}
+use Rattle.j39_laws.proofs.Runs.ReceiverRows.{IsShort, hears_by}
 
 -- ---- packets
 
@@ -74,49 +75,31 @@ abbrev pub IsWithin : Progress → Type 0
 IsWithin (Open r) = r.held < packets_of r.size
 IsWithin _ = Unit {0}
 
-going_within : (window : ℕ) (kind : Kind) (r : Reception) → r.held < packets_of r.size → IsWithin (receiver.going_on (Answering window) kind r).0
-going_within window Directed r less = less
-going_within window Broadcast r less = less
-
 pub asks_within : (window reason : ℕ) (r : Reception) → r.held < packets_of r.size → IsWithin (receiver.asks window reason r).0
 asks_within window reason r less =
     cond_both (nat_lt r.asked receiver.ask_limit) _ _ (λ (x : Progress × Packet). IsWithin x.0) (λ _. less) (λ _. tt)
-
-abbrev WithinAt : Progress × Heard → Type 0
-WithinAt x = IsWithin x.0
-
-next_within : (window : ℕ) (r : Reception) → r.held < packets_of r.size → WithinAt (receiver.takes_next (Answering window) r)
-next_within window r less =
-    cond_both (r.held + 1 == packets_of r.size) _ _ WithinAt (λ _. tt)
-    (λ other. let more : r.held + 1 < packets_of r.size = (let n = eqb-false (r.held + 1) (packets_of r.size) other in omega (arith, less, n)) in
-    cond_both (r.held + 1 == r.granted) _ _ WithinAt (λ _. going_within window r.kind (receiver.one_more_held r) more) (λ _. more))
-
-later_within : (window : ℕ) (kind : Kind) (r : Reception) (number : ℕ) → r.held < packets_of r.size
-    → WithinAt (receiver.takes_later (Answering window) kind r number)
-later_within window Broadcast r number less = tt
-later_within window Directed r number less =
-    cond_both (number == r.granted) _ _ WithinAt (λ _. asks_within window 5 r less) (λ _. less)
-
-takes_within : (window : ℕ) (r : Reception) (number : ℕ) → r.held < packets_of r.size → WithinAt (receiver.takes_data (Answering window) r number)
-takes_within window r number less =
-    cond_both (number == r.held + 1) _ _ WithinAt (λ _. next_within window r less)
-    (λ _. cond_both (nat_le number r.held) _ _ WithinAt (λ _. less) (λ _. later_within window r.kind r number less))
 
 some_packets : (size : ℕ) → IsSize size → 0 < packets_of size
 some_packets size fits = let above = fits.above in omega (arith, above)
 
 pub hears_within : (window : ℕ) (pr : Progress) (p : Packet) → IsFit p → IsWithin pr → IsWithin (receiver.hears (Answering window) pr p).0
-hears_within window pr (Bam size pgn) fit less = some_packets size fit
-hears_within window pr (Rts size limit pgn) fit less = some_packets size fit
-hears_within window pr (Cts count first pgn) fit less = less
-hears_within window pr (EndAck size pgn) fit less = less
-hears_within window (Open r) (Dt number seven) fit less = takes_within window r number less
-hears_within window Closed (Dt number seven) fit less = tt
-hears_within window (Complete done) (Dt number seven) fit less = tt
-hears_within window (Open r) (Abort reason pgn) fit less =
-    cond_both (is_directed r.kind && pgn == r.pgn) _ _ WithinAt (λ _. tt) (λ _. less)
-hears_within window Closed (Abort reason pgn) fit less = tt
-hears_within window (Complete done) (Abort reason pgn) fit less = tt
+hears_within window pr p fit less = hears_by window pr p (λ x. IsWithin x.0) (record {
+  passed = less;
+  announced_to_all = λ size pgn is. some_packets size (subst IsFit is fit);
+  announced_to_one = λ size limit pgn is. some_packets size (subst IsFit is fit);
+  taken = λ r at more. one_more r at more;
+  granted = λ r at kind more. one_more r at more;
+  completed = λ r at. tt;
+  asked = λ r at kind. subst IsWithin at less;
+  gave_up = λ r at kind. tt;
+  closed = λ r at. tt;
+})
+  where
+    one_more : (r : Reception) → pr ≡ Open r → IsShort r → r.held + 1 < packets_of r.size
+    one_more r at more =
+        let before : r.held < packets_of r.size = subst IsWithin at less in
+        let other = eqb-false (r.held + 1) (packets_of r.size) more in
+        omega (arith, before, other)
 
 times_within : (window : ℕ) (kind : Kind) (r : Reception) → r.held < packets_of r.size → IsWithin (receiver.times_out (Answering window) kind r).0
 times_within window Directed r less = asks_within window 3 r less

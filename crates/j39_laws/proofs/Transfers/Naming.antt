@@ -1,6 +1,6 @@
 -- Which group an RTS or an Abort names: that of a message to one unit, of its sender or of a receiver that is open for it.
-use Rattle.std.proofs.Common.{◌≡◌, ℕ, ◌+◌, ◌==◌, ◌⊎◌, inl, inr, ◌&&◌, true, eqb, List, [], ◌∷◌, length, refl, sym, ap, ◌∙◌, subst, Option, Some, None}
-use Rattle.std.specs.Prelude.{map, nat_lt, nat_le}
+use Rattle.std.proofs.Common.{◌≡◌, ℕ, ◌⊎◌, inl, inr, ◌&&◌, true, eqb, List, [], ◌∷◌, length, refl, sym, ap, ◌∙◌, subst, Option, Some, None}
+use Rattle.std.specs.Prelude.{map, nat_lt}
 use Rattle.std.specs.List.{AllByRecursion}
 use Rattle.std.proofs.lemmas.Bool.{cond_both}
 use Rattle.j39_tp.specs.Chunks.{packets_of, chunk}
@@ -32,6 +32,7 @@ use Rattle.j39_world.specs.declared.wired.Wired.TheVariants as wired
 use Rattle.j39_world.specs.Flows.{dest_of, is_short}
 use Rattle.j39_world.specs.Transfers.{Outgoing, is_among, closed_if_complete}
 use Rattle.j39_world.specs.TransferSteps.{first_item, session_after, reaction_of, receiver_replies, sender_replies, packets_in}
+use Rattle.j39_laws.proofs.Runs.ReceiverRows.{hears_by}
 use Rattle.j39_laws.proofs.Reports.Hearings.{directed_to}
 use Rattle.j39_laws.proofs.Reports.Orderly.{IsPlanned, PlannedAt}
 use Rattle.j39_laws.proofs.Reports.SenderSteps.{among_one}
@@ -53,10 +54,6 @@ AnswersAt pr _ = ⊥
 abbrev RepliesAt : Progress → Progress × Heard → Type 0
 RepliesAt pr x = AllByRecursion (AnswersAt pr) (receiver_replies x.1)
 
-going_answers : (pr : Progress) (window : ℕ) (kind : Kind) (r : Reception) → RepliesAt pr (receiver.going_on (Answering window) kind r)
-going_answers pr window Broadcast r = tt
-going_answers pr window Directed r = (tt, tt)
-
 completed_answers : (pr : Progress) (window : ℕ) (kind : Kind) (r : Reception)
     → AllByRecursion (AnswersAt pr) (receiver_replies (receiver.completed (Answering window) kind r))
 completed_answers pr window Broadcast r = tt
@@ -66,35 +63,19 @@ asks_answers : (window reason : ℕ) (r : Reception) → r.kind ≡ Directed →
 asks_answers window reason r kind =
     cond_both (nat_lt r.asked receiver.ask_limit) _ _ (λ (x : Progress × Packet). AnswersAt (Open r) x.1) (λ _. tt) (λ _. (kind, refl))
 
-next_answers : (window : ℕ) (r : Reception) → RepliesAt (Open r) (receiver.takes_next (Answering window) r)
-next_answers window r =
-    cond_both (r.held + 1 == packets_of r.size) _ _ (RepliesAt (Open r)) (λ _. completed_answers (Open r) window r.kind r)
-    (λ _. cond_both (r.held + 1 == r.granted) _ _ (RepliesAt (Open r)) (λ _. going_answers (Open r) window r.kind (receiver.one_more_held r)) (λ _. tt))
-
-later_answers : (window : ℕ) (kind : Kind) (r : Reception) (number : ℕ) → r.kind ≡ kind
-    → RepliesAt (Open r) (receiver.takes_later (Answering window) kind r number)
-later_answers window Broadcast r number is = tt
-later_answers window Directed r number is =
-    cond_both (number == r.granted) _ _ (RepliesAt (Open r)) (λ _. (asks_answers window 5 r is, tt)) (λ _. tt)
-
-takes_answers : (window : ℕ) (r : Reception) (number : ℕ) → RepliesAt (Open r) (receiver.takes_data (Answering window) r number)
-takes_answers window r number =
-    cond_both (number == r.held + 1) _ _ (RepliesAt (Open r)) (λ _. next_answers window r)
-    (λ _. cond_both (nat_le number r.held) _ _ (RepliesAt (Open r)) (λ _. tt) (λ _. later_answers window r.kind r number refl))
-
 -- what it answers to a packet, and where nothing comes in time
 pub hears_answers : (window : ℕ) (pr : Progress) (p : Packet) → RepliesAt pr (receiver.hears (Answering window) pr p)
-hears_answers window pr (Rts size limit pgn) = (tt, tt)
-hears_answers window pr (Bam size pgn) = tt
-hears_answers window pr (Cts count first pgn) = tt
-hears_answers window pr (EndAck size pgn) = tt
-hears_answers window (Open r) (Dt number seven) = takes_answers window r number
-hears_answers window Closed (Dt number seven) = tt
-hears_answers window (Complete done) (Dt number seven) = tt
-hears_answers window (Open r) (Abort reason pgn) =
-    cond_both (receiver.is_directed r.kind && pgn == r.pgn) _ _ (RepliesAt (Open r)) (λ _. tt) (λ _. tt)
-hears_answers window Closed (Abort reason pgn) = tt
-hears_answers window (Complete done) (Abort reason pgn) = tt
+hears_answers window pr p = hears_by window pr p (RepliesAt pr) (record {
+  passed = tt;
+  announced_to_all = λ size pgn is. tt;
+  announced_to_one = λ size limit pgn is. (tt, tt);
+  taken = λ r at more. tt;
+  granted = λ r at kind more. (tt, tt);
+  completed = λ r at. completed_answers pr window r.kind r;
+  asked = λ r at kind. (tt, tt);
+  gave_up = λ r at kind. (subst (λ (x : Progress). IsOpenFor x r.pgn) (sym at) (kind, refl), tt);
+  closed = λ r at. tt;
+})
 
 times_out_answers : (window : ℕ) (kind : Kind) (r : Reception) → r.kind ≡ kind
     → AllByRecursion (AnswersAt (Open r)) (packets_in (receiver.times_out (Answering window) kind r).1)
@@ -116,47 +97,23 @@ IsRtsOf _ pgn = ⊥
 abbrev OpensFor : Progress → Progress → Type 0
 OpensFor pr now = (pgn : ℕ) → IsOpenFor now pgn → IsOpenFor pr pgn
 
-going_open : (window : ℕ) (kind : Kind) (r : Reception) → OpensFor (Open r) (receiver.going_on (Answering window) kind r).0
-going_open window Broadcast r pgn is = is
-going_open window Directed r pgn is = is
-
 asks_open : (window reason : ℕ) (r : Reception) → OpensFor (Open r) (receiver.asks window reason r).0
 asks_open window reason r =
     cond_both (nat_lt r.asked receiver.ask_limit) _ _ (λ (x : Progress × Packet). OpensFor (Open r) x.0) (λ _ pgn is. is) (λ _ pgn never. absurd never)
 
-abbrev OpensAt : Progress → Progress × Heard → Type 0
-OpensAt pr x = OpensFor pr x.0
-
-next_open : (window : ℕ) (r : Reception) → OpensAt (Open r) (receiver.takes_next (Answering window) r)
-next_open window r =
-    cond_both (r.held + 1 == packets_of r.size) _ _ (OpensAt (Open r)) (λ _ pgn never. absurd never)
-    (λ _. cond_both (r.held + 1 == r.granted) _ _ (OpensAt (Open r)) (λ _. going_open window r.kind (receiver.one_more_held r)) (λ _ pgn is. is))
-
-later_open : (window : ℕ) (kind : Kind) (r : Reception) (number : ℕ) → OpensAt (Open r) (receiver.takes_later (Answering window) kind r number)
-later_open window Broadcast r number = λ pgn never. absurd never
-later_open window Directed r number =
-    cond_both (number == r.granted) _ _ (OpensAt (Open r)) (λ _. asks_open window 5 r) (λ _ pgn is. is)
-
-takes_open : (window : ℕ) (r : Reception) (number : ℕ) → OpensAt (Open r) (receiver.takes_data (Answering window) r number)
-takes_open window r number =
-    cond_both (number == r.held + 1) _ _ (OpensAt (Open r)) (λ _. next_open window r)
-    (λ _. cond_both (nat_le number r.held) _ _ (OpensAt (Open r)) (λ _ pgn is. is) (λ _. later_open window r.kind r number))
-
 pub hears_open : (window : ℕ) (pr : Progress) (p : Packet) (pgn : ℕ) → IsOpenFor (receiver.hears (Answering window) pr p).0 pgn
     → IsOpenFor pr pgn ⊎ IsRtsOf p pgn
-hears_open window pr (Rts size limit named) pgn is = inr is.1
-hears_open window pr (Bam size named) pgn is = absurd (let e = is.0 in cc e)
-hears_open window pr (Cts count first named) pgn is = inl is
-hears_open window pr (EndAck size named) pgn is = inl is
-hears_open window (Open r) (Dt number seven) pgn is = inl (takes_open window r number pgn is)
-hears_open window Closed (Dt number seven) pgn is = absurd is
-hears_open window (Complete done) (Dt number seven) pgn is = absurd is
-hears_open window (Open r) (Abort reason named) pgn is = inl (aborts_open pgn is)
-  where
-    aborts_open : OpensAt (Open r) (receiver.aborts r named)
-    aborts_open = cond_both (receiver.is_directed r.kind && named == r.pgn) _ _ (OpensAt (Open r)) (λ _ pgn never. absurd never) (λ _ pgn is. is)
-hears_open window Closed (Abort reason named) pgn is = absurd is
-hears_open window (Complete done) (Abort reason named) pgn is = absurd is
+hears_open window pr p pgn = hears_by window pr p (λ x. IsOpenFor x.0 pgn → IsOpenFor pr pgn ⊎ IsRtsOf p pgn) (record {
+  passed = λ is. inl is;
+  announced_to_all = λ size named same is. absurd (let e = is.0 in cc e);
+  announced_to_one = λ size limit named same is. inr (subst (λ (q : Packet). IsRtsOf q pgn) (sym same) is.1);
+  taken = λ r at more is. inl (subst (λ (x : Progress). IsOpenFor x pgn) (sym at) is);
+  granted = λ r at kind more is. inl (subst (λ (x : Progress). IsOpenFor x pgn) (sym at) is);
+  completed = λ r at never. absurd never;
+  asked = λ r at kind is. inl (subst (λ (x : Progress). IsOpenFor x pgn) (sym at) is);
+  gave_up = λ r at kind never. absurd never;
+  closed = λ r at never. absurd never;
+})
 
 times_out_open : (window : ℕ) (kind : Kind) (r : Reception) → OpensFor (Open r) (receiver.times_out (Answering window) kind r).0
 times_out_open window Broadcast r = λ pgn never. absurd never
