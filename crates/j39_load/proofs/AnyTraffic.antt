@@ -258,12 +258,7 @@ module _ (timing : Timing) (asked : List (Option FlowFrames)) (paced : All HasPe
       pub company_known : IsTrafficOfCompany s controllers (traffic_of all) timing.unplanned (longest_frame 8) planned of company
       company_known = record {
         longest_at_most = known.known.longest_at_most;
-        known = known.known.known;
-        bits_at_most = known.known.bits_at_most;
-        turns = known.known.turns;
-        moment_first = known.known.moment_first;
-        late_at_most = known.known.late_at_most;
-        spaced = known.known.spaced;
+        of_streams = known.known.of_streams;
         from_least = known.known.from_least;
         to_level = to_level;
         closed = closed;
