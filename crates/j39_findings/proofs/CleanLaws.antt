@@ -19,7 +19,7 @@ use Rattle.j39_findings.specs.declared.checking.finding.Finding.TheVariants.{Sig
 use Rattle.j39_findings.specs.declared.checking.finding.Finding.TheVariants.{RequestUnanswered, RequestUnheard, AnswerAstray, RequestRepeated}
 use Rattle.j39_findings.specs.ListPlaces.{ValueAt, PairAt}
 use Rattle.j39_findings.specs.Findings.{EndsOutside, IsProprietary, HasBadPgn, IsOutside, Clean}
-use Rattle.j39_findings.specs.SignalPlaces.{room_of}
+use Rattle.j39_findings.specs.SignalPlaces.{room_of_signal}
 use Rattle.j39_findings.specs.Findings.{IsServed, GoesUnanswered, GoesUnheard, IsAnsweredAstray, AskTheSame}
 use Rattle.j39_findings.specs.CleanParts.{CanBePlanned, IsAnsweredWell, LiesInside, CleanParts}
 use Rattle.j39_findings.specs.declared.checking.finding.Finding.TheVariants.{SilentAddress, SilentInPool}
@@ -96,9 +96,9 @@ layout : (plan : Plan) → Clean plan → (g : ℕ) (d : GroupPlan) → g < leng
     → LaysOutFrom (get_or plan.groups.items g d).length (get_or plan.groups.items g d).most (get_or plan.groups.items g d).signals.items
 layout plan clean g d less =
     let group = get_or plan.groups.items g d in
-    let ends : All (λ s. IsInside (room_of group.length group.most s) s) group.signals.items = λ s e in_group.
+    let ends : All (λ s. IsInside (room_of_signal group.length group.most s) s) group.signals.items = λ s e in_group.
     let signal = get_or group.signals.items s e in
-    inside (room_of group.length group.most signal) signal
+    inside (room_of_signal group.length group.most signal) signal
     (none_at (EndsOutside group) group.signals.items
     (λ k at. clean (SignalOutside g k) (at_group plan _ g d less at)) s e in_group) in
     record {

@@ -36,7 +36,7 @@ use Rattle.j39_findings.specs.Findings.{HaveSameName, HaveSameFixedAddress, Need
 use Rattle.j39_findings.specs.Findings.{IsWronglyPrivate, HasBadPgn, Sends, DoReceiversMeet, AreSentTogether, HaveSamePgn, IsPrivateUnsent, IsOneFrameToAll, MayBeOneFrameToAll, CannotGoToOne, GoesToItsSender, AreOneFlow, IsOutside, Meets, IsUnmet}
 use Rattle.j39_findings.specs.Findings.{IsToOne, Serves, IsServed, IsServedToOne, IsServedToAll, AsksOne, AsksAll, GoesUnanswered, GoesUnheard, MayNameReceiver, IsAnsweredAstray, AskForOneNumber, AskTheSame, IsAskedFor}
 use Rattle.j39_findings.specs.Found.{have_same_name, have_same_fixed_address, needs_pool_address, prefers_kept, is_for_no_plan, is_wrongly_private}
-use Rattle.j39_findings.specs.SignalPlaces.{room_of}
+use Rattle.j39_findings.specs.SignalPlaces.{room_of_signal}
 use Rattle.j39_findings.specs.Found.{has_bad_pgn, sends, do_receivers_meet, sends_beside, are_sent_together, have_same_pgn, is_private_unsent, has_other_width, ends_outside, is_one_frame_to_all, may_be_one_frame_to_all, is_group_of}
 use Rattle.j39_findings.specs.Found.{is_to_one, is_to, have_same_receiver, cannot_go_to_one, goes_to_its_sender, are_one_flow, lies_outside}
 use Rattle.j39_findings.specs.Found.{is_from, is_reached, meets, is_unmet}
@@ -162,7 +162,7 @@ Decides-has_bad_pgn g = Decides-or _ _ (Decides-is_for_no_plan g.pgn) (Decides-i
 pub Decides-has_other_width : (s : SignalParts) → Decides (has_other_width s) (¬ WidthFits s)
 Decides-has_other_width s = Decides-not _ (λ h. h, λ h. h)
 
-pub Decides-ends_outside : (length most : ℕ) (s : SignalParts) → Decides (ends_outside length most s) (¬ IsInside (room_of length most s) s)
+pub Decides-ends_outside : (length most : ℕ) (s : SignalParts) → Decides (ends_outside length most s) (¬ IsInside (room_of_signal length most s) s)
 Decides-ends_outside length most s = Decides-not _ (Decides-leb _ _)
 
 pub Decides-shares_bit : (s t : SignalParts) → Decides (shares_bit s t) (SharesBit s t)

@@ -11,7 +11,7 @@ use Rattle.j39_findings.specs.declared.checking.finding.Finding.TheVariants.{Sig
 use Rattle.j39_findings.specs.Findings.{EndsOutside, Holds}
 use Rattle.j39_findings.specs.ListPlaces.{ValueAt}
 use Rattle.j39_findings.specs.Records.{single_signals}
-use Rattle.j39_findings.specs.SignalPlaces.{HasNoOptional, room_of}
+use Rattle.j39_findings.specs.SignalPlaces.{HasNoOptional, room_of_signal}
 use Rattle.j39_findings.specs.WithoutOptional.{IsWithoutOptional}
 use Rattle.j39_findings.proofs.Members.{all_at}
 
@@ -40,7 +40,7 @@ there_alone : (plan : Plan) → HasNoOptional plan → (g s : ℕ) → Holds pla
     ↔ ValueAt (λ group. ValueAt (EndsBehind group) group.signals.items s) plan.groups.items g
 there_alone plan none g s =
     let room : (v : GroupPlan) → All (λ t. t.optional ≡ false) v.signals.items → (k : ℕ) (x : SignalParts) → slice_get v.signals.items k ≡ Some x
-    → room_of v.length v.most x ≡ v.length =
+    → room_of_signal v.length v.most x ≡ v.length =
     λ v always k x at. room_alone x.optional v.length v.most (all_at (λ t. t.optional ≡ false) v.signals.items always k x at) in
     let none_of = all_at (λ group. All (λ t. t.optional ≡ false) group.signals.items) plan.groups.items none g in (
       λ v. record {

@@ -16,7 +16,7 @@ use Rattle.j39_signal.specs.Parts.{SignalParts}
 use Rattle.j39_signal.specs.Places.{Covers, WidthFits, IsInside, SharesBit, further}
 use Rattle.j39_findings.specs.ListPlaces.{ValueAt, PairAt, SomeMeets, SoManyMeet}
 use Rattle.j39_findings.specs.Records.{record_count}
-use Rattle.j39_findings.specs.SignalPlaces.{room_of}
+use Rattle.j39_findings.specs.SignalPlaces.{room_of_signal}
 use Rattle.j39_findings.specs.TextPlaces.{last_byte}
 use Rattle.j39_findings.specs.declared.plan.Plan.{Plan}
 use Rattle.j39_findings.specs.declared.plan.unit_plan.UnitPlan.{UnitPlan}
@@ -135,7 +135,7 @@ AreOneFlow f h = (f.group ≡ h.group) × (f.sender ≡ h.sender) × (f.to ≡ h
 
 -- a signal that ends behind the shortest message, or, where it is optional, behind the longest
 abbrev pub EndsOutside : GroupPlan → SignalParts → Type 0
-EndsOutside group signal = ¬ IsInside (room_of group.length group.most signal) signal
+EndsOutside group signal = ¬ IsInside (room_of_signal group.length group.most signal) signal
 
 -- ---- texts
 

@@ -16,7 +16,7 @@ use Rattle.j39_signal.specs.Parts.{SignalParts}
 use Rattle.j39_signal.specs.Places.{width_fits, is_inside, shares_bit, end_of, further}
 use Rattle.j39_findings.specs.ListPlaces.{found_if, each, pairs, in_each}
 use Rattle.j39_findings.specs.Records.{record_count}
-use Rattle.j39_findings.specs.SignalPlaces.{room_of}
+use Rattle.j39_findings.specs.SignalPlaces.{room_of_signal}
 use Rattle.j39_findings.specs.TextPlaces.{last_byte}
 use Rattle.j39_findings.specs.declared.plan.Plan.{Plan}
 use Rattle.j39_findings.specs.declared.plan.unit_plan.UnitPlan.{UnitPlan}
@@ -145,7 +145,7 @@ abbrev pub has_other_width : SignalParts → Bool
 has_other_width signal = not (width_fits signal.kind signal.start signal.bits)
 
 abbrev pub ends_outside : ℕ → ℕ → SignalParts → Bool
-ends_outside length most signal = not (is_inside (room_of length most signal) signal)
+ends_outside length most signal = not (is_inside (room_of_signal length most signal) signal)
 
 abbrev pub width_findings : ℕ → GroupPlan → List Finding
 width_findings g group = each has_other_width (SignalWidth g) 0 group.signals.items

@@ -4,8 +4,8 @@ use Rattle.j39_signal.specs.Parts.{SignalParts}
 use Rattle.j39_findings.specs.declared.plan.Plan.{Plan}
 
 -- the bytes inside which a signal of a group of these lengths ends
-abbrev pub room_of : ℕ → ℕ → SignalParts → ℕ
-room_of length most s = if s.optional then most else length
+abbrev pub room_of_signal : ℕ → ℕ → SignalParts → ℕ
+room_of_signal length most s = if s.optional then most else length
 
 abbrev pub HasNoOptional : Plan → Type 0
 HasNoOptional plan = All (λ group. All (λ s. s.optional ≡ false) group.signals.items) plan.groups.items

@@ -3,7 +3,7 @@ ghost use Rattle.std.specs.Prelude.{◌≡◌, ◌≤◌, ◌<◌, ◌^◌, ◌+
 ghost use Rattle.std.specs.Option.{ForSome};
 ghost use Rattle.j39_load.specs.Delays.{IsFrameDelay, IsShortDelay, IsWaitIn, IsWaitOf, any_delay, blocking, frames_before, going_before, streams_before, whole_time};
 ghost use Rattle.j39_load.specs.SoundLoads.{AreSound, FitIfAny, IsSoundBroadcast, IsSoundLoad};
-ghost use Rattle.j39_load.specs.inside.Offers.{AreFitOffers, IsShortWait, told};
+ghost use Rattle.j39_load.specs.inside.Offers.{AreFitOffers, IsShortWait, offer_of};
 ghost use Rattle.j39_load.specs.inside.TurnTimes.{AreShortTimes, IsDelayBy, IsShortTime, time_at};
 ghost use Rattle.j39_timing.specs.Waits.{IsStream};
 
@@ -124,7 +124,7 @@ pub(crate) fn wait_in(
     frames: &FlowFrames,
 ) -> Result<Option<u32>, AllocError>
     requires offers { AreFitOffers offers.now }
-    ensures wait { IfOk result (IsWaitIn timing (told offers.now) place frames.now) }
+    ensures wait { IfOk result (IsWaitIn timing (offer_of offers.now) place frames.now) }
     ensures short { IfOk result (λ wait. ForSome wait (λ bits. bits < 2 ^ 27)) }
 {
     if !keep_order(frames) {
@@ -192,7 +192,7 @@ fn frame_delay(
     requires offers { AreFitOffers offers.now }
     requires frames { AreSound frames.now }
     requires limit { limit < 2 ^ 31 }
-    ensures { IfOk result (IsFrameDelay timing (told offers.now) flow frames.now limit) }
+    ensures { IfOk result (IsFrameDelay timing (offer_of offers.now) flow frames.now limit) }
 {
     if !keep_order(frames) {
         return Ok(any_delay(frames, limit, offers.wait_at(flow)));
@@ -246,7 +246,7 @@ pub(crate) fn delay_of(
     requires offers { AreFitOffers offers.now }
     requires times { AreShortTimes times.now }
     requires load { IsSoundLoad load.now }
-    ensures { IfOk result (IsDelayBy timing (told offers.now) times.now flow load.now.messages load.now.limit) }
+    ensures { IfOk result (IsDelayBy timing (offer_of offers.now) times.now flow load.now.messages load.now.limit) }
 {
     match &load.messages {
         Messages::Short(frames) => frame_delay(alloc, timing, offers, flow, frames, load.limit),

@@ -8,7 +8,7 @@ ghost use Rattle.j39_load.specs.Delays.{HasDelay, TellDelays};
 ghost use Rattle.j39_load.specs.SoundLoads.{AreSoundIfAny, IsSoundIfAsked, IsSoundIfKnown, IsSoundIfSent};
 ghost use Rattle.j39_load.specs.Standing.{TellsWhoStays, stays_of};
 ghost use Rattle.j39_load.specs.inside.FramesBy.{frames_by, broadcasts_by_unit};
-ghost use Rattle.j39_load.specs.inside.Offers.{AreFitOffers, told};
+ghost use Rattle.j39_load.specs.inside.Offers.{AreFitOffers, offer_of};
 ghost use Rattle.j39_load.specs.inside.TurnTimes.{AreShortTimes, TellTurnTimes};
 ghost use Rattle.j39_id.specs.Limits.{unit_limit};
 ghost use Rattle.std.proofs.Props.{props};
@@ -311,8 +311,8 @@ impl Loads {
     ) -> Result<Option<Delay>, AllocError>
         requires place { flow < length self.now.flows.items }
         requires offers { AreFitOffers offers.now }
-        requires is { IsOffer self.now.timing (all_frames self.now.flows.items self.now.units.items self.now.requests.items) (told offers.now) }
-        requires times { TellTurnTimes self.now.timing (asked_by self.now.flows.items self.now.units.items self.now.requests.items) (told offers.now) times.now }
+        requires is { IsOffer self.now.timing (all_frames self.now.flows.items self.now.units.items self.now.requests.items) (offer_of offers.now) }
+        requires times { TellTurnTimes self.now.timing (asked_by self.now.flows.items self.now.units.items self.now.requests.items) (offer_of offers.now) times.now }
         requires short { AreShortTimes times.now }
         ensures { IfOk result (HasDelay self.now.timing (asked_by self.now.flows.items self.now.units.items self.now.requests.items) flow) }
     {

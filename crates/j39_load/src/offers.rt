@@ -3,7 +3,7 @@ ghost use Rattle.std.specs.Prelude.{◌≡◌, ◌≤◌, ◌<◌, ◌^◌, ◌�
 ghost use Rattle.j39_load.specs.Ages.{least};
 ghost use Rattle.j39_load.specs.AnyQueues.{IsHeldFor, IsOffer, TellWaits, later_frames, leasts_of, may_be_passed, held_at, offered, offered_at, unheld, unheld_at};
 ghost use Rattle.j39_load.specs.SoundLoads.{AreSound, AreSoundIfAny, FitIfAny};
-ghost use Rattle.j39_load.specs.inside.Offers.{AreFitOffers, IsShortWait, told};
+ghost use Rattle.j39_load.specs.inside.Offers.{AreFitOffers, IsShortWait, offer_of};
 ghost use Rattle.j39_timing.specs.Waits.{IsStream};
 
 use crate::ages::smaller;
@@ -28,7 +28,7 @@ impl Offers {
     /// How many bits later the frames at a place are offered for good, where that is known.
     pub fn wait_at(&self, place: usize) -> Option<u32>
         requires { AreFitOffers self.now }
-        ensures wait { result ≡ slice_index_or (told self.now).waits place None }
+        ensures wait { result ≡ slice_index_or (offer_of self.now).waits place None }
         ensures short { IsShortWait result }
     {
         if place < self.waits.len() {
@@ -40,7 +40,7 @@ impl Offers {
 
     /// Whether one of those of which no wait is known may go before a frame of this identifier.
     pub fn may_be_passed(&self, ident: u64) -> bool
-        ensures { result ≡ may_be_passed (told self.now) ident }
+        ensures { result ≡ may_be_passed (offer_of self.now) ident }
     {
         match self.unheld {
             Some(least) => least < ident,
@@ -196,7 +196,7 @@ pub(crate) fn offers_of(
 ) -> Result<Offers, AllocError>
     requires fit { All AreSoundIfAny all.now }
     requires few { length all.now ≤ 2000 }
-    ensures offer { IfOk result (λ offers. IsOffer timing all.now (told offers)) }
+    ensures offer { IfOk result (λ offers. IsOffer timing all.now (offer_of offers)) }
     ensures fit { IfOk result AreFitOffers }
 {
     let waits = waits_of(alloc, timing, all)?;

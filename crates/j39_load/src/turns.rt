@@ -4,7 +4,7 @@ ghost use Rattle.std.specs.Option.{ForSome};
 ghost use Rattle.j39_load.specs.Asked.{asked_by};
 ghost use Rattle.j39_load.specs.Delays.{IsTurnTime, known_turn_time, packet_time, turn_time};
 ghost use Rattle.j39_load.specs.SoundLoads.{IsSoundUnit};
-ghost use Rattle.j39_load.specs.inside.Offers.{AreFitOffers, told};
+ghost use Rattle.j39_load.specs.inside.Offers.{AreFitOffers, offer_of};
 ghost use Rattle.j39_load.specs.inside.TurnTimes.{AreShortTimes, IsShortTime, TellTurnTimes};
 
 use crate::delays::wait_in;
@@ -76,7 +76,7 @@ impl Loads {
     ) -> Result<Option<u64>, AllocError>
         requires offers { AreFitOffers offers.now }
         requires unit { unit < length self.now.units.items }
-        ensures time { IfOk result (IsTurnTime self.now.timing (asked_by self.now.flows.items self.now.units.items self.now.requests.items) (told offers.now) unit) }
+        ensures time { IfOk result (IsTurnTime self.now.timing (asked_by self.now.flows.items self.now.units.items self.now.requests.items) (offer_of offers.now) unit) }
         ensures short { IfOk result IsShortTime }
     {
         let Some(load) = &self.units[unit] else {
@@ -103,7 +103,7 @@ impl Loads {
     ) -> Result<Vec<Option<u64>>, AllocError>
         requires { AreFitOffers offers.now }
         ensures times { IfOk result (λ times.
-            TellTurnTimes self.now.timing (asked_by self.now.flows.items self.now.units.items self.now.requests.items) (told offers.now) times.items) }
+            TellTurnTimes self.now.timing (asked_by self.now.flows.items self.now.units.items self.now.requests.items) (offer_of offers.now) times.items) }
         ensures short { IfOk result (λ times. AreShortTimes times.items) }
     {
         let mut times = Vec::new(alloc);

@@ -2,7 +2,7 @@
 use Rattle.std.proofs.Common.{◌≡◌, ℕ, suc, ◌+◌, ◌-◌, ◌<◌, ◌≤◌, ◌⊎◌, ◌||◌, ◌∙◌, true, eqb, refl, sym, ap, subst, arith, inl, inr}
 use Rattle.std.proofs.lemmas.Bool.{cases_lt, le-ltb, lt-ltb, ne_eqb}
 use Rattle.j39_timing.specs.Schedule.{Schedule, IsLegal, IsOnBusAt, Waits}
-use Rattle.j39_timing.specs.AnyOrder.{Controllers, IsLegalInAnyOrder, IsOrdered, MayBeOffered}
+use Rattle.j39_timing.specs.AnyOrder.{Controllers, IsLegalInAnyOrder, IsFromOrdered, MayBeOffered}
 use Rattle.j39_timing.specs.Errors.{Damaged, IsBusWithErrors, IsDamagedAt, IsLegalInAnyOrderWithErrors, IsLegalWithErrors, damage_ordered, with_errors}
 
 module _ (s : Schedule) (d : Damaged) where
@@ -277,7 +277,7 @@ module _ (s : Schedule) (d : Damaged) where
     unit_of_frame p below = let front = lt-ltb p s.count below in rw (front) refl
 
     -- a frame's unit keeps order where it did
-    ordered_of_frame : (p : ℕ) → p < s.count → IsOrdered units p → IsOrdered controllers p
+    ordered_of_frame : (p : ℕ) → p < s.count → IsFromOrdered units p → IsFromOrdered controllers p
     ordered_of_frame p below ordered =
         let at = unit_of_frame p below in
         let there : (eqb (suc (controllers.unit p)) 0 || controllers.keeps_order (suc (controllers.unit p) - 1)) ≡ true =

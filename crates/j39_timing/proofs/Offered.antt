@@ -9,7 +9,7 @@ use Rattle.j39_timing.specs.Traffic.{Traffic, Others, IsPlannedTraffic, AreQueue
 use Rattle.j39_timing.specs.Traffic.{may_go_before, others_queued, is_other_queued}
 use Rattle.j39_timing.specs.Messages.{AreSentWithin}
 use Rattle.j39_timing.specs.Waits.{share}
-use Rattle.j39_timing.specs.AnyOrder.{Controllers, IsLegalInAnyOrder, IsOrdered, IsOrderedStream, HaveWaits, as_offered, is_passed_by, later_by, offered_from, offered_traffic}
+use Rattle.j39_timing.specs.AnyOrder.{Controllers, IsLegalInAnyOrder, IsFromOrdered, IsOrderedStream, HaveWaits, as_offered, is_passed_by, later_by, offered_from, offered_traffic}
 use Rattle.j39_timing.proofs.PlannedTraffic.{behind_in_time, stream_in_time}
 use Rattle.j39_timing.proofs.Sums.{total-le}
 
@@ -140,7 +140,7 @@ module _ (s : Schedule) (controllers : Controllers) (legal : IsLegalInAnyOrder s
   }
 
   -- a frame of a unit that keeps order is offered whenever it is ready
-  pub ordered_as_ready : (p : ℕ) → p < s.count → IsOrdered controllers p → offered_from s p s.count ≡ s.queued p
+  pub ordered_as_ready : (p : ℕ) → p < s.count → IsFromOrdered controllers p → offered_from s p s.count ≡ s.queued p
   ordered_as_ready p in_p ordered = elim (offered_is s p s.count) [
     | inl same ↦ same
     | inr it ↦

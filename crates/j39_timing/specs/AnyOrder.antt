@@ -14,8 +14,8 @@ pub record Controllers : Type 0 where
   pub keeps_order : ℕ → Bool
 
 -- the unit of the frame keeps order, or doesn't
-abbrev pub IsOrdered : Controllers → ℕ → Type 0
-IsOrdered controllers p = controllers.keeps_order (controllers.unit p) ≡ true
+abbrev pub IsFromOrdered : Controllers → ℕ → Type 0
+IsFromOrdered controllers p = controllers.keeps_order (controllers.unit p) ≡ true
 
 abbrev pub IsUnordered : Controllers → ℕ → Type 0
 IsUnordered controllers p = controllers.keeps_order (controllers.unit p) ≡ false
@@ -24,7 +24,7 @@ IsUnordered controllers p = controllers.keeps_order (controllers.unit p) ≡ fal
 -- order offers its least one, so that each of its frames may be asked
 abbrev pub MayBeOffered : Schedule → Controllers → ℕ → ℕ → ℕ → Type 0
 MayBeOffered s controllers p h t =
-    (h < s.count) × (controllers.unit h ≡ controllers.unit p) × IsQueuedAt s h t × (IsOrdered controllers p → h ≡ p)
+    (h < s.count) × (controllers.unit h ≡ controllers.unit p) × IsQueuedAt s h t × (IsFromOrdered controllers p → h ≡ p)
 
 -- as `IsLegal`, but that a frame that begins has no larger identifier than one that each unit with a waiting frame offers
 pub record IsLegalInAnyOrder (s : Schedule) (controllers : Controllers) : Type 0 where
@@ -67,7 +67,7 @@ AreBegunWithin s planned of i wait = (p : ℕ) → p < s.count → planned p ≡
 
 -- a frame of this stream is sent by a unit that keeps order
 abbrev pub IsOrderedStream : Schedule → Controllers → (ℕ → Bool) → Origins → ℕ → Type 0
-IsOrderedStream s controllers planned of i = (p : ℕ) → p < s.count → planned p ≡ true → of.source p ≡ i → IsOrdered controllers p
+IsOrderedStream s controllers planned of i = (p : ℕ) → p < s.count → planned p ≡ true → of.source p ≡ i → IsFromOrdered controllers p
 
 -- of each stream that may go before stream i there is such a wait of those of its frames whose units keep no order
 abbrev pub HaveWaits : Schedule → Controllers → Traffic → (ℕ → Bool) → Origins → ℕ → (ℕ → ℕ) → Type 0

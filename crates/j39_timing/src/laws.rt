@@ -5,7 +5,7 @@ ghost use Rattle.j39_timing.specs.Streams.{Origins};
 ghost use Rattle.j39_timing.specs.Errors.{Damaged, IsLegalInAnyOrderWithErrors, IsLegalWithErrors, damage_ordered, with_errors};
 ghost use Rattle.j39_timing.specs.Messages.{LongMessage, AreSentInTurn, AreSentWithin, IsBroadcast, all_whole_at, time_of_messages};
 ghost use Rattle.j39_timing.specs.Ages.{KeepsComing, IsFresh};
-ghost use Rattle.j39_timing.specs.AnyOrder.{AreBegunWithin, Controllers, HaveWaits, IsLegalInAnyOrder, IsOrdered, IsOrderedStream, as_offered, offered_traffic};
+ghost use Rattle.j39_timing.specs.AnyOrder.{AreBegunWithin, Controllers, HaveWaits, IsLegalInAnyOrder, IsFromOrdered, IsOrderedStream, as_offered, offered_traffic};
 ghost use Rattle.j39_timing.specs.Companies.{Company, HasRoomInCompany, IsTrafficOfCompany};
 ghost use Rattle.j39_timing.specs.declared.stream.Stream.{Stream as TheStream};
 ghost use Rattle.j39_timing.specs.Rounds.{AreSenders, Senders, all_planned, in_rounds, nothing_else, of_rounds, traffic_of_rounds};
@@ -106,7 +106,7 @@ pub fn frames_of_a_company_are_in_time()
 pub fn frames_beside_any_order_are_in_time()
     ensures legal { (s : Schedule) (controllers : Controllers) → IsLegalInAnyOrder s controllers → IsLegal (as_offered s) }
     ensures ready { (s : Schedule) (controllers : Controllers) → IsLegalInAnyOrder s controllers
-        → (p : ℕ) → p < s.count → IsOrdered controllers p → (as_offered s).queued p ≡ s.queued p }
+        → (p : ℕ) → p < s.count → IsFromOrdered controllers p → (as_offered s).queued p ≡ s.queued p }
     ensures in_time { (s : Schedule) (controllers : Controllers) (traffic : Traffic) (others : Others) (longest : ℕ) (planned : ℕ → Bool) (of : Origins)
         → IsLegalInAnyOrder s controllers → (i wait : ℕ) → IsPlannedTraffic s traffic others longest planned of i
         → ((j : ℕ) → j < traffic.count → 0 < (traffic.stream j).period) → IsOrderedStream s controllers planned of i

@@ -2,7 +2,7 @@
 ghost use Rattle.j39_findings.specs.Adding.{Adds};
 ghost use Rattle.j39_signal.specs.Places.{shares_bit};
 ghost use Rattle.j39_findings.specs.ListPlaces.{found_if, each};
-ghost use Rattle.j39_findings.specs.SignalPlaces.{room_of};
+ghost use Rattle.j39_findings.specs.SignalPlaces.{room_of_signal};
 ghost use Rattle.j39_findings.specs.Found.{has_other_width, ends_outside, width_findings, outside_findings, overlap_findings, signal_findings};
 
 use crate::checking::finding::Finding;
@@ -47,7 +47,7 @@ impl SignalOutside {
 
     // The bytes inside which the signal has to end.
     fn room(&self, signal: &Signal) -> u16
-        ensures { result ≡ room_of self.now.length self.now.most signal.now }
+        ensures { result ≡ room_of_signal self.now.length self.now.most signal.now }
     {
         if signal.is_optional() {
             self.most

@@ -9,8 +9,8 @@ abbrev pub IsShortWait : Option ℕ → Type 0
 IsShortWait wait = ForSome wait (λ bits. bits < 2 ^ 27)
 
 -- as a definition has them
-abbrev pub told : Offers → Offer
-told offers = record { frames = offers.frames.items; waits = offers.waits.items; unheld = offers.unheld }
+abbrev pub offer_of : Offers → Offer
+offer_of offers = record { frames = offers.frames.items; waits = offers.waits.items; unheld = offers.unheld }
 
 pub record AreFitOffers (offers : Offers) : Type 0 where
   pub fit : All FitIfAny offers.frames.items
