@@ -1,12 +1,9 @@
 -- The lines of signals that aren't repeated and are there, one after another.
-use Rattle.std.proofs.Common.{◌≡◌, ℕ, ◌+◌, ◌<◌, Bool, true, false, not, ◌&&◌, if◌then◌else◌, List, [], ◌∷◌, ◌++◌, length, drop, get_or, refl, ap, ◌∙◌, append_assoc}
+use Rattle.std.proofs.Common.{◌≡◌, ℕ, ◌+◌, ◌<◌, Bool, true, false, if◌then◌else◌, List, [], ◌∷◌, ◌++◌, length, drop, get_or, refl, ap, ◌∙◌, append_assoc}
 use Rattle.std.proofs.lemmas.List.{drop_more}
 use Rattle.j39_signal.specs.Bits.{raw_of}
 use Rattle.j39_signal.specs.Parts.{SignalParts}
-use Rattle.j39_signal.specs.Places.{is_there}
-use Rattle.j39_signal.specs.State.{state_in_payload, state_of}
-use Rattle.j39_signal.specs.declared.state.State.{State}
-use Rattle.j39_signal.specs.declared.state.State.TheVariants.{Absent}
+use Rattle.j39_signal.specs.State.{state_of}
 use Rattle.j39_findings.specs.Records.{single_signals, stands_once}
 use Rattle.j39_log.specs.LogReports.{signal_line, signal_lines}
 
@@ -31,22 +28,14 @@ lines_from n signals bytes i d more =
     ap (λ (xs : List SignalParts). signal_lines (single_signals n xs) bytes) (drop_more signals i d more)
     ∙ with_first (stands_once n (get_or signals i d)) (get_or signals i d) (single_signals n (drop (i + 1) signals)) bytes
 
--- what is read of a signal that is there is its state
-shown_by : (repeated there : Bool) (s : SignalParts) (state other : State) → state ≡ (if there then other else Absent)
-    → lines_of (not repeated && there) (signal_line s state) ≡ lines_of (not repeated && there) (signal_line s other)
-shown_by true there s state other reads = refl
-shown_by false true s state other reads = ap (signal_line s) reads
-shown_by false false s state other reads = refl
-
 -- one more signal is written
-pub one_more_line : (signals : List SignalParts) (bytes old new all : List ℕ) (i : ℕ) (s : SignalParts) (state : State) → i < length signals
-    → s ≡ get_or signals i s → state ≡ state_in_payload bytes s → new ≡ old ++ lines_of (stands_once (length bytes) s) (signal_line s state)
+pub one_more_line : (signals : List SignalParts) (bytes old new all : List ℕ) (i : ℕ) (s : SignalParts) → i < length signals
+    → s ≡ get_or signals i s → new ≡ old ++ lines_of (stands_once (length bytes) s) (read_line bytes s)
     → old ++ signal_lines (single_signals (length bytes) (drop i signals)) bytes ≡ all
     → new ++ signal_lines (single_signals (length bytes) (drop (i + 1) signals)) bytes ≡ all
-one_more_line signals bytes old new all i s state less here reads written before =
+one_more_line signals bytes old new all i s less here written before =
     let n : ℕ = length bytes in
     let next : signal_lines (single_signals n (drop i signals)) bytes
     ≡ lines_of (stands_once n s) (read_line bytes s) ++ signal_lines (single_signals n (drop (i + 1) signals)) bytes =
     rw (← here) at (lines_from n signals bytes i s less) in
-    let line = shown_by s.repeated (is_there n s) s state (state_of s (raw_of bytes s)) reads in
-    rw (written, append_assoc, line) (rw next at before)
+    rw (written, append_assoc) (rw next at before)

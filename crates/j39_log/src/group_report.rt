@@ -1,7 +1,10 @@
 //! The lines that report a group.
-ghost use Rattle.std.specs.Prelude.{◌≡◌, ◌≤◌, if◌then◌else◌, [], ◌∷◌, ◌++◌, codes, length, map, OnOk};
+ghost use Rattle.std.specs.Prelude.{◌≡◌, ◌<◌, ◌≤◌, if◌then◌else◌, [], ◌∷◌, ◌++◌, codes, length, map, OnOk};
+ghost use Rattle.std.specs.List.{HoldsAt};
 ghost use Rattle.hex.specs.Hex.{encode_upper};
+ghost use Rattle.j39_signal.specs.Bits.{raw_of};
 ghost use Rattle.j39_signal.specs.Parts.{IsDivisor};
+ghost use Rattle.j39_signal.specs.State.{state_of};
 ghost use Rattle.j39_findings.specs.Records.{single_signals, stands_once};
 ghost use Rattle.j39_text.specs.Decimals.{quotient_text};
 ghost use Rattle.j39_text.specs.Texts.{field};
@@ -96,18 +99,24 @@ fn write_signal(
     }
 }
 
-// A signal of a group, unless it is repeated or so many bytes don't have it.
+// The signal at place `i` of a layout, unless it is repeated or isn't there.
 fn write_single(
     text: &mut TextBuffer,
-    signal: &Signal,
     line: &ValueLine,
-    bytes: usize,
-    state: State,
+    layout: &Layout,
+    signal: &Signal,
+    i: usize,
+    bytes: &[u8],
 ) -> Result<(), AllocError>
-    requires { line.now ≡ value_line_of signal.now }
-    ensures { OnOk result (text.new ≡ text.old ++ (if stands_once bytes signal.now then signal_line signal.now state else [])) }
+    requires line { line.now ≡ value_line_of signal.now }
+    requires place { i < length layout.now.signals }
+    requires at { HoldsAt (λ s. s ≡ signal.now) layout.now.signals i }
+    requires bytes { layout.now.length ≤ length bytes.now }
+    ensures { OnOk result (text.new ≡ text.old ++ (if stands_once (length bytes.now) signal.now
+        then signal_line signal.now (state_of signal.now (raw_of bytes.now signal.now)) else [])) }
 {
-    if stands_once(signal, bytes) {
+    if stands_once(signal, bytes.len()) {
+        let state = layout.read_there(bytes, i);
         write_signal(text, signal, line, state)
     } else {
         Ok(())
@@ -128,8 +137,7 @@ fn write_signals(
     ensures { OnOk result (text.new ≡ text.old ++ signal_lines (single_signals (length bytes.now) signals.now) bytes.now) }
 {
     for (place, signal) in signals.iter().enumerate() {
-        let state = layout.read(bytes, place);
-        write_single(text, signal, &lines[place], bytes.len(), state)?;
+        write_single(text, &lines[place], layout, signal, place, bytes)?;
     }
     Ok(())
 }

@@ -203,6 +203,17 @@ impl Layout {
         signal.read(payload)
     }
 
+    /// The same in a payload that has the signal, so that it isn't asked again whether it does.
+    #[tactic(auto, using(crate::proofs::AtPlace::at_place))]
+    pub fn read_there(&self, payload: &[u8], i: usize) -> State
+        requires place { i < length self.now.signals }
+        requires bytes { self.now.length ≤ length payload.now }
+        requires there { HoldsAt (λ s. IsThere (length payload.now) s) self.now.signals i }
+        ensures { HoldsAt (λ s. result ≡ state_of s (raw_of payload.now s)) self.now.signals i }
+    {
+        self.signal(i).read(payload)
+    }
+
     /// The state of the signal at place `i` as it stands so many bytes further on, in a payload of any length that has it.
     #[tactic(auto, using(crate::proofs::AtPlace::at_place))]
     pub fn read_further(&self, payload: &[u8], i: usize, bytes: usize) -> State

@@ -11,7 +11,6 @@ mod identifiers;
 #[cfg(test)]
 mod kinds;
 #[cfg(test)]
-#[cfg(test)]
 mod plans;
 #[cfg(test)]
 mod signals;

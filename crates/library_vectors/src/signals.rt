@@ -277,6 +277,7 @@ fn an_optional_signal_is_read_where_it_is_there(rt: HostRuntime) -> Result<(), F
     assert_eq!(rt; layout.read(&short, 1), State::Absent);
     let long = [10, 5, 0xF1];
     assert_eq!(rt; layout.read(&long, 1), State::Value(2 * 0x105 - 40));
+    assert_eq!(rt; layout.read_there(&long, 1), State::Value(2 * 0x105 - 40));
     Ok(())
 }
 
