@@ -124,12 +124,17 @@ upper_name_lines table f =
 unfoldable pub name_field_lines : Table → NameFields → List ℕ
 name_field_lines table f = lower_name_lines table f ++ upper_name_lines table f
 
+-- how it chooses addresses and what it grants and offers
+unfoldable pub unit_way_lines : Table → UnitPlan → List ℕ
+unit_way_lines table unit =
+    value_line table key.Chooser (chooser_text unit.way)
+    ++ (value_line table key.Window (decimal unit.window) ++ value_line table key.Queue (queue_text unit.queue))
+
 unfoldable pub unit_value_lines : ℕ → UnitPlan → List ℕ
 unit_value_lines u unit =
     value_line (at.Unit u) key.Label unit.label.bytes ++ (value_line (at.Unit u) key.Address (decimal unit.address)
-    ++ (value_line (at.Unit u) key.Chooser (chooser_text unit.way) ++ (value_line (at.Unit u) key.Window (decimal unit.window)
-    ++ (value_line (at.Unit u) key.Queue (queue_text unit.queue) ++ (name_field_lines (at.UnitName u) (fields_of unit.name)
-    ++ truth_line (at.Unit u) key.Claims unit.claims)))))
+    ++ (unit_way_lines (at.Unit u) unit
+    ++ (name_field_lines (at.UnitName u) (fields_of unit.name) ++ truth_line (at.Unit u) key.Claims unit.claims)))
 
 -- ---- groups
 

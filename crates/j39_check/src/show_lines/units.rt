@@ -1,6 +1,7 @@
 //! The lines of units.
 ghost use Rattle.std.specs.Prelude.{◌≡◌, ◌++◌, OnOk};
-ghost use Rattle.j39_check.specs.ShowText.{chooser_text, lower_name_lines, name_field_lines as name_lines, queue_text, unit_value_lines as unit_lines, upper_name_lines};
+ghost use Rattle.j39_check.specs.ShowText.{chooser_text, lower_name_lines, name_field_lines as name_lines, queue_text, unit_value_lines as unit_lines};
+ghost use Rattle.j39_check.specs.ShowText.{unit_way_lines, upper_name_lines};
 ghost use Rattle.j39_load.specs.Places.{told_from};
 
 use super::values::{write_number, write_truth, write_word};
@@ -65,6 +66,16 @@ fn write_name(text: &mut TextBuffer, table: Table, fields: NameFields) -> Result
     write_upper_name(text, table, fields)
 }
 
+// How the unit chooses addresses, how many packets it grants, and which of its waiting frames it offers.
+#[tactic(auto, unfolding(crate::specs::ShowText::unit_way_lines))]
+fn write_ways(text: &mut TextBuffer, table: Table, unit: &UnitPlan) -> Result<(), AllocError>
+    ensures { OnOk result (text.new ≡ text.old ++ unit_way_lines table unit.now) }
+{
+    write_word(text, table, Key::Chooser, chooser_word(unit.way))?;
+    write_number(text, table, Key::Window, unit.window)?;
+    write_word(text, table, Key::Queue, queue_word(unit.queue))
+}
+
 #[tactic(auto, unfolding(crate::specs::ShowText::unit_value_lines))]
 fn write_unit(text: &mut TextBuffer, place: usize, unit: &UnitPlan) -> Result<(), AllocError>
     ensures { OnOk result (text.new ≡ text.old ++ unit_lines place unit.now) }
@@ -72,9 +83,7 @@ fn write_unit(text: &mut TextBuffer, place: usize, unit: &UnitPlan) -> Result<()
     let table = Table::Unit(place);
     write_word(text, table, Key::Label, unit.label.as_str())?;
     write_number(text, table, Key::Address, unit.address.number())?;
-    write_word(text, table, Key::Chooser, chooser_word(unit.way))?;
-    write_number(text, table, Key::Window, unit.window)?;
-    write_word(text, table, Key::Queue, queue_word(unit.queue))?;
+    write_ways(text, table, unit)?;
     write_name(text, Table::UnitName(place), unit.name.fields())?;
     write_truth(text, table, Key::Claims, unit.claims)
 }
