@@ -24,7 +24,7 @@ use Rattle.j39_world.specs.SoundPlan.{Always}
 use Rattle.j39_world.specs.Transfers.{Begun, Reported, is_among, added}
 use Rattle.j39_world.specs.TransferSteps.{targets_of, first_item, BeginsAt, SendsAt, Reports, ReportsOne, alone_report, report, hearing, flow_in}
 use Rattle.j39_world.specs.TransferSteps.{receiver_replies, sender_replies, reaction_of, packets_in, TakenFrom, LostFrom}
-use Rattle.j39_world.specs.World.{World, all_off, changed_pair}
+use Rattle.j39_world.specs.World.{World, changed_pair}
 use Rattle.j39_laws.proofs.Reports.Reporting.{alone_none, alone_beside, alone_here, alone_elsewhere}
 use Rattle.j39_laws.proofs.Reports.Subsequences.{subsequence_both, subsequence_front, subsequence_without}
 use Rattle.j39_laws.proofs.Runs.Always.{IsPreserved, always}

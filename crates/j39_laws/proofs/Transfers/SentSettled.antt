@@ -1,7 +1,6 @@
 -- In each world of a run frames that were sent alone are sound: they are reported as they were sent, and while one lies nothing is told.
 use Rattle.std.proofs.lemmas.List.Elements.{All-contains, All-from_recursion}
 use Rattle.j39_findings.specs.declared.plan.Plan.{Plan}
-use Rattle.j39_world.specs.declared.wired.Wired.{Wired}
 use Rattle.j39_world.specs.declared.wired.Wired.TheVariants.{Alone}
 use Rattle.j39_world.specs.Sound.{AreSentFramesSound}
 use Rattle.j39_world.specs.SoundPlan.{Always}
