@@ -46,7 +46,8 @@ pub fn needs_stay_fresh()
     ensures { (plan : Plans) (timing : Timings) → Clean plan → AreLoadFindings plan (Some timing) [] → AreNeedsFresh plan timing }
 {}
 
-/// Of a plan whose units all keep order no frames are of a unit that keeps none: what is promised of every legal schedule holds of it.
+/// Of a plan whose units all keep order no frames are of a unit that keeps none: what is promised of every legal schedule
+/// holds of it.
 pub fn plans_in_order()
     ensures { (plan : Plans) (timing : Timings) (stays : PlannedUnits → Bool)
         → ((u : ℕ) (unit : PlannedUnits) → slice_get plan.units.items u ≡ Some unit → unit.queue ≡ Priority)
