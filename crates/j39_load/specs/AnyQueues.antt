@@ -19,7 +19,8 @@ use Rattle.j39_timing.specs.declared.stream.Stream.{Stream}
 
 -- the unit at a place keeps no order, and sends these frames or answers them
 abbrev pub are_of_unit : FlowFrames → ℕ → Bool
-are_of_unit frames u = option_map_or (λ v. v == u) frames.any_sender false || option_map_or (λ v. v == u) frames.any_receiver false
+are_of_unit frames u =
+    option_map_or (λ v. v == u) frames.any_sender false || option_map_or (λ v. v == u) frames.any_receiver false
 
 -- every unit that sends these frames or answers them keeps order
 abbrev pub keep_order : FlowFrames → Bool
@@ -38,27 +39,33 @@ least_of all u = least (told_from (own_least u) 0 all)
 abbrev pub leasts_of : List (Option FlowFrames) → List (Option ℕ)
 leasts_of all = map (least_of all) (range_with_len 0 unit_limit)
 
--- The list has at the places of units that keep no order the least identifier of all their frames. Such a unit belongs to the company of some
--- frames, with identifiers up to a level, where they are its own, or one of its frames may go before the company's
+-- The list has at the places of units that keep no order the least identifier of all their frames. Such a unit belongs
+-- to the company of some frames, with identifiers up to a level, where they are its own, or one of its frames may go
+-- before the company's
 abbrev pub is_member : List (Option ℕ) → FlowFrames → ℕ → ℕ → Bool
-is_member leasts own level u = option_map_or (λ low. are_of_unit own u || nat_lt low level) (slice_index_or leasts u None) false
+is_member leasts own level u =
+    option_map_or (λ low. are_of_unit own u || nat_lt low level) (slice_index_or leasts u None) false
 
 -- these frames are of a unit of the company
 abbrev pub is_of_company : List (Option ℕ) → FlowFrames → ℕ → FlowFrames → Bool
 is_of_company leasts own level frames =
-    option_map_or (is_member leasts own level) frames.any_sender false || option_map_or (is_member leasts own level) frames.any_receiver false
+    option_map_or (is_member leasts own level) frames.any_sender false
+    || option_map_or (is_member leasts own level) frames.any_receiver false
 
 -- the frames of the company with identifiers up to a level, where there are any here, have none above this number
 abbrev pub AreAtMost : List (Option ℕ) → FlowFrames → ℕ → ℕ → Option FlowFrames → Type 0
-AreAtMost leasts own level most frames = IfSome frames (λ (x : FlowFrames). is_of_company leasts own level x ≡ true → x.last_ident ≤ most)
+AreAtMost leasts own level most frames =
+    IfSome frames (λ (x : FlowFrames). is_of_company leasts own level x ≡ true → x.last_ident ≤ most)
 
 -- no frame of the company has an identifier above the level, and the frames themselves haven't
-pub record IsLevel (leasts : List (Option ℕ)) (all : List (Option FlowFrames)) (own : FlowFrames) (level : ℕ) : Type 0 where
+pub record IsLevel (leasts : List (Option ℕ)) (all : List (Option FlowFrames)) (own : FlowFrames) (level : ℕ)
+    : Type 0 where
   pub own_frames : own.last_ident ≤ level
   pub company : All (AreAtMost leasts own level level) all
 
 -- the least such level: that of the least company
-pub record IsCompanyLevel (leasts : List (Option ℕ)) (all : List (Option FlowFrames)) (own : FlowFrames) (level : ℕ) : Type 0 where
+pub record IsCompanyLevel (leasts : List (Option ℕ)) (all : List (Option FlowFrames)) (own : FlowFrames) (level : ℕ)
+    : Type 0 where
   pub is : IsLevel leasts all own level
   pub least : (other : ℕ) → IsLevel leasts all own other → level ≤ other
 
@@ -75,16 +82,19 @@ with_unplanned timing own = record {
 
 -- ---- waits
 
--- the stream of these frames, where they are of the company, or one of them may have a smaller identifier than its level
+-- the stream of these frames, where they are of the company, or one of them may have a smaller identifier than its
+-- level
 abbrev pub stream_with : List (Option ℕ) → FlowFrames → ℕ → Option FlowFrames → Option Stream
 stream_with leasts own level None = None
-stream_with leasts own level (Some x) = if is_of_company leasts own level x || nat_lt x.least_ident level then Some x.stream else None
+stream_with leasts own level (Some x) =
+    if is_of_company leasts own level x || nat_lt x.least_ident level then Some x.stream else None
 
 -- those of all frames, these among them, and of what comes of damage
 abbrev pub streams_with : Timing → List (Option ℕ) → List (Option FlowFrames) → FlowFrames → ℕ → List Stream
 streams_with timing leasts all own level = damage_streams timing ++ filter_map (stream_with leasts own level) all
 
--- the frame that has begun before, and those of no planned flow, but for the frame itself, which is counted with its stream
+-- the frame that has begun before, and those of no planned flow, but for the frame itself, which is counted with its
+-- stream
 abbrev pub blocking_with : Timing → FlowFrames → ℕ
 blocking_with timing own = longest_frame 8 * (1 + timing.unplanned) - own.stream.bits
 
@@ -95,10 +105,12 @@ IsWaitWith timing streams blocking (Some wait) =
 IsWaitWith timing streams blocking None = HaveNoRoom blocking streams (longest_wait timing + 1)
 
 -- the wait of some frames in a unit that keeps no order
-pub record IsCompanyWait (timing : Timing) (leasts : List (Option ℕ)) (all : List (Option FlowFrames)) (own : FlowFrames) (wait : Option ℕ) : Type 0 where
+pub record IsCompanyWait (timing : Timing) (leasts : List (Option ℕ)) (all : List (Option FlowFrames)) (own : FlowFrames)
+    (wait : Option ℕ) : Type 0 where
   pub level : ℕ
   pub of_company : IsCompanyLevel leasts all (with_unplanned timing own) level
-  pub least_wait : IsWaitWith timing (streams_with timing leasts all (with_unplanned timing own) level) (blocking_with timing own) wait
+  pub least_wait :
+      IsWaitWith timing (streams_with timing leasts all (with_unplanned timing own) level) (blocking_with timing own) wait
 
 -- ---- from when on frames are offered for good: where their units keep order from when they are ready
 
@@ -157,6 +169,7 @@ pub record IsOffer (timing : Timing) (all : List (Option FlowFrames)) (offer : O
   pub frames : offer.frames ≡ offered offer.waits all
   pub unheld : offer.unheld ≡ unheld offer.waits all
 
--- one of those of which no wait is known may go before a frame of this identifier, so that nothing is told of how long it waits
+-- one of those of which no wait is known may go before a frame of this identifier, so that nothing is told of how long it
+-- waits
 abbrev pub may_be_passed : Offer → ℕ → Bool
 may_be_passed offer ident = option_map_or (λ (n : ℕ). nat_lt n ident) offer.unheld false

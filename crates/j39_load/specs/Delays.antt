@@ -72,11 +72,12 @@ any_delay frames limit None = Late
 any_delay frames limit (Some wait) =
     if nat_le (delay_of frames.stream wait) limit then Within (delay_of frames.stream wait) else Late
 
--- that of a flow whose messages go in one frame each: where its sender keeps order, among the frames that are offered for good, unless one of
--- which it isn't known from when on may go before it
+-- that of a flow whose messages go in one frame each: where its sender keeps order, among the frames that are offered
+-- for good, unless one of which it isn't known from when on may go before it
 abbrev pub IsFrameDelay : Timing → Offer → ℕ → FlowFrames → ℕ → Delay → Type 0
 IsFrameDelay timing offer flow frames limit delay = MatchBool (keep_order frames)
-    (MatchBool (may_be_passed offer frames.greatest_ident) (delay ≡ Late) (IsShortDelay timing offer.frames flow frames limit delay))
+    (MatchBool (may_be_passed offer frames.greatest_ident) (delay ≡ Late)
+    (IsShortDelay timing offer.frames flow frames limit delay))
     (delay ≡ any_delay frames limit (slice_index_or offer.waits flow None))
 
 -- ---- long messages to all, by the unit that sends them one at a time
@@ -87,7 +88,8 @@ IsWaitOf timing all i frames (Some wait) =
     (wait ≤ longest_wait timing) × (need_of timing all i frames wait ≤ wait) × IsLeastWait timing all i frames wait
 IsWaitOf timing all i frames None = IsLeastWait timing all i frames (longest_wait timing + 1)
 
--- that of frames of a unit that keeps order, among the frames that are offered for good; of one that keeps none it is its company's
+-- that of frames of a unit that keeps order, among the frames that are offered for good; of one that keeps none it is its
+-- company's
 abbrev pub IsWaitIn : Timing → Offer → ℕ → FlowFrames → Option ℕ → Type 0
 IsWaitIn timing offer i frames wait = MatchBool (keep_order frames)
     (MatchBool (may_be_passed offer frames.greatest_ident) (wait ≡ None) (IsWaitOf timing offer.frames i frames wait))
@@ -166,7 +168,8 @@ HasDelayBy timing asked offer flow (Some delay) =
 
 -- by all frames where they are offered for good
 abbrev pub HasDelay : Timing → Asked → ℕ → Option Delay → Type 0
-HasDelay timing asked flow delay = (offer : Offer) × IsOffer timing (frames_asked asked) offer × HasDelayBy timing asked offer flow delay
+HasDelay timing asked flow delay =
+    (offer : Offer) × IsOffer timing (frames_asked asked) offer × HasDelayBy timing asked offer flow delay
 
 -- each flow has the delay that stands at its place
 pub record TellDelays (timing : Timing) (asked : Asked) (delays : List (Option Delay)) : Type 0 where

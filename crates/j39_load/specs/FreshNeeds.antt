@@ -47,8 +47,10 @@ pub record IsNeedFresh (plan : Plan) (timing : Timing) (asked : Asked) (delays :
   pub delayed : slice_get delays place ≡ Some (Some (Within bits))
   pub young : bits_of_ms timing pause + bits ≤ bits_of_ms timing within
   pub bounded : IsBounded timing asked place bits
-  pub in_any_order : IsFreshInAnyOrder timing asked place (bits_of_ms timing pause) bounded.frames.stream bounded.wait bits
-  pub fresh : AreAllOrdered (frames_asked asked) → IsFreshOnEveryBus timing asked place (bits_of_ms timing pause) bounded.frames.stream bounded.wait bits
+  pub in_any_order :
+      IsFreshInAnyOrder timing asked place (bits_of_ms timing pause) bounded.frames.stream bounded.wait bits
+  pub fresh : AreAllOrdered (frames_asked asked)
+      → IsFreshOnEveryBus timing asked place (bits_of_ms timing pause) bounded.frames.stream bounded.wait bits
 
 -- so it is of each need of a plan that asks for an age: whoever tells who stays tells the same
 abbrev pub AreNeedsFresh : Plan → Timing → Type 0

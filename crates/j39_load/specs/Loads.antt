@@ -135,7 +135,8 @@ packet_ident timing held flow = transport_ident timing data_transfer (destinatio
 abbrev pub broadcast_ident : Timing → ℕ → (ℕ → ℕ) → ℕ → ℕ
 broadcast_ident timing pgn held u = transport_ident timing pgn global_address (held u)
 
--- the greatest one of a long message to the unit at a place: that of what its sender asks, or of what is answered. Its packets have smaller ones
+-- the greatest one of a long message to the unit at a place: that of what its sender asks, or of what is answered. Its
+-- packets have smaller ones
 abbrev pub session_ident : Timing → (ℕ → ℕ) → FlowPlan → ℕ → ℕ
 session_ident timing held flow v = max (transport_ident timing connection_management (held v) (held flow.sender))
     (transport_ident timing connection_management (held flow.sender) (held v))

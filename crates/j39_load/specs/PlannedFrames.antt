@@ -75,20 +75,21 @@ pub record KeepToCompany (timing : Timing) (s : Schedule) (planned : ℕ → Boo
   -- while a frame of the company is queued, nothing that is queued too has its identifier but frames of the company
   pub own_identifiers : (p q t : ℕ) → p < s.count → q < s.count → t < s.now → planned p ≡ true → company.has (of.source p) ≡ true
       → IsQueuedAt s p t → IsQueuedAt s q t → s.ident p ≡ s.ident q → (planned q ≡ true) × (company.has (of.source q) ≡ true)
-  -- while a frame of the company waits, together with the time before in which it and what goes with it wait without a break, no more frames
-  -- that aren't planned are queued than are told, whatever their identifiers are
+  -- while a frame of the company waits, together with the time before in which it and what goes with it wait without a
+  -- break, no more frames that aren't planned are queued than are told, whatever their identifiers are
   pub few_unplanned : (p from to : ℕ) → p < s.count → planned p ≡ true → company.has (of.source p) ≡ true → to < s.now → Waits s p to
       → CompanyWaits s planned of company from to → unplanned_queued s planned from to ≤ timing.unplanned
 
 -- the planned frames are those of the plan's streams, and of its units
-pub record AreFramesInAnyOrder (timing : Timing) (all : List (Option FlowFrames)) (s : Schedule) (controllers : Controllers) (planned : ℕ → Bool) (of : Origins)
-    (i : ℕ) : Type 0 where
+pub record AreFramesInAnyOrder (timing : Timing) (all : List (Option FlowFrames)) (s : Schedule) (controllers : Controllers)
+    (planned : ℕ → Bool) (of : Origins) (i : ℕ) : Type 0 where
   -- as where all units keep order
   pub known : AreFramesOfPlan timing all s planned of i
   -- what a unit sends that keeps no order is of a stream of which it is told
   pub of_unit : (p : ℕ) → p < s.count → planned p ≡ true → IsUnordered controllers p
       → are_of_unit (planned_at all (of.source p)) (controllers.unit p) ≡ true
-  -- no frame of such a stream has an identifier above its last one: announcements, answers and packets have the priority that is told
+  -- no frame of such a stream has an identifier above its last one: announcements, answers and packets have the priority
+  -- that is told
   pub to_last : (p : ℕ) → p < s.count → planned p ≡ true → keep_order (planned_at all (of.source p)) ≡ false
       → s.ident p ≤ (planned_at all (of.source p)).last_ident
   -- where a stream of such a unit is the one that is judged, or may go before it, the bus keeps to its company
@@ -111,7 +112,8 @@ IsInTimeOnEveryBus timing all i frames wait = (s : Schedule) (planned : ℕ → 
 -- the same where units keep order or don't
 abbrev pub IsInTimeInAnyOrder : Timing → List (Option FlowFrames) → ℕ → FlowFrames → ℕ → Type 0
 IsInTimeInAnyOrder timing all i frames wait = (s : Schedule) (controllers : Controllers) (planned : ℕ → Bool) (of : Origins)
-    → IsLegalInAnyOrder s controllers → AreFramesInAnyOrder timing all s controllers planned of i → IsStreamInTime s planned of i frames.stream wait
+    → IsLegalInAnyOrder s controllers → AreFramesInAnyOrder timing all s controllers planned of i
+    → IsStreamInTime s planned of i frames.stream wait
 
 -- the flow's messages go in one frame, and its delay is told by the least wait that has room; this is within its limit, and bounds its
 -- frames' time on every bus
@@ -151,8 +153,8 @@ pub record ComeInTurn (timing : Timing) (all : List (Option FlowFrames)) (s : Sc
   pub steady : AreSteady s planned of i
 
 -- the same where units keep order or don't: of a unit that keeps none it isn't asked how its frames come
-pub record ComeInAnyOrder (timing : Timing) (all : List (Option FlowFrames)) (s : Schedule) (controllers : Controllers) (planned : ℕ → Bool) (of : Origins)
-    (i : ℕ) : Type 0 where
+pub record ComeInAnyOrder (timing : Timing) (all : List (Option FlowFrames)) (s : Schedule) (controllers : Controllers)
+    (planned : ℕ → Bool) (of : Origins) (i : ℕ) : Type 0 where
   pub known : AreFramesInAnyOrder timing all s controllers planned of i
   pub behind : keep_order (planned_at all i) ≡ true → AreQueuedBehind s planned of i
   pub steady : keep_order (planned_at all i) ≡ true → AreSteady s planned of i
@@ -185,7 +187,8 @@ AreWholeOnEveryBus timing asked u late bits = (s : Schedule) (planned : ℕ → 
 
 -- the same where units keep order or don't
 abbrev pub AreWholeInAnyOrder : Timing → Asked → ℕ → ℕ → ℕ → Type 0
-AreWholeInAnyOrder timing asked u late bits = (s : Schedule) (controllers : Controllers) (planned : ℕ → Bool) (of : Origins) → IsLegalInAnyOrder s controllers
+AreWholeInAnyOrder timing asked u late bits = (s : Schedule) (controllers : Controllers) (planned : ℕ → Bool)
+    (of : Origins) → IsLegalInAnyOrder s controllers
     → ComeInAnyOrder timing (frames_asked asked) s controllers planned of (announcements_place asked u)
     → ComeInAnyOrder timing (frames_asked asked) s controllers planned of (packets_place asked u)
     → (messages : List LongMessage) (moment : ℕ) → IsOneTurn (broadcasts_by u asked.flows) messages

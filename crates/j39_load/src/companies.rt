@@ -180,7 +180,8 @@ fn with_unplanned(timing: Timing, own: &FlowFrames) -> FlowFrames
     }
 }
 
-// Adds the stream of these frames, where they are of the company, or one of them may have a smaller identifier than its level.
+// Adds the stream of these frames, where they are of the company, or one of them may have a smaller identifier than its
+// level.
 fn add_with(
     streams: &mut Vec<Stream>,
     leasts: &[Option<u64>],
@@ -190,7 +191,8 @@ fn add_with(
 ) -> Result<(), AllocError>
     requires frames { AreSoundIfAny frames.now }
     requires streams { All IsStream streams.old.items }
-    ensures streams { OnOk result (streams.new.items ≡ streams.old.items ++ cons_option (stream_with leasts.now own.now level frames.now) []) }
+    ensures streams { OnOk result (streams.new.items
+        ≡ streams.old.items ++ cons_option (stream_with leasts.now own.now level frames.now) []) }
     ensures fit { OnOk result (All IsStream streams.new.items) }
     ensures few { OnOk result (length streams.new.items ≤ length streams.old.items + 1) }
 {

@@ -114,8 +114,9 @@ fn wait_of(
     }
 }
 
-/// The wait of frames at their place. Those of a unit that keeps order wait among all where they are offered for good, and no wait is known
-/// where frames of which it isn't known from when on they are may go before them; those of another wait for their company.
+/// The wait of frames at their place. Those of a unit that keeps order wait among all where they are offered for good, and
+/// no wait is known where frames of which it isn't known from when on they are may go before them; those of another wait
+/// for their company.
 pub(crate) fn wait_in(
     alloc: Global,
     timing: Timing,
@@ -233,8 +234,8 @@ fn whole_time(broadcast: &Broadcast, time: Option<u64>) -> WholeTime
     }
 }
 
-/// The delay of the flow at this place, which asks this of the bus, among all frames of the plan where they are offered for good, where the
-/// broadcasts of the units take these times.
+/// The delay of the flow at this place, which asks this of the bus, among all frames of the plan where they are offered for
+/// good, where the broadcasts of the units take these times.
 pub(crate) fn delay_of(
     alloc: Global,
     timing: Timing,

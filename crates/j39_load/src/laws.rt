@@ -19,13 +19,13 @@ ghost use Rattle.j39_load.specs.Ranks.{AreHeldApart, AreHeldByPlan, AreUnitsPlan
 ghost use Rattle.j39_load.specs.Requests.{request_ident};
 ghost use Rattle.j39_load.specs.Standing.{TellsWhoStays};
 
-/// The delays of a plan bound the time of its frames. A delay that `Loads::delays` tells holds in every schedule, in which units keep order or
-/// don't, whose planned frames are those of the plan's flows, of which a flow without a period has none, and where no unit of the plan keeps
-/// none in every legal one (`bounds`), and so
-/// does a time in which long messages to all are whole (`whole`); and where `load_findings` finds nothing, it tells a
-/// delay of each flow whose messages go in one frame, within the flow's limit (`short`), and a time of each flow with
-/// long messages to all of which a deadline is written, within this (`deadlines`). So it is of a plan in which
-/// `check_load` finds nothing (`checked`).
+/// The delays of a plan bound the time of its frames. A delay that `Loads::delays` tells holds in every schedule whose
+/// planned frames are those of the plan's flows, of which a flow without a period has none, whether units keep order or
+/// don't; and where each unit of the plan keeps it, in every legal schedule of such frames (`bounds`). So does a time in
+/// which long messages to all are whole (`whole`); and where `load_findings` finds nothing, it tells a delay of each flow
+/// whose messages go in one frame, within the flow's limit (`short`), and a time of each flow with long messages to all
+/// of which a deadline is written, within this (`deadlines`). So it is of a plan in which `check_load` finds nothing
+/// (`checked`).
 pub fn delays_are_bounds()
     ensures bounds { (plan : Plans) (timing : Timings) (stays : PlannedUnits → Bool) (delays : List (Option Delays))
         → AsksOfBus plan timing stays delays → AreDelaysBounds timing (asked_of timing plan stays) delays }
@@ -46,7 +46,8 @@ pub fn needs_stay_fresh()
     ensures { (plan : Plans) (timing : Timings) → Clean plan → AreLoadFindings plan (Some timing) [] → AreNeedsFresh plan timing }
 {}
 
-/// Of a plan whose units all keep order no frames are of a unit that keeps none: what is promised of every legal schedule holds of it.
+/// Of a plan whose units all keep order no frames are of a unit that keeps none: what is promised of every legal schedule
+/// holds of it.
 pub fn plans_in_order()
     ensures { (plan : Plans) (timing : Timings) (stays : PlannedUnits → Bool)
         → ((u : ℕ) (unit : PlannedUnits) → slice_get plan.units.items u ≡ Some unit → unit.queue ≡ Priority)

@@ -13,7 +13,8 @@ use j39_findings::Timing;
 use j39_timing::Stream;
 use std::alloc::{AllocError, Global};
 
-/// All frames of a plan where they are offered for good: frames of a unit that keeps no order as many bits later as they wait there at most.
+/// All frames of a plan where they are offered for good: frames of a unit that keeps no order as many bits later as they
+/// wait there at most.
 #[derive(Drop)]
 pub(crate) struct Offers {
     /// The frames, at their places.
