@@ -10,6 +10,7 @@ mod frame;
 mod hex_digits;
 mod ident;
 mod label;
+mod last_word;
 mod laws;
 pub mod limits;
 mod line_error;
@@ -28,6 +29,7 @@ pub use cutter::{Cutter, LINE_LIMIT};
 pub use frame::Frame;
 pub use ident::Ident;
 pub use label::Label;
+pub use last_word::{is_separator, split_last, words_end};
 pub use laws::{
     a_cutter_tells_the_lines, canonical_text_spells, names_and_bytes_are_inverse, one_reading,
 };
@@ -36,4 +38,4 @@ pub use name::Name;
 pub use name_fields::{NameError, NameField, NameFields};
 pub use pgn::{EXTENDED_PAGE, PDU2_FIRST, Pgn, pf_of};
 pub use printing::print_frame;
-pub use reading::{is_separator, read_frame};
+pub use reading::read_frame;
