@@ -1,9 +1,8 @@
 -- The interface of a line, by what stands before its last word.
 use Rattle.std.proofs.Common.{ℕ, List, Option, Some, None, refl, sym, subst}
 use Rattle.std.specs.Prelude.{IfNone}
-use Rattle.j39_id.specs.FrameLine.{IsLastWord}
+use Rattle.j39_id.specs.FrameLine.{IsLastWord, SplitsLast}
 use Rattle.j39_follow.specs.LogLines.{IsInterface, IsTime}
-use Rattle.j39_follow.specs.inside.Splitting.{SplitsLast}
 use Rattle.j39_follow.proofs.Splitting.{one_split}
 
 pub if_none_then : {A P Q : Type 0} (r : Option A) → (P → Q) → IfNone r P → IfNone r Q

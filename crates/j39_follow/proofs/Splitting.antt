@@ -1,45 +1,16 @@
--- Where the last word of a line stands, and that there is one way to take a line apart.
+-- That there is one way to take a line apart, and where its words end.
 use Rattle.std.proofs.Common.{◌≡◌, ℕ, ◌+◌, ◌-◌, ◌*◌, ◌<◌, ◌≤◌, true, false, List, [], ◌∷◌, ◌++◌, length, take, drop, slice_index, slice_range, get_or}
 use Rattle.std.proofs.Common.{inl, inr, refl, sym, ap, subst, ◌∙◌, arith}
 use Rattle.std.proofs.lemmas.Bool.{both_ways, cases_order}
 use Rattle.std.specs.List.{AllWithin}
 use Rattle.std.proofs.Math.Seq.{get_or-append_seam}
-use Rattle.std.proofs.lemmas.List.{drop-drop, drop_more, get_or-drop, get_or_default, get_or-take, length-append, length-drop, length-take-le, take-append-drop, take_at}
+use Rattle.std.proofs.lemmas.List.{drop_more, get_or_default, get_or-take, length-append, length-take-le, take_at}
 use Rattle.hex.proofs.HexLemmas.{decode_of-ok}
-use Rattle.j39_id.specs.FrameLine.{LineSpells, is_separator}
-use Rattle.j39_id.proofs.LastWord.{IsLastWordAt, last_word_at, places_of}
+use Rattle.j39_id.specs.FrameLine.{LineSpells, SplitsLast, is_separator}
+use Rattle.j39_id.proofs.LastWord.{IsLastWordAt, places_of, splits_at}
 use Rattle.j39_id.proofs.LineLaws.{identifier_digits, same_last_word}
 use Rattle.j39_follow.specs.LogLines.{IsDirection}
-use Rattle.j39_follow.specs.inside.Splitting.{SplitsLast, TellsDirection}
-
--- a line, cut at two places
-cut_twice : (line : List ℕ) (start stop : ℕ) → start ≤ stop → take start line ++ (slice_range line start stop ++ drop stop line) ≡ line
-cut_twice line start stop h =
-    let same : drop (stop - start) (drop start line) ≡ drop stop line =
-    drop-drop (stop - start) start line ∙ ap (λ (n : ℕ). drop n line) (omega arith) in
-    ap (λ (xs : List ℕ). take start line ++ (slice_range line start stop ++ xs)) (sym same)
-    ∙ ap (λ (xs : List ℕ). take start line ++ xs) (take-append-drop (stop - start) (drop start line))
-    ∙ take-append-drop start line
-
-pub splits_at : (line : List ℕ) (start stop : ℕ) → IsLastWordAt line start stop → SplitsLast line (take start line) (slice_range line start stop)
-splits_at line start stop p =
-    let w = last_word_at line start stop p in
-    let some = p.some in
-    let within = p.within in
-    let before : length (take start line) ≡ start = length-take-le start line (omega arith) in
-    let behind : length (drop stop line) ≡ length line - stop = length-drop stop line in (
-      record {
-        front = take start line;
-        back = drop stop line;
-        row = sym (cut_twice line start stop (omega arith));
-        some = w.some;
-        whole = w.whole;
-        parted = λ front.
-            rw (before, get_or-take start line (start - 1) 0 (omega (arith, before))) (p.parted (omega (arith, before)));
-        blank = λ k d below. rw (get_or-drop stop line k d) (p.last (stop + k) d (omega arith) (omega (arith, behind)));
-      },
-      refl,
-    )
+use Rattle.j39_follow.specs.inside.Splitting.{TellsDirection}
 
 -- ---- one last word
 

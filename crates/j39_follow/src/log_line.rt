@@ -6,9 +6,8 @@ ghost use Rattle.j39_follow.specs.LogLines.{IsElsewhere, IsInterface, IsReadPart
 
 use crate::words::{
     before_direction, before_frame, first_word, has_word, is_marked_last, is_time, leading_time,
-    split_last,
 };
-use j39_id::{Frame, LineError};
+use j39_id::{Frame, LineError, split_last};
 
 /// The part of a line that is read: what stands before a word of direction, else all of it.
 pub(crate) fn read_part(line: &[u8]) -> &[u8]

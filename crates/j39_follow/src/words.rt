@@ -1,56 +1,14 @@
 //! The words of a line.
 ghost use Rattle.std.specs.Prelude.{◌≡◌, ◌≢◌, ◌==◌, not, ◌-◌, ◌<◌, ◌≤◌, ◌↔◌, ℕ, List, length, slice_index, take, true, false, IfNone, IfSome, IsTrue};
 ghost use Rattle.std.specs.List.{All, AllPass, AllWithin, list_all};
-ghost use Rattle.j39_id.specs.FrameLine.{Spells, is_separator as separates};
+ghost use Rattle.j39_id.specs.FrameLine.{Spells, SplitsLast, is_separator as separates};
 ghost use Rattle.j39_follow.specs.LogLines.{BeginsWithTime, HasWord, IsDirection, IsFirstWord, IsMarkedLast, IsOfTime, IsTime};
-ghost use Rattle.j39_follow.specs.inside.Splitting.{IsEnclosed, IsWordAt, SplitsLast, TellsDirection};
+ghost use Rattle.j39_follow.specs.inside.Splitting.{IsEnclosed, IsWordAt, TellsDirection};
 
-use j39_id::{Frame, is_separator};
+use j39_id::{Frame, is_separator, split_last, words_end};
 
 // The digits and the point of a time as `candump -L` writes it: seconds and microseconds.
 const WHOLE_TIME: usize = 17;
-
-// Where the words of a line end.
-fn words_end(line: &[u8]) -> usize
-    ensures within { result ≤ length line.now }
-    ensures blank { AllWithin (λ c. separates c ≡ true) line.now result (length line.now) }
-    ensures ends { 0 < result → separates (slice_index line.now (result - 1)) ≡ false }
-{
-    let mut stop = line.len();
-    while stop > 0 && is_separator(line[stop - 1]) {
-        stop -= 1;
-    }
-    stop
-}
-
-// Where the last word begins of a line that ends in one.
-#[inline(never)]
-fn word_start(line: &[u8]) -> usize
-    requires some { 0 < length line.now }
-    requires ends { separates (slice_index line.now (length line.now - 1)) ≡ false }
-    ensures start { result < length line.now }
-    ensures word { AllWithin (λ c. separates c ≡ false) line.now result (length line.now) }
-    ensures parted { 0 < result → separates (slice_index line.now (result - 1)) ≡ true }
-{
-    let mut start = line.len() - 1;
-    while start > 0 && !is_separator(line[start - 1]) {
-        start -= 1;
-    }
-    start
-}
-
-/// What stands before the last word of a line, and the word.
-pub(crate) fn split_last(line: &[u8]) -> Option<(&[u8], &[u8])>
-    ensures found { IfSome result (λ parts. SplitsLast line.now parts.0.now parts.1.now) }
-    ensures none { IfNone result (AllPass separates line.now) }
-{
-    let stop = words_end(line);
-    if stop == 0 {
-        return None;
-    }
-    let start = word_start(&line[..stop]);
-    Some((&line[..start], &line[start..stop]))
-}
 
 // How many separators stand before the first word of a line.
 fn blank_start(line: &[u8]) -> usize

@@ -4,7 +4,7 @@ use Rattle.std.proofs.Common.{arith}
 use Rattle.std.specs.List.{AllWithin}
 use Rattle.std.proofs.lemmas.List.{length-append, length-drop, get_or_append_left, get_or-append_right, get_or-take, get_or-drop, take-append-drop, drop-drop}
 use Rattle.std.proofs.lemmas.List.{length-take-le, take_at, drop_at}
-use Rattle.j39_id.specs.FrameLine.{is_separator, IsLastWord}
+use Rattle.j39_id.specs.FrameLine.{is_separator, IsLastWord, SplitsLast}
 
 -- the last word of the line stands from start up to stop
 pub record IsLastWordAt (line : List ℕ) (start stop : ℕ) : Type 0 where
@@ -38,27 +38,29 @@ cut_twice line start stop h =
     ∙ ap (λ (xs : List ℕ). take start line ++ xs) (take-append-drop (stop - start) (drop start line))
     ∙ take-append-drop start line
 
--- the word between these places is the line's last
-pub last_word_at : (line : List ℕ) (start stop : ℕ) → IsLastWordAt line start stop → IsLastWord line (slice_range line start stop)
-last_word_at line start stop p =
+-- the word between these places is the line's last, and what stands before its place is its front
+pub splits_at : (line : List ℕ) (start stop : ℕ) → IsLastWordAt line start stop → SplitsLast line (take start line) (slice_range line start stop)
+splits_at line start stop p =
     let some = p.some in
     let within = p.within in
     let before : length (take start line) ≡ start = length-take-le start line (omega arith) in
     let rest : length (drop start line) ≡ length line - start = length-drop start line in
     let size : length (slice_range line start stop) ≡ stop - start = length-take-le (stop - start) (drop start line) (omega (arith, rest)) in
-    let behind : length (drop stop line) ≡ length line - stop = length-drop stop line in
-    record {
-      front = take start line;
-      back = drop stop line;
-      row = sym (cut_twice line start stop (omega arith));
-      some = omega (arith, size);
-      whole = λ k d below.
-          rw (get_or-take (stop - start) (drop start line) k d (omega (arith, size)), get_or-drop start line k d)
-          (p.whole (start + k) d (omega arith) (omega (arith, size)));
-      parted = λ front.
-          rw (before, get_or-take start line (start - 1) 0 (omega (arith, before))) (p.parted (omega (arith, before)));
-      blank = λ k d below. rw (get_or-drop stop line k d) (p.last (stop + k) d (omega arith) (omega (arith, behind)));
-    }
+    let behind : length (drop stop line) ≡ length line - stop = length-drop stop line in (
+      record {
+        front = take start line;
+        back = drop stop line;
+        row = sym (cut_twice line start stop (omega arith));
+        some = omega (arith, size);
+        whole = λ k d below.
+            rw (get_or-take (stop - start) (drop start line) k d (omega (arith, size)), get_or-drop start line k d)
+            (p.whole (start + k) d (omega arith) (omega (arith, size)));
+        parted = λ front.
+            rw (before, get_or-take start line (start - 1) 0 (omega (arith, before))) (p.parted (omega (arith, before)));
+        blank = λ k d below. rw (get_or-drop stop line k d) (p.last (stop + k) d (omega arith) (omega (arith, behind)));
+      },
+      refl,
+    )
 
 -- the places of the parts of a row
 pub places_of : (line word : List ℕ) (w : IsLastWord line word) → IsLastWordAt line (length w.front) (length w.front + length word)

@@ -27,6 +27,10 @@ pub record IsLastWord (line word : List ℕ) : Type 0 where
   pub parted : 0 < length front → is_separator (slice_index front (length front - 1)) ≡ true
   pub blank : AllPass is_separator back
 
+-- the last word of a line, and what stands before it
+abbrev pub SplitsLast : List ℕ → List ℕ → List ℕ → Type 0
+SplitsLast line front word = (last : IsLastWord line word) × (last.front ≡ front)
+
 -- the number of four bytes, where it is an identifier's
 abbrev pub identifier_in_bytes : Result (List ℕ) FromHexError → Option ℕ
 identifier_in_bytes (Ok bytes) = if nat_lt (from_be_bytes w32 bytes) identifier_end then Some (from_be_bytes w32 bytes) else None

@@ -1,58 +1,18 @@
 //! Reading frame lines.
-ghost use Rattle.std.specs.Prelude.{◌≡◌, ◌==◌, ◌&&◌, ◌-◌, ◌<◌, ◌≤◌, ◌↔◌, true, false, length, slice_index};
+ghost use Rattle.std.specs.Prelude.{◌≡◌, ◌==◌, ◌&&◌, ◌≤◌, ◌↔◌, length};
 ghost use Rattle.std.specs.Prelude.{Some, None, Ok, IsOk, IsSome, IfSome, IfNone, IfOk, IfErr, IsTrue};
-ghost use Rattle.std.specs.List.{AllPass, AllWithin, list_all, position};
+ghost use Rattle.std.specs.List.{AllPass, list_all, position};
 ghost use Rattle.hex.specs.Hex.{decode_of, is_hex_digit};
 ghost use Rattle.j39_id.specs.Ident.{bits};
-ghost use Rattle.j39_id.specs.FrameLine.{is_separator as separates, IsLastWord, is_hash, identifier_in, payload_digits, IsFirstFault, WordSpells, Spells};
-ghost use Rattle.j39_id.specs.FrameLine.{HasLineFault};
+ghost use Rattle.j39_id.specs.FrameLine.{HasLineFault, IsFirstFault, Spells, WordSpells, identifier_in, is_hash, payload_digits};
 ghost use Rattle.j39_id.specs.Limits.{frame_bytes};
 ghost use Rattle.j39_id.specs.inside.LineEnd.{MayBeginAt};
 
 use crate::hex_digits::decode_digits;
+use crate::last_word::{is_separator, split_last};
 use crate::limits::FRAME_BYTES;
 use crate::{Frame, Ident, LineError};
 use arrayvec::ArrayVec;
-
-/// Whether it parts the words of a line: a space, a tab or a carriage return.
-#[inline(always)]
-pub fn is_separator(byte: u8) -> bool
-    ensures { result ≡ separates byte }
-{
-    matches!(byte, b' ' | b'\t' | b'\r')
-}
-
-// Where the last word begins of a line that ends in one. By itself its loop takes six instructions a byte, within its caller ten.
-#[inline(never)]
-fn word_start(line: &[u8]) -> usize
-    requires some { 0 < length line.now }
-    requires ends { separates (slice_index line.now (length line.now - 1)) ≡ false }
-    ensures start { result < length line.now }
-    ensures word { AllWithin (λ c. separates c ≡ false) line.now result (length line.now) }
-    ensures parted { 0 < result → separates (slice_index line.now (result - 1)) ≡ true }
-{
-    let mut start = line.len() - 1;
-    while start > 0 && !is_separator(line[start - 1]) {
-        start -= 1;
-    }
-    start
-}
-
-// The last word of a line.
-fn last_word(line: &[u8]) -> Option<&[u8]>
-    ensures found { IfSome result (λ word. IsLastWord line.now word.now) }
-    ensures none { IfNone result (AllPass separates line.now) }
-{
-    let mut stop = line.len();
-    while stop > 0 && is_separator(line[stop - 1]) {
-        stop -= 1;
-    }
-    if stop == 0 {
-        return None;
-    }
-    let start = word_start(&line[..stop]);
-    Some(&line[start..stop])
-}
 
 // The identifier that eight digits spell.
 #[inline(always)]
@@ -183,7 +143,7 @@ fn read_last_word(line: &[u8]) -> Result<Frame, LineError>
     ensures found { IfOk result (λ f. Spells line.now f) }
     ensures refused { IfErr result (λ e. HasLineFault line.now e) }
 {
-    let Some(word) = last_word(line) else {
+    let Some((_front, word)) = split_last(line) else {
         return Err(LineError::Empty);
     };
     read_word(word)

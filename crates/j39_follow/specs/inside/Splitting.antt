@@ -1,10 +1,6 @@
 -- How a line is taken apart.
 use Rattle.std.specs.Prelude.{◌≡◌, ◌⊎◌, ◌-◌, ◌<◌, ◌≤◌, ℕ, true, List, drop, length, take, slice_index}
-use Rattle.j39_id.specs.FrameLine.{IsLastWord, is_separator}
-
--- the last word of a line, and what stands before it
-abbrev pub SplitsLast : List ℕ → List ℕ → List ℕ → Type 0
-SplitsLast line front word = (last : IsLastWord line word) × (last.front ≡ front)
+use Rattle.j39_id.specs.FrameLine.{is_separator}
 
 -- a word of this letter tells the direction
 abbrev pub TellsDirection : ℕ → Type 0

@@ -1,6 +1,5 @@
-use Rattle.j39_id.proofs.LastWord.{last_word_of_front}
-use Rattle.j39_follow.proofs.Splitting.{splits_at}
-use Rattle.j39_follow.proofs.words.split_last.Goals as goal
+use Rattle.j39_id.proofs.LastWord.{last_word_of_front, splits_at}
+use Rattle.j39_id.proofs.last_word.split_last.Goals as goal
 
 pub returns-clause-found : goal.returns-clause-found
 returns-clause-found c =
