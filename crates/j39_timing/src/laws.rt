@@ -5,7 +5,7 @@ ghost use Rattle.j39_timing.specs.Streams.{Origins};
 ghost use Rattle.j39_timing.specs.Errors.{Damaged, IsLegalInAnyOrderWithErrors, IsLegalWithErrors, damage_ordered, with_errors};
 ghost use Rattle.j39_timing.specs.Messages.{LongMessage, AreSentInTurn, AreSentWithin, IsBroadcast, all_whole_at, time_of_messages};
 ghost use Rattle.j39_timing.specs.Ages.{KeepsComing, IsFresh};
-ghost use Rattle.j39_timing.specs.AnyOrder.{AreBegunWithin, Controllers, HaveWaits, IsLegalInAnyOrder, IsFromOrdered, IsOrderedStream, as_offered, offered_traffic};
+ghost use Rattle.j39_timing.specs.AnyOrder.{AreBegunWithin, Controllers, HaveWaits, IsLegalInAnyOrder, IsFromOrdered, IsOrderedStream, IsUnordered, as_offered, offered_traffic};
 ghost use Rattle.j39_timing.specs.Companies.{Company, HasRoomInCompany, IsTrafficOfCompany};
 ghost use Rattle.j39_timing.specs.declared.stream.Stream.{Stream as TheStream};
 ghost use Rattle.j39_timing.specs.Rounds.{AreSenders, Senders, all_planned, in_rounds, nothing_else, of_rounds, traffic_of_rounds};
@@ -65,6 +65,20 @@ pub fn a_bound_is_reached()
     ensures { (s : Schedule) × (traffic : Traffic) × (others : Others) × (planned : ℕ → Bool) × (of : Origins) × IsLegal s
         × IsPlannedTraffic s traffic others 160 planned of 0 × HasRoom traffic others 160 0 160 × (1 < s.count) × (planned 1 ≡ true)
         × (of.source 1 ≡ 0) × (s.queued 1 + 160 < s.now) × (s.start 1 ≡ s.queued 1 + 160) }
+{}
+
+/// So it is where a unit keeps no order: there is a schedule, legal in any order, whose frames keep to a company, and in
+/// which a frame of such a unit waits for exactly as long as the bound says. While it waits, another frame of its unit
+/// goes before it that has a larger identifier.
+pub fn a_bound_of_a_company_is_reached()
+    ensures { (s : Schedule) × (controllers : Controllers) × (traffic : Traffic) × (planned : ℕ → Bool) × (of : Origins)
+        × (company : Company) × IsLegalInAnyOrder s controllers
+        × IsTrafficOfCompany s controllers traffic 0 160 planned of company
+        × ((j : ℕ) → j < traffic.count → 0 < (traffic.stream j).period) × (company.has 0 ≡ true)
+        × ((traffic.stream 0).bits ≤ 160) × HasRoomInCompany traffic company 0 160 0 320 × (2 < s.count)
+        × (planned 2 ≡ true) × (of.source 2 ≡ 0) × IsUnordered controllers 2
+        × (controllers.unit 1 ≡ controllers.unit 2) × (s.ident 2 < s.ident 1) × (s.start 1 ≡ s.queued 2 + 160)
+        × (s.queued 2 + 320 < s.now) × (s.start 2 ≡ s.queued 2 + 320) }
 {}
 
 /// The premises of broadcasts can be met: there is a legal schedule of any length in which each unit sends long messages to all, one behind

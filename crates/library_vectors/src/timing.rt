@@ -1,8 +1,8 @@
 //! Lengths of frames, and waits that were counted by hand: eight-byte frames at 250,000 bits a second, where 10 ms are 2,500 bits.
 use j39_timing::{
-    Stream, a_bound_is_reached, a_bus_with_errors_is_legal, ages_are_bounded,
-    broadcasts_can_be_sent, frame_bits, frames_behind_one_another_are_in_time, least_wait,
-    messages_in_turn_are_whole_in_time, planned_frames_are_in_time,
+    Stream, a_bound_is_reached, a_bound_of_a_company_is_reached, a_bus_with_errors_is_legal,
+    ages_are_bounded, broadcasts_can_be_sent, frame_bits, frames_behind_one_another_are_in_time,
+    least_wait, messages_in_turn_are_whole_in_time, planned_frames_are_in_time,
 };
 use std::test::Fail;
 
@@ -44,6 +44,7 @@ fn a_frame_waits_for_the_one_on_the_bus_and_for_each_flow_before_it(rt: HostRunt
     broadcasts_can_be_sent();
     ages_are_bounded();
     a_bound_is_reached();
+    a_bound_of_a_company_is_reached();
     // 1,280, 1,920 and 2,560 us, each with the 160 bits of the frame itself
     assert_eq!(rt; least_wait(160, &[], MOST), Some(160));
     assert_eq!(rt; least_wait(160, &[FLOW], MOST), Some(320));
