@@ -44,9 +44,17 @@ three_legal = record {
       | inr third ↦ (2, omega arith, (omega arith, omega arith))
     ]
   ];
-  in_order = λ p q in_p in_q early waits.
-      (q, (in_q, omega (arith, waits), (omega arith, omega arith), λ keeps.
-      absurd (let first : 1 - p ≡ 1 = eqb-true (1 - p) 1 keeps in omega (arith, first, waits))), omega arith);
+  in_order = λ p q in_p in_q early waits. (
+    q,
+    (
+      in_q,
+      omega (arith, waits),
+      (omega arith, omega arith),
+      λ keeps.
+          absurd (let first : 1 - p ≡ 1 = eqb-true (1 - p) 1 keeps in omega (arith, first, waits)),
+    ),
+    omega arith,
+  );
 }
 
 its_own : (p : ℕ) → p < 3 → 1 ≤ p → last_two.has (last_first.source p) ≡ true
@@ -94,5 +102,26 @@ pub reached_by_company : (s : Schedule) × (controllers : Controllers) × (traff
     × (planned 2 ≡ true) × (of.source 2 ≡ 0) × IsUnordered controllers 2
     × (controllers.unit 1 ≡ controllers.unit 2) × (s.ident 2 < s.ident 1) × (s.start 1 ≡ s.queued 2 + 160)
     × (s.queued 2 + 320 < s.now) × (s.start 2 ≡ s.queued 2 + 320)
-reached_by_company = (three, two_units, three_streams, all_planned, last_first, last_two, three_legal, three_of_company,
-    λ j _. omega arith, refl, omega arith, room, omega arith, refl, refl, refl, refl, omega arith, refl, omega arith, refl)
+reached_by_company = (
+  three,
+  two_units,
+  three_streams,
+  all_planned,
+  last_first,
+  last_two,
+  three_legal,
+  three_of_company,
+  λ j _. omega arith,
+  refl,
+  omega arith,
+  room,
+  omega arith,
+  refl,
+  refl,
+  refl,
+  refl,
+  omega arith,
+  refl,
+  omega arith,
+  refl,
+)
