@@ -9,7 +9,7 @@ use Rattle.j39_id.specs.Services.{address_claimed}
 use Rattle.j39_id.specs.declared.frame.Frame.{Frame}
 use Rattle.j39_findings.specs.declared.plan.Plan.{Plan}
 use Rattle.j39_findings.specs.declared.plan.unit_plan.UnitPlan.{UnitPlan}
-use Rattle.j39_text.specs.FrameText.{cannot_claim, carries_name, claims_address, name_in}
+use Rattle.j39_id.specs.FrameMeaning.{cannot_claim, carries_name, claims_address, name_in}
 use Rattle.j39_follow.specs.Contests.{Begins, EndsContest, IsContest, IsNameBehind, IsTaken, Timed, claim_wait, frames_of, likely_named}
 use Rattle.j39_follow.specs.Holders.{Claims, IsHolder}
 use Rattle.j39_follow.specs.Who.{IsLikeliest, IsWho}

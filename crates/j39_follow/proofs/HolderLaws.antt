@@ -3,7 +3,7 @@ use Rattle.std.proofs.Common.{◌≡◌, ◌⊎◌, ℕ, List, [], ◌∷◌, �
 use Rattle.std.specs.List.{Contains}
 use Rattle.std.proofs.lemmas.List.Elements.{All-contains, Contains-append_right}
 use Rattle.j39_id.specs.declared.frame.Frame.{Frame}
-use Rattle.j39_text.specs.FrameText.{name_in}
+use Rattle.j39_id.specs.FrameMeaning.{name_in}
 use Rattle.j39_follow.specs.Holders.{HoldsByFrames, HoldsOneAddress, HasOneHolder, TakesFrom}
 use Rattle.j39_follow.proofs.Recounts.{claim_tells}
 

@@ -10,7 +10,7 @@ use Rattle.j39_findings.specs.declared.plan.group_plan.GroupPlan.{GroupPlan}
 use Rattle.j39_log.proofs.OneText.{one_packet}
 use Rattle.j39_log.specs.LogPairs.{Seen, heard}
 use Rattle.j39_log.specs.NamedReports.{named_reading_lines}
-use Rattle.j39_text.specs.FrameText.{requested_group}
+use Rattle.j39_id.specs.FrameMeaning.{requested_group}
 use Rattle.j39_tp.proofs.Tracking.{one_message, one_pgn}
 use Rattle.j39_tp.specs.declared.packet.Packet.{Packet}
 use Rattle.j39_follow.specs.Contests.{Timed}

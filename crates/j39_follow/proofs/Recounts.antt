@@ -4,7 +4,7 @@ use Rattle.std.proofs.Common.{◌++◌, Option, Some, None, inl, inr, refl, sym,
 use Rattle.std.proofs.Common.{eqb-true}
 use Rattle.std.proofs.lemmas.Bool.{eqb-false}
 use Rattle.j39_id.specs.declared.frame.Frame.{Frame}
-use Rattle.j39_text.specs.FrameText.{cannot_claim, claims_address, name_in}
+use Rattle.j39_id.specs.FrameMeaning.{cannot_claim, claims_address, name_in}
 use Rattle.j39_follow.specs.Holders.{Claims, HoldsByFrames, IsTold, TakesFrom, TellsOf}
 use Rattle.j39_follow.specs.declared.holders.Holders.{Holders}
 use Rattle.j39_findings.specs.declared.plan.Plan.{Plan}

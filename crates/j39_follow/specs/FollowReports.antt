@@ -12,7 +12,7 @@ use Rattle.j39_findings.specs.ListPlaces.{ValueAt}
 use Rattle.j39_findings.specs.declared.plan.Plan.{Plan}
 use Rattle.j39_findings.specs.declared.plan.group_plan.GroupPlan.{GroupPlan}
 use Rattle.j39_log.specs.NamedReports.{named_reading_lines}
-use Rattle.j39_text.specs.FrameText.{cannot_claim, claims_address, name_in, requested_group, requests_group}
+use Rattle.j39_id.specs.FrameMeaning.{cannot_claim, claims_address, name_in, requested_group, requests_group}
 use Rattle.j39_text.specs.Labels.{unit_label}
 use Rattle.j39_text.specs.Texts.{field, place_field}
 use Rattle.j39_follow.specs.Contests.{IsTaken, Timed}

@@ -2,7 +2,7 @@
 use Rattle.std.specs.Prelude.{◌≡◌, ◌⊎◌, ℕ, ◌||◌, true, List, ◌∷◌, ◌++◌, Option, Some, None}
 use Rattle.std.specs.List.{All}
 use Rattle.j39_id.specs.declared.frame.Frame.{Frame}
-use Rattle.j39_text.specs.FrameText.{claims_address, cannot_claim, name_in}
+use Rattle.j39_id.specs.FrameMeaning.{claims_address, cannot_claim, name_in}
 
 -- the unit of this NAME claims this address, as its source
 pub record Claims (f : Frame) (name address : ℕ) : Type 0 where

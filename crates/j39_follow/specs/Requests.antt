@@ -1,8 +1,9 @@
 -- Requests of a plan in a log, and what answers them (SAE J1939-21, request and acknowledgement).
-use Rattle.std.specs.Prelude.{ℕ, ◌+◌, ◌*◌, ◌==◌, ◌&&◌, ◌||◌, nat_lt, not, Bool, true, false, if◌then◌else◌}
+use Rattle.std.specs.Prelude.{ℕ, ◌==◌, ◌&&◌, ◌||◌, nat_lt, not, Bool, true, false, if◌then◌else◌}
 use Rattle.std.specs.Prelude.{List, [], codes, count_by, drop, length, map, slice_index, slice_index_or, Option, Some, None}
 use Rattle.std.specs.List.{filter, position, zip}
 use Rattle.j39_id.specs.Ident.{pgn_of}
+use Rattle.j39_id.specs.Pgn.{number_from}
 use Rattle.j39_id.specs.Services.{acknowledgement}
 use Rattle.j39_id.specs.declared.frame.Frame.{Frame}
 use Rattle.j39_findings.specs.declared.plan.Plan.{Plan}
@@ -84,8 +85,7 @@ told_address plan f = if acknowledges plan f then asker_address f else f.ident.s
 
 -- the group that was asked for
 abbrev pub acknowledged_group : Frame → ℕ
-acknowledged_group f =
-    slice_index f.payload.items 5 + 256 * slice_index f.payload.items 6 + 65536 * slice_index f.payload.items 7
+acknowledged_group f = number_from f.payload.items 5
 
 -- ---- what concerns requests
 

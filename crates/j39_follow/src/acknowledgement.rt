@@ -12,8 +12,8 @@ use crate::known_parties::Parties;
 use crate::party_text::write_answer_way;
 use crate::stamp::{Stamp, write_stamp};
 use j39_findings::Plan;
-use j39_id::Frame;
 use j39_id::services::ACKNOWLEDGEMENT;
+use j39_id::{Frame, number_of_bytes};
 use j39_text::TextBuffer;
 use std::alloc::AllocError;
 
@@ -74,7 +74,7 @@ pub(crate) fn acknowledged_group(frame: &Frame) -> u32
     ensures { result ≡ acknowledged_group frame.now }
 {
     let payload = frame.payload.as_slice();
-    u32::from(payload[5]) + 256 * u32::from(payload[6]) + 65536 * u32::from(payload[7])
+    number_of_bytes([payload[5], payload[6], payload[7]])
 }
 
 // What an acknowledgement says, if it is known.

@@ -1,7 +1,7 @@
 //! Contests for addresses.
 ghost use Rattle.std.specs.Prelude.{◌≡◌, ◌<◌, ◌||◌, [], ◌∷◌, ◌++◌, ℕ, List, Option, Some, None, true, is_some};
 ghost use Rattle.j39_findings.specs.declared.plan.Plan.{Plan as APlan};
-ghost use Rattle.j39_text.specs.FrameText.{cannot_claim, claims_address};
+ghost use Rattle.j39_id.specs.FrameMeaning.{cannot_claim, claims_address};
 ghost use Rattle.j39_follow.specs.Contests.{Timed, frames_of};
 ghost use Rattle.j39_follow.specs.LogLines.{moment_of};
 ghost use Rattle.j39_follow.specs.inside.Contesting.{AreContests, AreContestsLeft, IsBegun, begun_or, claimed_place, contest_at, defender_at, ends, is_place, contest_left};
@@ -9,12 +9,11 @@ ghost use Rattle.j39_follow.specs.inside.Recounting.{Knows};
 
 use crate::contest::Contest;
 use crate::directory::Directory;
-use crate::holders::{carried_name, claims_address};
 use crate::known_parties::ADDRESSES;
 use crate::moment::moment;
 use j39_findings::Plan;
 use j39_id::addresses::is_in_pool;
-use j39_id::{Frame, Ident};
+use j39_id::{Frame, Ident, carried_name, claims_address};
 
 // How long a unit waits behind its claim of an address of the pool, in microseconds.
 const CLAIM_WAIT: u64 = 250_000;
@@ -37,7 +36,7 @@ fn contest_since(plan: &Plan, directory: &Directory, frame: &Frame, since: u64) 
     let Some(defender) = directory.name_behind(plan, frame.ident.sa) else {
         return None;
     };
-    let claimant = carried_name(frame);
+    let claimant = carried_name(frame).to_bits();
     if defender < claimant {
         Some(Contest {
             claimant,
@@ -173,7 +172,7 @@ impl Contests {
             → IsBegun plan log (record { frame = frame.now; time = time }) begun
             → AreContests plan self.new (log ++ record { frame = frame.now; time = time } ∷ []) }
     {
-        let rest = all_left(&self.table, carried_name(frame), claimed(frame));
+        let rest = all_left(&self.table, carried_name(frame).to_bits(), claimed(frame));
         self.table = with_begun(rest, frame.ident.sa, begun);
     }
 

@@ -1,21 +1,18 @@
 //! Which NAME holds which address.
-ghost use Rattle.std.specs.Prelude.{◌≡◌, ◌≢◌, ◌<◌, ◌++◌, ◌∷◌, [], ℕ, List, length, Some, None, true, false, IsTrue, ◌↔◌, IfNone, IfSome};
-ghost use Rattle.std.specs.Int.{w64, from_le_bytes};
+ghost use Rattle.std.specs.Prelude.{◌≡◌, ◌≢◌, ◌<◌, ◌++◌, ◌∷◌, [], ℕ, List, Some, None, true, false, IfNone, IfSome};
 ghost use Rattle.std.specs.List.{slice_get};
 ghost use Rattle.j39_id.specs.Addresses.{null_address};
 ghost use Rattle.j39_id.specs.Limits.{unit_limit};
 ghost use Rattle.j39_id.specs.declared.frame.Frame.{Frame as AFrame};
 ghost use Rattle.j39_findings.specs.declared.plan.Plan.{Plan as APlan};
 ghost use Rattle.j39_findings.specs.declared.plan.unit_plan.UnitPlan.{UnitPlan as AUnitPlan};
-ghost use Rattle.j39_text.specs.FrameText.{cannot_claim, carries_name, claims_address, name_in};
 ghost use Rattle.j39_follow.specs.Holders.{IsHolder, IsTold, TellsOf};
 ghost use Rattle.j39_follow.specs.inside.Recounting.{HasNameAt, IsLeft, IsMarked, IsMoved, Recounts, is_marked};
 
 use j39_findings::Plan;
 use j39_id::addresses::NULL_ADDRESS;
 use j39_id::limits::UNIT_LIMIT;
-use j39_id::services::ADDRESS_CLAIMED;
-use j39_id::{Frame, Name};
+use j39_id::{Frame, cannot_claim, carried_name, claims_address};
 
 // The addresses that units hold: 0 to 253.
 const ADDRESSES: usize = NULL_ADDRESS as usize;
@@ -25,37 +22,6 @@ const ADDRESSES: usize = NULL_ADDRESS as usize;
 pub(crate) struct Holders {
     names: [Option<u64>; ADDRESSES],
     told: [bool; UNIT_LIMIT],
-}
-
-// Whether the frame carries the NAME of a unit.
-fn is_of_name(frame: &Frame) -> bool
-    ensures { result ≡ carries_name frame.now }
-{
-    frame.ident.edp == 0 && frame.ident.pgn() == ADDRESS_CLAIMED && frame.payload.len() == 8
-}
-
-/// Whether a unit claims an address.
-pub(crate) fn claims_address(frame: &Frame) -> bool
-    ensures { result ≡ claims_address frame.now }
-{
-    is_of_name(frame) && frame.ident.sa < NULL_ADDRESS
-}
-
-/// Whether a unit tells that it can't claim an address.
-pub(crate) fn cannot_claim(frame: &Frame) -> bool
-    ensures { result ≡ cannot_claim frame.now }
-{
-    is_of_name(frame) && frame.ident.sa == NULL_ADDRESS
-}
-
-/// The NAME that a frame carries.
-pub(crate) fn carried_name(frame: &Frame) -> u64
-    requires { length frame.now.payload.items ≡ 8 }
-    ensures { result ≡ name_in frame.now }
-{
-    let mut bytes = [0; 8];
-    bytes.copy_from_slice(frame.payload.as_slice());
-    Name::from_bytes(bytes).to_bits()
 }
 
 // A place for each address, all of them empty.
@@ -128,9 +94,9 @@ impl Holders {
         ensures { (frames : List AFrame) → Recounts plan.now self.old frames → Recounts plan.now self.new (frames ++ frame.now ∷ []) }
     {
         if claims_address(frame) {
-            self.tell(plan, carried_name(frame), Some(frame.ident.sa));
+            self.tell(plan, carried_name(frame).to_bits(), Some(frame.ident.sa));
         } else if cannot_claim(frame) {
-            self.tell(plan, carried_name(frame), None);
+            self.tell(plan, carried_name(frame).to_bits(), None);
         }
     }
 

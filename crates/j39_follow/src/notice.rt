@@ -1,6 +1,5 @@
 //! What is written first at a frame: what it tells of addresses, or what it asks for.
 ghost use Rattle.std.specs.Prelude.{◌≡◌, ◌++◌, ℕ, List, Option, length, OnOk};
-ghost use Rattle.j39_text.specs.FrameText.{requested_group, requests_group};
 ghost use Rattle.j39_follow.specs.Contests.{Timed};
 ghost use Rattle.j39_follow.specs.FollowReports.{IsAsked, IsNotice, IsWay, cannot_text, claim_text, asked_line as request_line};
 ghost use Rattle.j39_follow.specs.inside.Contesting.{ShowsAsker, ShowsParties};
@@ -9,32 +8,14 @@ ghost use Rattle.j39_follow.specs.inside.Reporting.{front_of};
 use crate::acknowledgement::{acknowledges, write_acknowledgement};
 use crate::asking::{asked_request, write_asked};
 use crate::group_line::sending_of;
-use crate::holders::{cannot_claim, carried_name, claims_address};
 use crate::known_parties::Parties;
 use crate::message::in_frame;
 use crate::party_text::{write_named, write_way};
 use crate::stamp::{Stamp, write_stamp};
 use j39_findings::Plan;
-use j39_id::Frame;
-use j39_id::services::REQUEST;
+use j39_id::{Frame, cannot_claim, carried_name, claims_address, requested_group, requests_group};
 use j39_text::TextBuffer;
 use std::alloc::AllocError;
-
-/// Whether a unit asks for a group.
-pub(crate) fn requests_group(frame: &Frame) -> bool
-    ensures { result ≡ requests_group frame.now }
-{
-    frame.ident.edp == 0 && frame.ident.pgn() == REQUEST && frame.payload.len() == 3
-}
-
-/// The group that three bytes request.
-pub(crate) fn requested_group(frame: &Frame) -> u32
-    requires { length frame.now.payload.items ≡ 3 }
-    ensures { result ≡ requested_group frame.now }
-{
-    let payload = frame.payload.as_slice();
-    u32::from(payload[0]) + 256 * u32::from(payload[1]) + 65536 * u32::from(payload[2])
-}
 
 #[tactic(auto, unfolding(crate::specs::FollowReports::claim_text))]
 fn write_claim(
@@ -103,9 +84,15 @@ pub(crate) fn write_notice(
         → (piece : List ℕ) × IsNotice plan.now log (front_of stamp.entry) frame.now piece × (text.new ≡ text.old ++ piece)) }
 {
     if claims_address(frame) {
-        write_claim(text, plan, stamp, carried_name(frame), frame.ident.sa)
+        write_claim(
+            text,
+            plan,
+            stamp,
+            carried_name(frame).to_bits(),
+            frame.ident.sa,
+        )
     } else if cannot_claim(frame) {
-        write_cannot(text, plan, stamp, carried_name(frame))
+        write_cannot(text, plan, stamp, carried_name(frame).to_bits())
     } else if requests_group(frame) {
         write_request(text, plan, parties, stamp, frame)
     } else if acknowledges(plan, frame) {

@@ -4,7 +4,7 @@ ghost use Rattle.std.specs.Option.{option_to_list};
 ghost use Rattle.j39_follow.specs.Contests.{Timed};
 ghost use Rattle.j39_follow.specs.FollowReports.{aim_at as aim_at_unit, answer_aim as aim_of_answer, notice_events, refusal_events, reply_of};
 ghost use Rattle.j39_follow.specs.Requests.{asked_request as asked_request_of, counted_number as number_that_counts};
-ghost use Rattle.j39_text.specs.FrameText.{requested_group};
+ghost use Rattle.j39_id.specs.FrameMeaning.{requested_group};
 ghost use Rattle.j39_follow.specs.Who.{unit_of};
 ghost use Rattle.j39_follow.specs.declared.event.Event.{Event as AnEvent};
 ghost use Rattle.j39_follow.specs.declared.event.Event.TheVariants.{Asked, Brought};
@@ -19,12 +19,11 @@ use crate::exchanges::Exchanges;
 use crate::group_line::sending_of;
 use crate::known_parties::Parties;
 use crate::message::{Sort, in_frame};
-use crate::notice::{requested_group, requests_group};
 use crate::sending::{Aim, Sending};
 use crate::who::Who;
 use j39_findings::Plan;
-use j39_id::Frame;
 use j39_id::addresses::GLOBAL_ADDRESS;
+use j39_id::{Frame, requested_group, requests_group};
 
 // Whom a message is for that is for this one.
 fn aim_at(who: Who) -> Aim

@@ -1,6 +1,7 @@
 pub mod Addresses
 pub mod FirstFault
 pub mod FrameLine
+pub mod FrameMeaning
 pub mod Ident
 pub mod Limits
 pub mod Lines

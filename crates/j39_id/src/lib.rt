@@ -7,6 +7,7 @@ mod advance;
 mod cut;
 mod cutter;
 mod frame;
+mod frame_meaning;
 mod hex_digits;
 mod ident;
 mod label;
@@ -27,6 +28,9 @@ pub use advance::Advance;
 pub use cut::Cut;
 pub use cutter::{Cutter, LINE_LIMIT};
 pub use frame::Frame;
+pub use frame_meaning::{
+    cannot_claim, carried_name, claims_address, requested_group, requests_group,
+};
 pub use ident::Ident;
 pub use label::Label;
 pub use last_word::{is_separator, split_last, words_end};
@@ -36,6 +40,6 @@ pub use laws::{
 pub use line_error::LineError;
 pub use name::Name;
 pub use name_fields::{NameError, NameField, NameFields};
-pub use pgn::{EXTENDED_PAGE, PDU2_FIRST, Pgn, pf_of};
+pub use pgn::{EXTENDED_PAGE, PDU2_FIRST, Pgn, number_of_bytes, pf_of};
 pub use printing::print_frame;
 pub use reading::read_frame;

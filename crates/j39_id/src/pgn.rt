@@ -1,6 +1,6 @@
 //! Parameter group numbers.
 ghost use Rattle.std.specs.Prelude.{◌≡◌, ℕ, ◌<◌, ◌↔◌, IsTrue, IsSome, IfSome};
-ghost use Rattle.j39_id.specs.Pgn.{pdu2_first, pf_of};
+ghost use Rattle.j39_id.specs.Pgn.{number_of_bytes, pdu2_first, pf_of};
 
 use std::marker::Model;
 
@@ -42,6 +42,14 @@ pub fn pf_of(number: u32) -> u8
     (number >> 8 & 0xff) as u8
 }
 
+/// The number that three bytes are, the least significant first; it may be no group's.
+pub fn number_of_bytes(bytes: [u8; 3]) -> u32
+    ensures { result ≡ number_of_bytes bytes }
+{
+    let [low, middle, high] = bytes;
+    u32::from_le_bytes([low, middle, high, 0])
+}
+
 impl Pgn {
     ghost use Rattle.j39_id.specs.Pgn.{IsPgn, number_of_bytes, pgn_bytes};
 
@@ -78,8 +86,7 @@ impl Pgn {
         ensures valid { IsSome result ↔ IsPgn (number_of_bytes bytes) }
         ensures value { IfSome result (λ p. p ≡ number_of_bytes bytes) }
     {
-        let [low, middle, high] = bytes;
-        Pgn::new(u32::from_le_bytes([low, middle, high, 0]))
+        Pgn::new(number_of_bytes(bytes))
     }
 
     /// Whether the group's frames name a destination.

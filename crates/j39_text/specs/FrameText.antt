@@ -1,14 +1,14 @@
 -- The text that the frame command writes for a line.
-use Rattle.std.specs.Prelude.{◌≡◌, ℕ, Bool, ◌==◌, ◌||◌, ◌&&◌, length, if◌then◌else◌, List, [], ◌∷◌, ◌++◌, codes, decimal}
+use Rattle.std.specs.Prelude.{◌≡◌, ℕ, ◌==◌, ◌||◌, if◌then◌else◌, List, [], ◌∷◌, ◌++◌, codes, decimal}
 use Rattle.std.specs.Int.{w64, to_be_bytes}
 use Rattle.hex.specs.Hex.{encode_upper}
 use Rattle.std.specs.List.{before_first}
-use Rattle.j39_id.specs.Addresses.{global_address, is_address, null_address}
+use Rattle.j39_id.specs.Addresses.{global_address}
 use Rattle.j39_id.specs.Ident.{pgn_of}
-use Rattle.j39_id.specs.Name.{fields_of, name_of_bytes}
-use Rattle.j39_id.specs.Pgn.{is_pdu2, number_of_bytes}
-use Rattle.j39_id.specs.Services.{address_claimed, request}
+use Rattle.j39_id.specs.Name.{fields_of}
+use Rattle.j39_id.specs.Pgn.{is_pdu2}
 use Rattle.j39_id.specs.FrameLine.{Spells, HasLineFault, canon}
+use Rattle.j39_id.specs.FrameMeaning.{cannot_claim, claims_address, name_in, requested_group, requests_group}
 use Rattle.j39_id.specs.Lines.{is_line_feed}
 use Rattle.j39_id.specs.declared.name_fields.NameFields.{NameFields}
 use Rattle.j39_id.specs.declared.ident.Ident.{Ident}
@@ -37,22 +37,6 @@ head_lines f = codes "frame " ++ (canon f ++ (10 ∷ [] ++ route_line f.ident))
 
 -- ---- what a frame says besides its route
 
--- the frame carries the NAME of a unit
-abbrev pub carries_name : Frame → Bool
-carries_name f = f.ident.edp == 0 && (pgn_of f.ident == address_claimed && length f.payload.items == 8)
-
--- a unit claims the address that it sends from
-abbrev pub claims_address : Frame → Bool
-claims_address f = carries_name f && is_address f.ident.sa
-
--- a unit can't claim an address: it sends from the null address
-abbrev pub cannot_claim : Frame → Bool
-cannot_claim f = carries_name f && f.ident.sa == null_address
-
--- a unit asks for a group
-abbrev pub requests_group : Frame → Bool
-requests_group f = f.ident.edp == 0 && (pgn_of f.ident == request && length f.payload.items == 3)
-
 -- the fields of a NAME from the lowest up, in three parts
 unfoldable pub lower_fields : NameFields → List ℕ
 lower_fields f =
@@ -74,14 +58,6 @@ fields_line f = lower_fields f ++ (middle_fields f ++ (upper_fields f ++ 10 ∷ 
 -- the digits of a NAME, and its fields in a line of their own
 unfoldable pub name_lines : ℕ → List ℕ
 name_lines n = encode_upper (to_be_bytes w64 n) ++ (10 ∷ [] ++ fields_line (fields_of n))
-
--- the NAME that a payload carries, least significant byte first
-abbrev pub name_in : Frame → ℕ
-name_in f = name_of_bytes f.payload.items
-
--- the group that a payload requests, least significant byte first
-abbrev pub requested_group : Frame → ℕ
-requested_group f = number_of_bytes f.payload.items
 
 unfoldable pub claim_lines : Frame → List ℕ
 claim_lines f = field (codes "claim ") f.ident.sa ++ (codes " name " ++ name_lines (name_in f))

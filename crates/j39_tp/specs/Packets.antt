@@ -1,13 +1,12 @@
 -- The eight bytes of each transport packet (SAE J1939-21, connection management and data transfer).
 use Rattle.std.specs.Prelude.{◌≡◌, ℕ, ◌+◌, ◌*◌, ◌/◌, ◌%◌, ◌<◌, ◌==◌, ◌||◌, ◌&&◌, not, nat_lt, nat_le, Bool, true, false, List, [], ◌∷◌, length, slice_index}
 use Rattle.j39_id.specs.Limits.{frame_bytes, packet_bytes, message_bytes}
-use Rattle.j39_id.specs.Pgn.{IsPgn, is_pgn}
+use Rattle.j39_id.specs.Pgn.{IsPgn, is_pgn, number_from, pgn_bytes}
 use Rattle.j39_tp.specs.Chunks.{IsSize, packets_of, unused}
 use Rattle.j39_tp.specs.declared.packet.Packet.{Packet}
 use Rattle.j39_tp.specs.declared.packet.Packet.TheVariants.{Rts, Cts, EndAck, Bam, Abort, Dt}
 use Rattle.j39_tp.specs.declared.packet.packet_error.PacketError.{PacketError}
 use Rattle.j39_tp.specs.declared.packet.packet_error.PacketError.TheVariants.{Length, Control, Size, Count, Number, Group}
-use Rattle.j39_id.specs.Pgn.{pgn_bytes}
 
 -- ---- what is sent
 
@@ -72,7 +71,7 @@ abbrev pub size_in : List ℕ → ℕ
 size_in bytes = slice_index bytes 1 + 256 * slice_index bytes 2
 
 abbrev pub pgn_in : List ℕ → ℕ
-pgn_in bytes = slice_index bytes 5 + 256 * slice_index bytes 6 + 65536 * slice_index bytes 7
+pgn_in bytes = number_from bytes 5
 
 -- the bytes give the size of a message and its number of packets
 pub record GivesSize (bytes : List ℕ) (size : ℕ) : Type 0 where

@@ -7,7 +7,7 @@ use Rattle.j39_id.specs.Pgn.{is_pdu2, is_pgn, pf_of}
 use Rattle.j39_id.specs.Services.{address_claimed, is_service, request}
 use Rattle.j39_id.specs.declared.frame.Frame.{Frame}
 use Rattle.j39_id.specs.declared.ident.Ident.{Ident}
-use Rattle.j39_text.specs.FrameText.{carries_name}
+use Rattle.j39_id.specs.FrameMeaning.{carries_name}
 use Rattle.j39_world.specs.Sent.{to_all}
 
 -- ---- a claim

@@ -13,7 +13,7 @@ use Rattle.j39_id.specs.declared.frame.Frame.{Frame}
 use Rattle.j39_claim.specs.declared.item.Item.{Item}
 use Rattle.j39_claim.specs.declared.item.Item.TheVariants.{Told, Request}
 use Rattle.j39_claim.specs.declared.item.Say.TheVariants.{Claim, Cannot}
-use Rattle.j39_text.specs.FrameText.{carries_name, name_in, requests_group}
+use Rattle.j39_id.specs.FrameMeaning.{carries_name, name_in, requests_group}
 use Rattle.j39_world.specs.Sent.{Sent, frame_of, sent_of, source_of}
 use Rattle.j39_follow.specs.Holders.{Claims, HoldsByFrames, TakesFrom, TellsOf}
 use Rattle.j39_follow.proofs.Holding.{holds_new, holds_on}

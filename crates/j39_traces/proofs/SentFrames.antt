@@ -17,7 +17,7 @@ use Rattle.j39_findings.specs.declared.plan.Plan.{Plan}
 use Rattle.j39_findings.specs.declared.plan.group_plan.GroupPlan.{GroupPlan}
 use Rattle.j39_findings.specs.declared.plan.to.To.{To}
 use Rattle.j39_findings.specs.declared.plan.to.To.TheVariants.{All as ToAll, One as ToOne}
-use Rattle.j39_text.specs.FrameText.{carries_name, requests_group}
+use Rattle.j39_id.specs.FrameMeaning.{carries_name, requests_group}
 use Rattle.j39_tp.specs.Sender as sender
 use Rattle.j39_world.proofs.Refusals.{none_hold}
 use Rattle.j39_world.specs.Flows.{dest_of, has_length, is_short}

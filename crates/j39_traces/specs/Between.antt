@@ -11,7 +11,7 @@ use Rattle.j39_findings.specs.declared.plan.to.To.{To}
 use Rattle.j39_findings.specs.declared.plan.to.To.TheVariants.{All, One}
 use Rattle.j39_findings.specs.declared.steps.Step.{Step}
 use Rattle.j39_findings.specs.declared.steps.Step.TheVariants.{Begin, Send, Emit, Take, LateSender, LateReceiver}
-use Rattle.j39_text.specs.FrameText.{carries_name, requests_group}
+use Rattle.j39_id.specs.FrameMeaning.{carries_name, requests_group}
 use Rattle.j39_world.specs.declared.flow.Flow.{Flow}
 use Rattle.j39_world.specs.Flows.{flows_of}
 use Rattle.j39_world.specs.PlannedUnits.{unit_at, units_of}

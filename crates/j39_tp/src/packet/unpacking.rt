@@ -1,7 +1,7 @@
 //! Unpacking bytes into packets.
-ghost use Rattle.std.specs.Prelude.{◌≡◌, ◌+◌, ◌*◌, ◌==◌, not, IfOk, IfErr, if◌then◌else◌};
+ghost use Rattle.std.specs.Prelude.{◌≡◌, ◌+◌, ◌*◌, ◌==◌, not, IfOk, IfErr, if◌then◌else◌, [], ◌∷◌};
 ghost use Rattle.j39_id.specs.FirstFault.{first_fault};
-ghost use Rattle.j39_id.specs.Pgn.{is_pgn};
+ghost use Rattle.j39_id.specs.Pgn.{is_pgn, number_of_bytes};
 ghost use Rattle.j39_tp.specs.Chunks.{packets_of};
 ghost use Rattle.j39_tp.specs.Packets.{is_size, InRange, ManagementReads, DataReads, management_faults, data_faults};
 
@@ -27,7 +27,9 @@ fn size_of(low: u8, high: u8, packets: u8) -> Result<Size, PacketError>
 
 // The PGN that three bytes give.
 fn pgn_of(low: u8, middle: u8, high: u8) -> Result<Pgn, PacketError>
-    ensures { result ≡ (if is_pgn (low + 256 * middle + 65536 * high) then Ok (low + 256 * middle + 65536 * high) else Err PacketError.Group) }
+    ensures { result ≡
+        (if is_pgn (number_of_bytes (low ∷ middle ∷ high ∷ [])) then Ok (number_of_bytes (low ∷ middle ∷ high ∷ []))
+        else Err PacketError.Group) }
 {
     let Some(pgn) = Pgn::from_bytes([low, middle, high]) else {
         return Err(PacketError::Group);

@@ -22,7 +22,7 @@ returns-in_default c = λ log knows address other begins.
 pub returns-then-defender-claimant : goal.returns-then-defender-claimant
 returns-then-defender-claimant c = λ log knows. record {
   pool = sym c.is_in_pool.ensures ∙ c.if-not-is_in_pool.false;
-  claims = record { claim = c.requires; name_is = sym c.carried_name-claimant.ensures; source_is = refl };
+  claims = record { claim = c.requires; name_is = sym (c.to_bits-claimant.ensures.value ∙ c.carried_name.ensures); source_is = refl };
   behind = subst (IsBehind c.args.plan.now (frames_of log) c.args.frame.now.ident.sa) c.in-Some.is (c.name_behind.ensures (frames_of log) knows);
   smaller = c.if-defender-claimant.true;
   since = refl;
@@ -35,7 +35,7 @@ returns-else-defender-claimant c = λ log knows address other begins.
     let here = subst (IsBehind plan frames c.args.frame.now.ident.sa) c.in-Some.is (c.name_behind.ensures frames knows) in
     let there = subst (λ (a : ℕ). IsNameBehind plan frames a other.defender) (sym begins.claims.source_is) begins.behind in
     let same : c.in-Some.defender ≡ other.defender = one_name_behind plan frames c.args.frame.now.ident.sa c.in-Some.defender other.defender here there in
-    let name : c.carried_name-claimant.result ≡ other.claimant = c.carried_name-claimant.ensures ∙ begins.claims.name_is in
+    let name : c.to_bits-claimant.result ≡ other.claimant = c.to_bits-claimant.ensures.value ∙ c.carried_name.ensures ∙ begins.claims.name_is in
     let less : other.defender < other.claimant = begins.smaller in
     let test = c.if-defender-claimant.false in
     absurd (omega (arith, same, name, less, test))

@@ -4,7 +4,7 @@ use Rattle.std.proofs.lemmas.Result.{IfOk-weaker}
 use Rattle.j39_follow.specs.FollowReports.{cannot_line, cannot_text, claim_line, claim_text}
 use Rattle.j39_follow.specs.Requests.{acknowledges}
 use Rattle.j39_follow.specs.inside.Reporting.{front_of}
-use Rattle.j39_text.specs.FrameText.{cannot_claim, claims_address, requests_group}
+use Rattle.j39_id.specs.FrameMeaning.{cannot_claim, claims_address, requests_group}
 use Rattle.j39_follow.proofs.Told.{an_answer_way, an_asked}
 use Rattle.j39_follow.proofs.Ways.{a_way, if_not, if_so}
 use Rattle.j39_follow.proofs.notice.write_notice.Goals as goal
@@ -29,7 +29,7 @@ returns-then-claims_address c =
         asked_is = asked.1;
         text_is = if_so (claims_address f) _ _ (sym c.claims_address.ensures ∙ c.if-claims_address.true);
       },
-      written ∙ ap (λ (name : ℕ). c.args.text.now ++ claim_text plan front name f.ident.sa) c.carried_name.ensures,
+      written ∙ ap (λ (name : ℕ). c.args.text.now ++ claim_text plan front name f.ident.sa) (c.to_bits.ensures.value ∙ c.carried_name.ensures),
     ))
     c.write_claim.ensures
 
@@ -54,7 +54,7 @@ returns-then-cannot_claim c =
         text_is = if_not (claims_address f) _ _ _ (sym c.claims_address.ensures ∙ c.if-claims_address.false)
             (if_so (cannot_claim f) _ _ (sym c.cannot_claim.ensures ∙ c.if-cannot_claim.true));
       },
-      written ∙ ap (λ (name : ℕ). c.args.text.now ++ cannot_text plan front name) c.carried_name-then-cannot_claim.ensures,
+      written ∙ ap (λ (name : ℕ). c.args.text.now ++ cannot_text plan front name) (c.to_bits-then-cannot_claim.ensures.value ∙ c.carried_name-then-cannot_claim.ensures),
     ))
     c.write_cannot.ensures
 

@@ -1,6 +1,6 @@
 use Rattle.std.proofs.Common.{◌≡◌, ◌++◌, ◌∷◌, [], ℕ, List, codes, refl, sym, ap, subst, ◌∙◌, append_assoc}
 use Rattle.std.proofs.lemmas.Result.{IfOk-weaker}
-use Rattle.j39_text.specs.FrameText.{requested_group}
+use Rattle.j39_id.specs.FrameMeaning.{requested_group}
 use Rattle.j39_text.specs.Texts.{field}
 use Rattle.j39_follow.specs.FollowReports.{IsSendingOf, Message, asked_line as request_line}
 use Rattle.j39_follow.specs.Requests.{asked_request, asked_text}

@@ -4,4 +4,4 @@ use Rattle.j39_text.proofs.frame.meaning.write_cannot_claim.Goals as goal
 
 pub returns : goal.returns
 unfolding cannot_claim_lines
-returns c = simp (c.in_ok-word.ensures, c.carried_name.ensures, c.as_slice.ensures.value, append_assoc) at c.write_name.ensures
+returns c = simp (c.in_ok-word.ensures, c.carried_name.ensures, append_assoc) at c.write_name.ensures
