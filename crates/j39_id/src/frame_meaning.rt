@@ -3,9 +3,8 @@ ghost use Rattle.std.specs.Prelude.{◌≡◌, length};
 ghost use Rattle.j39_id.specs.FrameMeaning.{cannot_claim, carries_name, claims_address, name_in, requested_group, requests_group};
 
 use crate::addresses::NULL_ADDRESS;
-use crate::number_of_bytes;
 use crate::services::{ADDRESS_CLAIMED, REQUEST};
-use crate::{Frame, Name};
+use crate::{Frame, Name, number_of_bytes};
 
 // Whether the frame carries the NAME of a unit.
 #[inline(always)]
