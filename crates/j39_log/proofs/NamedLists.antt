@@ -14,8 +14,7 @@ use Rattle.j39_log.specs.LogReports as plain
 use Rattle.j39_log.specs.NamedReports.{HasNoMeanings, NamedSignal, NumberNames, meaning_names, named_lines, parameter_names, raw_text, named_reading_lines, named_record_line, named_record_lines, named_record_signals, named_records_lines, named_signal_line, named_signal_lines, named_single_signals, named_state_text}
 use Rattle.j39_log.specs.declared.name_table.NameTable.{NameTable}
 use Rattle.j39_log.specs.declared.names.GroupNames.{GroupNames}
-use Rattle.j39_log.specs.inside.NameTables.{AreGroupNames, HasTables, lines_by, named_by, names_in, value_names_of}
-use Rattle.j39_log.proofs.Unnamed.{states_of}
+use Rattle.j39_log.specs.inside.NameTables.{AreGroupNames, HasTables, lines_by, named_by, names_in}
 
 -- the signal of a place with the names of the table there
 pub named_at : (tables : List NameTable) (signals : List SignalParts) (i : ℕ) (s : SignalParts) (t : NameTable)

@@ -1,5 +1,5 @@
 -- Plans without names.
-use Rattle.std.proofs.Common.{◌≡◌, ◌==◌, ℕ, zero, suc, ◌+◌, ◌*◌, ◌<◌, Bool, true, false, not, if◌then◌else◌, ℤ, List, [], ◌∷◌, ◌++◌, map, length, get_or, Option, Some, None, All, refl, sym, ap, ◌∙◌, arith}
+use Rattle.std.proofs.Common.{◌≡◌, ◌==◌, ℕ, zero, suc, ◌+◌, ◌*◌, Bool, true, false, if◌then◌else◌, ℤ, List, [], ◌∷◌, ◌++◌, map, length, get_or, Option, Some, None, All, refl, ap, ◌∙◌, arith}
 use Rattle.std.proofs.Math.Path.{fun_ext}
 use Rattle.std.specs.Prelude.{is_none, option_map, unsigned_abs}
 use Rattle.std.specs.List.{filter, find, list_all, zip}
@@ -19,7 +19,6 @@ use Rattle.j39_findings.specs.Records.{record_count, record_signals, repeated_si
 use Rattle.j39_findings.specs.declared.plan.Plan.{Plan}
 use Rattle.j39_findings.specs.declared.plan.group_plan.GroupPlan.{GroupPlan}
 use Rattle.j39_findings.specs.declared.plan.meaning.Meaning.{Meaning}
-use Rattle.j39_text.specs.Texts.{field}
 use Rattle.j39_log.specs.LogReports as plain
 use Rattle.j39_log.specs.TextLines.{text_lines}
 use Rattle.j39_log.specs.NamedReports as named

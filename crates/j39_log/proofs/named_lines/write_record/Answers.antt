@@ -1,4 +1,4 @@
-use Rattle.std.proofs.Common.{◌≡◌, ℕ, List, length, arith}
+use Rattle.std.proofs.Common.{List, length, arith}
 use Rattle.std.proofs.lemmas.List.{append-nil, drop_all}
 use Rattle.j39_signal.specs.Places.{IsInside}
 use Rattle.j39_log.specs.NamedReports.{NamedSignal, named_record_lines}

@@ -1,4 +1,4 @@
-use Rattle.std.proofs.Common.{◌≡◌, ℕ, List, length, get_or, sym, ap, ◌∙◌, arith}
+use Rattle.std.proofs.Common.{List, arith}
 use Rattle.std.proofs.lemmas.List.{append-nil, drop_all}
 use Rattle.j39_signal.specs.Parts.{SignalParts}
 use Rattle.j39_log.specs.NamedReports.{NamedSignal, named_signal_lines}
