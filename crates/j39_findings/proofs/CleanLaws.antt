@@ -5,7 +5,6 @@ use Rattle.std.proofs.lemmas.Bool.Decides.{not_from_Decides}
 use Rattle.std.proofs.lemmas.Option.{slice_get-get_or}
 use Rattle.std.specs.FinSet.{contains}
 use Rattle.j39_claim.specs.AddressSets.{free_count}
-use Rattle.j39_id.specs.Addresses.{in_pool}
 use Rattle.j39_id.specs.Pgn.{IsPgn, is_pgn}
 use Rattle.j39_id.specs.Proprietary.{is_proprietary}
 use Rattle.j39_signal.specs.Parts.{SignalParts}

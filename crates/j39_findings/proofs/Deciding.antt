@@ -31,7 +31,6 @@ use Rattle.j39_findings.specs.declared.plan.to.To.{To}
 use Rattle.j39_findings.specs.declared.plan.to.To.TheVariants.{All, One}
 use Rattle.j39_findings.specs.Findings.{HaveSilentAddress, IsSilentInPool}
 use Rattle.j39_findings.specs.Found.{have_silent_address, is_silent_in_pool}
-use Rattle.j39_id.specs.Addresses.{in_pool}
 use Rattle.j39_findings.specs.Findings.{HaveSameName, HaveSameFixedAddress, NeedsPoolAddress, PrefersKept, IsProprietary, IsForNoPlan}
 use Rattle.j39_findings.specs.Findings.{IsWronglyPrivate, HasBadPgn, Sends, DoReceiversMeet, AreSentTogether, HaveSamePgn, IsPrivateUnsent, IsOneFrameToAll, MayBeOneFrameToAll, CannotGoToOne, GoesToItsSender, AreOneFlow, IsOutside, Meets, IsUnmet}
 use Rattle.j39_findings.specs.Findings.{IsToOne, Serves, IsServed, IsServedToOne, IsServedToAll, AsksOne, AsksAll, GoesUnanswered, GoesUnheard, MayNameReceiver, IsAnsweredAstray, AskForOneNumber, AskTheSame, IsAskedFor}

@@ -6,7 +6,7 @@ use Rattle.std.specs.Option.{option_map_or}
 use Rattle.j39_signal.specs.Parts.{SignalParts}
 use Rattle.std.proofs.lemmas.Bool.Decides.{Decides-ltb}
 use Rattle.std.proofs.lemmas.List.Elements.{Contains-append_cases}
-use Rattle.j39_signal.specs.Places.{WidthFits, IsInside, SharesBit, shares_bit}
+use Rattle.j39_signal.specs.Places.{WidthFits, SharesBit, shares_bit}
 use Rattle.j39_findings.specs.declared.plan.Plan.{Plan}
 use Rattle.j39_findings.specs.declared.plan.group_plan.GroupPlan.{GroupPlan}
 use Rattle.j39_findings.specs.declared.checking.finding.Finding.{Finding}

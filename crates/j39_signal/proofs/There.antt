@@ -1,5 +1,5 @@
 -- Which payloads have a signal.
-use Rattle.std.proofs.Common.{◌≡◌, ℕ, ◌+◌, ◌*◌, ◌/◌, ◌≤◌, Bool, true, false, ℤ, length, arith, inl, inr, refl, sym, ◌∙◌}
+use Rattle.std.proofs.Common.{◌≡◌, ℕ, ◌+◌, ◌*◌, ◌/◌, ◌≤◌, Bool, true, false, ℤ, arith, inl, inr, refl, sym, ◌∙◌}
 use Rattle.std.specs.Prelude.{nat_le, not, ◌||◌}
 use Rattle.std.proofs.lemmas.Bool.{cases_lt, le-leb, lt-leb, leb-true}
 use Rattle.j39_signal.specs.Parts.{SignalParts}

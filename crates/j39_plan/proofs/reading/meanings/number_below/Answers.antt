@@ -1,4 +1,4 @@
-use Rattle.std.proofs.Common.{◌≡◌, ℕ, List, Bool, if◌then◌else◌, Option, Some, None, sym, ap}
+use Rattle.std.proofs.Common.{ℕ, List, Bool, if◌then◌else◌, Option, Some, None, sym, ap}
 use Rattle.std.specs.Str.Parse.{digits_value}
 use Rattle.j39_plan.proofs.Numbers.{unread}
 use Rattle.j39_plan.proofs.reading.meanings.number_below.Goals as goal
