@@ -4,14 +4,13 @@ ghost use Rattle.std.specs.Option.{option_to_list};
 ghost use Rattle.j39_log.specs.LogPairs.{Seen};
 ghost use Rattle.j39_log.specs.inside.Listening.{AreAllInRange};
 ghost use Rattle.j39_tp.specs.Packets.{InRange};
-ghost use Rattle.j39_tp.specs.declared.receiving.progress.Progress.TheVariants.{Complete};
 ghost use Rattle.j39_follow.specs.Contests.{Timed};
 ghost use Rattle.j39_follow.specs.FollowReports.{IsMessageReport};
 ghost use Rattle.j39_follow.specs.FollowText.{IsPacketReport};
 ghost use Rattle.j39_follow.specs.declared.event.Event.{Event as AnEvent};
 ghost use Rattle.j39_follow.specs.inside.Exchanging.{AreExchanges, AreNoted};
-ghost use Rattle.j39_follow.specs.inside.FrameWriting.{IsCompleted, IsFrameWritten};
-ghost use Rattle.j39_follow.specs.inside.Hearing.{HaveHeardOneMore, HaveHeardSince, listener_between};
+ghost use Rattle.j39_follow.specs.inside.FrameWriting.{IsFrameWritten};
+ghost use Rattle.j39_follow.specs.inside.Hearing.{HaveHeardOneMore, HaveHeardSince};
 ghost use Rattle.j39_follow.specs.inside.Contesting.{ShowsAsker, ShowsParties};
 ghost use Rattle.j39_follow.specs.inside.Reporting.{front_of, arrived_message};
 
@@ -22,42 +21,11 @@ use crate::message::{Arrival, Sort, in_frame};
 use crate::notice::write_notice;
 use crate::stamp::Stamp;
 use crate::telling::note;
-use j39_id::{Frame, Ident};
+use j39_id::Frame;
 use j39_log::{Groups, Listeners, listen, transport_packet};
 use j39_text::TextBuffer;
 use j39_tp::{Packet, listener_completes_what_is_carried};
 use std::alloc::AllocError;
-
-// The report of the message that a pair just completed, and what it counts as.
-fn write_completed(
-    text: &mut TextBuffer,
-    groups: &Groups<'_>,
-    parties: &Parties,
-    listeners: &Listeners,
-    stamp: Stamp<'_>,
-    ident: Ident,
-) -> Result<Option<Sort>, AllocError>
-    requires { (pgn : ℕ) × ((listener_between listeners.now ident.sa ident.ps).progress ≡ Complete pgn) }
-    ensures { IfOk result (λ counted. (log : List Timed) → ShowsParties groups.now parties.now log ident
-        → IsCompleted groups.now log (front_of stamp.entry) (listener_between listeners.now ident.sa ident.ps) ident counted text.old text.new) }
-{
-    let Some(listener) = listeners.listener(ident.sa, ident.ps) else {
-        return Ok(None);
-    };
-    match listener.group() {
-        Some(pgn) => {
-            let message = Arrival {
-                pgn: pgn.number(),
-                bytes: listener.bytes(),
-                ident,
-                framed: None,
-            };
-            let sort = write_message(text, groups, parties, stamp, message)?;
-            Ok(Some(sort))
-        }
-        None => Ok(None),
-    }
-}
 
 // What is written at a transport packet, and what the message counts as that it ends.
 fn write_packet(
@@ -78,11 +46,18 @@ fn write_packet(
         × (text.new ≡ text.old ++ piece)) }
 {
     listener_completes_what_is_carried();
-    if listen(listeners, frame.ident, packet)? {
-        write_completed(text, groups, parties, listeners, stamp, frame.ident)
-    } else {
-        Ok(None)
-    }
+    let ident = frame.ident;
+    let Some(pgn) = listen(listeners, ident, packet)? else {
+        return Ok(None);
+    };
+    let message = Arrival {
+        pgn: pgn.number(),
+        bytes: listeners.bytes(ident.sa, ident.ps),
+        ident,
+        framed: None,
+    };
+    let sort = write_message(text, groups, parties, stamp, message)?;
+    Ok(Some(sort))
 }
 
 // What is written at a frame whose claim was noted, what it counts as, and what the message counts as that it ends.

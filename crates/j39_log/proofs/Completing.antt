@@ -1,11 +1,12 @@
 -- When a listener completes a message, and what it holds then.
-use Rattle.std.proofs.Common.{◌≡◌, ℕ, suc, ◌+◌, ◌==◌, ◌&&◌, nat_le, Bool, if◌then◌else◌, true, false, List, [], ◌∷◌, ◌++◌, length, All, zero, Option, Some, None, refl, sym, ap, ◌∙◌, arith}
+use Rattle.std.proofs.Common.{◌≡◌, ℕ, suc, ◌+◌, ◌==◌, ◌&&◌, nat_le, Bool, if◌then◌else◌, true, false, List, [], ◌∷◌, ◌++◌, length, All, zero, Option, Some, None, inl, inr, refl, sym, ap, ◌∙◌, arith}
 use Rattle.std.specs.List.{slice_get}
+use Rattle.std.proofs.lemmas.Bool.{cases_Bool}
 use Rattle.std.proofs.lemmas.List.Elements.{All-push}
 use Rattle.j39_tp.specs.Packets.{InRange}
 use Rattle.j39_tp.specs.Carried.{listened, receives_any, CompletesAt, Carried, AreInRange}
 use Rattle.j39_tp.specs.Chunks.{packets_of}
-use Rattle.j39_tp.specs.Receiver.{Receiving, receives, hears, is_complete, is_directed, takes_later}
+use Rattle.j39_tp.specs.Receiver.{Receiving, receives, hears, is_complete, is_directed, pgn_at, takes_later}
 use Rattle.j39_tp.specs.declared.receiving.heard.Heard.{Heard}
 use Rattle.j39_tp.specs.declared.receiving.heard.Heard.TheVariants as heard
 use Rattle.j39_tp.specs.declared.receiving.manner.Manner.TheVariants.{Listening}
@@ -16,8 +17,9 @@ use Rattle.j39_tp.specs.declared.receiving.progress.Progress.TheVariants.{Open, 
 use Rattle.j39_tp.specs.declared.receiving.reception.Kind.{Kind}
 use Rattle.j39_tp.specs.declared.receiving.reception.Kind.TheVariants.{Broadcast, Directed}
 use Rattle.j39_tp.specs.declared.receiving.reception.Reception.{Reception}
-use Rattle.j39_log.specs.inside.Listening.{completes, after_all}
+use Rattle.j39_log.specs.inside.Listening.{completed_group, completes, after_all}
 use Rattle.j39_log.specs.ReadText.{CarriesNone}
+use Rattle.j39_tp.proofs.Gathering.{last_received, told_last}
 use Rattle.j39_log.proofs.PairLists.{listened_front, after_more, slice_get_end, in_range}
 
 -- ---- a listener replies nothing
@@ -110,3 +112,38 @@ uncarried_there law h p s heard_all untold group message carried =
     let told_all : completes (after_all h) p ≡ true = told_there h p ∙ told in
     let untold_all : completes (after_all h) p ≡ false = ap (λ (r : Receiving). completes r p) (sym heard_all) ∙ untold in
     cc (told_all, untold_all)
+
+-- ---- the group of a message
+
+some_none : (a : ℕ) → None ≡ Some a → ⊥
+some_none a e = cc
+
+some_group : (a b : ℕ) → Some a ≡ Some b → a ≡ b
+some_group a b e = cc
+
+-- a packet that completes a message of a group
+pub completed_there : (s : Receiving) (p : Packet) (group : ℕ) → completed_group s p ≡ Some group
+    → (completes s p ≡ true) × ((receives s p).progress ≡ Complete group)
+completed_there s p group e = elim (cases_Bool (completes s p)) [
+  | inl told ↦
+      let l = told_last s.manner p s.progress told in
+      let after = last_received s p l.reception l.chunk l.open_is l.packet_is l.last in
+      let found : Some l.reception.pgn ≡ Some group =
+      sym (ap pgn_at after.0) ∙ sym (ap (λ (b : Bool). if b then pgn_at (receives s p).progress else None) told) ∙ e in
+      (told, after.0 ∙ ap Complete (some_group l.reception.pgn group found))
+  | inr untold ↦
+      let none : None ≡ Some group = sym (ap (λ (b : Bool). if b then pgn_at (receives s p).progress else None) untold) ∙ e in
+      absurd (some_none group none)
+]
+
+-- and one that completes none
+pub uncompleted : (s : Receiving) (p : Packet) → completed_group s p ≡ None → completes s p ≡ false
+uncompleted s p e = elim (cases_Bool (completes s p)) [
+  | inl told ↦
+      let l = told_last s.manner p s.progress told in
+      let after = last_received s p l.reception l.chunk l.open_is l.packet_is l.last in
+      let found : Some l.reception.pgn ≡ None =
+      sym (ap pgn_at after.0) ∙ sym (ap (λ (b : Bool). if b then pgn_at (receives s p).progress else None) told) ∙ e in
+      absurd (some_none l.reception.pgn (sym found))
+  | inr untold ↦ untold
+]

@@ -1,13 +1,13 @@
 //! A listener for each pair of addresses.
 ghost use Rattle.std.specs.Prelude.{◌≡◌, ◌≢◌, ◌<◌, ◌==◌, ℕ, [], true, false, vec_len, None, OnOk, IfOk, IfSome, IfNone, if◌then◌else◌};
 ghost use Rattle.j39_tp.specs.Packets.{is_announcement};
-ghost use Rattle.j39_tp.specs.Receiver.{fresh, receives};
+ghost use Rattle.j39_tp.specs.Receiver.{fresh, message_of, receives};
 ghost use Rattle.j39_tp.specs.declared.receiving.manner.Manner.TheVariants.{Listening};
-ghost use Rattle.j39_log.specs.inside.Listening.{HasListener, completes, is_of_pair, is_pair, listener_at, listener_in};
+ghost use Rattle.j39_log.specs.inside.Listening.{HasListener, completed_group, is_of_pair, is_pair, listener_at, listener_in};
 ghost use Rattle.j39_log.specs.inside.Listening.{listener_of_pair, slots_at};
 ghost use Rattle.j39_log.specs.LogPairs.{is_abort as aborts, is_heard_by};
 
-use j39_id::Ident;
+use j39_id::{Ident, Pgn};
 use j39_tp::{Packet, Receiver};
 use std::alloc::{AllocError, Global};
 
@@ -66,15 +66,27 @@ fn fill(alloc: Global, slot: &mut Option<Box<Receiver>>) -> Result<(), AllocErro
     Ok(())
 }
 
-// Whether the packet completes a message of the listener in the slot.
-fn hear_in(slot: &mut Option<Box<Receiver>>, packet: &Packet) -> bool
+// The group of the message that the packet completes of a listener.
+fn hear_by_one(listener: &mut Receiver, packet: &Packet) -> Option<Pgn>
+    ensures heard { listener.new ≡ receives listener.old packet.now }
+    ensures told { result ≡ completed_group listener.old packet.now }
+{
+    if listener.hear(packet).is_complete() {
+        listener.group()
+    } else {
+        None
+    }
+}
+
+// The group of the message that the packet completes of the listener in the slot.
+fn hear_in(slot: &mut Option<Box<Receiver>>, packet: &Packet) -> Option<Pgn>
     requires { is_announcement packet.now ≡ true → slot.old ≢ None }
     ensures heard { listener_in slot.new ≡ receives (listener_in slot.old) packet.now }
-    ensures told { result ≡ completes (listener_in slot.old) packet.now }
+    ensures told { result ≡ completed_group (listener_in slot.old) packet.now }
 {
     match slot {
-        Some(listener) => listener.hear(packet).is_complete(),
-        None => false,
+        Some(listener) => hear_by_one(listener, packet),
+        None => None,
     }
 }
 
@@ -87,15 +99,15 @@ fn open_in(alloc: Global, row: &mut Row, destination: usize) -> Result<(), Alloc
     fill(alloc, &mut row[destination])
 }
 
-// Whether the packet completes a message of the listener at a place of a row.
-fn hear_at(row: &mut Row, destination: usize, packet: &Packet) -> bool
+// The group of the message that the packet completes of the listener at a place of a row.
+fn hear_at(row: &mut Row, destination: usize, packet: &Packet) -> Option<Pgn>
     requires { is_announcement packet.now ≡ true → HasListener row.old.items destination }
     ensures heard { listener_at row.new.items destination ≡ receives (listener_at row.old.items destination) packet.now }
     ensures others { (d : ℕ) → d ≢ destination → listener_at row.new.items d ≡ listener_at row.old.items d }
-    ensures told { result ≡ completes (listener_at row.old.items destination) packet.now }
+    ensures told { result ≡ completed_group (listener_at row.old.items destination) packet.now }
 {
     if row.len() <= destination {
-        return false;
+        return None;
     }
     hear_in(&mut row[destination], packet)
 }
@@ -130,28 +142,33 @@ impl Listeners {
         open_in(self.alloc, &mut self.rows[source], destination)
     }
 
-    // Whether the packet completes a message of the pair, which has a listener where the packet opens a session.
-    fn hear_by(&mut self, source: usize, destination: usize, packet: &Packet) -> bool
+    // The group of the message of the pair that the packet completes. The pair has a listener where the packet opens a session.
+    fn hear_by(&mut self, source: usize, destination: usize, packet: &Packet) -> Option<Pgn>
         requires { is_announcement packet.now ≡ true → HasListener (slots_at self.old.rows.items source) destination }
         ensures heard { listener_of_pair self.new.rows.items source destination
             ≡ receives (listener_of_pair self.old.rows.items source destination) packet.now }
         ensures others { (s d : ℕ) → is_pair source destination s d ≡ false
             → listener_of_pair self.new.rows.items s d ≡ listener_of_pair self.old.rows.items s d }
-        ensures told { result ≡ completes (listener_of_pair self.old.rows.items source destination) packet.now }
+        ensures told { result ≡ completed_group (listener_of_pair self.old.rows.items source destination) packet.now }
     {
         if self.rows.len() <= source {
-            return false;
+            return None;
         }
         hear_at(&mut self.rows[source], destination, packet)
     }
 
-    /// Whether the packet completes a message of the pair that hears it.
-    pub fn hear(&mut self, source: u8, destination: u8, packet: &Packet) -> Result<bool, AllocError>
+    /// The group of the message that the packet completes of the pair that hears it.
+    pub fn hear(
+        &mut self,
+        source: u8,
+        destination: u8,
+        packet: &Packet,
+    ) -> Result<Option<Pgn>, AllocError>
         ensures heard { OnOk result (listener_of_pair self.new.rows.items source destination
             ≡ receives (listener_of_pair self.old.rows.items source destination) packet.now) }
         ensures others { (s d : ℕ) → is_pair source destination s d ≡ false
             → listener_of_pair self.new.rows.items s d ≡ listener_of_pair self.old.rows.items s d }
-        ensures told { IfOk result (λ complete. complete ≡ completes (listener_of_pair self.old.rows.items source destination) packet.now) }
+        ensures told { IfOk result (λ group. group ≡ completed_group (listener_of_pair self.old.rows.items source destination) packet.now) }
     {
         let source = usize::from(source);
         let destination = usize::from(destination);
@@ -184,8 +201,8 @@ impl Listeners {
         }
     }
 
-    /// The listener of a pair.
-    pub fn listener(&self, source: u8, destination: u8) -> Option<&Receiver>
+    // The listener of a pair.
+    fn listener(&self, source: u8, destination: u8) -> Option<&Receiver>
         ensures some { IfSome result (λ listener. listener.now ≡ listener_of_pair self.now.rows.items source destination) }
         ensures none { IfNone result (listener_of_pair self.now.rows.items source destination ≡ fresh Listening) }
     {
@@ -195,16 +212,32 @@ impl Listeners {
             _ => None,
         }
     }
+
+    /// The bytes of the message that a pair completed last, until the next announcement; else none.
+    pub fn bytes(&self, source: u8, destination: u8) -> &[u8]
+        ensures { result.now ≡ message_of (listener_of_pair self.now.rows.items source destination).progress
+            (listener_of_pair self.now.rows.items source destination).bytes }
+    {
+        match self.listener(source, destination) {
+            Some(listener) => listener.bytes(),
+            None => &[],
+        }
+    }
 }
 
-/// Whether the packet completes a message of the pair that it is sent from and to. An Abort is heard both ways round.
-pub fn listen(listeners: &mut Listeners, ident: Ident, packet: &Packet) -> Result<bool, AllocError>
+/// The group of the message that the packet completes of the pair that it is sent from and to. An Abort is heard both ways
+/// round.
+pub fn listen(
+    listeners: &mut Listeners,
+    ident: Ident,
+    packet: &Packet,
+) -> Result<Option<Pgn>, AllocError>
     ensures heard { OnOk result ((source destination : ℕ) → source < 256 → destination < 256
         → listener_of_pair listeners.new.rows.items source destination
         ≡ (if is_heard_by source destination ident packet.now
         then receives (listener_of_pair listeners.old.rows.items source destination) packet.now
         else listener_of_pair listeners.old.rows.items source destination)) }
-    ensures told { IfOk result (λ complete. complete ≡ completes (listener_of_pair listeners.old.rows.items ident.sa ident.ps) packet.now) }
+    ensures told { IfOk result (λ group. group ≡ completed_group (listener_of_pair listeners.old.rows.items ident.sa ident.ps) packet.now) }
 {
     if is_abort(packet) && ident.sa != ident.ps {
         listeners.hear(ident.ps, ident.sa, packet)?;

@@ -2,8 +2,7 @@
 ghost use Rattle.std.specs.Prelude.{◌≡◌, ◌+◌, ◌^◌, ◌<◌, ◌≤◌, ℕ, List, [], ◌∷◌, ◌++◌, length, Option, Some, OnOk};
 ghost use Rattle.j39_id.specs.Lines.{Short, tells};
 ghost use Rattle.j39_tp.specs.Packets.{InRange};
-ghost use Rattle.j39_tp.specs.declared.receiving.progress.Progress.TheVariants.{Complete};
-ghost use Rattle.j39_log.specs.inside.Listening.{AreAllInRange, HaveHeard, IsInRange, listener_of_pair};
+ghost use Rattle.j39_log.specs.inside.Listening.{AreAllInRange, HaveHeard, IsInRange};
 ghost use Rattle.j39_log.specs.inside.Recalling.{Recalls, counted};
 ghost use Rattle.j39_log.specs.LogFrames.{IsHeardAs, planned};
 ghost use Rattle.j39_log.specs.LogPairs.{Seen};
@@ -70,29 +69,6 @@ fn write_planned(
     }
 }
 
-// The report of the message that a pair just completed.
-fn write_message(
-    text: &mut TextBuffer,
-    groups: &Groups<'_>,
-    listeners: &Listeners,
-    ident: Ident,
-) -> Result<(), AllocError>
-    requires { (pgn : ℕ) × ((listener_of_pair listeners.now.rows.items ident.sa ident.ps).progress ≡ Complete pgn) }
-    ensures { OnOk result ((pgn : ℕ) × (message : List ℕ) × (piece : List ℕ)
-        × ((listener_of_pair listeners.now.rows.items ident.sa ident.ps).progress ≡ Complete pgn)
-        × ((listener_of_pair listeners.now.rows.items ident.sa ident.ps).bytes ≡ message)
-        × IsGroupReport groups.now (planned groups.now pgn (length message)) ident message piece
-        × (text.new ≡ text.old ++ piece)) }
-{
-    let Some(listener) = listeners.listener(ident.sa, ident.ps) else {
-        return Ok(());
-    };
-    match listener.group() {
-        Some(pgn) => write_planned(text, groups, ident, pgn.number(), listener.bytes()),
-        None => Ok(()),
-    }
-}
-
 // What is written at a transport packet.
 fn write_packet(
     text: &mut TextBuffer,
@@ -108,10 +84,14 @@ fn write_packet(
         → (piece : List ℕ) × IsFrameReport groups.now seen frame.now (Some packet.now) piece × (text.new ≡ text.old ++ piece)) }
 {
     listener_completes_what_is_carried();
-    if listen(listeners, frame.ident, packet)? {
-        write_message(text, groups, listeners, frame.ident)?;
+    let ident = frame.ident;
+    match listen(listeners, ident, packet)? {
+        Some(pgn) => {
+            let bytes = listeners.bytes(ident.sa, ident.ps);
+            write_planned(text, groups, ident, pgn.number(), bytes)
+        }
+        None => Ok(()),
     }
-    Ok(())
 }
 
 // What is written at a frame.

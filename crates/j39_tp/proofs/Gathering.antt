@@ -349,7 +349,7 @@ next_told m r number chunk e told =
     (λ _ other. if_told (IsLast (Open r) (Dt number chunk)) (r.held + 1 == r.granted) _ _ other
     (λ _ f. absurd (going_untold m r.kind (one_more_held r) f)) (λ _ f. cc f))
 
-told_last : (m : Manner) (p : Packet) (pr : Progress) → Tells (hears m pr p).1 → IsLast pr p
+pub told_last : (m : Manner) (p : Packet) (pr : Progress) → Tells (hears m pr p).1 → IsLast pr p
 told_last m (Bam size pgn) pr told = absurd (going_untold m Broadcast (opened Broadcast pgn size 255) told)
 told_last m (Rts size limit pgn) pr told = absurd (going_untold m Directed (opened Directed pgn size limit) told)
 told_last m (Dt number chunk) (Open r) told =
@@ -390,7 +390,7 @@ last_carried h r bytes chunk last g =
       bytes = rw (g.bytes_are) (take_again r.size g.chunks chunk);
     }
 
-last_received : (s : Receiving) (p : Packet) (r : Reception) (chunk : List ℕ) → s.progress ≡ Open r → p ≡ Dt (suc r.held) chunk → suc r.held ≡ packets_of r.size
+pub last_received : (s : Receiving) (p : Packet) (r : Reception) (chunk : List ℕ) → s.progress ≡ Open r → p ≡ Dt (suc r.held) chunk → suc r.held ≡ packets_of r.size
     → ((receives s p).progress ≡ Complete r.pgn) × ((receives s p).bytes ≡ take r.size (s.bytes ++ chunk))
 last_received s p r chunk o q last =
     let done : hears s.manner s.progress p ≡ (Complete r.pgn, completed s.manner r.kind r) = rw (o, q) (last_heard s.manner r chunk last) in

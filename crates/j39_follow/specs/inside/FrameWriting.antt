@@ -1,15 +1,12 @@
 -- What is written at a frame.
-use Rattle.std.specs.Prelude.{◌≡◌, ℕ, List, [], ◌∷◌, ◌++◌, Option, Some, None}
+use Rattle.std.specs.Prelude.{◌≡◌, ℕ, List, [], ◌∷◌, ◌++◌, Option}
 use Rattle.std.specs.Option.{option_to_list}
 use Rattle.j39_id.specs.declared.frame.Frame.{Frame}
-use Rattle.j39_id.specs.declared.ident.Ident.{Ident}
 use Rattle.j39_findings.specs.declared.plan.Plan.{Plan}
 use Rattle.j39_log.specs.LogPairs.{Seen}
 use Rattle.j39_log.specs.declared.listeners.Listeners.{Listeners}
 use Rattle.j39_log.specs.inside.Listening.{IsInRange}
-use Rattle.j39_tp.specs.Receiver.{Receiving}
 use Rattle.j39_tp.specs.declared.packet.Packet.{Packet}
-use Rattle.j39_tp.specs.declared.receiving.progress.Progress.TheVariants.{Complete}
 use Rattle.j39_follow.specs.Contests.{Timed}
 use Rattle.j39_follow.specs.FollowReports.{IsMessageReport, IsNotice, in_frame}
 use Rattle.j39_follow.specs.FollowText.{IsFollowedAs, IsPacketReport, frames_seen}
@@ -19,19 +16,6 @@ use Rattle.j39_follow.specs.inside.Hearing.{HaveHeardOneMore}
 -- the frame, behind those before it
 abbrev pub frames_with : List Seen → Frame → List Frame
 frames_with seen f = frames_seen seen ++ f ∷ []
-
--- the report of the message that a listener holds, and what it counts as
-pub record IsCompleted (plan : Plan) (log : List Timed) (front : List ℕ) (listener : Receiving) (i : Ident) (counted : Option Sort)
-    (old new : List ℕ) : Type 0 where
-  pub pgn : ℕ
-  pub bytes : List ℕ
-  pub sort : Sort
-  pub piece : List ℕ
-  pub counted_is : counted ≡ Some sort
-  pub progress_is : listener.progress ≡ Complete pgn
-  pub bytes_are : listener.bytes ≡ bytes
-  pub report : IsMessageReport plan log front (record { pgn = pgn; bytes = bytes; ident = i; framed = None }) sort piece
-  pub text_is : new ≡ old ++ piece
 
 -- what a frame tells, what it is, and what it ends
 pub record IsFrameWritten (plan : Plan) (listeners : Listeners) (seen : List Seen) (log : List Timed) (front : List ℕ) (f : Frame)

@@ -1,5 +1,5 @@
 -- What the reader of a log keeps, and what it stands for.
-use Rattle.std.specs.Prelude.{◌≡◌, ◌≢◌, ◌==◌, ◌+◌, ◌&&◌, ◌||◌, ◌<◌, ◌≤◌, ◌⊎◌, Bool, true, false, ℕ, nat_eq, List, [], length, get_or, map, All, Box, Option, Some, None}
+use Rattle.std.specs.Prelude.{◌≡◌, ◌≢◌, ◌==◌, ◌+◌, ◌&&◌, ◌||◌, ◌<◌, ◌≤◌, ◌⊎◌, Bool, true, false, if◌then◌else◌, ℕ, nat_eq, List, [], length, get_or, map, All, Box, Option, Some, None}
 use Rattle.std.specs.declared.alloc.Global.{Global}
 use Rattle.std.specs.declared.vec.Vec.{Vec}
 use Rattle.std.specs.HashMap.{HashMap, get}
@@ -8,7 +8,7 @@ use Rattle.j39_findings.specs.declared.plan.Plan.{Plan}
 use Rattle.j39_findings.specs.declared.plan.group_plan.GroupPlan.{GroupPlan}
 use Rattle.j39_tp.specs.Carried.{listened}
 use Rattle.j39_tp.specs.Packets.{InRange}
-use Rattle.j39_tp.specs.Receiver.{Receiving, fresh, hears, is_complete}
+use Rattle.j39_tp.specs.Receiver.{Receiving, fresh, hears, is_complete, pgn_at, receives}
 use Rattle.j39_tp.specs.declared.receiving.manner.Manner.TheVariants.{Listening}
 use Rattle.j39_tp.specs.declared.packet.Packet.{Packet}
 use Rattle.j39_log.specs.LogPairs.{Seen, heard}
@@ -73,6 +73,10 @@ IsInRange None = Unit {0}
 -- the packet completes a message of a receiver
 abbrev pub completes : Receiving → Packet → Bool
 completes s p = is_complete (hears s.manner s.progress p).1
+
+-- the group of the message that it completes, if it completes one
+abbrev pub completed_group : Receiving → Packet → Option ℕ
+completed_group s p = if completes s p then pgn_at (receives s p).progress else None
 
 -- a place for the listener of a pair, and the places of one source
 abbrev pub ListenerSlot : Type 0
