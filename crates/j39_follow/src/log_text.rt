@@ -10,11 +10,11 @@ use j39_log::{CatalogError, Groups, refuse};
 use j39_stream::{Fault, LOG_LIMITS, Sink, Source, Verdict, read_lines};
 use std::alloc::Global;
 
-/// Writes who sent what in a log, by the claims of the log itself: each claim, each request with the request of the plan
-/// that it asks, in a plan with requests each acknowledgement, and each frame or message of a planned group with the unit
-/// that is taken to hold its source and the flow that it fits, with the number of its line and its time; at the end how
-/// often each flow was sent, what met each need, how often each request was asked, answered and refused, and where each
-/// unit stands.
+/// Writes who sent what in a log, by the claims of the log itself: each claim, each request with the request of the
+/// plan that it asks, in a plan with requests each acknowledgement, and each frame or message of a planned group
+/// with the unit that is taken to hold its source and the flow that it fits, with the number of its line and its
+/// time; at the end how often each flow was sent, what met each need, how often each request was asked, answered
+/// and refused, and where each unit stands.
 ///
 /// The lines of the log are those that `read_frame` reads. Behind the frame of a line may stand its direction, and the
 /// word before the frame is its interface: lines of another interface than the log's first are counted and passed over.
