@@ -76,14 +76,14 @@ def progressing(drives: Iterable[Drive], count: int) -> Iterator[Drive]:
         print("\r\033[K", end="", file=sys.stderr, flush=True)
 
 
-def plan_of(name: str, options: list[str]) -> str:
-    """The text of a plan by which `against` can read logs, with these options; of another one it says why."""
+def plan_of(name: str, options: list[str]) -> tuple[str, str]:
+    """The text of a plan by which `against` can read logs, with these options, and what `show` answers of it; of another one it says why."""
     with program.copied(name) as plan:
         status, answer, said = answered([sys.executable, command("against"), *options, "--", plan, os.devnull])
         if not answer:
             raise program.Refused(status, said.strip().rpartition("\n")[2].partition(": ")[2])
         with open(plan, "rb") as file:
-            return file.read().decode(errors="replace")
+            return file.read().decode(errors="replace"), program.shown(plan)
 
 
 def main(words: list[str] | None = None) -> int:
@@ -102,9 +102,9 @@ def main(words: list[str] | None = None) -> int:
     given = parser.parse_args(words)
     options = [word for key in ("jitter", "interface") for value in [getattr(given, key)] if value is not None for word in (f"--{key}", value)]
     plan, logs = plan_of(given.plan, options), different(given.logs)
-    tasks: list[Task] = [(plan, log, os.path.abspath(log), options) for log in largest_first(logs)]
+    tasks: list[Task] = [(*plan, log, os.path.abspath(log), options) for log in largest_first(logs)]
     found = {drive["log"]: drive for drive in progressing(team(given.processes, given.scheduler)(tasks), len(tasks))}
-    fleet = Fleet(Tables.of(plan.encode()), [found[log] for log in logs])
+    fleet = Fleet(Tables(plan[1]), [found[log] for log in logs])
     if given.json:
         json.dump(fleet.tables_of(), sys.stdout, indent=1)
         print()

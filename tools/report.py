@@ -14,7 +14,7 @@ from modules import answer_places, page_server, plan_parts, program
 from modules.answers import findings, load_of, stands
 from modules.left_out import plain
 from modules.plan_page import page
-from modules.plan_tables import Tables
+from modules.plan_tables import Tables, Top
 
 
 def page_of(plan: str, title: str) -> str:
@@ -25,7 +25,8 @@ def page_of(plan: str, title: str) -> str:
     _, addresses = program.call(["addresses", "--", plan])
     load = load_of(program.call(["load", "--", plan])[1])
     found = list(findings(told, answer))
-    return page(title, Tables(told.places), found, stands(addresses), load, program.call(["--version"])[1].strip())
+    version = program.call(["--version"])[1].strip()
+    return page(title, Top.of(told.places), Tables.of(plan), found, stands(addresses), load, version)
 
 
 def title_of(name: str) -> str:

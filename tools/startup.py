@@ -12,10 +12,13 @@ from collections.abc import Iterable
 
 from modules import program
 from modules.j1939 import FRAME_BYTES, NULL_ADDRESS, PACKET_BYTES, POOL
-from modules.plan_tables import WINDOW
+from modules.plan_format import default_of
 from modules.toml_places import Place, Places, places_of
 
 Frame = tuple[str, str]
+
+# How many packets a unit permits at a time, where no key says it.
+WINDOW = default_of("unit", "window")
 
 
 class Schedule:

@@ -24,7 +24,7 @@ import sys
 from collections.abc import Iterable, Iterator
 from typing import Any
 
-from j39plan._tools import answer_places, answers, fleet_drives, log_reports, plan_parts, plan_tables, program
+from j39plan._tools import answer_places, answers, fleet_drives, log_reports, plan_parts, plan_tables, program, toml_places
 
 Unit, Group, Signal, Text, Flow = plan_tables.Unit, plan_tables.Group, plan_tables.Signal, plan_tables.Text, plan_tables.Flow
 Need, Asking, Finding, Stand = plan_tables.Need, plan_tables.Request, answers.Finding, answers.Stand
@@ -42,18 +42,21 @@ __all__ = [
 class Plan:
     """A plan that the program can read, whatever `check` finds in it.
 
-    `name` is the name of its file and `text` what that holds. `version` is that of the format; `kept` are the addresses that no unit may
-    choose; `units`, `groups`, `flows` and `needs` stand in the order of the file, as `Unit`, `Group` (with its `signals` and `texts`),
-    `Flow` and `Need`, and `requests` as `Asking`; which flows meet a need says `need.is_met_by(flow)`. Of each the keys that aren't said have
-    their defaults. Bytes and bits count from 1, lengths are in bytes, widths in bits, periods in ms; the value of a signal's raw number, in its
-    `unit`, is `signal.value(raw)`, exactly, and `signal.values` has the names of raw numbers. `strangers` is how many further units may come.
+    `name` is the name of its file, `text` what that holds, and `shown` what `show` answers of it. `version` is that of the format; `kept` are the
+    addresses that no unit may choose; `units`, `groups`, `flows` and `needs` stand in the order of the file, as `Unit`, `Group` (with its `signals`
+    and `texts`), `Flow` and `Need`, and `requests` as `Asking`; which flows meet a need says `need.is_met_by(flow)`. Of each the keys that aren't
+    said have their defaults. Bytes and bits count from 1, lengths are in bytes, widths in bits, periods in ms; the value of a signal's raw number,
+    in its `unit`, is `signal.value(raw)`, exactly, and `signal.values` has the names of raw numbers. `strangers` is how many further units may
+    come.
     """
 
     def __init__(self, name: str, text: str) -> None:
         self.name, self.text = name, text
-        tables = plan_tables.Tables.of(text.encode())
-        self.version: int = tables.version
-        self.kept: list[int] = tables.kept
+        with _with_program(), program.file_of(text) as plan:
+            self.shown = program.shown(plan)
+        top, tables = plan_tables.Top.of(toml_places.Places(text)), plan_tables.Tables(self.shown)
+        self.version: int = top.version
+        self.kept: list[int] = top.kept
         self.units: list[Unit] = tables.units
         self.groups: list[Group] = tables.groups
         self.flows: list[Flow] = tables.flows
@@ -147,7 +150,7 @@ def deviations(plan: Plan, log: str | os.PathLike[str], options: Iterable[str] =
 def drive(plan: Plan, log: str | os.PathLike[str], options: Iterable[str] = ()) -> Drive:
     """What `j39plan-fleet` takes of a log: a table with its deviations, counts, silences (in seconds), claims, and the least and greatest
     values of its signals. It raises nothing: a log that can't be read says so by `failed`."""
-    return fleet_drives.drive_of(plan.text, os.fspath(log), os.path.abspath(log), list(options))
+    return fleet_drives.drive_of(plan.text, plan.shown, os.fspath(log), os.path.abspath(log), list(options))
 
 
 class _Ended:
@@ -165,9 +168,9 @@ class _Ended:
                 yield line
 
 
-def fleet_task(plan: str, log: str, path: str, options: list[str]) -> Drive:
+def fleet_task(plan: str, shown: str, log: str, path: str, options: list[str]) -> Drive:
     """What `j39plan-fleet` has a worker of a cluster do."""
-    return fleet_drives.drive_of(plan, log, path, options)
+    return fleet_drives.drive_of(plan, shown, log, path, options)
 
 
 def fleet_version() -> str:

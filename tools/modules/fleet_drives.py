@@ -277,19 +277,20 @@ def empty(log: str) -> Drive:
 
 
 @lru_cache(maxsize=1)
-def tables_of(plan: str) -> Tables:
-    """The tables of the text of a plan, which is the same for all logs of a fleet."""
-    return Tables.of(plan.encode())
+def tables_of(shown: str) -> Tables:
+    """The tables of a plan by what `show` answers of it, which is the same for all logs of a fleet."""
+    return Tables(shown)
 
 
-def drive_of(plan: str, log: str, path: str, options: list[str]) -> Drive:
-    """What a log has, by the text of a plan; the log is called so, and lies there. Whatever goes wrong is said in the table."""
+def drive_of(plan: str, shown: str, log: str, path: str, options: list[str]) -> Drive:
+    """What a log has, by the text of a plan and what `show` answers of it; the log is called so, and lies there. Whatever goes wrong is said in
+    the table."""
     drive = empty(log)
     try:
         if not stat.S_ISREG(os.stat(path).st_mode):
             raise program.Refused(program.UNREADABLE, "it is no regular file")
         with open(path, "rb"), program.file_of(plan) as copy:
-            found = followed(copy, path, tables_of(plan), interface_in(options))
+            found = followed(copy, path, tables_of(shown), interface_in(options))
             found.put(drive)
             drive["deviations"], drive["notes"] = compared(copy, path, options)
     except program.Refused as refused:

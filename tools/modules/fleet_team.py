@@ -22,13 +22,14 @@ TRIES = 3
 # How long a scheduler and its workers are waited for, in seconds.
 PATIENCE = 60
 
-# What a task is done with: the text of the plan, what the log is called and where it lies, and the options of `against`.
-Task = tuple[str, str, str, list[str]]
+# What a task is done with: the text of the plan and what `show` answers of it, what the log is called and where it lies, and the options of
+# `against`.
+Task = tuple[str, str, str, str, list[str]]
 
 
 def lost(task: Task, why: str) -> Drive:
     """The table of a log that nobody could read to its end."""
-    return {**empty(task[1]), "status": program.FAULT, "failed": why}
+    return {**empty(task[2]), "status": program.FAULT, "failed": why}
 
 
 class Worker:

@@ -288,5 +288,4 @@ def tables_of(plan: str) -> Tables:
     status, answer = program.call(["follow", "--", plan, os.devnull])
     if status != 0:
         raise program.Refused(status, answer.strip())
-    with open(plan, "rb") as file:
-        return Tables.of(file.read())
+    return Tables.of(plan)

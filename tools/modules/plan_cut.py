@@ -9,6 +9,7 @@ from collections.abc import Iterator
 from . import program
 from .log_readings import Choice
 from .plan_tables import Group, Tables
+from .toml_places import Places
 
 # A header with its keys, as far as they are bare ones.
 HEADER = re.compile(r"\[\[?[ \t]*([A-Za-z0-9_-]+)[ \t]*(?:\.[ \t]*([A-Za-z0-9_-]+)[ \t]*)?(?:\.[^\]\n]*)?\]")
@@ -66,12 +67,11 @@ class Scissors:
 
 def shorter(text: str, tables: Tables, choice: Choice) -> str | None:
     """The text of a plan, which has these tables, without what isn't wanted; None where that can't be had of it."""
-    places = tables.places
     kinds = {signal.kind for group in tables.groups for signal in group.signals if (group.label, signal.label) in choice.columns}
-    if "dtc" in kinds and any(place[-1:] == ("spn",) for place in places.lines):
+    if "dtc" in kinds and any(signal.spn is not None for group in tables.groups for signal in group.signals):
         return None  # a code is told with the signal of its number, of whatever group
     scissors, parts, is_kept, begin = Scissors(tables, choice), [], True, 0
-    for at in places.statements:
+    for at in Places(text).statements:
         if text[at] == "[":
             parts.append(text[begin:at] if is_kept else "")
             found = HEADER.match(text, at)
@@ -97,4 +97,4 @@ def cut(plan: str, tables: Tables, choice: Choice) -> Iterator[tuple[str, Tables
         if text is None or program.call(["follow", "--", copy.name, os.devnull])[0] != 0:
             yield plan, tables
         else:
-            yield copy.name, Tables.of(text.encode())
+            yield copy.name, Tables.of(copy.name)

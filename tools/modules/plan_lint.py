@@ -6,7 +6,7 @@ from collections.abc import Iterator
 
 from . import need_hints, request_hints
 from .j1939 import FRAME_BYTES, PACKET_BYTES, POOL
-from .plan_tables import PACE
+from .plan_format import default_of
 from .toml_places import Place, Places
 
 # The line of a place, and a hint.
@@ -16,7 +16,7 @@ Hint = tuple[int, str]
 HIGH_PRIORITY = range(3)
 
 # How far apart packets to all are, in ms, where no key says it.
-GAP = PACE["broadcast_gap"]
+GAP = default_of("timing", "broadcast_gap")
 
 
 class Lint:

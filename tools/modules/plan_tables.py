@@ -1,17 +1,20 @@
-"""The tables of a plan that the program has read: units, groups with their signals, flows, needs and requests, with the defaults of what
+"""The tables of a plan: units, groups with their signals, flows, needs and requests, as `show` answers them, with the defaults of what
 isn't said."""
 
+import re
+from collections.abc import Iterator
 from dataclasses import dataclass, field
 from fractions import Fraction
+from itertools import count, takewhile
 
+from . import program
 from .j1939 import NAME_FIELDS
-from .plan_format import default_of
-from .toml_places import Place, Places
+from .toml_places import Places
 
-# What numbers are where they aren't said.
-WINDOW = default_of("unit", "window")
-BIT, STEP, PER = (default_of("signal", key) for key in ("bit", "step", "per"))
-PACE = {key: default_of("timing", key) for key in ("unplanned_priority", "transport_priority", "broadcast_gap", "broadcast_gap_most")}
+# A line of `show`: a table, a key of it, and the value, which may have spaces.
+LINE = re.compile(
+    r"(top|timing(?: errors)?|unit \d+(?: name)?|group \d+(?: (?:signal|text) \d+)?|(?:flow|need|request) \d+) (\w+) (.*)"
+)
 
 
 @dataclass(frozen=True)
@@ -200,94 +203,120 @@ class Timing:
     errors: Errors | None = None
 
 
+class Shown(dict[str, list[str]]):
+    """A table as `show` tells it: the values of each key. What the plan doesn't have isn't there."""
+
+    def text(self, key: str) -> str:
+        """The text of a key, empty where it has none."""
+        return self[key][0] if key in self else ""
+
+    def number(self, key: str) -> int:
+        """The number of a key."""
+        return int(self[key][0])
+
+    def number_if_any(self, key: str) -> int | None:
+        """The number of a key, None of one that isn't there."""
+        return self.number(key) if key in self else None
+
+    def is_true(self, key: str) -> bool:
+        """Whether a key is true."""
+        return self[key] == ["true"]
+
+    def names(self) -> dict[int, str]:
+        """The names of raw numbers."""
+        told = (value.split() for value in self.get("values", ()))
+        return {int(raw): name for raw, name in told}
+
+
+def shown_in(answer: str) -> dict[str, Shown]:
+    """The tables of which `show` tells, each by its words, as `group 2 signal 1`."""
+    tables: dict[str, Shown] = {}
+    for line in answer.splitlines():
+        found = LINE.fullmatch(line)
+        assert found is not None, line
+        table, key, value = found.groups()
+        tables.setdefault(table, Shown()).setdefault(key, []).append(value)
+    return tables
+
+
 class Tables:
-    """The tables of a plan, in the order of the file, read where its keys and values stand."""
+    """The tables of a plan, in the order of the file, made of what `show` answers."""
 
-    def __init__(self, places: Places) -> None:
-        self._places = places
-        self._values = self._values_of()
-        self.version = places.number(("version",)) or 1
-        self.strangers = places.number(("strangers",)) or 0
-        self.kept = [places.integer(place) for place in places.elements(("keep_free",))]
-        self.units = [self._unit(place) for place in places.elements(("unit",))]
-        self.groups = [self._group(place) for place in places.elements(("group",))]
-        self.requests = [self._request(place) for place in places.elements(("request",))]
-        self.flows = [self._flow(place) for place in places.elements(("flow",))]
-        self.needs = [self._need(place) for place in places.elements(("need",))]
-        self.timing = self._timing(("timing",)) if ("timing",) in places.lines else None
-
-    @property
-    def places(self) -> Places:
-        """Where the plan's keys and values stand."""
-        return self._places
+    def __init__(self, answer: str) -> None:
+        self._shown = shown_in(answer)
+        self.strangers = self._shown["top"].number("strangers")
+        self.units = [self._unit(name) for name in self._elements("unit")]
+        self.groups = [self._group(name) for name in self._elements("group")]
+        self.requests = [self._request(name) for name in self._elements("request")]
+        self.flows = [self._flow(name) for name in self._elements("flow")]
+        self.needs = [self._need(name) for name in self._elements("need")]
+        self.timing = self._timing() if "timing" in self._shown else None
 
     @classmethod
-    def of(cls, text: bytes) -> "Tables":
-        """The tables of a plan's text."""
-        return cls(Places(text.decode(errors="replace")))
+    def of(cls, plan: str) -> "Tables":
+        """The tables of a plan's file."""
+        return cls(program.shown(plan))
 
-    def _text(self, place: Place, key: str, default: str = "") -> str:
-        return self._places.texts.get(place + (key,), default)
+    def _elements(self, array: str) -> Iterator[str]:
+        """The tables of an array, each by its words."""
+        return takewhile(self._shown.__contains__, (f"{array} {number}" for number in count(1)))
 
-    def _number(self, place: Place, key: str, default: int = 0) -> int:
-        number = self._places.number(place + (key,))
-        return default if number is None else number
+    def _unit(self, words: str) -> Unit:
+        unit, name = self._shown[words], self._shown[f"{words} name"]
+        fields = {key: name.number(key) for key, _, _ in NAME_FIELDS if key != "arbitrary"}
+        fields["arbitrary"] = int(name.is_true("arbitrary"))
+        return Unit(unit.text("label"), unit.number("address"), unit.text("chooser"), unit.number("window"), fields, unit.is_true("claims"))
 
-    def _values_of(self) -> dict[Place, dict[int, str]]:
-        """The names of raw numbers, of each signal that has any."""
-        found: dict[Place, dict[int, str]] = {}
-        for place, name in self._places.texts.items():
-            if place[-2:-1] == ("values",) and str(place[-1]).isdecimal():
-                found.setdefault(place[:-2], {})[int(place[-1])] = name
-        return found
+    def _group(self, words: str) -> Group:
+        group = self._shown[words]
+        pgn, priority, length, most = (group.number(key) for key in ("pgn", "priority", "length", "most"))
+        signals = [self._signal(other) for other in self._elements(f"{words} signal")]
+        texts = [self._text(other) for other in self._elements(f"{words} text")]
+        return Group(group.text("label"), pgn, priority, length, group.is_true("private"), most, group.number_if_any("every"), signals, texts)
 
-    def _unit(self, place: Place) -> Unit:
-        name = place + ("name",)
-        fields = {key: self._number(name, key) for key, _, _ in NAME_FIELDS}
-        fields["arbitrary"] = int(self._places.spelled.get(name + ("arbitrary",)) == "true")
-        return Unit(
-            self._text(place, "label"), self._number(place, "address"), self._text(place, "chooser", "lowest"),
-            self._number(place, "window", WINDOW), fields, self._places.spelled.get(place + ("claims",)) != "false",
-        )
+    def _signal(self, words: str) -> Signal:
+        signal = self._shown[words]
+        byte, bit, bits, step, per, offset = (signal.number(key) for key in ("byte", "bit", "bits", "step", "per", "offset"))
+        label, kind, unit = (signal.text(key) for key in ("label", "kind", "unit"))
+        repeated, optional = signal.is_true("repeated"), signal.is_true("optional")
+        return Signal(label, byte, bit, bits, kind, step, per, offset, unit, repeated, signal.number_if_any("spn"), signal.names(), optional)
 
-    def _group(self, place: Place) -> Group:
-        pgn, priority, length = (self._number(place, key) for key in ("pgn", "priority", "length"))
-        signals = [self._signal(other) for other in self._places.elements(place + ("signal",))]
-        private = self._places.spelled.get(place + ("private",)) == "true"
-        most = self._number(place, "most", length)
-        every = self._places.number(place + ("every",))
-        texts = [self._text_of(other) for other in self._places.elements(place + ("text",))]
-        return Group(self._text(place, "label"), pgn, priority, length, private, most, every, signals, texts)
+    def _text(self, words: str) -> Text:
+        text = self._shown[words]
+        return Text(text.text("label"), text.number("byte"), text.number_if_any("bytes"))
 
-    def _flow(self, place: Place) -> Flow:
-        group, sender, to = (self._text(place, key) for key in ("group", "from", "to"))
-        period, pause = (self._places.number(place + (key,)) for key in ("period", "pause"))
-        on_request = self._places.spelled.get(place + ("on_request",)) == "true"
+    def _flow(self, words: str) -> Flow:
+        flow = self._shown[words]
+        group, sender, to = (flow.text(key) for key in ("group", "from", "to"))
+        period, jitter, pause = (flow.number_if_any(key) for key in ("period", "jitter", "pause"))
         is_asked = any(serves(group, sender, to, request) for request in self.requests)
-        return Flow(group, sender, to, period, self._number(place, "jitter"), pause, on_request, is_asked)
+        # Without a period there is none of which a message could be late.
+        return Flow(group, sender, to, period, jitter or 0, pause, flow.is_true("on_request"), is_asked)
 
-    def _request(self, place: Place) -> Request:
-        group, sender, to = (self._text(place, key) for key in ("group", "from", "to"))
-        return Request(group, sender, to, self._places.number(place + ("period",)))
+    def _request(self, words: str) -> Request:
+        request = self._shown[words]
+        return Request(request.text("group"), request.text("from"), request.text("to"), request.number_if_any("period"))
 
-    def _need(self, place: Place) -> Need:
-        unit, group, signal, sender = (self._text(place, key) for key in ("unit", "group", "signal", "from"))
-        return Need(unit, group, signal, sender, self._places.number(place + ("within",)))
+    def _need(self, words: str) -> Need:
+        need = self._shown[words]
+        unit, group, signal, sender = (need.text(key) for key in ("unit", "group", "signal", "from"))
+        return Need(unit, group, signal, sender, need.number_if_any("within"))
 
-    def _timing(self, place: Place) -> Timing:
-        errors = place + ("errors",)
-        damaged = Errors(self._number(errors, "count"), self._number(errors, "every")) if errors in self._places.lines else None
-        pace = {key: self._number(place, key, default) for key, default in PACE.items()}
-        return Timing(unplanned=self._number(place, "unplanned"), errors=damaged, **pace)
+    def _timing(self) -> Timing:
+        timing, errors = self._shown["timing"], self._shown.get("timing errors")
+        damaged = Errors(errors.number("count"), errors.number("every")) if errors else None
+        keys = ("unplanned", "unplanned_priority", "transport_priority", "broadcast_gap", "broadcast_gap_most")
+        return Timing(**{key: timing.number(key) for key in keys}, errors=damaged)
 
-    def _text_of(self, place: Place) -> Text:
-        return Text(self._text(place, "label"), self._number(place, "byte"), self._places.number(place + ("bytes",)))
 
-    def _signal(self, place: Place) -> Signal:
-        return Signal(
-            self._text(place, "label"), self._number(place, "byte"), self._number(place, "bit", BIT), self._number(place, "bits"),
-            self._text(place, "kind"), self._number(place, "step", STEP), self._number(place, "per", PER), self._number(place, "offset"),
-            self._text(place, "unit"), self._places.spelled.get(place + ("repeated",)) == "true",
-            self._places.number(place + ("spn",)), self._values.get(place, {}),
-            self._places.spelled.get(place + ("optional",)) == "true",
-        )
+@dataclass(frozen=True)
+class Top:
+    """What `show` doesn't tell of a plan's file: the version of the format, and in which order addresses are kept free."""
+
+    version: int
+    kept: list[int]
+
+    @classmethod
+    def of(cls, places: Places) -> "Top":
+        """The top of a text by what stands in it."""
+        return cls(places.integer(("version",)), [places.integer(place) for place in places.elements(("keep_free",))])

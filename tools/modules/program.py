@@ -70,6 +70,14 @@ def checked(plan: str) -> str:
     return answer
 
 
+def shown(plan: str) -> str:
+    """What `show` answers of a plan's file; one that can't be read is refused by it."""
+    status, answer = call(["show", "--", plan])
+    if status != 0:
+        raise Refused(status, answer.strip())
+    return answer
+
+
 def run(plan: str, steps: Iterable[str]) -> list[str]:
     """The lines that the program answers to a schedule of these steps, which the bus of a plan doesn't refuse."""
     with tempfile.NamedTemporaryFile("w", suffix=".schedule") as schedule:

@@ -10,7 +10,6 @@ from html.parser import HTMLParser
 from modules import answers, program
 from modules.answers import Age, Delay
 from modules.plan_tables import Tables
-from modules.toml_places import places_of
 from tests.support import MARKED, NEWER, TOP, InFolder, example, examples, run, signal, text_of
 
 PLAN, FAULTY = example("tractor_and_implement.toml"), example("findings/several.toml")
@@ -144,7 +143,7 @@ class Report(InFolder):
             labels = program.labels_of(plan)
             frames = program.run(plan, [f"up {label}" for label in labels])[:len(labels)]
             claimed = {label: (bytes.fromhex(frame[9:])[::-1].hex().upper(), int(frame[6:8], 16)) for label, frame in zip(labels, frames)}
-            self.assertEqual({unit.label: (unit.name, unit.address) for unit in Tables(places_of(plan)).units}, claimed)
+            self.assertEqual({unit.label: (unit.name, unit.address) for unit in Tables.of(plan).units}, claimed)
             rows = [row[:2] for row in self.page(plan).rows]
             for label, (name, _) in claimed.items():
                 self.assertIn([label, name], rows)

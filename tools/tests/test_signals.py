@@ -256,10 +256,10 @@ class Signals(InFolder):
             with cut(plan, tables, Choice(tables, [], nothing=True)) as (shorter, parts):
                 self.assertEqual((shorter, parts), (plan, tables))
         text = text_of(example("trouble_codes.toml"))
-        tables = Tables.of(text.encode())
+        tables = Tables.of(example("trouble_codes.toml"))
         self.assertIsNotNone(shorter_of(text, tables, Choice(tables, ["DTC"])))
-        text += "spn = 110\n"
-        tables = Tables.of(text.encode())
+        text = text.replace("version = 3", "version = 4").replace("bits = 2\n", "bits = 2\nspn = 987\n", 1)
+        tables = Tables.of(self.write("plan.toml", text))
         self.assertIsNone(shorter_of(text, tables, Choice(tables, ["DTC"])))
 
     def test_signals_of_a_group_are_cut(self):
