@@ -400,7 +400,8 @@ to = "DISPLAY"
             if length == 34:
                 _, back, _ = run("dbc2plan.py", dbc)
                 made, wanted = tomllib.loads(back), tomllib.loads(text_of(plan))
-                self.assertEqual((made["group"][0].pop("most"), wanted["group"][0].pop("most"), made), (40, 40, wanted))
+                self.assertEqual([made[key] for key in ("group", "flow")], [wanted[key] for key in ("group", "flow")])
+                self.assertIn('"EC1"  # 34 bytes\n', back)
 
     def test_a_group_of_several_lengths(self):
         """Its message has the least one, so that others decode what goes in one frame; its first record is an ordinary signal."""
