@@ -38,7 +38,7 @@ KEYS = {
     "F4": ("group", "pgn", "none that can be planned, or a maker's own and not private, or the other way round"),
     "F6": ("signal", "bits", "8, 16 or 32 of a measured signal, 2 of a discrete one, 1 to 32 of a raw one, "
            "2 to 8 of states, 2 to 32 of a signed one, and of a dtc 32 from bit = 1 on"),
-    "F7": ("signal", "byte", "the signal ends behind the group's length"),
+    "F7": ("signal", "byte", "the signal ends behind the group's length, or, where it is optional, behind its longest messages"),
     "F9": ("flow", "to", "a frame of this group goes to all"),
     "F10": ("flow", "to", "the sender itself"),
     "F12": ("unit", "address", "kept free: a unit with arbitrary = true may not hold it"),
