@@ -357,7 +357,7 @@ class Against(InFolder):
         name = self.write("drive.log", "".join(f"({time}) can0 {frame}\n" for time, frame in log))
         status, answer, said = run("against.py", *words, self.write("plan.toml", plan), name)
         self.assertEqual((status, said), (int(not answer.startswith("deviations 0")), ""))
-        return [line.replace(name, "L") for line in answer.splitlines() if " behind " in line]
+        return [line.replace(name, "L") for line in answer.splitlines() if " the one before" in line]
 
     def test_periods(self):
         """The least distance of the messages of a flow, with its line; exactly the period is no deviation."""
@@ -429,7 +429,7 @@ class Against(InFolder):
         """In percent of each period, or in ms; of which flows nothing is left is said."""
         log = [(f"{time:.4f}", FLOWS[0]) for time in (1, 1.0095, 1.019, 1.0279)]
         for words, found in ((["--jitter", "5%"], 1), (["--jitter", "11%"], 0), (["--jitter", "0.5"], 1), (["--jitter", "0.5ms"], 1), ([], 3)):
-            told = self.told(log, "behind the one before", *words)
+            told = self.told(log, "the one before", *words)
             self.assertEqual([re.search(r"\((\d) times\)", line) and line[-8:] for line in told] or [0],
                              {0: [0], 1: [None], 3: ["3 times)"]}[found], words)
         name, plan = self.path("drive.log"), self.timed(10)
